@@ -1,0 +1,101 @@
+// What can be wrong with an input file: the kind, the TIFF tag where it was found, and the file.
+ghost use Rattle.std.specs.Prelude.{◌≡◌};
+ghost use Rattle.pr_base.specs.Fault.{kind_number, kind_text};
+
+use crate::PathText;
+use std::fmt;
+use thiserror::Error;
+
+/// What is wrong with a file. The numbers and texts are plateroom's own; a test of one TIFF field is
+/// named after that field (TIFF 6.0, Sections 8 and 16).
+#[derive(Clone, Copy, Debug, PartialEq, Eq, PartialOrd, Ord, Hash)]
+pub enum FaultKind {
+    TooLong = 1,
+    Header = 2,
+    Directory = 3,
+    Missing = 4,
+    FieldType = 5,
+    FieldCount = 6,
+    FieldPlace = 7,
+    Tiled = 8,
+    Width = 9,
+    Length = 10,
+    Bits = 11,
+    Compression = 12,
+    Photometric = 13,
+    FillOrder = 14,
+    Orientation = 15,
+    Samples = 16,
+    RowsPerStrip = 17,
+    Planar = 18,
+    InkSet = 19,
+    DotRange = 20,
+    StripPlace = 21,
+    Short = 22,
+    MaskSize = 23,
+    Crop = 24,
+}
+
+impl FaultKind {
+    /// The kind's number.
+    pub fn number(self) -> u8
+        ensures { result ≡ kind_number self }
+    {
+        self as u8
+    }
+
+    /// The kind as a line of the program tells it.
+    pub fn text(self) -> &'static str
+        ensures { result.now ≡ kind_text self }
+    {
+        match self {
+            FaultKind::TooLong => "too long",
+            FaultKind::Header => "header",
+            FaultKind::Directory => "directory",
+            FaultKind::Missing => "missing",
+            FaultKind::FieldType => "field type",
+            FaultKind::FieldCount => "field count",
+            FaultKind::FieldPlace => "field place",
+            FaultKind::Tiled => "tiled",
+            FaultKind::Width => "width",
+            FaultKind::Length => "length",
+            FaultKind::Bits => "bits",
+            FaultKind::Compression => "compression",
+            FaultKind::Photometric => "photometric",
+            FaultKind::FillOrder => "fill order",
+            FaultKind::Orientation => "orientation",
+            FaultKind::Samples => "samples",
+            FaultKind::RowsPerStrip => "rows per strip",
+            FaultKind::Planar => "planar",
+            FaultKind::InkSet => "ink set",
+            FaultKind::DotRange => "dot range",
+            FaultKind::StripPlace => "strip place",
+            FaultKind::Short => "short",
+            FaultKind::MaskSize => "mask size",
+            FaultKind::Crop => "crop",
+        }
+    }
+}
+
+impl fmt::Display for FaultKind {
+    fn fmt<W: fmt::Write>(&self, f: &mut fmt::Formatter<W>) -> fmt::Result {
+        f.write_str(self.text())
+    }
+}
+
+/// What is wrong with an image, and at which TIFF tag. Tag 0 stands for the file as a whole.
+#[derive(Clone, Copy, Debug, PartialEq, Eq, Hash, Error)]
+#[error("tag {tag}: {kind}")]
+pub struct TagFault {
+    pub tag: u16,
+    pub kind: FaultKind,
+}
+
+/// What is wrong with which file. The file is named as the plan or the command names it.
+#[derive(Debug, PartialEq, Eq, Drop, Error)]
+#[error("file {file}: tag {tag}: {kind}")]
+pub struct FileFault {
+    pub file: PathText,
+    pub tag: u16,
+    pub kind: FaultKind,
+}

@@ -1,0 +1,17 @@
+// What every layer of plateroom names: inks, texts, the faults of input files, want of memory, and the two
+// ways in which rows pass between layers (a numbered deal of rows, and a feed that gives them in order).
+#![tactic(auto)]
+
+mod deal;
+mod fault;
+mod ink;
+mod memory;
+mod path_text;
+mod row;
+
+pub use deal::{Deal, RowFeed};
+pub use fault::{FaultKind, FileFault, TagFault};
+pub use ink::Ink;
+pub use memory::NoMemory;
+pub use path_text::PathText;
+pub use row::row_bytes;
