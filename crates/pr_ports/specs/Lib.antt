@@ -1,0 +1,4 @@
+pub mod Count
+pub mod Shelf
+pub mod Sink
+pub mod Mem

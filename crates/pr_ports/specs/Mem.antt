@@ -1,0 +1,59 @@
+-- What contracts see of the shelf and the sink in memory.
+use Rattle.std.specs.Prelude.{◌≡◌, ℕ, List, ◌++◌, map, Option, Some, Result, Ok, Err}
+use Rattle.std.specs.Global.{Vec}
+use Rattle.pr_ports.specs.Count.{count_after}
+use Rattle.pr_ports.specs.declared.shelf.LoadFault.{LoadFault}
+use Rattle.pr_ports.specs.declared.shelf.LoadFault.TheVariants.{Failed, TooLong, Memory}
+use Rattle.pr_ports.specs.declared.sink.SinkFault.{SinkFault}
+use Rattle.pr_ports.specs.declared.sink.SinkFault.TheVariants as sink_faults
+
+-- the files of a shelf: each path with its bytes
+abbrev pub files_of : List (List ℕ × Vec ℕ) → List (List ℕ × List ℕ)
+files_of files = map (λ file. (file.0, file.1.items)) files
+
+-- a shelf in memory
+pub record ShelfState : Type 0 where
+  -- each file's path and bytes
+  pub files : List (List ℕ × List ℕ)
+  -- the numbers of the calls that fail
+  pub failing : List ℕ
+  -- the number of the next call
+  pub calls : ℕ
+  pub faults : ℕ
+  pub longs : ℕ
+  -- the path of the last call that failed
+  pub missed : Option (List ℕ)
+
+-- a sink in memory
+pub record SinkState : Type 0 where
+  -- all bytes taken so far
+  pub bytes : List ℕ
+  -- the numbers of the calls that fail
+  pub failing : List ℕ
+  -- the number of the next call
+  pub calls : ℕ
+  pub faults : ℕ
+
+-- what a call that fails at this path makes of a shelf, and what it answers
+abbrev pub Misses : ShelfState → ShelfState → List ℕ → LoadFault → Type 0
+Misses old new path Failed = new ≡ record old { faults = count_after old.faults; missed = Some path }
+Misses old new path (TooLong limit) = ⊥
+Misses old new path Memory = new ≡ old
+
+-- the shelf after a call of load at path that gave this answer
+abbrev pub shelf_after : {T : Type 0} → ShelfState → List ℕ → Result T LoadFault → ShelfState
+shelf_after shelf path (Ok bytes) = record shelf { calls = count_after shelf.calls }
+shelf_after shelf path (Err Failed) = record shelf { calls = count_after shelf.calls; faults = count_after shelf.faults; missed = Some path }
+shelf_after shelf path (Err (TooLong limit)) = record shelf { calls = count_after shelf.calls; longs = count_after shelf.longs }
+shelf_after shelf path (Err Memory) = record shelf { calls = count_after shelf.calls }
+
+-- the sink after a call of put that gave this answer
+abbrev pub sink_after : {T : Type 0} → SinkState → List ℕ → Result T SinkFault → SinkState
+sink_after sink bytes (Ok done) = record sink { calls = count_after sink.calls; bytes = sink.bytes ++ bytes }
+sink_after sink bytes (Err sink_faults.Failed) = record sink { calls = count_after sink.calls; faults = count_after sink.faults }
+sink_after sink bytes (Err sink_faults.Memory) = record sink { calls = count_after sink.calls }
+
+-- what the shelf of the machine tells
+pub record Counts : Type 0 where
+  pub faults : ℕ
+  pub longs : ℕ

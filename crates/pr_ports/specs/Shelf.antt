@@ -1,0 +1,37 @@
+-- What a shelf holds, and what a call of load tells of it.
+use Rattle.std.specs.Prelude.{◌≡◌, ℕ, ◌<◌, Bool, true, false, if◌then◌else◌, List, length, Option, Some, IfSome, IsSomeAnd, Result, Ok, Err, nat_eq}
+use Rattle.std.specs.Option.{option_map}
+use Rattle.std.specs.Map.{lookup}
+use Rattle.std.specs.Cmp.Lexicographic.{pointwise}
+use Rattle.pr_ports.specs.declared.shelf.LoadFault.{LoadFault}
+use Rattle.pr_ports.specs.declared.shelf.LoadFault.TheVariants.{Failed, TooLong, Memory}
+
+-- the bytes of the first file with this path
+abbrev pub held_at : List (List ℕ × List ℕ) → List ℕ → Option (List ℕ)
+held_at files path = lookup (λ name. pointwise nat_eq name path) files
+
+-- where the shelf tells its files, these are the bytes at the path
+abbrev pub IsHeldAt : Option (List (List ℕ × List ℕ)) → List ℕ → List ℕ → Type 0
+IsHeldAt held path bytes = IfSome held (λ files. held_at files path ≡ Some bytes)
+
+-- where the shelf tells its files, there are more than limit bytes at the path
+abbrev pub IsLongerAt : Option (List (List ℕ × List ℕ)) → List ℕ → ℕ → Type 0
+IsLongerAt held path limit = IfSome held (λ files. IsSomeAnd (held_at files path) (λ bytes. limit < length bytes))
+
+-- the call answered Failed
+abbrev pub has_failed : {T : Type 0} → Result T LoadFault → Bool
+has_failed (Ok value) = false
+has_failed (Err Failed) = true
+has_failed (Err (TooLong limit)) = false
+has_failed (Err Memory) = false
+
+-- P of the limit that an answer TooLong tells
+abbrev pub IfTooLong : {T : Type 0} → Result T LoadFault → (ℕ → Type 0) → Type 0
+IfTooLong (Ok value) P = Unit {0}
+IfTooLong (Err Failed) P = Unit {0}
+IfTooLong (Err (TooLong limit)) P = P limit
+IfTooLong (Err Memory) P = Unit {0}
+
+-- the path of the last failed call, after a call at path that failed or didn't
+abbrev pub missed_after : Bool → List ℕ → Option (Option (List ℕ)) → Option (Option (List ℕ))
+missed_after failed path missed = option_map (λ last. if failed then Some path else last) missed

@@ -1,0 +1,91 @@
+// A sink in memory that tells all, and fails at chosen calls.
+ghost use Rattle.std.specs.Prelude.{◌≡◌, ◌≤◌, [], List, ℕ, Some, Contains, OnOk, OnErr, IsErrOf};
+ghost use Rattle.pr_ports.specs.Count.{Rose};
+ghost use Rattle.pr_ports.specs.Mem.{SinkState, sink_after};
+ghost use Rattle.pr_ports.specs.Sink.{Grew, GrewByPrefix};
+
+use crate::count::raised;
+use crate::{Sink, SinkFault};
+use std::alloc::Global;
+use std::marker::Model;
+
+/// A sink in memory. Calls are numbered from 0, and those whose numbers are in `failing` fail and take
+/// nothing. A number past 2^64 - 1 counts as 2^64 - 1.
+#[derive(Debug, Drop)]
+pub struct MemSink {
+    bytes: Vec<u8>,
+    failing: Vec<u64>,
+    calls: u64,
+    faults: u64,
+}
+
+impl Model for MemSink {
+    ghost Value = { SinkState };
+
+    ghost view = { λ s. record { bytes = s.bytes.items; failing = s.failing.items; calls = s.calls; faults = s.faults } };
+}
+
+impl MemSink {
+    /// An empty sink that fails at the calls with these numbers.
+    pub fn new(alloc: Global, failing: Vec<u64>) -> MemSink
+        ensures { result ≡ record { bytes = []; failing = failing.items; calls = 0; faults = 0 } }
+    {
+        MemSink {
+            bytes: Vec::new(alloc),
+            failing,
+            calls: 0,
+            faults: 0,
+        }
+    }
+
+    /// Lends all bytes taken so far.
+    pub fn bytes(&self) -> &[u8]
+        ensures { result.now ≡ self.now.bytes }
+    {
+        self.bytes.as_slice()
+    }
+}
+
+impl Sink for MemSink {
+    ghost given = { λ s. Some s.bytes };
+
+    ghost faults = { λ s. s.faults };
+
+    fn put(&mut self, bytes: &[u8]) -> Result<(), SinkFault>
+        ensures taken { OnOk result (Grew (Some self.old.bytes) (Some self.new.bytes) bytes.now) }
+        ensures refused { OnErr result (GrewByPrefix (Some self.old.bytes) (Some self.new.bytes) bytes.now) }
+        ensures counted { IsErrOf result SinkFault.Failed → Rose self.old.faults self.new.faults }
+        ensures faults_stay { self.old.faults ≤ self.new.faults }
+
+        ensures fails { IsErrOf result SinkFault.Failed → Contains self.old.failing self.old.calls }
+        ensures fails_there { Contains self.old.failing self.old.calls → IsErrOf result SinkFault.Failed }
+        ensures after { self.new ≡ sink_after self.old bytes.now result }
+    {
+        let fails = self.failing.contains(&self.calls);
+        self.calls = raised(self.calls);
+        if fails {
+            self.faults = raised(self.faults);
+            return Err(SinkFault::Failed);
+        }
+        match self.bytes.extend_from_slice(bytes) {
+            Ok(()) => Ok(()),
+            Err(_) => Err(SinkFault::Memory),
+        }
+    }
+}
+
+#[cfg(test)]
+mod tests {
+    use super::*;
+    use std::test::Fail;
+
+    #[test]
+    fn fails_where_told(rt: HostRuntime) -> Result<(), Fail> {
+        let mut sink = MemSink::new(rt.alloc(), vec![in rt.alloc(); 1]?);
+        sink.put(b"ab")?;
+        assert_eq!(rt; sink.put(b"cd"), Err(SinkFault::Failed));
+        sink.put(b"e")?;
+        assert_eq!(rt; sink.bytes(), b"abe".as_slice());
+        Ok(())
+    }
+}
