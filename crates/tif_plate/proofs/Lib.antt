@@ -1,0 +1,4 @@
+pub mod Length
+pub mod Numbers
+pub mod Strips
+pub mod Table

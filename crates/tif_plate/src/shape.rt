@@ -1,0 +1,28 @@
+// How the rows of a plate are cut into strips.
+ghost use Rattle.std.specs.Prelude.{◌≡◌, ◌≤◌, ◌*◌};
+ghost use Rattle.pr_base.specs.Row.{row_size};
+ghost use Rattle.tif_plate.specs.Plate.{IsSide, rows_each, strip_count};
+
+use pr_base::row_bytes;
+
+/// The bytes that a strip holds at most, unless one row is longer (TIFF 6.0, Section 3, advises 8 kilobytes).
+const STRIP_BYTES: u32 = 8192;
+
+/// The rows of a strip of a plate that is `width` pixels wide, the last strip aside.
+pub fn rows_per_strip(width: u32) -> u32
+    requires { IsSide width }
+    ensures rows { result ≡ rows_each width }
+    ensures within { result * row_size width ≤ 8192 }
+{
+    (STRIP_BYTES / row_bytes(width) as u32).max(1)
+}
+
+/// The number of strips of a plate.
+pub(crate) fn strips(width: u32, height: u32) -> u32
+    requires width { IsSide width }
+    requires height { IsSide height }
+    ensures count { result ≡ strip_count width height }
+    ensures within { result ≤ height }
+{
+    height.div_ceil(rows_per_strip(width))
+}
