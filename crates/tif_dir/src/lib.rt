@@ -1,0 +1,15 @@
+// The first directory of a TIFF file in both byte orders, and the values of its fields, read one at a time from
+// the file's bytes (TIFF 6.0, Section 2). No call takes memory.
+#![tactic(auto)]
+
+mod dir;
+mod field;
+mod order;
+mod table;
+#[cfg(test)]
+mod tests;
+mod value_type;
+
+pub use dir::{Dir, read_dir};
+pub use field::Field;
+pub use table::least_count;
