@@ -1,0 +1,5 @@
+pub mod Expansion
+pub mod Packing
+pub mod Pieces
+pub mod Fronts
+pub mod Rows

@@ -1,0 +1,47 @@
+-- What each kind of packet gives, where it stands at the front of the packed bytes.
+use Rattle.std.proofs.Common.{◌≡◌, ◌<◌, ◌++◌, length, take, drop, ℕ, ◌+◌, ◌-◌, ◌≤◌, List, [], ◌∷◌, get_or, replicate, arith, refl}
+use Rattle.std.proofs.lemmas.List.{take_rest}
+use Rattle.tif_packbits.specs.Packbits.{expansion}
+use Rattle.tif_packbits.proofs.Expansion.{expansion-nil, expansion-literal, expansion-cut, expansion-nothing, expansion-headless, expansion-repeat}
+use Rattle.tif_packbits.proofs.packet.first_packet.Goals as goal
+
+literal : (packed : List ℕ) → 0 < length packed → get_or packed 0 0 < 128 → get_or packed 0 0 + 1 ≤ length (drop 1 packed) → expansion packed ≡ take (get_or packed 0 0 + 1) (drop 1 packed) ++ expansion (drop (get_or packed 0 0 + 1) (drop 1 packed))
+literal [] some small whole = absurd (omega arith)
+literal (header ∷ bytes) some small whole = expansion-literal header bytes small whole
+
+cut : (packed : List ℕ) → 0 < length packed → get_or packed 0 0 < 128 → length (drop 1 packed) < get_or packed 0 0 + 1 → expansion packed ≡ expansion []
+cut [] some small short = absurd (omega arith)
+cut (header ∷ bytes) some small short = rw (expansion-cut header bytes small short, expansion-nil) refl
+
+nothing : (packed : List ℕ) → 0 < length packed → get_or packed 0 0 ≡ 128 → expansion packed ≡ expansion (drop 1 packed)
+nothing [] some is = absurd (omega arith)
+nothing (header ∷ bytes) some is = rw is (expansion-nothing bytes)
+
+headless : (packed : List ℕ) → 0 < length packed → 128 < get_or packed 0 0 → length (drop 1 packed) < 1 → expansion packed ≡ expansion (drop 1 packed)
+headless [] some large none = absurd (omega arith)
+headless (header ∷ []) some large none = rw (expansion-headless header large, expansion-nil) refl
+headless (header ∷ byte ∷ bytes) some large none = absurd (omega arith)
+
+repeat : (packed : List ℕ) → 128 < get_or packed 0 0 → 1 ≤ length (drop 1 packed) → expansion packed ≡ replicate (257 - get_or packed 0 0) (get_or (drop 1 packed) 0 0) ++ expansion (drop 1 (drop 1 packed))
+repeat [] large some = absurd (omega arith)
+repeat (header ∷ []) large some = absurd (omega arith)
+repeat (header ∷ byte ∷ bytes) large some = expansion-repeat header byte bytes large
+
+pub returns-then-len-data-clause-whole : goal.returns-then-len-data-clause-whole
+returns-then-len-data-clause-whole c =
+    simp take_rest (literal c.args.packed.now c.requires c.if-header-lt-NOTHING.true (simp take_rest at c.if-len-data.true))
+
+pub returns-else-len-data-clause-whole : goal.returns-else-len-data-clause-whole
+returns-else-len-data-clause-whole c =
+    cut c.args.packed.now c.requires c.if-header-lt-NOTHING.true (simp take_rest at c.if-len-data.false)
+
+pub returns-then-header-clause-whole : goal.returns-then-header-clause-whole
+returns-then-header-clause-whole c = simp take_rest (nothing c.args.packed.now c.requires c.if-header.true)
+
+pub returns-in-empty-clause-whole : goal.returns-in-empty-clause-whole
+returns-in-empty-clause-whole c =
+    simp take_rest (headless c.args.packed.now c.requires (omega arith) (simp take_rest at c.in-empty.len_below))
+
+pub returns-in-len1-up-clause-whole : goal.returns-in-len1-up-clause-whole
+returns-in-len1-up-clause-whole c =
+    simp take_rest (repeat c.args.packed.now (omega arith) (simp take_rest at c.in-len1-up.len_at_least))

@@ -1,0 +1,3 @@
+pub mod Packbits
+pub mod Packet
+pub mod Unpacker

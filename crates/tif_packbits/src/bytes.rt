@@ -1,0 +1,57 @@
+// Copies and fills of few bytes. A call of the C library's takes longer than most packets, so up to
+// 32 bytes are written in place: a front and a back of a fixed length, which may overlap.
+ghost use Rattle.std.specs.Prelude.{◌≡◌, ◌+◌, ◌≤◌, length, replicate};
+
+/// Copies `from` over `into`.
+pub fn copy(from: &[u8], into: &mut [u8])
+    requires { length from.now ≡ length into.old }
+    ensures { into.new ≡ from.now }
+{
+    match from.len() {
+        0 => {}
+        1 => into[0] = from[0],
+        2..=4 => copy_ends::<2>(from, into),
+        5..=8 => copy_ends::<4>(from, into),
+        9..=16 => copy_ends::<8>(from, into),
+        17..=32 => copy_ends::<16>(from, into),
+        _ => into.copy_from_slice(from),
+    }
+}
+
+/// Writes `byte` over all of `into`.
+pub fn fill(byte: u8, into: &mut [u8])
+    ensures { into.new ≡ replicate (length into.old) byte }
+{
+    match into.len() {
+        0 => {}
+        1 => into[0] = byte,
+        2..=4 => fill_ends::<2>(byte, into),
+        5..=8 => fill_ends::<4>(byte, into),
+        9..=16 => fill_ends::<8>(byte, into),
+        17..=32 => fill_ends::<16>(byte, into),
+        _ => into.fill(byte),
+    }
+}
+
+/// Copies the first and the last `N` bytes, which are all.
+fn copy_ends<const N: usize>(from: &[u8], into: &mut [u8])
+    requires same { length from.now ≡ length into.old }
+    requires fits { N ≤ length from.now }
+    requires all { length from.now ≤ N + N }
+    ensures { into.new ≡ from.now }
+{
+    let back = from.len() - N;
+    into[..N].copy_from_slice(&from[..N]);
+    into[back..].copy_from_slice(&from[back..]);
+}
+
+/// Writes `byte` over the first and the last `N` bytes, which are all.
+fn fill_ends<const N: usize>(byte: u8, into: &mut [u8])
+    requires fits { N ≤ length into.old }
+    requires all { length into.old ≤ N + N }
+    ensures { into.new ≡ replicate (length into.old) byte }
+{
+    let back = into.len() - N;
+    into[..N].fill(byte);
+    into[back..].fill(byte);
+}

@@ -1,0 +1,12 @@
+// The two laws that tie packing to expansion.
+ghost use Rattle.tif_packbits.specs.Packbits.{ExpandsToItsRow, StaysWithinBound};
+
+/// Expanding what was packed gives the row again.
+pub fn packing_expands_to_its_row()
+    ensures { ExpandsToItsRow }
+{}
+
+/// The packing of a row is never longer than its bound.
+pub fn packing_stays_within_bound()
+    ensures { StaysWithinBound }
+{}

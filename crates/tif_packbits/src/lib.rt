@@ -1,0 +1,16 @@
+// PackBits, the byte-wise packing of TIFF 6.0, Section 9, both ways: an unpacker that gives the
+// expansion of packed bytes piece by piece, and the packing of a row. Nothing here takes memory.
+#![tactic(auto)]
+
+mod bytes;
+mod laws;
+mod pack;
+mod packet;
+mod unpacker;
+
+pub use laws::{packing_expands_to_its_row, packing_stays_within_bound};
+pub use pack::{pack_bound, pack_row};
+pub use unpacker::{Short, Unpacker};
+
+#[cfg(test)]
+mod tests;

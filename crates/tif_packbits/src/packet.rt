@@ -1,0 +1,86 @@
+// One packet: a header byte, and behind it a literal's bytes or the byte that is repeated.
+ghost use Rattle.std.specs.Prelude.{◌≡◌, ◌<◌, ◌++◌, length, min, take, drop};
+ghost use Rattle.tif_packbits.specs.Packbits.{expansion};
+ghost use Rattle.tif_packbits.specs.Packet.{left_of};
+
+use crate::bytes;
+
+/// The header -128, as a byte: its packet gives nothing.
+const NOTHING: u8 = 128;
+
+/// What is left of a packet.
+#[derive(Clone, Copy, Debug)]
+pub enum Packet<'a> {
+    /// The bytes that stand behind the header.
+    Literal(&'a [u8]),
+    /// A byte, and how often it is still to come.
+    Repeat(u8, usize),
+}
+
+/// The first packet of packed bytes, and the bytes behind it. A packet whose bytes are cut gives nothing.
+pub fn first_packet(packed: &[u8]) -> (Packet<'_>, &[u8])
+    requires { 0 < length packed.now }
+    ensures whole { expansion packed.now ≡ left_of result.0 ++ expansion result.1.now }
+    ensures shorter { length result.1.now < length packed.now }
+{
+    let header = packed[0];
+    let data = &packed[1..];
+    if header < NOTHING {
+        let len = header as usize + 1;
+        if len <= data.len() {
+            (Packet::Literal(&data[..len]), &data[len..])
+        } else {
+            (Packet::Literal(&[]), &[])
+        }
+    } else if header == NOTHING {
+        (Packet::Literal(&[]), data)
+    } else {
+        match data {
+            [byte, rest @ ..] => (Packet::Repeat(*byte, 257 - header as usize), rest),
+            [] => (Packet::Literal(&[]), data),
+        }
+    }
+}
+
+impl<'a> Packet<'a> {
+    /// Gives as many of the packet's bytes as are left and as there is room for, and says how many.
+    pub fn give(&mut self, into: &mut [u8]) -> usize
+        ensures count { result ≡ min (length (left_of self.old)) (length into.old) }
+        ensures given { into.new ≡ take result (left_of self.old) ++ drop result into.old }
+        ensures left { left_of self.new ≡ drop result (left_of self.old) }
+    {
+        match *self {
+            Packet::Literal(data) => {
+                let n = data.len().min(into.len());
+                bytes::copy(&data[..n], &mut into[..n]);
+                *self = Packet::Literal(&data[n..]);
+                n
+            }
+            Packet::Repeat(byte, count) => {
+                let n = count.min(into.len());
+                bytes::fill(byte, &mut into[..n]);
+                *self = Packet::Repeat(byte, count - n);
+                n
+            }
+        }
+    }
+
+    /// Passes over as many of the packet's bytes as are left, up to `most`, and says how many.
+    pub fn pass(&mut self, most: u64) -> u64
+        ensures count { result ≡ min (length (left_of self.old)) most }
+        ensures left { left_of self.new ≡ drop result (left_of self.old) }
+    {
+        match *self {
+            Packet::Literal(data) => {
+                let n = data.len().min(most as usize);
+                *self = Packet::Literal(&data[n..]);
+                n as u64
+            }
+            Packet::Repeat(byte, count) => {
+                let n = count.min(most as usize);
+                *self = Packet::Repeat(byte, count - n);
+                n as u64
+            }
+        }
+    }
+}

@@ -1,0 +1,100 @@
+// The expansion of packed bytes, given piece by piece.
+ghost use Rattle.std.specs.Prelude.{◌≡◌, ◌<◌, ◌≤◌, ◌↔◌, List, ℕ, [], ◌∷◌, ◌++◌, length, take, drop, MatchOption, IfNone, IsOk, IsErr, OnOk, OnErr};
+ghost use Rattle.tif_packbits.specs.Packbits.{expansion};
+
+use crate::packet::{Packet, first_packet};
+use std::marker::Model;
+use thiserror::Error;
+
+/// Fewer bytes are left than were asked for.
+#[derive(Clone, Copy, Debug, PartialEq, Eq, Hash, Error)]
+#[error("too few bytes are left")]
+pub struct Short;
+
+/// Gives the expansion of packed bytes in order (TIFF 6.0, Section 9). Contracts see the bytes that
+/// are still to come.
+#[derive(Debug, Drop)]
+pub struct Unpacker<'a> {
+    packet: Packet<'a>,
+    rest: &'a [u8],
+}
+
+impl<'a> Model for Unpacker<'a> {
+    ghost use Rattle.std.specs.Prelude.{List, ℕ};
+
+    ghost Value = { List ℕ };
+
+    ghost use Rattle.tif_packbits.specs.Unpacker.{bytes_ahead};
+
+    ghost view = { bytes_ahead };
+}
+
+impl<'a> Unpacker<'a> {
+    /// Stands at the front of the expansion of `bytes`.
+    pub fn new(bytes: &'a [u8]) -> Unpacker<'a>
+        ensures { result ≡ expansion bytes.now }
+    {
+        Unpacker {
+            packet: Packet::Literal(&[]),
+            rest: bytes,
+        }
+    }
+
+    /// The next byte, or `None` at the expansion's end.
+    pub fn byte(&mut self) -> Option<u8>
+        ensures next { MatchOption result (self.old ≡ []) (λ byte. self.old ≡ byte ∷ self.new) }
+        ensures end { IfNone result (self.new ≡ []) }
+    {
+        let mut next = [0];
+        match self.fill(&mut next) {
+            Ok(()) => Some(next[0]),
+            Err(Short) => None,
+        }
+    }
+
+    /// Fills `into` with the next bytes. Where fewer are left, these stand at its front and the rest
+    /// of it is unchanged.
+    pub fn fill(&mut self, into: &mut [u8]) -> Result<(), Short>
+        ensures short { IsErr result ↔ (length self.old < length into.old) }
+        ensures enough { OnOk result (length into.old ≤ length self.old) }
+        ensures filled { OnOk result (into.new ≡ take (length into.old) self.old) }
+        ensures front { OnErr result (into.new ≡ self.old ++ drop (length self.old) into.old) }
+        ensures left { self.new ≡ drop (length into.old) self.old }
+    {
+        // The loop works on copies, which stay in registers.
+        let mut packet = self.packet;
+        let mut rest = self.rest;
+        let mut at = 0;
+        loop {
+            at += packet.give(&mut into[at..]);
+            if at == into.len() {
+                (self.packet, self.rest) = (packet, rest);
+                return Ok(());
+            }
+            if rest.is_empty() {
+                (self.packet, self.rest) = (packet, rest);
+                return Err(Short);
+            }
+            (packet, rest) = first_packet(rest);
+        }
+    }
+
+    /// Passes over the next `n` bytes, or over all where fewer are left. Looks at headers alone.
+    pub fn skip(&mut self, n: u64) -> Result<(), Short>
+        ensures short { IsErr result ↔ (length self.old < n) }
+        ensures enough { OnOk result (n ≤ length self.old) }
+        ensures left { self.new ≡ drop n self.old }
+    {
+        let mut most = n;
+        loop {
+            most -= self.packet.pass(most);
+            if most == 0 {
+                return Ok(());
+            }
+            if self.rest.is_empty() {
+                return Err(Short);
+            }
+            (self.packet, self.rest) = first_packet(self.rest);
+        }
+    }
+}
