@@ -1,0 +1,6 @@
+pub mod Shapes
+pub mod Faults
+pub mod Rows
+pub mod Fours
+pub mod Inks
+pub mod Worked

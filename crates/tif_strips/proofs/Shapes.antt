@@ -1,0 +1,100 @@
+-- The strips of a plane and their rows, by numbers.
+use Rattle.std.proofs.Common.{◌≡◌, ℕ, ◌+◌, ◌-◌, ◌*◌, ◌/◌, ◌%◌, ◌<◌, ◌≤◌, ◌≢◌, Bool, true, false, ◌&&◌, ◌==◌, if◌then◌else◌, refl, ap, arith}
+use Rattle.std.proofs.Math.Nat.{mul-le-mul_right}
+use Rattle.std.proofs.lemmas.Nat.{div-add-mod', le-div, mod_below, mod-mul-add}
+use Rattle.std.proofs.lemmas.Bool.Decides.{nat_tests}
+use Rattle.pr_base.specs.Row.{row_size}
+use Rattle.tif_strips.specs.declared.shape.Shape.{Shape}
+use Rattle.tif_strips.specs.Strips.{IsStriped, needed_length, plane_row_length, planes, row_length, strip_count, strip_rows, strips_per_plane}
+
+-- the strips above strip i of a plane do not fill the image
+pub rows_above : (shape : Shape) (i : ℕ) → IsStriped shape → i < strips_per_plane shape → i * shape.rows_per_strip < shape.length
+unfolding strips_per_plane
+rows_above shape i striped below =
+    let all = shape.length + shape.rows_per_strip - 1 in
+    let next : i + 1 ≤ all / shape.rows_per_strip = omega arith in
+    let scaled : (i + 1) * shape.rows_per_strip ≤ all / shape.rows_per_strip * shape.rows_per_strip = mul-le-mul_right shape.rows_per_strip next in
+    let whole = div-add-mod' all shape.rows_per_strip in
+    let some = striped.length in
+    omega arith
+
+-- row y stands in a strip of the plane
+pub strip_of_row : (shape : Shape) (y : ℕ) → IsStriped shape → y < shape.length → y / shape.rows_per_strip < strips_per_plane shape
+unfolding strips_per_plane
+strip_of_row shape y striped below =
+    let whole = div-add-mod' y shape.rows_per_strip in
+    let some = striped.rows_per_strip in
+    let next = le-div (y / shape.rows_per_strip + 1) (shape.length + shape.rows_per_strip - 1) shape.rows_per_strip (omega arith) (omega arith) in
+    omega arith
+
+-- and among its rows
+pub row_in_strip : (shape : Shape) (y : ℕ) → IsStriped shape → y < shape.length → y % shape.rows_per_strip < strip_rows shape (y / shape.rows_per_strip)
+unfolding strip_rows
+row_in_strip shape y striped below =
+    let whole = div-add-mod' y shape.rows_per_strip in
+    let some = striped.rows_per_strip in
+    let part = mod_below y shape.rows_per_strip (omega arith) in
+    omega arith
+
+-- each strip above it is full
+pub strip_rows-above : (shape : Shape) (y j : ℕ) → y < shape.length → j < y / shape.rows_per_strip → strip_rows shape j ≡ shape.rows_per_strip
+unfolding strip_rows
+strip_rows-above shape y j below above =
+    let whole = div-add-mod' y shape.rows_per_strip in
+    let next : j + 1 ≤ y / shape.rows_per_strip = omega arith in
+    let scaled : (j + 1) * shape.rows_per_strip ≤ y / shape.rows_per_strip * shape.rows_per_strip = mul-le-mul_right shape.rows_per_strip next in
+    omega arith
+
+-- strip i of a plane is one of all strips
+pub strip_number : (shape : Shape) (plane i : ℕ) → plane < planes shape → i < strips_per_plane shape → plane * strips_per_plane shape + i < strip_count shape
+unfolding strip_count
+strip_number shape plane i known below =
+    let next : plane + 1 ≤ planes shape = omega arith in
+    let scaled : (plane + 1) * strips_per_plane shape ≤ planes shape * strips_per_plane shape = mul-le-mul_right (strips_per_plane shape) next in
+    omega arith
+
+-- what strip i of a plane needs
+pub needed_length-in_plane : (shape : Shape) (plane i : ℕ) → i < strips_per_plane shape
+    → needed_length shape (plane * strips_per_plane shape + i) ≡ strip_rows shape i * plane_row_length shape
+unfolding needed_length
+needed_length-in_plane shape plane i below =
+    ap (λ j. strip_rows shape j * plane_row_length shape) (mod-mul-add plane (strips_per_plane shape) i below)
+
+-- row y lies in what its strip needs
+pub row_in_needed : (shape : Shape) (plane y : ℕ) → IsStriped shape → y < shape.length
+    → y % shape.rows_per_strip * plane_row_length shape + plane_row_length shape ≤ needed_length shape (plane * strips_per_plane shape + y / shape.rows_per_strip)
+row_in_needed shape plane y striped below =
+    let needed = needed_length-in_plane shape plane (y / shape.rows_per_strip) (strip_of_row shape y striped below) in
+    let next : y % shape.rows_per_strip + 1 ≤ strip_rows shape (y / shape.rows_per_strip) = omega (arith, row_in_strip shape y striped below) in
+    let scaled : (y % shape.rows_per_strip + 1) * plane_row_length shape ≤ strip_rows shape (y / shape.rows_per_strip) * plane_row_length shape =
+    mul-le-mul_right (plane_row_length shape) next in
+    omega arith
+
+-- there are at most four planes
+pub planes-within : (shape : Shape) → planes shape ≤ 4
+unfolding planes
+planes-within shape = grind (arith, nat_tests)
+
+-- what the number of a strip is below
+pub ruleset numbers = (strip_number, strip_of_row, planes-within)
+
+-- with one plane, a row of the plane is a row of the image
+pub one_plane : (shape : Shape) → planes shape ≡ 1 → row_length shape ≡ plane_row_length shape
+unfolding planes plane_row_length
+one_plane shape one = rows (shape.samples == 4) (shape.planar == 2) shape.width _ one
+  where
+    rows : (four apart : Bool) (width size : ℕ) → ◌≡◌ {A = ℕ} (if four && apart then 4 else 1) 1 → (if four then 4 * width else size) ≡ (if four then if apart then width else 4 * width else size)
+    rows true true width size one = absurd (omega arith)
+    rows true false width size one = refl
+    rows false apart width size one = refl
+
+-- with more, there are four, and a row of a plane has a byte for each pixel
+pub four_planes : (shape : Shape) → planes shape ≢ 1 → (planes shape ≡ 4) × (row_length shape ≡ 4 * shape.width) × (plane_row_length shape ≡ shape.width)
+unfolding planes plane_row_length
+four_planes shape more = rows (shape.samples == 4) (shape.planar == 2) shape.width (row_size shape.width) more
+  where
+    rows : (four apart : Bool) (width size : ℕ) → ◌≢◌ {A = ℕ} (if four && apart then 4 else 1) 1
+        → (◌≡◌ {A = ℕ} (if four && apart then 4 else 1) 4) × ((if four then 4 * width else size) ≡ 4 * width) × ((if four then if apart then width else 4 * width else size) ≡ width)
+    rows true true width size more = (refl, refl, refl)
+    rows true false width size more = absurd (more refl)
+    rows false apart width size more = absurd (more refl)

@@ -1,0 +1,15 @@
+// The strips of a TIFF image: the tests of their places and lengths, and the rows of the image in order, both planar
+// forms, uncompressed and PackBits (TIFF 6.0, Sections 3, 8 and 9). No call takes memory.
+#![tactic(auto)]
+
+mod row_cursor;
+mod samples;
+mod shape;
+mod strip_table;
+mod strips;
+#[cfg(test)]
+mod tests;
+
+pub use row_cursor::RowCursor;
+pub use shape::Shape;
+pub use strips::Strips;

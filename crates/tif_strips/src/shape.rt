@@ -1,0 +1,119 @@
+// The shape of an image: what the fields of its directory say of its rows and strips.
+ghost use Rattle.std.specs.Prelude.{◌≡◌, ◌+◌, ◌*◌, ◌/◌, ◌%◌, ◌≤◌, ◌<◌};
+ghost use Rattle.tif_strips.specs.Strips.{IsStriped, needed_length, plane_row_length, planes, strip_count, strip_rows, strips_per_plane};
+
+use pr_base::row_bytes;
+
+/// The shape of an image. Width and length are in pixels. A contone image has four samples of eight bits a pixel, a
+/// bilevel one has one sample of one bit.
+#[derive(Clone, Copy, Debug, PartialEq, Eq)]
+pub struct Shape {
+    /// ImageWidth (256).
+    pub width: u32,
+    /// ImageLength (257).
+    pub length: u32,
+    /// SamplesPerPixel (277).
+    pub samples: u8,
+    /// BitsPerSample (258).
+    pub bits: u8,
+    /// PlanarConfiguration (284): 1 where a pixel's samples stand side by side, 2 where each has a plane.
+    pub planar: u8,
+    /// Compression (259) is PackBits.
+    pub packed: bool,
+    /// RowsPerStrip (278).
+    pub rows_per_strip: u32,
+}
+
+impl Shape {
+    // The number of planes.
+    #[tactic(auto, unfolding(crate::specs::Strips::planes))]
+    pub(crate) fn planes(&self) -> u32
+        ensures count { result ≡ planes self.now }
+        ensures within { result ≤ 4 }
+    {
+        if self.samples == 4 && self.planar == 2 {
+            4
+        } else {
+            1
+        }
+    }
+
+    // The bytes of a row in one plane.
+    #[tactic(auto, unfolding(crate::specs::Strips::plane_row_length))]
+    pub(crate) fn plane_row_len(&self) -> usize
+        requires { IsStriped self.now }
+        ensures len { result ≡ plane_row_length self.now }
+        ensures within { result ≤ 262140 }
+    {
+        let width = self.width;
+        if self.samples != 4 {
+            row_bytes(width)
+        } else if self.planar == 2 {
+            width as usize
+        } else {
+            4 * width as usize
+        }
+    }
+
+    // The number of strips of one plane.
+    #[tactic(auto, unfolding(crate::specs::Strips::strips_per_plane))]
+    pub(crate) fn strips_per_plane(&self) -> u32
+        requires { IsStriped self.now }
+        ensures count { result ≡ strips_per_plane self.now }
+        ensures some { 1 ≤ result }
+        ensures within { result ≤ self.now.length }
+    {
+        self.length.div_ceil(self.rows_per_strip)
+    }
+
+    // The number of strips.
+    #[tactic(auto, unfolding(crate::specs::Strips::strip_count))]
+    pub(crate) fn strip_count(&self) -> u32
+        requires { IsStriped self.now }
+        ensures count { result ≡ strip_count self.now }
+    {
+        self.planes() * self.strips_per_plane()
+    }
+
+    // The rows of strip `i` of a plane.
+    #[tactic(auto, using(crate::proofs::Shapes::rows_above), unfolding(crate::specs::Strips::strip_rows))]
+    pub(crate) fn strip_rows(&self, i: u32) -> u32
+        requires rows { IsStriped self.now }
+        requires within { i < strips_per_plane self.now }
+        ensures rows { result ≡ strip_rows self.now i }
+        ensures within { result ≤ 65535 }
+    {
+        let above = i * self.rows_per_strip;
+        self.rows_per_strip.min(self.length - above)
+    }
+
+    // The bytes that a strip needs.
+    #[tactic(auto, unfolding(crate::specs::Strips::needed_length))]
+    pub(crate) fn needed_len(&self, strip: u32) -> usize
+        requires { IsStriped self.now }
+        ensures { result ≡ needed_length self.now strip }
+    {
+        let rows = self.strip_rows(strip % self.strips_per_plane());
+        rows as usize * self.plane_row_len()
+    }
+
+    // The number of the strip that holds row `y` of a plane.
+    #[tactic(auto, using(crate::proofs::Shapes::numbers), unfolding(crate::specs::Strips::strip_count))]
+    pub(crate) fn strip_of_row(&self, plane: u32, y: u32) -> u32
+        requires striped { IsStriped self.now }
+        requires plane { plane < planes self.now }
+        requires row { y < self.now.length }
+        ensures number { result ≡ plane * strips_per_plane self.now + y / self.now.rows_per_strip }
+        ensures within { result < strip_count self.now }
+    {
+        plane * self.strips_per_plane() + y / self.rows_per_strip
+    }
+
+    // The place in its strip of row `y` of a plane.
+    pub(crate) fn place_in_strip(&self, y: u32) -> usize
+        requires { IsStriped self.now }
+        ensures { result ≡ y % self.now.rows_per_strip * plane_row_length self.now }
+    {
+        (y % self.rows_per_strip) as usize * self.plane_row_len()
+    }
+}

@@ -1,0 +1,59 @@
+// The strips of an image, tested.
+ghost use Rattle.std.specs.Prelude.{◌≡◌, IfOk};
+ghost use Rattle.std.specs.Result.{result_err};
+ghost use Rattle.tif_strips.specs.Strips.{IsStriped, strip_fault};
+
+use crate::strip_table::StripTable;
+use crate::{RowCursor, Shape};
+use pr_base::TagFault;
+use std::marker::Model;
+use tif_dir::{Dir, read_dir};
+
+/// The strips of an image, all of which lie in the file and have the samples that they need. Contracts see the
+/// image's shape and the bytes of its file.
+#[derive(Debug, Drop)]
+pub struct Strips<'a> {
+    bytes: &'a [u8],
+    shape: Shape,
+}
+
+impl<'a> Model for Strips<'a> {
+    ghost use Rattle.tif_strips.specs.Strips.{Image};
+    ghost use Rattle.tif_strips.specs.Table.{HasPassed};
+
+    ghost Value = { Image };
+
+    ghost view = { λ s. record { shape = s.shape; bytes = s.bytes.now } };
+
+    ghost invariant = { λ s. HasPassed s.shape s.bytes.now };
+}
+
+impl<'a> Strips<'a> {
+    /// Tests StripOffsets, StripByteCounts and each strip in order. `dir` is the directory of `bytes`, and `shape` has
+    /// passed the tests of the other fields.
+    pub fn check(bytes: &'a [u8], dir: &Dir<'a>, shape: Shape) -> Result<Strips<'a>, TagFault>
+        requires dir { dir.now ≡ bytes.now }
+        requires shape { IsStriped shape }
+        ensures strips { IfOk result (λ strips. strips ≡ record { shape = shape; bytes = bytes.now }) }
+        ensures fault { result_err result ≡ strip_fault shape bytes.now }
+    {
+        let table = StripTable::read(bytes, dir, shape)?;
+        for strip in 0..shape.strip_count() {
+            table.check(strip)?;
+        }
+        Ok(Strips { bytes, shape })
+    }
+
+    /// The rows of the image, from the top.
+    pub fn rows(&self) -> RowCursor<'a>
+        ensures { result ≡ record { shape = self.now.shape; bytes = self.now.bytes; next = 0 } }
+    {
+        let Ok(dir) = read_dir(self.bytes) else {
+            unreachable!()
+        };
+        let Ok(table) = StripTable::read(self.bytes, &dir, self.shape) else {
+            unreachable!()
+        };
+        RowCursor::new(table)
+    }
+}
