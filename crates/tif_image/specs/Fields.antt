@@ -1,0 +1,103 @@
+-- The tests of an image's fields, each over the whole file: what the field says, or its fault (TIFF 6.0, Sections 8,
+-- 15 and 16; which values are taken is plateroom's own).
+use Rattle.std.specs.Prelude.{ℕ, ◌==◌, ◌%◌, ◌&&◌, ◌||◌, nat_lt, nat_le, Bool, true, false, if◌then◌else◌, List, [], ◌∷◌, length, take, replicate, Option, Some, None, Result, Ok, Err}
+use Rattle.std.specs.List.{enumerate_from, find, list_all, list_any}
+use Rattle.pr_base.specs.declared.fault.TagFault.{TagFault}
+use Rattle.pr_base.specs.declared.fault.FaultKind.{FaultKind}
+use Rattle.pr_base.specs.declared.fault.FaultKind.TheVariants.{Bits, DotRange, FieldCount, Tiled}
+use Rattle.tif_dir.specs.Directory.{fault_at, field_of, is_present, number_at}
+
+-- ---- tests in order
+
+-- a test that gives a value, and the tests that follow it: the first fault is the answer
+infixl 10 ◌>>=◌
+abbrev pub ◌>>=◌ : {A B : Type 0} → Result A TagFault → (A → Result B TagFault) → Result B TagFault
+(Ok value) >>= rest = rest value
+(Err fault) >>= rest = Err fault
+
+-- the same, where the value is of no use to them
+infixl 10 ◌>>◌
+abbrev pub ◌>>◌ : {A B : Type 0} → Result A TagFault → Result B TagFault → Result B TagFault
+(Ok value) >> rest = rest
+(Err fault) >> rest = Err fault
+
+-- this holds, or that is the fault
+abbrev pub must : Bool → TagFault → Result (Unit {0}) TagFault
+must true fault = Ok tt
+must false fault = Err fault
+
+-- there is no fault
+abbrev pub no_fault : Option TagFault → Result (Unit {0}) TagFault
+no_fault None = Ok tt
+no_fault (Some fault) = Err fault
+
+-- ---- fields of one value
+
+-- the value of a field, which lies between two bounds
+unfoldable pub number_within : List ℕ → ℕ → ℕ → ℕ → FaultKind → Result ℕ TagFault
+number_within bytes tag least most kind = do
+  value ← number_at bytes tag 0 1
+  must (nat_le least value && nat_le value most) (fault_at tag kind)
+  Ok value
+
+-- the value of a field, which is one of these
+unfoldable pub number_among : List ℕ → ℕ → List ℕ → FaultKind → Result ℕ TagFault
+number_among bytes tag accepted kind = do
+  value ← number_at bytes tag 0 1
+  must (list_any (λ number. number == value) accepted) (fault_at tag kind)
+  Ok value
+
+-- ---- tiles
+
+-- TileWidth, TileLength, TileOffsets and TileByteCounts (Section 15)
+abbrev pub tile_tags : List ℕ
+tile_tags = 322 ∷ 323 ∷ 324 ∷ 325 ∷ []
+
+-- none of these fields is there; the fault names the first that is
+abbrev pub no_tile : Option ℕ → Result (Unit {0}) TagFault
+no_tile None = Ok tt
+no_tile (Some tag) = Err (fault_at tag Tiled)
+
+unfoldable pub no_tiles : List ℕ → Result (Unit {0}) TagFault
+no_tiles bytes = no_tile (find (λ tag. is_present (field_of bytes tag)) tile_tags)
+
+-- ---- BitsPerSample
+
+-- the first values of the field, one for each sample; 1 for each where the file leaves the field out
+abbrev pub first_bits : ℕ → Result (Option (List ℕ)) TagFault → Result (List ℕ) TagFault
+first_bits samples (Err fault) = Err fault
+first_bits samples (Ok None) = Ok (replicate samples 1)
+first_bits samples (Ok (Some values)) =
+    if nat_lt (length values) samples then Err (fault_at 258 FieldCount) else Ok (take samples values)
+
+-- these are all the same depth
+abbrev pub same_bits : ℕ → Result (List ℕ) TagFault → Result (Unit {0}) TagFault
+same_bits depth bits = bits >>= λ values. must (list_all (λ bit. bit == depth) values) (fault_at 258 Bits)
+
+-- each sample has so many bits
+unfoldable pub bits_each : List ℕ → ℕ → ℕ → Result (Unit {0}) TagFault
+bits_each bytes samples depth = same_bits depth (first_bits samples (field_of bytes 258))
+
+-- ---- DotRange
+
+-- value i of the full range: 0 is no ink and 255 is full ink
+abbrev pub full_dot : ℕ → ℕ
+full_dot i = if i % 2 == 0 then 0 else 255
+
+-- a value and its index
+abbrev pub is_full_dot : ℕ × ℕ → Bool
+is_full_dot dot = dot.1 == full_dot dot.0
+
+abbrev pub is_full_range : List ℕ → Bool
+is_full_range values = (length values == 2 || length values == 8) && list_all is_full_dot (enumerate_from 0 values)
+
+-- a range for all inks or one for each of four, from 0 to 255
+abbrev pub full_range : Result (Option (List ℕ)) TagFault → Result (Unit {0}) TagFault
+full_range (Err fault) = Err fault
+full_range (Ok None) = Ok tt
+full_range (Ok (Some values)) =
+    if nat_lt (length values) 2 then Err (fault_at 336 FieldCount) else must (is_full_range values) (fault_at 336 DotRange)
+
+-- where the file has a dot range, it is the full one
+unfoldable pub full_dot_range : List ℕ → Result (Unit {0}) TagFault
+full_dot_range bytes = full_range (field_of bytes 336)
