@@ -1,0 +1,2 @@
+pub mod CurveLemmas
+pub mod LimitLemmas

@@ -1,0 +1,137 @@
+// The curve of an ink: what each value becomes.
+ghost use Rattle.std.specs.Prelude.{◌≡◌, ℕ, ◌<◌, ◌≤◌, ◌↔◌, IsTrue, length, slice_index};
+ghost use Rattle.page_tone.specs.Curve.{AreValid, curve_value, line_value};
+
+use std::marker::Model;
+
+/// Whether points make a curve: there are 2 to 32, the first stands at 0 and the last at 255, and their places
+/// strictly rise.
+pub fn valid_points(points: &[(u8, u8)]) -> bool
+    ensures { IsTrue result ↔ AreValid points.now }
+{
+    if points.len() < 2 || points.len() > 32 {
+        return false;
+    }
+    if points[0].0 != 0 || points[points.len() - 1].0 != 255 {
+        return false;
+    }
+    for k in 1..points.len() {
+        if points[k - 1].0 >= points[k].0 {
+            return false;
+        }
+    }
+    true
+}
+
+/// A curve. Contracts see the list of what each of the 256 ink values becomes.
+#[derive(Clone, Copy, Debug, PartialEq, Eq)]
+pub struct Curve {
+    values: [u8; 256],
+}
+
+impl Model for Curve {
+    ghost use Rattle.std.specs.Prelude.{List, ℕ};
+
+    ghost Value = { List ℕ };
+
+    ghost view = { λ curve. curve.values };
+
+    ghost inverse = { λ values. record { values = values } };
+}
+
+impl Curve {
+    /// The curve through these points, by straight lines, rounded down.
+    pub fn from_points(points: &[(u8, u8)]) -> Curve
+        requires { AreValid points.now }
+        ensures length { length result ≡ 256 }
+        ensures values { (v : ℕ) → v < 256 → slice_index result v ≡ curve_value points.now v }
+    {
+        let mut values = [0; 256];
+        for v in 0..=255 {
+            values[v as usize] = value_at(points, v);
+        }
+        Curve { values }
+    }
+
+    /// The curve that changes no value.
+    pub fn identity() -> Curve
+        ensures length { length result ≡ 256 }
+        ensures values { (v : ℕ) → v < 256 → slice_index result v ≡ v }
+    {
+        let mut values = [0; 256];
+        for v in 0..=255 {
+            values[v as usize] = v;
+        }
+        Curve { values }
+    }
+
+    /// What `v` becomes.
+    pub fn at(&self, v: u8) -> u8
+        ensures { result ≡ slice_index self.now v }
+    {
+        self.values[v as usize]
+    }
+}
+
+/// The value at `v` of the curve through points.
+fn value_at(points: &[(u8, u8)], v: u8) -> u8
+    requires { AreValid points.now }
+    ensures { result ≡ curve_value points.now v }
+{
+    for right in 1..points.len() {
+        if v <= points[right].0 {
+            return between(points[right - 1], points[right], v);
+        }
+    }
+    unreachable!()
+}
+
+/// The value at `v` on the line between two points, rounded down.
+fn between(left: (u8, u8), right: (u8, u8), v: u8) -> u8
+    requires rises { left.0 < right.0 }
+    requires left { left.0 ≤ v }
+    requires right { v ≤ right.0 }
+    ensures { result ≡ line_value left right v }
+{
+    let (x0, y0) = (left.0 as u32, left.1 as u32);
+    let (x1, y1) = (right.0 as u32, right.1 as u32);
+    let v = v as u32;
+    ((y0 * (x1 - v) + y1 * (v - x0)) / (x1 - x0)) as u8
+}
+
+#[cfg(test)]
+mod tests {
+    use super::*;
+
+    #[test]
+    fn points_of_a_curve(rt: HostRuntime) {
+        assert!(rt; valid_points(&[(0, 0), (128, 110), (255, 255)]));
+        assert!(rt; !valid_points(&[(0, 0)]), "one point");
+        assert!(rt;
+            !valid_points(&[(0, 0), (9, 1), (9, 2), (255, 255)]),
+            "two points at one place"
+        );
+        assert!(rt; !valid_points(&[(0, 0), (254, 255)]), "no end");
+    }
+
+    #[test]
+    fn curve_of_three_points(rt: HostRuntime) {
+        let points = [(0, 0), (128, 110), (255, 255)];
+        if valid_points(&points) {
+            let curve = Curve::from_points(&points);
+            assert_eq!(rt; curve.at(64), 55);
+            assert_eq!(rt; curve.at(128), 110);
+            assert_eq!(rt; curve.at(200), 192);
+        } else {
+            assert!(rt; false, "the points are a curve's");
+        }
+    }
+
+    #[test]
+    fn identity_changes_nothing(rt: HostRuntime) {
+        let curve = Curve::identity();
+        for v in 0..=255 {
+            assert_eq!(rt; curve.at(v), v);
+        }
+    }
+}

@@ -1,0 +1,8 @@
+// Tone: the curve of an ink, and the limit on the ink of a pixel.
+#![tactic(auto)]
+
+mod curve;
+mod limit;
+
+pub use curve::{Curve, valid_points};
+pub use limit::limit_inks;
