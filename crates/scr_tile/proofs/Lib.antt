@@ -1,0 +1,6 @@
+pub mod BitLemmas
+pub mod BlockLemmas
+pub mod DotLemmas
+pub mod RowLemmas
+pub mod SpanLemmas
+pub mod TableLemmas

@@ -1,0 +1,46 @@
+-- The table of thresholds is what the recursion over quarters gives, for each side that is built.
+use Rattle.std.proofs.Common.{◌≡◌, ℕ, ◌<◌, ◌≤◌, List, [], take, map, get_or, refl, ap, sym, ◌∙◌, arith, subst, inl, inr}
+use Rattle.std.specs.List.{range_with_len}
+use Rattle.std.proofs.lemmas.List.{get_or-take, get_or-map, length-take}
+use Rattle.std.proofs.lemmas.List.FromFn.{get_or-map-range_with_len}
+use Rattle.scr_tile.specs.Tile.{IsBayerSide, index_in, threshold_at}
+use Rattle.scr_tile.specs.declared.bayer_table.TheConstants.{THRESHOLDS}
+
+-- the first n numbers of the first n rows of the table
+abbrev pub corner : ℕ → List (List ℕ)
+corner n = map (λ row. take n row) (take n THRESHOLDS)
+
+-- the thresholds of one tile, computed by the recursion
+abbrev pub computed : ℕ → List (List ℕ)
+computed n = map (λ y. map (λ x. threshold_at n x y) (range_with_len 0 n)) (range_with_len 0 n)
+
+pub corner_16 : corner 16 ≡ computed 16
+unfolding index_in
+corner_16 = refl
+
+pub corner_8 : corner 8 ≡ computed 8
+unfolding index_in
+corner_8 = refl
+
+pub corner_4 : corner 4 ≡ computed 4
+unfolding index_in
+corner_4 = refl
+
+pub corner_2 : corner 2 ≡ computed 2
+unfolding index_in
+corner_2 = refl
+
+-- a number of a corner that is equal to what was computed
+corner_at : (n x y : ℕ) → corner n ≡ computed n → n ≤ 16 → x < n → y < n → get_or (take n (get_or THRESHOLDS y [])) x 0 ≡ threshold_at n x y
+corner_at n x y same small column row =
+    ap (λ r. get_or (take n r) x 0) (sym (get_or-take n THRESHOLDS y [] row))
+    ∙ ap (λ r. get_or r x 0) (sym (get_or-map (λ r. take n r) (take n THRESHOLDS) y [] [] (omega (arith, length-take n THRESHOLDS))))
+    ∙ ap (λ rows. get_or (get_or rows y []) x 0) same
+    ∙ ap (λ r. get_or r x 0) (get_or-map-range_with_len (λ j. map (λ i. threshold_at n i j) (range_with_len 0 n)) 0 n y y [] row (omega arith))
+    ∙ get_or-map-range_with_len (λ i. threshold_at n i y) 0 n x x 0 column (omega arith)
+
+pub table_at : (n x y : ℕ) → IsBayerSide n → x < n → y < n → get_or (take n (get_or THRESHOLDS y [])) x 0 ≡ threshold_at n x y
+table_at n x y (inl e) column row = corner_at n x y (let P : ℕ → Type 0 = λ m. corner m ≡ computed m in subst P (sym e) corner_2) (omega arith) column row
+table_at n x y (inr (inl e)) column row = corner_at n x y (let P : ℕ → Type 0 = λ m. corner m ≡ computed m in subst P (sym e) corner_4) (omega arith) column row
+table_at n x y (inr (inr (inl e))) column row = corner_at n x y (let P : ℕ → Type 0 = λ m. corner m ≡ computed m in subst P (sym e) corner_8) (omega arith) column row
+table_at n x y (inr (inr (inr e))) column row = corner_at n x y (let P : ℕ → Type 0 = λ m. corner m ≡ computed m in subst P (sym e) corner_16) (omega arith) column row

@@ -1,0 +1,30 @@
+-- What a tile of either kind shows: its sides, and the threshold of each pixel.
+use Rattle.std.specs.Prelude.{ℕ, ◌+◌, ◌*◌, ◌%◌, slice_index}
+use Rattle.scr_tile.specs.Tile.{number_at}
+use Rattle.scr_tile.specs.declared.any_tile.AnyTile.{AnyTile}
+use Rattle.scr_tile.specs.declared.any_tile.AnyTile.TheVariants.{B2, B4, B8, B16, Own}
+
+-- the columns of a tile
+abbrev pub tile_width : AnyTile → ℕ
+tile_width (B2 rows) = 2
+tile_width (B4 rows) = 4
+tile_width (B8 rows) = 8
+tile_width (B16 rows) = 16
+tile_width (Own numbers) = numbers.width
+
+-- the rows of a tile
+abbrev pub tile_height : AnyTile → ℕ
+tile_height (B2 rows) = 2
+tile_height (B4 rows) = 4
+tile_height (B8 rows) = 8
+tile_height (B16 rows) = 16
+tile_height (Own numbers) = numbers.height
+
+-- the threshold of the pixel in column x and row y, under copies of the tile laid edge to edge
+abbrev pub threshold_of : AnyTile → ℕ → ℕ → ℕ
+threshold_of (B2 rows) x y = number_at rows (x % 2) (y % 2)
+threshold_of (B4 rows) x y = number_at rows (x % 4) (y % 4)
+threshold_of (B8 rows) x y = number_at rows (x % 8) (y % 8)
+threshold_of (B16 rows) x y = number_at rows (x % 16) (y % 16)
+threshold_of (Own numbers) x y =
+    slice_index numbers.at ((y % numbers.height) * numbers.width + x % numbers.width)

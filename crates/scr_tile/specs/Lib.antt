@@ -1,0 +1,3 @@
+pub mod AnyTile
+pub mod DotLaw
+pub mod Tile

@@ -1,0 +1,45 @@
+// A tile of any size that a screen may name.
+ghost use Rattle.std.specs.Prelude.{◌≡◌, ℕ, ◌*◌, ◌↔◌, length, IsSome, IfSome};
+ghost use Rattle.scr_tile.specs.Tile.{IsSide, IsBayerSide, threshold_at};
+
+use crate::{OwnTile, Tile, bayer};
+
+/// A Bayer tile, or one of a plan's own numbers.
+#[derive(Debug, Drop)]
+pub enum AnyTile {
+    B2(Tile<2, 2>),
+    B4(Tile<4, 4>),
+    B8(Tile<8, 8>),
+    B16(Tile<16, 16>),
+    Own(OwnTile),
+}
+
+impl AnyTile {
+    ghost use Rattle.scr_tile.specs.AnyTile.{tile_height, tile_width, threshold_of};
+
+    /// The Bayer tile of side `n`, where one is built.
+    pub fn bayer(n: u8) -> Option<AnyTile>
+        ensures built { IsSome result ↔ IsBayerSide n }
+        ensures width { IfSome result (λ tile. tile_width tile ≡ n) }
+        ensures height { IfSome result (λ tile. tile_height tile ≡ n) }
+        ensures thresholds { IfSome result (λ tile. (x y : ℕ) → threshold_of tile x y ≡ threshold_at n x y) }
+    {
+        match n {
+            2 => Some(AnyTile::B2(bayer())),
+            4 => Some(AnyTile::B4(bayer())),
+            8 => Some(AnyTile::B8(bayer())),
+            16 => Some(AnyTile::B16(bayer())),
+            _ => None,
+        }
+    }
+
+    /// The tile of `height` rows of `width` numbers, which stand row after row in `at`.
+    pub fn own(width: u32, height: u32, at: Vec<u8>) -> AnyTile
+        requires width { IsSide width }
+        requires height { IsSide height }
+        requires numbers { length at.items ≡ width * height }
+        ensures { result ≡ AnyTile.Own (record { width = width; height = height; at = at.items }) }
+    {
+        AnyTile::Own(OwnTile::of(width, height, at))
+    }
+}

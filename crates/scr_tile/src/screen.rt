@@ -1,0 +1,126 @@
+// From a row of ink values to a row of packed pixels.
+ghost use Rattle.std.specs.Prelude.{◌≡◌, ℕ, ◌+◌, ◌*◌, ◌-◌, ◌/◌, ◌%◌, ◌^◌, ◌<◌, ◌≤◌, ◌==◌, length, slice_index};
+ghost use Rattle.scr_tile.specs.AnyTile.{threshold_of};
+ghost use Rattle.pr_base.specs.Bits.{bit_at, SetsBits};
+ghost use Rattle.scr_tile.specs.Tile.{IsSide, Repeats, tile_bit};
+
+use crate::AnyTile;
+use crate::bits::set_bits;
+use std::simd::prelude::*;
+
+/// How many pixels are screened in one step: the lanes of the widest vector, and eight whole bytes.
+const BLOCK: usize = 64;
+
+/// Room for a tile's widest row and the thresholds of a block more, so that those of any block stand side by
+/// side.
+const ROOM: usize = 128;
+
+/// Screens row `y` of a page: pixel `from + x` of `bits` is set where value `x` is above its threshold.
+pub fn screen_row(tile: &AnyTile, y: u32, values: &[u8], bits: &mut [u8], from: u32)
+    requires { from + length values.now ≤ 8 * length bits.old }
+    ensures screened { (x : ℕ) → x < length values.now →
+        bit_at bits.new (from + x) ≡ tile_bit (slice_index values.now x) (threshold_of tile.now x y) }
+    ensures before { (k : ℕ) → k < from → bit_at bits.new k ≡ bit_at bits.old k }
+    ensures behind { (k : ℕ) → from + length values.now ≤ k → bit_at bits.new k ≡ bit_at bits.old k }
+{
+    match tile {
+        AnyTile::B2(tile) => screen(tile.row(y), values, bits, from),
+        AnyTile::B4(tile) => screen(tile.row(y), values, bits, from),
+        AnyTile::B8(tile) => screen(tile.row(y), values, bits, from),
+        AnyTile::B16(tile) => screen(tile.row(y), values, bits, from),
+        AnyTile::Own(tile) => screen(tile.row(y), values, bits, from),
+    }
+}
+
+/// Screens by one row of a tile: first the pixels up to a whole byte, then whole blocks, then the rest.
+fn screen(row: &[u8], values: &[u8], bits: &mut [u8], from: u32)
+    requires side { IsSide (length row.now) }
+    requires room { from + length values.now ≤ 8 * length bits.old }
+    ensures { SetsBits
+        (λ x. tile_bit (slice_index values.now x) (slice_index row.now (x % length row.now)))
+        from (length values.now) bits.old bits.new }
+{
+    let from = from as usize;
+    let repeated = repeat(row);
+    let ragged = ((8 - from % 8) % 8).min(values.len());
+    let whole = (values.len() - ragged) / BLOCK;
+    let done = ragged + BLOCK * whole;
+    set_bits(&repeated[..], &values[..ragged], bits, from);
+    set_blocks(
+        row,
+        &repeated,
+        ragged,
+        &values[ragged..done],
+        bits,
+        (from + ragged) / 8,
+    );
+    set_bits(
+        &repeated[done % row.len()..],
+        &values[done..],
+        bits,
+        from + done,
+    );
+}
+
+/// A row of thresholds, written out again and again.
+fn repeat(row: &[u8]) -> [u8; ROOM]
+    requires { IsSide (length row.now) }
+    ensures { Repeats row.now ROOM result }
+{
+    let mut repeated = [0; ROOM];
+    let mut column = 0;
+    for threshold in repeated.iter_mut() {
+        *threshold = row[column];
+        column += 1;
+        if column == row.len() {
+            column = 0;
+        }
+    }
+    repeated
+}
+
+/// Screens whole blocks from byte `first` on, under copies of a row of which the first pixel meets column
+/// `start`.
+fn set_blocks(
+    row: &[u8],
+    repeated: &[u8; ROOM],
+    start: usize,
+    values: &[u8],
+    bits: &mut [u8],
+    first: usize,
+)
+    requires side { IsSide (length row.now) }
+    requires repeated { Repeats row.now ROOM repeated.now }
+    requires start { start < 8 }
+    requires whole { length values.now % BLOCK ≡ 0 }
+    requires room { 8 * first + length values.now ≤ 8 * length bits.old }
+    ensures { SetsBits
+        (λ x. tile_bit (slice_index values.now x) (slice_index row.now ((start + x) % length row.now)))
+        (8 * first) (length values.now) bits.old bits.new }
+{
+    let width = row.len();
+    let step = BLOCK % width;
+    let mut column = start % width;
+    for k in 0..values.len() / BLOCK {
+        let at = BLOCK * k;
+        let block = block_of(&values[at..at + BLOCK], &repeated[column..column + BLOCK]);
+        let byte = first + 8 * k;
+        bits[byte..byte + 8].copy_from_slice(&block.to_be_bytes()[..]);
+        column += step;
+        if column >= width {
+            column -= width;
+        }
+    }
+}
+
+/// The pixels of a block, the first as the highest bit: each is set where its value is above its threshold.
+fn block_of(values: &[u8], thresholds: &[u8]) -> u64
+    requires values { length values.now ≡ BLOCK }
+    requires thresholds { length thresholds.now ≡ BLOCK }
+    ensures { (x : ℕ) → x < BLOCK →
+        (result / 2 ^ (63 - x) % 2 == 1) ≡ tile_bit (slice_index values.now x) (slice_index thresholds.now x) }
+{
+    let values = u8x64::from_slice(values).reverse();
+    let thresholds = u8x64::from_slice(thresholds).reverse();
+    values.simd_gt(thresholds).to_bitmask()
+}
