@@ -1,0 +1,5 @@
+pub mod Places
+pub mod Keeps
+pub mod Readers
+pub mod Whole
+pub mod Stepped

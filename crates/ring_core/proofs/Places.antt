@@ -1,0 +1,54 @@
+-- Row numbers and their places, and what lies there after a write.
+use Rattle.std.proofs.Common.{◌≡◌, ℕ, suc, ◌+◌, ◌*◌, ◌/◌, ◌%◌, ◌<◌, ◌≤◌, ◌≢◌, ◌⊎◌, Option, inl, inr, ap, ◌∙◌, sym, mul-le-mul_right, suc-mul, lt_of_not-le, div-add-mod', arith, cond}
+use Rattle.std.proofs.lemmas.Bool.{cases_eq, eq-eqb, ne_eqb}
+use native.Mathlib.Decide.{dec_le}
+use Rattle.ring_core.specs.Events.{put_row}
+
+pub further : (x y n : ℕ) → x < y → x * n + n ≤ y * n
+further x y n h = let a : suc x * n ≤ y * n = mul-le-mul_right n h in omega (arith, suc-mul x n)
+
+turns : (n a b : ℕ) → a ≤ b → b < a + n → a % n ≡ b % n → Dec (b / n ≤ a / n) → a ≡ b
+turns n a b le lt e (yes d) =
+    let m : b / n * n ≤ a / n * n = mul-le-mul_right n d in
+    let p = div-add-mod' a n in
+    let q = div-add-mod' b n in
+    let x : ℕ = a / n * n in
+    let y : ℕ = b / n * n in
+    let r : ℕ = b % n in
+    let p' : x + r ≡ a = ap (λ (k : ℕ). x + k) (sym e) ∙ p in
+    let q' : y + r ≡ b = q in
+    let m' : y ≤ x = m in
+    omega arith
+turns n a b le lt e (no d) =
+    let m = further (a / n) (b / n) n (lt_of_not-le d) in
+    let p = div-add-mod' a n in
+    let q = div-add-mod' b n in
+    let x : ℕ = a / n * n in
+    let y : ℕ = b / n * n in
+    let r : ℕ = b % n in
+    let p' : x + r ≡ a = ap (λ (k : ℕ). x + k) (sym e) ∙ p in
+    let q' : y + r ≡ b = q in
+    let m' : x + n ≤ y = m in
+    absurd (omega arith)
+
+-- two row numbers less than a turn apart, at one place, are one number
+pub one_turn : (n a b : ℕ) → a ≤ b → b < a + n → a % n ≡ b % n → a ≡ b
+one_turn n a b le lt e = turns n a b le lt e (dec_le (b / n) (a / n))
+
+-- two row numbers less than a turn apart have places of their own
+pub apart : (n a b : ℕ) → a < b → b < a + n → a % n ≢ b % n
+apart n a b l lt e = let h : a ≡ b = one_turn n a b (omega arith) lt e in omega arith
+
+pub put_same : (places n : ℕ) (v : Option ℕ) (row : ℕ → Option ℕ) (k : ℕ) → k % places ≡ n % places → put_row places n v row k ≡ v
+put_same places n v row k e = ap (λ b. cond b v (row k)) (eq-eqb (k % places) (n % places) e)
+
+pub put_other : (places n : ℕ) (v : Option ℕ) (row : ℕ → Option ℕ) (k : ℕ) → k % places ≢ n % places → put_row places n v row k ≡ row k
+put_other places n v row k e = ap (λ b. cond b v (row k)) (ne_eqb (k % places) (n % places) e)
+
+-- what lies at a place after a write: what was written there, or what lay there
+pub put_cases : (places n : ℕ) (v : Option ℕ) (row : ℕ → Option ℕ) (k : ℕ) →
+    ((k % places ≡ n % places) × (put_row places n v row k ≡ v)) ⊎ ((k % places ≢ n % places) × (put_row places n v row k ≡ row k))
+put_cases places n v row k = elim (cases_eq (k % places) (n % places)) [
+  | inl e ↦ inl (e, put_same places n v row k e)
+  | inr e ↦ inr (e, put_other places n v row k e)
+]

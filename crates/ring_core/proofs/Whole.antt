@@ -1,0 +1,346 @@
+-- Each event takes a sound schedule to a sound schedule, and so does every list of events.
+use Rattle.std.proofs.Common.{◌≡◌, ℕ, zero, suc, ◌+◌, ◌*◌, ◌%◌, ◌<◌, ◌≢◌, Bool, true, false, cond, ◌&&◌, List, [], ◌∷◌, length, replicate, inl, inr, ap, sym, ◌∙◌, refl, subst, arith, length-set}
+use Rattle.std.specs.Prelude.{Option, Some, None, is_some, unwrap_or, nat_lt}
+use Rattle.std.proofs.lemmas.Bool.{and_parts, and_from, and_left, and_right, ltb-true, cases_eq, cases_lt, cases_Bool, false≢true}
+use Rattle.std.proofs.lemmas.List.{length-replicate, length-map}
+use Rattle.ring_core.specs.declared.event.Stage.TheVariants.{Idle, Holding, Closed}
+use Rattle.ring_core.specs.declared.event.Event.{Event}
+use Rattle.ring_core.specs.declared.event.Event.TheVariants.{Look, Fill, Publish, See, Open, Close, Advance, Leave}
+use Rattle.ring_core.specs.Schedule.{Schedule, readers, Progress, Lanes, progress_of, lanes_of, start}
+use Rattle.ring_core.specs.Events.{each_below, can_fill, is_ready, can_open, can_close, can_advance, can_leave, can_be, after, step, run, cursor_at, is_below, is_idle, advanced}
+use Rattle.ring_core.specs.Sound.{IsSoundProgress, IsSoundLanes, IsSoundWords, IsSound}
+use Rattle.ring_core.specs.Laws.{WasClosed}
+use Rattle.ring_core.proofs.Places.{one_turn}
+use Rattle.ring_core.proofs.Keeps.{some_is, below_is, fill_room, look_progress, look_lanes, fill_lanes, publish_progress, publish_lanes, ready_room, see_progress, see_lanes, open_lanes, close_lanes, advance_progress, advance_lanes, advance_ahead, leave_progress, leave_lanes}
+use Rattle.ring_core.proofs.Readers
+
+-- what holds of one number below n and of all others, holds of each
+pub each_by : (n r : ℕ) (P : ℕ → Type 0) → P r → ((q : ℕ) → q < n → q ≢ r → P q) → (q : ℕ) → q < n → P q
+each_by n r P here else q h = elim (cases_eq q r) [ inl e ↦ subst P (sym e) here | inr e ↦ else q h e ]
+
+pub each_below_is : (n : ℕ) (p : ℕ → Bool) → each_below n p ≡ true → (k : ℕ) → k < n → p k ≡ true
+each_below_is zero p e k h = absurd (omega arith)
+each_below_is (suc n) p e k h =
+    let parts = and_parts (each_below n p) (p n) e in
+    elim (cases_lt k n) [
+      | inl below ↦ each_below_is n p parts.0 k below
+      | inr above ↦ let at : n ≡ k = omega arith in subst (λ j. p j ≡ true) at parts.1
+    ]
+
+-- a reader's event: its number is that of a reader, and its own condition holds
+event_parts : (n r : ℕ) (can : Bool) → (nat_lt r n && can) ≡ true → (r < n) × (can ≡ true)
+event_parts n r can e = let x = and_parts (nat_lt r n) can e in (ltb-true r n x.0, x.1)
+
+-- the cursor of a reader that has one
+cursor_is : (s : Schedule) (r : ℕ) → is_some (progress_of s r).cursor ≡ true → (progress_of s r).cursor ≡ Some (cursor_at s r)
+cursor_is s r e = let x = some_is (progress_of s r).cursor e in x.1 ∙ ap Some (sym (ap (λ o. unwrap_or o 0) x.1))
+
+abbrev SoundLanes : Schedule → Progress → Lanes → Type 0
+SoundLanes s p l = IsSoundLanes s.places s.total s.head p l
+
+-- the progress of one reader changed
+words_by : (s : Schedule) (r : ℕ) (p : ℕ → Progress) → IsSound s → IsSoundProgress s.places s.head (p r) → ((q : ℕ) → q ≢ r → p q ≡ progress_of s q)
+    → IsSoundWords s.places s.total s.head (readers s) p
+words_by s r p h here else = record {
+  some_place = h.words.some_place;
+  head_in = h.words.head_in;
+  each = each_by (readers s) r (λ q. IsSoundProgress s.places s.head (p q)) here (λ q l n. subst (λ x. IsSoundProgress s.places s.head x) (sym (else q n)) (h.words.each q l));
+}
+
+-- the lanes of one reader changed, or what they are compared with
+lanes_by : (s : Schedule) (r : ℕ) (p : ℕ → Progress) (l : ℕ → Lanes) → IsSound s → SoundLanes s (p r) (l r)
+    → ((q : ℕ) → q ≢ r → p q ≡ progress_of s q) → ((q : ℕ) → q ≢ r → l q ≡ lanes_of s q)
+    → (q : ℕ) → q < readers s → SoundLanes s (p q) (l q)
+lanes_by s r p l h here same still = each_by (readers s) r (λ q. SoundLanes s (p q) (l q)) here
+    (λ q k n. subst (λ x. SoundLanes s x (l q)) (sym (same q n)) (subst (λ x. SoundLanes s (progress_of s q) x) (sym (still q n)) (h.lanes q k)))
+
+pub look_sound : (s : Schedule) (r : ℕ) → IsSound s → can_be s (Look r) ≡ true → IsSound (after s (Look r))
+look_sound s r h can =
+    let l : r < readers s = ltb-true r (readers s) can in
+    let e = Readers.look_shows s r h.sized l in
+    let p = progress_of s r in
+    record {
+      sized = record {
+        filled = h.sized.filled;
+        known = length-set s.known r p.cursor ∙ h.sized.known;
+        seen = h.sized.seen;
+        stage = h.sized.stage;
+        lane = h.sized.lane;
+        taken = h.sized.taken;
+      };
+      words = words_by s r (progress_of (after s (Look r))) h
+          (subst (λ x. IsSoundProgress s.places s.head x) (sym e) (look_progress s.places s.head p (h.words.each r l)))
+          (Readers.look_else s r);
+      lanes = lanes_by s r (progress_of (after s (Look r))) (lanes_of s) h
+          (subst (λ x. SoundLanes s x (lanes_of s r)) (sym e) (look_lanes s.places s.total s.head p (lanes_of s r) (h.words.each r l) (h.lanes r l)))
+          (Readers.look_else s r) (λ q n. refl);
+    }
+
+pub fill_sound : (s : Schedule) (r : ℕ) → IsSound s → can_be s (Fill r) ≡ true → IsSound (after s (Fill r))
+fill_sound s r h can =
+    let x = event_parts (readers s) r (can_fill s.places s.total s.head (progress_of s r) (lanes_of s r)) can in
+    let some = h.words.some_place in
+    record {
+      sized = record {
+        filled = length-set s.filled r true ∙ h.sized.filled;
+        known = h.sized.known;
+        seen = h.sized.seen;
+        stage = h.sized.stage;
+        lane = length-set s.lane _ (Some s.head) ∙ h.sized.lane;
+        taken = h.sized.taken;
+      };
+      words = record { some_place = some; head_in = h.words.head_in; each = h.words.each };
+      lanes = lanes_by s r (progress_of s) (lanes_of (after s (Fill r))) h
+          (subst (λ y. SoundLanes s (progress_of s r) y) (sym (Readers.fill_shows s r h.sized some x.0))
+          (fill_lanes s.places s.total s.head (progress_of s r) (lanes_of s r) x.1 (h.words.each r x.0) (h.lanes r x.0)))
+          (λ q n. refl) (λ q n. Readers.fill_else s r q some n);
+    }
+
+pub publish_sound : (s : Schedule) → IsSound s → can_be s Publish ≡ true → IsSound (after s Publish)
+publish_sound s h can =
+    let x = and_parts (nat_lt s.head s.total) (each_below (readers s) (λ r. is_ready (progress_of s r) (lanes_of s r))) can in
+    let ready = each_below_is (readers s) (λ r. is_ready (progress_of s r) (lanes_of s r)) x.1 in
+    let lt : s.head < s.total = ltb-true s.head s.total x.0 in
+    record {
+      sized = record {
+        filled = length-map s.filled (λ (b : Bool). false) ∙ h.sized.filled;
+        known = h.sized.known;
+        seen = h.sized.seen;
+        stage = h.sized.stage;
+        lane = h.sized.lane;
+        taken = h.sized.taken;
+      };
+      words = record {
+        some_place = h.words.some_place;
+        head_in = omega arith;
+        each = λ q l. publish_progress s.places s.head (progress_of s q) (ready_room s.places s.total s.head (progress_of s q) (lanes_of s q) (ready q l) (h.lanes q l)) (h.words.each q l);
+      };
+      lanes = λ q l.
+          subst (λ y. IsSoundLanes s.places s.total (s.head + 1) (progress_of s q) y) (sym (Readers.publish_shows s q h.sized l))
+          (publish_lanes s.places s.total s.head (progress_of s q) (lanes_of s q) (ready q l) (h.words.each q l) (h.lanes q l));
+    }
+
+pub see_sound : (s : Schedule) (r : ℕ) → IsSound s → can_be s (See r) ≡ true → IsSound (after s (See r))
+see_sound s r h can =
+    let x = event_parts (readers s) r (is_some (progress_of s r).cursor) can in
+    let e = Readers.see_shows s r h.sized x.0 in
+    let p = progress_of s r in
+    record {
+      sized = record {
+        filled = h.sized.filled;
+        known = h.sized.known;
+        seen = length-set s.seen r s.head ∙ h.sized.seen;
+        stage = h.sized.stage;
+        lane = h.sized.lane;
+        taken = h.sized.taken;
+      };
+      words = words_by s r (progress_of (after s (See r))) h
+          (subst (λ y. IsSoundProgress s.places s.head y) (sym e) (see_progress s.places s.head p (h.words.each r x.0)))
+          (Readers.see_else s r);
+      lanes = lanes_by s r (progress_of (after s (See r))) (lanes_of s) h
+          (subst (λ y. SoundLanes s y (lanes_of s r)) (sym e) (see_lanes s.places s.total s.head p (lanes_of s r) (h.words.each r x.0) (h.lanes r x.0)))
+          (Readers.see_else s r) (λ q n. refl);
+    }
+
+pub open_sound : (s : Schedule) (r : ℕ) → IsSound s → can_be s (Open r) ≡ true → IsSound (after s (Open r))
+open_sound s r h can =
+    let p = progress_of s r in
+    let l = lanes_of s r in
+    let x = event_parts (readers s) r (can_open p l) can in
+    let b = below_is p.seen p.cursor (and_parts (is_below p.seen p.cursor) (is_idle l.stage) x.1).0 in
+    let at : p.cursor ≡ Some (cursor_at s r) = b.1 ∙ ap Some (sym (ap (λ o. unwrap_or o 0) b.1)) in
+    let some = h.words.some_place in
+    record {
+      sized = record {
+        filled = h.sized.filled;
+        known = h.sized.known;
+        seen = h.sized.seen;
+        stage = length-set s.stage r Holding ∙ h.sized.stage;
+        lane = length-set s.lane _ None ∙ h.sized.lane;
+        taken = h.sized.taken;
+      };
+      words = record { some_place = some; head_in = h.words.head_in; each = h.words.each };
+      lanes = lanes_by s r (progress_of s) (lanes_of (after s (Open r))) h
+          (subst (λ y. SoundLanes s p y) (sym (Readers.open_shows s r h.sized some x.0))
+          (open_lanes s.places s.total s.head p l (cursor_at s r) at x.1 (h.words.each r x.0) (h.lanes r x.0)))
+          (λ q n. refl) (λ q n. Readers.open_else s r q some n);
+    }
+
+pub close_sound : (s : Schedule) (r : ℕ) → IsSound s → can_be s (Close r) ≡ true → IsSound (after s (Close r))
+close_sound s r h can =
+    let p = progress_of s r in
+    let l = lanes_of s r in
+    let x = event_parts (readers s) r (can_close p l) can in
+    let at = cursor_is s r (and_parts (is_some p.cursor) _ x.1).0 in
+    let some = h.words.some_place in
+    record {
+      sized = record {
+        filled = h.sized.filled;
+        known = h.sized.known;
+        seen = h.sized.seen;
+        stage = length-set s.stage r Closed ∙ h.sized.stage;
+        lane = length-set s.lane _ (Some (cursor_at s r)) ∙ h.sized.lane;
+        taken = h.sized.taken;
+      };
+      words = record { some_place = some; head_in = h.words.head_in; each = h.words.each };
+      lanes = lanes_by s r (progress_of s) (lanes_of (after s (Close r))) h
+          (subst (λ y. SoundLanes s p y) (sym (Readers.close_shows s r h.sized some x.0))
+          (close_lanes s.places s.total s.head p l (cursor_at s r) at x.1 (h.words.each r x.0) (h.lanes r x.0)))
+          (λ q n. refl) (λ q n. Readers.close_else s r q some n);
+    }
+
+pub advance_sound : (s : Schedule) (r : ℕ) → IsSound s → can_be s (Advance r) ≡ true → IsSound (after s (Advance r))
+advance_sound s r h can =
+    let p = progress_of s r in
+    let l = lanes_of s r in
+    let c = cursor_at s r in
+    let x = event_parts (readers s) r (can_advance p l) can in
+    let at = cursor_is s r (and_parts (is_some p.cursor) _ x.1).0 in
+    let e = Readers.advance_shows s r h.sized x.0 in
+    let f = Readers.advance_settles s r h.sized x.0 in
+    record {
+      sized = record {
+        filled = h.sized.filled ∙ sym (length-set s.cursor r (Some (c + 1)));
+        known = h.sized.known ∙ sym (length-set s.cursor r (Some (c + 1)));
+        seen = h.sized.seen ∙ sym (length-set s.cursor r (Some (c + 1)));
+        stage = (length-set s.stage r Idle ∙ h.sized.stage) ∙ sym (length-set s.cursor r (Some (c + 1)));
+        lane = h.sized.lane ∙ ap (λ n. n * s.places) (sym (length-set s.cursor r (Some (c + 1))));
+        taken = (length-set s.taken r _ ∙ h.sized.taken) ∙ sym (length-set s.cursor r (Some (c + 1)));
+      };
+      words = subst (λ n. IsSoundWords s.places s.total s.head n (progress_of (after s (Advance r)))) (sym (length-set s.cursor r (Some (c + 1))))
+          (words_by s r (progress_of (after s (Advance r))) h
+          (subst (λ y. IsSoundProgress s.places s.head y) (sym e) (advance_progress s.places s.head p c at (advance_ahead s.places s.total s.head p l c at x.1 (h.lanes r x.0)) (h.words.each r x.0)))
+          (Readers.advance_else s r));
+      lanes = λ q k. lanes_by s r (progress_of (after s (Advance r))) (lanes_of (after s (Advance r))) h
+          (subst (λ y. SoundLanes s y (lanes_of (after s (Advance r)) r)) (sym e)
+          (subst (λ y. SoundLanes s (advanced c p) y) (sym f) (advance_lanes s.places s.total s.head p l c at x.1 (h.lanes r x.0))))
+          (Readers.advance_else s r) (Readers.advance_leaves s r) q (subst (λ n. q < n) (length-set s.cursor r (Some (c + 1))) k);
+    }
+
+pub leave_sound : (s : Schedule) (r : ℕ) → IsSound s → can_be s (Leave r) ≡ true → IsSound (after s (Leave r))
+leave_sound s r h can =
+    let p = progress_of s r in
+    let l = lanes_of s r in
+    let x = event_parts (readers s) r (can_leave p l) can in
+    let at = cursor_is s r (and_parts (is_some p.cursor) _ x.1).0 in
+    let e = Readers.leave_shows s r x.0 in
+    let n = length-set s.cursor r None in
+    record {
+      sized = record {
+        filled = h.sized.filled ∙ sym n;
+        known = h.sized.known ∙ sym n;
+        seen = h.sized.seen ∙ sym n;
+        stage = h.sized.stage ∙ sym n;
+        lane = h.sized.lane ∙ ap (λ n. n * s.places) (sym n);
+        taken = h.sized.taken ∙ sym n;
+      };
+      words = subst (λ n. IsSoundWords s.places s.total s.head n (progress_of (after s (Leave r)))) (sym n)
+          (words_by s r (progress_of (after s (Leave r))) h
+          (subst (λ y. IsSoundProgress s.places s.head y) (sym e) (leave_progress s.places s.head p (cursor_at s r) at (h.words.each r x.0)))
+          (Readers.leave_else s r));
+      lanes = λ q k. lanes_by s r (progress_of (after s (Leave r))) (lanes_of s) h
+          (subst (λ y. SoundLanes s y l) (sym e) (leave_lanes s.places s.total s.head p l x.1 (h.lanes r x.0)))
+          (Readers.leave_else s r) (λ q n. refl) q (subst (λ m. q < m) n k);
+    }
+
+pub event_sound : (s : Schedule) (e : Event) → IsSound s → can_be s e ≡ true → IsSound (after s e)
+event_sound s (Look r) h can = look_sound s r h can
+event_sound s (Fill r) h can = fill_sound s r h can
+event_sound s Publish h can = publish_sound s h can
+event_sound s (See r) h can = see_sound s r h can
+event_sound s (Open r) h can = open_sound s r h can
+event_sound s (Close r) h can = close_sound s r h can
+event_sound s (Advance r) h can = advance_sound s r h can
+event_sound s (Leave r) h can = leave_sound s r h can
+
+pub step_sound : (s : Schedule) (e : Event) → IsSound s → IsSound (step s e)
+step_sound s e h = elim (cases_Bool (can_be s e)) [
+  | inl can ↦ subst (λ b. IsSound (cond b (after s e) s)) (sym can) (event_sound s e h can)
+  | inr can ↦ subst (λ b. IsSound (cond b (after s e) s)) (sym can) h
+]
+
+pub run_sound : (s : Schedule) (es : List Event) → IsSound s → IsSound (run s es)
+run_sound s [] h = h
+run_sound s (e ∷ es) h = run_sound (step s e) es (step_sound s e h)
+
+pub fresh_progress_sound : (places : ℕ) → IsSoundProgress places 0 Readers.fresh_progress
+fresh_progress_sound places = record {
+  in_order = λ i h. absurd (omega arith);
+  counted = λ c e. let same : 0 ≡ c = cc in same;
+  seen_in = omega arith;
+  seen_ahead = λ c e. let same : 0 ≡ c = cc in omega arith;
+  joined_known = λ c e. (0, refl, omega arith);
+  left_known = λ e k f. cc;
+  within = λ k e. omega arith;
+}
+
+fresh_lanes_sound : (places total : ℕ) → IsSoundLanes places total 0 Readers.fresh_progress Readers.fresh_lanes
+fresh_lanes_sound places total = record {
+  holding_ahead = λ c e s. cc;
+  closed_ahead = λ c e s. cc;
+  left_idle = λ e. refl;
+  room = λ k e f. absurd (false≢true f);
+  lies = λ c n e low high held. absurd (omega arith);
+  out = λ c e s. cc;
+  placed = λ q n e. cc;
+  not_ahead = λ q n e. cc;
+  newest = λ q e. cc;
+  in_total = λ f. absurd (false≢true f);
+  fresh = λ f. absurd (false≢true f);
+}
+
+pub start_sound : (places n total : ℕ) → 0 < places → IsSound (start places n total)
+start_sound places n total some =
+    let first : Option ℕ = Some 0 in
+    let count : length (replicate n first) ≡ n = length-replicate n first in
+    record {
+      sized = record {
+        filled = length-replicate n false ∙ sym count;
+        known = refl;
+        seen = length-replicate {A = ℕ} n 0 ∙ sym count;
+        stage = length-replicate n Idle ∙ sym count;
+        lane = length-replicate {A = Option ℕ} (n * places) None ∙ ap (λ k. k * places) (sym count);
+        taken = length-replicate {A = List ℕ} n [] ∙ sym count;
+      };
+      words = record {
+        some_place = some;
+        head_in = omega arith;
+        each = λ r h. subst (λ p. IsSoundProgress places 0 p) (sym (Readers.start_progress places n total r (subst (λ k. r < k) count h))) (fresh_progress_sound places);
+      };
+      lanes = λ r h.
+          subst (λ p. IsSoundLanes places total 0 p (lanes_of (start places n total) r)) (sym (Readers.start_progress places n total r (subst (λ k. r < k) count h)))
+          (subst (λ l. IsSoundLanes places total 0 Readers.fresh_progress l) (sym (Readers.start_lanes places n total r some (subst (λ k. r < k) count h))) (fresh_lanes_sound places total));
+    }
+
+-- what a filled lane is filled over, was closed
+pub fills_closed : (s : Schedule) (r c : ℕ) → IsSound s → can_be s (Fill r) ≡ true → (progress_of s r).cursor ≡ Some c → WasClosed s r c
+fills_closed s r c h can at =
+    let p = progress_of s r in
+    let l = lanes_of s r in
+    let x = event_parts (readers s) r (can_fill s.places s.total s.head p l) can in
+    let room = fill_room s.places s.total s.head p l x.1 in
+    let j = (h.words.each r x.0).joined_known c at in
+    let same : j.0 ≡ room.from = cc (j.1, room.known) in
+    let m = h.lanes r x.0 in
+    let older : (n : ℕ) → n < s.head → n % s.places ≡ s.head % s.places → n < c = λ n below e. elim (cases_lt n c) [
+      | inl yes' ↦ yes'
+      | inr above ↦ let all : n ≡ s.head = one_turn s.places n s.head (omega arith) (omega (arith, room.room)) e in absurd (omega arith)
+    ] in
+    record {
+      published = older;
+      lying = λ n e. elim (cases_eq n s.head) [
+        | inl is ↦ absurd (false≢true (sym room.empty ∙ m.newest s.head (e ∙ ap Some is)))
+        | inr other ↦ older n (omega (arith, m.not_ahead s.head n e)) (sym (m.placed s.head n e))
+      ];
+    }
+
+pub each_below_yes : (n : ℕ) (p : ℕ → Bool) → ((k : ℕ) → k < n → p k ≡ true) → each_below n p ≡ true
+each_below_yes zero p h = refl
+each_below_yes (suc n) p h = and_from (each_below n p) (p n) (each_below_yes n p (λ k l. h k (omega arith))) (h n (omega arith))
+
+pub each_below_no : (n : ℕ) (p : ℕ → Bool) (k : ℕ) → k < n → p k ≡ false → each_below n p ≡ false
+each_below_no zero p k h e = absurd (omega arith)
+each_below_no (suc n) p k h e = elim (cases_lt k n) [
+  | inl below ↦ and_left (each_below n p) (p n) (each_below_no n p k below e)
+  | inr above ↦ let at : k ≡ n = omega arith in and_right (each_below n p) (p n) (subst (λ j. p j ≡ false) at e)
+]

@@ -1,0 +1,5 @@
+pub mod Schedule
+pub mod Events
+pub mod Sound
+pub mod Laws
+pub mod Shown

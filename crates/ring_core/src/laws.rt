@@ -1,0 +1,17 @@
+// What holds of every schedule, each law the contract of a function with nothing to do.
+ghost use Rattle.ring_core.specs.Laws.{EveryEventKeeps, EveryRunIsSound, FillsOnlyClosedRows};
+
+/// An event that is possible takes a sound schedule to a sound schedule.
+pub fn every_event_keeps()
+    ensures { EveryEventKeeps }
+{}
+
+/// The schedule after every list of events is sound.
+pub fn every_run_is_sound()
+    ensures { EveryRunIsSound }
+{}
+
+/// A lane is filled only once its reader closed all rows that lay there.
+pub fn fills_only_closed_rows()
+    ensures { FillsOnlyClosedRows }
+{}

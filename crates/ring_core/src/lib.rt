@@ -1,0 +1,16 @@
+// The schedule of a ring of rows as one value: a writer that fills lanes, readers that take rows in order,
+// and the eight events that move them. No thread, atomic or buffer stands here; the definitions are over
+// plain lists, so that a ring of shared words and lanes can be compared with them.
+#![tactic(auto)]
+
+mod event;
+mod laws;
+mod state;
+mod step;
+
+pub use event::{Event, Stage};
+pub use laws::{every_event_keeps, every_run_is_sound, fills_only_closed_rows};
+pub use state::Core;
+
+#[cfg(test)]
+mod tests;
