@@ -1,0 +1,29 @@
+-- What contracts see of a ring's table and of its seats.
+use Rattle.std.specs.Prelude.{ℕ, Bool}
+use Rattle.atomic_table.specs.Seated.{TableId}
+use Rattle.ring_rule.specs.declared.view.RingNumbers.{RingNumbers}
+use Rattle.ring_rule.specs.declared.view.WriterView.{WriterView}
+use Rattle.ring_rule.specs.declared.view.ReaderView.{ReaderView}
+use Rattle.ring_rule.specs.Views.{counted_writer, new_reader}
+
+-- which table it is, the ring's numbers, and whether no seat was given out
+pub record TableMark : Type 0 where
+  pub table : TableId
+  pub ring : RingNumbers
+  pub fresh : Bool
+
+-- which table the seat is of, and its view
+pub record WriterMark : Type 0 where
+  pub table : TableId
+  pub view : WriterView
+
+pub record ReaderMark : Type 0 where
+  pub table : TableId
+  pub view : ReaderView
+
+-- the writer's seat once each reader has its own
+abbrev pub new_writer_mark : TableId → RingNumbers → WriterMark
+new_writer_mark table g = record { table = table; view = counted_writer g g.readers }
+
+abbrev pub new_reader_mark : TableId → RingNumbers → ℕ → ReaderMark
+new_reader_mark table g r = record { table = table; view = new_reader g r }
