@@ -1,0 +1,5 @@
+pub mod Grow
+pub mod Row
+pub mod Verdicts
+pub mod Ends
+pub mod Clauses
