@@ -78,6 +78,11 @@ impl FaultKind {
 }
 
 impl fmt::Display for FaultKind {
+    ghost use Rattle.std.specs.Prelude.{Some};
+    ghost use Rattle.pr_base.specs.Fault.{kind_text};
+
+    ghost output = { λ kind. Some (kind_text kind) };
+
     fn fmt<W: fmt::Write>(&self, f: &mut fmt::Formatter<W>) -> fmt::Result {
         f.write_str(self.text())
     }
@@ -98,4 +103,57 @@ pub struct FileFault {
     pub file: PathText,
     pub tag: u16,
     pub kind: FaultKind,
+}
+
+#[cfg(test)]
+mod tests {
+    use super::*;
+    use crate::NoMemory;
+    use std::alloc::Global;
+    use std::test::Fail;
+
+    #[test]
+    fn faults_print_and_compare_by_their_fields(rt: HostRuntime) -> Result<(), Fail> {
+        let of_bits = TagFault {
+            tag: 258,
+            kind: FaultKind::Bits,
+        };
+        let of_type = TagFault {
+            tag: 258,
+            kind: FaultKind::FieldType,
+        };
+        let of_width = TagFault {
+            tag: 256,
+            kind: FaultKind::Bits,
+        };
+        assert_eq!(rt;
+            format!(in rt.alloc(); "{of_type}")?.as_str(),
+            "tag 258: field type"
+        );
+        assert!(rt; of_bits == of_bits);
+        assert!(rt; of_bits != of_type);
+        assert!(rt; of_bits != of_width);
+        Ok(())
+    }
+
+    #[test]
+    fn a_file_fault_names_its_file(rt: HostRuntime) -> Result<(), Fail> {
+        let first = fault_of(rt.alloc(), "a.tif", 0)?;
+        assert_eq!(rt;
+            format!(in rt.alloc(); "{first}")?.as_str(),
+            "file a.tif: tag 0: too long"
+        );
+        assert!(rt; first == fault_of(rt.alloc(), "a.tif", 0)?);
+        assert!(rt; first != fault_of(rt.alloc(), "b.tif", 0)?);
+        assert!(rt; first != fault_of(rt.alloc(), "a.tif", 1)?);
+        Ok(())
+    }
+
+    fn fault_of(alloc: Global, file: &str, tag: u16) -> Result<FileFault, NoMemory> {
+        Ok(FileFault {
+            file: PathText::of(alloc, file)?,
+            tag,
+            kind: FaultKind::TooLong,
+        })
+    }
 }

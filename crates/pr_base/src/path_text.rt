@@ -54,6 +54,10 @@ impl Eq for PathText {
 }
 
 impl fmt::Display for PathText {
+    ghost use Rattle.std.specs.Prelude.{Some};
+
+    ghost output = { λ path. Some path };
+
     fn fmt<W: fmt::Write>(&self, f: &mut fmt::Formatter<W>) -> fmt::Result {
         f.write_str(self.text.as_str())
     }
