@@ -6,6 +6,7 @@ mod dir;
 mod field;
 mod order;
 mod table;
+pub mod tag;
 #[cfg(test)]
 mod tests;
 mod value_type;

@@ -2,34 +2,36 @@
 ghost use Rattle.std.specs.Prelude.{◌≡◌, IsTrue};
 ghost use Rattle.tif_dir.specs.Table.{default_of, is_listed, least_of};
 
-// A row for each field, in the order of the tags: the tag, its name (TIFF 6.0, Section 8), the value of a field
-// that the file leaves out, and how many values a field has at least.
+use crate::tag::*;
+
+// A row for each field, in the order of the tags: its tag, the value of a field that the file leaves out, and how
+// many values a field has at least.
 macro_rules! fields {
     ($cases:ident $arguments:tt) => {
         $cases! {
             $arguments
-            256 ImageWidth none, one;
-            257 ImageLength none, one;
-            258 BitsPerSample 1, samples;
-            259 Compression 1, one;
-            262 PhotometricInterpretation none, one;
-            266 FillOrder 1, one;
-            273 StripOffsets none, strips;
-            274 Orientation 1, one;
-            277 SamplesPerPixel 1, one;
-            278 RowsPerStrip 4_294_967_295, one;
-            279 StripByteCounts none, strips;
-            284 PlanarConfiguration 1, one;
-            332 InkSet 1, one;
-            336 DotRange dots, two;
+            IMAGE_WIDTH none, one;
+            IMAGE_LENGTH none, one;
+            BITS_PER_SAMPLE 1, samples;
+            COMPRESSION 1, one;
+            PHOTOMETRIC_INTERPRETATION none, one;
+            FILL_ORDER 1, one;
+            STRIP_OFFSETS none, strips;
+            ORIENTATION 1, one;
+            SAMPLES_PER_PIXEL 1, one;
+            ROWS_PER_STRIP 4_294_967_295, one;
+            STRIP_BYTE_COUNTS none, strips;
+            PLANAR_CONFIGURATION 1, one;
+            INK_SET 1, one;
+            DOT_RANGE dots, two;
         }
     };
 }
 
 macro_rules! default_cases {
-    (($tag:ident, $i:ident) $($number:literal $name:ident $default:tt, $least:ident;)*) => {
+    (($tag:ident, $i:ident) $($name:ident $default:tt, $least:ident;)*) => {
         match $tag {
-            $($number => default_case!($default $i),)*
+            $($name => default_case!($default $i),)*
             _ => None,
         }
     };
@@ -42,9 +44,9 @@ macro_rules! default_case {
 }
 
 macro_rules! least_cases {
-    (($tag:ident, $samples:ident, $strips:ident) $($number:literal $name:ident $default:tt, $least:ident;)*) => {
+    (($tag:ident, $samples:ident, $strips:ident) $($name:ident $default:tt, $least:ident;)*) => {
         match $tag {
-            $($number => least_case!($least $samples $strips),)*
+            $($name => least_case!($least $samples $strips),)*
             _ => unreachable!(),
         }
     };
