@@ -9,6 +9,7 @@ use Rattle.ring_core.specs.declared.event.Event.TheVariants.{Look, Fill, Publish
 use Rattle.ring_core.specs.Schedule.{Schedule, readers, Progress, Lanes, progress_of, lanes_of, lane_place, start}
 use Rattle.ring_core.specs.Events.{after, cursor_at, put_row, looked, saw, advanced, departed, filled_with, unfilled, opened, closed, settled}
 use Rattle.ring_core.specs.Sound.{IsSized}
+use Rattle.ring_core.specs.Plain.{read_closed}
 use Rattle.ring_core.proofs.Places.{further, put_same, put_other}
 
 -- lanes of two readers stand apart
@@ -143,6 +144,17 @@ pub leave_else : (s : Schedule) (r q : ℕ) → q ≢ r → progress_of (after s
 leave_else s r q n =
     let e = get_or-set_other s.cursor r q None None n in
     λ i. record { known = get_or s.known q None; cursor = e i; seen = get_or s.seen q 0; taken = get_or s.taken q [] }
+
+-- the stage of reader r read as closed
+pub closed_shows : (s : Schedule) (r : ℕ) → IsSized s → r < readers s → lanes_of (read_closed r s) r ≡ record (lanes_of s r) { stage = Closed }
+closed_shows s r z h =
+    let e = get_or-set_same s.stage r Closed Idle (let k = z.stage in omega arith) in
+    λ i. record { filled = get_or s.filled r false; stage = e i; row = λ k. get_or s.lane (lane_place s.places r k) None }
+
+pub closed_else : (s : Schedule) (r q : ℕ) → q ≢ r → lanes_of (read_closed r s) q ≡ lanes_of s q
+closed_else s r q n =
+    let e = get_or-set_other s.stage r q Closed Idle n in
+    λ i. record { filled = get_or s.filled q false; stage = e i; row = λ k. get_or s.lane (lane_place s.places q k) None }
 
 -- a reader before any event
 abbrev pub fresh_progress : Progress

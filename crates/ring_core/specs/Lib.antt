@@ -3,3 +3,4 @@ pub mod Events
 pub mod Sound
 pub mod Laws
 pub mod Shown
+pub mod Plain

@@ -1,4 +1,5 @@
 // What holds of every schedule, each law the contract of a function with nothing to do.
+ghost use Rattle.ring_core.specs.Plain.{PlainIsSound};
 ghost use Rattle.ring_core.specs.Laws.{EveryEventKeeps, EveryRunIsSound, FillsOnlyClosedRows};
 
 /// An event that is possible takes a sound schedule to a sound schedule.
@@ -14,4 +15,9 @@ pub fn every_run_is_sound()
 /// A lane is filled only once its reader closed all rows that lay there.
 pub fn fills_only_closed_rows()
     ensures { FillsOnlyClosedRows }
+{}
+
+/// The plain reading of a sound schedule is sound.
+pub fn plain_is_sound()
+    ensures { PlainIsSound }
 {}
