@@ -3,3 +3,4 @@ pub mod Packing
 pub mod Pieces
 pub mod Fronts
 pub mod Rows
+pub mod Frames

@@ -3,7 +3,7 @@ use Rattle.std.proofs.Common.{◌≡◌, ℕ, zero, suc, ◌+◌, ◌-◌, ◌<�
 use Rattle.std.specs.List.{prefix_len}
 use Rattle.std.proofs.lemmas.Bool.{le-leb, lt-leb, eq-eqb, eqb-true, and_parts, cond-true, cond-false, cases_lt, cases_Bool, false_from_ne_true}
 use Rattle.std.proofs.lemmas.Bool.Decides.{nat_tests}
-use Rattle.std.proofs.lemmas.List.{length-append, length-take-le, take-append-drop}
+use Rattle.std.proofs.lemmas.List.{append-nil, append_assoc, length-append, length-take-le, take-append-drop}
 use Rattle.std.proofs.lemmas.List.Sums.{prefix_len-le-length}
 use Rattle.tif_packbits.proofs.Expansion.{expansion-nil, expansion-repeat, expansion-literal_of}
 use Rattle.tif_packbits.specs.Packbits.{run_len, begins_run, mixed_len, literal_len, first_len, first_packet, packets_packing, packing, packed_bound, expansion, ExpandsToItsRow, StaysWithinBound}
@@ -172,17 +172,30 @@ expansion-first_packet byte row more =
     rw (first_packet-run (byte ∷ row) long, first_len-run (byte ∷ row) long, take-run_len byte row) (given ∙ ap (λ n. replicate n byte ++ expansion more) times))
     (cases_lt (run_len (byte ∷ row)) 3)
 
-expands_to_its_row : (most : ℕ) (row : List ℕ) → length row ≤ most → expansion (packing row) ≡ row
-expands_to_its_row most [] within = ap expansion packing-nil ∙ expansion-nil
-expands_to_its_row zero (byte ∷ row) within = absurd (omega arith)
-expands_to_its_row (suc most) (byte ∷ row) within =
-    let rest : _ = expands_to_its_row most (drop (first_len (byte ∷ row)) (byte ∷ row))
+expands_before : (most : ℕ) (row more : List ℕ) → length row ≤ most → expansion (packing row ++ more) ≡ row ++ expansion more
+expands_before most [] more within = rw packing-nil refl
+expands_before zero (byte ∷ row) more within = absurd (omega arith)
+expands_before (suc most) (byte ∷ row) more within =
+    let left : List ℕ = drop (first_len (byte ∷ row)) (byte ∷ row) in
+    let rest : expansion (packing left ++ more) ≡ left ++ expansion more = expands_before most left more
     (omega (arith, length-drop (first_len (byte ∷ row)) (byte ∷ row), first_len-pos byte row)) in
-    rw (packing-cons byte row, expansion-first_packet byte row, rest, take-append-drop (first_len (byte ∷ row)) (byte ∷ row)) refl
+    let joined : (take (first_len (byte ∷ row)) (byte ∷ row) ++ left) ++ expansion more ≡ (byte ∷ row) ++ expansion more =
+    ap (λ bytes. bytes ++ expansion more) (take-append-drop (first_len (byte ∷ row)) (byte ∷ row)) in
+    ap (λ bytes. expansion (bytes ++ more)) (packing-cons byte row)
+    ∙ ap expansion (append_assoc (first_packet (byte ∷ row)) (packing left) more)
+    ∙ expansion-first_packet byte row (packing left ++ more)
+    ∙ ap (λ bytes. take (first_len (byte ∷ row)) (byte ∷ row) ++ bytes) rest
+    ∙ sym (append_assoc (take (first_len (byte ∷ row)) (byte ∷ row)) left (expansion more))
+    ∙ joined
+
+-- expanding a packing and bytes behind it gives the row, and what these bytes expand to
+pub expansion-packing : (row more : List ℕ) → expansion (packing row ++ more) ≡ row ++ expansion more
+expansion-packing row more = expands_before (length row) row more (omega arith)
 
 -- expanding what was packed gives the row again
 pub packing_expands : ExpandsToItsRow
-packing_expands row = expands_to_its_row (length row) row (omega arith)
+packing_expands row =
+    ap expansion (sym (append-nil (packing row))) ∙ expansion-packing row [] ∙ ap (λ more. row ++ more) expansion-nil ∙ append-nil row
 
 -- the length of a packing that begins with a run, and of one that begins with a literal
 length-packing_run : (byte : ℕ) (row : List ℕ) → 3 ≤ run_len (byte ∷ row) → length (packing (byte ∷ row)) ≡ 2 + length (packing (drop (run_len (byte ∷ row)) (byte ∷ row)))

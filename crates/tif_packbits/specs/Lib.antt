@@ -1,3 +1,4 @@
+pub mod Frame
 pub mod Packbits
 pub mod Packet
 pub mod Unpacker

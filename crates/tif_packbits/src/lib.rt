@@ -3,12 +3,14 @@
 #![tactic(auto)]
 
 mod bytes;
+mod frame;
 mod laws;
 mod pack;
 mod packet;
 mod unpacker;
 
-pub use laws::{packing_expands_to_its_row, packing_stays_within_bound};
+pub use frame::{frame_len, frame_row, framed};
+pub use laws::{frame_tells_its_row, packing_expands_to_its_row, packing_stays_within_bound};
 pub use pack::{pack_bound, pack_row};
 pub use unpacker::{Short, Unpacker};
 
