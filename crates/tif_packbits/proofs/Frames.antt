@@ -1,12 +1,12 @@
--- Frames and the rows that they stand for.
-use Rattle.std.proofs.Common.{◌≡◌, ℕ, suc, ◌+◌, ◌-◌, ◌^◌, ◌<◌, ◌≤◌, List, [], ◌∷◌, ◌++◌, length, take, drop, map, replicate, refl, sym, ap, ◌∙◌, subst, arith}
+-- Frames and the rows that they stand for, for the crates above.
+use Rattle.std.proofs.Common.{◌≡◌, ℕ, suc, ◌-◌, ◌^◌, ◌<◌, ◌≤◌, List, [], ◌∷◌, ◌++◌, length, take, drop, map, replicate, get_or, refl, sym, ap, ◌∙◌, arith}
 use Rattle.std.specs.List.{All}
-use Rattle.std.proofs.lemmas.List.{append-nil, append_assoc, length-append, length-drop, length-replicate, drop_all, drop_at, take_at, take_rest}
-use borrow.Rule.Slice.PartMut.{put_mid}
+use Rattle.std.proofs.lemmas.List.{get_or-map, length-append, length-map, length-replicate, map-append, take_at}
+use Rattle.std.proofs.lemmas.List.Elements.{All-append, All-cons, All-nil}
 use Rattle.byteorder.specs.Endian.{little_bytes, little_number}
 use Rattle.byteorder.specs.Numbers.{little_number-reads_back}
 use Rattle.tif_packbits.specs.Packbits.{packing, expansion, packed_bound}
-use Rattle.tif_packbits.specs.Frame.{frame_size, frame_of, packed_in, framed_row, IsFrame, TellsItsRow}
+use Rattle.tif_packbits.specs.Frame.{frame_size, frame_of, packed_in, framed_row, IsFrame, AreFrames, TellsItsRow}
 use Rattle.tif_packbits.proofs.Packing.{packing_expands, packing_bounded, expansion-packing}
 
 -- a frame is as long as its row's length tells
@@ -22,7 +22,7 @@ unfolding frame_of
 drop-frame_of row = refl
 
 -- the two bytes of a frame
-number-frame_of : (row : List ℕ) → length (packing row) < 256 ^ 2 → little_number 2 (frame_of row) ≡ length (packing row)
+pub number-frame_of : (row : List ℕ) → length (packing row) < 256 ^ 2 → little_number 2 (frame_of row) ≡ length (packing row)
 unfolding frame_of
 number-frame_of row small =
     little_number-reads_back 2 (length (packing row)) (packing row ++ replicate (packed_bound (length row) - length (packing row)) 0) small
@@ -75,58 +75,52 @@ frame_of-tells row other len same =
     sym (row-in-frame row) ∙ ap (λ bytes. take (length row) (expansion (drop 2 bytes))) same
     ∙ ap (λ n. take n (expansion (drop 2 (frame_of other)))) len ∙ row-in-frame other
 
--- the code's steps
+-- n bytes more or less make a frame longer or shorter
+frame_size-tells : (m n : ℕ) → frame_size m ≡ frame_size n → m ≡ n
+frame_size-tells m n same = omega arith
 
--- a frame has its two bytes
-pub long-frame : (bytes : List ℕ) → IsFrame bytes → 2 ≤ length bytes
-long-frame bytes frame = omega (arith, ap length frame.is, length-frame_of frame.row)
+-- a frame's length tells that of its row
+pub length-framed_row : (bytes : List ℕ) (n : ℕ) → IsFrame bytes → length bytes ≡ frame_size n → length (framed_row bytes) ≡ n
+length-framed_row bytes n frame size =
+    frame_size-tells (length (framed_row bytes)) n
+    (sym (length-frame_of (framed_row bytes)) ∙ ap length (sym (IsFrame-row bytes frame)) ∙ size)
 
--- and as many behind them as they tell
-pub fits-frame : (bytes : List ℕ) → IsFrame bytes → little_number 2 bytes ≤ length (drop 2 bytes)
-fits-frame bytes frame =
-    let len : little_number 2 bytes ≡ length (packing frame.row) =
-    ap (little_number 2) frame.is ∙ number-frame_of frame.row (omega (arith, frame.within, packing_bounded frame.row)) in
-    omega (arith, len, packing_bounded frame.row, ap length frame.is, length-frame_of frame.row, length-drop 2 bytes)
+-- rows that are as long as a frame allows
+small-rows : (size : ℕ) (rows : List (List ℕ)) → size ≤ 8192 → All (λ row. length row ≡ size) rows → All (λ row. length row ≤ 8192) rows
+small-rows size rows small each = λ k d less. omega (arith, each k d less)
 
--- so many bytes of what is behind them are the packed bytes
-pub packed_in-is : (bytes : List ℕ) (len : ℕ) → len ≡ little_number 2 bytes → take len (take (length bytes - 2) (drop 2 bytes)) ≡ packed_in bytes
-unfolding packed_in
-packed_in-is bytes len is = rw (take_rest bytes 2, is) refl
+-- the frames of rows tell the rows
+pub AreFrames-rows : (size : ℕ) (rows frames : List (List ℕ)) → AreFrames size rows frames → map framed_row frames ≡ rows
+AreFrames-rows size rows frames are = ap (map framed_row) are.are ∙ map-framed_row-frame_of rows (small-rows size rows are.small are.each)
 
--- zeros over all that stands behind a front
-zeros-behind : (whole front rest zeros : List ℕ) (len : ℕ) → whole ≡ front ++ rest → len ≡ length front
-    → zeros ≡ replicate (length (take (length whole - len) (drop len whole))) 0
-    → put_mid len (length whole - len) whole zeros ≡ front ++ replicate (length rest) 0
-zeros-behind whole front rest zeros len joined is zeroed =
-    let first : take len whole ≡ front = ap (take len) joined ∙ take_at front rest len (sym is) in
-    let all : take (length whole - len) (drop len whole) ≡ rest =
-    take_rest whole len ∙ (ap (drop len) joined ∙ drop_at front rest len (sym is)) in
-    let none : drop (length whole - len) (drop len whole) ≡ [] =
-    drop_all (length whole - len) (drop len whole) (omega (arith, length-drop len whole)) in
-    rw (first, zeroed, all, none, append-nil) refl
+-- there is a frame for each row
+pub AreFrames-length : (size : ℕ) (rows frames : List (List ℕ)) → AreFrames size rows frames → length frames ≡ length rows
+AreFrames-length size rows frames are = ap length are.are ∙ length-map rows frame_of
 
--- what is written behind the first two bytes
-behind-two : (into part : List ℕ) → 2 ≤ length into → drop 2 (put_mid 2 (length into - 2) into part) ≡ part
-behind-two [] part long = absurd (omega arith)
-behind-two (a ∷ []) part long = absurd (omega arith)
-behind-two (a ∷ b ∷ into) part long =
-    let none : drop (length (a ∷ b ∷ into) - 2) into ≡ [] = drop_all (length (a ∷ b ∷ into) - 2) into (omega arith) in
-    rw (none, append-nil) refl
+-- one of the frames is that of its row
+pub AreFrames-at : (size : ℕ) (rows frames : List (List ℕ)) (n : ℕ) (row frame : List ℕ) → AreFrames size rows frames → n < length rows
+    → get_or frames n frame ≡ frame_of (get_or rows n row)
+AreFrames-at size rows frames n row frame are less =
+    ap (λ all. get_or all n frame) are.are ∙ get_or-map frame_of rows n row frame less
 
--- the packing behind two bytes, its length in these, and zeros
-pub frame-written : (row into part headed zeros : List ℕ) (len : ℕ) → length into ≡ frame_size (length row) → len ≡ length (packing row)
-    → part ≡ packing row ++ drop len (take (length into - 2) (drop 2 into))
-    → headed ≡ little_bytes 2 len ++ drop 2 (put_mid 2 (length into - 2) into part)
-    → zeros ≡ replicate (length (take (length headed - (2 + len)) (drop (2 + len) headed))) 0
-    → put_mid (2 + len) (length headed - (2 + len)) headed zeros ≡ frame_of row
-unfolding frame_of
-frame-written row into part headed zeros len size is packed header zeroed =
-    let rest : List ℕ = drop len (take (length into - 2) (drop 2 into)) in
-    let whole : headed ≡ (little_bytes 2 len ++ packing row) ++ rest =
-    header ∙ ap (λ bytes. little_bytes 2 len ++ bytes) (behind-two into part (omega arith) ∙ packed) ∙ sym (append_assoc (little_bytes 2 len) (packing row) rest) in
-    let left : length rest ≡ packed_bound (length row) - length (packing row) =
-    ap (λ bytes. length (drop len bytes)) (take_rest into 2) ∙ omega (arith, length-drop len (drop 2 into), length-drop 2 into) in
-    let front : 2 + len ≡ length (little_bytes 2 len ++ packing row) = omega (arith, length-append (little_bytes 2 len) (packing row)) in
-    zeros-behind headed (little_bytes 2 len ++ packing row) rest zeros (2 + len) whole front zeroed
-    ∙ ap (λ n. (little_bytes 2 len ++ packing row) ++ replicate n 0) left
-    ∙ ap (λ n. (little_bytes 2 n ++ packing row) ++ replicate (packed_bound (length row) - length (packing row)) 0) is
+-- each of them is a frame, of this length
+pub AreFrames-each : (size : ℕ) (rows frames : List (List ℕ)) → AreFrames size rows frames → All (λ frame. length frame ≡ frame_size size) frames
+AreFrames-each size rows frames are =
+    λ k d less. let more : k < length rows = omega (arith, AreFrames-length size rows frames are) in
+    ap length (AreFrames-at size rows frames k d d are more) ∙ length-frame_of (get_or rows k d) ∙ ap frame_size (are.each k d more)
+
+pub AreFrames-frame : (size : ℕ) (rows frames : List (List ℕ)) (n : ℕ) (frame : List ℕ) → AreFrames size rows frames → n < length rows → IsFrame (get_or frames n frame)
+AreFrames-frame size rows frames n frame are less = record {
+  row = get_or rows n frame;
+  within = omega (arith, are.each n frame less, are.small);
+  is = AreFrames-at size rows frames n frame frame are less;
+}
+
+-- with one row more
+pub AreFrames-more : (size : ℕ) (rows frames : List (List ℕ)) (row : List ℕ) → AreFrames size rows frames → length row ≡ size
+    → AreFrames size (rows ++ row ∷ []) (frames ++ frame_of row ∷ [])
+AreFrames-more size rows frames row are len = record {
+  small = are.small;
+  each = All-append (λ (row' : List ℕ). length row' ≡ size) rows (row ∷ []) are.each (All-cons (λ (row' : List ℕ). length row' ≡ size) row [] len (All-nil (λ (row' : List ℕ). length row' ≡ size)));
+  are = ap (λ all. all ++ frame_of row ∷ []) are.are ∙ sym (map-append frame_of rows (row ∷ []));
+}

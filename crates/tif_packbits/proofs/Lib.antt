@@ -4,3 +4,4 @@ pub mod Pieces
 pub mod Fronts
 pub mod Rows
 pub mod Frames
+pub mod Framing

@@ -1,6 +1,7 @@
 -- Frames: packings of rows in a space of fixed length, so that rows of one length have frames of one length. Their form
 -- is plateroom's own: the length of the packing in two bytes, least significant first, the packing, and zeros.
-use Rattle.std.specs.Prelude.{◌≡◌, ℕ, ◌+◌, ◌-◌, ◌≤◌, List, ◌++◌, length, take, drop, replicate}
+use Rattle.std.specs.Prelude.{◌≡◌, ℕ, ◌+◌, ◌-◌, ◌≤◌, List, ◌++◌, length, map, take, drop, replicate}
+use Rattle.std.specs.List.{All}
 use Rattle.byteorder.specs.Endian.{little_bytes, little_number}
 use Rattle.tif_packbits.specs.Packbits.{packing, expansion, packed_bound}
 
@@ -26,6 +27,12 @@ pub record IsFrame (bytes : List ℕ) : Type 0 where
   pub row : List ℕ
   pub within : length row ≤ 8192
   pub is : bytes ≡ frame_of row
+
+-- rows of this many bytes each, and their frames
+pub record AreFrames (size : ℕ) (rows frames : List (List ℕ)) : Type 0 where
+  pub small : size ≤ 8192
+  pub each : All (λ row. length row ≡ size) rows
+  pub are : frames ≡ map frame_of rows
 
 -- rows of equal length with equal frames are equal
 abbrev pub TellsItsRow : Type 0

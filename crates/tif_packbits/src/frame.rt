@@ -2,7 +2,8 @@
 //   0  the length of the packing, least significant byte first
 //   2  the packing, and zeros behind it
 ghost use Rattle.std.specs.Prelude.{◌≡◌, ◌≤◌, length};
-ghost use Rattle.tif_packbits.specs.Frame.{frame_size, frame_of, packed_in, IsFrame};
+ghost use Rattle.tif_packbits.specs.Frame.{frame_size, frame_of, packed_in, framed_row, IsFrame};
+ghost use Rattle.tif_packbits.specs.Packbits.{packing};
 
 use crate::bytes;
 use crate::pack::{pack_bound, pack_row};
@@ -30,10 +31,11 @@ pub fn frame_row(row: &[u8], into: &mut [u8])
     bytes::fill(0, &mut into[HEADER + len..]);
 }
 
-/// The packed bytes of a frame.
+/// The packed bytes of a frame: the packing of its row.
 pub fn framed(bytes: &[u8]) -> &[u8]
     requires { IsFrame bytes.now }
-    ensures { result.now ≡ packed_in bytes.now }
+    ensures held { result.now ≡ packed_in bytes.now }
+    ensures packing { result.now ≡ packing (framed_row bytes.now) }
 {
     let len = LittleEndian::read_u16(bytes) as usize;
     let behind = &bytes[HEADER..];

@@ -1,4 +1,4 @@
-use crate::{Short, Unpacker, pack_bound, pack_row};
+use crate::{Short, Unpacker, frame_len, frame_row, framed, pack_bound, pack_row};
 use std::process::Abort;
 
 /// Asked for more, `packed` gives exactly `row`, and what lies past it is unchanged.
@@ -101,4 +101,27 @@ fn bounds_packings(rt: HostRuntime) {
         assert!(&rt; n <= 65_535);
         assert_eq!(&rt; pack_bound(n), bound);
     }
+}
+
+#[test]
+fn frames_rows(rt: HostRuntime) {
+    let mut frame = [0xEE; 9];
+    assert_eq!(&rt; frame_len(6), 9);
+    frame_row(&[0xAA, 0xAA, 0xAA, 0x80, 0x00, 0x2A], &mut frame);
+    assert_eq!(&rt; frame, [6, 0, 0xFE, 0xAA, 0x02, 0x80, 0x00, 0x2A, 0]);
+    let packed = framed(&frame);
+    assert_eq!(&rt; packed, [0xFE, 0xAA, 0x02, 0x80, 0x00, 0x2A].as_slice());
+}
+
+#[test]
+fn frames_a_long_row(rt: HostRuntime) {
+    let mut row = [1; 300];
+    for (i, byte) in row.iter_mut().enumerate() {
+        *byte = (i % 2) as u8;
+    }
+    let mut frame = [0xEE; 305];
+    frame_row(&row, &mut frame);
+    let header = &frame[..4];
+    assert_eq!(&rt; header, [0x2F, 0x01, 0x7F, 0].as_slice());
+    assert_eq!(&rt; frame_len(8192), 8258);
 }

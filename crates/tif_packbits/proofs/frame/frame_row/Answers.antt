@@ -1,4 +1,4 @@
-use Rattle.tif_packbits.proofs.Frames.{frame-written}
+use Rattle.tif_packbits.proofs.Framing.{frame-written}
 use Rattle.tif_packbits.proofs.frame.frame_row.Goals as goal
 
 pub returns : goal.returns
