@@ -1,0 +1,125 @@
+// The deck: one place through which one thread hands each row of a deal to one site after the other.
+ghost use Rattle.std.specs.Prelude.{◌≡◌, ◌+◌, ◌<◌, true, false, Some, IfOk, slice_get};
+
+use crate::{Held, Source};
+use pr_base::{Deal, NoMemory};
+use std::alloc::Global;
+use std::marker::Model;
+
+/// The rows of a deal in one place. Each row is put once, in order, and then taken and given back as often as there
+/// are sites. Contracts see the rows of the deal, how many of them were put, and whether a row is out.
+#[derive(Drop)]
+pub struct Deck<'d, D: Deal> {
+    deal: &'d D,
+    put: u64,
+    place: Option<Vec<u8>>,
+}
+
+impl<'d, D: Deal> Model for Deck<'d, D> {
+    ghost use Rattle.std.specs.Option.{is_none};
+    ghost use Rattle.ring_lanes.specs.Deck.{DeckState, Keeps};
+
+    ghost Value = { DeckState };
+
+    ghost view = { λ d. record { rows = D.rows d.deal.now; put = d.put; out = is_none d.place } };
+
+    ghost invariant = { λ d. Keeps (D.rows d.deal.now) (D.size d.deal.now) d.put d.place };
+}
+
+impl<'d, D: Deal> Deck<'d, D> {
+    /// A deck of the rows of `deal`, of which none was put yet.
+    pub fn open(alloc: Global, deal: &'d D) -> Result<Deck<'d, D>, NoMemory>
+        ensures { IfOk result (λ deck. deck ≡ record { rows = D.rows deal.now; put = 0; out = false }) }
+    {
+        let _total = deal.total();
+        let place = vec![in alloc; 0; deal.row_len()].map_err(|_| NoMemory)?;
+        Ok(Deck {
+            deal,
+            put: 0,
+            place: Some(place),
+        })
+    }
+
+    /// Puts the next row of the deal in the place of the one before.
+    pub fn put(&mut self, row: &[u8])
+        requires home { self.old.out ≡ false }
+        requires next { slice_get self.old.rows self.old.put ≡ Some row.now }
+        ensures { self.new ≡ record self.old { put = self.old.put + 1 } }
+    {
+        let Some(place) = &mut self.place else {
+            unreachable!()
+        };
+        place.as_mut_slice().copy_from_slice(row);
+        self.put += 1;
+    }
+
+    /// Takes the row that was put last.
+    pub fn take(&mut self) -> Held
+        requires some { 0 < self.old.put }
+        requires home { self.old.out ≡ false }
+        ensures number { result.number + 1 ≡ self.old.put }
+        ensures bytes { slice_get self.old.rows result.number ≡ Some result.bytes }
+        ensures source { result.source ≡ Source.Deck }
+        ensures after { self.new ≡ record self.old { out = true } }
+    {
+        let bytes = self.place.take().unwrap();
+        Held::of(bytes, self.put - 1, Source::Deck)
+    }
+
+    /// Takes back the row that is out.
+    pub fn give(&mut self, held: Held)
+        requires out { self.old.out ≡ true }
+        requires number { held.number + 1 ≡ self.old.put }
+        requires bytes { slice_get self.old.rows held.number ≡ Some held.bytes }
+        requires source { held.source ≡ Source.Deck }
+        ensures { self.new ≡ record self.old { out = false } }
+    {
+        self.place = Some(held.into_bytes());
+    }
+}
+
+#[cfg(test)]
+mod tests {
+    use super::*;
+    use std::test::Fail;
+
+    /// The two rows of a small job, packed in frames of five bytes.
+    #[derive(Drop)]
+    struct TwoRows;
+
+    impl Deal for TwoRows {
+        ghost use Rattle.std.specs.Prelude.{[], ◌∷◌};
+
+        ghost rows = { λ _. (3 ∷ 0 ∷ 1 ∷ 171 ∷ 0 ∷ []) ∷ (3 ∷ 0 ∷ 1 ∷ 19 ∷ 0 ∷ []) ∷ [] };
+
+        ghost size = { λ _. 5 };
+
+        fn total(&self) -> u64 {
+            2
+        }
+
+        fn row_len(&self) -> usize {
+            5
+        }
+    }
+
+    #[test]
+    fn hands_out_each_row_as_often_as_asked(rt: HostRuntime) -> Result<(), Fail> {
+        let deal = TwoRows;
+        let mut deck = Deck::open(rt.alloc(), &deal)?;
+        deck.put(&[3, 0, 1, 0xAB, 0]);
+        let held = deck.take();
+        assert_eq!(rt; held.number(), 0);
+        assert_eq!(rt; held.bytes(), [3, 0, 1, 0xAB, 0].as_slice());
+        deck.give(held);
+        deck.put(&[3, 0, 1, 0x13, 0]);
+        let held = deck.take();
+        deck.give(held);
+        let held = deck.take();
+        assert_eq!(rt; held.number(), 1);
+        assert_eq!(rt; held.bytes(), [3, 0, 1, 0x13, 0].as_slice());
+        assert_eq!(rt; held.source(), Source::Deck);
+        deck.give(held);
+        Ok(())
+    }
+}

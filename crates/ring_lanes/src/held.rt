@@ -1,0 +1,64 @@
+// A row that was taken.
+ghost use Rattle.std.specs.Prelude.{◌≡◌};
+
+use crate::Source;
+use std::marker::Model;
+
+/// A row that was taken from a deck or a ring: its bytes, its number among the rows of its deal and where it was
+/// taken. It holds the very buffer that the row lay in, and goes home by the call that takes it back. This crate
+/// alone makes one.
+#[derive(Debug, Drop)]
+pub struct Held {
+    bytes: Vec<u8>,
+    number: u64,
+    source: Source,
+}
+
+impl Model for Held {
+    ghost use Rattle.ring_lanes.specs.Held.{HeldRow};
+
+    ghost Value = { HeldRow };
+
+    ghost view = { λ h. record { number = h.number; bytes = h.bytes.items; source = h.source } };
+}
+
+impl Held {
+    /// The row `number` of a deal, taken at `source`.
+    pub(crate) fn of(bytes: Vec<u8>, number: u64, source: Source) -> Held
+        ensures { result ≡ record { number = number; bytes = bytes.items; source = source } }
+    {
+        Held {
+            bytes,
+            number,
+            source,
+        }
+    }
+
+    /// The buffer of the row, which goes home.
+    pub(crate) fn into_bytes(self) -> Vec<u8>
+        ensures { result.items ≡ self.bytes }
+    {
+        self.bytes
+    }
+
+    /// The row's number among the rows of its deal.
+    pub fn number(&self) -> u64
+        ensures { result ≡ self.now.number }
+    {
+        self.number
+    }
+
+    /// Lends the row's bytes.
+    pub fn bytes(&self) -> &[u8]
+        ensures { result.now ≡ self.now.bytes }
+    {
+        self.bytes.as_slice()
+    }
+
+    /// Where the row was taken.
+    pub fn source(&self) -> Source
+        ensures { result ≡ self.now.source }
+    {
+        self.source
+    }
+}
