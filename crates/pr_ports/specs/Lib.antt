@@ -1,4 +1,5 @@
 pub mod Count
 pub mod Shelf
 pub mod Sink
+pub mod Stream
 pub mod Mem

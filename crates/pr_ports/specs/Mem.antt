@@ -57,3 +57,10 @@ sink_after sink bytes (Err sink_faults.Memory) = record sink { calls = count_aft
 pub record Counts : Type 0 where
   pub faults : ℕ
   pub longs : ℕ
+
+-- the counts of the shelf of the machine after a load that gave this answer
+abbrev pub counts_after : {T : Type 0} → Counts → Result T LoadFault → Counts
+counts_after counts (Ok bytes) = counts
+counts_after counts (Err Failed) = record counts { faults = count_after counts.faults }
+counts_after counts (Err (TooLong limit)) = record counts { longs = count_after counts.longs }
+counts_after counts (Err Memory) = counts

@@ -1,9 +1,11 @@
 // The shelf of the machine's files.
-ghost use Rattle.std.specs.Prelude.{◌≡◌, ◌≤◌, None, IfOk, length};
-ghost use Rattle.pr_ports.specs.Shelf.{IfTooLong};
-ghost use Rattle.pr_ports.specs.Mem.{Counts};
+ghost use Rattle.std.specs.Prelude.{◌≡◌, ◌<◌, ◌≤◌, None, IfOk, IfSome, IsErrOf, length, not};
+ghost use Rattle.pr_ports.specs.Count.{Rose, count_unless};
+ghost use Rattle.pr_ports.specs.Shelf.{has_failed, IfTooLong};
+ghost use Rattle.pr_ports.specs.Mem.{Counts, counts_after};
 
 use crate::count::raised;
+use crate::counted::Counted;
 use crate::{LoadFault, Shelf};
 use std::alloc::Global;
 use std::fs;
@@ -47,18 +49,21 @@ const PIECE: usize = 65_536;
 /// length, for which memory is taken beforehand.
 fn read_whole<F: Read>(
     alloc: Global,
-    file: &mut F,
+    file: &mut Counted<F>,
     size: u64,
     limit: u64,
 ) -> Result<Vec<u8>, LoadFault>
     ensures told { IfTooLong result (λ told. told ≡ limit) }
     ensures within { IfOk result (λ bytes. length bytes.items ≤ limit) }
+    ensures whole { IfOk result (λ bytes. IfSome (F.remaining file.old.stream) (λ left. left ≡ bytes.items)) }
+    ensures longer { IfTooLong result (λ _. IfSome (F.remaining file.old.stream) (λ left. limit < length left)) }
+    ensures count { file.new.faults ≡ count_unless (not (has_failed result)) file.old.faults }
 {
     let Ok(mut bytes) = Vec::with_capacity(alloc, size.min(limit) as usize) else {
         return Err(LoadFault::Memory);
     };
     let mut piece = [0u8; PIECE];
-    for _ in 0..u64::MAX {
+    'pieces: loop {
         let room = limit - bytes.len() as u64;
         let most = if room < PIECE as u64 {
             room as usize + 1
@@ -66,8 +71,9 @@ fn read_whole<F: Read>(
             PIECE
         };
         match file.read(&mut piece[..most]) {
-            Ok(0) => return Ok(bytes),
-            Ok(count) => {
+            None => return Err(LoadFault::Failed),
+            Some(0) => return Ok(bytes),
+            Some(count) => {
                 if count as u64 > room {
                     return Err(LoadFault::TooLong { limit });
                 }
@@ -75,25 +81,8 @@ fn read_whole<F: Read>(
                     return Err(LoadFault::Memory);
                 }
             }
-            Err(_) => return Err(LoadFault::Failed),
         }
     }
-    Err(LoadFault::Failed)
-}
-
-/// Opens the file at `path` and reads it whole.
-fn read_file<R: Files + AllocGlobal>(rt: &R, path: &str, limit: u64) -> Result<Vec<u8>, LoadFault>
-    ensures told { IfTooLong result (λ told. told ≡ limit) }
-    ensures within { IfOk result (λ bytes. length bytes.items ≤ limit) }
-{
-    let Ok(mut file) = fs::open(rt, path) else {
-        return Err(LoadFault::Failed);
-    };
-    let size = match file.metadata() {
-        Ok(metadata) => metadata.len(),
-        Err(_) => 0,
-    };
-    read_whole(rt.alloc(), &mut file, size, limit)
 }
 
 impl<R: Files + AllocGlobal> Shelf for HostShelf<R> {
@@ -105,12 +94,29 @@ impl<R: Files + AllocGlobal> Shelf for HostShelf<R> {
 
     ghost longs = { λ s. s.longs };
 
-    fn load(&mut self, path: &str, limit: u64) -> Result<Vec<u8>, LoadFault> {
-        let result = read_file(&self.rt, path, limit);
-        match &result {
-            Err(LoadFault::Failed) => self.faults = raised(self.faults),
-            Err(LoadFault::TooLong { .. }) => self.longs = raised(self.longs),
-            Ok(_) | Err(LoadFault::Memory) => {}
+    fn load(&mut self, path: &str, limit: u64) -> Result<Vec<u8>, LoadFault>
+        ensures within { IfOk result (λ bytes. length bytes.items ≤ limit) }
+        ensures too_long { IfTooLong result (λ told. told ≡ limit) }
+        ensures long_counted { IfTooLong result (λ _. Rose self.old.longs self.new.longs) }
+        ensures counted { IsErrOf result LoadFault.Failed → Rose self.old.faults self.new.faults }
+        ensures faults_stay { self.old.faults ≤ self.new.faults }
+        ensures longs_stay { self.old.longs ≤ self.new.longs }
+
+        ensures after { self.new ≡ counts_after self.old result }
+    {
+        let Ok(file) = fs::open(&self.rt, path) else {
+            self.faults = raised(self.faults);
+            return Err(LoadFault::Failed);
+        };
+        let size = match file.metadata() {
+            Ok(metadata) => metadata.len(),
+            Err(_) => 0,
+        };
+        let mut file = Counted::new(file, self.faults);
+        let result = read_whole(self.rt.alloc(), &mut file, size, limit);
+        self.faults = file.faults();
+        if let Err(LoadFault::TooLong { .. }) = &result {
+            self.longs = raised(self.longs);
         }
         result
     }
@@ -120,7 +126,7 @@ impl<R: Files + AllocGlobal> Shelf for HostShelf<R> {
 mod tests {
     use super::*;
     use std::test::Fail;
-    use std::{env, process};
+    use std::{env, io, process};
 
     #[test]
     fn reads_a_file_and_refuses_others(rt: HostRuntime) -> Result<(), Fail> {
@@ -135,10 +141,42 @@ mod tests {
             shelf.load(text, 4).err(),
             Some(LoadFault::TooLong { limit: 4 })
         );
+        // A file that takes more than one read.
+        let long = vec![in alloc; 0x4B; 70_000]?;
+        fs::write(&rt, path.as_path(), long.as_slice())?;
+        assert_eq!(rt; shelf.load(text, 70_000)?.as_slice(), long.as_slice());
+        assert_eq!(rt;
+            shelf.load(text, 69_999).err(),
+            Some(LoadFault::TooLong { limit: 69_999 })
+        );
         fs::remove_file(&rt, path.as_path())?;
         assert_eq!(rt; shelf.load(text, 5).err(), Some(LoadFault::Failed));
         // A folder opens and can't be read.
         assert_eq!(rt; shelf.load("/", 5).err(), Some(LoadFault::Failed));
         Ok(())
+    }
+
+    /// A file whose reads give three bytes each, and of which the third read fails.
+    #[derive(Drop)]
+    struct Broken {
+        reads: u8,
+    }
+
+    impl Read for Broken {
+        fn read(&mut self, buf: &mut [u8]) -> io::Result<usize> {
+            if self.reads >= 2 {
+                return Err(io::Error::from(io::ErrorKind::Other));
+            }
+            self.reads += 1;
+            Ok(buf.len().min(3))
+        }
+    }
+
+    #[test]
+    fn a_read_that_fails_midway_is_counted(rt: HostRuntime) {
+        let mut file = Counted::new(Broken { reads: 0 }, 4);
+        let read = read_whole(rt.alloc(), &mut file, 9, 100);
+        assert_eq!(rt; read.err(), Some(LoadFault::Failed));
+        assert_eq!(rt; file.faults(), 5);
     }
 }

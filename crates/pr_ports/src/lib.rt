@@ -4,6 +4,7 @@
 #![tactic(auto)]
 
 mod count;
+mod counted;
 mod host_shelf;
 mod mem_shelf;
 mod mem_sink;

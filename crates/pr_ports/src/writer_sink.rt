@@ -1,57 +1,78 @@
 // A sink over a writer of the machine.
-ghost use Rattle.std.specs.Prelude.{◌≡◌, ℕ, None};
+ghost use Rattle.std.specs.Prelude.{◌≡◌, ◌≤◌, IsErrOf, OnErr, OnOk, is_ok};
+ghost use Rattle.std.specs.Bool.{OnTrue};
+ghost use Rattle.std.specs.Io.KnownBytes.{Appends};
+ghost use Rattle.pr_ports.specs.Count.{Rose, count_unless};
+ghost use Rattle.pr_ports.specs.Sink.{Grew, GrewByPrefix};
+ghost use Rattle.pr_ports.specs.Stream.{AppendsFront};
 
-use crate::count::raised;
+use crate::counted::Counted;
 use crate::{Sink, SinkFault};
 use std::io::Write;
 use std::marker::Model;
 
 /// A sink that passes each piece on to a writer, flushed, before it answers. An error of the writer, or a
-/// write that takes no byte, is a counted `Failed`. It tells nothing but its count.
+/// write that takes no byte, is a counted `Failed`. It tells what its writer tells that it holds, which the streams
+/// of the machine leave untold, and its count.
 #[derive(Drop)]
 pub struct WriterSink<W: Write> {
-    inner: W,
-    faults: u64,
+    inner: Counted<W>,
 }
 
 impl<W: Write> Model for WriterSink<W> {
-    ghost Value = { ℕ };
+    ghost use Rattle.pr_ports.specs.Sink.{WriterState};
 
-    ghost view = { λ s. s.faults };
+    ghost Value = { WriterState };
+
+    ghost view = { λ s. record { given = W.contents s.inner.stream; faults = s.inner.faults } };
 }
 
 impl<W: Write> WriterSink<W> {
-    /// A sink over `inner` that hasn't failed yet. Contracts see the count of faults.
+    /// A sink over `inner` that hasn't failed yet.
     pub fn new(inner: W) -> WriterSink<W>
-        ensures { result ≡ 0 }
+        ensures { result ≡ record { given = W.contents inner; faults = 0 } }
     {
-        WriterSink { inner, faults: 0 }
+        WriterSink {
+            inner: Counted::new(inner, 0),
+        }
     }
 }
 
 /// Writes all of `bytes` and flushes. False where the writer failed.
-fn write_out<W: Write>(inner: &mut W, bytes: &[u8]) -> bool {
+fn write_out<W: Write>(inner: &mut Counted<W>, bytes: &[u8]) -> bool
+    ensures written { OnTrue result (Appends (W.contents inner.old.stream) (W.contents inner.new.stream) bytes.now) }
+    ensures front { AppendsFront (W.contents inner.old.stream) (W.contents inner.new.stream) bytes.now }
+    ensures count { inner.new.faults ≡ count_unless result inner.old.faults }
+    ensures faults_stay { inner.old.faults ≤ inner.new.faults }
+{
     let mut rest = bytes;
     while !rest.is_empty() {
         match inner.write(rest) {
-            Ok(0) | Err(_) => return false,
-            Ok(count) => rest = &rest[count..],
+            None => return false,
+            Some(count) => rest = &rest[count..],
         }
     }
-    inner.flush().is_ok()
+    inner.flush()
 }
 
 impl<W: Write> Sink for WriterSink<W> {
-    ghost given = { λ _. None };
+    ghost given = { λ s. s.given };
 
-    ghost faults = { λ faults. faults };
+    ghost faults = { λ s. s.faults };
 
-    fn put(&mut self, bytes: &[u8]) -> Result<(), SinkFault> {
+    fn put(&mut self, bytes: &[u8]) -> Result<(), SinkFault>
+        ensures taken { OnOk result (Grew self.old.given self.new.given bytes.now) }
+        ensures refused { OnErr result (GrewByPrefix self.old.given self.new.given bytes.now) }
+        ensures counted { IsErrOf result SinkFault.Failed → Rose self.old.faults self.new.faults }
+        ensures faults_stay { self.old.faults ≤ self.new.faults }
+
+        ensures count { self.new.faults ≡ count_unless (is_ok result) self.old.faults }
+    {
         if write_out(&mut self.inner, bytes) {
-            return Ok(());
+            Ok(())
+        } else {
+            Err(SinkFault::Failed)
         }
-        self.faults = raised(self.faults);
-        Err(SinkFault::Failed)
     }
 }
 
@@ -59,7 +80,7 @@ impl<W: Write> Sink for WriterSink<W> {
 mod tests {
     use super::*;
     use std::test::Fail;
-    use std::{env, fs, process};
+    use std::{env, fs, io, process};
 
     #[test]
     fn writes_a_file_and_tells_a_full_device(rt: HostRuntime) -> Result<(), Fail> {
@@ -76,6 +97,48 @@ mod tests {
 
         let mut full = WriterSink::new(fs::create(&rt, "/dev/full")?);
         assert_eq!(rt; full.put(b"abc"), Err(SinkFault::Failed));
+        Ok(())
+    }
+
+    /// A writer that takes two bytes at most in each call, and whose flush may fail.
+    #[derive(Drop)]
+    struct Slow<'a> {
+        into: &'a mut Vec<u8>,
+        flushes: bool,
+    }
+
+    impl Write for Slow<'_> {
+        fn write(&mut self, buf: &[u8]) -> io::Result<usize> {
+            let count = buf.len().min(2);
+            self.into.extend_from_slice(&buf[..count])?;
+            Ok(count)
+        }
+
+        fn flush(&mut self) -> io::Result<()> {
+            if self.flushes {
+                Ok(())
+            } else {
+                Err(io::Error::from(io::ErrorKind::Other))
+            }
+        }
+    }
+
+    #[test]
+    fn writes_again_after_a_short_write_and_tells_a_failed_flush(
+        rt: HostRuntime,
+    ) -> Result<(), Fail> {
+        let mut into = Vec::new(rt.alloc());
+        let mut sink = WriterSink::new(Slow {
+            into: &mut into,
+            flushes: true,
+        });
+        sink.put(b"plate")?;
+        assert_eq!(rt; into.as_slice(), b"plate".as_slice());
+        let mut sink = WriterSink::new(Slow {
+            into: &mut into,
+            flushes: false,
+        });
+        assert_eq!(rt; sink.put(b"s"), Err(SinkFault::Failed));
         Ok(())
     }
 }

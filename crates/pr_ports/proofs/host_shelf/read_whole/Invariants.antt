@@ -1,5 +1,16 @@
-use Rattle.std.proofs.Common.{◌≤◌, length}
+use Rattle.std.proofs.Common.{◌≡◌, ◌-◌, ◌≤◌, length}
+use Rattle.std.specs.Io.KnownBytes.{Consumes}
 use Rattle.pr_ports.proofs.host_shelf.read_whole.Given as goal
 
-abbrev pub invariant-loop : goal.invariant-loop
-invariant-loop g l = length l.bytes.items ≤ l.limit
+abbrev pub invariant-pieces : goal.invariant-pieces
+invariant-pieces g l = record {
+  -- what was read is within the limit
+  short : length l.bytes.items ≤ l.limit;
+  -- it is what the reader has given
+  came : Consumes (g.F.Read.remaining l.initial.file.stream) (g.F.Read.remaining l.file.stream) l.bytes.items;
+  -- no read failed
+  count : l.file.faults ≡ l.initial.file.faults;
+}
+
+abbrev pub decreases-pieces : goal.decreases-pieces
+decreases-pieces g l = l.limit - length l.bytes.items

@@ -1,0 +1,16 @@
+use Rattle.std.proofs.Common.{rules}
+use Rattle.std.proofs.lemmas.List.{take_rest}
+use Rattle.pr_ports.proofs.Streams.{passed_more, passed_front}
+use Rattle.pr_ports.proofs.writer_sink.write_out.Goals as goal
+
+pub returns-in-None-clause-front : goal.returns-in-None-clause-front
+returns-in-None-clause-front g c = passed_front _ c.loop-rest.invariant.passed c.in-None.ensures.bytes
+
+pub loop-rest-preserved : goal.loop-rest-preserved
+loop-rest-preserved g c = record {
+  passed = passed_more _ c.in-Some.count _ (take_rest _ c.in-Some.count) c.loop-rest.invariant.passed c.in-Some.ensures.bytes;
+  count = search rules;
+}
+
+pub returns-clause-front : goal.returns-clause-front
+returns-clause-front g c = passed_front _ c.loop-rest.invariant.passed c.flush.ensures.bytes
