@@ -10,20 +10,15 @@ use Rattle.pr_ports.specs.Sink.{Grew, GrewByPrefix}
 use Rattle.pr_ports.specs.declared.sink.SinkFault.{SinkFault}
 use Rattle.plate_room.specs.End.{GrewByTwo}
 
-twice : (given : Option (List ℕ)) (s t : List ℕ) → option_map (λ g. g ++ t) (option_map (λ g. g ++ s) given) ≡ option_map (λ g. g ++ (s ++ t)) given
-twice None s t = refl
-twice (Some given) s t = ap Some (append_assoc given s t)
-
 -- one piece and then another
 pub grew_then : (a b c : Option (List ℕ)) (s t : List ℕ) → Grew a b s → Grew b c t → Grew a c (s ++ t)
-grew_then a b c s t e f = f ∙ ap (option_map (λ given. given ++ t)) e ∙ twice a s t
+grew_then None b c s t e f = tt
+grew_then (Some given) b c s t e f = (rw e at f) ∙ ap Some (append_assoc given s t)
 
 -- nothing was taken
 pub grew_nothing : (a b : Option (List ℕ)) → b ≡ a → Grew a b []
-grew_nothing a b e = e ∙ none a where
-  none : (given : Option (List ℕ)) → given ≡ option_map (λ g. g ++ []) given
-  none None = refl
-  none (Some given) = ap Some (sym (append-nil given))
+grew_nothing None b e = tt
+grew_nothing (Some given) b e = e ∙ ap Some (sym (append-nil given))
 
 -- what was taken is a front of the whole
 pub front_of : (a b : Option (List ℕ)) (front rest whole : List ℕ) → front ++ rest ≡ whole → Grew a b front → GrewByPrefix a b whole
