@@ -6,6 +6,7 @@ use Rattle.pr_base.specs.declared.fault.TagFault.{TagFault}
 use Rattle.pr_base.specs.declared.fault.FaultKind.{FaultKind}
 use Rattle.pr_base.specs.declared.fault.FaultKind.TheVariants.{Bits, DotRange, FieldCount, Tiled}
 use Rattle.tif_dir.specs.Directory.{fault_at, field_of, is_present, number_at}
+use Rattle.tif_dir.specs.Names.{bits_per_sample, dot_range, tile_byte_counts, tile_length, tile_offsets, tile_width}
 
 -- ---- tests in order
 
@@ -49,9 +50,9 @@ number_among bytes tag accepted kind = do
 
 -- ---- tiles
 
--- TileWidth, TileLength, TileOffsets and TileByteCounts (Section 15)
+-- the tags of the fields of tiles, in order (Section 15)
 abbrev pub tile_tags : List ℕ
-tile_tags = 322 ∷ 323 ∷ 324 ∷ 325 ∷ []
+tile_tags = tile_width ∷ tile_length ∷ tile_offsets ∷ tile_byte_counts ∷ []
 
 -- none of these fields is there; the fault names the first that is
 abbrev pub no_tile : Option ℕ → Result (Unit {0}) TagFault
@@ -68,15 +69,15 @@ abbrev pub first_bits : ℕ → Result (Option (List ℕ)) TagFault → Result (
 first_bits samples (Err fault) = Err fault
 first_bits samples (Ok None) = Ok (replicate samples 1)
 first_bits samples (Ok (Some values)) =
-    if nat_lt (length values) samples then Err (fault_at 258 FieldCount) else Ok (take samples values)
+    if nat_lt (length values) samples then Err (fault_at bits_per_sample FieldCount) else Ok (take samples values)
 
 -- these are all the same depth
 abbrev pub same_bits : ℕ → Result (List ℕ) TagFault → Result (Unit {0}) TagFault
-same_bits depth bits = bits >>= λ values. must (list_all (λ bit. bit == depth) values) (fault_at 258 Bits)
+same_bits depth bits = bits >>= λ values. must (list_all (λ bit. bit == depth) values) (fault_at bits_per_sample Bits)
 
 -- each sample has so many bits
 unfoldable pub bits_each : List ℕ → ℕ → ℕ → Result (Unit {0}) TagFault
-bits_each bytes samples depth = same_bits depth (first_bits samples (field_of bytes 258))
+bits_each bytes samples depth = same_bits depth (first_bits samples (field_of bytes bits_per_sample))
 
 -- ---- DotRange
 
@@ -96,8 +97,8 @@ abbrev pub full_range : Result (Option (List ℕ)) TagFault → Result (Unit {0}
 full_range (Err fault) = Err fault
 full_range (Ok None) = Ok tt
 full_range (Ok (Some values)) =
-    if nat_lt (length values) 2 then Err (fault_at 336 FieldCount) else must (is_full_range values) (fault_at 336 DotRange)
+    if nat_lt (length values) 2 then Err (fault_at dot_range FieldCount) else must (is_full_range values) (fault_at dot_range DotRange)
 
 -- where the file has a dot range, it is the full one
 unfoldable pub full_dot_range : List ℕ → Result (Unit {0}) TagFault
-full_dot_range bytes = full_range (field_of bytes 336)
+full_dot_range bytes = full_range (field_of bytes dot_range)

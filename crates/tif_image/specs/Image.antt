@@ -3,6 +3,7 @@ use Rattle.std.specs.Prelude.{ℕ, ◌+◌, ◌*◌, ◌==◌, ◌≡◌, List, 
 use Rattle.pr_base.specs.declared.fault.TagFault.{TagFault}
 use Rattle.pr_base.specs.declared.fault.FaultKind.TheVariants.{Width, Length, Samples, Compression, Photometric, FillOrder, Orientation, Planar, InkSet, RowsPerStrip}
 use Rattle.tif_dir.specs.Directory.{dir_fault}
+use Rattle.tif_dir.specs.Names as tag
 use Rattle.tif_strips.specs.declared.shape.Shape.{Shape}
 use Rattle.tif_strips.specs.Strips.{IsStriped, image_row, strip_fault}
 use Rattle.tif_image.specs.Fields.{◌>>=◌, ◌>>◌, bits_each, full_dot_range, no_fault, no_tiles, number_among, number_within}
@@ -11,18 +12,18 @@ use Rattle.tif_image.specs.Fields.{◌>>=◌, ◌>>◌, bits_each, full_dot_rang
 unfoldable pub contone_fields : List ℕ → Result Shape TagFault
 contone_fields bytes = do
   no_tiles bytes
-  width ← number_within bytes 256 1 65535 Width
-  length ← number_within bytes 257 1 65535 Length
-  number_among bytes 277 (4 ∷ []) Samples
+  width ← number_within bytes tag.image_width 1 65535 Width
+  length ← number_within bytes tag.image_length 1 65535 Length
+  number_among bytes tag.samples_per_pixel (4 ∷ []) Samples
   bits_each bytes 4 8
-  compression ← number_among bytes 259 (1 ∷ 32773 ∷ []) Compression
-  number_among bytes 262 (5 ∷ []) Photometric
-  number_among bytes 266 (1 ∷ []) FillOrder
-  number_among bytes 274 (1 ∷ []) Orientation
-  planar ← number_among bytes 284 (1 ∷ 2 ∷ []) Planar
-  number_among bytes 332 (1 ∷ []) InkSet
+  compression ← number_among bytes tag.compression (1 ∷ 32773 ∷ []) Compression
+  number_among bytes tag.photometric_interpretation (5 ∷ []) Photometric
+  number_among bytes tag.fill_order (1 ∷ []) FillOrder
+  number_among bytes tag.orientation (1 ∷ []) Orientation
+  planar ← number_among bytes tag.planar_configuration (1 ∷ 2 ∷ []) Planar
+  number_among bytes tag.ink_set (1 ∷ []) InkSet
   full_dot_range bytes
-  rows ← number_within bytes 278 1 4294967295 RowsPerStrip
+  rows ← number_within bytes tag.rows_per_strip 1 4294967295 RowsPerStrip
   Ok (record { width = width; length = length; samples = 4; bits = 8; planar = planar; packed = compression == 32773; rows_per_strip = rows })
 
 -- the shape of a contone image, or the first fault of all: of the header and the directory, of a field, of a strip

@@ -5,7 +5,7 @@ ghost use Rattle.tif_image.specs.Image.{IsContone, contone_fields};
 use crate::fields::{bits_each, full_dot_range, no_tiles, number_among, number_within};
 use pr_base::{FaultKind, TagFault};
 use std::marker::Model;
-use tif_dir::{Dir, read_dir};
+use tif_dir::{Dir, read_dir, tag};
 use tif_strips::{RowCursor, Shape, Strips};
 
 /// The longest side of an image, in pixels.
@@ -95,18 +95,34 @@ fn contone_fields(dir: &Dir<'_>) -> Result<Shape, TagFault>
     ensures contone { IfOk result IsContone }
 {
     no_tiles(dir)?;
-    let width = number_within(dir, 256, 1, MOST_PIXELS, FaultKind::Width)?;
-    let length = number_within(dir, 257, 1, MOST_PIXELS, FaultKind::Length)?;
-    number_among(dir, 277, &[4], FaultKind::Samples)?;
+    let width = number_within(dir, tag::IMAGE_WIDTH, 1, MOST_PIXELS, FaultKind::Width)?;
+    let length = number_within(dir, tag::IMAGE_LENGTH, 1, MOST_PIXELS, FaultKind::Length)?;
+    number_among(dir, tag::SAMPLES_PER_PIXEL, &[4], FaultKind::Samples)?;
     bits_each(dir, 4, 8)?;
-    let compression = number_among(dir, 259, &[UNCOMPRESSED, PACK_BITS], FaultKind::Compression)?;
-    number_among(dir, 262, &[5], FaultKind::Photometric)?;
-    number_among(dir, 266, &[1], FaultKind::FillOrder)?;
-    number_among(dir, 274, &[1], FaultKind::Orientation)?;
-    let planar = number_among(dir, 284, &[1, 2], FaultKind::Planar)?;
-    number_among(dir, 332, &[1], FaultKind::InkSet)?;
+    let compression = number_among(
+        dir,
+        tag::COMPRESSION,
+        &[UNCOMPRESSED, PACK_BITS],
+        FaultKind::Compression,
+    )?;
+    number_among(
+        dir,
+        tag::PHOTOMETRIC_INTERPRETATION,
+        &[5],
+        FaultKind::Photometric,
+    )?;
+    number_among(dir, tag::FILL_ORDER, &[1], FaultKind::FillOrder)?;
+    number_among(dir, tag::ORIENTATION, &[1], FaultKind::Orientation)?;
+    let planar = number_among(dir, tag::PLANAR_CONFIGURATION, &[1, 2], FaultKind::Planar)?;
+    number_among(dir, tag::INK_SET, &[1], FaultKind::InkSet)?;
     full_dot_range(dir)?;
-    let rows_per_strip = number_within(dir, 278, 1, u32::MAX, FaultKind::RowsPerStrip)?;
+    let rows_per_strip = number_within(
+        dir,
+        tag::ROWS_PER_STRIP,
+        1,
+        u32::MAX,
+        FaultKind::RowsPerStrip,
+    )?;
     Ok(Shape {
         width,
         length,

@@ -7,10 +7,13 @@ ghost use Rattle.tif_dir.specs.Table.{is_listed};
 ghost use Rattle.tif_image.specs.Fields.{bits_each, full_dot, full_dot_range, is_full_dot, no_tiles, number_among, number_within};
 
 use pr_base::{FaultKind, TagFault};
+use tif_dir::tag::{
+    BITS_PER_SAMPLE, DOT_RANGE, TILE_BYTE_COUNTS, TILE_LENGTH, TILE_OFFSETS, TILE_WIDTH,
+};
 use tif_dir::{Dir, Field};
 
-/// TileWidth, TileLength, TileOffsets and TileByteCounts (TIFF 6.0, Section 15).
-const TILE_TAGS: [u16; 4] = [322, 323, 324, 325];
+/// The tags of the fields of tiles, in order (TIFF 6.0, Section 15).
+const TILE_TAGS: [u16; 4] = [TILE_WIDTH, TILE_LENGTH, TILE_OFFSETS, TILE_BYTE_COUNTS];
 
 /// The value of a field, between two bounds.
 #[tactic(auto, unfolding(crate::specs::Fields::number_within))]
@@ -88,9 +91,9 @@ pub fn bits_each(dir: &Dir<'_>, samples: u32, depth: u32) -> Result<(), TagFault
     ensures { result ≡ bits_each dir.now samples depth }
 {
     for i in 0..samples {
-        if dir.number(258, i, samples)? != depth {
+        if dir.number(BITS_PER_SAMPLE, i, samples)? != depth {
             return Err(TagFault {
-                tag: 258,
+                tag: BITS_PER_SAMPLE,
                 kind: FaultKind::Bits,
             });
         }
@@ -103,7 +106,7 @@ pub fn bits_each(dir: &Dir<'_>, samples: u32, depth: u32) -> Result<(), TagFault
 pub fn full_dot_range(dir: &Dir<'_>) -> Result<(), TagFault>
     ensures { result ≡ full_dot_range dir.now }
 {
-    let Some(field) = dir.field(336)? else {
+    let Some(field) = dir.field(DOT_RANGE)? else {
         return Ok(());
     };
     let kind = match field.count() {
@@ -111,7 +114,10 @@ pub fn full_dot_range(dir: &Dir<'_>) -> Result<(), TagFault>
         2 | 8 if are_full_dots(&field) => return Ok(()),
         _ => FaultKind::DotRange,
     };
-    Err(TagFault { tag: 336, kind })
+    Err(TagFault {
+        tag: DOT_RANGE,
+        kind,
+    })
 }
 
 // The values are 0 and 255 in turn.

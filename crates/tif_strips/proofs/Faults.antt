@@ -8,6 +8,7 @@ use Rattle.std.proofs.lemmas.Option.{same_Some}
 use Rattle.pr_base.specs.declared.fault.FaultKind.TheVariants.{StripPlace, Short}
 use Rattle.pr_base.specs.declared.fault.TagFault.{TagFault}
 use Rattle.tif_dir.specs.Directory.{FirstDirectory, dir_fault, directory_of, fault_at, field_from, field_of, number_at, number_in}
+use Rattle.tif_dir.specs.Names.{strip_byte_counts, strip_offsets}
 use Rattle.tif_dir.proofs.Fields.{number_at-present}
 use Rattle.tif_strips.specs.declared.shape.Shape.{Shape}
 use Rattle.tif_strips.specs.Strips.{Image, fault_of_field, fault_of_strip, first_fault, needed_length, samples_in, stored_bytes, strip_count, strip_fault, strip_offset, strip_size}
@@ -82,20 +83,20 @@ first_fault-both (Some one) two tests none = absurd (cc)
 -- where they fail, the first of them is the fault
 pub strip_fault-fields : (shape : Shape) (bytes : List ℕ) (fault : TagFault) → field_fault shape bytes ≡ Some fault → strip_fault shape bytes ≡ Some fault
 unfolding strip_fault
-strip_fault-fields shape bytes fault fails = first_fault-two (fault_of_field shape bytes 273) (fault_of_field shape bytes 279) _ fault fails
+strip_fault-fields shape bytes fault fails = first_fault-two (fault_of_field shape bytes strip_offsets) (fault_of_field shape bytes strip_byte_counts) _ fault fails
 
 -- where they pass, the strips decide
 pub strip_fault-strips : (shape : Shape) (bytes : List ℕ) → field_fault shape bytes ≡ None
     → strip_fault shape bytes ≡ first_fault (map (fault_of_strip shape bytes) (range_with_len 0 (strip_count shape)))
 unfolding strip_fault
 strip_fault-strips shape bytes none =
-    first_fault-behind (fault_of_field shape bytes 273) (fault_of_field shape bytes 279) (map (fault_of_strip shape bytes) (range_with_len 0 (strip_count shape))) none
+    first_fault-behind (fault_of_field shape bytes strip_offsets) (fault_of_field shape bytes strip_byte_counts) (map (fault_of_strip shape bytes) (range_with_len 0 (strip_count shape))) none
 
 -- an image that passes has both fields
-pub field_fault-passed : (shape : Shape) (bytes : List ℕ) → strip_fault shape bytes ≡ None → (fault_of_field shape bytes 273 ≡ None) × (field_fault shape bytes ≡ None)
+pub field_fault-passed : (shape : Shape) (bytes : List ℕ) → strip_fault shape bytes ≡ None → (fault_of_field shape bytes strip_offsets ≡ None) × (field_fault shape bytes ≡ None)
 unfolding strip_fault
 field_fault-passed shape bytes none =
-    first_fault-both (fault_of_field shape bytes 273) (fault_of_field shape bytes 279) (map (fault_of_strip shape bytes) (range_with_len 0 (strip_count shape))) none
+    first_fault-both (fault_of_field shape bytes strip_offsets) (fault_of_field shape bytes strip_byte_counts) (map (fault_of_strip shape bytes) (range_with_len 0 (strip_count shape))) none
 
 -- and each of its strips passes
 pub fault_of_strip-passed : (shape : Shape) (bytes : List ℕ) (strip : ℕ) → strip_fault shape bytes ≡ None → strip < strip_count shape → fault_of_strip shape bytes strip ≡ None
@@ -131,7 +132,7 @@ dir_fault-number bytes tag i least none = known (directory_of bytes) none
     known (Err fault) none = none
 
 pub dir_fault-passed : (shape : Shape) (bytes : List ℕ) → strip_fault shape bytes ≡ None → dir_fault bytes ≡ None
-dir_fault-passed shape bytes none = dir_fault-number bytes 273 0 (strip_count shape) (field_fault-passed shape bytes none).0
+dir_fault-passed shape bytes none = dir_fault-number bytes strip_offsets 0 (strip_count shape) (field_fault-passed shape bytes none).0
 
 -- ---- the test of a strip
 
@@ -140,37 +141,37 @@ pub strip_offset-known : (image : Image) (offsets sizes : List ℕ) (strip : ℕ
     → strip_offset image.shape image.bytes strip ≡ slice_index offsets strip
 unfolding strip_offset
 strip_offset-known image offsets sizes strip table below =
-    ap (λ value. result_unwrap_or value 0) (number_at-present image.bytes 273 strip (strip_count image.shape) offsets table.offsets_are table.offsets_enough)
+    ap (λ value. result_unwrap_or value 0) (number_at-present image.bytes strip_offsets strip (strip_count image.shape) offsets table.offsets_are table.offsets_enough)
 
 pub strip_size-known : (image : Image) (offsets sizes : List ℕ) (strip : ℕ) → HasTable image offsets sizes → strip < strip_count image.shape
     → strip_size image.shape image.bytes strip ≡ slice_index sizes strip
 unfolding strip_size
 strip_size-known image offsets sizes strip table below =
-    ap (λ value. result_unwrap_or value 0) (number_at-present image.bytes 279 strip (strip_count image.shape) sizes table.sizes_are table.sizes_enough)
+    ap (λ value. result_unwrap_or value 0) (number_at-present image.bytes strip_byte_counts strip (strip_count image.shape) sizes table.sizes_are table.sizes_enough)
 
 -- a strip that does not lie in the file
-pub fault_of_strip-outside : (image : Image) (strip : ℕ) → placed_bytes image strip ≡ None → fault_of_strip image.shape image.bytes strip ≡ Some (fault_at 273 StripPlace)
+pub fault_of_strip-outside : (image : Image) (strip : ℕ) → placed_bytes image strip ≡ None → fault_of_strip image.shape image.bytes strip ≡ Some (fault_at strip_offsets StripPlace)
 unfolding fault_of_strip placed_bytes
 fault_of_strip-outside image strip none = outside (nat_lt (length image.bytes) (strip_offset image.shape image.bytes strip + strip_size image.shape image.bytes strip)) _ _ none
   where
-    outside : (beyond : Bool) (stored : List ℕ) (rest : Option TagFault) → (if beyond then None else Some stored) ≡ None → (if beyond then Some (fault_at 273 StripPlace) else rest) ≡ Some (fault_at 273 StripPlace)
+    outside : (beyond : Bool) (stored : List ℕ) (rest : Option TagFault) → (if beyond then None else Some stored) ≡ None → (if beyond then Some (fault_at strip_offsets StripPlace) else rest) ≡ Some (fault_at strip_offsets StripPlace)
     outside true stored rest none = refl
     outside false stored rest none = absurd (cc)
 
 -- the bytes of a strip that lies in the file, and what is left of its test
 fault_of_strip-placed : (image : Image) (strip : ℕ) (stored : List ℕ) → placed_bytes image strip ≡ Some stored
     → (stored_bytes image.shape image.bytes strip ≡ stored)
-    × (fault_of_strip image.shape image.bytes strip ≡ (if nat_lt (length (samples_in image.shape.packed (stored_bytes image.shape image.bytes strip))) (needed_length image.shape strip) then Some (fault_at 273 Short) else None))
+    × (fault_of_strip image.shape image.bytes strip ≡ (if nat_lt (length (samples_in image.shape.packed (stored_bytes image.shape image.bytes strip))) (needed_length image.shape strip) then Some (fault_at strip_offsets Short) else None))
 unfolding fault_of_strip placed_bytes
 fault_of_strip-placed image strip stored is = inside (nat_lt (length image.bytes) (strip_offset image.shape image.bytes strip + strip_size image.shape image.bytes strip)) _ _ _ is
   where
-    inside : (beyond : Bool) (own stored : List ℕ) (rest : Option TagFault) → (if beyond then None else Some own) ≡ Some stored → (own ≡ stored) × ((if beyond then Some (fault_at 273 StripPlace) else rest) ≡ rest)
+    inside : (beyond : Bool) (own stored : List ℕ) (rest : Option TagFault) → (if beyond then None else Some own) ≡ Some stored → (own ≡ stored) × ((if beyond then Some (fault_at strip_offsets StripPlace) else rest) ≡ rest)
     inside true own stored rest is = absurd (cc)
     inside false own stored rest is = (same_Some own stored is, refl)
 
 -- a strip that lies in the file and has fewer samples than it needs
 pub fault_of_strip-short : (image : Image) (strip : ℕ) (stored samples : List ℕ) → placed_bytes image strip ≡ Some stored → samples ≡ samples_in image.shape.packed stored
-    → length samples < needed_length image.shape strip → fault_of_strip image.shape image.bytes strip ≡ Some (fault_at 273 Short)
+    → length samples < needed_length image.shape strip → fault_of_strip image.shape image.bytes strip ≡ Some (fault_at strip_offsets Short)
 fault_of_strip-short image strip stored samples is samples_are few =
     let placed = fault_of_strip-placed image strip stored is in
     let same : samples_in image.shape.packed (stored_bytes image.shape image.bytes strip) ≡ samples = ap (samples_in image.shape.packed) placed.0 ∙ sym samples_are in
@@ -191,7 +192,7 @@ pub placed_bytes-passed : (image : Image) (strip : ℕ) → fault_of_strip image
 unfolding fault_of_strip placed_bytes
 placed_bytes-passed image strip none = inside (nat_lt (length image.bytes) (strip_offset image.shape image.bytes strip + strip_size image.shape image.bytes strip)) _ _ none
   where
-    inside : (beyond : Bool) (own : List ℕ) (rest : Option TagFault) → (if beyond then Some (fault_at 273 StripPlace) else rest) ≡ None → (if beyond then None else Some own) ≡ Some own
+    inside : (beyond : Bool) (own : List ℕ) (rest : Option TagFault) → (if beyond then Some (fault_at strip_offsets StripPlace) else rest) ≡ None → (if beyond then None else Some own) ≡ Some own
     inside true own rest none = absurd (cc)
     inside false own rest none = refl
 

@@ -2,6 +2,7 @@
 use Rattle.std.proofs.Common.{◌≡◌, ℕ, true, false, List, [], ◌∷◌, ◌++◌, Some, None, refl}
 use Rattle.pr_base.specs.declared.fault.FaultKind.TheVariants.{Short, StripPlace}
 use Rattle.tif_dir.specs.Directory.{directory_of, fault_at, field_of, number_at}
+use Rattle.tif_dir.specs.Names.{strip_offsets}
 use Rattle.tif_packbits.specs.Packbits.{expansion}
 use Rattle.tif_strips.specs.declared.shape.Shape.{Shape}
 use Rattle.tif_strips.specs.Strips.{fault_of_strip, image_row, needed_length, plane_data, plane_row, plane_row_length, planar_pixel, planes, stored_bytes, strip_count, strip_data, strip_fault, strip_offset, strip_rows, strip_size, strips_per_plane}
@@ -30,12 +31,12 @@ unfolding image_row plane_row plane_data strip_data stored_bytes strip_offset st
 second_row = refl
 
 -- one byte is too few
-pub one_byte_short : strip_fault bits (packet 0 170) ≡ Some (fault_at 273 Short)
+pub one_byte_short : strip_fault bits (packet 0 170) ≡ Some (fault_at strip_offsets Short)
 unfolding strip_fault fault_of_strip stored_bytes strip_offset strip_size needed_length strip_rows strip_count strips_per_plane planes plane_row_length number_at field_of directory_of expansion
 one_byte_short = refl
 
 -- a strip that ends behind the file
-pub outside : strip_fault bits (file 1 (35 ∷ 0 ∷ 0 ∷ 0 ∷ []) (2 ∷ 0 ∷ 0 ∷ 0 ∷ 255 ∷ 170 ∷ [])) ≡ Some (fault_at 273 StripPlace)
+pub outside : strip_fault bits (file 1 (35 ∷ 0 ∷ 0 ∷ 0 ∷ []) (2 ∷ 0 ∷ 0 ∷ 0 ∷ 255 ∷ 170 ∷ [])) ≡ Some (fault_at strip_offsets StripPlace)
 unfolding strip_fault fault_of_strip stored_bytes strip_offset strip_size needed_length strip_rows strip_count strips_per_plane planes plane_row_length number_at field_of directory_of expansion
 outside = refl
 

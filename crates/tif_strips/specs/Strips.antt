@@ -7,6 +7,7 @@ use Rattle.pr_base.specs.Row.{row_size}
 use Rattle.pr_base.specs.declared.fault.TagFault.{TagFault}
 use Rattle.pr_base.specs.declared.fault.FaultKind.TheVariants.{StripPlace, Short}
 use Rattle.tif_dir.specs.Directory.{fault_at, number_at}
+use Rattle.tif_dir.specs.Names.{strip_byte_counts, strip_offsets}
 use Rattle.tif_packbits.specs.Packbits.{expansion}
 use Rattle.tif_strips.specs.declared.shape.Shape.{Shape}
 
@@ -54,11 +55,11 @@ needed_length shape strip = strip_rows shape (strip % strips_per_plane shape) * 
 
 -- where a strip begins in the file ("StripOffsets")
 unfoldable pub strip_offset : Shape → List ℕ → ℕ → ℕ
-strip_offset shape bytes strip = result_unwrap_or (number_at bytes 273 strip (strip_count shape)) 0
+strip_offset shape bytes strip = result_unwrap_or (number_at bytes strip_offsets strip (strip_count shape)) 0
 
 -- how many bytes of the file it has ("StripByteCounts")
 unfoldable pub strip_size : Shape → List ℕ → ℕ → ℕ
-strip_size shape bytes strip = result_unwrap_or (number_at bytes 279 strip (strip_count shape)) 0
+strip_size shape bytes strip = result_unwrap_or (number_at bytes strip_byte_counts strip (strip_count shape)) 0
 
 -- the bytes that a strip has in the file
 unfoldable pub stored_bytes : Shape → List ℕ → ℕ → List ℕ
@@ -81,8 +82,8 @@ fault_of_field shape bytes tag = result_err (number_at bytes tag 0 (strip_count 
 -- the fault of one strip: it lies in the file, and has the samples that it needs
 unfoldable pub fault_of_strip : Shape → List ℕ → ℕ → Option TagFault
 fault_of_strip shape bytes strip =
-    if nat_lt (length bytes) (strip_offset shape bytes strip + strip_size shape bytes strip) then Some (fault_at 273 StripPlace)
-    else if nat_lt (length (samples_in shape.packed (stored_bytes shape bytes strip))) (needed_length shape strip) then Some (fault_at 273 Short)
+    if nat_lt (length bytes) (strip_offset shape bytes strip + strip_size shape bytes strip) then Some (fault_at strip_offsets StripPlace)
+    else if nat_lt (length (samples_in shape.packed (stored_bytes shape bytes strip))) (needed_length shape strip) then Some (fault_at strip_offsets Short)
     else None
 
 -- the first fault of a list of tests
@@ -94,7 +95,7 @@ first_fault (Some fault ∷ tests) = Some fault
 -- the first fault of StripOffsets, StripByteCounts and the strips in order
 unfoldable pub strip_fault : Shape → List ℕ → Option TagFault
 strip_fault shape bytes =
-    first_fault (fault_of_field shape bytes 273 ∷ fault_of_field shape bytes 279 ∷ map (fault_of_strip shape bytes) (range_with_len 0 (strip_count shape)))
+    first_fault (fault_of_field shape bytes strip_offsets ∷ fault_of_field shape bytes strip_byte_counts ∷ map (fault_of_strip shape bytes) (range_with_len 0 (strip_count shape)))
 
 -- ---- rows
 

@@ -9,11 +9,8 @@ use crate::Shape;
 use crate::samples::Samples;
 use pr_base::{FaultKind, TagFault};
 use std::marker::Model;
+use tif_dir::tag::{STRIP_BYTE_COUNTS, STRIP_OFFSETS};
 use tif_dir::{Dir, Field};
-
-const STRIP_OFFSETS: u16 = 273;
-
-const STRIP_BYTE_COUNTS: u16 = 279;
 
 /// The places of an image's strips. Contracts see the image; each strip has an offset and a size.
 #[derive(Debug, Drop)]
