@@ -3,7 +3,8 @@ use Rattle.std.proofs.Common.{◌≡◌, ℕ, false, List, [], ◌∷◌, ◌++�
 use Rattle.pr_base.specs.declared.fault.FaultKind.TheVariants.{Samples, Tiled, Width}
 use Rattle.tif_dir.specs.Directory.{directory_of, fault_at, field_of, number_at}
 use Rattle.tif_image.specs.Fields.{bits_each, full_dot_range, no_tiles, number_among, number_within}
-use Rattle.tif_image.specs.Image.{contone_fields}
+use Rattle.tif_image.specs.declared.usage.Usage.TheVariants.{Contone}
+use Rattle.tif_image.specs.Image.{image_fields}
 
 -- an entry of one value: tag, type and value in two bytes
 abbrev entry : ℕ → ℕ → ℕ → ℕ → List ℕ
@@ -16,20 +17,20 @@ file width tag samples =
     ++ entry 0 4 1 width ++ entry 1 4 1 1 ++ entry 2 3 4 82 ++ entry 6 3 1 5 ++ entry 21 3 1 samples ++ entry tag 3 1 1
     ++ (8 ∷ 0 ∷ 8 ∷ 0 ∷ 8 ∷ 0 ∷ 8 ∷ 0 ∷ [])
 
-pub taken : contone_fields (file 4 3 4)
+pub taken : image_fields Contone (file 4 3 4)
     ≡ Ok (record { width = 4; length = 1; samples = 4; bits = 8; planar = 1; packed = false; rows_per_strip = 4294967295 })
-unfolding contone_fields no_tiles number_within number_among bits_each full_dot_range number_at field_of directory_of
+unfolding image_fields no_tiles number_within number_among bits_each full_dot_range number_at field_of directory_of
 taken = refl
 
-pub five_samples : contone_fields (file 4 3 5) ≡ Err (fault_at 277 Samples)
-unfolding contone_fields no_tiles number_within number_among bits_each full_dot_range number_at field_of directory_of
+pub five_samples : image_fields Contone (file 4 3 5) ≡ Err (fault_at 277 Samples)
+unfolding image_fields no_tiles number_within number_among bits_each full_dot_range number_at field_of directory_of
 five_samples = refl
 
 -- 325 in the place of 259: a tile comes before the width
-pub tiled : contone_fields (file 0 69 4) ≡ Err (fault_at 325 Tiled)
-unfolding contone_fields no_tiles number_within number_among bits_each full_dot_range number_at field_of directory_of
+pub tiled : image_fields Contone (file 0 69 4) ≡ Err (fault_at 325 Tiled)
+unfolding image_fields no_tiles number_within number_among bits_each full_dot_range number_at field_of directory_of
 tiled = refl
 
-pub no_width : contone_fields (file 0 3 5) ≡ Err (fault_at 256 Width)
-unfolding contone_fields no_tiles number_within number_among bits_each full_dot_range number_at field_of directory_of
+pub no_width : image_fields Contone (file 0 3 5) ≡ Err (fault_at 256 Width)
+unfolding image_fields no_tiles number_within number_among bits_each full_dot_range number_at field_of directory_of
 no_width = refl

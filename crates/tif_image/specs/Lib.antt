@@ -1,2 +1,4 @@
 pub mod Fields
+pub mod Usage
 pub mod Image
+pub mod Bilevel

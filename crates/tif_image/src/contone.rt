@@ -1,21 +1,9 @@
 // Contone images: four inks with 8 bits a sample (TIFF 6.0, Section 16, "CMYK Images").
-ghost use Rattle.std.specs.Prelude.{◌≡◌, IfOk};
-ghost use Rattle.tif_image.specs.Image.{IsContone, contone_fields};
-
-use crate::fields::{bits_each, full_dot_range, no_tiles, number_among, number_within};
-use pr_base::{FaultKind, TagFault};
+use crate::check::check_image;
+use crate::usage::Usage;
+use pr_base::TagFault;
 use std::marker::Model;
-use tif_dir::{Dir, read_dir, tag};
 use tif_strips::{RowCursor, Shape, Strips};
-
-/// The longest side of an image, in pixels.
-const MOST_PIXELS: u32 = 65_535;
-
-/// No compression (Section 8, "Compression").
-const UNCOMPRESSED: u32 = 1;
-
-/// PackBits (Section 9).
-const PACK_BITS: u32 = 32_773;
 
 /// A contone image, all of whose tests have passed. Contracts see its shape and the file's bytes.
 #[derive(Debug, Drop)]
@@ -43,15 +31,15 @@ impl<'a> Contone<'a> {
 
     /// Tests the header and the directory of a file, its fields and its strips, in this order: the first
     /// test that fails is the answer.
-    #[tactic(auto, unfolding(crate::specs::Image::contone_shape))]
     pub fn check(bytes: &'a [u8]) -> Result<Contone<'a>, TagFault>
         ensures passed { IfOk result (λ image. (image.bytes ≡ bytes.now) × (contone_shape bytes.now ≡ Ok image.shape)) }
         ensures refused { IfErr result (λ fault. contone_shape bytes.now ≡ Err fault) }
     {
-        let dir = read_dir(bytes)?;
-        let shape = contone_fields(&dir)?;
-        let strips = Strips::check(bytes, &dir, shape)?;
-        Ok(Contone { shape, strips })
+        let image = check_image(bytes, Usage::Contone)?;
+        Ok(Contone {
+            shape: image.shape,
+            strips: image.strips,
+        })
     }
 
     /// Pixels of a row.
@@ -74,6 +62,7 @@ impl<'a> Contone<'a> {
     pub fn shape(&self) -> Shape
         ensures shape { result ≡ self.now.shape }
         ensures contone { IsContone result }
+        ensures passed { contone_shape self.now.bytes ≡ Ok result }
     {
         self.shape
     }
@@ -86,50 +75,4 @@ impl<'a> Contone<'a> {
     {
         self.strips.rows()
     }
-}
-
-// The tests of the fields, in their order.
-#[tactic(auto, unfolding(crate::specs::Image::contone_fields))]
-fn contone_fields(dir: &Dir<'_>) -> Result<Shape, TagFault>
-    ensures fields { result ≡ contone_fields dir.now }
-    ensures contone { IfOk result IsContone }
-{
-    no_tiles(dir)?;
-    let width = number_within(dir, tag::IMAGE_WIDTH, 1, MOST_PIXELS, FaultKind::Width)?;
-    let length = number_within(dir, tag::IMAGE_LENGTH, 1, MOST_PIXELS, FaultKind::Length)?;
-    number_among(dir, tag::SAMPLES_PER_PIXEL, &[4], FaultKind::Samples)?;
-    bits_each(dir, 4, 8)?;
-    let compression = number_among(
-        dir,
-        tag::COMPRESSION,
-        &[UNCOMPRESSED, PACK_BITS],
-        FaultKind::Compression,
-    )?;
-    number_among(
-        dir,
-        tag::PHOTOMETRIC_INTERPRETATION,
-        &[5],
-        FaultKind::Photometric,
-    )?;
-    number_among(dir, tag::FILL_ORDER, &[1], FaultKind::FillOrder)?;
-    number_among(dir, tag::ORIENTATION, &[1], FaultKind::Orientation)?;
-    let planar = number_among(dir, tag::PLANAR_CONFIGURATION, &[1, 2], FaultKind::Planar)?;
-    number_among(dir, tag::INK_SET, &[1], FaultKind::InkSet)?;
-    full_dot_range(dir)?;
-    let rows_per_strip = number_within(
-        dir,
-        tag::ROWS_PER_STRIP,
-        1,
-        u32::MAX,
-        FaultKind::RowsPerStrip,
-    )?;
-    Ok(Shape {
-        width,
-        length,
-        samples: 4,
-        bits: 8,
-        planar: planar as u8,
-        packed: compression == PACK_BITS,
-        rows_per_strip,
-    })
 }

@@ -2,9 +2,14 @@
 // (TIFF 6.0, Sections 4, 8 and 16). No call takes memory.
 #![tactic(auto)]
 
+mod bilevel;
+mod check;
 mod contone;
 mod fields;
 #[cfg(test)]
 mod tests;
+mod usage;
 
+pub use bilevel::Bilevel;
 pub use contone::Contone;
+pub use usage::BilevelUse;

@@ -1,0 +1,99 @@
+// Bilevel images: one sample of one bit a pixel, linework or a mask (TIFF 6.0, Sections 3 and 8).
+use crate::check::check_image;
+use crate::usage::{BilevelUse, Usage};
+use pr_base::TagFault;
+use std::marker::Model;
+use tif_dir::tag;
+use tif_strips::{RowCursor, Shape, Strips};
+
+/// PhotometricInterpretation "BlackIsZero" (Section 8).
+const BLACK_IS_ZERO: u32 = 1;
+
+/// A bilevel image, all of whose tests have passed. Contracts see its use, its shape and the file's bytes.
+#[derive(Debug, Drop)]
+pub struct Bilevel<'a> {
+    usage: BilevelUse,
+    shape: Shape,
+    /// A pixel is marked where its bit is 0.
+    marks_zeros: bool,
+    strips: Strips<'a>,
+}
+
+impl<'a> Model for Bilevel<'a> {
+    ghost use Rattle.tif_image.specs.Image.{BilevelImage};
+
+    ghost Value = { BilevelImage };
+
+    ghost use Rattle.tif_image.specs.Bilevel.{IsChecked};
+
+    ghost view = { λ b. record { usage = b.usage; shape = b.shape; bytes = b.strips.bytes } };
+
+    ghost invariant = { λ b. IsChecked b.usage b.shape b.marks_zeros b.strips };
+}
+
+impl<'a> Bilevel<'a> {
+    ghost use Rattle.std.specs.Prelude.{◌≡◌, ◌≤◌, ◌<◌, IfErr, IfOk, length};
+    ghost use Rattle.pr_base.specs.Row.{row_size};
+    ghost use Rattle.tif_strips.specs.Strips.{row_length};
+    ghost use Rattle.tif_image.specs.Image.{IsBilevel, bilevel_shape, is_marked, photometric};
+
+    /// Tests the header and the directory of a file, its fields and its strips, in this order: the first
+    /// test that fails is the answer. InkSet and DotRange aren't read.
+    pub fn check(bytes: &'a [u8], usage: BilevelUse) -> Result<Bilevel<'a>, TagFault>
+        ensures image { IfOk result (λ image. (image.bytes ≡ bytes.now) × (image.usage ≡ usage)) }
+        ensures passed { IfOk result (λ image. bilevel_shape usage bytes.now ≡ Ok image.shape) }
+        ensures refused { IfErr result (λ fault. bilevel_shape usage bytes.now ≡ Err fault) }
+    {
+        let image = check_image(bytes, Usage::Bilevel(usage))?;
+        let photometric = image.dir.number(tag::PHOTOMETRIC_INTERPRETATION, 0, 1);
+        Ok(Bilevel {
+            usage,
+            shape: image.shape,
+            marks_zeros: photometric.unwrap_or(0) == BLACK_IS_ZERO,
+            strips: image.strips,
+        })
+    }
+
+    /// Pixels of a row.
+    pub fn width(&self) -> u32
+        ensures width { result ≡ self.now.shape.width }
+        ensures within { (1 ≤ result) × (result ≤ 65535) }
+    {
+        self.shape.width
+    }
+
+    /// Rows.
+    pub fn length(&self) -> u32
+        ensures length { result ≡ self.now.shape.length }
+        ensures within { (1 ≤ result) × (result ≤ 65535) }
+    {
+        self.shape.length
+    }
+
+    /// What the fields say of the image.
+    pub fn shape(&self) -> Shape
+        ensures shape { result ≡ self.now.shape }
+        ensures bilevel { IsBilevel result }
+        ensures passed { bilevel_shape self.now.usage self.now.bytes ≡ Ok result }
+    {
+        self.shape
+    }
+
+    /// The rows from the first, as they are stored: eight pixels a byte, the lower column in the higher bit.
+    pub fn rows(&self) -> RowCursor<'a>
+        ensures cursor { result ≡ record { shape = self.now.shape; bytes = self.now.bytes; next = 0 } }
+        ensures row_length { row_length self.now.shape ≡ row_size self.now.shape.width }
+    {
+        self.strips.rows()
+    }
+
+    /// Pixel `x` of a row of the image is marked: its bit is 1, or 0 where PhotometricInterpretation is 1.
+    pub fn marked(&self, row: &[u8], x: u32) -> bool
+        requires row { length row.now ≡ row_length self.now.shape }
+        requires within { x < self.now.shape.width }
+        ensures { result ≡ is_marked (photometric self.now.bytes) row.now x }
+    {
+        let bit = row[x as usize / 8] >> (7 - x % 8) & 1;
+        (bit == 1) != self.marks_zeros
+    }
+}

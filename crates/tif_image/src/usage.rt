@@ -1,0 +1,52 @@
+// What an image is used for, and what each use asks of its fields (TIFF 6.0, Sections 3, 8 and 16).
+ghost use Rattle.std.specs.Prelude.{◌≡◌};
+ghost use Rattle.tif_image.specs.Usage.{depth_of, photometrics_of, samples_of};
+
+/// What a bilevel image is used for.
+#[derive(Clone, Copy, Debug, PartialEq, Eq)]
+pub enum BilevelUse {
+    /// Linework, whose marked pixels are painted. PhotometricInterpretation is 0 or 1.
+    Line,
+    /// A mask, whose marked pixels let a layer show. PhotometricInterpretation is 0, 1 or 4.
+    Mask,
+}
+
+/// What an image is used for.
+#[derive(Clone, Copy, Debug, PartialEq, Eq)]
+pub(crate) enum Usage {
+    Contone,
+    Bilevel(BilevelUse),
+}
+
+impl Usage {
+    /// Samples a pixel.
+    pub(crate) fn samples(self) -> u8
+        ensures { result ≡ samples_of self }
+    {
+        match self {
+            Usage::Contone => 4,
+            Usage::Bilevel(_) => 1,
+        }
+    }
+
+    /// Bits a sample.
+    pub(crate) fn depth(self) -> u8
+        ensures { result ≡ depth_of self }
+    {
+        match self {
+            Usage::Contone => 8,
+            Usage::Bilevel(_) => 1,
+        }
+    }
+
+    /// The values of PhotometricInterpretation that are taken.
+    pub(crate) fn photometrics(self) -> &'static [u32]
+        ensures { result.now ≡ photometrics_of self }
+    {
+        match self {
+            Usage::Contone => &[5],
+            Usage::Bilevel(BilevelUse::Line) => &[0, 1],
+            Usage::Bilevel(BilevelUse::Mask) => &[0, 1, 4],
+        }
+    }
+}
