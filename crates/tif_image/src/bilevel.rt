@@ -45,11 +45,15 @@ impl<'a> Bilevel<'a> {
         ensures refused { IfErr result (λ fault. bilevel_shape usage bytes.now ≡ Err fault) }
     {
         let image = check_image(bytes, Usage::Bilevel(usage))?;
-        let photometric = image.dir.number(tag::PHOTOMETRIC_INTERPRETATION, 0, 1);
+        // The field was read among the tests.
+        let photometric = image
+            .dir
+            .number(tag::PHOTOMETRIC_INTERPRETATION, 0, 1)
+            .unwrap_or(0);
         Ok(Bilevel {
             usage,
             shape: image.shape,
-            marks_zeros: photometric.unwrap_or(0) == BLACK_IS_ZERO,
+            marks_zeros: photometric == BLACK_IS_ZERO,
             strips: image.strips,
         })
     }
