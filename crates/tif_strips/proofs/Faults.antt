@@ -3,16 +3,16 @@ use Rattle.std.proofs.Common.{◌≡◌, ℕ, zero, suc, ◌+◌, ◌<◌, ◌�
 use Rattle.std.specs.List.{range_with_len}
 use Rattle.std.specs.Result.{result_err, result_unwrap_or}
 use Rattle.std.proofs.lemmas.Bool.Decides.{nat_tests}
-use Rattle.std.proofs.lemmas.Bool.{lt-ltb, le-ltb}
-use Rattle.std.proofs.lemmas.Option.{same_Some}
 use Rattle.pr_base.specs.declared.fault.FaultKind.TheVariants.{StripPlace, Short}
 use Rattle.pr_base.specs.declared.fault.TagFault.{TagFault}
 use Rattle.tif_dir.specs.Directory.{FirstDirectory, dir_fault, directory_of, fault_at, field_from, field_of, number_at, number_in}
 use Rattle.tif_dir.specs.Names.{strip_byte_counts, strip_offsets}
 use Rattle.tif_dir.proofs.Fields.{number_at-present}
 use Rattle.tif_strips.specs.declared.shape.Shape.{Shape}
+use Rattle.tif_strips.specs.declared.strip.Strip.{Strip}
 use Rattle.tif_strips.specs.Strips.{Image, fault_of_field, fault_of_strip, first_fault, needed_length, samples_in, stored_bytes, strip_count, strip_fault, strip_offset, strip_size}
-use Rattle.tif_strips.specs.Table.{HasTable, field_fault, placed_bytes}
+use Rattle.tif_strips.specs.Strip.{bytes_at, fault_in, fault_of, strip_of}
+use Rattle.tif_strips.specs.Table.{HasTable, field_fault}
 
 -- ---- lists of tests
 
@@ -149,52 +149,37 @@ unfolding strip_size
 strip_size-known image offsets sizes strip table below =
     ap (λ value. result_unwrap_or value 0) (number_at-present image.bytes strip_byte_counts strip (strip_count image.shape) sizes table.sizes_are table.sizes_enough)
 
--- a strip that does not lie in the file
-pub fault_of_strip-outside : (image : Image) (strip : ℕ) → placed_bytes image strip ≡ None → fault_of_strip image.shape image.bytes strip ≡ Some (fault_at strip_offsets StripPlace)
-unfolding fault_of_strip placed_bytes
-fault_of_strip-outside image strip none = outside (nat_lt (length image.bytes) (strip_offset image.shape image.bytes strip + strip_size image.shape image.bytes strip)) _ _ none
+-- the values of both fields at a strip
+pub fields_known : (image : Image) (offsets sizes : List ℕ) (strip : ℕ) → HasTable image offsets sizes → strip < strip_count image.shape
+    → strip_of image.shape image.bytes strip ≡ record { offset = slice_index offsets strip; size = slice_index sizes strip; needed = needed_length image.shape strip }
+fields_known image offsets sizes strip table below =
+    rw (strip_offset-known image offsets sizes strip table below, strip_size-known image offsets sizes strip table below) refl
+
+-- the fault of strip i is that of the strip at its place
+pub fault_of_strip-is : (shape : Shape) (bytes : List ℕ) (i : ℕ) → fault_of_strip shape bytes i ≡ fault_of shape.packed bytes (strip_of shape bytes i)
+unfolding fault_of_strip stored_bytes
+fault_of_strip-is shape bytes i = cases (nat_lt (length bytes) (strip_offset shape bytes i + strip_size shape bytes i)) _ _ _
   where
-    outside : (beyond : Bool) (stored : List ℕ) (rest : Option TagFault) → (if beyond then None else Some stored) ≡ None → (if beyond then Some (fault_at strip_offsets StripPlace) else rest) ≡ Some (fault_at strip_offsets StripPlace)
-    outside true stored rest none = refl
-    outside false stored rest none = absurd (cc)
-
--- the bytes of a strip that lies in the file, and what is left of its test
-fault_of_strip-placed : (image : Image) (strip : ℕ) (stored : List ℕ) → placed_bytes image strip ≡ Some stored
-    → (stored_bytes image.shape image.bytes strip ≡ stored)
-    × (fault_of_strip image.shape image.bytes strip ≡ (if nat_lt (length (samples_in image.shape.packed (stored_bytes image.shape image.bytes strip))) (needed_length image.shape strip) then Some (fault_at strip_offsets Short) else None))
-unfolding fault_of_strip placed_bytes
-fault_of_strip-placed image strip stored is = inside (nat_lt (length image.bytes) (strip_offset image.shape image.bytes strip + strip_size image.shape image.bytes strip)) _ _ _ is
-  where
-    inside : (beyond : Bool) (own stored : List ℕ) (rest : Option TagFault) → (if beyond then None else Some own) ≡ Some stored → (own ≡ stored) × ((if beyond then Some (fault_at strip_offsets StripPlace) else rest) ≡ rest)
-    inside true own stored rest is = absurd (cc)
-    inside false own stored rest is = (same_Some own stored is, refl)
-
--- a strip that lies in the file and has fewer samples than it needs
-pub fault_of_strip-short : (image : Image) (strip : ℕ) (stored samples : List ℕ) → placed_bytes image strip ≡ Some stored → samples ≡ samples_in image.shape.packed stored
-    → length samples < needed_length image.shape strip → fault_of_strip image.shape image.bytes strip ≡ Some (fault_at strip_offsets Short)
-fault_of_strip-short image strip stored samples is samples_are few =
-    let placed = fault_of_strip-placed image strip stored is in
-    let same : samples_in image.shape.packed (stored_bytes image.shape image.bytes strip) ≡ samples = ap (samples_in image.shape.packed) placed.0 ∙ sym samples_are in
-    let below = lt-ltb _ _ few in
-    placed.1 ∙ (rw (same, below) refl)
-
--- a strip that lies in the file and has its samples
-pub fault_of_strip-enough : (image : Image) (strip : ℕ) (stored samples : List ℕ) → placed_bytes image strip ≡ Some stored → samples ≡ samples_in image.shape.packed stored
-    → needed_length image.shape strip ≤ length samples → fault_of_strip image.shape image.bytes strip ≡ None
-fault_of_strip-enough image strip stored samples is samples_are enough =
-    let placed = fault_of_strip-placed image strip stored is in
-    let same : samples_in image.shape.packed (stored_bytes image.shape image.bytes strip) ≡ samples = ap (samples_in image.shape.packed) placed.0 ∙ sym samples_are in
-    let above = le-ltb _ _ enough in
-    placed.1 ∙ (rw (same, above) refl)
+    cases : (beyond packed : Bool) (stored : List ℕ) (needed : ℕ)
+        → (if beyond then Some (fault_at strip_offsets StripPlace) else if nat_lt (length (samples_in packed stored)) needed then Some (fault_at strip_offsets Short) else None)
+        ≡ fault_in packed needed (if beyond then None else Some stored)
+    cases true packed stored needed = refl
+    cases false packed stored needed = refl
 
 -- a strip that passes lies in the file
-pub placed_bytes-passed : (image : Image) (strip : ℕ) → fault_of_strip image.shape image.bytes strip ≡ None → placed_bytes image strip ≡ Some (stored_bytes image.shape image.bytes strip)
-unfolding fault_of_strip placed_bytes
-placed_bytes-passed image strip none = inside (nat_lt (length image.bytes) (strip_offset image.shape image.bytes strip + strip_size image.shape image.bytes strip)) _ _ none
+pub bytes_at-passed : (shape : Shape) (bytes : List ℕ) (i : ℕ) → fault_of_strip shape bytes i ≡ None → bytes_at bytes (strip_of shape bytes i) ≡ Some (stored_bytes shape bytes i)
+unfolding fault_of_strip stored_bytes
+bytes_at-passed shape bytes i none = inside (nat_lt (length bytes) (strip_offset shape bytes i + strip_size shape bytes i)) _ _ none
   where
     inside : (beyond : Bool) (own : List ℕ) (rest : Option TagFault) → (if beyond then Some (fault_at strip_offsets StripPlace) else rest) ≡ None → (if beyond then None else Some own) ≡ Some own
     inside true own rest none = absurd (cc)
     inside false own rest none = refl
+
+-- the same of a strip that was found there
+pub bytes_at-known : (shape : Shape) (bytes own : List ℕ) (i : ℕ) (strip : Strip) → strip_fault shape bytes ≡ None → i < strip_count shape → own ≡ bytes → strip ≡ strip_of shape bytes i
+    → bytes_at own strip ≡ Some (stored_bytes shape bytes i)
+bytes_at-known shape bytes own i strip passed below own_is strip_is =
+    ap (λ list. bytes_at list strip) own_is ∙ ap (bytes_at bytes) strip_is ∙ bytes_at-passed shape bytes i (fault_of_strip-passed shape bytes i passed below)
 
 -- and has the samples that it needs
 pub strip_enough-passed : (shape : Shape) (bytes : List ℕ) (strip : ℕ) → fault_of_strip shape bytes strip ≡ None

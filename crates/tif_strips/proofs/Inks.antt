@@ -1,89 +1,140 @@
--- Pixels of four inks, one ink after the other.
-use Rattle.std.proofs.Common.{◌≡◌, ◌≢◌, ℕ, zero, suc, ◌+◌, ◌*◌, ◌<◌, List, [], ◌∷◌, length, take, drop, get_or, set, inl, inr, refl, sym, ap, ◌∙◌, arith}
-use Rattle.std.proofs.lemmas.Bool.{cases_eq}
-use Rattle.std.proofs.lemmas.List.{get_or-drop, get_or-set_other, get_or-set_same, get_or-take}
+-- Pixels of four inks: laid one after the other, and in pieces of a row.
+use Rattle.std.proofs.Common.{◌≡◌, ◌≢◌, ℕ, zero, suc, ◌+◌, ◌-◌, ◌*◌, ◌<◌, ◌≤◌, List, [], ◌∷◌, ◌++◌, length, take, drop, get_or, set, inl, inr, refl, sym, ap, ◌∙◌, arith}
+use Rattle.std.proofs.lemmas.Bool.{cases_eq, cases_lt}
+use Rattle.std.proofs.lemmas.List.{get_or-append_right, get_or-drop, get_or-set_other, get_or-set_same, get_or-take, get_or_append_left, length-drop, length-set, length-take-le, drop-drop, take_at}
+use borrow.Rule.Slice.PartMut.{put_mid}
 use Rattle.tif_strips.specs.declared.shape.Shape.{Shape}
 use Rattle.tif_strips.specs.Strips.{image_row, plane_data, plane_row, plane_row_length, planes, planar_pixel, row_length}
-use Rattle.tif_strips.specs.Pixels.{PutsInk}
+use Rattle.tif_strips.specs.Planes.{HasPixels}
 use Rattle.tif_strips.proofs.Fours.{fours_joined}
 use Rattle.tif_strips.proofs.Shapes.{four_planes}
 
-pub PutsInk-none : (samples : List ℕ) (ink : ℕ) (old : List ℕ) → PutsInk samples 0 ink old old
-PutsInk-none samples ink old = record {
-  placed = λ x below. absurd (omega arith);
-  others = λ x k small other. refl;
-}
-
--- one more sample
-pub PutsInk-more : (samples : List ℕ) (x ink sample : ℕ) (old into : List ℕ) → ink < 4 → 4 * x + ink < length into → sample ≡ get_or samples x 0 → PutsInk samples x ink old into
-    → PutsInk samples (x + 1) ink old (set into (4 * x + ink) sample)
-PutsInk-more samples x ink sample old into small room is puts = record {
-  placed = λ k below.
-      elim (cases_eq k x) [
-        | inl same ↦ rw same (get_or-set_same into (4 * x + ink) sample 0 room ∙ is)
-        | inr other ↦
-            let apart : 4 * k + ink ≢ 4 * x + ink = λ e. other (omega arith) in
-            get_or-set_other into (4 * x + ink) (4 * k + ink) sample 0 apart ∙ puts.placed k (below_other k x below other)
-      ];
-  others = λ y k tiny other.
-      let apart : 4 * y + k ≢ 4 * x + ink = λ e. other (same_ink y k x ink tiny small e) in
-      get_or-set_other into (4 * x + ink) (4 * y + k) sample 0 apart ∙ puts.others y k tiny other;
-}
-  where
-    below_other : (k x : ℕ) → k < x + 1 → (k ≡ x → ⊥) → k < x
-    below_other k x below other = omega (arith, other)
-
-    same_ink : (y k x ink : ℕ) → k < 4 → ink < 4 → 4 * y + k ≡ 4 * x + ink → k ≡ ink
-    same_ink y k x ink tiny small e = omega arith
-
--- the first inks of a row of pixels are those of these rows
-pub record HasInks (rows : ℕ → List ℕ) (width inks : ℕ) (into : List ℕ) : Type 0 where
-  pub each : (x k : ℕ) → x < width → k < inks → get_or into (4 * x + k) 0 ≡ get_or (rows k) x 0
-
-pub HasInks-none : (rows : ℕ → List ℕ) (width : ℕ) (into : List ℕ) → HasInks rows width 0 into
-HasInks-none rows width into = record { each = λ x k below none. absurd (omega arith) }
-
--- one more ink
-pub HasInks-more : (rows : ℕ → List ℕ) (width ink b : ℕ) (samples old new : List ℕ) → ink < 4 → width ≡ b → take b samples ≡ rows ink → PutsInk samples width ink old new → HasInks rows width ink old
-    → HasInks rows width (ink + 1) new
-HasInks-more rows width ink b samples old new small wide row puts has = record {
-  each = λ x k below under.
-      elim (cases_eq k ink) [
-        | inl same ↦ rw same (puts.placed x below ∙ sym (get_or-take b samples x 0 (omega arith)) ∙ ap (λ list. get_or list x 0) row)
-        | inr other ↦ puts.others x k (omega arith) other ∙ has.each x k below (omega (arith, other))
-      ];
-}
-
--- the bytes of a list that is cut, one after the other
-pub drop-next : (xs : List ℕ) (x y : ℕ) (ys : List ℕ) → drop x xs ≡ y ∷ ys → (y ≡ get_or xs x 0) × (ys ≡ drop (x + 1) xs)
-drop-next [] zero y ys is = absurd (cc)
-drop-next [] (suc x) y ys is = absurd (cc)
-drop-next (a ∷ xs) zero y ys is = (cc, cc)
-drop-next (a ∷ xs) (suc x) y ys is =
-    let next : suc x + 1 ≡ suc (x + 1) = omega arith in
-    let rest = drop-next xs x y ys is in
-    (rest.0, rw next rest.1)
+-- no pixel is laid yet
+pub HasPixels-none : (inks : List (List ℕ)) (into : List ℕ) → HasPixels inks 0 into
+HasPixels-none inks into = record { each = λ x ink below small. absurd (omega arith) }
 
 -- one of four
-pick : (f : ℕ → ℕ) (k : ℕ) → k < 4 → f k ≡ get_or (f 0 ∷ f 1 ∷ f 2 ∷ f 3 ∷ []) k 0
-pick f zero small = refl
-pick f (suc zero) small = refl
-pick f (suc (suc zero)) small = refl
-pick f (suc (suc (suc zero))) small = refl
-pick f (suc (suc (suc (suc k)))) small = absurd (omega arith)
+four_ways : (P : ℕ → Type 0) → P 0 → P 1 → P 2 → P 3 → (ink : ℕ) → ink < 4 → P ink
+four_ways P a b c d zero small = a
+four_ways P a b c d (suc zero) small = b
+four_ways P a b c d (suc (suc zero)) small = c
+four_ways P a b c d (suc (suc (suc zero))) small = d
+four_ways P a b c d (suc (suc (suc (suc ink)))) small = absurd (omega arith)
 
--- a row of pixels with the four inks of the planes' rows is the image's
-pub image_row-inks : (shape : Shape) (bytes : List ℕ) (y : ℕ) (into : List ℕ) → planes shape ≢ 1 → length into ≡ row_length shape → HasInks (λ ink. plane_row shape bytes ink y) shape.width 4 into
-    → into ≡ image_row shape bytes y
+-- the four samples of one more pixel
+pub HasPixels-more : (cyan magenta yellow black into : List ℕ) (x : ℕ) → 4 * x + 3 < length into → HasPixels (cyan ∷ magenta ∷ yellow ∷ black ∷ []) x into
+    → HasPixels (cyan ∷ magenta ∷ yellow ∷ black ∷ []) (x + 1)
+    (set (set (set (set into (4 * x) (get_or cyan x 0)) (4 * x + 1) (get_or magenta x 0)) (4 * x + 2) (get_or yellow x 0)) (4 * x + 3) (get_or black x 0))
+HasPixels-more cyan magenta yellow black into x room has = record {
+  each = λ k ink below small.
+      elim (cases_eq k x) [
+        | inl same ↦ rw same (last ink small)
+        | inr other ↦ earlier k ink (apart k below other) small ∙ has.each k ink (apart k below other) small
+      ];
+}
+  where
+    apart : (k : ℕ) → k < x + 1 → k ≢ x → k < x
+    apart k below other = omega (arith, other)
+
+    kept : (list : List ℕ) (i j value : ℕ) → j ≢ i → get_or (set list i value) j 0 ≡ get_or list j 0
+    kept list i j value ne = get_or-set_other list i j value 0 ne
+
+    earlier : (k ink : ℕ) → k < x → ink < 4
+        → get_or (set (set (set (set into (4 * x) (get_or cyan x 0)) (4 * x + 1) (get_or magenta x 0)) (4 * x + 2) (get_or yellow x 0)) (4 * x + 3) (get_or black x 0)) (4 * k + ink) 0
+        ≡ get_or into (4 * k + ink) 0
+    earlier k ink below small =
+        kept _ (4 * x + 3) (4 * k + ink) _ (omega arith)
+        ∙ kept _ (4 * x + 2) (4 * k + ink) _ (omega arith)
+        ∙ kept _ (4 * x + 1) (4 * k + ink) _ (omega arith)
+        ∙ kept into (4 * x) (4 * k + ink) _ (omega arith)
+
+    last : (ink : ℕ) → ink < 4
+        → get_or (set (set (set (set into (4 * x) (get_or cyan x 0)) (4 * x + 1) (get_or magenta x 0)) (4 * x + 2) (get_or yellow x 0)) (4 * x + 3) (get_or black x 0)) (4 * x + ink) 0
+        ≡ get_or (get_or (cyan ∷ magenta ∷ yellow ∷ black ∷ []) ink []) x 0
+    last =
+        let one = set into (4 * x) (get_or cyan x 0) in
+        let two = set one (4 * x + 1) (get_or magenta x 0) in
+        let three = set two (4 * x + 2) (get_or yellow x 0) in
+        let long_one = length-set into (4 * x) (get_or cyan x 0) in
+        let long_two = length-set one (4 * x + 1) (get_or magenta x 0) in
+        let long_three = length-set two (4 * x + 2) (get_or yellow x 0) in
+        let at : 4 * x + 0 ≡ 4 * x = omega arith in
+        four_ways (λ ink. get_or (set three (4 * x + 3) (get_or black x 0)) (4 * x + ink) 0 ≡ get_or (get_or (cyan ∷ magenta ∷ yellow ∷ black ∷ []) ink []) x 0)
+        (kept three (4 * x + 3) (4 * x + 0) _ (omega arith) ∙ kept two (4 * x + 2) (4 * x + 0) _ (omega arith) ∙ kept one (4 * x + 1) (4 * x + 0) _ (omega arith)
+        ∙ ap (λ i. get_or one i 0) at ∙ get_or-set_same into (4 * x) _ 0 (omega arith))
+        (kept three (4 * x + 3) (4 * x + 1) _ (omega arith) ∙ kept two (4 * x + 2) (4 * x + 1) _ (omega arith) ∙ get_or-set_same one (4 * x + 1) _ 0 (omega arith))
+        (kept three (4 * x + 3) (4 * x + 2) _ (omega arith) ∙ get_or-set_same two (4 * x + 2) _ 0 (omega arith))
+        (get_or-set_same three (4 * x + 3) _ 0 (omega arith))
+
+-- a piece of n more pixels, laid from the samples behind those of the first
+pub HasPixels-piece : (inks pieces : List (List ℕ)) (at n size : ℕ) (into part : List ℕ) → 4 * at + size ≤ length into → size ≡ 4 * n → length part ≡ size
+    → ((ink x : ℕ) → ink < 4 → x < n → get_or (get_or pieces ink []) x 0 ≡ get_or (get_or inks ink []) (at + x) 0)
+    → HasPixels inks at into → HasPixels pieces n part → HasPixels inks (at + n) (put_mid (4 * at) size into part)
+HasPixels-piece inks pieces at n size into part room whole long same has more = record {
+  each = λ x ink below small.
+      elim (cases_lt x at) [
+        | inl before ↦
+            get_or_append_left (take (4 * at) into) _ 0 (4 * x + ink) (omega (arith, front))
+            ∙ get_or-take (4 * at) into (4 * x + ink) 0 (omega arith)
+            ∙ has.each x ink before small
+        | inr behind ↦
+            let there : 4 * x + ink - 4 * at ≡ 4 * (x - at) + ink = omega arith in
+            let back : at + (x - at) ≡ x = omega arith in
+            get_or-append_right (take (4 * at) into) _ (4 * at) (4 * x + ink) 0 front (omega arith)
+            ∙ get_or_append_left part _ 0 (4 * x + ink - 4 * at) (omega arith)
+            ∙ ap (λ i. get_or part i 0) there
+            ∙ more.each (x - at) ink (omega arith) small
+            ∙ same ink (x - at) small (omega arith)
+            ∙ ap (λ i. get_or (get_or inks ink []) i 0) back
+      ];
+}
+  where
+    front : length (take (4 * at) into) ≡ 4 * at
+    front = length-take-le (4 * at) into (omega arith)
+
+-- the samples that were put into a block are the next ones of their ink
+pub block-given : (count at : ℕ) (block ahead start given : List ℕ) → count ≤ length block → at + count ≤ length start → ahead ≡ drop at start
+    → given ≡ take (length (take count block)) ahead → take count (given ++ drop count block) ≡ take count (drop at start)
+block-given count at block ahead start given room enough ahead_is is =
+    let size : length (take count block) ≡ count = length-take-le count block room in
+    let own : given ≡ take count (drop at start) = is ∙ ap (λ n. take n ahead) size ∙ ap (take count) ahead_is in
+    let long : length given ≡ count = ap length own ∙ length-take-le count (drop at start) (omega (arith, length-drop at start)) in
+    take_at given (drop count block) count long ∙ own
+
+-- and those behind them are left
+pub block-left : (count at : ℕ) (block ahead start left : List ℕ) → count ≤ length block → ahead ≡ drop at start → left ≡ drop (length (take count block)) ahead → left ≡ drop (at + count) start
+block-left count at block ahead start left room ahead_is is =
+    let size : length (take count block) ≡ count = length-take-le count block room in
+    is ∙ ap (λ n. drop n ahead) size ∙ ap (drop count) ahead_is ∙ drop-drop count at start
+
+-- a block of n more pixels, laid from the next samples of each ink
+pub HasPixels-block : (cyan magenta yellow black c m y k : List ℕ) (at n size : ℕ) (into part : List ℕ) → 4 * at + size ≤ length into → size ≡ 4 * n → length part ≡ size → at + n ≤ length cyan
+    → c ≡ take n (drop at cyan) → m ≡ take n (drop at magenta) → y ≡ take n (drop at yellow) → k ≡ take n (drop at black)
+    → HasPixels (cyan ∷ magenta ∷ yellow ∷ black ∷ []) at into → HasPixels (c ∷ m ∷ y ∷ k ∷ []) (length c) part
+    → HasPixels (cyan ∷ magenta ∷ yellow ∷ black ∷ []) (at + n) (put_mid (4 * at) size into part)
+HasPixels-block cyan magenta yellow black c m y k at n size into part room whole long enough c_is m_is y_is k_is has more =
+    let count : length c ≡ n = ap length c_is ∙ length-take-le n (drop at cyan) (omega (arith, length-drop at cyan)) in
+    HasPixels-piece (cyan ∷ magenta ∷ yellow ∷ black ∷ []) (c ∷ m ∷ y ∷ k ∷ []) at n size into part room whole long
+    (λ ink x small below.
+    four_ways (λ i. get_or (get_or (c ∷ m ∷ y ∷ k ∷ []) i []) x 0 ≡ get_or (get_or (cyan ∷ magenta ∷ yellow ∷ black ∷ []) i []) (at + x) 0)
+    (next c cyan x below c_is) (next m magenta x below m_is) (next y yellow x below y_is) (next k black x below k_is) ink small)
+    has (rw count at more)
+  where
+    next : (piece start : List ℕ) (x : ℕ) → x < n → piece ≡ take n (drop at start) → get_or piece x 0 ≡ get_or start (at + x) 0
+    next piece start x below is = ap (λ list. get_or list x 0) is ∙ get_or-take n (drop at start) x 0 below ∙ get_or-drop at start x 0
+
+-- a row of pixels with the samples of the planes' rows is the image's
+pub image_row-inks : (shape : Shape) (bytes : List ℕ) (y row : ℕ) (inks : List (List ℕ)) (into : List ℕ) → planes shape ≢ 1 → row ≡ plane_row_length shape → length into ≡ row_length shape
+    → ((ink : ℕ) → ink < 4 → take row (get_or inks ink []) ≡ plane_row shape bytes ink y) → HasPixels inks row into → into ≡ image_row shape bytes y
 unfolding image_row planar_pixel plane_row
-image_row-inks shape bytes y into more room has =
+image_row-inks shape bytes y row inks into more row_is room rows has =
     let four = four_planes shape more in
     let fours : length into ≡ 4 * shape.width = room ∙ four.1 in
+    let wide : row ≡ shape.width = row_is ∙ four.2 in
     rw four.0 (fours_joined (planar_pixel shape bytes y) shape.width into (λ x. refl) fours
-    (λ x k below small. has.each x k below small ∙ get_or-take (plane_row_length shape) _ x 0 (omega arith) ∙ get_or-drop (y * plane_row_length shape) (plane_data shape bytes k) x 0 ∙ (rw four.2 (sample k x small))))
-  where
-    sample : (k x : ℕ) → k < 4 → get_or (plane_data shape bytes k) (y * shape.width + x) 0 ≡ get_or (planar_pixel shape bytes y x) k 0
-    sample k x small = pick (λ ink. get_or (plane_data shape bytes ink) (y * shape.width + x) 0) k small
+    (λ x ink below small. has.each x ink (omega arith) small ∙ sym (get_or-take row _ x 0 (omega arith)) ∙ ap (λ list. get_or list x 0) (rows ink small)
+    ∙ get_or-take (plane_row_length shape) _ x 0 (omega (arith, four.2)) ∙ get_or-drop (y * plane_row_length shape) (plane_data shape bytes ink) x 0
+    ∙ (rw four.2 (four_ways (λ i. get_or (plane_data shape bytes i) (y * shape.width + x) 0 ≡ get_or (planar_pixel shape bytes y x) i 0) refl refl refl refl ink small))))
 
 -- a row of the only plane is the image's
 pub image_row-one : (shape : Shape) (bytes : List ℕ) (y : ℕ) → planes shape ≡ 1 → plane_row shape bytes 0 y ≡ image_row shape bytes y

@@ -3,4 +3,5 @@ pub mod Faults
 pub mod Rows
 pub mod Fours
 pub mod Inks
+pub mod Places
 pub mod Worked

@@ -1,14 +1,12 @@
 -- A row of strips that are joined, read in the strip that holds it.
-use Rattle.std.proofs.Common.{◌≡◌, ℕ, zero, suc, ◌+◌, ◌*◌, ◌/◌, ◌%◌, ◌<◌, ◌≤◌, List, ◌++◌, length, take, drop, Some, None, sym, ap, ◌∙◌, arith, length-drop, zero-add}
+use Rattle.std.proofs.Common.{◌≡◌, ℕ, zero, suc, ◌+◌, ◌*◌, ◌/◌, ◌%◌, ◌<◌, ◌≤◌, List, ◌++◌, length, take, drop, None, sym, ap, ◌∙◌, arith, length-drop, zero-add}
 use Rattle.std.specs.List.{flat_map, range_with_len}
 use Rattle.std.proofs.lemmas.List.{drop_at, drop-append-le, drop-drop, drop-take, length-take-le, take-append-le, take-take}
 use Rattle.std.proofs.lemmas.Nat.{div-add-mod'}
-use Rattle.std.proofs.lemmas.Option.{none-some, same_Some}
 use Rattle.tif_strips.specs.declared.shape.Shape.{Shape}
-use Rattle.tif_strips.specs.Strips.{Image, IsStriped, needed_length, plane_data, plane_row, plane_row_length, planes, samples_in, stored_bytes, strip_count, strip_data, strip_fault, strips_per_plane}
-use Rattle.tif_strips.specs.Table.{placed_bytes}
+use Rattle.tif_strips.specs.Strips.{IsStriped, needed_length, plane_data, plane_row, plane_row_length, planes, samples_in, stored_bytes, strip_data, strip_fault, strips_per_plane}
 use Rattle.tif_strips.proofs.Shapes.{needed_length-in_plane, row_in_needed, strip_number, strip_of_row, strip_rows-above}
-use Rattle.tif_strips.proofs.Faults.{fault_of_strip-passed, placed_bytes-passed, strip_enough-passed}
+use Rattle.tif_strips.proofs.Faults.{fault_of_strip-passed, strip_enough-passed}
 
 -- Pieces are joined, of which those before piece i have the same size: what stands in piece i from a place on stands
 -- in the joined list behind i times the size.
@@ -71,24 +69,3 @@ plane_row-in_strip shape bytes plane y striped passed known below =
   where
     rows_times : (q r k b y : ℕ) → q * k + r ≡ y → q * (k * b) + r * b ≡ y * b
     rows_times q r k b y whole = rw (← whole) (omega arith)
-
--- the same, of samples that were found there: the row lies in them
-pub plane_row-found : (image : Image) (plane y strip at : ℕ) (stored samples : List ℕ) → IsStriped image.shape → strip_fault image.shape image.bytes ≡ None
-    → plane < planes image.shape → y < image.shape.length → strip ≡ plane * strips_per_plane image.shape + y / image.shape.rows_per_strip
-    → at ≡ y % image.shape.rows_per_strip * plane_row_length image.shape → placed_bytes image strip ≡ Some stored → samples ≡ samples_in image.shape.packed stored
-    → (at + plane_row_length image.shape ≤ length samples) × (take (plane_row_length image.shape) (drop at samples) ≡ plane_row image.shape image.bytes plane y)
-plane_row-found image plane y strip at stored samples striped passed known below strip_is at_is placed samples_are =
-    let number = strip_number image.shape plane (y / image.shape.rows_per_strip) known (strip_of_row image.shape y striped below) in
-    let passes = fault_of_strip-passed image.shape image.bytes _ passed number in
-    let own : placed_bytes image strip ≡ Some (stored_bytes image.shape image.bytes (plane * strips_per_plane image.shape + y / image.shape.rows_per_strip)) =
-    ap (placed_bytes image) strip_is ∙ placed_bytes-passed image _ passes in
-    let same : samples ≡ samples_in image.shape.packed (stored_bytes image.shape image.bytes (plane * strips_per_plane image.shape + y / image.shape.rows_per_strip)) =
-    samples_are ∙ ap (samples_in image.shape.packed) (same_Some _ _ (sym placed ∙ own)) in
-    let enough = strip_enough-passed image.shape image.bytes _ passes in
-    let fits = row_in_needed image.shape plane y striped below in
-    (rw (same, at_is) (omega (arith, enough, fits)), rw (same, at_is) (plane_row-in_strip image.shape image.bytes plane y striped passed known below))
-
--- the strip of a row of an image that passes is found
-pub placed_bytes-row : (image : Image) (strip : ℕ) → strip_fault image.shape image.bytes ≡ None → strip < strip_count image.shape → placed_bytes image strip ≡ None → ⊥
-placed_bytes-row image strip passed below none =
-    none-some _ (sym none ∙ placed_bytes-passed image strip (fault_of_strip-passed image.shape image.bytes strip passed below))

@@ -78,15 +78,15 @@ planes-within shape = grind (arith, nat_tests)
 -- what the number of a strip is below
 pub ruleset numbers = (strip_number, strip_of_row, planes-within)
 
--- with one plane, a row of the plane is a row of the image
-pub one_plane : (shape : Shape) → planes shape ≡ 1 → row_length shape ≡ plane_row_length shape
+-- a row of the image is a row of each plane
+pub row_length-planes : (shape : Shape) → row_length shape ≡ planes shape * plane_row_length shape
 unfolding planes plane_row_length
-one_plane shape one = rows (shape.samples == 4) (shape.planar == 2) shape.width _ one
+row_length-planes shape = rows (shape.samples == 4) (shape.planar == 2) shape.width _
   where
-    rows : (four apart : Bool) (width size : ℕ) → ◌≡◌ {A = ℕ} (if four && apart then 4 else 1) 1 → (if four then 4 * width else size) ≡ (if four then if apart then width else 4 * width else size)
-    rows true true width size one = absurd (omega arith)
-    rows true false width size one = refl
-    rows false apart width size one = refl
+    rows : (four apart : Bool) (width size : ℕ) → (if four then 4 * width else size) ≡ (if four && apart then 4 else 1) * (if four then if apart then width else 4 * width else size)
+    rows true true width size = refl
+    rows true false width size = omega arith
+    rows false apart width size = omega arith
 
 -- with more, there are four, and a row of a plane has a byte for each pixel
 pub four_planes : (shape : Shape) → planes shape ≢ 1 → (planes shape ≡ 4) × (row_length shape ≡ 4 * shape.width) × (plane_row_length shape ≡ shape.width)

@@ -1,3 +1,5 @@
 pub mod Strips
+pub mod Strip
 pub mod Table
-pub mod Pixels
+pub mod Planes
+pub mod Place

@@ -1,10 +1,10 @@
 -- What a table of strips keeps: the values of StripOffsets and StripByteCounts.
-use Rattle.std.specs.Prelude.{◌≡◌, ℕ, ◌+◌, ◌≤◌, nat_lt, if◌then◌else◌, List, [], ◌∷◌, length, Option, Some, None, Ok}
+use Rattle.std.specs.Prelude.{◌≡◌, ℕ, ◌≤◌, List, [], ◌∷◌, length, Option, Some, None, Ok}
 use Rattle.pr_base.specs.declared.fault.TagFault.{TagFault}
 use Rattle.tif_dir.specs.Directory.{field_of}
 use Rattle.tif_dir.specs.Names.{strip_byte_counts, strip_offsets}
 use Rattle.tif_strips.specs.declared.shape.Shape.{Shape}
-use Rattle.tif_strips.specs.Strips.{Image, IsStriped, fault_of_field, first_fault, stored_bytes, strip_count, strip_fault, strip_offset, strip_size}
+use Rattle.tif_strips.specs.Strips.{Image, IsStriped, fault_of_field, first_fault, strip_count, strip_fault}
 
 -- the first fault of the two fields
 abbrev pub field_fault : Shape → List ℕ → Option TagFault
@@ -22,9 +22,3 @@ pub record HasTable (image : Image) (offsets sizes : List ℕ) : Type 0 where
 pub record HasPassed (shape : Shape) (bytes : List ℕ) : Type 0 where
   pub striped : IsStriped shape
   pub passed : strip_fault shape bytes ≡ None
-
--- the bytes of a strip, where they lie in the file
-unfoldable pub placed_bytes : Image → ℕ → Option (List ℕ)
-placed_bytes image strip =
-    if nat_lt (length image.bytes) (strip_offset image.shape image.bytes strip + strip_size image.shape image.bytes strip) then None
-    else Some (stored_bytes image.shape image.bytes strip)

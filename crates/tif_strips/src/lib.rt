@@ -2,9 +2,12 @@
 // forms, uncompressed and PackBits (TIFF 6.0, Sections 3, 8 and 9). No call takes memory.
 #![tactic(auto)]
 
+mod place;
+mod planes;
 mod row_cursor;
 mod samples;
 mod shape;
+mod strip;
 mod strip_table;
 mod strips;
 #[cfg(test)]

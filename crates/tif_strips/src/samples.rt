@@ -1,105 +1,58 @@
-// The samples in the stored bytes of a strip.
-ghost use Rattle.std.specs.Prelude.{◌≡◌, ◌+◌, ◌*◌, ◌<◌, ◌≤◌, ◌↔◌, IsTrue, length, take, drop};
-ghost use Rattle.tif_strips.specs.Pixels.{PutsInk};
+// The samples of a strip, given from the front.
+ghost use Rattle.std.specs.Prelude.{◌≡◌, ◌≤◌, ◌↔◌, IsTrue, length, take, drop};
 ghost use Rattle.tif_strips.specs.Strips.{samples_in};
 
-use std::marker::Model;
 use tif_packbits::Unpacker;
 
-/// The samples of a strip. Contracts see all of them; packed ones are expanded when they are asked for.
+/// The samples of a strip that are still to come, expanded as they are asked for where they are packed.
 #[derive(Debug, Drop)]
-pub(crate) struct Samples<'a> {
-    stored: &'a [u8],
-    packed: bool,
-}
-
-impl<'a> Model for Samples<'a> {
-    ghost use Rattle.std.specs.Prelude.{List, ℕ};
-    ghost use Rattle.tif_strips.specs.Strips.{samples_in};
-
-    ghost Value = { List ℕ };
-
-    ghost view = { λ s. samples_in s.packed s.stored.now };
+pub(crate) enum Samples<'a> {
+    Plain(&'a [u8]),
+    Packed(Unpacker<'a>),
 }
 
 impl<'a> Samples<'a> {
-    /// The samples in these bytes.
-    pub(crate) fn of(stored: &'a [u8], packed: bool) -> Samples<'a>
-        ensures { result ≡ samples_in packed stored.now }
-    {
-        Samples { stored, packed }
-    }
+    ghost use Rattle.tif_strips.specs.Planes.{ahead_of};
 
-    /// There are `n` samples or more.
-    pub(crate) fn reach(&self, n: usize) -> bool
-        ensures { IsTrue result ↔ (n ≤ length self.now) }
+    /// Stands before the samples in these bytes.
+    pub(crate) fn new(stored: &'a [u8], packed: bool) -> Samples<'a>
+        ensures { ahead_of result ≡ samples_in packed stored.now }
     {
-        if self.packed {
-            Unpacker::new(self.stored).skip(n as u64).is_ok()
+        if packed {
+            Samples::Packed(Unpacker::new(stored))
         } else {
-            n <= self.stored.len()
+            Samples::Plain(stored)
         }
     }
 
-    /// Copies the samples from place `at` on.
-    pub(crate) fn copy(&self, at: usize, into: &mut [u8])
-        requires { at + length into.old ≤ length self.now }
-        ensures { into.new ≡ take (length into.old) (drop at self.now) }
+    /// Gives the next samples.
+    pub(crate) fn fill(&mut self, into: &mut [u8])
+        requires { length into.old ≤ length (ahead_of self.old) }
+        ensures given { into.new ≡ take (length into.old) (ahead_of self.old) }
+        ensures left { ahead_of self.new ≡ drop (length into.old) (ahead_of self.old) }
     {
-        if self.packed {
-            let mut unpacker = Unpacker::new(self.stored);
-            let Ok(()) = unpacker.skip(at as u64) else {
-                unreachable!()
-            };
-            let Ok(()) = unpacker.fill(into) else {
-                unreachable!()
-            };
-        } else {
-            into.copy_from_slice(&self.stored[at..at + into.len()]);
-        }
-    }
-
-    /// Puts `count` samples from place `at` on in the place of `ink` in as many pixels of four inks.
-    pub(crate) fn spread(&self, at: usize, count: usize, ink: usize, into: &mut [u8])
-        requires ink { ink < 4 }
-        requires pixels { length into.old ≡ 4 * count }
-        requires enough { at + count ≤ length self.now }
-        ensures { PutsInk (drop at self.now) count ink into.old into.new }
-    {
-        if self.packed {
-            let mut unpacker = Unpacker::new(self.stored);
-            let Ok(()) = unpacker.skip(at as u64) else {
-                unreachable!()
-            };
-            spread_packed(unpacker, count, ink, into);
-        } else {
-            spread_plain(&self.stored[at..at + count], ink, into);
+        match self {
+            Samples::Plain(stored) => {
+                let (front, rest) = stored.split_at(into.len());
+                into.copy_from_slice(front);
+                *stored = rest;
+            }
+            Samples::Packed(unpacker) => {
+                let Ok(()) = unpacker.fill(into) else {
+                    unreachable!()
+                };
+            }
         }
     }
 }
 
-// Puts the next `count` bytes of the unpacker in the place of `ink`.
-fn spread_packed(mut unpacker: Unpacker<'_>, count: usize, ink: usize, into: &mut [u8])
-    requires ink { ink < 4 }
-    requires pixels { length into.old ≡ 4 * count }
-    requires enough { count ≤ length unpacker }
-    ensures { PutsInk unpacker.entry count ink into.old into.new }
+/// There are `n` samples or more in these bytes.
+pub(crate) fn reach(stored: &[u8], packed: bool, n: usize) -> bool
+    ensures { IsTrue result ↔ (n ≤ length (samples_in packed stored.now)) }
 {
-    for x in 0..count {
-        let Some(sample) = unpacker.byte() else {
-            unreachable!()
-        };
-        into[4 * x + ink] = sample;
-    }
-}
-
-// Puts the samples of a row in the place of `ink`.
-fn spread_plain(row: &[u8], ink: usize, into: &mut [u8])
-    requires ink { ink < 4 }
-    requires pixels { length into.old ≡ 4 * length row.now }
-    ensures { PutsInk row.now (length row.now) ink into.old into.new }
-{
-    for (x, sample) in row.iter().enumerate() {
-        into[4 * x + ink] = *sample;
+    if packed {
+        Unpacker::new(stored).skip(n as u64).is_ok()
+    } else {
+        n <= stored.len()
     }
 }

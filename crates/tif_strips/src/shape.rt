@@ -1,5 +1,5 @@
 // The shape of an image: what the fields of its directory say of its rows and strips.
-ghost use Rattle.std.specs.Prelude.{◌≡◌, ◌+◌, ◌*◌, ◌/◌, ◌%◌, ◌≤◌, ◌<◌};
+ghost use Rattle.std.specs.Prelude.{◌≡◌, ◌≤◌, ◌<◌};
 ghost use Rattle.tif_strips.specs.Strips.{IsStriped, needed_length, plane_row_length, planes, strip_count, strip_rows, strips_per_plane};
 
 use pr_base::row_bytes;
@@ -95,25 +95,5 @@ impl Shape {
     {
         let rows = self.strip_rows(strip % self.strips_per_plane());
         rows as usize * self.plane_row_len()
-    }
-
-    // The number of the strip that holds row `y` of a plane.
-    #[tactic(auto, using(crate::proofs::Shapes::numbers), unfolding(crate::specs::Strips::strip_count))]
-    pub(crate) fn strip_of_row(&self, plane: u32, y: u32) -> u32
-        requires striped { IsStriped self.now }
-        requires plane { plane < planes self.now }
-        requires row { y < self.now.length }
-        ensures number { result ≡ plane * strips_per_plane self.now + y / self.now.rows_per_strip }
-        ensures within { result < strip_count self.now }
-    {
-        plane * self.strips_per_plane() + y / self.rows_per_strip
-    }
-
-    // The place in its strip of row `y` of a plane.
-    pub(crate) fn place_in_strip(&self, y: u32) -> usize
-        requires { IsStriped self.now }
-        ensures { result ≡ y % self.now.rows_per_strip * plane_row_length self.now }
-    {
-        (y % self.rows_per_strip) as usize * self.plane_row_len()
     }
 }

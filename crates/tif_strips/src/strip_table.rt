@@ -1,12 +1,13 @@
 // Where the strips of an image stand in its file.
-ghost use Rattle.std.specs.Prelude.{◌≡◌, ◌+◌, ◌<◌, ◌≤◌, IfOk, length, take, drop, Ok, Some, None};
-ghost use Rattle.std.specs.Option.{option_copied};
+ghost use Rattle.std.specs.Prelude.{◌≡◌, ◌<◌, ◌≤◌, IfOk, length, Ok, Some, None};
 ghost use Rattle.std.specs.Result.{result_err};
 ghost use Rattle.tif_dir.specs.Directory.{fault_at, field_of, number_at};
 ghost use Rattle.tif_dir.specs.Table.{default_of};
 
 use crate::Shape;
+use crate::planes::{Inks, Planes};
 use crate::samples::Samples;
+use crate::strip::Strip;
 use pr_base::{FaultKind, TagFault};
 use std::marker::Model;
 use tif_dir::tag::{STRIP_BYTE_COUNTS, STRIP_OFFSETS};
@@ -33,8 +34,10 @@ impl<'a> Model for StripTable<'a> {
 }
 
 impl<'a> StripTable<'a> {
-    ghost use Rattle.tif_strips.specs.Strips.{IsStriped, fault_of_strip, plane_row, plane_row_length, planes, strip_count, strip_fault};
-    ghost use Rattle.tif_strips.specs.Table.{field_fault, placed_bytes};
+    ghost use Rattle.tif_strips.specs.Strips.{IsStriped, samples_in, stored_bytes, strip_count, strip_fault, strips_per_plane};
+    ghost use Rattle.tif_strips.specs.Table.{field_fault};
+    ghost use Rattle.tif_strips.specs.Strip.{strip_of};
+    ghost use Rattle.tif_strips.specs.Planes.{ahead_of, aheads_of, strip_samples};
 
     /// Reads the two fields that say where the strips are.
     pub(crate) fn read(
@@ -66,47 +69,47 @@ impl<'a> StripTable<'a> {
         self.shape
     }
 
-    /// Tests that a strip lies in the file and has the samples that it needs.
-    pub(crate) fn check(&self, strip: u32) -> Result<(), TagFault>
-        requires { strip < strip_count self.now.shape }
-        ensures { result_err result ≡ fault_of_strip self.now.shape self.now.bytes strip }
+    /// Strip `i` of the image.
+    #[tactic(auto, using(crate::proofs::Faults::fields_known))]
+    pub(crate) fn strip(&self, i: u32) -> Strip
+        requires { i < strip_count self.now.shape }
+        ensures { result ≡ strip_of self.now.shape self.now.bytes i }
     {
-        let Some(stored) = self.stored(strip) else {
-            return Err(fault(STRIP_OFFSETS, FaultKind::StripPlace));
-        };
-        let needed = self.shape.needed_len(strip);
-        if !Samples::of(stored, self.shape.packed).reach(needed) {
-            return Err(fault(STRIP_OFFSETS, FaultKind::Short));
+        Strip {
+            offset: self.offsets.at(i),
+            size: self.sizes.at(i),
+            needed: self.shape.needed_len(i),
         }
-        Ok(())
     }
 
-    /// The samples of the strip that holds row `y` of a plane, and the place among them where the row begins.
-    pub(crate) fn row(&self, plane: u32, y: u32) -> (Samples<'a>, usize)
+    /// Stands before the samples of strip `i` of each plane.
+    pub(crate) fn begin(&self, i: u32) -> Planes<'a>
         requires passed { strip_fault self.now.shape self.now.bytes ≡ None }
-        requires plane { plane < planes self.now.shape }
-        requires row { y < self.now.shape.length }
-        ensures enough { result.1 + plane_row_length self.now.shape ≤ length result.0 }
-        ensures row { take (plane_row_length self.now.shape) (drop result.1 result.0) ≡ plane_row self.now.shape self.now.bytes plane y }
+        requires within { i < strips_per_plane self.now.shape }
+        ensures { aheads_of result ≡ strip_samples self.now.shape self.now.bytes i }
     {
-        let shape = self.shape;
-        let Some(stored) = self.stored(shape.strip_of_row(plane, y)) else {
+        if self.shape.planes() == 1 {
+            return Planes::One(self.samples(i));
+        }
+        let strips = self.shape.strips_per_plane();
+        Planes::Four(Inks {
+            cyan: self.samples(i),
+            magenta: self.samples(strips + i),
+            yellow: self.samples(2 * strips + i),
+            black: self.samples(3 * strips + i),
+        })
+    }
+
+    // Stands before the samples of strip `i` of the image.
+    fn samples(&self, i: u32) -> Samples<'a>
+        requires passed { strip_fault self.now.shape self.now.bytes ≡ None }
+        requires within { i < strip_count self.now.shape }
+        ensures { ahead_of result ≡ samples_in self.now.shape.packed (stored_bytes self.now.shape self.now.bytes i) }
+    {
+        let Some(stored) = self.strip(i).stored(self.bytes) else {
             unreachable!()
         };
-        (Samples::of(stored, shape.packed), shape.place_in_strip(y))
-    }
-
-    // The bytes of a strip, where they lie in the file.
-    fn stored(&self, strip: u32) -> Option<&'a [u8]>
-        requires { strip < strip_count self.now.shape }
-        ensures { option_copied result ≡ placed_bytes self.now strip }
-    {
-        let offset = self.offsets.at(strip) as usize;
-        let size = self.sizes.at(strip) as usize;
-        if self.bytes.len() < offset + size {
-            return None;
-        }
-        Some(&self.bytes[offset..offset + size])
+        Samples::new(stored, self.shape.packed)
     }
 }
 

@@ -2,7 +2,7 @@
 ghost use Rattle.std.specs.Prelude.{◌≡◌};
 ghost use Rattle.tif_strips.specs.Strips.{IsStriped, row_length};
 
-use crate::{Shape, Strips};
+use crate::{RowCursor, Shape, Strips};
 use pr_base::{FaultKind, TagFault};
 use std::process::Abort;
 use std::test::Fail;
@@ -136,6 +136,40 @@ fn planes_are_joined_pixel_by_pixel(rt: HostRuntime) -> Result<(), Fail> {
     };
     let rows = [[1, 2], [3, 4], [5, 6], [7, 8], [11, 12]];
     assert_rows(&rt, &EIGHT_STRIPS, shape, &rows)
+}
+
+// All rows that are still to come are 64 pixels without ink.
+fn assert_blank(rt: &impl Abort, mut cursor: RowCursor<'_>)
+    requires { row_length cursor.shape ≡ 256 }
+{
+    for _y in 0..cursor.left() {
+        let mut row = [0xee; 256];
+        cursor.next_row(&mut row);
+        assert!(rt; row == [0; 256]);
+    }
+    assert_eq!(rt; cursor.left(), 0);
+}
+
+#[test]
+fn long_strip_is_expanded_once(rt: HostRuntime) -> Result<(), Fail> {
+    let shape = Shape {
+        width: 64,
+        length: 65_535,
+        samples: 4,
+        bits: 8,
+        rows_per_strip: 65_535,
+        ..BITS
+    };
+    // 5,592,320 packets of three zeros. StripByteCounts is 11,184,640.
+    let mut bytes = Vec::from_slice(rt.alloc(), &PACKET[..30])?;
+    bytes.extend_from_slice(&[0x00, 0xaa, 0xaa, 0x00])?;
+    for _i in 0..5_592_320 {
+        bytes.extend_from_slice(&[0xfe, 0x00])?;
+    }
+    let dir = read_dir(bytes.as_slice())?;
+    let strips = Strips::check(bytes.as_slice(), &dir, shape)?;
+    assert_blank(&rt, strips.rows());
+    Ok(())
 }
 
 #[test]

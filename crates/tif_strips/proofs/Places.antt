@@ -1,0 +1,141 @@
+-- The rows that a cursor has still to give of a strip, from its begin to its end.
+use Rattle.std.proofs.Common.{◌≡◌, ◌≢◌, ℕ, zero, suc, ◌+◌, ◌-◌, ◌*◌, ◌/◌, ◌<◌, ◌≤◌, List, [], ◌∷◌, length, map, take, drop, get_or, None, inl, inr, refl, sym, ap, ◌∙◌, zero-add, arith}
+use Rattle.std.proofs.lemmas.Bool.{cases_eq}
+use Rattle.std.proofs.lemmas.List.{drop-drop, get_or-map, length-drop, length-map}
+use Rattle.std.proofs.lemmas.List.FromFn.{get_or-map-range_with_len, length-map-range_with_len}
+use Rattle.std.proofs.lemmas.Nat.{div-mul-add, mod-mul-add}
+use Rattle.tif_strips.specs.declared.place.Place.{Place}
+use Rattle.tif_strips.specs.declared.planes.Planes.{Planes}
+use Rattle.tif_strips.specs.declared.shape.Shape.{Shape}
+use Rattle.tif_strips.specs.Strips.{Image, IsStriped, image_row, plane_row, plane_row_length, planes, row_length, samples_in, stored_bytes, strip_fault, strip_rows, strips_per_plane}
+use Rattle.tif_strips.specs.Planes.{HasPixels, aheads_of, strip_samples}
+use Rattle.tif_strips.specs.Place.{HoldsRows, IsPlace}
+use Rattle.tif_strips.proofs.Faults.{fault_of_strip-passed, strip_enough-passed}
+use Rattle.tif_strips.proofs.Inks.{image_row-inks, image_row-one}
+use Rattle.tif_strips.proofs.Rows.{plane_row-in_strip}
+use Rattle.tif_strips.proofs.Shapes.{four_planes, needed_length-in_plane, strip_number, strip_of_row}
+
+-- the samples of strip i of a plane are its rows
+pub HoldsRows-begin : (image : Image) (plane i : ℕ) → IsStriped image.shape → strip_fault image.shape image.bytes ≡ None → plane < planes image.shape → i < strips_per_plane image.shape
+    → HoldsRows image plane (i * image.shape.rows_per_strip) (strip_rows image.shape i) (samples_in image.shape.packed (stored_bytes image.shape image.bytes (plane * strips_per_plane image.shape + i)))
+unfolding strip_rows
+HoldsRows-begin image plane i striped passed known below =
+    let shape = image.shape in
+    let strip = plane * strips_per_plane shape + i in
+    let needed = needed_length-in_plane shape plane i below in
+    let enough = strip_enough-passed shape image.bytes strip (fault_of_strip-passed shape image.bytes strip passed (strip_number shape plane i known below)) in
+    record {
+      enough = rw needed at enough;
+      each = λ k under.
+          let small : k < shape.rows_per_strip = omega arith in
+          let inside : i * shape.rows_per_strip + k < shape.length = omega arith in
+          let row = plane_row-in_strip shape image.bytes plane (i * shape.rows_per_strip + k) striped passed known inside in
+          rw (div-mul-add i shape.rows_per_strip k small, mod-mul-add i shape.rows_per_strip k small) at row;
+    }
+
+-- behind the first of them
+pub HoldsRows-next : (image : Image) (plane y rows : ℕ) (samples : List ℕ) → HoldsRows image plane y rows samples → 0 < rows
+    → HoldsRows image plane (y + 1) (rows - 1) (drop (plane_row_length image.shape) samples)
+HoldsRows-next image plane y rows samples holds some =
+    let b = plane_row_length image.shape in
+    record {
+      enough = rw (length-drop b samples) (fewer rows b (length samples) some holds.enough);
+      each = λ k under.
+          let next : k + 1 < rows = omega arith in
+          let place : b + k * b ≡ (k + 1) * b = omega arith in
+          let row : y + (k + 1) ≡ y + 1 + k = omega arith in
+          ap (take b) (drop-drop (k * b) b samples ∙ ap (λ n. drop n samples) place) ∙ holds.each (k + 1) next ∙ ap (plane_row image.shape image.bytes plane) row;
+    }
+  where
+    fewer : (rows b n : ℕ) → 0 < rows → rows * b ≤ n → (rows - 1) * b ≤ n - b
+    fewer zero b n some enough = absurd (omega arith)
+    fewer (suc rows) b n some enough = let one : suc rows - 1 ≡ rows = omega arith in rw one (omega arith)
+
+-- where no row of a strip is left, the next strip begins
+at_strip_end : (image : Image) (place : Place) → IsPlace image place → place.rows ≡ 0 → place.next < image.shape.length → place.next ≡ place.begun * image.shape.rows_per_strip
+at_strip_end image place is none left = omega (arith, is.to_strip_end)
+
+pub begun_within : (image : Image) (place : Place) → IsPlace image place → place.rows ≡ 0 → place.next < image.shape.length → place.begun < strips_per_plane image.shape
+begun_within image place is none left =
+    let rows = image.shape.rows_per_strip in
+    let some : 0 < rows = omega (arith, is.striped.rows_per_strip) in
+    let at : place.begun * rows + 0 ≡ place.next = omega (arith, at_strip_end image place is none left) in
+    let strip : place.next / rows ≡ place.begun = ap (λ y. y / rows) (sym at) ∙ div-mul-add place.begun rows 0 some in
+    rw strip at (strip_of_row image.shape place.next is.striped left)
+
+-- and its rows come first among its samples
+pub IsPlace-begin : (image : Image) (place : Place) (begun : Planes) (rows : ℕ) → IsPlace image place → place.rows ≡ 0 → place.next < image.shape.length
+    → aheads_of begun ≡ strip_samples image.shape image.bytes place.begun → rows ≡ strip_rows image.shape place.begun
+    → IsPlace image (record { next = place.next; begun = place.begun + 1; rows = rows; planes = begun }) × (0 < rows)
+unfolding strip_rows
+IsPlace-begin image place begun rows is none left samples rows_are =
+    let shape = image.shape in
+    let at = at_strip_end image place is none left in
+    let within = begun_within image place is none left in
+    let one = is.striped.rows_per_strip in
+    let sample = λ (plane : ℕ). samples_in shape.packed (stored_bytes shape image.bytes (plane * strips_per_plane shape + place.begun)) in (
+      record {
+        striped = is.striped;
+        passed = is.passed;
+        to_strip_end = omega arith;
+        all_planes = λ some. ap length samples ∙ length-map-range_with_len sample 0 (planes shape);
+        each = λ plane known.
+            let own : get_or (aheads_of begun) plane [] ≡ sample plane = ap (λ lists. get_or lists plane []) samples ∙ get_or-map-range_with_len sample 0 (planes shape) plane plane [] known (zero-add plane) in
+            rw (own, at, rows_are) (HoldsRows-begin image plane place.begun is.striped is.passed known within);
+      },
+      omega arith,
+    )
+
+-- one row later
+pub IsPlace-next : (image : Image) (place : Place) (row : ℕ) (later : Planes) → IsPlace image place → 0 < place.rows → row ≡ plane_row_length image.shape
+    → aheads_of later ≡ map (drop row) (aheads_of place.planes)
+    → IsPlace image (record { next = place.next + 1; begun = place.begun; rows = place.rows - 1; planes = later })
+IsPlace-next image place row later is some row_is left = record {
+  striped = is.striped;
+  passed = is.passed;
+  to_strip_end = omega (arith, is.to_strip_end);
+  all_planes = λ more. ap length left ∙ length-map (aheads_of place.planes) (drop row) ∙ is.all_planes some;
+  each = λ plane known.
+      let own : get_or (aheads_of later) plane [] ≡ drop row (get_or (aheads_of place.planes) plane []) =
+      ap (λ lists. get_or lists plane []) left ∙ get_or-map (drop row) (aheads_of place.planes) plane [] [] (omega (arith, is.all_planes some)) in
+      rw (own, row_is) (HoldsRows-next image plane place.next place.rows _ (is.each plane known) some);
+}
+
+-- a row of each plane is ahead
+pub row_ahead : (image : Image) (place : Place) (plane row : ℕ) → IsPlace image place → 0 < place.rows → row ≡ plane_row_length image.shape → plane < planes image.shape
+    → take row (get_or (aheads_of place.planes) plane []) ≡ plane_row image.shape image.bytes plane place.next
+row_ahead image place plane row is some row_is known =
+    let b = plane_row_length image.shape in
+    let first = (is.each plane known).each 0 some in
+    let front : 0 * b ≡ 0 = omega arith in
+    let here : place.next + 0 ≡ place.next = omega arith in
+    rw row_is (rw (front, here) at first)
+
+-- what they give is the row of the image
+pub image_row-place : (image : Image) (place : Place) (row : ℕ) (into : List ℕ) → IsPlace image place → 0 < place.rows → row ≡ plane_row_length image.shape → length into ≡ row_length image.shape
+    → (length (aheads_of place.planes) ≡ 1 → into ≡ take row (get_or (aheads_of place.planes) 0 [])) → (length (aheads_of place.planes) ≢ 1 → HasPixels (aheads_of place.planes) row into)
+    → into ≡ image_row image.shape image.bytes place.next
+image_row-place image place row into is some row_is room one four =
+    elim (cases_eq (length (aheads_of place.planes)) 1) [
+      | inl alone ↦
+          let planes_one : planes image.shape ≡ 1 = sym (is.all_planes some) ∙ alone in
+          one alone ∙ row_ahead image place 0 row is some row_is (omega (arith, planes_one)) ∙ image_row-one image.shape image.bytes place.next planes_one
+      | inr apart ↦
+          let more : planes image.shape ≢ 1 = λ e. apart (is.all_planes some ∙ e) in
+          image_row-inks image.shape image.bytes place.next row (aheads_of place.planes) into more row_is room
+          (λ ink small. row_ahead image place ink row is some row_is (omega (arith, (four_planes image.shape more).0))) (four apart)
+    ]
+
+-- the samples of a strip of each of four planes
+pub strip_samples-four : (shape : Shape) (bytes : List ℕ) (i strips : ℕ) (cyan magenta yellow black : List ℕ) → planes shape ≡ 4 → strips ≡ strips_per_plane shape
+    → cyan ≡ samples_in shape.packed (stored_bytes shape bytes i) → magenta ≡ samples_in shape.packed (stored_bytes shape bytes (strips + i))
+    → yellow ≡ samples_in shape.packed (stored_bytes shape bytes (2 * strips + i)) → black ≡ samples_in shape.packed (stored_bytes shape bytes (3 * strips + i))
+    → cyan ∷ magenta ∷ yellow ∷ black ∷ [] ≡ strip_samples shape bytes i
+strip_samples-four shape bytes i strips cyan magenta yellow black four per_plane c m y k =
+    let own = λ (place : ℕ). samples_in shape.packed (stored_bytes shape bytes place) in
+    let n = strips_per_plane shape in
+    let c_is : cyan ≡ own (0 * n + i) = c ∙ ap own (omega arith) in
+    let m_is : magenta ≡ own (1 * n + i) = m ∙ ap own (omega arith) in
+    let y_is : yellow ≡ own (2 * n + i) = y ∙ ap own (omega arith) in
+    let k_is : black ≡ own (3 * n + i) = k ∙ ap own (omega arith) in
+    rw (four, c_is, m_is, y_is, k_is) refl

@@ -1,0 +1,86 @@
+// The planes of the strip that a cursor stands in, and pixels laid from four of them.
+ghost use Rattle.std.specs.Prelude.{◌≡◌, ◌≢◌, ℕ, ◌*◌, ◌<◌, ◌≤◌, [], ◌∷◌, length, map, take, drop, slice_index_or};
+ghost use Rattle.tif_strips.specs.Planes.{HasPixels};
+
+use crate::samples::Samples;
+
+/// Pixels that are laid at a time.
+const BLOCK: usize = 1024;
+
+/// What is still to come of a strip of each plane.
+#[derive(Debug, Drop)]
+pub(crate) enum Planes<'a> {
+    One(Samples<'a>),
+    Four(Inks<'a>),
+}
+
+/// A plane for each ink (TIFF 6.0, Section 16).
+#[derive(Debug, Drop)]
+pub(crate) struct Inks<'a> {
+    pub cyan: Samples<'a>,
+    pub magenta: Samples<'a>,
+    pub yellow: Samples<'a>,
+    pub black: Samples<'a>,
+}
+
+impl<'a> Planes<'a> {
+    ghost use Rattle.tif_strips.specs.Planes.{HasPixels, aheads_of};
+
+    /// Gives the next row of the image, which has `row` bytes in each plane.
+    pub(crate) fn fill(&mut self, row: usize, into: &mut [u8])
+        requires room { length into.old ≡ length (aheads_of self.old) * row }
+        requires enough { (plane : ℕ) → plane < length (aheads_of self.old) → row ≤ length (slice_index_or (aheads_of self.old) plane []) }
+        ensures one { length (aheads_of self.old) ≡ 1 → into.new ≡ take row (slice_index_or (aheads_of self.old) 0 []) }
+        ensures four { length (aheads_of self.old) ≢ 1 → HasPixels (aheads_of self.old) row into.new }
+        ensures left { aheads_of self.new ≡ map (drop row) (aheads_of self.old) }
+    {
+        match self {
+            Planes::One(samples) => samples.fill(into),
+            Planes::Four(inks) => inks.fill(row, into),
+        }
+    }
+}
+
+impl<'a> Inks<'a> {
+    ghost use Rattle.tif_strips.specs.Planes.{HasPixels, inks_of};
+
+    // The next `width` pixels, a block at a time.
+    fn fill(&mut self, width: usize, into: &mut [u8])
+        requires room { length into.old ≡ 4 * width }
+        requires enough { (ink : ℕ) → ink < 4 → width ≤ length (slice_index_or (inks_of self.old) ink []) }
+        ensures pixels { HasPixels (inks_of self.old) width into.new }
+        ensures left { inks_of self.new ≡ map (drop width) (inks_of self.old) }
+    {
+        let mut c = [0; BLOCK];
+        let mut m = [0; BLOCK];
+        let mut y = [0; BLOCK];
+        let mut k = [0; BLOCK];
+        let mut at = 0;
+        while at < width {
+            let count = BLOCK.min(width - at);
+            self.cyan.fill(&mut c[..count]);
+            self.magenta.fill(&mut m[..count]);
+            self.yellow.fill(&mut y[..count]);
+            self.black.fill(&mut k[..count]);
+            let pixels = &mut into[4 * at..4 * (at + count)];
+            lay_pixels(&c[..count], &m[..count], &y[..count], &k[..count], pixels);
+            at += count;
+        }
+    }
+}
+
+// Lays the samples of four inks side by side.
+fn lay_pixels(cyan: &[u8], magenta: &[u8], yellow: &[u8], black: &[u8], into: &mut [u8])
+    requires magenta { length magenta.now ≡ length cyan.now }
+    requires yellow { length yellow.now ≡ length cyan.now }
+    requires black { length black.now ≡ length cyan.now }
+    requires room { length into.old ≡ 4 * length cyan.now }
+    ensures { HasPixels (cyan.now ∷ magenta.now ∷ yellow.now ∷ black.now ∷ []) (length cyan.now) into.new }
+{
+    for x in 0..cyan.len() {
+        into[4 * x] = cyan[x];
+        into[4 * x + 1] = magenta[x];
+        into[4 * x + 2] = yellow[x];
+        into[4 * x + 3] = black[x];
+    }
+}

@@ -1,0 +1,58 @@
+// One strip in the file: its place, its size there, and what it needs.
+ghost use Rattle.std.specs.Prelude.{◌≡◌};
+ghost use Rattle.std.specs.Option.{option_copied};
+ghost use Rattle.std.specs.Result.{result_err};
+ghost use Rattle.tif_dir.specs.Directory.{fault_at};
+
+use crate::samples::reach;
+use pr_base::{FaultKind, TagFault};
+use tif_dir::tag::STRIP_OFFSETS;
+
+/// A strip of the file.
+#[derive(Clone, Copy, Debug, PartialEq, Eq)]
+pub(crate) struct Strip {
+    /// Where it begins, in bytes from the front of the file (StripOffsets).
+    pub offset: u32,
+    /// Its bytes in the file (StripByteCounts).
+    pub size: u32,
+    /// The samples that it needs, in bytes.
+    pub needed: usize,
+}
+
+impl Strip {
+    ghost use Rattle.tif_strips.specs.Strip.{bytes_at, fault_of};
+
+    /// The bytes of the strip, where they lie in the file.
+    pub(crate) fn stored<'a>(&self, bytes: &'a [u8]) -> Option<&'a [u8]>
+        ensures { option_copied result ≡ bytes_at bytes.now self.now }
+    {
+        let offset = self.offset as usize;
+        let size = self.size as usize;
+        if bytes.len() < offset + size {
+            return None;
+        }
+        Some(&bytes[offset..offset + size])
+    }
+
+    /// Tests that the strip lies in the file and has the samples that it needs.
+    pub(crate) fn check(&self, bytes: &[u8], packed: bool) -> Result<(), TagFault>
+        ensures { result_err result ≡ fault_of packed bytes.now self.now }
+    {
+        let Some(stored) = self.stored(bytes) else {
+            return Err(fault(FaultKind::StripPlace));
+        };
+        if !reach(stored, packed, self.needed) {
+            return Err(fault(FaultKind::Short));
+        }
+        Ok(())
+    }
+}
+
+fn fault(kind: FaultKind) -> TagFault
+    ensures { result ≡ fault_at STRIP_OFFSETS kind }
+{
+    TagFault {
+        tag: STRIP_OFFSETS,
+        kind,
+    }
+}
