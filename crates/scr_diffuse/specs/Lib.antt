@@ -1,0 +1,2 @@
+pub mod Diffusion
+pub mod Passes

@@ -1,0 +1,35 @@
+-- What the passes over a row make of its numbers.
+use Rattle.std.specs.Prelude.{ℕ, ◌*◌, ◌+◌, ◌<◌, ℤ, pos, ◌+ℤ◌, ◌*ℤ◌, ◌≤ℤ◌, neg_ℤ, FitsSigned, List, length, slice_index, slice_index_or}
+use Rattle.std.specs.Int.{int_div_euclid, w16}
+use Rattle.scr_diffuse.specs.Diffusion.{left_of, error_of}
+
+-- an error lies between these two
+pub record IsError (e : ℤ) : Type 0 where
+  pub low : (neg_ℤ (pos 127)) ≤ℤ e
+  pub high : e ≤ℤ pos 127
+
+-- the number that stands at a place, 0 past the end
+abbrev pub number_at : List ℤ → ℕ → ℤ
+number_at numbers x = slice_index_or numbers x (pos 0)
+
+-- the numbers of a list fit sixteen bits
+abbrev pub AreWords : List ℤ → Type 0
+AreWords numbers = (x : ℕ) → x < length numbers → FitsSigned w16 (number_at numbers x)
+
+-- sixteen times a value, and the weighted errors above it
+abbrev pub weighted : ℕ → ℤ → ℤ → ℤ → ℤ
+weighted value above_right above above_left =
+    (pos (16 * value)) +ℤ (pos 3 *ℤ above_right) +ℤ (pos 5 *ℤ above) +ℤ above_left
+
+-- what pixel x begins with; the errors above it stand one place later
+abbrev pub sum_above : List ℕ → List ℤ → ℕ → ℤ
+sum_above values errors x =
+    weighted (slice_index values x) (number_at errors (x + 2)) (number_at errors (x + 1)) (number_at errors x)
+
+-- v of a pixel, from what it begins with and the error to its left
+abbrev pub v_of : ℤ → ℤ → ℤ
+v_of sum left = int_div_euclid (sum +ℤ (pos 7 *ℤ left)) (pos 16)
+
+-- v of pixel x, where the numbers v of the pixels before it stand
+abbrev pub v_from : List ℤ → List ℤ → ℕ → ℤ
+v_from sums vs x = v_of (number_at sums x) (left_of (λ k. error_of (number_at vs k)) x)

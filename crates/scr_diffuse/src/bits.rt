@@ -1,0 +1,72 @@
+// Packed pixels from the numbers v of a row: whole bytes by eight compares at a time, the ragged ends apart.
+ghost use Rattle.std.specs.Prelude.{◌≡◌, ℕ, ◌+◌, ◌*◌, ◌^◌, ◌<◌, ◌≤◌, ◌≢◌, ◌%◌, length};
+ghost use Rattle.pr_base.specs.Bits.{bit_at, byte_bit, SetsBits};
+ghost use Rattle.scr_diffuse.specs.Diffusion.{prints};
+ghost use Rattle.scr_diffuse.specs.Passes.{AreWords, number_at};
+
+use std::simd::prelude::*;
+
+/// The least number that prints.
+const MIDDLE: i16 = 128;
+
+/// Sets the pixels from `from` on, each where its number prints: first those up to a whole byte, then whole
+/// bytes, then the rest.
+pub(crate) fn set_row(numbers: &[i16], bits: &mut [u8], from: u32)
+    requires room { from + length numbers.now ≤ 8 * length bits.old }
+    requires range { AreWords numbers.now }
+    ensures { SetsBits (λ x. prints (number_at numbers.now x)) from (length numbers.now) bits.old bits.new }
+{
+    let from = from as usize;
+    let ragged = ((8 - from % 8) % 8).min(numbers.len());
+    let done = ragged + (numbers.len() - ragged) / 8 * 8;
+    set_bits(&numbers[..ragged], bits, from);
+    set_bytes(&numbers[ragged..done], bits, (from + ragged) / 8);
+    set_bits(&numbers[done..], bits, from + done);
+}
+
+/// Sets the pixels from `from` on one by one.
+fn set_bits(numbers: &[i16], bits: &mut [u8], from: usize)
+    requires room { from + length numbers.now ≤ 8 * length bits.old }
+    requires fits { from + length numbers.now < 2 ^ 64 }
+    ensures { SetsBits (λ x. prints (number_at numbers.now x)) from (length numbers.now) bits.old bits.new }
+{
+    for x in 0..numbers.len() {
+        set_bit(bits, from + x, numbers[x] >= MIDDLE);
+    }
+}
+
+/// Sets pixel `place`, or clears it.
+fn set_bit(bits: &mut [u8], place: usize, on: bool)
+    requires { place < 8 * length bits.old }
+    ensures here { bit_at bits.new place ≡ on }
+    ensures elsewhere { (k : ℕ) → k ≢ place → bit_at bits.new k ≡ bit_at bits.old k }
+{
+    let mask = 1u8 << (7 - place % 8);
+    if on {
+        bits[place / 8] |= mask;
+    } else {
+        bits[place / 8] &= !mask;
+    }
+}
+
+/// Sets the pixels of whole bytes, from byte `first` on.
+fn set_bytes(numbers: &[i16], bits: &mut [u8], first: usize)
+    requires whole { length numbers.now % 8 ≡ 0 }
+    requires room { 8 * first + length numbers.now ≤ 8 * length bits.old }
+    requires range { AreWords numbers.now }
+    ensures { SetsBits (λ x. prints (number_at numbers.now x)) (8 * first) (length numbers.now) bits.old bits.new }
+{
+    for j in 0..numbers.len() / 8 {
+        bits[first + j] = byte_of(&numbers[8 * j..8 * j + 8]);
+    }
+}
+
+/// Eight pixels, the first as the highest bit.
+fn byte_of(numbers: &[i16]) -> u8
+    requires whole { length numbers.now ≡ 8 }
+    requires range { AreWords numbers.now }
+    ensures { (x : ℕ) → x < 8 → byte_bit result x ≡ prints (number_at numbers.now x) }
+{
+    let lanes = i16x8::from_slice(numbers).reverse();
+    lanes.simd_ge(i16x8::splat(MIDDLE)).to_bitmask() as u8
+}

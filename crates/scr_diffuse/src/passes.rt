@@ -1,0 +1,66 @@
+// The passes over a row's numbers: what comes from the row above, what comes from the left, and the errors.
+ghost use Rattle.std.specs.Prelude.{◌≡◌, ℕ, ◌+◌, ◌<◌, ◌≤◌, ◌≤ℤ◌, length, pos, neg_ℤ};
+ghost use Rattle.scr_diffuse.specs.Diffusion.{error_of};
+ghost use Rattle.scr_diffuse.specs.Passes.{AreWords, IsError, number_at, sum_above, v_from, v_of, weighted};
+
+/// What a dot takes from the number of its pixel.
+const DOT: i32 = 255;
+
+/// The least number that prints.
+const MIDDLE: i32 = 128;
+
+/// Makes of the errors of the row above, with a margin of one place, what each pixel of a row begins with: sixteen
+/// times its value and the weighted errors above it. No sum waits for another, so many are made at a time.
+pub(crate) fn add_above(values: &[u8], errors: &mut [i16])
+    requires room { length errors.old ≡ length values.now + 2 }
+    requires errors { (k : ℕ) → IsError (number_at errors.old k) }
+    ensures sums { (x : ℕ) → x < length values.now → number_at errors.new x ≡ sum_above values.now errors.old x }
+    ensures rest { (k : ℕ) → length values.now ≤ k → number_at errors.new k ≡ number_at errors.old k }
+{
+    for x in 0..values.len() {
+        errors[x] = sum_of(values[x], errors[x + 2], errors[x + 1], errors[x]);
+    }
+}
+
+/// What a pixel begins with, from its value and the errors above it.
+fn sum_of(value: u8, above_right: i16, above: i16, above_left: i16) -> i16
+    requires right { IsError above_right }
+    requires here { IsError above }
+    requires left { IsError above_left }
+    ensures { result ≡ weighted value above_right above above_left }
+{
+    16 * i16::from(value) + 3 * above_right + 5 * above + above_left
+}
+
+/// Makes of what each pixel begins with its number v, from left to right: each waits for the error before it.
+pub(crate) fn add_left(sums: &mut [i16])
+    ensures numbers { (x : ℕ) → x < length sums.old → number_at sums.new x ≡ v_from sums.old sums.new x }
+    ensures range { AreWords sums.new }
+{
+    let mut left = 0;
+    for sum in sums.iter_mut() {
+        let v = number_of(*sum, left);
+        left = without_dot(v);
+        *sum = v as i16;
+    }
+}
+
+/// The number v of a pixel, from what it begins with and the error to its left.
+fn number_of(sum: i16, left: i32) -> i32
+    requires low { neg_ℤ (pos 4096) ≤ℤ left }
+    requires high { left ≤ℤ pos 4096 }
+    ensures number { result ≡ v_of sum left }
+    ensures low { neg_ℤ (pos 3840) ≤ℤ result }
+    ensures high { result ≤ℤ pos 3840 }
+{
+    (i32::from(sum) + 7 * left) >> 4
+}
+
+/// The error of a pixel whose number is v.
+fn without_dot(v: i32) -> i32
+    requires low { neg_ℤ (pos 3840) ≤ℤ v }
+    requires high { v ≤ℤ pos 3840 }
+    ensures { result ≡ error_of v }
+{
+    if v >= MIDDLE { v - DOT } else { v }
+}
