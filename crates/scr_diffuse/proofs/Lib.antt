@@ -2,3 +2,4 @@ pub mod BitLemmas
 pub mod ByteLemmas
 pub mod NumberLemmas
 pub mod SpanLemmas
+pub mod StepLemmas

@@ -4,10 +4,8 @@ ghost use Rattle.pr_base.specs.Bits.{bit_at, byte_bit, SetsBits};
 ghost use Rattle.scr_diffuse.specs.Diffusion.{prints};
 ghost use Rattle.scr_diffuse.specs.Passes.{AreWords, number_at};
 
+use crate::passes::MIDDLE;
 use std::simd::prelude::*;
-
-/// The least number that prints.
-const MIDDLE: i16 = 128;
 
 /// Sets the pixels from `from` on, each where its number prints: first those up to a whole byte, then whole
 /// bytes, then the rest.

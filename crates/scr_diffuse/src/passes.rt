@@ -1,13 +1,13 @@
 // The passes over a row's numbers: what comes from the row above, what comes from the left, and the errors.
-ghost use Rattle.std.specs.Prelude.{◌≡◌, ℕ, ◌+◌, ◌<◌, ◌≤◌, ◌≤ℤ◌, length, pos, neg_ℤ};
+ghost use Rattle.std.specs.Prelude.{◌≡◌, ℕ, ◌+◌, ◌-◌, ◌<◌, ◌≤◌, ◌≤ℤ◌, length, pos, neg_ℤ};
 ghost use Rattle.scr_diffuse.specs.Diffusion.{error_of};
 ghost use Rattle.scr_diffuse.specs.Passes.{AreWords, IsError, number_at, sum_above, v_from, v_of, weighted};
 
 /// What a dot takes from the number of its pixel.
-const DOT: i32 = 255;
+const DOT: i16 = 255;
 
 /// The least number that prints.
-const MIDDLE: i32 = 128;
+pub(crate) const MIDDLE: i16 = 128;
 
 /// Makes of the errors of the row above, with a margin of one place, what each pixel of a row begins with: sixteen
 /// times its value and the weighted errors above it. No sum waits for another, so many are made at a time.
@@ -62,5 +62,26 @@ fn without_dot(v: i32) -> i32
     requires high { v ≤ℤ pos 3840 }
     ensures { result ≡ error_of v }
 {
-    if v >= MIDDLE { v - DOT } else { v }
+    if v >= MIDDLE as i32 {
+        v - DOT as i32
+    } else {
+        v
+    }
+}
+
+/// Makes of the numbers v of a row, behind which two places stand, its errors with a margin of one place.
+pub(crate) fn keep_errors(numbers: &mut [i16])
+    requires { 2 ≤ length numbers.old }
+    ensures margin { number_at numbers.new 0 ≡ pos 0 }
+    ensures errors { (x : ℕ) → x + 2 < length numbers.old → number_at numbers.new (x + 1) ≡ error_of (number_at numbers.old x) }
+    ensures last { number_at numbers.new (length numbers.old - 1) ≡ error_of (number_at numbers.old (length numbers.old - 1)) }
+{
+    let end = numbers.len() - 2;
+    numbers.copy_within(0..end, 1);
+    numbers[0] = 0;
+    for number in numbers.iter_mut() {
+        if *number >= MIDDLE {
+            *number -= DOT;
+        }
+    }
 }

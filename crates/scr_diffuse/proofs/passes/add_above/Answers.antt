@@ -1,8 +1,21 @@
-use Rattle.std.proofs.Common.{rules, ◌≡◌, ℕ, ◌+◌, ◌<◌, ◌≤◌, ◌≤ℤ◌, length, pos, neg_ℤ, ◌-◌, ◌*◌, ◌/◌, ◌%◌, Bool, true, false, nat_eq, nat_lt, List, [], ◌∷◌, ◌++◌, slice_index_or, slice_set, bit_and, bit_or, Fits, w8, w32, w64, Bor, MutBor, ℤ, ◌+ℤ◌, ◌-ℤ◌, ◌*ℤ◌, ◌<ℤ◌, FitsSigned, to_z, of_z}
-use Rattle.scr_diffuse.specs.Diffusion.{error_of}
-use Rattle.scr_diffuse.specs.Passes.{AreWords, IsError, number_at, sum_above, v_from, v_of, weighted}
+-- One sum more; the errors that it reads stand as they were.
+use Rattle.std.proofs.Common.{◌≡◌, ◌+◌, ◌∙◌, ℤ, to_z, of_z, w16, ap, arith, below_more}
+use Rattle.std.proofs.lemmas.Int.{ints, to_z-of_z}
+use Rattle.scr_diffuse.specs.Passes.{IsError, number_at, sum_above}
+use Rattle.scr_diffuse.proofs.StepLemmas.{written, unwritten}
 use Rattle.scr_diffuse.proofs.passes.add_above.Goals as goal
 
--- src/passes.rt:20:5
 pub loop-x-preserved : goal.loop-x-preserved
-loop-x-preserved c = ?
+loop-x-preserved c =
+    let x = c.loop-x.x in
+    let errors = c.args.errors.now in
+    let right : number_at c.loop-x.errors (x + 2) ≡ number_at errors (x + 2) = c.loop-x.invariant.1 (x + 2) (omega arith) in
+    let here : number_at c.loop-x.errors (x + 1) ≡ number_at errors (x + 1) = c.loop-x.invariant.1 (x + 1) (omega arith) in
+    let left : number_at c.loop-x.errors x ≡ number_at errors x = c.loop-x.invariant.1 x (omega arith) in
+    let right_error : IsError (number_at errors (x + 2)) = c.requires.errors (x + 2) in
+    let here_error : IsError (number_at errors (x + 1)) = c.requires.errors (x + 1) in
+    let left_error : IsError (number_at errors x) = c.requires.errors x in
+    let sum : to_z w16 (of_z w16 c.sum_of.result) ≡ sum_above c.args.values.now errors x = omega (arith, ints) in
+    (below_more _ _ (λ k below. unwritten c.loop-x.errors x k _ (λ e. absurd (omega arith)) ∙ c.loop-x.invariant.0 k below)
+    (written c.loop-x.errors x _ (omega arith) ∙ sum),
+    λ k above. unwritten c.loop-x.errors x k _ (λ e. absurd (omega arith)) ∙ c.loop-x.invariant.1 k (omega arith))
