@@ -3,3 +3,4 @@ pub mod ByteLemmas
 pub mod NumberLemmas
 pub mod SpanLemmas
 pub mod StepLemmas
+pub mod Walks

@@ -3,4 +3,5 @@
 #![tactic(auto)]
 
 mod bits;
+mod history;
 mod passes;
