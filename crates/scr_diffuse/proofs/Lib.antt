@@ -1,6 +1,9 @@
 pub mod BitLemmas
 pub mod ByteLemmas
+pub mod DiffusionLemmas
 pub mod NumberLemmas
+pub mod RowLemmas
 pub mod SpanLemmas
+pub mod StandLemmas
 pub mod StepLemmas
 pub mod Walks

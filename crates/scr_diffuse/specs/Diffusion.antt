@@ -1,7 +1,11 @@
 -- Error diffusion (Floyd and Steinberg 1976) over a page, a list of rows of values from 0, no ink, to 255.
-use Rattle.std.specs.Prelude.{ℕ, zero, suc, ◌+◌, ◌*◌, ℤ, pos, ◌+ℤ◌, ◌-ℤ◌, ◌*ℤ◌, Bool, if◌then◌else◌, nat_lt, List, [], length, slice_index, slice_index_or}
+use Rattle.std.specs.Prelude.{ℕ, zero, suc, ◌+◌, ◌*◌, ◌≤◌, ℤ, pos, ◌+ℤ◌, ◌-ℤ◌, ◌*ℤ◌, ◌≤ℤ◌, neg_ℤ, Bool, if◌then◌else◌, nat_lt, List, [], length, slice_index, slice_index_or}
 use Rattle.std.specs.Int.{int_div_euclid}
 use Rattle.std.specs.Int.Signed.{le_z}
+
+-- the values of a page are bytes
+abbrev pub ArePixels : List (List ℕ) → Type 0
+ArePixels rows = (x y : ℕ) → slice_index (slice_index_or rows y []) x ≤ 255
 
 -- v of a pixel, from its value and the errors of four neighbours: a sixteenth of the weighted sum, rounded down
 abbrev pub corrected : ℕ → ℤ → ℤ → ℤ → ℤ → ℤ
@@ -16,6 +20,11 @@ prints v = le_z (pos 128) v
 abbrev pub error_of : ℤ → ℤ
 error_of v = (if prints v then (v -ℤ pos 255) else v)
 
+-- the errors that are met lie between these two
+pub record IsError (e : ℤ) : Type 0 where
+  pub low : (neg_ℤ (pos 127)) ≤ℤ e
+  pub high : e ≤ℤ pos 127
+
 -- what stands one column to the left, 0 left of the page
 abbrev pub left_of : (ℕ → ℤ) → ℕ → ℤ
 left_of errors zero = pos 0
@@ -29,6 +38,10 @@ v_in above row left x = corrected (slice_index row x) left (above (x + 1)) (abov
 unfoldable pub error_left : (ℕ → ℤ) → List ℕ → ℕ → ℤ
 error_left above row zero = pos 0
 error_left above row (suc x) = (if nat_lt x (length row) then error_of (v_in above row (error_left above row x) x) else pos 0)
+
+-- v in column x of a row of values, below a row with these errors
+abbrev pub v_below : (ℕ → ℤ) → List ℕ → ℕ → ℤ
+v_below above row x = v_in above row (error_left above row x) x
 
 -- the error in column x of the row above row y; 0 outside the page
 unfoldable pub error_above : List (List ℕ) → ℕ → ℕ → ℤ

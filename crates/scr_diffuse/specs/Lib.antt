@@ -1,2 +1,3 @@
+pub mod Diffuser
 pub mod Diffusion
 pub mod Passes

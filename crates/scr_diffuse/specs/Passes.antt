@@ -1,12 +1,7 @@
 -- What the passes over a row make of its numbers.
-use Rattle.std.specs.Prelude.{ℕ, ◌*◌, ◌+◌, ◌<◌, ℤ, pos, ◌+ℤ◌, ◌*ℤ◌, ◌≤ℤ◌, neg_ℤ, FitsSigned, List, length, slice_index, slice_index_or}
+use Rattle.std.specs.Prelude.{ℕ, ◌*◌, ◌+◌, ◌<◌, ℤ, pos, ◌+ℤ◌, ◌*ℤ◌, FitsSigned, List, length, slice_index, slice_index_or}
 use Rattle.std.specs.Int.{int_div_euclid, w16}
 use Rattle.scr_diffuse.specs.Diffusion.{left_of, error_of}
-
--- an error lies between these two
-pub record IsError (e : ℤ) : Type 0 where
-  pub low : (neg_ℤ (pos 127)) ≤ℤ e
-  pub high : e ≤ℤ pos 127
 
 -- the number that stands at a place, 0 past the end
 abbrev pub number_at : List ℤ → ℕ → ℤ
@@ -15,6 +10,10 @@ number_at numbers x = slice_index_or numbers x (pos 0)
 -- the numbers of a list fit sixteen bits
 abbrev pub AreWords : List ℤ → Type 0
 AreWords numbers = (x : ℕ) → x < length numbers → FitsSigned w16 (number_at numbers x)
+
+-- the errors of a row that stand in a list with a margin of one place
+abbrev pub errors_in : List ℤ → ℕ → ℤ
+errors_in errors x = number_at errors (x + 1)
 
 -- sixteen times a value, and the weighted errors above it
 abbrev pub weighted : ℕ → ℤ → ℤ → ℤ → ℤ

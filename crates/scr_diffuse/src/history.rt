@@ -15,6 +15,7 @@ impl Model for History {
 }
 
 /// A row that is handed in.
+#[derive(Drop)]
 pub(crate) struct Row<'a> {
     pub values: &'a [u8],
 }

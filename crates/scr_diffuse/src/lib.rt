@@ -3,5 +3,11 @@
 #![tactic(auto)]
 
 mod bits;
+mod diffuser;
 mod history;
+mod laws;
 mod passes;
+mod row;
+
+pub use diffuser::Diffuser;
+pub use laws::{error_law, row_law};

@@ -1,7 +1,7 @@
 // The passes over a row's numbers: what comes from the row above, what comes from the left, and the errors.
 ghost use Rattle.std.specs.Prelude.{◌≡◌, ℕ, ◌+◌, ◌-◌, ◌<◌, ◌≤◌, ◌≤ℤ◌, length, pos, neg_ℤ};
-ghost use Rattle.scr_diffuse.specs.Diffusion.{error_of};
-ghost use Rattle.scr_diffuse.specs.Passes.{AreWords, IsError, number_at, sum_above, v_from, v_of, weighted};
+ghost use Rattle.scr_diffuse.specs.Diffusion.{error_of, IsError};
+ghost use Rattle.scr_diffuse.specs.Passes.{AreWords, number_at, sum_above, v_from, v_of, weighted};
 
 /// What a dot takes from the number of its pixel.
 const DOT: i16 = 255;

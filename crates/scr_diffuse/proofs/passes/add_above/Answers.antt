@@ -1,7 +1,8 @@
 -- One sum more; the errors that it reads stand as they were.
 use Rattle.std.proofs.Common.{◌≡◌, ◌+◌, ◌∙◌, ℤ, to_z, of_z, w16, ap, arith, below_more}
 use Rattle.std.proofs.lemmas.Int.{ints, to_z-of_z}
-use Rattle.scr_diffuse.specs.Passes.{IsError, number_at, sum_above}
+use Rattle.scr_diffuse.specs.Diffusion.{IsError}
+use Rattle.scr_diffuse.specs.Passes.{number_at, sum_above}
 use Rattle.scr_diffuse.proofs.StepLemmas.{written, unwritten}
 use Rattle.scr_diffuse.proofs.passes.add_above.Goals as goal
 

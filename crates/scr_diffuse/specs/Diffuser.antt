@@ -1,0 +1,17 @@
+-- What a diffuser shows, and what it keeps.
+use Rattle.std.specs.Prelude.{◌≡◌, ℕ, ◌+◌, ◌-◌, ℤ, pos, List, length}
+use Rattle.scr_diffuse.specs.Diffusion.{error_above, left_of, IsError}
+use Rattle.scr_diffuse.specs.Passes.{number_at}
+
+-- the front of a page: its width, and its first rows of values
+pub record PageFront : Type 0 where
+  pub width : ℕ
+  pub rows : List (List ℕ)
+
+-- a list holds the errors of the last of these rows, which are 0 before the first row, with a margin of one place on both
+-- sides; each is small enough for the sums that are made of it
+pub record StandBelow (rows : List (List ℕ)) (errors : List ℤ) : Type 0 where
+  pub room : (width : ℕ) × (length errors ≡ width + 2)
+  pub margined : (k : ℕ) → number_at errors k ≡ left_of (λ x. error_above rows x (length rows)) k
+  pub right : number_at errors (length errors - 1) ≡ pos 0
+  pub small : (k : ℕ) → IsError (number_at errors k)

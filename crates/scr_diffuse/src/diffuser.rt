@@ -1,0 +1,64 @@
+// Error diffusion from one row of a page to the next.
+ghost use Rattle.std.specs.Prelude.{◌≡◌, ℕ, ◌+◌, ◌*◌, ◌<◌, ◌≤◌, IfOk, [], ◌∷◌, ◌++◌, length};
+ghost use Rattle.pr_base.specs.Bits.{bit_at};
+ghost use Rattle.scr_diffuse.specs.Diffusion.{diffused_bit};
+
+use crate::history::{History, Row};
+use crate::row::{clear, diffuse_row};
+use pr_base::NoMemory;
+use std::alloc::Global;
+use std::marker::Model;
+
+/// Stands at a row of a page, and holds the errors of the row above. Contracts see the front of the page: its width in
+/// pixels, and the rows of values that were handed in since the start or `restart`.
+#[derive(Debug, Drop)]
+pub struct Diffuser {
+    /// The error of pixel x of the row above stands at x + 1, between two places that hold 0.
+    errors: Vec<i16>,
+    rows: History,
+}
+
+impl Model for Diffuser {
+    ghost use Rattle.std.specs.Prelude.{◌-◌, length};
+    ghost use Rattle.scr_diffuse.specs.Diffuser.{PageFront, StandBelow};
+
+    ghost Value = { PageFront };
+
+    ghost view = { λ d. record { width = length d.errors.items - 2; rows = d.rows.rows } };
+
+    ghost invariant = { λ d. StandBelow d.rows.rows d.errors.items };
+}
+
+impl Diffuser {
+    /// Stands before row 0 of a page of `width` pixels a row.
+    pub fn new(alloc: Global, width: u32) -> Result<Diffuser, NoMemory>
+        ensures { IfOk result (λ diffuser. diffuser ≡ record { width = width; rows = [] }) }
+    {
+        Ok(Diffuser {
+            errors: vec![in alloc; 0; width as usize + 2]?,
+            rows: History::new(),
+        })
+    }
+
+    /// Goes back before row 0, of the same page or of another one of this width.
+    pub fn restart(&mut self)
+        ensures { self.new ≡ record self.old { rows = [] } }
+    {
+        clear(&mut self.errors[..]);
+        self.rows = History::new();
+    }
+
+    /// Writes the next row: pixel `from + x` of `bits` is set where the diffusion prints value `x`.
+    pub fn row(&mut self, values: &[u8], bits: &mut [u8], from: u32)
+        requires width { length values.now ≡ self.old.width }
+        requires room { from + self.old.width ≤ 8 * length bits.old }
+        ensures drawn { (x : ℕ) → x < self.old.width →
+            bit_at bits.new (from + x) ≡ diffused_bit (self.old.rows ++ values.now ∷ []) x (length self.old.rows) }
+        ensures before { (k : ℕ) → k < from → bit_at bits.new k ≡ bit_at bits.old k }
+        ensures behind { (k : ℕ) → from + self.old.width ≤ k → bit_at bits.new k ≡ bit_at bits.old k }
+        ensures page { self.new ≡ record self.old { rows = self.old.rows ++ values.now ∷ [] } }
+    {
+        diffuse_row(values, &mut self.errors[..], bits, from);
+        self.rows = self.rows.then(&Row { values });
+    }
+}
