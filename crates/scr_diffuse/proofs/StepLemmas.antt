@@ -36,14 +36,8 @@ abbrev pub KeptTo : ℕ → List ℤ → List ℤ → Type 0
 KeptTo i old now =
     ((k : ℕ) → k < i → number_at now k ≡ error_of (number_at old k)) × ((k : ℕ) → i ≤ k → number_at now k ≡ number_at old k)
 
-pub KeptTo-more : (i : ℕ) (old now new : List ℤ) (e : ℤ) → i < length now → KeptTo i old now → new ≡ slice_set now i e → e ≡ error_of (number_at now i) → KeptTo (i + 1) old new
-KeptTo-more i old now new e within kept made error = rw made
+pub KeptTo-more : (i : ℕ) (old now : List ℤ) (e : ℤ) → i < length now → KeptTo i old now → e ≡ error_of (number_at now i) → KeptTo (i + 1) old (slice_set now i e)
+KeptTo-more i old now e within kept error =
     (below_more _ _ (λ k below. unwritten now i k e (λ h. absurd (omega arith)) ∙ kept.0 k below)
     (written now i e within ∙ error ∙ ap error_of (kept.1 i (omega arith))),
     λ k above. unwritten now i k e (λ h. absurd (omega arith)) ∙ kept.1 k (omega arith))
-
-pub with_dot : (v : ℤ) → le_z (pos 128) v ≡ true → v -ℤ pos 255 ≡ error_of v
-with_dot v on = sym (ap (λ b. cond b (v -ℤ pos 255) v) on)
-
-pub no_dot : (v : ℤ) → le_z (pos 128) v ≡ false → v ≡ error_of v
-no_dot v off = sym (ap (λ b. cond b (v -ℤ pos 255) v) off)

@@ -11,3 +11,6 @@ mod row;
 
 pub use diffuser::Diffuser;
 pub use laws::{error_law, row_law};
+
+#[cfg(test)]
+mod tests;

@@ -80,8 +80,13 @@ pub(crate) fn keep_errors(numbers: &mut [i16])
     numbers.copy_within(0..end, 1);
     numbers[0] = 0;
     for number in numbers.iter_mut() {
-        if *number >= MIDDLE {
-            *number -= DOT;
-        }
+        *number = error_from(*number);
     }
+}
+
+/// The error of a pixel whose number is v. Both ways write, so that no branch is taken.
+fn error_from(v: i16) -> i16
+    ensures { result ≡ error_of v }
+{
+    if v >= MIDDLE { v - DOT } else { v }
 }
