@@ -24,13 +24,6 @@ pub v_from-same : (sums numbers : List ℤ) (i k : ℕ) (v : ℤ) → k ≤ i �
 v_from-same sums numbers i k v within =
     ap (v_of (number_at sums k)) (left-same _ _ k (λ j below. ap error_of (sym (unwritten numbers i j v (λ e. absurd (omega arith))))))
 
--- an error is little further from 0 than its number
-pub error_of-low : (v : ℤ) → neg_ℤ (pos 3840) ≤ℤ v → neg_ℤ (pos 4096) ≤ℤ error_of v
-error_of-low v low = grind (arith, ints)
-
-pub error_of-high : (v : ℤ) → v ≤ℤ pos 3840 → error_of v ≤ℤ pos 4096
-error_of-high v high = grind (arith, ints)
-
 -- the first i numbers of a list have become their errors
 abbrev pub KeptTo : ℕ → List ℤ → List ℤ → Type 0
 KeptTo i old now =

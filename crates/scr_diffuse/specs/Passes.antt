@@ -1,5 +1,5 @@
 -- What the passes over a row make of its numbers.
-use Rattle.std.specs.Prelude.{ℕ, ◌*◌, ◌+◌, ◌<◌, ℤ, pos, ◌+ℤ◌, ◌*ℤ◌, FitsSigned, List, length, slice_index, slice_index_or}
+use Rattle.std.specs.Prelude.{ℕ, ◌*◌, ◌+◌, ◌<◌, ℤ, pos, ◌+ℤ◌, ◌*ℤ◌, ◌≤ℤ◌, neg_ℤ, FitsSigned, List, length, slice_index, slice_index_or}
 use Rattle.std.specs.Int.{int_div_euclid, w16}
 use Rattle.scr_diffuse.specs.Diffusion.{left_of, error_of}
 
@@ -10,6 +10,11 @@ number_at numbers x = slice_index_or numbers x (pos 0)
 -- the numbers of a list fit sixteen bits
 abbrev pub AreWords : List ℤ → Type 0
 AreWords numbers = (x : ℕ) → x < length numbers → FitsSigned w16 (number_at numbers x)
+
+-- the numbers v of sums that fit sixteen bits stay between these two
+pub record IsNumber (v : ℤ) : Type 0 where
+  pub low : (neg_ℤ (pos 3840)) ≤ℤ v
+  pub high : v ≤ℤ pos 3840
 
 -- the errors of a row that stand in a list with a margin of one place
 abbrev pub errors_in : List ℤ → ℕ → ℤ

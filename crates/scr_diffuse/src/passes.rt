@@ -1,7 +1,8 @@
 // The passes over a row's numbers: what comes from the row above, what comes from the left, and the errors.
-ghost use Rattle.std.specs.Prelude.{◌≡◌, ℕ, ◌+◌, ◌-◌, ◌<◌, ◌≤◌, ◌≤ℤ◌, length, pos, neg_ℤ};
+ghost use Rattle.std.specs.Prelude.{◌≡◌, ℕ, ◌+◌, ◌-◌, ◌<◌, ◌≤◌, ◌≤ℤ◌, ◌+ℤ◌, ◌-ℤ◌, ◌*ℤ◌, length, pos, FitsSigned};
+ghost use Rattle.std.specs.Int.{w16};
 ghost use Rattle.scr_diffuse.specs.Diffusion.{error_of, IsError};
-ghost use Rattle.scr_diffuse.specs.Passes.{AreWords, number_at, sum_above, v_from, v_of, weighted};
+ghost use Rattle.scr_diffuse.specs.Passes.{AreWords, IsNumber, number_at, sum_above, v_from, v_of, weighted};
 
 /// What a dot takes from the number of its pixel.
 const DOT: i16 = 255;
@@ -32,40 +33,40 @@ fn sum_of(value: u8, above_right: i16, above: i16, above_left: i16) -> i16
     16 * i16::from(value) + 3 * above_right + 5 * above + above_left
 }
 
-/// Makes of what each pixel begins with its number v, from left to right: each waits for the error before it.
+/// Makes of what each pixel begins with its number v, from left to right: each waits for the number before it.
 pub(crate) fn add_left(sums: &mut [i16])
     ensures numbers { (x : ℕ) → x < length sums.old → number_at sums.new x ≡ v_from sums.old sums.new x }
     ensures range { AreWords sums.new }
 {
-    let mut left = 0;
+    let mut before = 0;
     for sum in sums.iter_mut() {
-        let v = number_of(*sum, left);
-        left = without_dot(v);
-        *sum = v as i16;
+        before = number_after(i32::from(*sum), before);
+        *sum = before as i16;
     }
 }
 
-/// The number v of a pixel, from what it begins with and the error to its left.
-fn number_of(sum: i16, left: i32) -> i32
-    requires low { neg_ℤ (pos 4096) ≤ℤ left }
-    requires high { left ≤ℤ pos 4096 }
-    ensures number { result ≡ v_of sum left }
-    ensures low { neg_ℤ (pos 3840) ≤ℤ result }
-    ensures high { result ≤ℤ pos 3840 }
+/// The number v of a pixel, from what it begins with and the number of the pixel before it. What waits for that number
+/// is kept short: its dot is taken from the sum while it is multiplied.
+fn number_after(sum: i32, before: i32) -> i32
+    requires word { FitsSigned w16 sum }
+    requires small { IsNumber before }
+    ensures number { result ≡ v_of sum (error_of before) }
+    ensures small { IsNumber result }
 {
-    (i32::from(sum) + 7 * left) >> 4
+    (less_dot(sum, before) + 7 * before) >> 4
 }
 
-/// The error of a pixel whose number is v.
-fn without_dot(v: i32) -> i32
-    requires low { neg_ℤ (pos 3840) ≤ℤ v }
-    requires high { v ≤ℤ pos 3840 }
-    ensures { result ≡ error_of v }
+/// What a pixel begins with, less what the dot before it takes away.
+fn less_dot(sum: i32, before: i32) -> i32
+    requires { FitsSigned w16 sum }
+    ensures dot { (result +ℤ (pos 7 *ℤ before)) ≡ (sum +ℤ (pos 7 *ℤ error_of before)) }
+    ensures low { (sum -ℤ pos 1785) ≤ℤ result }
+    ensures high { result ≤ℤ sum }
 {
-    if v >= MIDDLE as i32 {
-        v - DOT as i32
+    if before >= MIDDLE as i32 {
+        sum - 7 * DOT as i32
     } else {
-        v
+        sum
     }
 }
 
