@@ -1,5 +1,5 @@
 -- Eight compares in one byte, of which the first is the highest bit.
-use Rattle.std.proofs.Common.{◌≡◌, ℕ, ◌+◌, ◌-◌, ◌/◌, ◌%◌, ◌^◌, ◌<◌, Bool, true, false, cond, ℤ, pos, FitsSigned, to_z, of_z, List, ◌++◌, length, take, map, eqb, get_or, refl, ap, sym, subst, ◌∙◌, arith, w16}
+use Rattle.std.proofs.Common.{◌≡◌, ℕ, ◌-◌, ◌/◌, ◌%◌, ◌^◌, ◌<◌, Bool, true, false, cond, ℤ, pos, FitsSigned, to_z, of_z, List, ◌++◌, length, take, map, eqb, get_or, refl, ap, sym, subst, ◌∙◌, arith, w16}
 use Rattle.std.specs.Int.Signed.{le_z}
 use Rattle.std.specs.List.{range_with_len}
 use Rattle.std.proofs.lemmas.Int.{to_z-of_z}

@@ -7,7 +7,7 @@ use Rattle.std.proofs.lemmas.Int.{ints}
 use Rattle.std.proofs.Math.Path.{fun_ext}
 use Rattle.std.proofs.Math.Seq.{get_or-append_seam}
 use Rattle.std.proofs.lemmas.List.{get_or_append_left}
-use Rattle.scr_diffuse.specs.Diffusion.{corrected, error_of, error_left, error_above, error_at, left_of, v_in, v_below, v_at, diffused_bit, IsError}
+use Rattle.scr_diffuse.specs.Diffusion.{corrected, error_of, error_left, error_above, left_of, v_below, v_at, IsError}
 
 -- the error right of a pixel's left edge is that of the pixel
 pub error-inside : (above : ℕ → ℤ) (row : List ℕ) (x : ℕ) → x < length row → error_left above row (suc x) ≡ error_of (v_below above row x)

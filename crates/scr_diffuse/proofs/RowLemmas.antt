@@ -1,5 +1,5 @@
 -- A row's numbers and errors, as the passes make them, are those that are defined.
-use Rattle.std.proofs.Common.{◌≡◌, ℕ, zero, suc, ◌+◌, ◌-◌, ◌*◌, ◌<◌, ◌≤◌, ℤ, pos, ◌+ℤ◌, ◌*ℤ◌, inl, inr, List, ◌++◌, length, take, drop, get_or, refl, ap, sym, ◌∙◌, arith, add-one}
+use Rattle.std.proofs.Common.{◌≡◌, ℕ, zero, suc, ◌+◌, ◌-◌, ◌<◌, ◌≤◌, ℤ, pos, inl, inr, List, ◌++◌, length, take, drop, get_or, refl, ap, sym, ◌∙◌, arith, add-one}
 use Rattle.std.specs.Int.{int_div_euclid}
 use Rattle.std.proofs.lemmas.Bool.{cases_eq, cases_lt}
 use Rattle.std.proofs.lemmas.Int.{ints}
@@ -18,9 +18,8 @@ corrected-is : (value : ℕ) (left above_right above above_left : ℤ) → v_of 
 corrected-is value left above_right above above_left = ap (λ z. int_div_euclid z (pos 16)) (omega (arith, ints))
 
 module _ (values : List ℕ) (errors sums numbers : List ℤ) (margin : number_at errors 0 ≡ pos 0)
-  (summed : (x : ℕ) → x < length values → number_at sums x ≡ sum_above values errors x)
-  (numbered : (x : ℕ) → x < length values → number_at numbers x ≡ v_from sums numbers x) where
-
+    (summed : (x : ℕ) → x < length values → number_at sums x ≡ sum_above values errors x)
+    (numbered : (x : ℕ) → x < length values → number_at numbers x ≡ v_from sums numbers x) where
   number_is : (x : ℕ) → x < length values → left_of (λ k. error_of (number_at numbers k)) x ≡ error_left (errors_in errors) values x → number_at numbers x ≡ v_below (errors_in errors) values x
   number_is x within left =
       let next : x + 2 ≡ x + 1 + 1 = omega arith in
@@ -51,11 +50,11 @@ kept_are above values old new size same numbered right margin kept last (suc x) 
     elim (cases_lt x (length values)) [
       | inl inside ↦ ap (number_at new) next ∙ kept x (omega arith) ∙ ap error_of (numbered x inside) ∙ sym (error-inside above values x inside)
       | inr outside ↦ elim (cases_eq x (length values)) [
-          | inl here ↦
-              let place : suc x ≡ length old - 1 = omega arith in
-              ap (number_at new) place ∙ last ∙ ap error_of (ap (number_at old) end ∙ right) ∙ sym (error-outside above values x outside)
-          | inr behind ↦ get_or_past new (suc x) (pos 0) (omega arith) ∙ sym (error-outside above values x outside)
-        ]
+        | inl here ↦
+            let place : suc x ≡ length old - 1 = omega arith in
+            ap (number_at new) place ∙ last ∙ ap error_of (ap (number_at old) end ∙ right) ∙ sym (error-outside above values x outside)
+        | inr behind ↦ get_or_past new (suc x) (pos 0) (omega arith) ∙ sym (error-outside above values x outside)
+      ]
     ]
 
 -- what add_left leaves before the margin, where what add_above left is lent to it without the margin

@@ -1,10 +1,10 @@
 -- The errors that a diffuser holds: at the start, and after a row.
-use Rattle.std.proofs.Common.{◌≡◌, ℕ, zero, suc, ◌+◌, ◌-◌, ◌<◌, ◌≤◌, ℤ, pos, List, [], ◌∷◌, ◌++◌, length, take, drop, get_or, refl, ap, sym, ◌∙◌, subst, arith, add-one}
+use Rattle.std.proofs.Common.{◌≡◌, ℕ, zero, suc, ◌+◌, ◌-◌, ◌≤◌, ℤ, pos, List, [], ◌∷◌, ◌++◌, length, take, drop, get_or, refl, ap, sym, ◌∙◌, arith, add-one}
 use Rattle.std.proofs.lemmas.List.{length-append}
 use Rattle.std.proofs.Math.Path.{fun_ext}
 use Rattle.std.proofs.Math.Seq.{take-append_seam}
 use Rattle.scr_diffuse.specs.Diffuser.{StandBelow}
-use Rattle.scr_diffuse.specs.Diffusion.{error_above, error_left, left_of, prints, v_at, v_below, IsError}
+use Rattle.scr_diffuse.specs.Diffusion.{error_above, error_left, left_of, v_at, v_below}
 use Rattle.scr_diffuse.specs.Passes.{errors_in, number_at}
 use Rattle.scr_diffuse.proofs.DiffusionLemmas.{error-margin, error-outside, error_above-put, error_left-small, none-small, v_at-put}
 use Rattle.scr_diffuse.proofs.StepLemmas.{left-next}
@@ -42,11 +42,11 @@ pub stand_next : (rows all : List (List ℕ)) (values : List ℕ) (errors new : 
 stand_next rows all values errors new stand more size same bytes made =
     let end : length new - 1 ≡ suc (length values) = omega arith in
     rw more (record {
-  room = (stand.room.0, same ∙ stand.room.1);
-  margined = next_margined rows values errors new stand made;
-  right = ap (number_at new) end ∙ made (suc (length values)) ∙ error-outside (errors_in errors) values (length values) (omega arith);
-  small = λ k. rw (made k) (error_left-small (errors_in errors) values (λ j. stand.small (j + 1)) bytes k);
-})
+      room = (stand.room.0, same ∙ stand.room.1);
+      margined = next_margined rows values errors new stand made;
+      right = ap (number_at new) end ∙ made (suc (length values)) ∙ error-outside (errors_in errors) values (length values) (omega arith);
+      small = λ k. rw (made k) (error_left-small (errors_in errors) values (λ j. stand.small (j + 1)) bytes k);
+    })
 
 -- the numbers v of the next row
 pub v_next : (rows : List (List ℕ)) (values : List ℕ) (errors : List ℤ) (x : ℕ) → StandBelow rows errors → v_below (errors_in errors) values x ≡ v_at (rows ++ values ∷ []) x (length rows)

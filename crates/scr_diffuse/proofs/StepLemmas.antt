@@ -1,7 +1,5 @@
 -- One number of a list more.
-use Rattle.std.proofs.Common.{◌≡◌, ◌≢◌, ℕ, zero, suc, ◌+◌, ◌<◌, ◌≤◌, ℤ, pos, ◌≤ℤ◌, neg_ℤ, List, length, slice_set, refl, ap, sym, ◌∙◌, arith, add-one, below_more, cond, true, false, ◌-ℤ◌, get_or-set_same, get_or-set_other}
-use Rattle.std.specs.Int.Signed.{le_z}
-use Rattle.std.proofs.lemmas.Int.{ints}
+use Rattle.std.proofs.Common.{◌≡◌, ◌≢◌, ℕ, zero, suc, ◌+◌, ◌<◌, ◌≤◌, ℤ, pos, List, length, slice_set, refl, ap, sym, ◌∙◌, arith, add-one, below_more, get_or-set_same, get_or-set_other}
 use Rattle.scr_diffuse.specs.Diffusion.{left_of, error_of}
 use Rattle.scr_diffuse.specs.Passes.{number_at, v_of, v_from}
 
@@ -30,7 +28,8 @@ KeptTo i old now =
     ((k : ℕ) → k < i → number_at now k ≡ error_of (number_at old k)) × ((k : ℕ) → i ≤ k → number_at now k ≡ number_at old k)
 
 pub KeptTo-more : (i : ℕ) (old now : List ℤ) (e : ℤ) → i < length now → KeptTo i old now → e ≡ error_of (number_at now i) → KeptTo (i + 1) old (slice_set now i e)
-KeptTo-more i old now e within kept error =
-    (below_more _ _ (λ k below. unwritten now i k e (λ h. absurd (omega arith)) ∙ kept.0 k below)
-    (written now i e within ∙ error ∙ ap error_of (kept.1 i (omega arith))),
-    λ k above. unwritten now i k e (λ h. absurd (omega arith)) ∙ kept.1 k (omega arith))
+KeptTo-more i old now e within kept error = (
+  below_more _ _ (λ k below. unwritten now i k e (λ h. absurd (omega arith)) ∙ kept.0 k below)
+      (written now i e within ∙ error ∙ ap error_of (kept.1 i (omega arith))),
+  λ k above. unwritten now i k e (λ h. absurd (omega arith)) ∙ kept.1 k (omega arith),
+)

@@ -11,10 +11,19 @@ number_at numbers x = slice_index_or numbers x (pos 0)
 abbrev pub AreWords : List ℤ → Type 0
 AreWords numbers = (x : ℕ) → x < length numbers → FitsSigned w16 (number_at numbers x)
 
--- the numbers v of sums that fit sixteen bits stay between these two
+-- the whole sums of a row stay between these two
+pub record IsSum (z : ℤ) : Type 0 where
+  pub low : (neg_ℤ (pos 61440)) ≤ℤ z
+  pub high : z ≤ℤ pos 61440
+
+-- their sixteenths stay between these two
 pub record IsNumber (v : ℤ) : Type 0 where
   pub low : (neg_ℤ (pos 3840)) ≤ℤ v
   pub high : v ≤ℤ pos 3840
+
+-- a sixteenth, rounded down
+abbrev pub floor_16 : ℤ → ℤ
+floor_16 z = int_div_euclid z (pos 16)
 
 -- the errors of a row that stand in a list with a margin of one place
 abbrev pub errors_in : List ℤ → ℕ → ℤ
@@ -32,7 +41,7 @@ sum_above values errors x =
 
 -- v of a pixel, from what it begins with and the error to its left
 abbrev pub v_of : ℤ → ℤ → ℤ
-v_of sum left = int_div_euclid (sum +ℤ (pos 7 *ℤ left)) (pos 16)
+v_of sum left = floor_16 (sum +ℤ (pos 7 *ℤ left))
 
 -- v of pixel x, where the numbers v of the pixels before it stand
 abbrev pub v_from : List ℤ → List ℤ → ℕ → ℤ

@@ -2,7 +2,7 @@
 ghost use Rattle.std.specs.Prelude.{◌≡◌, ℕ, ◌+◌, ◌-◌, ◌<◌, ◌≤◌, ◌≤ℤ◌, ◌+ℤ◌, ◌-ℤ◌, ◌*ℤ◌, length, pos, FitsSigned};
 ghost use Rattle.std.specs.Int.{w16};
 ghost use Rattle.scr_diffuse.specs.Diffusion.{error_of, IsError};
-ghost use Rattle.scr_diffuse.specs.Passes.{AreWords, IsNumber, number_at, sum_above, v_from, v_of, weighted};
+ghost use Rattle.scr_diffuse.specs.Passes.{AreWords, IsNumber, IsSum, number_at, sum_above, floor_16, v_from, weighted};
 
 /// What a dot takes from the number of its pixel.
 const DOT: i16 = 255;
@@ -33,41 +33,50 @@ fn sum_of(value: u8, above_right: i16, above: i16, above_left: i16) -> i16
     16 * i16::from(value) + 3 * above_right + 5 * above + above_left
 }
 
-/// Makes of what each pixel begins with its number v, from left to right: each waits for the number before it.
+/// Makes of what each pixel begins with its number v, from left to right: each sum waits for the one before it.
 pub(crate) fn add_left(sums: &mut [i16])
     ensures numbers { (x : ℕ) → x < length sums.old → number_at sums.new x ≡ v_from sums.old sums.new x }
     ensures range { AreWords sums.new }
 {
-    let mut before = 0;
+    let mut whole = 0;
     for sum in sums.iter_mut() {
-        before = number_after(i32::from(*sum), before);
-        *sum = before as i16;
+        whole = sum_after(i32::from(*sum), whole);
+        *sum = sixteenth(whole) as i16;
     }
 }
 
-/// The number v of a pixel, from what it begins with and the number of the pixel before it. What waits for that number
-/// is kept short: its dot is taken from the sum while it is multiplied.
-fn number_after(sum: i32, before: i32) -> i32
+/// The whole sum of a pixel, from what it begins with and the whole sum of the pixel before it. What waits for that sum
+/// is kept short: its dot is taken away while its sixteenth is multiplied.
+fn sum_after(sum: i32, before: i32) -> i32
     requires word { FitsSigned w16 sum }
-    requires small { IsNumber before }
-    ensures number { result ≡ v_of sum (error_of before) }
-    ensures small { IsNumber result }
+    requires before { IsSum before }
+    ensures sum { result ≡ (sum +ℤ (pos 7 *ℤ error_of (floor_16 before))) }
+    ensures bounds { IsSum result }
 {
-    (less_dot(sum, before) + 7 * before) >> 4
+    less_dot(sum, before) + 7 * sixteenth(before)
 }
 
 /// What a pixel begins with, less what the dot before it takes away.
 fn less_dot(sum: i32, before: i32) -> i32
     requires { FitsSigned w16 sum }
-    ensures dot { (result +ℤ (pos 7 *ℤ before)) ≡ (sum +ℤ (pos 7 *ℤ error_of before)) }
+    ensures dot { (result +ℤ (pos 7 *ℤ floor_16 before)) ≡ (sum +ℤ (pos 7 *ℤ error_of (floor_16 before))) }
     ensures low { (sum -ℤ pos 1785) ≤ℤ result }
     ensures high { result ≤ℤ sum }
 {
-    if before >= MIDDLE as i32 {
+    if before >= 16 * MIDDLE as i32 {
         sum - 7 * DOT as i32
     } else {
         sum
     }
+}
+
+/// The number v of a pixel: a sixteenth of its whole sum, rounded down.
+fn sixteenth(whole: i32) -> i32
+    requires { IsSum whole }
+    ensures number { result ≡ floor_16 whole }
+    ensures bounds { IsNumber result }
+{
+    whole >> 4
 }
 
 /// Makes of the numbers v of a row, behind which two places stand, its errors with a margin of one place.

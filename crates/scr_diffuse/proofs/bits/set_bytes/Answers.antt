@@ -1,5 +1,5 @@
 -- The pixels of one byte more.
-use Rattle.std.proofs.Common.{◌≡◌, ℕ, ◌+◌, ◌*◌, ◌/◌, ◌∙◌, length, ap, subst, arith, pos}
+use Rattle.std.proofs.Common.{◌≡◌, ℕ, ◌+◌, ◌*◌, ◌∙◌, length, ap, subst, arith, pos}
 use Rattle.std.proofs.lemmas.List.Edits.{get_or-between}
 use Rattle.pr_base.specs.Bits.{SetsBits}
 use Rattle.scr_diffuse.specs.Diffusion.{prints}

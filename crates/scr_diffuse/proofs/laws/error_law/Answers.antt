@@ -1,5 +1,5 @@
 -- The clauses are lemmas over any page.
-use Rattle.std.proofs.Common.{ℕ, suc, ap, sym, ◌∙◌, List, [], get_or, add-one}
+use Rattle.std.proofs.Common.{ℕ, suc, ap, sym, ◌∙◌, [], get_or, add-one}
 use Rattle.scr_diffuse.specs.Diffusion.{error_above, error_left, error_of}
 use Rattle.scr_diffuse.proofs.DiffusionLemmas.{error_above-more, error_above-small, error-inside, error-outside, v_at-is}
 use Rattle.scr_diffuse.proofs.laws.error_law.Goals as goal

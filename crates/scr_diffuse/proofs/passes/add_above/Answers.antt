@@ -1,6 +1,6 @@
 -- One sum more; the errors that it reads stand as they were.
-use Rattle.std.proofs.Common.{◌≡◌, ◌+◌, ◌∙◌, ℤ, to_z, of_z, w16, ap, arith, below_more}
-use Rattle.std.proofs.lemmas.Int.{ints, to_z-of_z}
+use Rattle.std.proofs.Common.{◌≡◌, ◌+◌, ◌∙◌, to_z, of_z, w16, arith, below_more}
+use Rattle.std.proofs.lemmas.Int.{ints}
 use Rattle.scr_diffuse.specs.Diffusion.{IsError}
 use Rattle.scr_diffuse.specs.Passes.{number_at, sum_above}
 use Rattle.scr_diffuse.proofs.StepLemmas.{written, unwritten}
@@ -16,7 +16,8 @@ loop-x-preserved c =
     let right_error : IsError (number_at errors (x + 2)) = c.requires.errors (x + 2) in
     let here_error : IsError (number_at errors (x + 1)) = c.requires.errors (x + 1) in
     let left_error : IsError (number_at errors x) = c.requires.errors x in
-    let sum : to_z w16 (of_z w16 c.sum_of.result) ≡ sum_above c.args.values.now errors x = omega (arith, ints) in
-    (below_more _ _ (λ k below. unwritten c.loop-x.errors x k _ (λ e. absurd (omega arith)) ∙ c.loop-x.invariant.0 k below)
-    (written c.loop-x.errors x _ (omega arith) ∙ sum),
-    λ k above. unwritten c.loop-x.errors x k _ (λ e. absurd (omega arith)) ∙ c.loop-x.invariant.1 k (omega arith))
+    let sum : to_z w16 (of_z w16 c.sum_of.result) ≡ sum_above c.args.values.now errors x = omega (arith, ints) in (
+      below_more _ _ (λ k below. unwritten c.loop-x.errors x k _ (λ e. absurd (omega arith)) ∙ c.loop-x.invariant.0 k below)
+          (written c.loop-x.errors x _ (omega arith) ∙ sum),
+      λ k above. unwritten c.loop-x.errors x k _ (λ e. absurd (omega arith)) ∙ c.loop-x.invariant.1 k (omega arith),
+    )

@@ -1,5 +1,5 @@
 -- Past the end stands no number, which reads as 0.
-use Rattle.std.proofs.Common.{◌<◌, pos, length, inl, inr, arith}
+use Rattle.std.proofs.Common.{pos, length, inl, inr, arith}
 use Rattle.std.proofs.lemmas.Bool.{cases_lt}
 use Rattle.std.proofs.lemmas.List.{get_or_past}
 use Rattle.scr_diffuse.proofs.row.clear.Goals as goal

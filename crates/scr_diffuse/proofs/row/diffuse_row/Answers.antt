@@ -1,9 +1,9 @@
 -- The row's numbers and errors are those that are defined.
-use Rattle.std.proofs.Common.{◌≡◌, ℕ, ◌+◌, ◌<◌, ◌≤◌, ℤ, pos, List, ◌++◌, length, take, drop, get_or, ap, sym, subst, ◌∙◌, refl, arith}
-use Rattle.std.proofs.lemmas.List.{get_or_append_left, get_or-append_right, get_or-drop, get_or-take, length-append, length-drop, length-take}
+use Rattle.std.proofs.Common.{◌≡◌, ℕ, ◌+◌, ◌<◌, ℤ, pos, List, ◌++◌, length, take, drop, ap, subst, ◌∙◌, arith}
+use Rattle.std.proofs.lemmas.List.{get_or-take, length-append, length-drop, length-take}
 use Rattle.pr_base.specs.Bits.{SetsBits}
 use Rattle.scr_diffuse.specs.Diffusion.{prints, v_below}
-use Rattle.scr_diffuse.specs.Passes.{errors_in, number_at, sum_above, v_from}
+use Rattle.scr_diffuse.specs.Passes.{errors_in, number_at}
 use Rattle.scr_diffuse.proofs.BitLemmas.{SetsBits_same}
 use Rattle.scr_diffuse.proofs.RowLemmas.{row_numbers, row_rest, kept_are}
 use Rattle.scr_diffuse.proofs.row.diffuse_row.Goals as goal

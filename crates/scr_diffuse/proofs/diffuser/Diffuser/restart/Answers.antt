@@ -1,5 +1,5 @@
 -- The errors are 0, and no row was handed in.
-use Rattle.std.proofs.Common.{◌≡◌, ℤ, List, ◌+◌, length, arith, ap, subst, sym, ◌∙◌}
+use Rattle.std.proofs.Common.{◌≡◌, ℤ, List, length, arith, ap, subst, sym, ◌∙◌}
 use Rattle.scr_diffuse.specs.Diffuser.{StandBelow}
 use Rattle.scr_diffuse.proofs.StandLemmas.{stand_at_start, lent_whole}
 use Rattle.scr_diffuse.proofs.diffuser.Diffuser.restart.Goals as goal

@@ -1,5 +1,5 @@
 -- The errors of the next row stand below it, and its pixels are those that are defined.
-use Rattle.std.proofs.Common.{◌≡◌, ℕ, ℤ, List, ◌+◌, ◌-◌, ◌<◌, ◌≤◌, ◌∷◌, ◌++◌, [], length, get_or, arith, subst, ap, sym, ◌∙◌}
+use Rattle.std.proofs.Common.{◌≡◌, ℕ, ℤ, List, ◌+◌, ◌-◌, ◌<◌, ◌∷◌, ◌++◌, [], length, arith, subst, ap, sym, ◌∙◌}
 use Rattle.pr_base.specs.Bits.{bit_at}
 use Rattle.scr_diffuse.specs.Diffuser.{StandBelow, PageFront}
 use Rattle.scr_diffuse.specs.Diffusion.{diffused_bit, error_left, prints}
