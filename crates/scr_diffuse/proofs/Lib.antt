@@ -3,6 +3,7 @@ pub mod ByteLemmas
 pub mod DiffusionLemmas
 pub mod NumberLemmas
 pub mod RowLemmas
+mod Rows
 pub mod SpanLemmas
 pub mod StandLemmas
 pub mod StepLemmas

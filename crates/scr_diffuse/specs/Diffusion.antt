@@ -7,10 +7,12 @@ use Rattle.std.specs.Int.Signed.{le_z}
 abbrev pub ArePixels : List (List ℕ) → Type 0
 ArePixels rows = (x y : ℕ) → slice_index (slice_index_or rows y []) x ≤ 255
 
--- v of a pixel, from its value and the errors of four neighbours: a sixteenth of the weighted sum, rounded down
+-- v of a pixel, from its value and the errors of four neighbours: a sixteenth of a weighted sum, rounded down
 abbrev pub corrected : ℕ → ℤ → ℤ → ℤ → ℤ → ℤ
 corrected value left above_right above above_left =
-    int_div_euclid ((pos (16 * value)) +ℤ (pos 7 *ℤ left) +ℤ (pos 3 *ℤ above_right) +ℤ (pos 5 *ℤ above) +ℤ above_left) (pos 16)
+    int_div_euclid
+    ((pos (16 * value)) +ℤ (pos 7 *ℤ left) +ℤ (pos 3 *ℤ above_right) +ℤ (pos 5 *ℤ above) +ℤ above_left)
+    (pos 16)
 
 -- a pixel prints from the middle of the scale on
 abbrev pub prints : ℤ → Bool
@@ -37,7 +39,8 @@ v_in above row left x = corrected (slice_index row x) left (above (x + 1)) (abov
 -- the error left of column x in a row of values, below a row with these errors; 0 outside the page
 unfoldable pub error_left : (ℕ → ℤ) → List ℕ → ℕ → ℤ
 error_left above row zero = pos 0
-error_left above row (suc x) = (if nat_lt x (length row) then error_of (v_in above row (error_left above row x) x) else pos 0)
+error_left above row (suc x) =
+    (if nat_lt x (length row) then error_of (v_in above row (error_left above row x) x) else pos 0)
 
 -- v in column x of a row of values, below a row with these errors
 abbrev pub v_below : (ℕ → ℤ) → List ℕ → ℕ → ℤ

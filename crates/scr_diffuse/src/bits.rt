@@ -52,7 +52,8 @@ fn set_bytes(numbers: &[i16], bits: &mut [u8], first: usize)
     requires whole { length numbers.now % 8 ≡ 0 }
     requires room { 8 * first + length numbers.now ≤ 8 * length bits.old }
     requires range { AreWords numbers.now }
-    ensures { SetsBits (λ x. prints (number_at numbers.now x)) (8 * first) (length numbers.now) bits.old bits.new }
+    ensures { SetsBits (λ x. prints (number_at numbers.now x))
+        (8 * first) (length numbers.now) bits.old bits.new }
 {
     for j in 0..numbers.len() / 8 {
         bits[first + j] = byte_of(&numbers[8 * j..8 * j + 8]);

@@ -53,7 +53,8 @@ impl Diffuser {
         requires width { length values.now ≡ self.old.width }
         requires room { from + self.old.width ≤ 8 * length bits.old }
         ensures drawn { (x : ℕ) → x < self.old.width →
-            bit_at bits.new (from + x) ≡ diffused_bit (self.old.rows ++ values.now ∷ []) x (length self.old.rows) }
+            bit_at bits.new (from + x)
+            ≡ diffused_bit (self.old.rows ++ values.now ∷ []) x (length self.old.rows) }
         ensures before { (k : ℕ) → k < from → bit_at bits.new k ≡ bit_at bits.old k }
         ensures behind { (k : ℕ) → from + self.old.width ≤ k → bit_at bits.new k ≡ bit_at bits.old k }
         ensures page { self.new ≡ record self.old { rows = self.old.rows ++ values.now ∷ [] } }

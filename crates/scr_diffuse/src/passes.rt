@@ -15,7 +15,8 @@ pub(crate) const MIDDLE: i16 = 128;
 pub(crate) fn add_above(values: &[u8], errors: &mut [i16])
     requires room { length errors.old ≡ length values.now + 2 }
     requires errors { (k : ℕ) → IsError (number_at errors.old k) }
-    ensures sums { (x : ℕ) → x < length values.now → number_at errors.new x ≡ sum_above values.now errors.old x }
+    ensures sums { (x : ℕ) → x < length values.now →
+        number_at errors.new x ≡ sum_above values.now errors.old x }
     ensures rest { (k : ℕ) → length values.now ≤ k → number_at errors.new k ≡ number_at errors.old k }
 {
     for x in 0..values.len() {
@@ -83,8 +84,10 @@ fn sixteenth(whole: i32) -> i32
 pub(crate) fn keep_errors(numbers: &mut [i16])
     requires { 2 ≤ length numbers.old }
     ensures margin { number_at numbers.new 0 ≡ pos 0 }
-    ensures errors { (x : ℕ) → x + 2 < length numbers.old → number_at numbers.new (x + 1) ≡ error_of (number_at numbers.old x) }
-    ensures last { number_at numbers.new (length numbers.old - 1) ≡ error_of (number_at numbers.old (length numbers.old - 1)) }
+    ensures errors { (x : ℕ) → x + 2 < length numbers.old →
+        number_at numbers.new (x + 1) ≡ error_of (number_at numbers.old x) }
+    ensures last { number_at numbers.new (length numbers.old - 1)
+        ≡ error_of (number_at numbers.old (length numbers.old - 1)) }
 {
     let end = numbers.len() - 2;
     numbers.copy_within(0..end, 1);
