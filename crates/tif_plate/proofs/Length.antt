@@ -1,30 +1,47 @@
--- The length of the head of a plate.
-use Rattle.std.proofs.Common.{◌≡◌, ℕ, ◌*◌, List, [], ◌∷◌, ◌++◌, length, map, true, false, if◌then◌else◌, refl, ◌∙◌, arith, nat_lt, length-append}
-use Rattle.std.specs.List.{flat_map, range_with_len}
-use Rattle.std.proofs.lemmas.List.FromFn.{length-map-range_with_len}
+-- The lengths of a plate's parts.
+use Rattle.std.proofs.Common.{◌≡◌, ℕ, ◌+◌, ◌*◌, ◌%◌, ◌<◌, ◌≤◌, List, [], ◌++◌, length, map, true, false, nat_lt, if◌then◌else◌, replicate, refl, ◌∙◌, sym, ap, arith, cond}
+use Rattle.std.specs.List.{flat_map}
+use Rattle.std.proofs.lemmas.Bool.{cond-true, cond-false, lt-ltb, le-ltb}
+use Rattle.std.proofs.lemmas.List.{length-append, length-replicate}
 use Rattle.byteorder.specs.Endian.{little_bytes}
-use Rattle.tif_plate.specs.Plate.{strip_count, strip_place, strip_size, strip_table, plate_entries, plate_directory, head_bytes, table_size, rows_place}
+use Rattle.tif_plate.specs.Plate.{strip_table, plate_entries, plate_directory, bytes_behind, entry_bytes, whole}
+use Rattle.tif_plate.proofs.Puts.{length-pieces}
+
+-- a table of one strip is none
+pub strip_table-none : (places counts : List ℕ) → length counts < 2 → strip_table places counts ≡ []
+unfolding strip_table
+strip_table-none places counts few =
+    cond-true (nat_lt (length counts) 2) [] (flat_map (little_bytes 4) places ++ flat_map (little_bytes 4) counts) (lt-ltb (length counts) 2 few)
+
+-- a table of two strips or more
+pub strip_table-some : (places counts : List ℕ) → 2 ≤ length counts → strip_table places counts ≡ flat_map (little_bytes 4) places ++ flat_map (little_bytes 4) counts
+unfolding strip_table
+strip_table-some places counts several =
+    cond-false (nat_lt (length counts) 2) [] (flat_map (little_bytes 4) places ++ flat_map (little_bytes 4) counts) (le-ltb (length counts) 2 several)
 
 -- numbers of four bytes
-length-numbers : (ns : List ℕ) → length (flat_map (little_bytes 4) ns) ≡ 4 * length ns
-length-numbers [] = refl
-length-numbers (n ∷ ns) = length-append (little_bytes 4 n) (flat_map (little_bytes 4) ns) ∙ omega (arith, length-numbers ns)
+pub length-numbers : (numbers : List ℕ) → length (flat_map (little_bytes 4) numbers) ≡ 4 * length numbers
+length-numbers numbers = length-pieces (little_bytes 4) 4 numbers (λ n. refl)
 
-length-table : (width height : ℕ) → length (strip_table width height) ≡ table_size width height
-unfolding strip_table
-length-table width height = elim (nat_lt (strip_count width height) 2) as (λ few. length (if few then [] else flat_map (little_bytes 4) (map (strip_place width height) (range_with_len 0 (strip_count width height))) ++ flat_map (little_bytes 4) (map (strip_size width height) (range_with_len 0 (strip_count width height)))) ≡ (if few then 0 else 8 * strip_count width height)) [
-  | true ↦ refl
-  | false ↦ length-append (flat_map (little_bytes 4) (map (strip_place width height) (range_with_len 0 (strip_count width height)))) _
-      ∙ omega (
-        arith,
-        length-numbers (map (strip_place width height) (range_with_len 0 (strip_count width height))),
-        length-numbers (map (strip_size width height) (range_with_len 0 (strip_count width height))),
-        length-map-range_with_len (strip_place width height) 0 (strip_count width height),
-        length-map-range_with_len (strip_size width height) 0 (strip_count width height),
-      )
-]
+pub length-strip_table : (places counts : List ℕ) → 2 ≤ length counts → length (strip_table places counts) ≡ 4 * length places + 4 * length counts
+length-strip_table places counts several =
+    ap length (strip_table-some places counts several)
+    ∙ length-append (flat_map (little_bytes 4) places) (flat_map (little_bytes 4) counts)
+    ∙ omega (arith, length-numbers places, length-numbers counts)
 
--- the head ends where the rows begin
-pub length-head : (width height dpi : ℕ) → length (head_bytes width height dpi) ≡ rows_place width height
-unfolding head_bytes plate_directory plate_entries
-length-head width height dpi = omega (arith, length-table width height)
+pub length-directory : (width height end : ℕ) → length (plate_directory width height end) ≡ 150
+unfolding plate_directory plate_entries
+length-directory width height end = refl
+
+-- all that stands behind the rows
+pub length-behind : (width height dpi end : ℕ) (places counts : List ℕ) → length (bytes_behind width height dpi end places counts) ≡ end % 2 + 166 + length (strip_table places counts)
+unfolding bytes_behind
+length-behind width height dpi end places counts =
+    length-append ((replicate (end % 2) 0 ++ plate_directory width height end) ++ (whole dpi ++ whole dpi)) (strip_table places counts)
+    ∙ omega (
+      arith,
+      length-append (replicate (end % 2) 0 ++ plate_directory width height end) (whole dpi ++ whole dpi),
+      length-append (replicate (end % 2) 0) (plate_directory width height end),
+      length-replicate {A = ℕ} (end % 2) 0,
+      length-directory width height end,
+    )

@@ -1,4 +1,5 @@
+pub mod Cuts
 pub mod Length
-pub mod Numbers
-pub mod Strips
-pub mod Table
+pub mod Puts
+pub mod Rounding
+pub mod Tails

@@ -1,1 +1,3 @@
 pub mod Plate
+pub mod Put
+pub mod Tail

@@ -1,10 +1,13 @@
--- The plate file: a TIFF 6.0 file of one bit a pixel, uncompressed (Section 3), least significant byte first.
--- The entries, the places and the rows of a strip are plateroom's own choice among those that TIFF allows.
-use Rattle.std.specs.Prelude.{ℕ, ◌+◌, ◌-◌, ◌*◌, ◌/◌, ◌≤◌, List, [], ◌∷◌, ◌++◌, length, map, min, max, codes, nat_lt, if◌then◌else◌}
+-- The plate file: a TIFF 6.0 file of one bit a pixel whose rows are packed by PackBits, each by itself (Section 9), least
+-- significant byte first. The directory stands behind the rows. The order of the parts, the entries and the rows of a
+-- strip are plateroom's own choice among those that TIFF allows.
+use Rattle.std.specs.Prelude.{ℕ, ◌+◌, ◌-◌, ◌*◌, ◌/◌, ◌%◌, ◌≤◌, List, [], ◌∷◌, ◌++◌, length, map, max, sum, take, drop, replicate, codes, nat_lt, if◌then◌else◌}
 use Rattle.std.specs.List.{flat_map, range_with_len}
 use Rattle.byteorder.specs.Endian.{little_bytes}
 use Rattle.pr_base.specs.Row.{row_size}
-use Rattle.tif_plate.specs.declared.directory.Entry.{Entry}
+use Rattle.tif_dir.specs.Names.{image_width, image_length, bits_per_sample, compression, photometric_interpretation, strip_offsets, samples_per_pixel, rows_per_strip, strip_byte_counts, x_resolution, y_resolution, resolution_unit}
+use Rattle.tif_packbits.specs.Packbits.{packing}
+use Rattle.tif_plate.specs.declared.entry.Entry.{Entry}
 
 -- a width or a length of an image or a plate
 abbrev pub IsSide : ℕ → Type 0
@@ -22,13 +25,31 @@ rows_each width = max 1 (8192 / row_size width)
 abbrev pub strip_count : ℕ → ℕ → ℕ
 strip_count width height = (height + (rows_each width - 1)) / rows_each width
 
--- the bytes of the table of strips, which is there for two strips or more
-abbrev pub table_size : ℕ → ℕ → ℕ
-table_size width height = if nat_lt (strip_count width height) 2 then 0 else 8 * strip_count width height
+-- the rows before strip i, and those of strip i
+abbrev pub rows_before : ℕ → List (List ℕ) → ℕ → List (List ℕ)
+rows_before width rows i = take (i * rows_each width) rows
 
--- the place of the first row
-abbrev pub rows_place : ℕ → ℕ → ℕ
-rows_place width height = 174 + table_size width height
+abbrev pub rows_in : ℕ → List (List ℕ) → ℕ → List (List ℕ)
+rows_in width rows i = take (rows_each width) (drop (i * rows_each width) rows)
+
+-- the place of strip i: the packed rows before it stand behind the first eight bytes
+abbrev pub place_of : ℕ → List (List ℕ) → ℕ → ℕ
+place_of width rows i = 8 + length (flat_map packing (rows_before width rows i))
+
+-- the bytes of strip i: those of its packed rows
+abbrev pub size_of : ℕ → List (List ℕ) → ℕ → ℕ
+size_of width rows i = length (flat_map packing (rows_in width rows i))
+
+-- StripOffsets and StripByteCounts (Section 3) of a plate with these rows
+unfoldable pub strip_places : ℕ → List (List ℕ) → List ℕ
+strip_places width rows = map (place_of width rows) (range_with_len 0 (strip_count width (length rows)))
+
+unfoldable pub strip_counts : ℕ → List (List ℕ) → List ℕ
+strip_counts width rows = map (size_of width rows) (range_with_len 0 (strip_count width (length rows)))
+
+-- the place of the directory where the rows end at a place: the first even one (Section 2)
+abbrev pub directory_place : ℕ → ℕ
+directory_place end = end + end % 2
 
 -- an entry of a directory (Section 2): tag, type, count, and value or place
 abbrev pub entry_bytes : Entry → List ℕ
@@ -44,56 +65,62 @@ long = 4
 abbrev pub rational : ℕ
 rational = 5
 
--- the value of StripByteCounts: the bytes of the one strip, or the place of the second half of the table
-abbrev pub sizes_value : ℕ → ℕ → ℕ
-sizes_value width height = if nat_lt (strip_count width height) 2 then row_size width * height else 174 + 4 * strip_count width height
+-- the value of StripOffsets: the place of the one strip, or of the table of places behind the resolutions
+abbrev pub places_value : ℕ → ℕ → ℕ
+places_value strips end = if nat_lt strips 2 then 8 else directory_place end + 166
 
--- the twelve entries: ImageWidth, ImageLength, BitsPerSample, Compression, PhotometricInterpretation (0 is white),
--- StripOffsets, SamplesPerPixel, RowsPerStrip, StripByteCounts, XResolution, YResolution, ResolutionUnit (inch)
-unfoldable pub plate_entries : ℕ → ℕ → List Entry
-plate_entries width height =
-    record { tag = 256; kind = long; count = 1; value = width }
-    ∷ record { tag = 257; kind = long; count = 1; value = height }
-    ∷ record { tag = 258; kind = short; count = 1; value = 1 }
-    ∷ record { tag = 259; kind = short; count = 1; value = 1 }
-    ∷ record { tag = 262; kind = short; count = 1; value = 0 }
-    ∷ record { tag = 273; kind = long; count = strip_count width height; value = 174 }
-    ∷ record { tag = 277; kind = short; count = 1; value = 1 }
-    ∷ record { tag = 278; kind = long; count = 1; value = rows_each width }
-    ∷ record { tag = 279; kind = long; count = strip_count width height; value = sizes_value width height }
-    ∷ record { tag = 282; kind = rational; count = 1; value = 158 }
-    ∷ record { tag = 283; kind = rational; count = 1; value = 166 }
-    ∷ record { tag = 296; kind = short; count = 1; value = 2 }
+-- the value of StripByteCounts: the bytes of the one strip, or the place of the counts behind the places
+abbrev pub counts_value : ℕ → ℕ → ℕ
+counts_value strips end = if nat_lt strips 2 then end - 8 else directory_place end + 166 + 4 * strips
+
+-- the twelve entries of a plate whose rows end at a place: one bit a pixel, PackBits, 0 is white, inches
+unfoldable pub plate_entries : ℕ → ℕ → ℕ → List Entry
+plate_entries width height end =
+    record { tag = image_width; kind = long; count = 1; value = width }
+    ∷ record { tag = image_length; kind = long; count = 1; value = height }
+    ∷ record { tag = bits_per_sample; kind = short; count = 1; value = 1 }
+    ∷ record { tag = compression; kind = short; count = 1; value = 32773 }
+    ∷ record { tag = photometric_interpretation; kind = short; count = 1; value = 0 }
+    ∷ record { tag = strip_offsets; kind = long; count = strip_count width height; value = places_value (strip_count width height) end }
+    ∷ record { tag = samples_per_pixel; kind = short; count = 1; value = 1 }
+    ∷ record { tag = rows_per_strip; kind = long; count = 1; value = rows_each width }
+    ∷ record { tag = strip_byte_counts; kind = long; count = strip_count width height; value = counts_value (strip_count width height) end }
+    ∷ record { tag = x_resolution; kind = rational; count = 1; value = directory_place end + 150 }
+    ∷ record { tag = y_resolution; kind = rational; count = 1; value = directory_place end + 158 }
+    ∷ record { tag = resolution_unit; kind = short; count = 1; value = 2 }
     ∷ []
 
 -- the directory (Section 2): the number of entries, the entries, and 0 for no next directory
-unfoldable pub plate_directory : ℕ → ℕ → List ℕ
-plate_directory width height = (little_bytes 2 12 ++ flat_map entry_bytes (plate_entries width height)) ++ little_bytes 4 0
-
--- the place of strip i, where there are two or more
-abbrev pub strip_place : ℕ → ℕ → ℕ → ℕ
-strip_place width height i = 174 + 8 * strip_count width height + i * (rows_each width * row_size width)
-
--- the bytes of strip i
-abbrev pub strip_size : ℕ → ℕ → ℕ → ℕ
-strip_size width height i = min (rows_each width) (height - i * rows_each width) * row_size width
-
--- StripOffsets and StripByteCounts, where there are two strips or more
-unfoldable pub strip_table : ℕ → ℕ → List ℕ
-strip_table width height =
-    if nat_lt (strip_count width height) 2 then []
-    else flat_map (little_bytes 4) (map (strip_place width height) (range_with_len 0 (strip_count width height)))
-    ++ flat_map (little_bytes 4) (map (strip_size width height) (range_with_len 0 (strip_count width height)))
+unfoldable pub plate_directory : ℕ → ℕ → ℕ → List ℕ
+plate_directory width height end =
+    (little_bytes 2 12 ++ flat_map entry_bytes (plate_entries width height end)) ++ little_bytes 4 0
 
 -- a RATIONAL of a whole number
 abbrev pub whole : ℕ → List ℕ
 whole n = little_bytes 4 n ++ little_bytes 4 1
 
--- the bytes before the first row: header, directory, XResolution, YResolution, table of strips
-unfoldable pub head_bytes : ℕ → ℕ → ℕ → List ℕ
-head_bytes width height dpi =
-    (((codes "II" ++ little_bytes 2 42 ++ little_bytes 4 8) ++ plate_directory width height) ++ (whole dpi ++ whole dpi)) ++ strip_table width height
+-- the places and the byte counts of strips, where there are two or more
+unfoldable pub strip_table : List ℕ → List ℕ → List ℕ
+strip_table places counts =
+    if nat_lt (length counts) 2 then []
+    else flat_map (little_bytes 4) places ++ flat_map (little_bytes 4) counts
 
--- a plate of this width and resolution with these rows from the top, each of row_size width bytes
+-- all bytes behind rows that end at a place: a zero byte if that place is odd, the directory, XResolution, YResolution,
+-- the table of strips
+unfoldable pub bytes_behind : ℕ → ℕ → ℕ → ℕ → List ℕ → List ℕ → List ℕ
+bytes_behind width height dpi end places counts =
+    ((replicate (end % 2) 0 ++ plate_directory width height end) ++ (whole dpi ++ whole dpi)) ++ strip_table places counts
+
+-- the first eight bytes (Section 2): the order of bytes, 42, and the place of the directory
+abbrev pub header_bytes : ℕ → List ℕ
+header_bytes place = (codes "II" ++ little_bytes 2 42) ++ little_bytes 4 place
+
+-- the place behind the packed rows
+abbrev pub rows_end : List (List ℕ) → ℕ
+rows_end rows = 8 + length (flat_map packing rows)
+
+-- a plate of this width and resolution with these rows from the top, each of row_size width bytes before it is packed
 unfoldable pub plate_file : ℕ → ℕ → List (List ℕ) → List ℕ
-plate_file width dpi rows = head_bytes width (length rows) dpi ++ flat_map (λ row. row) rows
+plate_file width dpi rows =
+    (header_bytes (directory_place (rows_end rows)) ++ flat_map packing rows)
+    ++ bytes_behind width (length rows) dpi (rows_end rows) (strip_places width rows) (strip_counts width rows)

@@ -5,7 +5,8 @@ ghost use Rattle.tif_plate.specs.Plate.{IsSide, rows_each, strip_count};
 
 use pr_base::row_bytes;
 
-/// The bytes that a strip holds at most, unless one row is longer (TIFF 6.0, Section 3, advises 8 kilobytes).
+/// The bytes that the rows of a strip have at most before they are packed, unless one row is longer (TIFF 6.0,
+/// Section 3, advises 8 kilobytes).
 const STRIP_BYTES: u32 = 8192;
 
 /// The rows of a strip of a plate that is `width` pixels wide, the last strip aside.
@@ -18,7 +19,7 @@ pub fn rows_per_strip(width: u32) -> u32
 }
 
 /// The number of strips of a plate.
-pub(crate) fn strips(width: u32, height: u32) -> u32
+pub fn strips(width: u32, height: u32) -> u32
     requires width { IsSide width }
     requires height { IsSide height }
     ensures count { result ≡ strip_count width height }
