@@ -1,10 +1,10 @@
 -- The lengths of a plate's parts.
-use Rattle.std.proofs.Common.{◌≡◌, ℕ, ◌+◌, ◌*◌, ◌%◌, ◌<◌, ◌≤◌, List, [], ◌++◌, length, map, true, false, nat_lt, if◌then◌else◌, replicate, refl, ◌∙◌, sym, ap, arith, cond}
+use Rattle.std.proofs.Common.{◌≡◌, ℕ, ◌+◌, ◌*◌, ◌%◌, ◌<◌, ◌≤◌, List, [], ◌++◌, length, nat_lt, replicate, refl, ◌∙◌, ap, arith}
 use Rattle.std.specs.List.{flat_map}
 use Rattle.std.proofs.lemmas.Bool.{cond-true, cond-false, lt-ltb, le-ltb}
 use Rattle.std.proofs.lemmas.List.{length-append, length-replicate}
 use Rattle.byteorder.specs.Endian.{little_bytes}
-use Rattle.tif_plate.specs.Plate.{strip_table, plate_entries, plate_directory, bytes_behind, entry_bytes, whole}
+use Rattle.tif_plate.specs.Plate.{strip_table, plate_entries, plate_directory, bytes_behind, whole}
 use Rattle.tif_plate.proofs.Puts.{length-pieces}
 
 -- a table of one strip is none

@@ -1,7 +1,7 @@
 -- The plate file: a TIFF 6.0 file of one bit a pixel whose rows are packed by PackBits, each by itself (Section 9), least
 -- significant byte first. The directory stands behind the rows. The order of the parts, the entries and the rows of a
 -- strip are plateroom's own choice among those that TIFF allows.
-use Rattle.std.specs.Prelude.{ℕ, ◌+◌, ◌-◌, ◌*◌, ◌/◌, ◌%◌, ◌≤◌, List, [], ◌∷◌, ◌++◌, length, map, max, sum, take, drop, replicate, codes, nat_lt, if◌then◌else◌}
+use Rattle.std.specs.Prelude.{ℕ, ◌+◌, ◌-◌, ◌*◌, ◌/◌, ◌%◌, ◌≤◌, List, [], ◌∷◌, ◌++◌, length, map, max, take, drop, replicate, codes, nat_lt, if◌then◌else◌}
 use Rattle.std.specs.List.{flat_map, range_with_len}
 use Rattle.byteorder.specs.Endian.{little_bytes}
 use Rattle.pr_base.specs.Row.{row_size}

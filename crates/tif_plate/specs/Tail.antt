@@ -1,7 +1,7 @@
 -- The parts of a plate that are written before and behind its packed rows, by the byte counts of its strips alone.
 use Rattle.std.specs.Prelude.{ℕ, ◌+◌, ◌*◌, ◌≤◌, List, length, map, sum, take}
 use Rattle.std.specs.List.{range_with_len}
-use Rattle.tif_plate.specs.Plate.{strip_count, directory_place, bytes_behind, header_bytes}
+use Rattle.tif_plate.specs.Plate.{strip_count, size_of, directory_place, bytes_behind, header_bytes}
 
 -- the first eight bytes while the place of the directory isn't known
 abbrev pub front_bytes : List ℕ
@@ -34,3 +34,7 @@ tail_bytes width height dpi counts = bytes_behind width height dpi (strips_end c
 -- room for these bytes: a zero byte, the directory and the resolutions, and the table of strips
 abbrev pub tail_room : ℕ → ℕ → ℕ
 tail_room width height = 167 + 8 * strip_count width height
+
+-- the byte counts of a plate's strips while only its first rows are there
+unfoldable pub counts_so_far : ℕ → ℕ → List (List ℕ) → List ℕ
+counts_so_far width height rows = map (size_of width rows) (range_with_len 0 (strip_count width height))

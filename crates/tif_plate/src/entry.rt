@@ -117,7 +117,11 @@ fn places_value(strips: u32, place: u32) -> u32
     requires { place ≤ 4000000009 }
     ensures { result ≡ (if nat_lt strips 2 then 8 else place + 166) }
 {
-    if strips < 2 { FIRST_STRIP } else { place + TABLE }
+    if strips < 2 {
+        FIRST_STRIP
+    } else {
+        place + TABLE
+    }
 }
 
 /// The value of StripByteCounts: the bytes of the one strip, which ends at `end`, or the place of the counts in the

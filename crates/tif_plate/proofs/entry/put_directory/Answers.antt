@@ -1,4 +1,4 @@
-use Rattle.std.proofs.Common.{refl, arith}
+use Rattle.std.proofs.Common.{arith}
 use Rattle.tif_plate.specs.Plate.{plate_entries, plate_directory}
 use Rattle.tif_plate.proofs.Puts.{Puts-then}
 use Rattle.tif_plate.proofs.entry.put_directory.Goals as goal

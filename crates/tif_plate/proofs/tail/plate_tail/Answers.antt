@@ -1,7 +1,7 @@
-use Rattle.std.proofs.Common.{◌≡◌, ◌++◌, ℕ, List, length, drop, arith, subst, sym, ap, ◌∙◌}
+use Rattle.std.proofs.Common.{◌≡◌, ◌++◌, ℕ, List, length, drop, arith, sym, ap, ◌∙◌}
 use Rattle.tif_plate.specs.Plate.{bytes_behind}
 use Rattle.tif_plate.specs.Put.{Puts}
-use Rattle.tif_plate.specs.Tail.{begins, tail_bytes, strips_end}
+use Rattle.tif_plate.specs.Tail.{begins}
 use Rattle.tif_plate.proofs.Length.{length-behind}
 use Rattle.tif_plate.proofs.Puts.{Puts-first}
 use Rattle.tif_plate.proofs.Tails.{tail-written}

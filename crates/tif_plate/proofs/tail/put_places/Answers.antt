@@ -1,4 +1,4 @@
-use Rattle.std.proofs.Common.{◌≡◌, sum, take, ◌+◌, get_or, arith}
+use Rattle.std.proofs.Common.{arith}
 use Rattle.tif_plate.specs.Tail.{begin_of}
 use Rattle.tif_plate.proofs.Puts.{Puts-number}
 use Rattle.tif_plate.proofs.Cuts.{sum-take_more}

@@ -1,4 +1,4 @@
-use Rattle.std.proofs.Common.{length, arith, refl, sym, ap, ◌∙◌}
+use Rattle.std.proofs.Common.{length, arith, ap}
 use Rattle.std.proofs.lemmas.List.FromFn.{length-map-range_with_len}
 use Rattle.tif_plate.specs.Tail.{begin_of, begins}
 use Rattle.tif_plate.proofs.Puts.{Puts-nothing, Puts-then}
