@@ -5,6 +5,8 @@ use Rattle.std.proofs.Math.Nat.{add-mul, one-mul, div-mul-le_self, lt-div-mul-ad
 use Rattle.std.proofs.lemmas.Bool.{cases_eq, cases_lt}
 use Rattle.std.proofs.lemmas.List.{append-nil, length-append, length-drop, length-replicate, length-set, take_all, drop_all, take-append-le, drop-append-le, get_or-replicate, get_or-set_same, get_or-set_other}
 use Rattle.std.proofs.lemmas.List.FromFn.{get_or-map-range_with_len, length-map-range_with_len}
+use Rattle.std.proofs.lemmas.List.Elements.{All-append, All-cons, All-nil}
+use Rattle.std.proofs.lemmas.List.Sums.{get_or-le-sum_by}
 use Rattle.std.proofs.lemmas.Grind.{flat_map-append, same_number_lists}
 use Rattle.pr_base.specs.Row.{row_size}
 use Rattle.tif_packbits.specs.Packbits.{packing, packed_bound}
@@ -149,3 +151,23 @@ IsPlaceable-so_far width height rows wide high within each =
     let small : packed_bound (row_size width) ≤ 8256 = omega (arith, wide.1) in
     let most : length rows * packed_bound (row_size width) ≤ length rows * 8256 = mul-le-mul_left (length rows) small in
     omega (arith, high.1, sum-counts_so_far width height rows within)
+
+-- with one row more its strip's count still passes no 32 bits
+pub count-fits : (width height : ℕ) (rows : List (List ℕ)) (row : List ℕ) → IsSide width → IsSide height → length rows < height
+    → All (λ row. length row ≡ row_size width) rows → length row ≡ row_size width
+    → get_or (counts_so_far width height rows) (length rows / rows_each width) 0 + length (packing row) ≤ 4000000000
+count-fits width height rows row wide high below each len =
+    let y : ℕ = length rows / rows_each width in
+    let counts : List ℕ = counts_so_far width height rows in
+    let all : All (λ (row' : List ℕ). length row' ≡ row_size width) (rows ++ row ∷ []) =
+    All-append (λ (row' : List ℕ). length row' ≡ row_size width) rows (row ∷ []) each
+    (All-cons (λ (row' : List ℕ). length row' ≡ row_size width) row [] len (All-nil (λ (row' : List ℕ). length row' ≡ row_size width))) in
+    let more : length (rows ++ row ∷ []) ≤ height = omega (arith, length-append rows (row ∷ [])) in
+    let fits : IsPlaceable (counts_so_far width height (rows ++ row ∷ [])) = IsPlaceable-so_far width height (rows ++ row ∷ []) wide high more all in
+    let here : y < strip_count width height = strip-in_plate width height (length rows) below in
+    let grown : _ = counts_so_far-more width height rows row below in
+    let one : get_or (counts_so_far width height (rows ++ row ∷ [])) y 0 ≡ get_or counts y 0 + length (packing row) =
+    ap (λ all. get_or all y 0) grown ∙ get_or-set_same counts y (get_or counts y 0 + length (packing row)) 0 (omega (arith, length-counts_so_far width height rows)) in
+    let part : get_or (counts_so_far width height (rows ++ row ∷ [])) y 0 ≤ sum (counts_so_far width height (rows ++ row ∷ [])) =
+    get_or-le-sum_by (λ n. n) (counts_so_far width height (rows ++ row ∷ [])) y 0 (omega (arith, length-counts_so_far width height (rows ++ row ∷ []))) in
+    omega (arith, one, part, fits)
