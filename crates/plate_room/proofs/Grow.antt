@@ -25,28 +25,6 @@ pub front_of : (a b : Option (List ℕ)) (front rest whole : List ℕ) → front
 front_of a b front rest whole e h =
     (length front, let P : List ℕ → Type 0 = λ l. Grew a b l in subst P (sym (ap (take (length front)) (sym e) ∙ take-append_seam front rest)) h)
 
--- a whole piece, and then a front of the next
-pub prefix_then : (a b c : Option (List ℕ)) (s t rest whole : List ℕ) → s ++ (t ++ rest) ≡ whole → Grew a b s → GrewByPrefix b c t → GrewByPrefix a c whole
-prefix_then a b c s t rest whole e h (n, f) =
-    front_of a c (s ++ take n t) (drop n t ++ rest) whole
-    (append_assoc s (take n t) _ ∙ ap (λ l. s ++ l) (sym (append_assoc (take n t) (drop n t) rest) ∙ ap (λ l. l ++ rest) (take-append-drop n t)) ∙ e)
-    (grew_then a b c s (take n t) h f)
-
--- rows 0 to y are those below y and then row y
-pub rows_more : (row : ℕ → List ℕ) (y : ℕ) → flat_map (λ r. r) (map row (range_with_len 0 (y + 1))) ≡ flat_map (λ r. r) (map row (range_with_len 0 y)) ++ row y
-rows_more row y = ap (flat_map (λ r. r)) (map-range_with_len_more row 0 y y (omega arith)) ∙ flat_map-append (λ r. r) (map row (range_with_len 0 y)) (row y ∷ [])
-    ∙ ap (λ last. flat_map (λ r. r) (map row (range_with_len 0 y)) ++ last) (append-nil (row y))
-
--- the rows below y, row y, and those behind it
-pub rows_split : (row : ℕ → List ℕ) (y count : ℕ) → y < count → (rest : List ℕ) × (flat_map (λ r. r) (map row (range_with_len 0 y)) ++ (row y ++ rest) ≡ flat_map (λ r. r) (map row (range_with_len 0 count)))
-rows_split row y count below =
-    let all : List (List ℕ) = map row (range_with_len 0 count) in (
-      flat_map (λ r. r) (drop (y + 1) all),
-      sym (append_assoc (flat_map (λ r. r) (map row (range_with_len 0 y))) (row y) _)
-          ∙ ap (λ front. front ++ flat_map (λ r. r) (drop (y + 1) all)) (sym (ap (flat_map (λ r. r)) (take-map-range_with_len row 0 count (y + 1) (omega arith)) ∙ rows_more row y))
-          ∙ sym (flat_map-append (λ r. r) (take (y + 1) all) (drop (y + 1) all)) ∙ ap (flat_map (λ r. r)) (take-append-drop (y + 1) all),
-    )
-
 -- a put leaves a front, whatever it answers
 pub put_front : (result : Result (Unit {0}) SinkFault) (a b : Option (List ℕ)) (text : List ℕ) → OnOk result (Grew a b text) → OnErr result (GrewByPrefix a b text) → GrewByPrefix a b text
 put_front (Ok done) a b text h k = front_of a b text [] text (append-nil text) h

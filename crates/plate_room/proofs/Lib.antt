@@ -1,5 +1,6 @@
 pub mod Grow
-pub mod Row
+pub mod Results
 pub mod Verdicts
 pub mod Ends
 pub mod Clauses
+pub mod Pack

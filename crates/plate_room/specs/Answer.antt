@@ -25,6 +25,13 @@ Printed bytes old new before after (Err (Refused fault)) = (contone_shape bytes 
 Printed bytes old new before after (Err Memory) = PrintsPart bytes old new
 Printed bytes old new before after (Err Printing) = PrintsPart bytes old new × Rose before after
 
+-- P of what printing leaves of a plate that is refused
+abbrev pub OnRefused : Result (Unit {0}) PlateFault → Type 0 → Type 0
+OnRefused (Ok done) P = Unit {0}
+OnRefused (Err (Refused fault)) P = P
+OnRefused (Err Memory) P = Unit {0}
+OnRefused (Err Printing) P = Unit {0}
+
 -- what `one` leaves of the shelf (what it held and missed, its counts) and of the output
 abbrev pub OneAnswered : List ℕ → Option (List (List ℕ × List ℕ)) → Option (Option (List ℕ)) → ℕ → ℕ → ℕ → ℕ → Option (List ℕ) → Option (List ℕ) → ℕ → ℕ → Result (Unit {0}) Refusal → Type 0
 OneAnswered file held missed f f' l l' old new o o' (Ok done) = (bytes : List ℕ) × IsLoaded held file bytes × PrintsPlate bytes old new
@@ -62,3 +69,20 @@ Told (refusals.File name fault) old new before after status = Tells 4 (file_line
 Told (refusals.Shelf path) old new before after status = Tells 5 (shelf_line path.now) old new before after status
 Told refusals.Memory old new before after status = (status ≡ 6) × GrewByPrefix old new memory_line
 Told refusals.Printing old new before after status = (status ≡ 7) × (new ≡ old)
+
+-- a refusal with a line of its own
+abbrev pub IsOwn : Refusal → Type 0
+IsOwn refusals.Words = Unit {0}
+IsOwn (refusals.File name fault) = Unit {0}
+IsOwn (refusals.Shelf path) = Unit {0}
+IsOwn refusals.Memory = ⊥
+IsOwn refusals.Printing = ⊥
+
+-- the output's count stays where such a refusal is met
+abbrev pub KeepsFaults : ℕ → ℕ → Result (Unit {0}) Refusal → Type 0
+KeepsFaults before after (Ok done) = Unit {0}
+KeepsFaults before after (Err refusals.Words) = after ≡ before
+KeepsFaults before after (Err (refusals.File name fault)) = after ≡ before
+KeepsFaults before after (Err (refusals.Shelf path)) = after ≡ before
+KeepsFaults before after (Err refusals.Memory) = Unit {0}
+KeepsFaults before after (Err refusals.Printing) = Unit {0}

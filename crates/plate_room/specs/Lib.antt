@@ -4,4 +4,5 @@ pub mod Verdict
 pub mod Line
 pub mod End
 pub mod Answer
+pub mod Room
 pub mod Run

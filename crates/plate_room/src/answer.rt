@@ -1,7 +1,7 @@
 // Doing a command: loading what it names, and printing.
-ghost use Rattle.std.specs.Prelude.{◌≡◌, ◌≤◌, string_bytes};
-ghost use Rattle.plate_room.specs.Command.{words_of};
-ghost use Rattle.plate_room.specs.Answer.{Answered, OneAnswered};
+ghost use Rattle.std.specs.Prelude.{◌≡◌, ◌≤◌, None, OnOk, string_bytes};
+ghost use Rattle.plate_room.specs.Command.{command_of as line_command, words_of};
+ghost use Rattle.plate_room.specs.Answer.{Answered, KeepsFaults, OneAnswered};
 
 use crate::command::{Command, command_of};
 use crate::note::Refusal;
@@ -23,6 +23,11 @@ pub(crate) fn answer<'a, H: Shelf, S: Sink>(
     ensures answered { Answered (words_of words.now) (H.held shelf.old) (H.missed shelf.new) (H.faults shelf.old) (H.faults shelf.new) (H.longs shelf.old) (H.longs shelf.new)
         (S.given out.old) (S.given out.new) (S.faults out.old) (S.faults out.new) result }
     ensures held { H.held shelf.new ≡ H.held shelf.old }
+    ensures words_faults { line_command (words_of words.now) ≡ None → H.faults shelf.new ≡ H.faults shelf.old }
+    ensures words_longs { line_command (words_of words.now) ≡ None → H.longs shelf.new ≡ H.longs shelf.old }
+    ensures words_missed { line_command (words_of words.now) ≡ None → H.missed shelf.new ≡ H.missed shelf.old }
+    ensures done_missed { OnOk result (H.missed shelf.new ≡ H.missed shelf.old) }
+    ensures out_faults { KeepsFaults (S.faults out.old) (S.faults out.new) result }
 {
     match command_of(words) {
         Some(Command::One { file }) => one(alloc, file, shelf, out),
@@ -40,6 +45,8 @@ fn one<'a, H: Shelf, S: Sink>(
     ensures answered { OneAnswered file.now (H.held shelf.old) (H.missed shelf.new) (H.faults shelf.old) (H.faults shelf.new) (H.longs shelf.old) (H.longs shelf.new)
         (S.given out.old) (S.given out.new) (S.faults out.old) (S.faults out.new) result }
     ensures held { H.held shelf.new ≡ H.held shelf.old }
+    ensures done_missed { OnOk result (H.missed shelf.new ≡ H.missed shelf.old) }
+    ensures out_faults { KeepsFaults (S.faults out.old) (S.faults out.new) result }
 {
     let bytes = match shelf.load(file, FILE_LIMIT) {
         Ok(bytes) => bytes,

@@ -8,6 +8,7 @@ mod command;
 mod main_call;
 mod note;
 mod plate;
+mod room;
 
 pub use main_call::plate_main;
 

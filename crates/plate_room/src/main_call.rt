@@ -59,6 +59,14 @@ pub fn plate_main<H: Shelf, S: Sink, E: Sink>(
     ensures printing_out { (files : List (List ℕ × List ℕ)) → H.held shelf.old ≡ Some files → verdict_of (words_of words.now) files ≡ Pass
         → (Rose (H.faults shelf.old) (H.faults shelf.new) → ⊥) → result ≡ 7 → Rose (S.faults out.old) (S.faults out.new) }
 
+    // What stands of the counts: nothing is loaded for words that are no command, and no load fails where all is done.
+    ensures words_faults { command_of (words_of words.now) ≡ None → H.faults shelf.new ≡ H.faults shelf.old }
+    ensures words_longs { command_of (words_of words.now) ≡ None → H.longs shelf.new ≡ H.longs shelf.old }
+    ensures words_missed { command_of (words_of words.now) ≡ None → H.missed shelf.new ≡ H.missed shelf.old }
+    ensures done_missed { result ≡ 0 → H.missed shelf.new ≡ H.missed shelf.old }
+    ensures done_note_faults { result ≡ 0 → E.faults note.new ≡ E.faults note.old }
+    ensures refused_out_faults { IsRefusal result → S.faults out.new ≡ S.faults out.old }
+
     // What stands in the output.
     ensures out_stays { (files : List (List ℕ × List ℕ)) → H.held shelf.old ≡ Some files → (verdict_of (words_of words.now) files ≡ Pass → ⊥)
         → S.given out.new ≡ S.given out.old }
@@ -107,6 +115,12 @@ fn run<H: Shelf, S: Sink, E: Sink>(
       note_faults' = E.faults note.new;
     }) result }
     ensures held { H.held shelf.new ≡ H.held shelf.old }
+    ensures words_faults { command_of (words_of words.now) ≡ None → H.faults shelf.new ≡ H.faults shelf.old }
+    ensures words_longs { command_of (words_of words.now) ≡ None → H.longs shelf.new ≡ H.longs shelf.old }
+    ensures words_missed { command_of (words_of words.now) ≡ None → H.missed shelf.new ≡ H.missed shelf.old }
+    ensures done_missed { result ≡ 0 → H.missed shelf.new ≡ H.missed shelf.old }
+    ensures done_note_faults { result ≡ 0 → E.faults note.new ≡ E.faults note.old }
+    ensures refused_out_faults { IsRefusal result → S.faults out.new ≡ S.faults out.old }
 {
     match answer(alloc, words, shelf, out) {
         Ok(()) => 0,

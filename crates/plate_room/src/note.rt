@@ -1,8 +1,9 @@
 // The lines that tell why a command was refused, and the status that goes with each.
-ghost use Rattle.std.specs.Prelude.{◌≡◌, IfOk, string_bytes};
+ghost use Rattle.std.specs.Prelude.{◌≡◌, ◌≤◌, IfOk, string_bytes};
 ghost use Rattle.pr_ports.specs.Sink.{GrewByPrefix};
 ghost use Rattle.plate_room.specs.Line.{memory_line};
-ghost use Rattle.plate_room.specs.Answer.{Told, Tells, line_of};
+ghost use Rattle.plate_room.specs.End.{IsRefusal};
+ghost use Rattle.plate_room.specs.Answer.{IsOwn, Told, Tells, line_of};
 
 use pr_base::TagFault;
 use pr_ports::{Sink, SinkFault};
@@ -77,7 +78,9 @@ fn tell_line<E: Sink>(alloc: Global, refusal: &Refusal<'_>, status: u8, note: &m
 
 /// Tells of a refusal, and answers its status.
 pub(crate) fn tell<E: Sink>(alloc: Global, refusal: &Refusal<'_>, note: &mut E) -> u8
-    ensures { Told refusal.now (E.given note.old) (E.given note.new) (E.faults note.old) (E.faults note.new) result }
+    ensures told { Told refusal.now (E.given note.old) (E.given note.new) (E.faults note.old) (E.faults note.new) result }
+    ensures status { 2 ≤ result }
+    ensures refused { IsRefusal result → IsOwn refusal.now }
 {
     match refusal {
         Refusal::Words => tell_line(alloc, refusal, WORDS, note),

@@ -1,24 +1,25 @@
-// Printing the black plate of one image.
-ghost use Rattle.std.specs.Prelude.{◌≡◌, ◌+◌, ◌*◌, ◌≤◌, ℕ, List, Option, Ok, IfOk, OnOk, OnErr, IsErrOf, length, false};
+// Making and printing the black plate of one image.
+ghost use Rattle.std.specs.Prelude.{◌≡◌, ◌++◌, IfOk, OnOk, ◌*◌, ◌≤◌, [], ℕ, length};
 ghost use Rattle.std.specs.List.{flat_map};
-ghost use Rattle.pr_base.specs.Row.{row_size};
-ghost use Rattle.pr_base.specs.Bits.{bit_at};
-ghost use Rattle.pr_ports.specs.Count.{Rose};
-ghost use Rattle.pr_ports.specs.Sink.{Grew, GrewByPrefix};
+ghost use Rattle.pr_base.specs.Place.{with_place};
+ghost use Rattle.tif_packbits.specs.Packbits.{packing};
 ghost use Rattle.scr_tile.specs.Tile.{threshold_at};
 ghost use Rattle.scr_tile.specs.AnyTile.{threshold_of};
+ghost use Rattle.tif_plate.specs.Plate.{IsSide, rows_each, strip_count, strip_counts};
+ghost use Rattle.tif_plate.specs.Tail.{IsPlaceable, counts_so_far, front_bytes, tail_bytes, tail_place};
 ghost use Rattle.tif_strips.specs.Strips.{row_length};
-ghost use Rattle.tif_image.specs.Image.{contone_shape};
 ghost use Rattle.plate_room.specs.One.{black_plate, black_rows};
-ghost use Rattle.plate_room.specs.Answer.{Printed};
+ghost use Rattle.plate_room.specs.Room.{FitsRow};
+ghost use Rattle.plate_room.specs.Answer.{OnRefused, Printed};
 
-use crate::black::screen_black;
-use pr_base::{NoMemory, TagFault, row_bytes};
+use crate::room::{RowRoom, pack_next, row_room};
+use byteorder::{ByteOrder, LittleEndian};
+use pr_base::{NoMemory, TagFault};
 use pr_ports::{Sink, SinkFault};
 use scr_tile::AnyTile;
 use std::alloc::Global;
 use tif_image::Contone;
-use tif_plate::plate_head;
+use tif_plate::{plate_front, plate_tail, rows_per_strip, strips};
 use tif_strips::RowCursor;
 
 /// Pixels an inch of a plate of one image.
@@ -26,6 +27,9 @@ const DPI: u32 = 1200;
 
 /// The side of its Bayer tile.
 const SIDE: u8 = 4;
+
+/// The bytes behind the rows of a plate are at most so many, and eight for each strip.
+const MOST_TAIL: usize = 167;
 
 /// Why a plate wasn't printed whole.
 pub(crate) enum PlateFault {
@@ -36,101 +40,118 @@ pub(crate) enum PlateFault {
     Printing,
 }
 
-/// Checks an image and prints its black plate. Nothing is printed of an image that is refused.
+/// Checks an image and prints its black plate. Nothing is printed of an image that is refused, nor before the whole
+/// plate is made.
 pub(crate) fn print_plate<S: Sink>(
     alloc: Global,
     bytes: &[u8],
     out: &mut S,
 ) -> Result<(), PlateFault>
-    ensures { Printed bytes.now (S.given out.old) (S.given out.new) (S.faults out.old) (S.faults out.new) result }
+    ensures printed { Printed bytes.now (S.given out.old) (S.given out.new) (S.faults out.old) (S.faults out.new) result }
+    ensures refused { OnRefused result (S.faults out.new ≡ S.faults out.old) }
 {
     let image = match Contone::check(bytes) {
         Ok(image) => image,
         Err(fault) => return Err(PlateFault::Refused(fault)),
     };
-    match print_image(alloc, &image, out) {
+    let Ok(plate) = make_plate(alloc, &image) else {
+        return Err(PlateFault::Memory);
+    };
+    match out.put(plate.as_slice()) {
         Ok(()) => Ok(()),
         Err(SinkFault::Failed) => Err(PlateFault::Printing),
         Err(SinkFault::Memory) => Err(PlateFault::Memory),
     }
 }
 
-/// Room for one row: the pixels, their black samples, and the row of the plate.
-#[derive(Drop)]
-struct RowBuffers {
-    pixels: Vec<u8>,
-    black: Vec<u8>,
-    bits: Vec<u8>,
-}
-
-/// Takes the room for a row of `width` pixels.
-fn row_room(alloc: Global, width: u32) -> Result<RowBuffers, NoMemory>
-    requires { width ≤ 65535 }
-    ensures pixels { IfOk result (λ room. length room.pixels.items ≡ 4 * width) }
-    ensures black { IfOk result (λ room. length room.black.items ≡ width) }
-    ensures bits { IfOk result (λ room. length room.bits.items ≡ row_size width) }
-    ensures clear { IfOk result (λ room. (x : ℕ) → bit_at room.bits.items x ≡ false) }
-{
-    Ok(RowBuffers {
-        pixels: vec![in alloc; 0; 4 * width as usize]?,
-        black: vec![in alloc; 0; width as usize]?,
-        bits: vec![in alloc; 0; row_bytes(width)]?,
-    })
-}
-
-/// Prints the plate of an image that was checked.
-fn print_image<S: Sink>(alloc: Global, image: &Contone<'_>, out: &mut S) -> Result<(), SinkFault>
-    ensures printed { OnOk result (Grew (S.given out.old) (S.given out.new) (black_plate image.now.shape image.now.bytes)) }
-    ensures cut_short { OnErr result (GrewByPrefix (S.given out.old) (S.given out.new) (black_plate image.now.shape image.now.bytes)) }
-    ensures counted { IsErrOf result SinkFault.Failed → Rose (S.faults out.old) (S.faults out.new) }
-    ensures faults_stay { S.faults out.old ≤ S.faults out.new }
+/// The plate of an image that was checked. The directory stands behind the rows, whose packed length isn't known before
+/// they are screened, so all rows are packed before the first byte of a plate can be told.
+fn make_plate(alloc: Global, image: &Contone<'_>) -> Result<Vec<u8>, NoMemory>
+    ensures { IfOk result (λ plate. plate.items ≡ black_plate image.now.shape image.now.bytes) }
 {
     let width = image.width();
-    let Ok(head) = plate_head(alloc, width, image.length(), DPI) else {
-        return Err(SinkFault::Memory);
-    };
-    let Ok(mut room) = row_room(alloc, width) else {
-        return Err(SinkFault::Memory);
-    };
+    let height = image.length();
+    let mut counts = vec![in alloc; 0; strips(width, height) as usize]?;
+    let mut plate = begin_plate(alloc, image, &mut counts)?;
+    finish_plate(alloc, width, height, &counts, &mut plate)?;
+    Ok(plate)
+}
+
+/// The front of a plate and its packed rows. Counts the bytes of each strip.
+fn begin_plate(
+    alloc: Global,
+    image: &Contone<'_>,
+    counts: &mut [u32],
+) -> Result<Vec<u8>, NoMemory>
+    requires { counts.old ≡ counts_so_far image.now.shape.width image.now.shape.length [] }
+    ensures counts { OnOk result (counts.new ≡ strip_counts image.now.shape.width (black_rows image.now.shape image.now.bytes)) }
+    ensures packed { IfOk result (λ plate. plate.items ≡ front_bytes ++ flat_map packing (black_rows image.now.shape image.now.bytes)) }
+{
+    let mut room = row_room(alloc, image.width())?;
     let Some(tile) = AnyTile::bayer(SIDE) else {
         unreachable!()
     };
-    out.put(head.as_slice())?;
-    print_rows(
-        image.rows(),
-        &tile,
-        &mut room.pixels,
-        &mut room.black,
-        &mut room.bits,
-        out,
-    )
+    let each = rows_per_strip(image.width());
+    let mut plate = Vec::new(alloc);
+    plate.extend_from_slice(&plate_front())?;
+    pack_rows(image.rows(), &tile, each, &mut room, counts, &mut plate)?;
+    Ok(plate)
 }
 
-/// Prints the rows of the plate, one by one as the image gives them. The slices are room for a row.
-fn print_rows<S: Sink>(
+/// Appends the tail of a plate, and writes the place of its directory.
+fn finish_plate(
+    alloc: Global,
+    width: u32,
+    height: u32,
+    counts: &[u32],
+    plate: &mut Vec<u8>,
+) -> Result<(), NoMemory>
+    requires width { IsSide width }
+    requires height { IsSide height }
+    requires counts { length counts.now ≡ strip_count width height }
+    requires sum { IsPlaceable counts.now }
+    requires front { 8 ≤ length plate.old.items }
+    ensures { OnOk result (plate.new.items ≡ with_place (tail_place counts.now) (plate.old.items ++ tail_bytes width height 1200 counts.now)) }
+{
+    let mut tail = vec![in alloc; 0; MOST_TAIL + 8 * counts.len()]?;
+    let end = plate_tail(width, height, DPI, counts, &mut tail);
+    plate.extend_from_slice(&tail[..end.len])?;
+    put_place(plate, end.at);
+    Ok(())
+}
+
+/// Writes the place of the directory into a plate.
+fn put_place(plate: &mut [u8], place: u32)
+    requires { 8 ≤ length plate.old }
+    ensures { plate.new ≡ with_place place plate.old }
+{
+    LittleEndian::write_u32(&mut plate[4..8], place);
+}
+
+/// Appends the packed rows of the plate of an image to `plate`, and counts the bytes of each strip of `each` rows.
+fn pack_rows(
     mut rows: RowCursor<'_>,
     tile: &AnyTile,
-    pixels: &mut [u8],
-    black: &mut [u8],
-    bits: &mut [u8],
-    out: &mut S,
-) -> Result<(), SinkFault>
+    each: u32,
+    room: &mut RowRoom,
+    counts: &mut [u32],
+    plate: &mut Vec<u8>,
+) -> Result<(), NoMemory>
     requires tile { (x y : ℕ) → threshold_of tile.now x y ≡ threshold_at 4 x y }
     requires top { rows.next ≡ 0 }
     requires row { row_length rows.shape ≡ 4 * rows.shape.width }
-    requires pixels { length pixels.old ≡ 4 * rows.shape.width }
-    requires black { length black.old ≡ rows.shape.width }
-    requires bits { length bits.old ≡ row_size rows.shape.width }
-    requires clear { (x : ℕ) → bit_at bits.old x ≡ false }
-    ensures printed { OnOk result (Grew (S.given out.old) (S.given out.new) (flat_map (λ row. row) (black_rows rows.entry.shape rows.entry.bytes))) }
-    ensures cut_short { OnErr result (GrewByPrefix (S.given out.old) (S.given out.new) (flat_map (λ row. row) (black_rows rows.entry.shape rows.entry.bytes))) }
-    ensures counted { IsErrOf result SinkFault.Failed → Rose (S.faults out.old) (S.faults out.new) }
-    ensures faults_stay { S.faults out.old ≤ S.faults out.new }
+    requires width { IsSide rows.shape.width }
+    requires height { IsSide rows.shape.length }
+    requires each { each ≡ rows_each rows.shape.width }
+    requires room { FitsRow rows.shape.width room.old }
+    requires counts { counts.old ≡ counts_so_far rows.shape.width rows.shape.length [] }
+    ensures counts { OnOk result (counts.new ≡ strip_counts rows.entry.shape.width (black_rows rows.entry.shape rows.entry.bytes)) }
+    ensures packed { OnOk result (plate.new.items ≡ plate.old.items ++ flat_map packing (black_rows rows.entry.shape rows.entry.bytes)) }
 {
     for y in 0..rows.left() {
-        rows.next_row(pixels);
-        screen_black(tile, y, pixels, black, bits);
-        out.put(bits)?;
+        let len = pack_next(&mut rows, y, tile, room);
+        plate.extend_from_slice(&room.packed[..len])?;
+        counts[(y / each) as usize] += len as u32;
     }
     Ok(())
 }

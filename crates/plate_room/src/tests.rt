@@ -1,8 +1,11 @@
 // Whole runs of `plate_main` over a shelf and sinks in memory.
+ghost use Rattle.std.specs.Prelude.{None};
+
 use super::*;
 use pr_base::PathText;
-use pr_ports::{MemShelf, MemSink};
+use pr_ports::{LoadFault, MemShelf, MemSink, Shelf, Sink, SinkFault};
 use std::alloc::{AllocError, Global};
+use std::process::Abort;
 use std::test::Fail;
 
 // The bytes before the samples of a CMYK file of one strip, with nine entries. Width, length, rows a strip and
@@ -39,24 +42,25 @@ const BIG_HEAD: [u8; 130] = [
 ];
 
 // The plate of 4 by 1 pixels with black 1, 127, 31, 255: thresholds 0, 127, 31, 159.
-const PLATE: [u8; 175] = [
-    0x49, 0x49, 0x2A, 0, 8, 0, 0, 0, 0x0C, 0, //
+const PLATE: [u8; 176] = [
+    0x49, 0x49, 0x2A, 0, 0x0A, 0, 0, 0, //
+    0x00, 0x90, //
+    0x0C, 0, //
     0x00, 1, 4, 0, 1, 0, 0, 0, 4, 0, 0, 0, //
     0x01, 1, 4, 0, 1, 0, 0, 0, 1, 0, 0, 0, //
     0x02, 1, 3, 0, 1, 0, 0, 0, 1, 0, 0, 0, //
-    0x03, 1, 3, 0, 1, 0, 0, 0, 1, 0, 0, 0, //
+    0x03, 1, 3, 0, 1, 0, 0, 0, 5, 0x80, 0, 0, //
     0x06, 1, 3, 0, 1, 0, 0, 0, 0, 0, 0, 0, //
-    0x11, 1, 4, 0, 1, 0, 0, 0, 0xAE, 0, 0, 0, //
+    0x11, 1, 4, 0, 1, 0, 0, 0, 8, 0, 0, 0, //
     0x15, 1, 3, 0, 1, 0, 0, 0, 1, 0, 0, 0, //
     0x16, 1, 4, 0, 1, 0, 0, 0, 0, 0x20, 0, 0, //
-    0x17, 1, 4, 0, 1, 0, 0, 0, 1, 0, 0, 0, //
-    0x1A, 1, 5, 0, 1, 0, 0, 0, 0x9E, 0, 0, 0, //
-    0x1B, 1, 5, 0, 1, 0, 0, 0, 0xA6, 0, 0, 0, //
+    0x17, 1, 4, 0, 1, 0, 0, 0, 2, 0, 0, 0, //
+    0x1A, 1, 5, 0, 1, 0, 0, 0, 0xA0, 0, 0, 0, //
+    0x1B, 1, 5, 0, 1, 0, 0, 0, 0xA8, 0, 0, 0, //
     0x28, 1, 3, 0, 1, 0, 0, 0, 2, 0, 0, 0, //
     0, 0, 0, 0, //
     0xB0, 4, 0, 0, 1, 0, 0, 0, //
     0xB0, 4, 0, 0, 1, 0, 0, 0, //
-    0x90,
 ];
 
 // Replaces the bytes from a place on.
@@ -79,6 +83,15 @@ fn input(alloc: Global, width: u32, length: u32, black: &[u8]) -> Result<Vec<u8>
     );
     for sample in black {
         file.extend_from_slice(&[0, 0, 0, *sample])?;
+    }
+    Ok(file)
+}
+
+// The same where all black samples are alike.
+fn flat(alloc: Global, width: u32, length: u32, sample: u8) -> Result<Vec<u8>, AllocError> {
+    let mut file = input(alloc, width, length, &[])?;
+    for _pixel in 0..width.wrapping_mul(length) {
+        file.extend_from_slice(&[0, 0, 0, sample])?;
     }
     Ok(file)
 }
@@ -133,53 +146,137 @@ const ONE: [&str; 2] = ["one", "a.tif"];
 
 const CALM: [Option<u64>; 3] = [None, None, None];
 
-#[test]
-fn prints_plates(rt: HostRuntime) -> Result<(), Fail> {
-    let alloc = rt.alloc();
-    let left = run_words(alloc, &ONE, four_by_one(alloc)?, CALM)?;
+// Over this file `one` prints this plate, and tells nothing.
+fn assert_prints(rt: &impl Abort, alloc: Global, file: Vec<u8>, plate: &[u8]) -> Result<(), Fail> {
+    let left = run_words(alloc, &ONE, file, CALM)?;
     assert_eq!(rt; left.status, 0);
-    assert_eq!(rt; left.out.bytes(), PLATE.as_slice());
+    assert_eq!(rt; left.out.bytes(), plate);
     assert_eq!(rt; left.note.bytes(), b"".as_slice());
-
-    // 9 by 1 pixels, all black: two bytes a row, the second padded.
-    let left = run_words(alloc, &ONE, input(alloc, 9, 1, &[255; 9])?, CALM)?;
-    let mut plate = PLATE.to_vec(alloc)?;
-    patch(&mut plate, 18, &[9]);
-    patch(&mut plate, 102, &[0, 16]);
-    patch(&mut plate, 114, &[2]);
-    patch(&mut plate, 174, &[0xFF]);
-    plate.push(0x80)?;
-    assert_eq!(rt; left.status, 0);
-    assert_eq!(rt; left.out.bytes(), plate.as_slice());
-
-    // 32,768 by 3 pixels without ink: rows of 4,096 bytes, two strips.
-    let white = vec![in alloc; 0u8; 98_304]?;
-    let left = run_words(alloc, &ONE, input(alloc, 32_768, 3, &white)?, CALM)?;
-    let mut plate = PLATE.to_vec(alloc)?;
-    patch(&mut plate, 18, &[0, 0x80]);
-    patch(&mut plate, 30, &[3]);
-    patch(&mut plate, 74, &[2]);
-    patch(&mut plate, 102, &[2, 0]);
-    patch(&mut plate, 110, &[2, 0, 0, 0, 182]);
-    plate.truncate(174);
-    plate.extend_from_slice(&[190, 0, 0, 0, 0xBE, 0x20, 0, 0, 0, 0x20, 0, 0, 0, 0x10, 0, 0])?;
-    plate.extend_from_slice(&[0; 12_288])?;
-    assert_eq!(rt; plate.len(), 12_478);
-    assert_eq!(rt; left.status, 0);
-    assert_eq!(rt; left.out.bytes(), plate.as_slice());
     Ok(())
 }
 
-#[test]
-fn reads_directories_of_either_order(rt: HostRuntime) -> Result<(), Fail> {
-    let alloc = rt.alloc();
-    let mut big = BIG_HEAD.to_vec(alloc)?;
-    big.extend_from_slice(&[0, 0, 0, 1, 0, 0, 0, 127, 0, 0, 0, 31, 0, 0, 0, 255])?;
-    let left = run_words(alloc, &ONE, big, CALM)?;
-    assert_eq!(rt; left.status, 0);
-    assert_eq!(rt; left.out.bytes(), PLATE.as_slice());
+// A plate with these packed rows, behind them the directory and the resolutions of `PLATE`, and behind these a table.
+fn plate_of(alloc: Global, rows: &[u8], table: &[u8]) -> Result<Vec<u8>, AllocError> {
+    let mut plate = PLATE[..8].to_vec(alloc)?;
+    plate.extend_from_slice(rows)?;
+    plate.extend_from_slice(&PLATE[10..])?;
+    plate.extend_from_slice(table)?;
+    Ok(plate)
+}
 
-    // The nine entries from the last to the first.
+// Packets one behind the other, each so often.
+fn packets(alloc: Global, runs: &[(u32, [u8; 2])]) -> Result<Vec<u8>, AllocError> {
+    let mut packed = Vec::new(alloc);
+    for (times, packet) in runs {
+        for _packet in 0..*times {
+            packed.extend_from_slice(packet)?;
+        }
+    }
+    Ok(packed)
+}
+
+#[test]
+fn prints_the_smallest_plate(rt: HostRuntime) -> Result<(), Fail> {
+    let alloc = rt.alloc();
+    assert_prints(&rt, alloc, four_by_one(alloc)?, &PLATE)
+}
+
+// 9 by 1 pixels, all black: two bytes a row, the second padded, and a byte before the directory.
+#[test]
+fn prints_a_padded_row(rt: HostRuntime) -> Result<(), Fail> {
+    let alloc = rt.alloc();
+    let mut plate = plate_of(alloc, &[1, 0xFF, 0x80, 0], &[])?;
+    patch(&mut plate, 4, &[12]);
+    patch(&mut plate, 22, &[9]);
+    patch(&mut plate, 106, &[0, 16]);
+    patch(&mut plate, 118, &[3]);
+    patch(&mut plate, 130, &[0xA2]);
+    patch(&mut plate, 142, &[0xAA]);
+    assert_prints(&rt, alloc, input(alloc, 9, 1, &[255; 9])?, &plate)
+}
+
+// 32,768 by 3 pixels without ink: rows of 4,096 bytes, packed to 64, in two strips.
+#[test]
+fn prints_white_in_two_strips(rt: HostRuntime) -> Result<(), Fail> {
+    let alloc = rt.alloc();
+    let rows = packets(alloc, &[(96, [0x81, 0])])?;
+    let table = [8, 0, 0, 0, 136, 0, 0, 0, 128, 0, 0, 0, 64, 0, 0, 0];
+    let mut plate = plate_of(alloc, &rows, &table)?;
+    patch(&mut plate, 4, &[200]);
+    patch(&mut plate, 210, &[0, 0x80]);
+    patch(&mut plate, 222, &[3]);
+    patch(&mut plate, 266, &[2, 0, 0, 0, 0x6E, 1]);
+    patch(&mut plate, 294, &[2, 0]);
+    patch(&mut plate, 302, &[2, 0, 0, 0, 0x76, 1]);
+    patch(&mut plate, 318, &[0x5E, 1]);
+    patch(&mut plate, 330, &[0x66, 1]);
+    assert_prints(&rt, alloc, flat(alloc, 32_768, 3, 0)?, &plate)
+}
+
+// 65,535 by 2 pixels, all black: a strip for each row of 8,192 bytes, packed to 130.
+#[test]
+fn prints_the_widest_plate(rt: HostRuntime) -> Result<(), Fail> {
+    let alloc = rt.alloc();
+    let row: [(u32, [u8; 2]); 3] = [(63, [0x81, 0xFF]), (1, [0x82, 0xFF]), (1, [0, 0xFE])];
+    let mut rows = packets(alloc, &row)?;
+    rows.extend_from_slice(&packets(alloc, &row)?)?;
+    let table = [8, 0, 0, 0, 138, 0, 0, 0, 130, 0, 0, 0, 130, 0, 0, 0];
+    let mut plate = plate_of(alloc, &rows, &table)?;
+    patch(&mut plate, 4, &[12, 1]);
+    patch(&mut plate, 278, &[0xFF, 0xFF]);
+    patch(&mut plate, 290, &[2]);
+    patch(&mut plate, 334, &[2, 0, 0, 0, 0xB2, 1]);
+    patch(&mut plate, 362, &[1, 0]);
+    patch(&mut plate, 370, &[2, 0, 0, 0, 0xBA, 1]);
+    patch(&mut plate, 386, &[0xA2, 1]);
+    patch(&mut plate, 398, &[0xAA, 1]);
+    assert_prints(&rt, alloc, flat(alloc, 65_535, 2, 255)?, &plate)
+}
+
+// Compression 32773, and the samples as one literal.
+#[test]
+fn reads_a_packed_image(rt: HostRuntime) -> Result<(), Fail> {
+    let alloc = rt.alloc();
+    let mut file = INPUT_HEAD.to_vec(alloc)?;
+    patch(&mut file, 18, &[4]);
+    patch(&mut file, 30, &[1]);
+    patch(&mut file, 54, &[5, 0x80]);
+    patch(&mut file, 102, &[1]);
+    patch(&mut file, 114, &[17]);
+    file.extend_from_slice(&[15, 0, 0, 0, 1, 0, 0, 0, 127, 0, 0, 0, 31, 0, 0, 0, 255])?;
+    assert_prints(&rt, alloc, file, &PLATE)
+}
+
+// PlanarConfiguration 2 in place of Compression, whose default is 1, and four strips, one for each ink.
+#[test]
+fn reads_a_planar_image(rt: HostRuntime) -> Result<(), Fail> {
+    let alloc = rt.alloc();
+    let mut file = INPUT_HEAD.to_vec(alloc)?;
+    patch(&mut file, 18, &[4]);
+    patch(&mut file, 30, &[1]);
+    patch(&mut file, 46, &[0x1C, 1, 3, 0, 1, 0, 0, 0, 2]);
+    patch(&mut file, 74, &[4, 0, 0, 0, 146]);
+    patch(&mut file, 102, &[1]);
+    patch(&mut file, 110, &[4, 0, 0, 0, 162]);
+    file.extend_from_slice(&[0, 0, 0, 0, 0, 0, 0, 0, 0, 0, 0, 0, 1, 127, 31, 255])?;
+    file.extend_from_slice(&[130, 0, 0, 0, 134, 0, 0, 0, 138, 0, 0, 0, 142, 0, 0, 0])?;
+    file.extend_from_slice(&[4, 0, 0, 0, 4, 0, 0, 0, 4, 0, 0, 0, 4, 0, 0, 0])?;
+    assert_prints(&rt, alloc, file, &PLATE)
+}
+
+// The most significant byte first.
+#[test]
+fn reads_the_other_order(rt: HostRuntime) -> Result<(), Fail> {
+    let alloc = rt.alloc();
+    let mut file = BIG_HEAD.to_vec(alloc)?;
+    file.extend_from_slice(&[0, 0, 0, 1, 0, 0, 0, 127, 0, 0, 0, 31, 0, 0, 0, 255])?;
+    assert_prints(&rt, alloc, file, &PLATE)
+}
+
+// The nine entries from the last to the first.
+#[test]
+fn reads_entries_in_any_order(rt: HostRuntime) -> Result<(), Fail> {
+    let alloc = rt.alloc();
     let file = four_by_one(alloc)?;
     assert_eq!(rt; file.len(), 146);
     let (front, rest) = file.as_slice().split_at(10);
@@ -189,17 +286,16 @@ fn reads_directories_of_either_order(rt: HostRuntime) -> Result<(), Fail> {
         turned.extend_from_slice(entry)?;
     }
     turned.extend_from_slice(back)?;
-    let left = run_words(alloc, &ONE, turned, CALM)?;
-    assert_eq!(rt; left.status, 0);
-    assert_eq!(rt; left.out.bytes(), PLATE.as_slice());
+    assert_prints(&rt, alloc, turned, &PLATE)
+}
 
-    // Two entries of ImageWidth, of which the first counts: in place of Compression, whose default is 1.
+// Two entries of ImageWidth, of which the first counts: in place of Compression, whose default is 1.
+#[test]
+fn takes_the_first_entry(rt: HostRuntime) -> Result<(), Fail> {
+    let alloc = rt.alloc();
     let mut file = four_by_one(alloc)?;
     patch(&mut file, 46, &[0x00, 1, 4, 0, 1, 0, 0, 0, 9]);
-    let left = run_words(alloc, &ONE, file, CALM)?;
-    assert_eq!(rt; left.status, 0);
-    assert_eq!(rt; left.out.bytes(), PLATE.as_slice());
-    Ok(())
+    assert_prints(&rt, alloc, file, &PLATE)
 }
 
 #[test]
@@ -221,39 +317,48 @@ fn refuses_by_name(rt: HostRuntime) -> Result<(), Fail> {
         assert_eq!(rt; left.note.bytes(), line.as_bytes());
         assert_eq!(rt; left.out.bytes().is_empty(), status != 0);
     }
+    Ok(())
+}
 
-    // The first 100 bytes hold no whole directory.
-    let mut file = four_by_one(alloc)?;
-    file.truncate(100);
+// Over this file `one` prints nothing, and tells this line.
+fn assert_refuses(rt: &impl Abort, alloc: Global, file: Vec<u8>, line: &str) -> Result<(), Fail> {
     let left = run_words(alloc, &ONE, file, CALM)?;
     assert_eq!(rt; left.status, 4);
-    let line = "plateroom: file a.tif: tag 0: directory\n";
-    assert_eq!(rt; left.note.bytes(), line.as_bytes());
     assert_eq!(rt; left.out.bytes(), b"".as_slice());
-
-    // Compression 5 is LZW.
-    let mut file = four_by_one(alloc)?;
-    patch(&mut file, 54, &[5]);
-    let left = run_words(alloc, &ONE, file, CALM)?;
-    assert_eq!(rt; left.status, 4);
-    let line = "plateroom: file a.tif: tag 259: compression\n";
     assert_eq!(rt; left.note.bytes(), line.as_bytes());
     Ok(())
+}
+
+// The first 100 bytes hold no whole directory.
+#[test]
+fn refuses_a_cut_directory(rt: HostRuntime) -> Result<(), Fail> {
+    let alloc = rt.alloc();
+    let mut file = four_by_one(alloc)?;
+    file.truncate(100);
+    assert_refuses(&rt, alloc, file, "plateroom: file a.tif: tag 0: directory\n")
+}
+
+// Compression 5 is LZW.
+#[test]
+fn refuses_lzw(rt: HostRuntime) -> Result<(), Fail> {
+    let alloc = rt.alloc();
+    let mut file = four_by_one(alloc)?;
+    patch(&mut file, 54, &[5]);
+    assert_refuses(&rt, alloc, file, "plateroom: file a.tif: tag 259: compression\n")
 }
 
 #[test]
 fn tells_what_failed(rt: HostRuntime) -> Result<(), Fail> {
     let alloc = rt.alloc();
-    // The output at its first call, at a later one, and the shelf.
-    let cases: [([Option<u64>; 3], u8, usize, &str); 3] = [
-        ([None, Some(0), None], 7, 0, ""),
-        ([None, Some(1), None], 7, 174, ""),
-        ([Some(0), None, None], 5, 0, "plateroom: shelf: a.tif\n"),
+    // The output, which takes the whole plate in one call, and the shelf.
+    let cases: [([Option<u64>; 3], u8, &str); 2] = [
+        ([None, Some(0), None], 7, ""),
+        ([Some(0), None, None], 5, "plateroom: shelf: a.tif\n"),
     ];
-    for (failing, status, len, line) in cases {
+    for (failing, status, line) in cases {
         let left = run_words(alloc, &ONE, four_by_one(alloc)?, failing)?;
         assert_eq!(rt; left.status, status);
-        assert_eq!(rt; left.out.bytes().len(), len);
+        assert_eq!(rt; left.out.bytes(), b"".as_slice());
         assert_eq!(rt; left.note.bytes(), line.as_bytes());
     }
 
@@ -261,5 +366,75 @@ fn tells_what_failed(rt: HostRuntime) -> Result<(), Fail> {
     let left = run_words(alloc, &[], four_by_one(alloc)?, [None, None, Some(0)])?;
     assert_eq!(rt; left.status, 7);
     assert_eq!(rt; left.note.bytes(), b"".as_slice());
+    Ok(())
+}
+
+// A shelf whose files are all too long.
+#[derive(Drop)]
+struct LongShelf {
+    longs: u64,
+}
+
+impl Shelf for LongShelf {
+    ghost held = { λ _. None };
+
+    ghost missed = { λ _. None };
+
+    ghost faults = { λ _. 0 };
+
+    ghost longs = { λ s. s.longs };
+
+    fn load(&mut self, _path: &str, limit: u64) -> Result<Vec<u8>, LoadFault> {
+        self.longs = self.longs.saturating_add(1);
+        Err(LoadFault::TooLong { limit })
+    }
+}
+
+// A sink that has no memory left.
+#[derive(Drop)]
+struct FullSink;
+
+impl Sink for FullSink {
+    ghost given = { λ _. None };
+
+    ghost faults = { λ _. 0 };
+
+    fn put(&mut self, _bytes: &[u8]) -> Result<(), SinkFault> {
+        Err(SinkFault::Memory)
+    }
+}
+
+// The words of `ONE`.
+fn one(alloc: Global) -> Result<Vec<String>, AllocError> {
+    let mut words = Vec::new(alloc);
+    words.push(String::from_str(alloc, "one")?)?;
+    words.push(String::from_str(alloc, "a.tif")?)?;
+    Ok(words)
+}
+
+#[test]
+fn refuses_a_file_that_is_too_long(rt: HostRuntime) -> Result<(), Fail> {
+    let alloc = rt.alloc();
+    let words = one(alloc)?;
+    let mut shelf = LongShelf { longs: 0 };
+    let mut out = MemSink::new(alloc, Vec::new(alloc));
+    let mut note = MemSink::new(alloc, Vec::new(alloc));
+    let status = plate_main(alloc, words.as_slice(), &mut shelf, &mut out, &mut note);
+    assert_eq!(rt; status, 4);
+    assert_eq!(rt; out.bytes(), b"".as_slice());
+    let line = "plateroom: file a.tif: tag 0: too long\n";
+    assert_eq!(rt; note.bytes(), line.as_bytes());
+    Ok(())
+}
+
+#[test]
+fn tells_of_an_output_without_memory(rt: HostRuntime) -> Result<(), Fail> {
+    let alloc = rt.alloc();
+    let words = one(alloc)?;
+    let mut shelf = shelf_of(alloc, four_by_one(alloc)?, Vec::new(alloc))?;
+    let mut note = MemSink::new(alloc, Vec::new(alloc));
+    let status = plate_main(alloc, words.as_slice(), &mut shelf, &mut FullSink, &mut note);
+    assert_eq!(rt; status, 6);
+    assert_eq!(rt; note.bytes(), b"plateroom: memory\n".as_slice());
     Ok(())
 }

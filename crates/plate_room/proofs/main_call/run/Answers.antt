@@ -2,4 +2,4 @@ use Rattle.plate_room.proofs.Ends.{ends}
 use Rattle.plate_room.proofs.main_call.run.Goals as goal
 
 pub returns-in-Err-clause-ending : goal.returns-in-Err-clause-ending
-returns-in-Err-clause-ending g c = ends _ c.in-Err.refusal c.tell.result c.in-Err.ensures.answered c.tell.ensures
+returns-in-Err-clause-ending g c = ends _ c.in-Err.refusal c.tell.result c.in-Err.ensures.answered c.tell.ensures.told

@@ -1,6 +1,6 @@
 use Rattle.std.proofs.Common.{◌≡◌, ◌∙◌, sym, ap, append_assoc, string_bytes}
 use Rattle.plate_room.specs.Answer.{line_of}
-use Rattle.plate_room.proofs.Row.{if_ok}
+use Rattle.plate_room.proofs.Results.{if_ok}
 use Rattle.plate_room.proofs.note.line.Goals as goal
 
 pub returns-in-File : goal.returns-in-File
