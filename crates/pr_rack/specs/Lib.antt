@@ -1,0 +1,4 @@
+pub mod Count
+pub mod Rack
+pub mod Stream
+pub mod Mem

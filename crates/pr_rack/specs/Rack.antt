@@ -1,0 +1,75 @@
+-- What a rack holds, and what its calls make of it.
+use Rattle.std.specs.Prelude.{◌≡◌, ℕ, ◌+◌, ◌%◌, ◌⊎◌, Bool, true, false, if◌then◌else◌, List, [], ◌∷◌, ◌++◌, length, Option, Some, None, IfSome, Result, Ok, Err, slice_index_or, slice_set, unwrap_or, option_and_then, option_to_list}
+use Rattle.std.specs.Option.{option_map}
+use Rattle.pr_base.specs.Place.{with_place}
+use Rattle.ring_lanes.specs.declared.source.Source.{Source}
+use Rattle.pr_rack.specs.declared.rack.RackCall.{RackCall}
+use Rattle.pr_rack.specs.declared.rack.RackFault.{RackFault}
+use Rattle.pr_rack.specs.declared.rack.RackFault.TheVariants.{Failed, Memory}
+
+-- a plate: its path and its bytes
+abbrev pub Plate : Type 0
+Plate = List ℕ × List ℕ
+
+-- what stands in each slot
+abbrev pub Slots : Type 0
+Slots = List (Option Plate)
+
+-- a rack of five slots, none of which is begun
+abbrev pub none_begun : List Bool
+none_begun = false ∷ false ∷ false ∷ false ∷ false ∷ []
+
+-- the plate in this slot, where told
+abbrev pub plate_in : Option Slots → ℕ → Option Plate
+plate_in working slot = option_and_then (λ slots. slice_index_or slots slot None) working
+
+-- the path of the plate in this slot, where told
+abbrev pub path_in : Option Slots → ℕ → List ℕ
+path_in working slot = unwrap_or (option_map (λ plate. plate.0) (plate_in working slot)) []
+
+-- where told, this stands in the slot, and what stood before in the others
+abbrev pub with_plate : ℕ → Option Plate → Option Slots → Option Slots
+with_plate slot plate working = option_map (λ slots. slice_set slots slot plate) working
+
+-- a plate with these bytes at its end
+abbrev pub with_bytes : List ℕ → Plate → Plate
+with_bytes bytes plate = (plate.0, plate.1 ++ bytes)
+
+-- where told, the plate in the slot has these bytes at its end
+abbrev pub with_more : ℕ → List ℕ → Option Slots → Option Slots
+with_more slot bytes working = with_plate slot (option_map (with_bytes bytes) (plate_in working slot)) working
+
+-- a plate that is closed by this tail and this place of its directory
+abbrev pub closed : List ℕ → ℕ → Plate → Plate
+closed tail place plate = (plate.0, with_place place (plate.1 ++ tail))
+
+-- where told, the finished plates with that of the slot behind them, closed by this tail and place
+abbrev pub finished_with : Option Slots → ℕ → List ℕ → ℕ → Option (List Plate) → Option (List Plate)
+finished_with working slot tail place finished =
+    option_map (λ plates. plates ++ option_to_list (option_map (closed tail place) (plate_in working slot))) finished
+
+-- a directory at this place stands right behind a plate of so many bytes, at an even place or where they end
+abbrev pub IsBehind : ℕ → ℕ → Type 0
+IsBehind len place = (place ≡ len) ⊎ ((len % 2 ≡ 1) × (place ≡ len + 1))
+
+-- which slots are begun is as before, this one aside
+abbrev pub OthersBegun : ℕ → List Bool → List Bool → Type 0
+OthersBegun slot old new = slice_set new slot false ≡ slice_set old slot false
+
+-- where told, what stands in the slots is as before, this one aside
+abbrev pub OthersStand : ℕ → Option Slots → Option Slots → Type 0
+OthersStand slot old new = with_plate slot None new ≡ with_plate slot None old
+
+-- where told, the row with this number and source was taken behind the others
+abbrev pub with_row : ℕ → Source → Option (List (ℕ × Source)) → Option (List (ℕ × Source))
+with_row number source taken = option_map (λ rows. rows ++ (number, source) ∷ []) taken
+
+-- the call answered Failed
+abbrev pub has_failed : {T : Type 0} → Result T RackFault → Bool
+has_failed (Ok value) = false
+has_failed (Err Failed) = true
+has_failed (Err Memory) = false
+
+-- where told, the last failed call and its plate's path, after this call at this path failed or didn't
+abbrev pub missed_after : Bool → RackCall → List ℕ → Option (Option (RackCall × List ℕ)) → Option (Option (RackCall × List ℕ))
+missed_after failed call path missed = option_map (λ last. if failed then Some (call, path) else last) missed

@@ -1,0 +1,139 @@
+// The rack of the machine's files.
+ghost use Rattle.std.specs.Prelude.{refl, ◌≡◌, ◌≤◌, true, false, None, Some, IsErrOf, OnErr, OnOk, is_ok, is_some, length, map, slice_get, slice_set};
+ghost use Rattle.tif_packbits.specs.Frame.{IsFrame};
+ghost use Rattle.pr_rack.specs.Count.{Rose, count_unless};
+ghost use Rattle.pr_rack.specs.Rack.{OthersBegun, none_begun};
+
+use crate::count::raised;
+use crate::open_files::OpenFiles;
+use crate::plate_file::PlateFile;
+use crate::{Rack, RackFault};
+use ring_lanes::Held;
+use std::fs::File;
+use std::marker::Model;
+use std::path::Path;
+use std::rt::Files;
+use std::{fs, io};
+use tif_packbits::framed;
+
+/// The files of the machine. A plate's file is written as its rows come, and a file that stood at its path is
+/// replaced; the folders of the path are made. An error of the machine is a counted `Failed`. The partial file of a
+/// plate that isn't finished stays. It tells nothing but which slots are begun, and its count.
+#[derive(Drop)]
+pub struct HostRack<R: Files<File = File>> {
+    rt: R,
+    open: OpenFiles,
+    faults: u64,
+}
+
+impl<R: Files<File = File>> Model for HostRack<R> {
+    ghost use Rattle.pr_rack.specs.Mem.{HostState};
+
+    ghost Value = { HostState };
+
+    ghost view = { λ r. record { begun = r.open; faults = r.faults } };
+}
+
+impl<R: Files<File = File>> HostRack<R> {
+    /// A rack of the machine's files with no begun slot, and no failure counted yet.
+    pub fn new(rt: R) -> HostRack<R>
+        ensures { result ≡ record { begun = none_begun; faults = 0 } }
+    {
+        HostRack {
+            rt,
+            open: OpenFiles::new(),
+            faults: 0,
+        }
+    }
+}
+
+/// Makes the folders of a path and an empty file there.
+fn create<R: Files<File = File>>(rt: &R, path: &str) -> io::Result<File> {
+    if let Some(folder) = Path::new(path).parent() {
+        fs::create_dir_all(rt, folder)?;
+    }
+    fs::create(rt, path)
+}
+
+impl<R: Files<File = File>> Rack for HostRack<R> {
+    ghost finished = { λ _. None };
+
+    ghost working = { λ _. None };
+
+    ghost begun = { λ r. r.begun };
+
+    ghost taken = { λ _. None };
+
+    ghost missed = { λ _. None };
+
+    ghost faults = { λ r. r.faults };
+
+    ghost finished_told = { λ r h. refl };
+
+    ghost missed_told = { λ r h. refl };
+
+    ghost begun_told = { λ r. tt };
+
+    fn begin(&mut self, slot: usize, path: &str, head: &[u8]) -> Result<(), RackFault>
+        requires empty { slice_get self.old.begun slot ≡ Some false }
+        requires head { length head.now ≡ 8 }
+        ensures begun { OnOk result (self.new.begun ≡ slice_set self.old.begun slot true) }
+        ensures others_begun { OnErr result (OthersBegun slot self.old.begun self.new.begun) }
+        ensures counted { IsErrOf result RackFault.Failed → Rose self.old.faults self.new.faults }
+        ensures faults_stay { self.old.faults ≤ self.new.faults }
+
+        ensures count { self.new.faults ≡ count_unless (is_ok result) self.old.faults }
+    {
+        let Ok(file) = create(&self.rt, path) else {
+            self.faults = raised(self.faults);
+            return Err(RackFault::Failed);
+        };
+        let mut file = PlateFile::new(file, self.faults);
+        let written = file.append(head);
+        self.faults = file.faults();
+        if !written {
+            return Err(RackFault::Failed);
+        }
+        self.open.put(slot, file.into_file());
+        Ok(())
+    }
+
+    fn row(&mut self, slot: usize, held: &Held) -> Result<(), RackFault>
+        requires begun { slice_get self.old.begun slot ≡ Some true }
+        requires frame { IsFrame held.now.bytes }
+        ensures begun { OnOk result (self.new.begun ≡ self.old.begun) }
+        ensures others_begun { OnErr result (OthersBegun slot self.old.begun self.new.begun) }
+        ensures counted { IsErrOf result RackFault.Failed → Rose self.old.faults self.new.faults }
+        ensures faults_stay { self.old.faults ≤ self.new.faults }
+
+        ensures count { self.new.faults ≡ count_unless (is_ok result) self.old.faults }
+    {
+        let mut file = PlateFile::new(self.open.take(slot), self.faults);
+        let written = file.append(framed(held.bytes()));
+        self.faults = file.faults();
+        if !written {
+            return Err(RackFault::Failed);
+        }
+        self.open.put(slot, file.into_file());
+        Ok(())
+    }
+
+    fn finish(&mut self, slot: usize, tail: &[u8], at: u32) -> Result<(), RackFault>
+        requires begun { slice_get self.old.begun slot ≡ Some true }
+        ensures begun { OnOk result (self.new.begun ≡ slice_set self.old.begun slot false) }
+        ensures others_begun { OnErr result (OthersBegun slot self.old.begun self.new.begun) }
+        ensures counted { IsErrOf result RackFault.Failed → Rose self.old.faults self.new.faults }
+        ensures faults_stay { self.old.faults ≤ self.new.faults }
+
+        ensures count { self.new.faults ≡ count_unless (is_ok result) self.old.faults }
+    {
+        let mut file = PlateFile::new(self.open.take(slot), self.faults);
+        let closed = file.complete(tail, at);
+        self.faults = file.faults();
+        if closed {
+            Ok(())
+        } else {
+            Err(RackFault::Failed)
+        }
+    }
+}

@@ -1,0 +1,52 @@
+// The files that a rack of the machine has open.
+ghost use Rattle.std.specs.Prelude.{◌≡◌, ◌<◌, true, false, Some, length, slice_get, slice_set};
+ghost use Rattle.pr_rack.specs.Rack.{none_begun};
+
+use std::fs::File;
+use std::marker::Model;
+
+/// The file of each slot where a plate is begun. Contracts see which slots are begun.
+#[derive(Drop)]
+pub(crate) struct OpenFiles {
+    files: [Option<File>; 5],
+}
+
+impl Model for OpenFiles {
+    ghost use Rattle.std.specs.Prelude.{Bool, List, is_some, map};
+
+    ghost Value = { List Bool };
+
+    ghost view = { λ o. map is_some o.files };
+}
+
+impl OpenFiles {
+    /// No file is open.
+    pub(crate) fn new() -> OpenFiles
+        ensures { result ≡ none_begun }
+    {
+        OpenFiles {
+            files: [None, None, None, None, None],
+        }
+    }
+
+    /// Takes the file of a slot.
+    pub(crate) fn take(&mut self, slot: usize) -> File
+        requires { slice_get self.old slot ≡ Some true }
+        ensures { self.new ≡ slice_set self.old slot false }
+    {
+        let files = &mut self.files[..];
+        match files[slot].take() {
+            Some(file) => file,
+            None => unreachable!(),
+        }
+    }
+
+    /// Puts a file into a slot.
+    pub(crate) fn put(&mut self, slot: usize, file: File)
+        requires { slot < length self.old }
+        ensures { self.new ≡ slice_set self.old slot true }
+    {
+        let files = &mut self.files[..];
+        files[slot] = Some(file);
+    }
+}
