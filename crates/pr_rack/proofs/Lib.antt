@@ -1,2 +1,3 @@
+pub mod OneFrame
 pub mod OneSlot
 pub mod Streams

@@ -29,7 +29,7 @@ module _ (slots out new : Slots) (slot : ℕ) (old : Plate) (more all : List ℕ
   pub put_back : new ≡ slice_set slots slot (option_map (with_bytes more) (slice_index_or slots slot None))
   put_back =
       let plate : Some (old.0, all) ≡ option_map (with_bytes more) (slice_index_or slots slot None) =
-          ap (λ bytes. Some (old.0, bytes)) all_is ∙ sym (ap (option_map (with_bytes more)) stood) in
+      ap (λ bytes. Some (old.0, bytes)) all_is ∙ sym (ap (option_map (with_bytes more)) stood) in
       back ∙ ap (slice_set slots slot) plate
 
   -- its slot stays begun

@@ -65,7 +65,8 @@ failed_at call path rack =
     record rack { calls = count_after rack.calls; misses = misses }
 
 -- the rack stands as it should after a call for the plate at this path that was to make `done` of it
-abbrev pub IsAfter : {T : Type 0} → MemState → MemState → RackCall → List ℕ → MemState → Result T RackFault → Type 0
+abbrev pub IsAfter : {T : Type 0} → MemState → MemState → RackCall → List ℕ → MemState
+    → Result T RackFault → Type 0
 IsAfter old new call path done (Ok value) = new ≡ record done { calls = count_after old.calls }
 IsAfter old new call path done (Err Failed) = new ≡ failed_at call path old
 IsAfter old new call path done (Err Memory) =
@@ -86,7 +87,8 @@ after_begin old slot path head = in_slot slot (Some (path, head)) old
 -- the rack after a call of row that did what it was asked
 abbrev pub after_row : MemState → ℕ → HeldRow → MemState
 after_row old slot held =
-    let done : MemState = in_slot slot (option_map (with_bytes (packed_in held.bytes)) (at_slot old slot)) old in
+    let plate : Option Plate = option_map (with_bytes (packed_in held.bytes)) (at_slot old slot) in
+    let done : MemState = in_slot slot plate old in
     record done { taken = old.taken ++ (held.number, held.source) ∷ [] }
 
 -- the rack after a call of finish that did what it was asked

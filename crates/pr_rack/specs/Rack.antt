@@ -46,7 +46,8 @@ closed tail place plate = (plate.0, with_place place (plate.1 ++ tail))
 -- where told, the finished plates with that of the slot behind them, closed by this tail and place
 abbrev pub finished_with : Option Slots → ℕ → List ℕ → ℕ → Option (List Plate) → Option (List Plate)
 finished_with working slot tail place finished =
-    option_map (λ plates. plates ++ option_to_list (option_map (closed tail place) (plate_in working slot))) finished
+    let plates : List Plate = option_to_list (option_map (closed tail place) (plate_in working slot)) in
+    option_map (λ before. before ++ plates) finished
 
 -- a directory at this place stands right behind a plate of so many bytes, at an even place or where they end
 abbrev pub IsBehind : ℕ → ℕ → Type 0
@@ -71,5 +72,6 @@ has_failed (Err Failed) = true
 has_failed (Err Memory) = false
 
 -- where told, the last failed call and its plate's path, after this call at this path failed or didn't
-abbrev pub missed_after : Bool → RackCall → List ℕ → Option (Option (RackCall × List ℕ)) → Option (Option (RackCall × List ℕ))
+abbrev pub missed_after : Bool → RackCall → List ℕ
+    → Option (Option (RackCall × List ℕ)) → Option (Option (RackCall × List ℕ))
 missed_after failed call path missed = option_map (λ last. if failed then Some (call, path) else last) missed

@@ -4,7 +4,8 @@ use Rattle.std.specs.Io.KnownBytes.{Keeps, Appends}
 
 -- a write took this many bytes from the front of the piece, or failed and took nothing
 abbrev pub WritesSome : Option (List ℕ) → Option (List ℕ) → Option ℕ → List ℕ → Type 0
-WritesSome old new taken piece = MatchOption taken (Keeps old new) (λ count. Appends old new (take count piece))
+WritesSome old new taken piece =
+    MatchOption taken (Keeps old new) (λ count. Appends old new (take count piece))
 
 -- the file took a front of these bytes
 abbrev pub AppendsFront : Option (List ℕ) → Option (List ℕ) → List ℕ → Type 0

@@ -22,7 +22,7 @@ use tif_packbits::framed;
 #[derive(Drop)]
 pub struct HostRack<R: Files<File = File>> {
     rt: R,
-    open: OpenFiles,
+    files: OpenFiles,
     faults: u64,
 }
 
@@ -31,7 +31,7 @@ impl<R: Files<File = File>> Model for HostRack<R> {
 
     ghost Value = { HostState };
 
-    ghost view = { λ r. record { begun = r.open; faults = r.faults } };
+    ghost view = { λ r. record { begun = r.files; faults = r.faults } };
 }
 
 impl<R: Files<File = File>> HostRack<R> {
@@ -41,7 +41,7 @@ impl<R: Files<File = File>> HostRack<R> {
     {
         HostRack {
             rt,
-            open: OpenFiles::new(),
+            files: OpenFiles::new(),
             faults: 0,
         }
     }
@@ -94,7 +94,7 @@ impl<R: Files<File = File>> Rack for HostRack<R> {
         if !written {
             return Err(RackFault::Failed);
         }
-        self.open.put(slot, file.into_file());
+        self.files.put(slot, file.into_file());
         Ok(())
     }
 
@@ -108,13 +108,13 @@ impl<R: Files<File = File>> Rack for HostRack<R> {
 
         ensures count { self.new.faults ≡ count_unless (is_ok result) self.old.faults }
     {
-        let mut file = PlateFile::new(self.open.take(slot), self.faults);
+        let mut file = PlateFile::new(self.files.take(slot), self.faults);
         let written = file.append(framed(held.bytes()));
         self.faults = file.faults();
         if !written {
             return Err(RackFault::Failed);
         }
-        self.open.put(slot, file.into_file());
+        self.files.put(slot, file.into_file());
         Ok(())
     }
 
@@ -127,7 +127,7 @@ impl<R: Files<File = File>> Rack for HostRack<R> {
 
         ensures count { self.new.faults ≡ count_unless (is_ok result) self.old.faults }
     {
-        let mut file = PlateFile::new(self.open.take(slot), self.faults);
+        let mut file = PlateFile::new(self.files.take(slot), self.faults);
         let closed = file.complete(tail, at);
         self.faults = file.faults();
         if closed {

@@ -34,31 +34,27 @@ impl Model for MemRack {
 
     ghost Value = { MemState };
 
-    ghost view = {
-        λ r. record {
-            slots = r.slots;
-            files = files_of r.files.items;
-            taken = r.taken.items;
-            failing = r.failing.items;
-            calls = r.calls;
-            misses = r.misses
-        }
-    };
+    ghost view = { λ r. record {
+      slots = r.slots;
+      files = files_of r.files.items;
+      taken = r.taken.items;
+      failing = r.failing.items;
+      calls = r.calls;
+      misses = r.misses;
+    } };
 }
 
 impl MemRack {
     /// An empty rack that fails at the calls with these numbers.
     pub fn new(alloc: Global, failing: Vec<u64>) -> MemRack
-        ensures {
-            result ≡ record {
-                slots = empty_slots;
-                files = [];
-                taken = [];
-                failing = failing.items;
-                calls = 0;
-                misses = record { faults = 0; missed = None }
-            }
-        }
+        ensures { result ≡ record {
+          slots = empty_slots;
+          files = [];
+          taken = [];
+          failing = failing.items;
+          calls = 0;
+          misses = record { faults = 0; missed = None };
+        } }
     {
         MemRack {
             alloc,
@@ -129,29 +125,26 @@ impl Rack for MemRack {
     fn begin(&mut self, slot: usize, path: &str, head: &[u8]) -> Result<(), RackFault>
         requires empty { slice_get (map is_some self.old.slots) slot ≡ Some false }
         requires head { length head.now ≡ 8 }
-        ensures begun {
-            OnOk result (map is_some self.new.slots ≡ slice_set (map is_some self.old.slots) slot true) }
-        ensures working {
-            OnOk result
-                (Some self.new.slots ≡ with_plate slot (Some (path.now, head.now)) (Some self.old.slots)) }
-        ensures others_begun {
-            OnErr result (OthersBegun slot (map is_some self.old.slots) (map is_some self.new.slots)) }
+        ensures begun { OnOk result
+            (map is_some self.new.slots ≡ slice_set (map is_some self.old.slots) slot true) }
+        ensures working { OnOk result
+            (Some self.new.slots ≡ with_plate slot (Some (path.now, head.now)) (Some self.old.slots)) }
+        ensures others_begun { OnErr result
+            (OthersBegun slot (map is_some self.old.slots) (map is_some self.new.slots)) }
         ensures others_stand { OnErr result (OthersStand slot (Some self.old.slots) (Some self.new.slots)) }
         ensures finished { Some self.new.files ≡ Some self.old.files }
         ensures taken { Some self.new.taken ≡ Some self.old.taken }
-        ensures missed {
-            Some self.new.misses.missed
-                ≡ missed_after (has_failed result) RackCall.Begin path.now (Some self.old.misses.missed) }
-        ensures counted { IsErrOf result RackFault.Failed → Rose self.old.misses.faults self.new.misses.faults }
+        ensures missed { Some self.new.misses.missed
+            ≡ missed_after (has_failed result) RackCall.Begin path.now (Some self.old.misses.missed) }
+        ensures counted { IsErrOf result RackFault.Failed
+            → Rose self.old.misses.faults self.new.misses.faults }
         ensures faults_stay { self.old.misses.faults ≤ self.new.misses.faults }
 
         ensures fails { IsErrOf result RackFault.Failed → Contains self.old.failing self.old.calls }
-        ensures fails_there {
-            Contains self.old.failing self.old.calls
-                → IsErrOf result RackFault.Failed ⊎ IsErrOf result RackFault.Memory }
-        ensures after {
-            IsAfter self.old self.new RackCall.Begin path.now
-                (after_begin self.old slot path.now head.now) result }
+        ensures fails_there { Contains self.old.failing self.old.calls
+            → IsErrOf result RackFault.Failed ⊎ IsErrOf result RackFault.Memory }
+        ensures after { IsAfter self.old self.new RackCall.Begin path.now
+            (after_begin self.old slot path.now head.now) result }
     {
         if self.fails() {
             return Err(self.misses.miss(self.alloc, RackCall::Begin, path));
@@ -165,30 +158,27 @@ impl Rack for MemRack {
         requires begun { slice_get (map is_some self.old.slots) slot ≡ Some true }
         requires frame { IsFrame held.now.bytes }
         ensures begun { OnOk result (map is_some self.new.slots ≡ map is_some self.old.slots) }
-        ensures working {
-            OnOk result
-                (Some self.new.slots ≡ with_more slot (packed_in held.now.bytes) (Some self.old.slots)) }
-        ensures taken {
-            OnOk result
-                (Some self.new.taken ≡ with_row held.now.number held.now.source (Some self.old.taken)) }
-        ensures others_begun {
-            OnErr result (OthersBegun slot (map is_some self.old.slots) (map is_some self.new.slots)) }
+        ensures working { OnOk result
+            (Some self.new.slots ≡ with_more slot (packed_in held.now.bytes) (Some self.old.slots)) }
+        ensures taken { OnOk result
+            (Some self.new.taken ≡ with_row held.now.number held.now.source (Some self.old.taken)) }
+        ensures others_begun { OnErr result
+            (OthersBegun slot (map is_some self.old.slots) (map is_some self.new.slots)) }
         ensures others_stand { OnErr result (OthersStand slot (Some self.old.slots) (Some self.new.slots)) }
         ensures untaken { OnErr result (Some self.new.taken ≡ Some self.old.taken) }
         ensures finished { Some self.new.files ≡ Some self.old.files }
-        ensures missed {
-            Some self.new.misses.missed
-                ≡ missed_after (has_failed result) RackCall.Row (path_in (Some self.old.slots) slot) (Some self.old.misses.missed) }
-        ensures counted { IsErrOf result RackFault.Failed → Rose self.old.misses.faults self.new.misses.faults }
+        ensures missed { Some self.new.misses.missed
+            ≡ missed_after (has_failed result) RackCall.Row (path_in (Some self.old.slots) slot)
+            (Some self.old.misses.missed) }
+        ensures counted { IsErrOf result RackFault.Failed
+            → Rose self.old.misses.faults self.new.misses.faults }
         ensures faults_stay { self.old.misses.faults ≤ self.new.misses.faults }
 
         ensures fails { IsErrOf result RackFault.Failed → Contains self.old.failing self.old.calls }
-        ensures fails_there {
-            Contains self.old.failing self.old.calls
-                → IsErrOf result RackFault.Failed ⊎ IsErrOf result RackFault.Memory }
-        ensures after {
-            IsAfter self.old self.new RackCall.Row (path_in (Some self.old.slots) slot)
-                (after_row self.old slot held.now) result }
+        ensures fails_there { Contains self.old.failing self.old.calls
+            → IsErrOf result RackFault.Failed ⊎ IsErrOf result RackFault.Memory }
+        ensures after { IsAfter self.old self.new RackCall.Row (path_in (Some self.old.slots) slot)
+            (after_row self.old slot held.now) result }
     {
         if self.fails() {
             let path = self.slots.path(slot);
@@ -207,32 +197,31 @@ impl Rack for MemRack {
 
     fn finish(&mut self, slot: usize, tail: &[u8], at: u32) -> Result<(), RackFault>
         requires begun { slice_get (map is_some self.old.slots) slot ≡ Some true }
-        requires place { IfSome (plate_in (Some self.old.slots) slot) (λ plate. IsBehind (length plate.1) at) }
-        ensures begun {
-            OnOk result (map is_some self.new.slots ≡ slice_set (map is_some self.old.slots) slot false) }
+        requires place { IfSome (plate_in (Some self.old.slots) slot)
+            (λ plate. IsBehind (length plate.1) at) }
+        ensures begun { OnOk result
+            (map is_some self.new.slots ≡ slice_set (map is_some self.old.slots) slot false) }
         ensures working { OnOk result (Some self.new.slots ≡ with_plate slot None (Some self.old.slots)) }
-        ensures finished {
-            OnOk result
-                (Some self.new.files
-                    ≡ finished_with (Some self.old.slots) slot tail.now at (Some self.old.files)) }
-        ensures others_begun {
-            OnErr result (OthersBegun slot (map is_some self.old.slots) (map is_some self.new.slots)) }
+        ensures finished { OnOk result
+            (Some self.new.files
+            ≡ finished_with (Some self.old.slots) slot tail.now at (Some self.old.files)) }
+        ensures others_begun { OnErr result
+            (OthersBegun slot (map is_some self.old.slots) (map is_some self.new.slots)) }
         ensures others_stand { OnErr result (OthersStand slot (Some self.old.slots) (Some self.new.slots)) }
         ensures unfinished { OnErr result (Some self.new.files ≡ Some self.old.files) }
         ensures taken { Some self.new.taken ≡ Some self.old.taken }
-        ensures missed {
-            Some self.new.misses.missed
-                ≡ missed_after (has_failed result) RackCall.Finish (path_in (Some self.old.slots) slot) (Some self.old.misses.missed) }
-        ensures counted { IsErrOf result RackFault.Failed → Rose self.old.misses.faults self.new.misses.faults }
+        ensures missed { Some self.new.misses.missed
+            ≡ missed_after (has_failed result) RackCall.Finish (path_in (Some self.old.slots) slot)
+            (Some self.old.misses.missed) }
+        ensures counted { IsErrOf result RackFault.Failed
+            → Rose self.old.misses.faults self.new.misses.faults }
         ensures faults_stay { self.old.misses.faults ≤ self.new.misses.faults }
 
         ensures fails { IsErrOf result RackFault.Failed → Contains self.old.failing self.old.calls }
-        ensures fails_there {
-            Contains self.old.failing self.old.calls
-                → IsErrOf result RackFault.Failed ⊎ IsErrOf result RackFault.Memory }
-        ensures after {
-            IsAfter self.old self.new RackCall.Finish (path_in (Some self.old.slots) slot)
-                (after_finish self.old slot tail.now at) result }
+        ensures fails_there { Contains self.old.failing self.old.calls
+            → IsErrOf result RackFault.Failed ⊎ IsErrOf result RackFault.Memory }
+        ensures after { IsAfter self.old self.new RackCall.Finish (path_in (Some self.old.slots) slot)
+            (after_finish self.old slot tail.now at) result }
     {
         if self.fails() {
             let path = self.slots.path(slot);

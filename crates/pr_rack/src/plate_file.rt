@@ -65,7 +65,8 @@ impl<F: Write> PlateFile<F> {
 
     /// Writes all of `bytes`. False where the file failed.
     pub(crate) fn append(&mut self, bytes: &[u8]) -> bool
-        ensures written { OnTrue result (Appends (F.contents self.old.file) (F.contents self.new.file) bytes.now) }
+        ensures written { OnTrue result
+            (Appends (F.contents self.old.file) (F.contents self.new.file) bytes.now) }
         ensures front { AppendsFront (F.contents self.old.file) (F.contents self.new.file) bytes.now }
         ensures count { self.new.faults ≡ count_unless result self.old.faults }
         ensures faults_stay { self.old.faults ≤ self.new.faults }
@@ -84,8 +85,8 @@ impl<F: Write> PlateFile<F> {
 impl<F: Seek> PlateFile<F> {
     /// Goes back to the place of the directory. False where the file failed.
     fn go_back(&mut self) -> bool
-        ensures there {
-            OnTrue result (IfSome (F.stream_position self.old.file) (λ _. F.stream_position self.new.file ≡ Some 4)) }
+        ensures there { OnTrue result
+            (IfSome (F.stream_position self.old.file) (λ _. F.stream_position self.new.file ≡ Some 4)) }
         ensures count { self.new.faults ≡ count_unless result self.old.faults }
         ensures faults_stay { self.old.faults ≤ self.new.faults }
     {

@@ -62,14 +62,14 @@ pub trait Rack {
         requires empty { slice_get (begun self.old) slot ≡ Some false }
         requires head { length head.now ≡ 8 }
         ensures begun { OnOk result (begun self.new ≡ slice_set (begun self.old) slot true) }
-        ensures working {
-            OnOk result (working self.new ≡ with_plate slot (Some (path.now, head.now)) (working self.old)) }
+        ensures working { OnOk result
+            (working self.new ≡ with_plate slot (Some (path.now, head.now)) (working self.old)) }
         ensures others_begun { OnErr result (OthersBegun slot (begun self.old) (begun self.new)) }
         ensures others_stand { OnErr result (OthersStand slot (working self.old) (working self.new)) }
         ensures finished { finished self.new ≡ finished self.old }
         ensures taken { taken self.new ≡ taken self.old }
-        ensures missed {
-            missed self.new ≡ missed_after (has_failed result) RackCall.Begin path.now (missed self.old) }
+        ensures missed { missed self.new
+            ≡ missed_after (has_failed result) RackCall.Begin path.now (missed self.old) }
         ensures counted { IsErrOf result RackFault.Failed → Rose (faults self.old) (faults self.new) }
         ensures faults_stay { faults self.old ≤ faults self.new };
 
@@ -78,15 +78,17 @@ pub trait Rack {
         requires begun { slice_get (begun self.old) slot ≡ Some true }
         requires frame { IsFrame held.now.bytes }
         ensures begun { OnOk result (begun self.new ≡ begun self.old) }
-        ensures working {
-            OnOk result (working self.new ≡ with_more slot (packed_in held.now.bytes) (working self.old)) }
-        ensures taken { OnOk result (taken self.new ≡ with_row held.now.number held.now.source (taken self.old)) }
+        ensures working { OnOk result
+            (working self.new ≡ with_more slot (packed_in held.now.bytes) (working self.old)) }
+        ensures taken { OnOk result
+            (taken self.new ≡ with_row held.now.number held.now.source (taken self.old)) }
         ensures others_begun { OnErr result (OthersBegun slot (begun self.old) (begun self.new)) }
         ensures others_stand { OnErr result (OthersStand slot (working self.old) (working self.new)) }
         ensures untaken { OnErr result (taken self.new ≡ taken self.old) }
         ensures finished { finished self.new ≡ finished self.old }
-        ensures missed {
-            missed self.new ≡ missed_after (has_failed result) RackCall.Row (path_in (working self.old) slot) (missed self.old) }
+        ensures missed { missed self.new
+            ≡ missed_after (has_failed result) RackCall.Row (path_in (working self.old) slot)
+            (missed self.old) }
         ensures counted { IsErrOf result RackFault.Failed → Rose (faults self.old) (faults self.new) }
         ensures faults_stay { faults self.old ≤ faults self.new };
 
@@ -97,14 +99,15 @@ pub trait Rack {
         requires place { IfSome (plate_in (working self.old) slot) (λ plate. IsBehind (length plate.1) at) }
         ensures begun { OnOk result (begun self.new ≡ slice_set (begun self.old) slot false) }
         ensures working { OnOk result (working self.new ≡ with_plate slot None (working self.old)) }
-        ensures finished {
-            OnOk result (finished self.new ≡ finished_with (working self.old) slot tail.now at (finished self.old)) }
+        ensures finished { OnOk result
+            (finished self.new ≡ finished_with (working self.old) slot tail.now at (finished self.old)) }
         ensures others_begun { OnErr result (OthersBegun slot (begun self.old) (begun self.new)) }
         ensures others_stand { OnErr result (OthersStand slot (working self.old) (working self.new)) }
         ensures unfinished { OnErr result (finished self.new ≡ finished self.old) }
         ensures taken { taken self.new ≡ taken self.old }
-        ensures missed {
-            missed self.new ≡ missed_after (has_failed result) RackCall.Finish (path_in (working self.old) slot) (missed self.old) }
+        ensures missed { missed self.new
+            ≡ missed_after (has_failed result) RackCall.Finish (path_in (working self.old) slot)
+            (missed self.old) }
         ensures counted { IsErrOf result RackFault.Failed → Rose (faults self.old) (faults self.new) }
         ensures faults_stay { faults self.old ≤ faults self.new };
 

@@ -9,7 +9,7 @@ use Rattle.pr_rack.proofs.mem_rack.MemRackRack.finish.Goals.{After-take-path}
 emptied : (c : After-take-path) → ◌≡◌ {A = Slots} c.take-path.new.self (slice_set c.args.self.now.slots c.args.slot None)
 emptied c =
     let same : ◌≡◌ {A = Slots} c.self.inside.slots c.args.self.now.slots =
-        ap {A = MemState} {B = Slots} (λ r. r.slots) (c.self.view_is ∙ c.fails.ensures.counted) in
+    ap {A = MemState} {B = Slots} (λ r. r.slots) (c.self.view_is ∙ c.fails.ensures.counted) in
     c.take-path.ensures.after ∙ ap {A = Slots} {B = Slots} (λ slots. slice_set slots c.args.slot None) same
 
 pub returns-then-is_err-clause-others_begun : goal.returns-then-is_err-clause-others_begun
