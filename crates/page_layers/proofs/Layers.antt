@@ -1,0 +1,74 @@
+-- What a layer's rows keep, from the begin on.
+use Rattle.std.proofs.Common.{◌≡◌, ℕ, ◌+◌, ◌*◌, ◌/◌, ◌<◌, ◌≤◌, List, length, get_or, replicate, slice_index, Option, option_map, refl, sym, ap, ◌∙◌, arith}
+use Rattle.std.proofs.lemmas.List.{get_or-replicate, length-replicate}
+use Rattle.tif_strips.specs.Strips.{Cursor, Image, image_row}
+use Rattle.page_layers.specs.declared.layer.Art.{Art}
+use Rattle.page_layers.specs.declared.layer.Art.TheVariants.{Contone, Line}
+use Rattle.page_layers.specs.declared.layer.Layer.{Layer}
+use Rattle.page_layers.specs.declared.lay.Painting.{Painting}
+use Rattle.page_layers.specs.Inks.{Planes, inks_at}
+use Rattle.page_layers.specs.Layer.{IsLayer, bytes_of, paint_at, shape_of}
+use Rattle.page_layers.specs.Reader.{mask_cursor}
+use Rattle.page_layers.specs.Rows.{HasSamples, IsLayerRows, fixed_of, painting_of, span_of, with_fixed}
+
+-- paint of the fixed inks has what is the same in each row
+fixed_paint : (art : Art) (span : ℕ) (paint : Planes) → paint.cyan ≡ replicate span (slice_index (fixed_of art) 0) → paint.magenta ≡ replicate span (slice_index (fixed_of art) 1)
+    → paint.yellow ≡ replicate span (slice_index (fixed_of art) 2) → paint.black ≡ replicate span (slice_index (fixed_of art) 3) → paint.spot ≡ replicate span (slice_index (fixed_of art) 4)
+    → paint ≡ with_fixed art span paint
+fixed_paint (Contone image) span paint c m y k s = ap (λ spot. record paint { spot = spot }) s
+fixed_paint (Line image inks) span paint c m y k s = λ i. record { cyan = c i; magenta = m i; yellow = y i; black = k i; spot = s i }
+
+-- a plane of one ink, by the inks and the width that are known
+pub inks_from : (plane inks fixed : List ℕ) (width i : ℕ) {span : ℕ} → plane ≡ replicate width (slice_index inks i) → width ≡ span → inks ≡ fixed → plane ≡ replicate span (slice_index fixed i)
+inks_from plane inks fixed width i is wide same = rw (is, wide, same) refl
+
+-- before the first row
+pub IsLayerRows-open : (layer : Layer) (width columns : ℕ) (painting : Painting) (image : Cursor) (mask : Option Cursor) (paint : Planes) (marks admitted : List ℕ)
+    → IsLayer layer → painting ≡ painting_of layer → (shape_of layer.art).width ≤ 65535 → (shape_of layer.art).length ≤ 65535 → width ≤ 65535
+    → image ≡ record { shape = shape_of layer.art; bytes = bytes_of layer.art; next = 0 } → mask ≡ option_map (mask_cursor 0) layer.mask
+    → paint.cyan ≡ replicate (span_of width layer) (slice_index (fixed_of layer.art) 0) → paint.magenta ≡ replicate (span_of width layer) (slice_index (fixed_of layer.art) 1)
+    → paint.yellow ≡ replicate (span_of width layer) (slice_index (fixed_of layer.art) 2) → paint.black ≡ replicate (span_of width layer) (slice_index (fixed_of layer.art) 3)
+    → paint.spot ≡ replicate (span_of width layer) (slice_index (fixed_of layer.art) 4)
+    → length marks ≡ columns → span_of width layer ≤ columns * layer.scale → columns ≤ layer.crop.width → admitted ≡ replicate (span_of width layer) 255
+    → IsLayerRows layer width painting image mask paint marks admitted
+IsLayerRows-open layer width columns painting image mask paint marks admitted is painting_is wide long page image_is mask_is c m y k s marks_are enough within admitted_is =
+    let next : image.next ≡ 0 = ap (λ (cursor : Cursor). cursor.next) image_is in
+    record {
+      layer_is = is;
+      painting_is = painting_is;
+      sides = (wide, long, page);
+      image_is = image_is ∙ ap (λ n. record { shape = shape_of layer.art; bytes = bytes_of layer.art; next = n }) (sym next);
+      mask_is = mask_is ∙ ap (λ n. option_map (mask_cursor n) layer.mask) (sym next);
+      wide = record {
+        cyan = ap length c ∙ length-replicate (span_of width layer) (slice_index (fixed_of layer.art) 0);
+        magenta = ap length m ∙ length-replicate (span_of width layer) (slice_index (fixed_of layer.art) 1);
+        yellow = ap length y ∙ length-replicate (span_of width layer) (slice_index (fixed_of layer.art) 2);
+        black = ap length k ∙ length-replicate (span_of width layer) (slice_index (fixed_of layer.art) 3);
+        spot = ap length s ∙ length-replicate (span_of width layer) (slice_index (fixed_of layer.art) 4);
+      };
+      fixed = fixed_paint layer.art (span_of width layer) paint c m y k s;
+      admitted_long = ap length admitted_is ∙ length-replicate (span_of width layer) 255;
+      marks_long = rw marks_are enough;
+      columns = omega arith;
+      bare = λ bare. admitted_is;
+      expanded = λ read. absurd (omega arith);
+    }
+
+-- the samples of a row of a contone image are its paint
+pub contone_paint : (image : Image) (first scale row : ℕ) (pixels : List ℕ) (old new : Planes) → pixels ≡ image_row image.shape image.bytes row
+    → length old.magenta ≡ length old.cyan → length old.yellow ≡ length old.cyan → length old.black ≡ length old.cyan
+    → HasSamples pixels (4 * first) scale old.cyan new.cyan → HasSamples pixels (4 * first + 1) scale old.magenta new.magenta
+    → HasSamples pixels (4 * first + 2) scale old.yellow new.yellow → HasSamples pixels (4 * first + 3) scale old.black new.black
+    → new.spot ≡ replicate (length old.cyan) 0 → (j : ℕ) → j < length old.cyan → inks_at new j ≡ paint_at (Contone image) (first + j / scale) row
+contone_paint image first scale row pixels old new is long_m long_y long_k c m y k s j below =
+    let cyan = c.each j below ∙ at 0 (4 * first) (omega arith) in
+    let magenta = m.each j (omega arith) ∙ at 1 (4 * first + 1) refl in
+    let yellow = y.each j (omega arith) ∙ at 2 (4 * first + 2) refl in
+    let black = k.each j (omega arith) ∙ at 3 (4 * first + 3) refl in
+    let spot : get_or new.spot j 0 ≡ 0 = ap (λ list. get_or list j 0) s ∙ get_or-replicate (length old.cyan) j 0 0 below in
+    rw (cyan, magenta, yellow, black, spot) refl
+  where
+    at : (i place : ℕ) → place ≡ 4 * first + i → get_or pixels (place + 4 * (j / scale)) 0 ≡ get_or (image_row image.shape image.bytes row) (4 * (first + j / scale) + i) 0
+    at i place there =
+        let whole : place + 4 * (j / scale) ≡ 4 * (first + j / scale) + i = omega arith in
+        ap (λ list. get_or list (place + 4 * (j / scale)) 0) is ∙ ap (λ n. get_or (image_row image.shape image.bytes row) n 0) whole

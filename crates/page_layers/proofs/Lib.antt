@@ -1,0 +1,4 @@
+pub mod Stretches
+pub mod Paints
+pub mod Layers
+pub mod Pages

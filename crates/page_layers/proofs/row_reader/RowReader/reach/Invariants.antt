@@ -1,0 +1,12 @@
+use Rattle.std.proofs.Common.{◌≡◌, ◌-◌, ◌<◌, length}
+use Rattle.tif_strips.specs.Strips.{image_row, row_length}
+use Rattle.page_layers.proofs.row_reader.RowReader.reach.Given as goal
+
+abbrev pub invariant-loop-row : goal.invariant-loop-row
+invariant-loop-row l = record {
+  next : l.self-inside.rows.next ≡ l._row;
+  shape : l.self-inside.rows.shape ≡ l.initial.self-inside.rows.shape;
+  bytes : l.self-inside.rows.bytes ≡ l.initial.self-inside.rows.bytes;
+  long : length l.self-inside.row.items ≡ row_length l.initial.self-inside.rows.shape;
+  last : 0 < l._row → l.self-inside.row.items ≡ image_row l.initial.self-inside.rows.shape l.initial.self-inside.rows.bytes (l._row - 1);
+}

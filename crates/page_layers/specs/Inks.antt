@@ -1,0 +1,58 @@
+-- Rows of five inks, and one ink value laid over another. The rules are plateroom's own.
+use Rattle.std.specs.Prelude.{◌≡◌, ℕ, ◌==◌, ◌&&◌, Bool, if◌then◌else◌, List, [], ◌∷◌, length, replicate, slice_index}
+use Rattle.pr_base.specs.declared.ink.Ink.{Ink}
+use Rattle.pr_base.specs.declared.ink.Ink.TheVariants.{C, M, Y, K, S}
+
+-- a row of each ink
+pub record Planes : Type 0 where
+  pub cyan : List ℕ
+  pub magenta : List ℕ
+  pub yellow : List ℕ
+  pub black : List ℕ
+  pub spot : List ℕ
+
+-- the row of an ink
+abbrev pub plane_of : Planes → Ink → List ℕ
+plane_of planes C = planes.cyan
+plane_of planes M = planes.magenta
+plane_of planes Y = planes.yellow
+plane_of planes K = planes.black
+plane_of planes S = planes.spot
+
+-- each row has so many values
+pub record HasWidth (planes : Planes) (width : ℕ) : Type 0 where
+  pub cyan : length planes.cyan ≡ width
+  pub magenta : length planes.magenta ≡ width
+  pub yellow : length planes.yellow ≡ width
+  pub black : length planes.black ≡ width
+  pub spot : length planes.spot ≡ width
+
+-- the five values at column x: cyan, magenta, yellow, black and spot
+abbrev pub inks_at : Planes → ℕ → List ℕ
+inks_at planes x =
+    slice_index planes.cyan x ∷ slice_index planes.magenta x ∷ slice_index planes.yellow x ∷ slice_index planes.black x ∷ slice_index planes.spot x ∷ []
+
+-- rows of this width without ink
+abbrev pub blank_planes : ℕ → Planes
+blank_planes width =
+    record {
+      cyan = replicate width 0;
+      magenta = replicate width 0;
+      yellow = replicate width 0;
+      black = replicate width 0;
+      spot = replicate width 0;
+    }
+
+-- no ink
+abbrev pub blank : List ℕ
+blank = 0 ∷ 0 ∷ 0 ∷ 0 ∷ 0 ∷ []
+
+-- an ink value laid over another: knockout replaces it, and overprint leaves it where the new value is 0
+abbrev pub laid_value : Bool → ℕ → ℕ → ℕ
+laid_value overprint paint under = if overprint && (paint == 0) then under else paint
+
+-- the same of each ink
+abbrev pub laid : Bool → List ℕ → List ℕ → List ℕ
+laid overprint [] unders = []
+laid overprint (paint ∷ paints) [] = []
+laid overprint (paint ∷ paints) (under ∷ unders) = laid_value overprint paint under ∷ laid overprint paints unders

@@ -1,0 +1,5 @@
+pub mod Inks
+pub mod Layer
+pub mod Page
+pub mod Reader
+pub mod Rows

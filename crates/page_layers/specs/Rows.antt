@@ -1,0 +1,119 @@
+-- What the code of a layer's rows keeps.
+use Rattle.std.specs.Prelude.{◌≡◌, ℕ, ◌+◌, ◌-◌, ◌*◌, ◌/◌, ◌<◌, ◌≤◌, ◌==◌, min, Bool, true, false, if◌then◌else◌, IsTrue, List, All, length, map, replicate, slice_index, Option, Some, None, option_map}
+use Rattle.tif_strips.specs.Strips.{Cursor}
+use Rattle.tif_image.specs.Image.{BilevelImage}
+use Rattle.page_layers.specs.declared.layer.Art.{Art}
+use Rattle.page_layers.specs.declared.layer.Art.TheVariants.{Contone, Line}
+use Rattle.page_layers.specs.declared.layer.Layer.{Layer}
+use Rattle.page_layers.specs.declared.lay.Painting.{Painting}
+use Rattle.page_layers.specs.declared.lay.Painting.TheVariants.{Whole, Knockout, Overprint}
+use Rattle.page_layers.specs.Inks.{HasWidth, Planes, blank, inks_at}
+use Rattle.page_layers.specs.Layer.{IsLayer, admits, paint_at, row_at, shape_of}
+use Rattle.page_layers.specs.Reader.{IsOf, mask_cursor}
+
+-- ---- paint laid over a row
+
+-- an ink value laid over another, where it is admitted: that isn't 0
+abbrev pub laid_where : Painting → ℕ → ℕ → ℕ → ℕ
+laid_where Whole admitted paint under = paint
+laid_where Knockout admitted paint under = if admitted == 0 then under else paint
+laid_where Overprint admitted paint under = if admitted == 0 then under else if paint == 0 then under else paint
+
+-- paint is laid over the old row from a column on
+pub record LaysSpan (painting : Painting) (from : ℕ) (paint admitted old new : List ℕ) : Type 0 where
+  pub long : length new ≡ length old
+  pub inside : (j : ℕ) → j < length admitted → slice_index new (from + j) ≡ laid_where painting (slice_index admitted j) (slice_index paint j) (slice_index old (from + j))
+  pub before : (x : ℕ) → x < from → slice_index new x ≡ slice_index old x
+  pub behind : (x : ℕ) → from + length admitted ≤ x → slice_index new x ≡ slice_index old x
+
+-- each value of a source, `step` apart, stands as many times as the scale says
+pub record IsStretched (source : List ℕ) (step scale count : ℕ) (into : List ℕ) : Type 0 where
+  pub each : (j : ℕ) → j < count → slice_index into j ≡ slice_index source (step * (j / scale))
+
+-- the samples of one ink of a row of pixels, from a place on, each as many times as the scale says
+pub record HasSamples (pixels : List ℕ) (first scale : ℕ) (old new : List ℕ) : Type 0 where
+  pub long : length new ≡ length old
+  pub each : (j : ℕ) → j < length old → slice_index new j ≡ slice_index pixels (first + 4 * (j / scale))
+
+-- ---- a layer on a page of a width
+
+-- a contone layer without a mask, of which every pixel shows
+abbrev pub bare_art : Art → Bool
+bare_art (Contone image) = true
+bare_art (Line image inks) = false
+
+abbrev pub no_mask : Option BilevelImage → Bool
+no_mask None = true
+no_mask (Some mask) = false
+
+abbrev pub is_bare : Layer → Bool
+is_bare layer = if no_mask layer.mask then bare_art layer.art else false
+
+-- how it is painted
+abbrev pub painting_of : Layer → Painting
+painting_of layer = if layer.overprint then Overprint else if is_bare layer then Whole else Knockout
+
+-- the page's columns that it covers
+abbrev pub span_of : ℕ → Layer → ℕ
+span_of width layer = min (layer.crop.width * layer.scale) (width - layer.x)
+
+-- the inks that a row's paint has before its samples: none, and all of linework
+abbrev pub fixed_of : Art → List ℕ
+fixed_of (Contone image) = blank
+fixed_of (Line image inks) = inks
+
+-- paint with what is the same in each row: no spot ink of a contone image, and all inks of linework
+abbrev pub with_fixed : Art → ℕ → Planes → Planes
+with_fixed (Contone image) span paint = record paint { spot = replicate span 0 }
+with_fixed (Line image inks) span paint =
+    record {
+      cyan = replicate span (slice_index inks 0);
+      magenta = replicate span (slice_index inks 1);
+      yellow = replicate span (slice_index inks 2);
+      black = replicate span (slice_index inks 3);
+      spot = replicate span (slice_index inks 4);
+    }
+
+-- the paint of a row of the image at each column that the layer covers, and 255 where it shows
+pub record IsExpanded (layer : Layer) (row span : ℕ) (paint : Planes) (admitted : List ℕ) : Type 0 where
+  pub paint_is : (j : ℕ) → j < span → inks_at paint j ≡ paint_at layer.art (layer.crop.x + j / layer.scale) row
+  pub admits_is : (j : ℕ) → j < span → slice_index admitted j ≡ (if admits layer (layer.crop.x + j / layer.scale) row then 255 else 0)
+
+-- what a layer's rows keep: cursors that stand before the same row of the image and of its mask, and the paint of the row
+-- before it
+pub record IsLayerRows (layer : Layer) (width : ℕ) (painting : Painting) (image : Cursor) (mask : Option Cursor) (paint : Planes) (marks admitted : List ℕ) : Type 0 where
+  pub layer_is : IsLayer layer
+  pub painting_is : painting ≡ painting_of layer
+  pub sides : ((shape_of layer.art).width ≤ 65535) × ((shape_of layer.art).length ≤ 65535) × (width ≤ 65535)
+  pub image_is : IsOf layer.art image
+  pub mask_is : mask ≡ option_map (mask_cursor image.next) layer.mask
+  pub wide : HasWidth paint (span_of width layer)
+  pub fixed : paint ≡ with_fixed layer.art (span_of width layer) paint
+  pub admitted_long : length admitted ≡ span_of width layer
+  pub marks_long : span_of width layer ≤ length marks * layer.scale
+  pub columns : length marks ≤ layer.crop.width
+  pub bare : IsTrue (is_bare layer) → admitted ≡ replicate (span_of width layer) 255
+  pub expanded : 0 < image.next → IsExpanded layer (image.next - 1) (span_of width layer) paint admitted
+
+-- what contracts see of a layer's rows: the layer, the page's width, and how many rows of the image were read
+pub record LayerState : Type 0 where
+  pub layer : Layer
+  pub width : ℕ
+  pub read : ℕ
+
+-- ready for row y of the page, or for a later one
+pub record IsReady (width y : ℕ) (state : LayerState) : Type 0 where
+  pub width_is : state.width ≡ width
+  pub scaled : 1 ≤ state.layer.scale
+  pub read : state.read ≤ row_at state.layer y + 1
+
+-- the layers of a page
+abbrev pub layers_of : List LayerState → List Layer
+layers_of states = map (λ state. state.layer) states
+
+-- what a page keeps: its layers are ready for its next row
+pub record IsPage (states : List LayerState) (width height next : ℕ) : Type 0 where
+  pub wide : width ≤ 65535
+  pub high : height ≤ 65535
+  pub within : next ≤ height
+  pub ready : All (IsReady width next) states

@@ -1,0 +1,83 @@
+// Which pixels of a layer show: those that its art marks and its mask lets through.
+ghost use Rattle.std.specs.Prelude.{◌≡◌, ℕ, ◌+◌, ◌-◌, ◌*◌, ◌/◌, ◌<◌, ◌≤◌, if◌then◌else◌, IsTrue, length, option_map, replicate, slice_index};
+ghost use Rattle.std.specs.Option.{ForSome};
+ghost use Rattle.page_layers.specs.Layer.{IsLayer, admits, paints_at, shape_of, shows_through};
+ghost use Rattle.page_layers.specs.Reader.{IsOf, mask_cursor};
+ghost use Rattle.page_layers.specs.Rows.{is_bare};
+
+use crate::layer::{Art, Layer, bilevel_row_len};
+use crate::marks::keep_marked;
+use crate::row_reader::RowReader;
+use crate::stretch::stretch;
+use tif_image::Bilevel;
+
+/// Every pixel of the layer shows: it is contone without a mask.
+pub(crate) fn is_bare(layer: &Layer<'_>) -> bool
+    ensures { result ≡ is_bare layer.now }
+{
+    match (&layer.mask, &layer.art) {
+        (None, Art::Contone(_)) => true,
+        _ => false,
+    }
+}
+
+/// Says which columns of the page show in the row that was read last, by 255, or 0 where they don't.
+pub(crate) fn admit_row(
+    layer: &Layer<'_>,
+    image: &RowReader<'_>,
+    mask: &Option<RowReader<'_>>,
+    marks: &mut [u8],
+    admitted: &mut [u8],
+)
+    requires image { IsOf layer.now.art image.now }
+    requires mask { mask.now ≡ option_map (mask_cursor image.now.next) layer.now.mask }
+    requires read { 0 < image.now.next }
+    requires layer { IsLayer layer.now }
+    requires columns { length marks.old ≤ layer.now.crop.width }
+    requires enough { (n : ℕ) → layer.now.scale * n < length admitted.old → n < length marks.old }
+    requires small { length admitted.old ≤ 65535 }
+    requires bare { IsTrue (is_bare layer.now) → admitted.old ≡ replicate (length admitted.old) 255 }
+    ensures bare { IsTrue (is_bare layer.now) → admitted.new ≡ admitted.old }
+    ensures admitted { (j : ℕ) → j < length admitted.old → slice_index admitted.new j ≡ (if admits layer.now (layer.now.crop.x + j / layer.now.scale) (image.now.next - 1) then 255 else 0) }
+{
+    if is_bare(layer) {
+        return;
+    }
+    let first = layer.crop.x;
+    mark_art(&layer.art, image, first, marks);
+    mark_mask(&layer.mask, mask, first, image.read(), marks);
+    stretch(marks, 1, layer.scale as usize, admitted);
+}
+
+// 255 for the columns of the image that paint, from `first` on, and 0 for the others.
+fn mark_art(art: &Art<'_>, image: &RowReader<'_>, first: u32, marks: &mut [u8])
+    requires image { IsOf art.now image.now }
+    requires read { 0 < image.now.next }
+    requires within { first + length marks.old ≤ (shape_of art.now).width }
+    ensures { (n : ℕ) → n < length marks.old → slice_index marks.new n ≡ (if paints_at art.now (first + n) (image.now.next - 1) then 255 else 0) }
+{
+    marks.fill(255);
+    if let Art::Line(line, _) = art {
+        let _len = bilevel_row_len(line);
+        keep_marked(line, image.row(), first, marks);
+    }
+}
+
+// 0 for the columns of the image that the mask doesn't let through, from `first` on.
+fn mark_mask(
+    mask: &Option<Bilevel<'_>>,
+    reader: &Option<RowReader<'_>>,
+    first: u32,
+    next: u32,
+    marks: &mut [u8],
+)
+    requires reader { reader.now ≡ option_map (mask_cursor next) mask.now }
+    requires read { 0 < next }
+    requires within { ForSome mask.now (λ mask. first + length marks.old ≤ mask.shape.width) }
+    ensures { (n : ℕ) → n < length marks.old → slice_index marks.new n ≡ (if shows_through mask.now (first + n) (next - 1) then slice_index marks.old n else 0) }
+{
+    if let (Some(mask), Some(reader)) = (mask, reader) {
+        let _len = bilevel_row_len(mask);
+        keep_marked(mask, reader.row(), first, marks);
+    }
+}

@@ -1,0 +1,139 @@
+// A row of a page in five inks.
+ghost use Rattle.std.specs.Prelude.{ℕ, ◌+◌, ◌*◌, ◌<◌, ◌≤◌, length};
+ghost use Rattle.page_layers.specs.Rows.{HasSamples};
+
+use crate::lay::{Painting, lay_span};
+use crate::room::room;
+use crate::stretch::stretch;
+use pr_base::{Ink, NoMemory};
+use std::alloc::Global;
+use std::marker::Model;
+
+/// A row of each ink, a byte a pixel: 0 is no ink and 255 is full ink. Contracts see the five rows.
+#[derive(Debug, Drop)]
+pub struct InkRow {
+    cyan: Vec<u8>,
+    magenta: Vec<u8>,
+    yellow: Vec<u8>,
+    black: Vec<u8>,
+    spot: Vec<u8>,
+}
+
+impl Model for InkRow {
+    ghost use Rattle.page_layers.specs.Inks.{Planes};
+
+    ghost Value = { Planes };
+
+    ghost view = { λ r. record { cyan = r.cyan.items; magenta = r.magenta.items; yellow = r.yellow.items; black = r.black.items; spot = r.spot.items } };
+}
+
+impl InkRow {
+    ghost use Rattle.std.specs.Prelude.{◌≡◌, ℕ, ◌+◌, ◌*◌, ◌/◌, ◌<◌, ◌≤◌, IfOk, length, replicate, slice_index};
+    ghost use Rattle.page_layers.specs.Inks.{HasWidth, Planes, blank_planes, plane_of};
+    ghost use Rattle.page_layers.specs.Rows.{HasSamples, LaysSpan};
+
+    /// A row of `width` pixels without ink.
+    pub fn new(alloc: Global, width: u32) -> Result<InkRow, NoMemory>
+        ensures { IfOk result (λ row. row ≡ blank_planes width) }
+    {
+        InkRow::of(alloc, width as usize, [0; 5])
+    }
+
+    /// A row of `width` pixels of these ink values.
+    pub(crate) fn of(alloc: Global, width: usize, inks: [u8; 5]) -> Result<InkRow, NoMemory>
+        ensures cyan { IfOk result (λ row. row.cyan ≡ replicate width (slice_index inks 0)) }
+        ensures magenta { IfOk result (λ row. row.magenta ≡ replicate width (slice_index inks 1)) }
+        ensures yellow { IfOk result (λ row. row.yellow ≡ replicate width (slice_index inks 2)) }
+        ensures black { IfOk result (λ row. row.black ≡ replicate width (slice_index inks 3)) }
+        ensures spot { IfOk result (λ row. row.spot ≡ replicate width (slice_index inks 4)) }
+    {
+        let [cyan, magenta, yellow, black, spot] = inks;
+        Ok(InkRow {
+            cyan: room(alloc, width, cyan)?,
+            magenta: room(alloc, width, magenta)?,
+            yellow: room(alloc, width, yellow)?,
+            black: room(alloc, width, black)?,
+            spot: room(alloc, width, spot)?,
+        })
+    }
+
+    /// The row of an ink.
+    pub fn plane(&self, ink: Ink) -> &[u8]
+        ensures { result.now ≡ plane_of self.now ink }
+    {
+        match ink {
+            Ink::C => self.cyan.as_slice(),
+            Ink::M => self.magenta.as_slice(),
+            Ink::Y => self.yellow.as_slice(),
+            Ink::K => self.black.as_slice(),
+            Ink::S => self.spot.as_slice(),
+        }
+    }
+
+    /// Takes all ink away.
+    pub(crate) fn clear(&mut self)
+        ensures cyan { self.new.cyan ≡ replicate (length self.old.cyan) 0 }
+        ensures magenta { self.new.magenta ≡ replicate (length self.old.magenta) 0 }
+        ensures yellow { self.new.yellow ≡ replicate (length self.old.yellow) 0 }
+        ensures black { self.new.black ≡ replicate (length self.old.black) 0 }
+        ensures spot { self.new.spot ≡ replicate (length self.old.spot) 0 }
+    {
+        self.cyan.fill(0);
+        self.magenta.fill(0);
+        self.yellow.fill(0);
+        self.black.fill(0);
+        self.spot.fill(0);
+    }
+
+    /// Puts the samples of a row of pixels in the place of the process inks, from column `first` of the image on.
+    pub(crate) fn set_samples(&mut self, pixels: &[u8], first: usize, scale: usize)
+        requires wide { HasWidth self.old (length self.old.cyan) }
+        requires small { length self.old.cyan ≤ 65535 }
+        requires scale { (1 ≤ scale) × (scale ≤ 64) }
+        requires enough { (n : ℕ) → scale * n < length self.old.cyan → 4 * (first + n) + 3 < length pixels.now }
+        requires first { first ≤ 65535 }
+        ensures cyan { HasSamples pixels.now (4 * first) scale self.old.cyan self.new.cyan }
+        ensures magenta { HasSamples pixels.now (4 * first + 1) scale self.old.magenta self.new.magenta }
+        ensures yellow { HasSamples pixels.now (4 * first + 2) scale self.old.yellow self.new.yellow }
+        ensures black { HasSamples pixels.now (4 * first + 3) scale self.old.black self.new.black }
+        ensures spot { self.new.spot ≡ self.old.spot }
+    {
+        set_sample(pixels, 4 * first, scale, &mut self.cyan);
+        set_sample(pixels, 4 * first + 1, scale, &mut self.magenta);
+        set_sample(pixels, 4 * first + 2, scale, &mut self.yellow);
+        set_sample(pixels, 4 * first + 3, scale, &mut self.black);
+    }
+
+    /// Lays paint from column `from` on, where it is admitted.
+    pub(crate) fn lay(&mut self, painting: Painting, from: usize, paint: &InkRow, admitted: &[u8])
+        requires paint { HasWidth paint.now (length admitted.now) }
+        requires cyan { from + length admitted.now ≤ length self.old.cyan }
+        requires magenta { from + length admitted.now ≤ length self.old.magenta }
+        requires yellow { from + length admitted.now ≤ length self.old.yellow }
+        requires black { from + length admitted.now ≤ length self.old.black }
+        requires spot { from + length admitted.now ≤ length self.old.spot }
+        ensures cyan { LaysSpan painting from paint.now.cyan admitted.now self.old.cyan self.new.cyan }
+        ensures magenta { LaysSpan painting from paint.now.magenta admitted.now self.old.magenta self.new.magenta }
+        ensures yellow { LaysSpan painting from paint.now.yellow admitted.now self.old.yellow self.new.yellow }
+        ensures black { LaysSpan painting from paint.now.black admitted.now self.old.black self.new.black }
+        ensures spot { LaysSpan painting from paint.now.spot admitted.now self.old.spot self.new.spot }
+    {
+        lay_span(painting, from, &paint.cyan, admitted, &mut self.cyan);
+        lay_span(painting, from, &paint.magenta, admitted, &mut self.magenta);
+        lay_span(painting, from, &paint.yellow, admitted, &mut self.yellow);
+        lay_span(painting, from, &paint.black, admitted, &mut self.black);
+        lay_span(painting, from, &paint.spot, admitted, &mut self.spot);
+    }
+}
+
+// The samples of one ink, from place `first` of a row of pixels on. There are none where no column shows.
+fn set_sample(pixels: &[u8], first: usize, scale: usize, into: &mut [u8])
+    requires small { length into.old ≤ 65535 }
+    requires scale { (1 ≤ scale) × (scale ≤ 64) }
+    requires enough { (n : ℕ) → scale * n < length into.old → first + 4 * n < length pixels.now }
+    ensures { HasSamples pixels.now first scale into.old into.new }
+{
+    if !into.is_empty() {
+        stretch(&pixels[first..], 4, scale, into);
+    }
+}

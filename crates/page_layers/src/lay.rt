@@ -1,0 +1,56 @@
+// Paint laid over a row of one ink.
+ghost use Rattle.std.specs.Prelude.{◌≡◌, ℕ, ◌+◌, ◌<◌, ◌≤◌, length, slice_index};
+ghost use Rattle.page_layers.specs.Rows.{LaysSpan, laid_where};
+
+/// How a layer is painted.
+#[derive(Clone, Copy, Debug, PartialEq, Eq)]
+pub(crate) enum Painting {
+    /// Every pixel replaces the ink below.
+    Whole,
+    /// Those admitted replace it.
+    Knockout,
+    /// Those admitted replace it where they have ink.
+    Overprint,
+}
+
+/// Lays paint over a row from column `from` on. It is admitted where `admitted` isn't 0.
+pub(crate) fn lay_span(
+    painting: Painting,
+    from: usize,
+    paint: &[u8],
+    admitted: &[u8],
+    into: &mut [u8],
+)
+    requires paint { length paint.now ≡ length admitted.now }
+    requires within { from + length admitted.now ≤ length into.old }
+    ensures { LaysSpan painting from paint.now admitted.now into.old into.new }
+{
+    let part = &mut into[from..from + admitted.len()];
+    match painting {
+        Painting::Whole => part.copy_from_slice(paint),
+        Painting::Knockout => knock_out(paint, admitted, part),
+        Painting::Overprint => overprint(paint, admitted, part),
+    }
+}
+
+// The loops write each pixel, so that they run on vectors.
+fn knock_out(paint: &[u8], admitted: &[u8], into: &mut [u8])
+    requires paint { length paint.now ≡ length into.old }
+    requires admitted { length admitted.now ≡ length into.old }
+    ensures { (x : ℕ) → x < length into.old → slice_index into.new x ≡ laid_where Painting.Knockout (slice_index admitted.now x) (slice_index paint.now x) (slice_index into.old x) }
+{
+    for x in 0..into.len() {
+        into[x] = if admitted[x] == 0 { into[x] } else { paint[x] };
+    }
+}
+
+fn overprint(paint: &[u8], admitted: &[u8], into: &mut [u8])
+    requires paint { length paint.now ≡ length into.old }
+    requires admitted { length admitted.now ≡ length into.old }
+    ensures { (x : ℕ) → x < length into.old → slice_index into.new x ≡ laid_where Painting.Overprint (slice_index admitted.now x) (slice_index paint.now x) (slice_index into.old x) }
+{
+    for x in 0..into.len() {
+        let shows = admitted[x] != 0 && paint[x] != 0;
+        into[x] = if shows { paint[x] } else { into[x] };
+    }
+}

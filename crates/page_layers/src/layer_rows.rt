@@ -1,0 +1,262 @@
+// The rows of one layer on a page.
+ghost use Rattle.std.specs.Prelude.{◌≡◌, ℕ, ◌+◌, ◌-◌, ◌*◌, ◌/◌, ◌<◌, ◌≤◌, IfOk, length, option_map};
+ghost use Rattle.std.specs.Option.{ForSome};
+ghost use Rattle.page_layers.specs.Inks.{HasWidth, inks_at};
+ghost use Rattle.page_layers.specs.Layer.{IsLayer, paint_at, shape_of};
+ghost use Rattle.page_layers.specs.Reader.{IsOf, at_row, mask_cursor};
+ghost use Rattle.page_layers.specs.Rows.{fixed_of, painting_of, span_of, with_fixed};
+
+use crate::InkRow;
+use crate::admit::{admit_row, is_bare};
+use crate::lay::Painting;
+use crate::layer::{Art, Layer, bilevel_row_len, contone_row_len};
+use crate::room::room;
+use crate::row_reader::RowReader;
+use pr_base::NoMemory;
+use std::alloc::Global;
+use std::marker::Model;
+use tif_image::Bilevel;
+
+/// A layer with the row of its image that shows last, as paint over the page's columns. Contracts see the layer, the
+/// page's width, and how many rows of the image were read.
+#[derive(Debug, Drop)]
+pub(crate) struct LayerRows<'a> {
+    layer: Layer<'a>,
+    /// The page's width.
+    width: u32,
+    painting: Painting,
+    image: RowReader<'a>,
+    mask: Option<RowReader<'a>>,
+    /// Ink values at each column of the page that the layer covers.
+    paint: InkRow,
+    /// A byte for each column of the image that shows: 255 where it is admitted and else 0.
+    marks: Vec<u8>,
+    /// The same for each column of the page that the layer covers.
+    admitted: Vec<u8>,
+}
+
+impl<'a> Model for LayerRows<'a> {
+    ghost use Rattle.page_layers.specs.Rows.{LayerState};
+
+    ghost Value = { LayerState };
+
+    ghost use Rattle.page_layers.specs.Rows.{IsLayerRows};
+
+    ghost view = { λ r. record { layer = r.layer; width = r.width; read = r.image.next } };
+
+    ghost invariant = { λ r. IsLayerRows r.layer r.width r.painting r.image r.mask r.paint r.marks.items r.admitted.items };
+}
+
+impl<'a> LayerRows<'a> {
+    ghost use Rattle.std.specs.Prelude.{◌≡◌, ℕ, ◌+◌, ◌<◌, ◌≤◌, IfOk, IsTrue};
+    ghost use Rattle.page_layers.specs.Inks.{HasWidth, inks_at};
+    ghost use Rattle.page_layers.specs.Layer.{IsLayer, painted, row_at};
+    ghost use Rattle.page_layers.specs.Page.{shows_alike, shows_on};
+
+    /// Takes the room for a layer's rows on a page of this width.
+    pub(crate) fn open(
+        alloc: Global,
+        layer: Layer<'a>,
+        width: u32,
+    ) -> Result<LayerRows<'a>, NoMemory>
+        requires layer { IsLayer layer }
+        requires width { width ≤ 65535 }
+        ensures { IfOk result (λ rows. rows ≡ record { layer = layer.entry; width = width; read = 0 }) }
+    {
+        let span = span_of(&layer, width);
+        let columns = columns_of(&layer, span);
+        let painting = painting_of(&layer);
+        let image = RowReader::new(alloc, layer.art.rows(), layer.art.row_len())?;
+        let mask = open_mask(alloc, &layer.mask)?;
+        let paint = InkRow::of(alloc, span, fixed_inks(&layer.art))?;
+        let marks = room(alloc, columns, 0)?;
+        let admitted = room(alloc, span, 255)?;
+        Ok(LayerRows {
+            layer,
+            width,
+            painting,
+            image,
+            mask,
+            paint,
+            marks,
+            admitted,
+        })
+    }
+
+    /// The layer shows on row `y` of the page.
+    pub(crate) fn shows(&self, y: u32) -> bool
+        ensures { result ≡ shows_on self.now.width self.now.layer y }
+    {
+        let below = y.wrapping_sub(self.layer.y);
+        self.layer.x < self.width
+            && self.layer.y <= y
+            && below < self.layer.crop.height * self.layer.scale
+    }
+
+    /// The row of the image that shows there.
+    pub(crate) fn row_at(&self, y: u32) -> u32
+        requires { IsTrue (shows_on self.now.width self.now.layer y) }
+        ensures { result ≡ row_at self.now.layer y }
+    {
+        self.layer.crop.y + (y - self.layer.y) / self.layer.scale
+    }
+
+    /// Lays the layer over row `y` of the page.
+    pub(crate) fn paint(&mut self, y: u32, into: &mut InkRow)
+        requires width { HasWidth into.old self.old.width }
+        requires read { self.old.read ≤ row_at self.old.layer y + 1 }
+        ensures inks { (x : ℕ) → x < self.old.width → inks_at into.new x ≡ painted self.old.layer x y (inks_at into.old x) }
+        ensures width { HasWidth into.new self.old.width }
+        ensures layer { self.new ≡ record self.old { read = self.new.read } }
+        ensures read { self.new.read ≤ row_at self.old.layer y + 1 }
+    {
+        if !self.shows(y) {
+            return;
+        }
+        let row = self.row_at(y);
+        self.stand_behind(row);
+        let from = self.layer.x as usize;
+        into.lay(self.painting, from, &self.paint, &self.admitted);
+    }
+
+    // Reads up to a row of the image that shows, and makes paint of it.
+    fn stand_behind(&mut self, row: u32)
+        requires before { self.old.read ≤ row + 1 }
+        requires crop { self.old.layer.crop.y ≤ row }
+        requires within { row < self.old.layer.crop.y + self.old.layer.crop.height }
+        ensures { self.new ≡ record self.old { read = row + 1 } }
+    {
+        if self.image.read() == row + 1 {
+            return;
+        }
+        self.image.reach(row);
+        reach_mask(&mut self.mask, row);
+        let first = self.layer.crop.x;
+        let scale = self.layer.scale;
+        paint_row(&self.layer.art, &self.image, first, scale, &mut self.paint);
+        admit_row(
+            &self.layer,
+            &self.image,
+            &self.mask,
+            &mut self.marks,
+            &mut self.admitted,
+        );
+    }
+
+    /// Row `y` of the page shows the same as the row above it.
+    pub(crate) fn repeats(&self, y: u32) -> bool
+        requires { 0 < y }
+        ensures { result ≡ shows_alike self.now.width self.now.layer y }
+    {
+        match (self.shows(y - 1), self.shows(y)) {
+            (true, true) => self.row_at(y - 1) == self.row_at(y),
+            (false, false) => true,
+            _ => false,
+        }
+    }
+
+    /// Stands before the first row again.
+    pub(crate) fn restart(&mut self)
+        ensures { self.new ≡ record self.old { read = 0 } }
+    {
+        self.image.restart(self.layer.art.rows());
+        restart_mask(&mut self.mask, &self.layer.mask);
+    }
+}
+
+// The room for the rows of the mask, if there is one.
+fn open_mask<'a>(
+    alloc: Global,
+    mask: &Option<Bilevel<'a>>,
+) -> Result<Option<RowReader<'a>>, NoMemory>
+    ensures { IfOk result (λ reader. reader ≡ option_map (mask_cursor 0) mask.now) }
+{
+    match mask {
+        Some(mask) => Ok(Some(RowReader::new(alloc, mask.rows(), bilevel_row_len(mask))?)),
+        None => Ok(None),
+    }
+}
+
+// Reads up to a row of the mask, if there is one.
+fn reach_mask(mask: &mut Option<RowReader<'_>>, row: u32)
+    requires small { row < 65535 }
+    requires within { ForSome mask.old (λ reader. (reader.next ≤ row + 1) × (row < reader.shape.length)) }
+    ensures { mask.new ≡ option_map (at_row (row + 1)) mask.old }
+{
+    if let Some(reader) = mask {
+        reader.reach(row);
+    }
+}
+
+// Stands before the first row of the mask, if there is one.
+fn restart_mask<'a>(reader: &mut Option<RowReader<'a>>, mask: &Option<Bilevel<'a>>)
+    requires { option_map (at_row 0) reader.old ≡ option_map (mask_cursor 0) mask.now }
+    ensures { reader.new ≡ option_map (at_row 0) reader.old }
+{
+    if let (Some(reader), Some(mask)) = (reader, mask) {
+        reader.restart(mask.rows());
+    }
+}
+
+// The paint of the row that was read last, at each column of the page. What is the same in each row stands there already.
+fn paint_row(art: &Art<'_>, image: &RowReader<'_>, first: u32, scale: u32, paint: &mut InkRow)
+    requires image { IsOf art.now image.now }
+    requires read { 0 < image.now.next }
+    requires first { first ≤ 65535 }
+    requires scale { (1 ≤ scale) × (scale ≤ 64) }
+    requires wide { HasWidth paint.old (length paint.old.cyan) }
+    requires small { length paint.old.cyan ≤ 65535 }
+    requires within { (n : ℕ) → scale * n < length paint.old.cyan → first + n < (shape_of art.now).width }
+    requires fixed { paint.old ≡ with_fixed art.now (length paint.old.cyan) paint.old }
+    ensures wide { HasWidth paint.new (length paint.old.cyan) }
+    ensures fixed { paint.new ≡ with_fixed art.now (length paint.old.cyan) paint.new }
+    ensures paint { (j : ℕ) → j < length paint.old.cyan → inks_at paint.new j ≡ paint_at art.now (first + j / scale) (image.now.next - 1) }
+{
+    if let Art::Contone(contone) = art {
+        let _len = contone_row_len(contone);
+        paint.set_samples(image.row(), first as usize, scale as usize);
+    }
+}
+
+// How a layer is painted.
+fn painting_of(layer: &Layer<'_>) -> Painting
+    ensures { result ≡ painting_of layer.now }
+{
+    if layer.overprint {
+        Painting::Overprint
+    } else if is_bare(layer) {
+        Painting::Whole
+    } else {
+        Painting::Knockout
+    }
+}
+
+// What a layer paints in each row, where that is the same.
+fn fixed_inks(art: &Art<'_>) -> [u8; 5]
+    ensures { result ≡ fixed_of art.now }
+{
+    match art {
+        Art::Contone(_) => [0; 5],
+        Art::Line(_, inks) => *inks,
+    }
+}
+
+// The page's columns that a layer covers.
+fn span_of(layer: &Layer<'_>, width: u32) -> usize
+    requires layer { IsLayer layer.now }
+    requires width { (shape_of layer.now.art).width ≤ 65535 }
+    ensures { result ≡ span_of width layer.now }
+{
+    let covered = layer.crop.width * layer.scale;
+    covered.min(width.saturating_sub(layer.x)) as usize
+}
+
+// The columns of the image that show on so many columns of the page.
+fn columns_of(layer: &Layer<'_>, span: usize) -> usize
+    requires layer { IsLayer layer.now }
+    requires span { span ≤ layer.now.crop.width * layer.now.scale }
+    ensures enough { span ≤ result * layer.now.scale }
+    ensures within { result ≤ layer.now.crop.width }
+{
+    span.div_ceil(layer.scale as usize)
+}

@@ -1,0 +1,17 @@
+// The layers of a page laid in order, row by row in five inks. After a page is open no call takes memory, and none fails.
+#![tactic(auto)]
+
+mod admit;
+mod ink_row;
+mod lay;
+mod layer;
+mod layer_rows;
+mod marks;
+mod page_rows;
+mod room;
+mod row_reader;
+mod stretch;
+
+pub use ink_row::InkRow;
+pub use layer::{Art, Crop, Layer};
+pub use page_rows::PageRows;
