@@ -9,7 +9,7 @@ use Rattle.page_layers.specs.declared.lay.Painting.{Painting}
 use Rattle.page_layers.specs.Inks.{Planes, inks_at}
 use Rattle.page_layers.specs.Layer.{IsLayer, bytes_of, paint_at, shape_of}
 use Rattle.page_layers.specs.Reader.{mask_cursor}
-use Rattle.page_layers.specs.Rows.{HasSamples, IsLayerRows, fixed_of, painting_of, span_of, with_fixed}
+use Rattle.page_layers.specs.Rows.{HasSamples, IsLayerRows, IsPaint, fixed_of, painting_of, span_of, with_fixed}
 
 -- paint of the fixed inks has what is the same in each row
 fixed_paint : (art : Art) (span : ℕ) (paint : Planes) → paint.cyan ≡ replicate span (slice_index (fixed_of art) 0) → paint.magenta ≡ replicate span (slice_index (fixed_of art) 1)
@@ -54,13 +54,13 @@ IsLayerRows-open layer width columns painting image mask paint marks admitted is
       expanded = λ read. absurd (omega arith);
     }
 
--- the samples of a row of a contone image are its paint
-pub contone_paint : (image : Image) (first scale row : ℕ) (pixels : List ℕ) (old new : Planes) → pixels ≡ image_row image.shape image.bytes row
+-- the samples of a pixel of a contone image are its paint
+contone_pixel : (image : Image) (first scale row : ℕ) (pixels : List ℕ) (old new : Planes) → pixels ≡ image_row image.shape image.bytes row
     → length old.magenta ≡ length old.cyan → length old.yellow ≡ length old.cyan → length old.black ≡ length old.cyan
     → HasSamples pixels (4 * first) scale old.cyan new.cyan → HasSamples pixels (4 * first + 1) scale old.magenta new.magenta
     → HasSamples pixels (4 * first + 2) scale old.yellow new.yellow → HasSamples pixels (4 * first + 3) scale old.black new.black
     → new.spot ≡ replicate (length old.cyan) 0 → (j : ℕ) → j < length old.cyan → inks_at new j ≡ paint_at (Contone image) (first + j / scale) row
-contone_paint image first scale row pixels old new is long_m long_y long_k c m y k s j below =
+contone_pixel image first scale row pixels old new is long_m long_y long_k c m y k s j below =
     let cyan = c.each j below ∙ at 0 (4 * first) (omega arith) in
     let magenta = m.each j (omega arith) ∙ at 1 (4 * first + 1) refl in
     let yellow = y.each j (omega arith) ∙ at 2 (4 * first + 2) refl in
@@ -72,3 +72,12 @@ contone_paint image first scale row pixels old new is long_m long_y long_k c m y
     at i place there =
         let whole : place + 4 * (j / scale) ≡ 4 * (first + j / scale) + i = omega arith in
         ap (λ list. get_or list (place + 4 * (j / scale)) 0) is ∙ ap (λ n. get_or (image_row image.shape image.bytes row) n 0) whole
+
+-- and those of a row
+pub contone_paint : (image : Image) (first scale row : ℕ) (pixels : List ℕ) (old new : Planes) → pixels ≡ image_row image.shape image.bytes row
+    → length old.magenta ≡ length old.cyan → length old.yellow ≡ length old.cyan → length old.black ≡ length old.cyan
+    → HasSamples pixels (4 * first) scale old.cyan new.cyan → HasSamples pixels (4 * first + 1) scale old.magenta new.magenta
+    → HasSamples pixels (4 * first + 2) scale old.yellow new.yellow → HasSamples pixels (4 * first + 3) scale old.black new.black
+    → new.spot ≡ replicate (length old.cyan) 0 → IsPaint (Contone image) first scale row (length old.cyan) new
+contone_paint image first scale row pixels old new is long_m long_y long_k c m y k s =
+    record { each = contone_pixel image first scale row pixels old new is long_m long_y long_k c m y k s }

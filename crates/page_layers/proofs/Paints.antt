@@ -115,7 +115,7 @@ painted-row layer width y painting paint admitted old new painting_is long row e
         let shows = admits layer at (row_at layer y) in
         let under : j < length admitted = omega arith in
         let way : (paint under : ℕ) → laid_where painting (get_or admitted j 0) paint under ≡ (if shows then laid_value layer.overprint paint under else under) =
-        λ paint under. ap (λ p. laid_where p (get_or admitted j 0) paint under) painting_is ∙ ap (λ a. laid_where (painting_of layer) a paint under) (expanded.admits_is j inside)
+        λ paint under. ap (λ p. laid_where p (get_or admitted j 0) paint under) painting_is ∙ ap (λ a. laid_where (painting_of layer) a paint under) (expanded.admits_is.each j inside)
         ∙ laid_ink layer.overprint (is_bare layer) shows paint under (λ bare. bare_admits layer.mask layer.art at (row_at layer y) bare) in
         let c = cyan.inside j under ∙ way _ _ in
         let m = magenta.inside j under ∙ way _ _ in
@@ -126,6 +126,6 @@ painted-row layer width y painting paint admitted old new painting_is long row e
         (get_or old.cyan (layer.x + j) 0) (get_or old.magenta (layer.x + j) 0) (get_or old.yellow (layer.x + j) 0) (get_or old.black (layer.x + j) 0) (get_or old.spot (layer.x + j) 0) in
         let whole = covered layer (layer.x + j) y (inks_at old (layer.x + j)) (inside_column layer width j inside) row in
         rw (c, m, ye, k, s)
-        (five ∙ ap (λ paint. if shows then laid layer.overprint paint (inks_at old (layer.x + j)) else inks_at old (layer.x + j)) (expanded.paint_is j inside)
+        (five ∙ ap (λ paint. if shows then laid layer.overprint paint (inks_at old (layer.x + j)) else inks_at old (layer.x + j)) (expanded.paint_is.each j inside)
         ∙ ap (λ column. if admits layer column (row_at layer y) then laid layer.overprint (paint_at layer.art column (row_at layer y)) (inks_at old (layer.x + j)) else inks_at old (layer.x + j)) (sym (column_is layer j))
         ∙ sym whole)

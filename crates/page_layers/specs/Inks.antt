@@ -30,7 +30,8 @@ pub record HasWidth (planes : Planes) (width : ℕ) : Type 0 where
 -- the five values at column x: cyan, magenta, yellow, black and spot
 abbrev pub inks_at : Planes → ℕ → List ℕ
 inks_at planes x =
-    slice_index planes.cyan x ∷ slice_index planes.magenta x ∷ slice_index planes.yellow x ∷ slice_index planes.black x ∷ slice_index planes.spot x ∷ []
+    slice_index planes.cyan x ∷ slice_index planes.magenta x ∷ slice_index planes.yellow x
+    ∷ slice_index planes.black x ∷ slice_index planes.spot x ∷ []
 
 -- rows of this width without ink
 abbrev pub blank_planes : ℕ → Planes
@@ -55,4 +56,5 @@ laid_value overprint paint under = if overprint && (paint == 0) then under else 
 abbrev pub laid : Bool → List ℕ → List ℕ → List ℕ
 laid overprint [] unders = []
 laid overprint (paint ∷ paints) [] = []
-laid overprint (paint ∷ paints) (under ∷ unders) = laid_value overprint paint under ∷ laid overprint paints unders
+laid overprint (paint ∷ paints) (under ∷ unders) =
+    laid_value overprint paint under ∷ laid overprint paints unders

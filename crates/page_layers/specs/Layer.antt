@@ -25,9 +25,10 @@ bytes_of (Line image inks) = image.bytes
 -- the five ink values that a pixel of the image paints: a contone image its four samples and no spot ink, linework its own
 abbrev pub paint_at : Art → ℕ → ℕ → List ℕ
 paint_at (Contone image) column row =
-    sample_at image.shape image.bytes column row 0 ∷ sample_at image.shape image.bytes column row 1 ∷ sample_at image.shape image.bytes column row 2
-    ∷ sample_at image.shape image.bytes column row 3 ∷ 0 ∷ []
-paint_at (Line image inks) column row = slice_index inks 0 ∷ slice_index inks 1 ∷ slice_index inks 2 ∷ slice_index inks 3 ∷ slice_index inks 4 ∷ []
+    sample_at image.shape image.bytes column row 0 ∷ sample_at image.shape image.bytes column row 1
+    ∷ sample_at image.shape image.bytes column row 2 ∷ sample_at image.shape image.bytes column row 3 ∷ 0 ∷ []
+paint_at (Line image inks) column row =
+    slice_index inks 0 ∷ slice_index inks 1 ∷ slice_index inks 2 ∷ slice_index inks 3 ∷ slice_index inks 4 ∷ []
 
 -- whether a pixel of the image paints: each of a contone image, and the marked ones of linework
 abbrev pub paints_at : Art → ℕ → ℕ → Bool

@@ -17,12 +17,20 @@ use Rattle.page_layers.specs.Reader.{IsOf, mask_cursor}
 abbrev pub laid_where : Painting → ℕ → ℕ → ℕ → ℕ
 laid_where Whole admitted paint under = paint
 laid_where Knockout admitted paint under = if admitted == 0 then under else paint
-laid_where Overprint admitted paint under = if admitted == 0 then under else if paint == 0 then under else paint
+laid_where Overprint admitted paint under =
+    if admitted == 0 then under else if paint == 0 then under else paint
+
+-- paint is laid over the first values of the old row
+pub record IsLaid (painting : Painting) (paint admitted old : List ℕ) (count : ℕ) (new : List ℕ) : Type 0 where
+  pub each : (x : ℕ) → x < count
+      → slice_index new x ≡ laid_where painting (slice_index admitted x) (slice_index paint x) (slice_index old x)
 
 -- paint is laid over the old row from a column on
 pub record LaysSpan (painting : Painting) (from : ℕ) (paint admitted old new : List ℕ) : Type 0 where
   pub long : length new ≡ length old
-  pub inside : (j : ℕ) → j < length admitted → slice_index new (from + j) ≡ laid_where painting (slice_index admitted j) (slice_index paint j) (slice_index old (from + j))
+  pub inside : (j : ℕ) → j < length admitted
+      → slice_index new (from + j)
+      ≡ laid_where painting (slice_index admitted j) (slice_index paint j) (slice_index old (from + j))
   pub before : (x : ℕ) → x < from → slice_index new x ≡ slice_index old x
   pub behind : (x : ℕ) → from + length admitted ≤ x → slice_index new x ≡ slice_index old x
 
@@ -74,14 +82,28 @@ with_fixed (Line image inks) span paint =
       spot = replicate span (slice_index inks 4);
     }
 
--- the paint of a row of the image at each column that the layer covers, and 255 where it shows
+-- the first values are those of a source where a test passes, and otherwise 0
+pub record IsMarked (test : ℕ → Bool) (source : ℕ → ℕ) (count : ℕ) (marks : List ℕ) : Type 0 where
+  pub each : (n : ℕ) → n < count → slice_index marks n ≡ (if test n then source n else 0)
+
+-- the paint of a row of the image, from a column on, each as many times as the scale says
+pub record IsPaint (art : Art) (first scale row span : ℕ) (paint : Planes) : Type 0 where
+  pub each : (j : ℕ) → j < span → inks_at paint j ≡ paint_at art (first + j / scale) row
+
+-- 255 for each column that the layer covers where it shows, and otherwise 0
+pub record IsAdmitted (layer : Layer) (row span : ℕ) (admitted : List ℕ) : Type 0 where
+  pub each : (j : ℕ) → j < span
+      → slice_index admitted j ≡ (if admits layer (layer.crop.x + j / layer.scale) row then 255 else 0)
+
+-- the paint of a row of the image at each column that the layer covers, and where it shows
 pub record IsExpanded (layer : Layer) (row span : ℕ) (paint : Planes) (admitted : List ℕ) : Type 0 where
-  pub paint_is : (j : ℕ) → j < span → inks_at paint j ≡ paint_at layer.art (layer.crop.x + j / layer.scale) row
-  pub admits_is : (j : ℕ) → j < span → slice_index admitted j ≡ (if admits layer (layer.crop.x + j / layer.scale) row then 255 else 0)
+  pub paint_is : IsPaint layer.art layer.crop.x layer.scale row span paint
+  pub admits_is : IsAdmitted layer row span admitted
 
 -- what a layer's rows keep: cursors that stand before the same row of the image and of its mask, and the paint of the row
 -- before it
-pub record IsLayerRows (layer : Layer) (width : ℕ) (painting : Painting) (image : Cursor) (mask : Option Cursor) (paint : Planes) (marks admitted : List ℕ) : Type 0 where
+pub record IsLayerRows (layer : Layer) (width : ℕ) (painting : Painting) (image : Cursor) (mask : Option Cursor)
+    (paint : Planes) (marks admitted : List ℕ) : Type 0 where
   pub layer_is : IsLayer layer
   pub painting_is : painting ≡ painting_of layer
   pub sides : ((shape_of layer.art).width ≤ 65535) × ((shape_of layer.art).length ≤ 65535) × (width ≤ 65535)

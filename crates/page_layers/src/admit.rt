@@ -3,7 +3,7 @@ ghost use Rattle.std.specs.Prelude.{◌≡◌, ℕ, ◌+◌, ◌-◌, ◌*◌, �
 ghost use Rattle.std.specs.Option.{ForSome};
 ghost use Rattle.page_layers.specs.Layer.{IsLayer, admits, paints_at, shape_of, shows_through};
 ghost use Rattle.page_layers.specs.Reader.{IsOf, mask_cursor};
-ghost use Rattle.page_layers.specs.Rows.{is_bare};
+ghost use Rattle.page_layers.specs.Rows.{IsAdmitted, IsMarked, is_bare};
 
 use crate::layer::{Art, Layer, bilevel_row_len};
 use crate::marks::keep_marked;
@@ -38,7 +38,7 @@ pub(crate) fn admit_row(
     requires small { length admitted.old ≤ 65535 }
     requires bare { IsTrue (is_bare layer.now) → admitted.old ≡ replicate (length admitted.old) 255 }
     ensures bare { IsTrue (is_bare layer.now) → admitted.new ≡ admitted.old }
-    ensures admitted { (j : ℕ) → j < length admitted.old → slice_index admitted.new j ≡ (if admits layer.now (layer.now.crop.x + j / layer.now.scale) (image.now.next - 1) then 255 else 0) }
+    ensures admitted { IsAdmitted layer.now (image.now.next - 1) (length admitted.old) admitted.new }
 {
     if is_bare(layer) {
         return;
@@ -54,7 +54,7 @@ fn mark_art(art: &Art<'_>, image: &RowReader<'_>, first: u32, marks: &mut [u8])
     requires image { IsOf art.now image.now }
     requires read { 0 < image.now.next }
     requires within { first + length marks.old ≤ (shape_of art.now).width }
-    ensures { (n : ℕ) → n < length marks.old → slice_index marks.new n ≡ (if paints_at art.now (first + n) (image.now.next - 1) then 255 else 0) }
+    ensures { IsMarked (λ n. paints_at art.now (first + n) (image.now.next - 1)) (λ n. 255) (length marks.old) marks.new }
 {
     marks.fill(255);
     if let Art::Line(line, _) = art {
@@ -74,7 +74,7 @@ fn mark_mask(
     requires reader { reader.now ≡ option_map (mask_cursor next) mask.now }
     requires read { 0 < next }
     requires within { ForSome mask.now (λ mask. first + length marks.old ≤ mask.shape.width) }
-    ensures { (n : ℕ) → n < length marks.old → slice_index marks.new n ≡ (if shows_through mask.now (first + n) (next - 1) then slice_index marks.old n else 0) }
+    ensures { IsMarked (λ n. shows_through mask.now (first + n) (next - 1)) (slice_index marks.old) (length marks.old) marks.new }
 {
     if let (Some(mask), Some(reader)) = (mask, reader) {
         let _len = bilevel_row_len(mask);

@@ -24,7 +24,13 @@ impl Model for InkRow {
 
     ghost Value = { Planes };
 
-    ghost view = { λ r. record { cyan = r.cyan.items; magenta = r.magenta.items; yellow = r.yellow.items; black = r.black.items; spot = r.spot.items } };
+    ghost view = { λ r. record {
+      cyan = r.cyan.items;
+      magenta = r.magenta.items;
+      yellow = r.yellow.items;
+      black = r.black.items;
+      spot = r.spot.items;
+    } };
 }
 
 impl InkRow {

@@ -1,6 +1,6 @@
 // Paint laid over a row of one ink.
 ghost use Rattle.std.specs.Prelude.{◌≡◌, ℕ, ◌+◌, ◌<◌, ◌≤◌, length, slice_index};
-ghost use Rattle.page_layers.specs.Rows.{LaysSpan, laid_where};
+ghost use Rattle.page_layers.specs.Rows.{IsLaid, LaysSpan};
 
 /// How a layer is painted.
 #[derive(Clone, Copy, Debug, PartialEq, Eq)]
@@ -37,7 +37,7 @@ pub(crate) fn lay_span(
 fn knock_out(paint: &[u8], admitted: &[u8], into: &mut [u8])
     requires paint { length paint.now ≡ length into.old }
     requires admitted { length admitted.now ≡ length into.old }
-    ensures { (x : ℕ) → x < length into.old → slice_index into.new x ≡ laid_where Painting.Knockout (slice_index admitted.now x) (slice_index paint.now x) (slice_index into.old x) }
+    ensures { IsLaid Painting.Knockout paint.now admitted.now into.old (length into.old) into.new }
 {
     for x in 0..into.len() {
         into[x] = if admitted[x] == 0 { into[x] } else { paint[x] };
@@ -47,7 +47,7 @@ fn knock_out(paint: &[u8], admitted: &[u8], into: &mut [u8])
 fn overprint(paint: &[u8], admitted: &[u8], into: &mut [u8])
     requires paint { length paint.now ≡ length into.old }
     requires admitted { length admitted.now ≡ length into.old }
-    ensures { (x : ℕ) → x < length into.old → slice_index into.new x ≡ laid_where Painting.Overprint (slice_index admitted.now x) (slice_index paint.now x) (slice_index into.old x) }
+    ensures { IsLaid Painting.Overprint paint.now admitted.now into.old (length into.old) into.new }
 {
     for x in 0..into.len() {
         let shows = admitted[x] != 0 && paint[x] != 0;

@@ -1,21 +1,20 @@
 // The rows of one layer on a page.
 ghost use Rattle.std.specs.Prelude.{◌≡◌, ℕ, ◌+◌, ◌-◌, ◌*◌, ◌/◌, ◌<◌, ◌≤◌, IfOk, length, option_map};
-ghost use Rattle.std.specs.Option.{ForSome};
 ghost use Rattle.page_layers.specs.Inks.{HasWidth, inks_at};
 ghost use Rattle.page_layers.specs.Layer.{IsLayer, paint_at, shape_of};
-ghost use Rattle.page_layers.specs.Reader.{IsOf, at_row, mask_cursor};
-ghost use Rattle.page_layers.specs.Rows.{fixed_of, painting_of, span_of, with_fixed};
+ghost use Rattle.page_layers.specs.Reader.{IsOf};
+ghost use Rattle.page_layers.specs.Rows.{IsPaint, fixed_of, painting_of, span_of, with_fixed};
 
 use crate::InkRow;
 use crate::admit::{admit_row, is_bare};
 use crate::lay::Painting;
 use crate::layer::{Art, Layer, bilevel_row_len, contone_row_len};
+use crate::mask_rows::{open_mask, reach_mask, restart_mask};
 use crate::room::room;
 use crate::row_reader::RowReader;
 use pr_base::NoMemory;
 use std::alloc::Global;
 use std::marker::Model;
-use tif_image::Bilevel;
 
 /// A layer with the row of its image that shows last, as paint over the page's columns. Contracts see the layer, the
 /// page's width, and how many rows of the image were read.
@@ -164,40 +163,6 @@ impl<'a> LayerRows<'a> {
     }
 }
 
-// The room for the rows of the mask, if there is one.
-fn open_mask<'a>(
-    alloc: Global,
-    mask: &Option<Bilevel<'a>>,
-) -> Result<Option<RowReader<'a>>, NoMemory>
-    ensures { IfOk result (λ reader. reader ≡ option_map (mask_cursor 0) mask.now) }
-{
-    match mask {
-        Some(mask) => Ok(Some(RowReader::new(alloc, mask.rows(), bilevel_row_len(mask))?)),
-        None => Ok(None),
-    }
-}
-
-// Reads up to a row of the mask, if there is one.
-fn reach_mask(mask: &mut Option<RowReader<'_>>, row: u32)
-    requires small { row < 65535 }
-    requires within { ForSome mask.old (λ reader. (reader.next ≤ row + 1) × (row < reader.shape.length)) }
-    ensures { mask.new ≡ option_map (at_row (row + 1)) mask.old }
-{
-    if let Some(reader) = mask {
-        reader.reach(row);
-    }
-}
-
-// Stands before the first row of the mask, if there is one.
-fn restart_mask<'a>(reader: &mut Option<RowReader<'a>>, mask: &Option<Bilevel<'a>>)
-    requires { option_map (at_row 0) reader.old ≡ option_map (mask_cursor 0) mask.now }
-    ensures { reader.new ≡ option_map (at_row 0) reader.old }
-{
-    if let (Some(reader), Some(mask)) = (reader, mask) {
-        reader.restart(mask.rows());
-    }
-}
-
 // The paint of the row that was read last, at each column of the page. What is the same in each row stands there already.
 fn paint_row(art: &Art<'_>, image: &RowReader<'_>, first: u32, scale: u32, paint: &mut InkRow)
     requires image { IsOf art.now image.now }
@@ -210,7 +175,7 @@ fn paint_row(art: &Art<'_>, image: &RowReader<'_>, first: u32, scale: u32, paint
     requires fixed { paint.old ≡ with_fixed art.now (length paint.old.cyan) paint.old }
     ensures wide { HasWidth paint.new (length paint.old.cyan) }
     ensures fixed { paint.new ≡ with_fixed art.now (length paint.old.cyan) paint.new }
-    ensures paint { (j : ℕ) → j < length paint.old.cyan → inks_at paint.new j ≡ paint_at art.now (first + j / scale) (image.now.next - 1) }
+    ensures paint { IsPaint art.now first scale (image.now.next - 1) (length paint.old.cyan) paint.new }
 {
     if let Art::Contone(contone) = art {
         let _len = contone_row_len(contone);

@@ -7,10 +7,13 @@ mod lay;
 mod layer;
 mod layer_rows;
 mod marks;
+mod mask_rows;
 mod page_rows;
 mod room;
 mod row_reader;
 mod stretch;
+#[cfg(test)]
+mod tests;
 
 pub use ink_row::InkRow;
 pub use layer::{Art, Crop, Layer};

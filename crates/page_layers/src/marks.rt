@@ -2,6 +2,7 @@
 ghost use Rattle.std.specs.Prelude.{◌≡◌, ℕ, ◌+◌, ◌<◌, ◌≤◌, if◌then◌else◌, length, slice_index};
 ghost use Rattle.tif_strips.specs.Strips.{row_length};
 ghost use Rattle.tif_image.specs.Image.{is_marked, photometric};
+ghost use Rattle.page_layers.specs.Rows.{IsMarked};
 
 use tif_image::Bilevel;
 
@@ -10,7 +11,7 @@ pub(crate) fn keep_marked(image: &Bilevel<'_>, row: &[u8], first: u32, into: &mu
     requires row { length row.now ≡ row_length image.now.shape }
     requires small { first + length into.old ≤ 65535 }
     requires within { first + length into.old ≤ image.now.shape.width }
-    ensures { (j : ℕ) → j < length into.old → slice_index into.new j ≡ (if is_marked (photometric image.now.bytes) row.now (first + j) then slice_index into.old j else 0) }
+    ensures { IsMarked (λ j. is_marked (photometric image.now.bytes) row.now (first + j)) (slice_index into.old) (length into.old) into.new }
 {
     for j in 0..into.len() {
         if !image.marked(row, first + j as u32) {

@@ -51,7 +51,8 @@ impl<'a> PageRows<'a> {
         requires layers { All IsLayer layers.items }
         requires width { (1 ≤ width) × (width ≤ 65535) }
         requires height { (1 ≤ height) × (height ≤ 65535) }
-        ensures { IfOk result (λ page. page ≡ record { layers = layers.entry.items; width = width; height = height; next = 0 }) }
+        ensures { IfOk result
+            (λ page. page ≡ record { layers = layers.entry.items; width = width; height = height; next = 0 }) }
     {
         let mut rows = Vec::with_capacity(alloc, layers.len())?;
         for layer in layers {
@@ -97,8 +98,12 @@ impl<'a> PageRows<'a> {
     /// image on both, or nothing.
     pub fn repeats(&self) -> bool
         ensures given { IsTrue result → 0 < self.now.next }
-        ensures equal { IsTrue result → (x : ℕ) → x < self.now.width → ink_at self.now.layers x self.now.next ≡ ink_at self.now.layers x (self.now.next - 1) }
-        ensures told { 0 < self.now.next → All (λ layer. IsTrue (shows_alike self.now.width layer self.now.next)) self.now.layers → IsTrue result }
+        ensures equal { IsTrue result
+            → (x : ℕ) → x < self.now.width
+            → ink_at self.now.layers x self.now.next ≡ ink_at self.now.layers x (self.now.next - 1) }
+        ensures told { 0 < self.now.next
+            → All (λ layer. IsTrue (shows_alike self.now.width layer self.now.next)) self.now.layers
+            → IsTrue result }
     {
         self.next > 0 && all_repeat(&self.layers, self.next)
     }
@@ -116,7 +121,8 @@ impl<'a> PageRows<'a> {
 fn paint_layers(layers: &mut [LayerRows<'_>], y: u32, into: &mut InkRow)
     requires width { HasWidth into.old (length into.old.cyan) }
     requires ready { All (IsReady (length into.old.cyan) y) layers.old }
-    ensures inks { (x : ℕ) → x < length into.old.cyan → inks_at into.new x ≡ fold (λ under layer. painted layer x y under) (inks_at into.old x) (layers_of layers.old) }
+    ensures inks { (x : ℕ) → x < length into.old.cyan
+        → inks_at into.new x ≡ fold (λ under layer. painted layer x y under) (inks_at into.old x) (layers_of layers.old) }
     ensures width { HasWidth into.new (length into.old.cyan) }
     ensures layers { layers_of layers.new ≡ layers_of layers.old }
     ensures ready { All (IsReady (length into.old.cyan) y) layers.new }

@@ -69,11 +69,13 @@ abbrev pub first_bits : ℕ → Result (Option (List ℕ)) TagFault → Result (
 first_bits samples (Err fault) = Err fault
 first_bits samples (Ok None) = Ok (replicate samples 1)
 first_bits samples (Ok (Some values)) =
-    if nat_lt (length values) samples then Err (fault_at bits_per_sample FieldCount) else Ok (take samples values)
+    if nat_lt (length values) samples then Err (fault_at bits_per_sample FieldCount)
+    else Ok (take samples values)
 
 -- these are all the same depth
 abbrev pub same_bits : ℕ → Result (List ℕ) TagFault → Result (Unit {0}) TagFault
-same_bits depth bits = bits >>= λ values. must (list_all (λ bit. bit == depth) values) (fault_at bits_per_sample Bits)
+same_bits depth bits =
+    bits >>= λ values. must (list_all (λ bit. bit == depth) values) (fault_at bits_per_sample Bits)
 
 -- each sample has so many bits
 unfoldable pub bits_each : List ℕ → ℕ → ℕ → Result (Unit {0}) TagFault
@@ -90,14 +92,16 @@ abbrev pub is_full_dot : ℕ × ℕ → Bool
 is_full_dot dot = dot.1 == full_dot dot.0
 
 abbrev pub is_full_range : List ℕ → Bool
-is_full_range values = (length values == 2 || length values == 8) && list_all is_full_dot (enumerate_from 0 values)
+is_full_range values =
+    (length values == 2 || length values == 8) && list_all is_full_dot (enumerate_from 0 values)
 
 -- a range for all inks or one for each of four, from 0 to 255
 abbrev pub full_range : Result (Option (List ℕ)) TagFault → Result (Unit {0}) TagFault
 full_range (Err fault) = Err fault
 full_range (Ok None) = Ok tt
 full_range (Ok (Some values)) =
-    if nat_lt (length values) 2 then Err (fault_at dot_range FieldCount) else must (is_full_range values) (fault_at dot_range DotRange)
+    if nat_lt (length values) 2 then Err (fault_at dot_range FieldCount)
+    else must (is_full_range values) (fault_at dot_range DotRange)
 
 -- where the file has a dot range, it is the full one
 unfoldable pub full_dot_range : List ℕ → Result (Unit {0}) TagFault

@@ -36,7 +36,15 @@ image_fields usage bytes = do
   planar ← number_among bytes tag.planar_configuration (1 ∷ 2 ∷ []) Planar
   ink_fields usage bytes
   rows ← number_within bytes tag.rows_per_strip 1 4294967295 RowsPerStrip
-  Ok (record { width = width; length = length; samples = samples_of usage; bits = depth_of usage; planar = planar; packed = compression == 32773; rows_per_strip = rows })
+  Ok (record {
+    width = width;
+    length = length;
+    samples = samples_of usage;
+    bits = depth_of usage;
+    planar = planar;
+    packed = compression == 32773;
+    rows_per_strip = rows;
+  })
 
 -- the shape of an image of this use, or the first fault of all: of the header and the directory, of a field, of a strip
 unfoldable pub shape_of : Usage → List ℕ → Result Shape TagFault

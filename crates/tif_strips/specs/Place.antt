@@ -7,13 +7,17 @@ use Rattle.tif_strips.specs.Planes.{aheads_of}
 -- so many rows of a plane, from row y on, come first among these samples
 pub record HoldsRows (image : Image) (plane y rows : ℕ) (samples : List ℕ) : Type 0 where
   pub enough : rows * plane_row_length image.shape ≤ length samples
-  pub each : (k : ℕ) → k < rows → take (plane_row_length image.shape) (drop (k * plane_row_length image.shape) samples) ≡ plane_row image.shape image.bytes plane (y + k)
+  pub each : (k : ℕ) → k < rows
+      → take (plane_row_length image.shape) (drop (k * plane_row_length image.shape) samples)
+      ≡ plane_row image.shape image.bytes plane (y + k)
 
 -- the image has passed its tests; the rows up to the end of the strip that was begun last, or of the image, are still to
 -- come, and in each plane they come first among the samples ahead
 pub record IsPlace (image : Image) (place : Place) : Type 0 where
   pub striped : IsStriped image.shape
   pub passed : strip_fault image.shape image.bytes ≡ None
-  pub to_strip_end : place.next + place.rows ≡ min (place.begun * image.shape.rows_per_strip) image.shape.length
+  pub to_strip_end :
+      place.next + place.rows ≡ min (place.begun * image.shape.rows_per_strip) image.shape.length
   pub all_planes : 0 < place.rows → length (aheads_of place.planes) ≡ planes image.shape
-  pub each : (plane : ℕ) → plane < planes image.shape → HoldsRows image plane place.next place.rows (slice_index_or (aheads_of place.planes) plane [])
+  pub each : (plane : ℕ) → plane < planes image.shape
+      → HoldsRows image plane place.next place.rows (slice_index_or (aheads_of place.planes) plane [])

@@ -26,8 +26,11 @@ aheads_of (Four inks) = inks_of inks
 -- the samples of strip i of each plane
 abbrev pub strip_samples : Shape → List ℕ → ℕ → List (List ℕ)
 strip_samples shape bytes i =
-    map (λ plane. samples_in shape.packed (stored_bytes shape bytes (plane * strips_per_plane shape + i))) (range_with_len 0 (planes shape))
+    map
+    (λ plane. samples_in shape.packed (stored_bytes shape bytes (plane * strips_per_plane shape + i)))
+    (range_with_len 0 (planes shape))
 
 -- the first pixels of a row have the samples of these inks
 pub record HasPixels (inks : List (List ℕ)) (count : ℕ) (into : List ℕ) : Type 0 where
-  pub each : (x ink : ℕ) → x < count → ink < 4 → slice_index into (4 * x + ink) ≡ slice_index (slice_index_or inks ink []) x
+  pub each : (x ink : ℕ) → x < count → ink < 4
+      → slice_index into (4 * x + ink) ≡ slice_index (slice_index_or inks ink []) x

@@ -10,17 +10,24 @@ use Rattle.tif_strips.specs.Strips.{needed_length, samples_in, strip_offset, str
 
 -- strip i of an image
 abbrev pub strip_of : Shape → List ℕ → ℕ → Strip
-strip_of shape bytes i = record { offset = strip_offset shape bytes i; size = strip_size shape bytes i; needed = needed_length shape i }
+strip_of shape bytes i =
+    record {
+      offset = strip_offset shape bytes i;
+      size = strip_size shape bytes i;
+      needed = needed_length shape i;
+    }
 
 -- the bytes of a strip, where they lie in the file
 abbrev pub bytes_at : List ℕ → Strip → Option (List ℕ)
 bytes_at bytes strip =
-    if nat_lt (length bytes) (strip.offset + strip.size) then None else Some (take strip.size (drop strip.offset bytes))
+    if nat_lt (length bytes) (strip.offset + strip.size) then None
+    else Some (take strip.size (drop strip.offset bytes))
 
 -- what is wrong with these bytes, of which so many samples are needed
 abbrev pub fault_in : Bool → ℕ → Option (List ℕ) → Option TagFault
 fault_in packed needed None = Some (fault_at strip_offsets StripPlace)
-fault_in packed needed (Some stored) = if nat_lt (length (samples_in packed stored)) needed then Some (fault_at strip_offsets Short) else None
+fault_in packed needed (Some stored) =
+    if nat_lt (length (samples_in packed stored)) needed then Some (fault_at strip_offsets Short) else None
 
 -- the fault of a strip: it lies in the file, and has the samples that it needs
 abbrev pub fault_of : Bool → List ℕ → Strip → Option TagFault

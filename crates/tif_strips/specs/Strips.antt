@@ -59,11 +59,13 @@ strip_offset shape bytes strip = result_unwrap_or (number_at bytes strip_offsets
 
 -- how many bytes of the file it has ("StripByteCounts")
 unfoldable pub strip_size : Shape → List ℕ → ℕ → ℕ
-strip_size shape bytes strip = result_unwrap_or (number_at bytes strip_byte_counts strip (strip_count shape)) 0
+strip_size shape bytes strip =
+    result_unwrap_or (number_at bytes strip_byte_counts strip (strip_count shape)) 0
 
 -- the bytes that a strip has in the file
 unfoldable pub stored_bytes : Shape → List ℕ → ℕ → List ℕ
-stored_bytes shape bytes strip = take (strip_size shape bytes strip) (drop (strip_offset shape bytes strip) bytes)
+stored_bytes shape bytes strip =
+    take (strip_size shape bytes strip) (drop (strip_offset shape bytes strip) bytes)
 
 -- the samples in stored bytes: their expansion where they are packed (Section 9), one stream for the whole strip
 abbrev pub samples_in : Bool → List ℕ → List ℕ
@@ -71,7 +73,8 @@ samples_in packed stored = if packed then expansion stored else stored
 
 -- the data of a strip: as many samples as it needs, and none past them
 unfoldable pub strip_data : Shape → List ℕ → ℕ → List ℕ
-strip_data shape bytes strip = take (needed_length shape strip) (samples_in shape.packed (stored_bytes shape bytes strip))
+strip_data shape bytes strip =
+    take (needed_length shape strip) (samples_in shape.packed (stored_bytes shape bytes strip))
 
 -- ---- the tests
 
@@ -82,8 +85,10 @@ fault_of_field shape bytes tag = result_err (number_at bytes tag 0 (strip_count 
 -- the fault of one strip: it lies in the file, and has the samples that it needs
 unfoldable pub fault_of_strip : Shape → List ℕ → ℕ → Option TagFault
 fault_of_strip shape bytes strip =
-    if nat_lt (length bytes) (strip_offset shape bytes strip + strip_size shape bytes strip) then Some (fault_at strip_offsets StripPlace)
-    else if nat_lt (length (samples_in shape.packed (stored_bytes shape bytes strip))) (needed_length shape strip) then Some (fault_at strip_offsets Short)
+    if nat_lt (length bytes) (strip_offset shape bytes strip + strip_size shape bytes strip)
+    then Some (fault_at strip_offsets StripPlace)
+    else if nat_lt (length (samples_in shape.packed (stored_bytes shape bytes strip))) (needed_length shape strip)
+    then Some (fault_at strip_offsets Short)
     else None
 
 -- the first fault of a list of tests
@@ -95,7 +100,9 @@ first_fault (Some fault ∷ tests) = Some fault
 -- the first fault of StripOffsets, StripByteCounts and the strips in order
 unfoldable pub strip_fault : Shape → List ℕ → Option TagFault
 strip_fault shape bytes =
-    first_fault (fault_of_field shape bytes strip_offsets ∷ fault_of_field shape bytes strip_byte_counts ∷ map (fault_of_strip shape bytes) (range_with_len 0 (strip_count shape)))
+    first_fault
+    (fault_of_field shape bytes strip_offsets ∷ fault_of_field shape bytes strip_byte_counts
+    ∷ map (fault_of_strip shape bytes) (range_with_len 0 (strip_count shape)))
 
 -- ---- rows
 

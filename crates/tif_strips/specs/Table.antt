@@ -8,7 +8,8 @@ use Rattle.tif_strips.specs.Strips.{Image, IsStriped, fault_of_field, first_faul
 
 -- the first fault of the two fields
 abbrev pub field_fault : Shape → List ℕ → Option TagFault
-field_fault shape bytes = first_fault (fault_of_field shape bytes strip_offsets ∷ fault_of_field shape bytes strip_byte_counts ∷ [])
+field_fault shape bytes =
+    first_fault (fault_of_field shape bytes strip_offsets ∷ fault_of_field shape bytes strip_byte_counts ∷ [])
 
 -- the image has strips, and these are the values of its two fields, at least one for each strip
 pub record HasTable (image : Image) (offsets sizes : List ℕ) : Type 0 where

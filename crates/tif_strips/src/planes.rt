@@ -29,7 +29,8 @@ impl<'a> Planes<'a> {
     /// Gives the next row of the image, which has `row` bytes in each plane.
     pub(crate) fn fill(&mut self, row: usize, into: &mut [u8])
         requires room { length into.old ≡ length (aheads_of self.old) * row }
-        requires enough { (plane : ℕ) → plane < length (aheads_of self.old) → row ≤ length (slice_index_or (aheads_of self.old) plane []) }
+        requires enough { (plane : ℕ) → plane < length (aheads_of self.old)
+            → row ≤ length (slice_index_or (aheads_of self.old) plane []) }
         ensures one { length (aheads_of self.old) ≡ 1 → into.new ≡ take row (slice_index_or (aheads_of self.old) 0 []) }
         ensures four { length (aheads_of self.old) ≢ 1 → HasPixels (aheads_of self.old) row into.new }
         ensures left { aheads_of self.new ≡ map (drop row) (aheads_of self.old) }

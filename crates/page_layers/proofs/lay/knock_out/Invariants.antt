@@ -1,10 +1,10 @@
-use Rattle.std.proofs.Common.{◌≡◌, ℕ, ◌<◌, ◌≤◌, slice_index}
+use Rattle.std.proofs.Common.{◌≡◌, ℕ, ◌≤◌, slice_index}
 use Rattle.page_layers.specs.declared.lay.Painting.TheVariants.{Knockout}
-use Rattle.page_layers.specs.Rows.{laid_where}
+use Rattle.page_layers.specs.Rows.{IsLaid}
 use Rattle.page_layers.proofs.lay.knock_out.Given as goal
 
 abbrev pub invariant-loop-x : goal.invariant-loop-x
 invariant-loop-x l = record {
-  laid : (k : ℕ) → k < l.x → slice_index l.into k ≡ laid_where Knockout (slice_index l.admitted k) (slice_index l.paint k) (slice_index l.fn.into k);
+  laid : IsLaid Knockout l.paint l.admitted l.fn.into l.x l.into;
   rest : (k : ℕ) → l.x ≤ k → slice_index l.into k ≡ slice_index l.fn.into k;
 }
