@@ -53,6 +53,7 @@ pub(crate) fn contone_row_len(image: &Contone<'_>) -> usize
 
 pub(crate) fn bilevel_row_len(image: &Bilevel<'_>) -> usize
     ensures len { result ≡ row_length image.now.shape }
+    ensures bits { image.now.shape.width ≤ 8 * result }
     ensures width { image.now.shape.width ≤ 65535 }
     ensures length { image.now.shape.length ≤ 65535 }
 {

@@ -81,9 +81,10 @@ impl<'a> PageRows<'a> {
         ensures width { HasWidth into.new self.old.width }
         ensures page { self.new ≡ record self.old { next = self.old.next + 1 } }
     {
+        let y = self.next;
         into.clear();
-        paint_layers(&mut self.layers, self.next, into);
-        self.next += 1;
+        paint_layers(&mut self.layers, y, into);
+        self.next = y + 1;
     }
 
     /// Goes over the next row as `next` does, without painting it.

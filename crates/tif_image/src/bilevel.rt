@@ -32,7 +32,7 @@ impl<'a> Model for Bilevel<'a> {
 }
 
 impl<'a> Bilevel<'a> {
-    ghost use Rattle.std.specs.Prelude.{◌≡◌, ◌≤◌, ◌<◌, IfErr, IfOk, length};
+    ghost use Rattle.std.specs.Prelude.{◌≡◌, ◌==◌, ◌≤◌, ◌<◌, IfErr, IfOk, length};
     ghost use Rattle.pr_base.specs.Row.{row_size};
     ghost use Rattle.tif_strips.specs.Strips.{row_length};
     ghost use Rattle.tif_image.specs.Image.{IsBilevel, bilevel_shape, is_marked, photometric};
@@ -89,6 +89,13 @@ impl<'a> Bilevel<'a> {
         ensures row_length { row_length self.now.shape ≡ row_size self.now.shape.width }
     {
         self.strips.rows()
+    }
+
+    /// The pixels whose bit is 0 are the marked ones: PhotometricInterpretation is 1.
+    pub fn marks_zeros(&self) -> bool
+        ensures { result ≡ (photometric self.now.bytes == 1) }
+    {
+        self.marks_zeros
     }
 
     /// Pixel `x` of a row of the image is marked: its bit is 1, or 0 where PhotometricInterpretation is 1.

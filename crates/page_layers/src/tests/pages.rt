@@ -43,10 +43,19 @@ fn overprint_keeps_inks_and_knockout_replaces_them(rt: HostRuntime) -> Result<()
 #[test]
 fn edges_cut_layers(rt: HostRuntime) -> Result<(), Fail> {
     let mut layers = Vec::new(rt.alloc());
-    for (x, y) in [(2, 1), (4, 0), (0, 2), (4_000_000_000, 4_000_000_000)] {
-        let art = Art::Contone(Contone::check(&CONTONE)?);
-        put(&rt, &mut layers, whole(art, x, y, 1))?;
-    }
+    let art = Art::Contone(Contone::check(&CONTONE)?);
+    put(&rt, &mut layers, whole(art, 2, 1, 1))?;
+    // Three that stand wholly outside.
+    let art = Art::Contone(Contone::check(&CONTONE)?);
+    put(&rt, &mut layers, whole(art, 4, 0, 1))?;
+    let art = Art::Contone(Contone::check(&CONTONE)?);
+    put(&rt, &mut layers, whole(art, 0, 2, 1))?;
+    let art = Art::Contone(Contone::check(&CONTONE)?);
+    put(
+        &rt,
+        &mut layers,
+        whole(art, 4_000_000_000, 4_000_000_000, 1),
+    )?;
     let (mut page, mut room) = open(&rt, layers, 4, 2)?;
     assert_row(&rt, &mut page, &mut room, [NONE; 5]);
     assert_row(

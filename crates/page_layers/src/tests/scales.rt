@@ -39,33 +39,46 @@ fn crop_shows_three_times_at_an_odd_place(rt: HostRuntime) -> Result<(), Fail> {
     Ok(())
 }
 
+const FIRST: [[u8; 1]; 5] = [[1], [41], [81], [121], [0]];
+
+const SECOND: [[u8; 1]; 5] = [[11], [51], [91], [131], [0]];
+
 #[test]
-fn rows_repeat_by_the_scale(rt: HostRuntime) -> Result<(), Fail> {
-    let first = [[1], [41], [81], [121], [0]];
-    let second = [[11], [51], [91], [131], [0]];
-    for scale in [1, 4] {
-        let mut layers = Vec::new(rt.alloc());
-        let art = Art::Contone(Contone::check(&CONTONE)?);
-        put(&rt, &mut layers, whole(art, 0, 0, scale))?;
-        let (mut page, mut room) = open(&rt, layers, 1, 8)?;
-        for _again in 0..2 {
-            assert!(rt; !page.repeats());
-            assert_row(&rt, &mut page, &mut room, first);
-            assert_eq!(rt; page.left(), 7);
-            assert_eq!(rt; page.repeats(), scale == 4);
-            if scale == 4 {
-                page.pass();
-                assert_eq!(rt; page.left(), 6);
-                assert!(rt; page.repeats());
-                page.pass();
-                assert_row(&rt, &mut page, &mut room, first);
-                assert!(rt; !page.repeats());
-            }
-            assert_row(&rt, &mut page, &mut room, second);
-            assert_eq!(rt; page.repeats(), scale == 4);
-            page.restart();
-            assert_eq!(rt; page.left(), 8);
-        }
-    }
+fn rows_at_scale_1_do_not_repeat(rt: HostRuntime) -> Result<(), Fail> {
+    let mut layers = Vec::new(rt.alloc());
+    let art = Art::Contone(Contone::check(&CONTONE)?);
+    put(&rt, &mut layers, whole(art, 0, 0, 1))?;
+    let (mut page, mut room) = open(&rt, layers, 1, 2)?;
+    assert_row(&rt, &mut page, &mut room, FIRST);
+    assert!(rt; !page.repeats());
+    page.restart();
+    assert_eq!(rt; page.left(), 2);
+    assert!(rt; !page.repeats());
+    assert_row(&rt, &mut page, &mut room, FIRST);
+    assert_row(&rt, &mut page, &mut room, SECOND);
+    assert_eq!(rt; page.left(), 0);
+    Ok(())
+}
+
+#[test]
+fn rows_at_scale_4_repeat_and_are_passed(rt: HostRuntime) -> Result<(), Fail> {
+    let mut layers = Vec::new(rt.alloc());
+    let art = Art::Contone(Contone::check(&CONTONE)?);
+    put(&rt, &mut layers, whole(art, 0, 0, 4))?;
+    let (mut page, mut room) = open(&rt, layers, 1, 8)?;
+    assert_row(&rt, &mut page, &mut room, FIRST);
+    assert!(rt; page.repeats());
+    assert_eq!(rt; page.left(), 7);
+    page.pass();
+    assert!(rt; page.repeats());
+    assert_eq!(rt; page.left(), 6);
+    page.pass();
+    assert_row(&rt, &mut page, &mut room, FIRST);
+    assert!(rt; !page.repeats());
+    assert_row(&rt, &mut page, &mut room, SECOND);
+    assert!(rt; page.repeats());
+    page.restart();
+    assert_row(&rt, &mut page, &mut room, FIRST);
+    assert_eq!(rt; page.left(), 7);
     Ok(())
 }
