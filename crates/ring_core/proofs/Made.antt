@@ -1,14 +1,14 @@
 -- A schedule by the parts of its readers: made of them, read plainly, and after an event.
-use Rattle.std.proofs.Common.{◌≡◌, ℕ, zero, suc, ◌+◌, ◌*◌, ◌/◌, ◌%◌, ◌<◌, ◌≤◌, false, [], ◌∷◌, map, get_or, ap, sym, ◌∙◌, refl, subst, arith}
-use Rattle.std.specs.Prelude.{Option, None}
+use Rattle.std.proofs.Common.{◌≡◌, ℕ, zero, suc, ◌+◌, ◌*◌, ◌/◌, ◌%◌, ◌<◌, ◌≤◌, false, List, [], ◌∷◌, map, replicate, get_or, ap, sym, ◌∙◌, refl, subst, arith}
+use Rattle.std.specs.Prelude.{Option, Some, None}
 use Rattle.std.specs.List.{range_with_len}
 use Rattle.std.proofs.lemmas.List.FromFn.{get_or-map-range_with_len, length-map-range_with_len}
 use Rattle.std.proofs.lemmas.Nat.{div-mul-add, mod-mul-add}
 use Rattle.std.proofs.Math.Nat.{div-lt_iff_lt-mul, mod-mod}
 use Rattle.ring_core.specs.declared.event.Stage.TheVariants.{Idle}
-use Rattle.ring_core.specs.Schedule.{Schedule, readers, Progress, Lanes, progress_of, lanes_of, lane_place}
+use Rattle.ring_core.specs.Schedule.{Schedule, readers, Progress, Lanes, progress_of, lanes_of, lane_place, start}
 use Rattle.ring_core.specs.Sound.{IsSized, IsSoundProgress, IsSoundWords, IsSoundLanes, IsSound}
-use Rattle.ring_core.proofs.Readers.{lane_in}
+use Rattle.ring_core.proofs.Readers.{lane_in, fresh_progress, fresh_lanes}
 use Rattle.ring_core.proofs.Lower.{plain_keeps}
 use Rattle.ring_core.specs.Plain.{numbers, from_low, first_row, plain_lanes, schedule_of, plain}
 
@@ -135,3 +135,18 @@ plain_sound s h =
     let l : ℕ → Lanes = λ r. plain_lanes s.head (p r) (lanes_of s r) in
     made_sound (plain s) s.places s.total s.head n p l (is_made s.places s.total s.head n p l some (λ r i. plain_by_place s.places s.head (p r) (lanes_of s r) (own_by_place s r)))
     h.words (λ r i. plain_keeps s.places s.total s.head (p r) (lanes_of s r) (h.words.each r i) (h.lanes r i))
+
+-- a schedule whose readers have not begun is the start
+map_const : {A : Type 0} (c : A) (a n : ℕ) → map (λ (k : ℕ). c) (range_with_len a n) ≡ replicate n c
+map_const c a zero = refl
+map_const c a (suc n) = λ i. c ∷ map_const c (a + 1) n i
+
+pub start_made : (places total n : ℕ) → schedule_of places total 0 n (λ _. fresh_progress) (λ _. fresh_lanes) ≡ start places n total
+start_made places total n =
+    let filled = map_const false 0 n in
+    let first = map_const (Some 0) 0 n in
+    let seen = map_const {A = ℕ} 0 0 n in
+    let stage = map_const Idle 0 n in
+    let lane = map_const {A = Option ℕ} None 0 (n * places) in
+    let taken = map_const {A = List ℕ} [] 0 n in
+    λ i. record { places = places; total = total; head = 0; filled = filled i; known = first i; cursor = first i; seen = seen i; stage = stage i; lane = lane i; taken = taken i }

@@ -274,7 +274,7 @@ fresh_progress_sound places = record {
   within = λ k e. omega arith;
 }
 
-fresh_lanes_sound : (places total : ℕ) → IsSoundLanes places total 0 Readers.fresh_progress Readers.fresh_lanes
+pub fresh_lanes_sound : (places total : ℕ) → IsSoundLanes places total 0 Readers.fresh_progress Readers.fresh_lanes
 fresh_lanes_sound places total = record {
   holding_ahead = λ c e s. cc;
   closed_ahead = λ c e s. cc;

@@ -1,21 +1,22 @@
--- Each kind of step, over the writer's view and the function from reader to view: what is shown afterwards, and that the words and
--- the views still fit. Soundness is never proved anew: what is shown is an event's effect, and the event keeps it.
-use Rattle.std.proofs.Common.{◌≡◌, ◌≢◌, ℕ, ◌+◌, ◌<◌, ◌≤◌, false, List, [], ◌∷◌, ◌++◌, get_or, set, sym, refl, ap, ◌∙◌, subst, inl, inr, arith, get_or-set_same, get_or-set_other, length-set}
-use Rattle.std.specs.Prelude.{Some}
+-- Each kind of step, over the writer's view and the function from reader to view: the progress that is shown afterwards, and that the
+-- words and the views still fit. Soundness is never proved anew: what is shown is an event's effect, and the event keeps it.
+use Rattle.std.proofs.Common.{◌≡◌, ◌≢◌, ℕ, ◌+◌, ◌<◌, ◌≤◌, false, cond, List, [], ◌∷◌, ◌++◌, length, get_or, set, sym, refl, ap, ◌∙◌, subst, inl, inr, arith, get_or-set_same, get_or-set_other, length-set}
+use Rattle.std.specs.Prelude.{Some, None}
 use Rattle.std.proofs.lemmas.Bool.{cases_eq}
 use Rattle.ring_core.specs.Schedule.{Progress}
-use Rattle.ring_core.specs.Events.{looked, saw, advanced}
+use Rattle.ring_core.specs.Events.{looked, saw, advanced, departed}
 use Rattle.ring_core.specs.Sound.{IsSoundProgress}
-use Rattle.ring_core.proofs.Keeps.{look_progress, see_progress, publish_progress, advance_progress}
+use Rattle.ring_core.proofs.Keeps.{look_progress, see_progress, publish_progress, advance_progress, leave_progress}
 use Rattle.ring_core.proofs.Whole.{each_by}
 use Rattle.ring_rule.specs.declared.view.RingNumbers.{RingNumbers}
 use Rattle.ring_rule.specs.declared.view.WriterView.{WriterView}
 use Rattle.ring_rule.specs.declared.view.ReaderView.{ReaderView}
 use Rattle.ring_rule.specs.Views.{left_word, cursor_in, word_of, up_to, put_reader}
-use Rattle.ring_rule.specs.Kept.{head_shown, shown, Holds}
-use Rattle.ring_rule.specs.Plays.{looked_at, published, saw_head, went_on, IsCursorOf, MayPublish}
+use Rattle.ring_rule.specs.Shown.{head_shown, shown}
+use Rattle.ring_rule.specs.Kept.{Holds}
+use Rattle.ring_rule.specs.Plays.{looked_at, published, saw_head, went_on, gone, IsCursorOf}
 use Rattle.ring_rule.proofs.Roster.{pick_same, pick_other}
-use Rattle.ring_rule.proofs.Numbers.{cursor_some, cursor_is_word, word_joined, up_to_more}
+use Rattle.ring_rule.proofs.Numbers.{cursor_some, cursor_is_word, cursor_none, word_joined, up_to_more}
 
 pub put_here : (y : ReaderView) (readers : ℕ → ReaderView) (r : ℕ) → y.number ≡ r → put_reader y readers r ≡ y
 put_here y readers r e = pick_same y.number r y (readers r) e
@@ -24,7 +25,7 @@ pub put_else : (y : ReaderView) (readers : ℕ → ReaderView) (r : ℕ) → y.n
 put_else y readers r e = pick_other y.number r y (readers r) e
 
 -- what is shown of a reader rests on its own view alone
-abbrev shown_by : List ℕ → WriterView → ReaderView → ℕ → Progress
+abbrev pub shown_by : List ℕ → WriterView → ReaderView → ℕ → Progress
 shown_by words w x r = record { known = cursor_in (get_or w.known r 0); cursor = cursor_in (get_or words (r + 1) 0); seen = x.seen; taken = up_to x.taken }
 
 -- The writer looks
@@ -91,22 +92,10 @@ publish_shows words w readers n r =
 pub publish_head : (g : RingNumbers) (words : List ℕ) (w : WriterView) (readers : ℕ → ReaderView) → Holds g words w readers → head_shown (set words 0 (w.head + 1)) ≡ head_shown words + 1
 publish_head g words w readers h = get_or-set_same words 0 (w.head + 1) 0 (let k = h.words_in in omega arith) ∙ ap (λ n. n + 1) (sym h.head_is)
 
-pub publish_row : (g : RingNumbers) (words : List ℕ) (w : WriterView) (readers : ℕ → ReaderView) → Holds g words w readers → MayPublish w → head_shown words < g.total
-publish_row g words w readers h may = let a = may.row in let b = h.head_is in let c : w.ring.total ≡ g.total = ap (λ (z : RingNumbers). z.total) h.writer_ring in omega arith
-
-pub publish_room : (g : RingNumbers) (words : List ℕ) (w : WriterView) (readers : ℕ → ReaderView) → Holds g words w readers → MayPublish w
-    → (r k : ℕ) → r < g.readers → (shown words w readers r).known ≡ Some k → head_shown words < k + g.places
-publish_room g words w readers h may r k l e =
-    let b = h.head_is in
-    let c : w.ring.places ≡ g.places = ap (λ (z : RingNumbers). z.places) h.writer_ring in
-    let d : w.ring.readers ≡ g.readers = ap (λ (z : RingNumbers). z.readers) h.writer_ring in
-    let room = may.room r k (omega arith) e in
-    omega arith
-
-pub publish_holds : (g : RingNumbers) (words : List ℕ) (w : WriterView) (readers : ℕ → ReaderView) → Holds g words w readers → MayPublish w → Holds g (set words 0 (w.head + 1)) (published w) readers
-publish_holds g words w readers h may =
+pub publish_holds : (g : RingNumbers) (words : List ℕ) (w : WriterView) (readers : ℕ → ReaderView) → Holds g words w readers → head_shown words < g.total
+    → ((r k : ℕ) → r < g.readers → (shown words w readers r).known ≡ Some k → head_shown words < k + g.places) → Holds g (set words 0 (w.head + 1)) (published w) readers
+publish_holds g words w readers h row room =
     let head = publish_head g words w readers h in
-    let row = publish_row g words w readers h may in
     record {
       total_in = h.total_in;
       words_in = length-set words 0 (w.head + 1) ∙ h.words_in;
@@ -125,21 +114,21 @@ publish_holds g words w readers h may =
         each = λ r l.
             subst (λ n. IsSoundProgress g.places n (shown (set words 0 (w.head + 1)) (published w) readers r)) (sym head)
             (subst (λ p. IsSoundProgress g.places (head_shown words + 1) p) (sym (publish_shows words w readers (w.head + 1) r))
-            (publish_progress g.places (head_shown words) (shown words w readers r) (λ k e. publish_room g words w readers h may r k l e) (h.sound.each r l)));
+            (publish_progress g.places (head_shown words) (shown words w readers r) (λ k e. room r k l e) (h.sound.each r l)));
       };
     }
 
 -- A reader's view changes
 
 -- what is shown of a reader by its new view, and of the others by theirs
-by_view : (words : List ℕ) (w : WriterView) (readers : ℕ → ReaderView) (y : ReaderView) (r : ℕ) → y.number ≡ r → shown words w (put_reader y readers) r ≡ shown_by words w y r
+pub by_view : (words : List ℕ) (w : WriterView) (readers : ℕ → ReaderView) (y : ReaderView) (r : ℕ) → y.number ≡ r → shown words w (put_reader y readers) r ≡ shown_by words w y r
 by_view words w readers y r e = ap (λ (x : ReaderView). shown_by words w x r) (put_here y readers r e)
 
 by_others : (words : List ℕ) (w : WriterView) (readers : ℕ → ReaderView) (y : ReaderView) (r q : ℕ) → y.number ≡ r → q ≢ r → shown words w (put_reader y readers) q ≡ shown words w readers q
 by_others words w readers y r q e o = ap (λ (x : ReaderView). shown_by words w x q) (put_else y readers q (λ f. o (sym f ∙ e)))
 
 -- A fact of each reader, where one view is new
-put_each : (readers : ℕ → ReaderView) (y : ReaderView) (P : ℕ → ReaderView → Type 0) (r : ℕ) → y.number ≡ r → P r y → ((q : ℕ) → q ≢ r → P q (readers q)) → (q : ℕ) → P q (put_reader y readers q)
+pub put_each : (readers : ℕ → ReaderView) (y : ReaderView) (P : ℕ → ReaderView → Type 0) (r : ℕ) → y.number ≡ r → P r y → ((q : ℕ) → q ≢ r → P q (readers q)) → (q : ℕ) → P q (put_reader y readers q)
 put_each readers y P r e here else q = elim (cases_eq q r) [
   | inl is ↦ subst (λ x. P q x) (sym (put_here y readers q (e ∙ sym is))) (subst (λ k. P k y) (sym is) here)
   | inr other ↦ subst (λ x. P q x) (sym (put_else y readers q (λ f. other (sym f ∙ e)))) (else q other)
@@ -183,6 +172,14 @@ pub joined_cursor : (g : RingNumbers) (words : List ℕ) (w : WriterView) (reade
     → get_or words (x.number + 1) 0 ≡ x.taken
 joined_cursor g words w readers x h is l j = h.cursor_is x.number l ∙ (ap word_of is ∙ word_joined x j)
 
+-- the same by the function alone
+pub joined_here : (g : RingNumbers) (words : List ℕ) (w : WriterView) (readers : ℕ → ReaderView) (r : ℕ) → Holds g words w readers → r < g.readers → (readers r).left ≡ false
+    → (shown words w readers r).cursor ≡ Some (readers r).taken
+joined_here g words w readers r h l j =
+    let taken = h.taken_in r l in
+    let t = h.total_in in
+    ap cursor_in (h.cursor_is r l ∙ word_joined (readers r) j) ∙ cursor_some (readers r).taken (λ e. omega arith)
+
 -- it is a row number, so it stands for itself
 pub joined_shown : (g : RingNumbers) (words : List ℕ) (w : WriterView) (readers : ℕ → ReaderView) (x : ReaderView) → Holds g words w readers → readers x.number ≡ x → x.number < g.readers → x.left ≡ false
     → (shown words w readers x.number).cursor ≡ Some x.taken
@@ -205,11 +202,12 @@ advance_own g words w readers x h is l ahead =
     let rows : up_to (c + 1) ≡ up_to (readers r).taken ++ c ∷ [] = up_to_more c ∙ ap (λ (z : ReaderView). up_to z.taken ++ c ∷ []) (sym is) in
     by_view (set words (r + 1) (c + 1)) w readers (went_on x) r refl ∙ (λ i. record { known = cursor_in (get_or w.known r 0); cursor = word i; seen = sym s i; taken = rows i })
 
-pub advance_other : (words : List ℕ) (w : WriterView) (readers : ℕ → ReaderView) (x : ReaderView) (n q : ℕ) → q ≢ x.number
-    → shown (set words (x.number + 1) n) w (put_reader (went_on x) readers) q ≡ shown words w readers q
-advance_other words w readers x n q o =
+-- another reader's word and view changed
+pub word_other : (words : List ℕ) (w : WriterView) (readers : ℕ → ReaderView) (x y : ReaderView) (n q : ℕ) → y.number ≡ x.number → q ≢ x.number
+    → shown (set words (x.number + 1) n) w (put_reader y readers) q ≡ shown words w readers q
+word_other words w readers x y n q same o =
     let e = get_or-set_other words (x.number + 1) (q + 1) n 0 (λ f. o (let k : q ≡ x.number = omega arith in k)) in
-    by_others (set words (x.number + 1) n) w readers (went_on x) x.number q refl o ∙ (λ i. record { known = cursor_in (get_or w.known q 0); cursor = cursor_in (e i); seen = (readers q).seen; taken = up_to (readers q).taken })
+    by_others (set words (x.number + 1) n) w readers y x.number q same o ∙ (λ i. record { known = cursor_in (get_or w.known q 0); cursor = cursor_in (e i); seen = (readers q).seen; taken = up_to (readers q).taken })
 
 pub advance_holds : (g : RingNumbers) (words : List ℕ) (w : WriterView) (readers : ℕ → ReaderView) (x : ReaderView) → Holds g words w readers → readers x.number ≡ x → x.number < g.readers → x.left ≡ false → x.taken < x.seen
     → Holds g (set words (x.number + 1) (x.taken + 1)) w (put_reader (went_on x) readers)
@@ -241,6 +239,110 @@ advance_holds g words w readers x h is l j ahead =
             (each_by g.readers r (λ q. IsSoundProgress g.places (head_shown words) (shown ws w (put_reader y readers) q))
             (subst (λ p. IsSoundProgress g.places (head_shown words) p) (sym (advance_own g words w readers x h is l ahead))
             (advance_progress g.places (head_shown words) (shown words w readers r) c (joined_shown g words w readers x h is l j) (omega arith) (h.sound.each r l)))
-            (λ q k o. subst (λ p. IsSoundProgress g.places (head_shown words) p) (sym (advance_other words w readers x (c + 1) q o)) (h.sound.each q k)) q k);
+            (λ q k o. subst (λ p. IsSoundProgress g.places (head_shown words) p) (sym (word_other words w readers x (went_on x) (c + 1) q refl o)) (h.sound.each q k)) q k);
       };
     }
+
+-- A reader leaves
+
+pub leave_own : (g : RingNumbers) (words : List ℕ) (w : WriterView) (readers : ℕ → ReaderView) (x : ReaderView) → Holds g words w readers → readers x.number ≡ x → x.number < g.readers
+    → shown (set words (x.number + 1) left_word) w (put_reader (gone x) readers) x.number ≡ departed (shown words w readers x.number)
+leave_own g words w readers x h is l =
+    let r = x.number in
+    let e = get_or-set_same words (r + 1) left_word 0 (let k = h.words_in in omega arith) in
+    let word : cursor_in (get_or (set words (r + 1) left_word) (r + 1) 0) ≡ None = ap cursor_in e ∙ cursor_none left_word refl in
+    by_view (set words (r + 1) left_word) w readers (gone x) r refl
+    ∙ (λ i. record { known = cursor_in (get_or w.known r 0); cursor = word i; seen = (sym is i).seen; taken = up_to (sym is i).taken })
+
+pub leave_holds : (g : RingNumbers) (words : List ℕ) (w : WriterView) (readers : ℕ → ReaderView) (x : ReaderView) → Holds g words w readers → readers x.number ≡ x → x.number < g.readers → x.left ≡ false
+    → Holds g (set words (x.number + 1) left_word) w (put_reader (gone x) readers)
+leave_holds g words w readers x h is l j =
+    let r = x.number in
+    let y = gone x in
+    let ws = set words (r + 1) left_word in
+    let head : get_or ws 0 0 ≡ get_or words 0 0 = get_or-set_other words (r + 1) 0 left_word 0 (λ f. omega arith) in
+    let here : get_or ws (r + 1) 0 ≡ left_word = get_or-set_same words (r + 1) left_word 0 (let k = h.words_in in omega arith) in
+    record {
+      total_in = h.total_in;
+      words_in = length-set words (r + 1) left_word ∙ h.words_in;
+      writer_ring = h.writer_ring;
+      reader_ring = put_each readers y (λ q z. q < g.readers → z.ring ≡ g) r refl (λ k. ap (λ (z : ReaderView). z.ring) (sym is) ∙ h.reader_ring r k) (λ q o. h.reader_ring q);
+      number_is = put_each readers y (λ q z. q < g.readers → z.number ≡ q) r refl (λ k. refl) (λ q o. h.number_is q);
+      made_in = h.made_in;
+      taken_in = put_each readers y (λ q z. q < g.readers → z.taken ≤ g.total) r refl (λ k. subst (λ (z : ReaderView). z.taken ≤ g.total) is (h.taken_in r k)) (λ q o. h.taken_in q);
+      known_in = h.known_in;
+      loads_in = h.loads_in;
+      head_is = head ∙ h.head_is;
+      cursor_is = put_each readers y (λ q z. q < g.readers → get_or ws (q + 1) 0 ≡ word_of z) r refl (λ k. here)
+          (λ q o k. get_or-set_other words (r + 1) (q + 1) left_word 0 (λ f. o (let m : q ≡ r = omega arith in m)) ∙ h.cursor_is q k);
+      sound = record {
+        some_place = h.sound.some_place;
+        head_in = subst (λ n. n ≤ g.total) (sym head) h.sound.head_in;
+        each = λ q k. subst (λ n. IsSoundProgress g.places n (shown ws w (put_reader y readers) q)) (sym head)
+            (each_by g.readers r (λ q. IsSoundProgress g.places (head_shown words) (shown ws w (put_reader y readers) q))
+            (subst (λ p. IsSoundProgress g.places (head_shown words) p) (sym (leave_own g words w readers x h is l))
+            (leave_progress g.places (head_shown words) (shown words w readers r) x.taken (joined_shown g words w readers x h is l j) (h.sound.each r l)))
+            (λ q k o. subst (λ p. IsSoundProgress g.places (head_shown words) p) (sym (word_other words w readers x y left_word q refl o)) (h.sound.each q k)) q k);
+      };
+    }
+
+-- Views change in what no word tells
+
+pub record SameWords (x y : ReaderView) : Type 0 where
+  pub ring : x.ring ≡ y.ring
+  pub number : x.number ≡ y.number
+  pub taken : x.taken ≡ y.taken
+  pub left : x.left ≡ y.left
+  pub seen : x.seen ≡ y.seen
+
+pub same_shown : (words : List ℕ) (w : WriterView) (readers later : ℕ → ReaderView) (r : ℕ) → SameWords (later r) (readers r) → shown words w later r ≡ shown words w readers r
+same_shown words w readers later r e = λ i. record { known = cursor_in (get_or w.known r 0); cursor = cursor_in (get_or words (r + 1) 0); seen = e.seen i; taken = up_to (e.taken i) }
+
+pub same_holds : (g : RingNumbers) (words : List ℕ) (w : WriterView) (readers later : ℕ → ReaderView) → ((r : ℕ) → SameWords (later r) (readers r)) → Holds g words w readers → Holds g words w later
+same_holds g words w readers later e h = record {
+  total_in = h.total_in;
+  words_in = h.words_in;
+  writer_ring = h.writer_ring;
+  reader_ring = λ r l. (e r).ring ∙ h.reader_ring r l;
+  number_is = λ r l. (e r).number ∙ h.number_is r l;
+  made_in = h.made_in;
+  taken_in = λ r l. let k = (e r).taken in let t = h.taken_in r l in omega arith;
+  known_in = h.known_in;
+  loads_in = h.loads_in;
+  head_is = h.head_is;
+  cursor_is = λ r l. h.cursor_is r l ∙ (λ i. cond (sym (e r).left i) left_word (sym (e r).taken i));
+  sound = record {
+    some_place = h.sound.some_place;
+    head_in = h.sound.head_in;
+    each = λ r l. subst (λ p. IsSoundProgress g.places (head_shown words) p) (sym (same_shown words w readers later r (e r))) (h.sound.each r l);
+  };
+}
+
+-- a reader's view with the same words in its place
+pub same_put : (readers : ℕ → ReaderView) (x y : ReaderView) → readers x.number ≡ x → y.number ≡ x.number → SameWords y x → (r : ℕ) → SameWords (put_reader y readers r) (readers r)
+same_put readers x y is n e = put_each readers y (λ q z. SameWords z (readers q)) x.number n
+    record { ring = e.ring ∙ ap (λ (z : ReaderView). z.ring) (sym is); number = e.number ∙ ap (λ (z : ReaderView). z.number) (sym is); taken = e.taken ∙ ap (λ (z : ReaderView). z.taken) (sym is); left = e.left ∙ ap (λ (z : ReaderView). z.left) (sym is); seen = e.seen ∙ ap (λ (z : ReaderView). z.seen) (sym is) }
+    (λ q o. record { ring = refl; number = refl; taken = refl; left = refl; seen = refl })
+
+-- the writer's view with the same words
+pub writer_holds : (g : RingNumbers) (words : List ℕ) (w v : WriterView) (readers : ℕ → ReaderView) → v.ring ≡ w.ring → v.head ≡ w.head → v.made ≤ g.readers → v.known ≡ w.known → v.loads ≡ w.loads
+    → Holds g words w readers → Holds g words v readers
+writer_holds g words w v readers ring head made known loads h = record {
+  total_in = h.total_in;
+  words_in = h.words_in;
+  writer_ring = ring ∙ h.writer_ring;
+  reader_ring = h.reader_ring;
+  number_is = h.number_is;
+  made_in = made;
+  taken_in = h.taken_in;
+  known_in = ap length known ∙ h.known_in;
+  loads_in = ap length loads ∙ h.loads_in;
+  head_is = h.head_is ∙ sym head;
+  cursor_is = h.cursor_is;
+  sound = record {
+    some_place = h.sound.some_place;
+    head_in = h.sound.head_in;
+    each = λ r l. subst (λ (ks : List ℕ). IsSoundProgress g.places (head_shown words) record { known = cursor_in (get_or ks r 0); cursor = cursor_in (get_or words (r + 1) 0); seen = (readers r).seen; taken = up_to (readers r).taken })
+        (sym known) (h.sound.each r l);
+  };
+}

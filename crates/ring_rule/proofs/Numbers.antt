@@ -1,5 +1,5 @@
 -- Words as cursors, and the rows that a reader took.
-use Rattle.std.proofs.Common.{◌≡◌, ◌≢◌, ℕ, ◌+◌, true, false, cond, [], ◌∷◌, ◌++◌, sym, ap, ◌∙◌, inl, inr, add-one}
+use Rattle.std.proofs.Common.{◌≡◌, ◌≢◌, ℕ, ◌+◌, zero, suc, true, false, cond, [], ◌∷◌, ◌++◌, ◌||◌, ◌&&◌, Bool, length, refl, arith, length-append, sym, ap, ◌∙◌, inl, inr, add-one}
 use Rattle.std.specs.Prelude.{Option, Some, None}
 use Rattle.std.proofs.lemmas.Bool.{cases_eq}
 use Rattle.ring_rule.specs.declared.view.ReaderView.{ReaderView}
@@ -30,3 +30,19 @@ word_left x e = ap (λ t. cond t left_word x.taken) e
 -- one more row taken
 pub up_to_more : (n : ℕ) → up_to (n + 1) ≡ up_to n ++ n ∷ []
 up_to_more n = ap up_to (add-one n)
+
+pub length_up : (n : ℕ) → length (up_to n) ≡ n
+length_up zero = refl
+length_up (suc n) = omega (arith, length-append (up_to n) (n ∷ []), length_up n)
+
+pub or_true : (b : Bool) → (b || true) ≡ true
+or_true true = refl
+or_true false = refl
+
+pub or_false : (b : Bool) → (b || false) ≡ b
+or_false true = refl
+or_false false = refl
+
+pub and_false : (b : Bool) → (b && false) ≡ false
+and_false true = refl
+and_false false = refl

@@ -1,31 +1,37 @@
--- The rule over the list of views: one seat's view changes, or the writer's seat is cut in two.
-use Rattle.std.proofs.Common.{◌≡◌, ℕ, zero, suc, ◌+◌, ◌<◌, ◌≤◌, List, [], ◌∷◌, ◌++◌, length, get_or, set, replicate, sym, refl, ap, ◌∙◌, subst, inl, inr, arith}
-use Rattle.std.proofs.lemmas.List.{get_or-replicate, length-replicate}
+-- The rule over the list of views: one seat's view changes, or a seat is cut in two.
+use Rattle.std.proofs.Common.{◌≡◌, ◌≢◌, ℕ, zero, suc, ◌+◌, ◌<◌, ◌≤◌, Bool, true, false, List, [], ◌∷◌, ◌++◌, length, get_or, set, sym, refl, ap, ◌∙◌, subst, inl, inr, arith}
+use Rattle.std.specs.Prelude.{Option, Some, None}
+use Rattle.std.proofs.lemmas.Bool.{cases_eq}
 use mathlib.Core.Option.{some, some-injective, some-ne-none}
 use lib.ListN.{get_elem?}
-use Rattle.atomic_table.specs.Table.{opening}
 use Rattle.atomic_table.proofs.Lists.{at_set, set_here}
-use Rattle.ring_core.specs.Sound.{IsSoundProgress}
-use Rattle.ring_core.proofs.Readers.{fresh_progress}
-use Rattle.ring_core.proofs.Whole.{fresh_progress_sound}
 use Rattle.ring_rule.specs.declared.view.RingNumbers.{RingNumbers}
 use Rattle.ring_rule.specs.declared.view.WriterView.{WriterView}
 use Rattle.ring_rule.specs.declared.view.ReaderView.{ReaderView}
+use Rattle.ring_rule.specs.declared.view.HeadNoteView.{HeadNoteView}
+use Rattle.ring_rule.specs.declared.view.CursorNoteView.{CursorNoteView}
 use Rattle.ring_rule.specs.declared.view.View.{View}
-use Rattle.ring_rule.specs.declared.view.View.TheVariants.{Writer, Reader, Spent}
-use Rattle.ring_rule.specs.Views.{left_word, cursor_in, new_writer, new_reader, SameActor, writer_of, reader_of, put_reader}
-use Rattle.ring_rule.specs.Kept.{shown, Holds, Alone, Kept}
-use Rattle.ring_rule.specs.Laws.{RingState, progress_shown, with_reader}
-use Rattle.ring_rule.proofs.Roster.{reader_at, writer_at, readers_by_writer, writer_by_reader, readers_by_reader, alone_set, alone_more, at_in, at_end, readers_more, writer_more}
+use Rattle.ring_rule.specs.declared.view.View.TheVariants.{Writer, Reader, HeadNote, CursorNote, Spent}
+use Rattle.ring_rule.specs.Views.{left_word, new_reader, actor_of, writer_of, reader_of, put_reader}
+use Rattle.ring_rule.specs.Shown.{Homes, RingState}
+use Rattle.ring_rule.specs.Kept.{Holds, HoldsLanes, HoldsNotes, IsTrueHead, IsTrueCursor, Alone, Kept}
+use Rattle.ring_rule.proofs.Moves.{put_each}
+use Rattle.ring_rule.proofs.Roster.{writer_at, reader_at, writer_kept, reader_kept, readers_put, alone_set, alone_more, at_in, at_end, writer_more, reader_more, readers_first}
 
--- the table with other words and another view
-abbrev pub changed : RingState → List ℕ → ℕ → View → RingState
-changed s words id v = record { words = words; homes = s.homes; views = set s.views id v }
+-- the table with other words and slots and another view
+abbrev pub changed : RingState → List ℕ → Homes → ℕ → View → RingState
+changed s words homes id v = record { words = words; homes = homes; views = set s.views id v }
 
 -- What the rule says of a seat's own view
 
 pub holds_at : (g : RingNumbers) (s : RingState) (id : ℕ) (w : WriterView) → Kept g s → get_elem? s.views id ≡ some (Writer w) → Holds g s.words w (reader_of g s.views)
 holds_at g s id w k at = subst (λ v. Holds g s.words v (reader_of g s.views)) (writer_at g s.views id w k.alone at) k.holds
+
+pub lanes_at : (g : RingNumbers) (s : RingState) (id : ℕ) (w : WriterView) → Kept g s → get_elem? s.views id ≡ some (Writer w) → HoldsLanes g s.words s.homes w (reader_of g s.views)
+lanes_at g s id w k at = subst (λ v. HoldsLanes g s.words s.homes v (reader_of g s.views)) (writer_at g s.views id w k.alone at) k.lanes
+
+pub notes_at : (g : RingNumbers) (s : RingState) (id : ℕ) (w : WriterView) → Kept g s → get_elem? s.views id ≡ some (Writer w) → HoldsNotes g w (reader_of g s.views)
+notes_at g s id w k at = subst (λ v. HoldsNotes g v (reader_of g s.views)) (writer_at g s.views id w k.alone at) k.told
 
 pub reader_is : (g : RingNumbers) (s : RingState) (id : ℕ) (x : ReaderView) → Kept g s → get_elem? s.views id ≡ some (Reader x) → reader_of g s.views x.number ≡ x
 reader_is g s id x k at = reader_at g s.views id x k.alone at
@@ -33,173 +39,147 @@ reader_is g s id x k at = reader_at g s.views id x k.alone at
 pub reader_in_range : (g : RingNumbers) (s : RingState) (id : ℕ) (x : ReaderView) → Kept g s → get_elem? s.views id ≡ some (Reader x) → x.number < g.readers
 reader_in_range g s id x k at = let a = k.made id x at in let b = k.holds.made_in in omega arith
 
+-- the ring's numbers are the same in a seat's view
+pub ring_is : (g : RingNumbers) (s : RingState) (id : ℕ) (w : WriterView) → Kept g s → get_elem? s.views id ≡ some (Writer w) → w.ring ≡ g
+ring_is g s id w k at = (holds_at g s id w k at).writer_ring
+
+pub reader_ring_is : (g : RingNumbers) (s : RingState) (id : ℕ) (x : ReaderView) → Kept g s → get_elem? s.views id ≡ some (Reader x) → x.ring ≡ g
+reader_ring_is g s id x k at = ap (λ (y : ReaderView). y.ring) (sym (reader_is g s id x k at)) ∙ k.holds.reader_ring x.number (reader_in_range g s id x k at)
+
+-- What notes say stays true
+
+-- head and the rows taken only grow, and one that left stays so
+pub record IsLater (w : WriterView) (readers : ℕ → ReaderView) (v : WriterView) (later : ℕ → ReaderView) : Type 0 where
+  pub head : w.head ≤ v.head
+  pub taken : (r : ℕ) → (readers r).taken ≤ (later r).taken
+  pub left : (r : ℕ) → (readers r).left ≡ true → (later r).left ≡ true
+
+pub later_head : (g : RingNumbers) (w v : WriterView) (readers later : ℕ → ReaderView) (n : HeadNoteView) → IsLater w readers v later → IsTrueHead g w readers n → IsTrueHead g v later n
+later_head g w v readers later n l t = record { ring = t.ring; head = let a = l.head in let b = t.head in omega arith; left = λ r h e. l.left r (t.left r h e) }
+
+pub later_cursor : (g : RingNumbers) (w v : WriterView) (readers later : ℕ → ReaderView) (n : CursorNoteView) → IsLater w readers v later → IsTrueCursor g readers n → IsTrueCursor g later n
+later_cursor g w v readers later n l t = record { ring = t.ring; in_range = t.in_range; taken = let a = l.taken n.number in let b = t.taken in omega arith; left = λ e. l.left n.number (t.left e) }
+
+-- what a view tells others is true: a reader's is of one that the writer made, and a note's holds
+pub record TellsTrue (g : RingNumbers) (w : WriterView) (readers : ℕ → ReaderView) (v : View) : Type 0 where
+  pub made : (x : ReaderView) → v ≡ Reader x → x.number < w.made
+  pub head_note : (n : HeadNoteView) → v ≡ HeadNote n → IsTrueHead g w readers n
+  pub cursor_note : (n : CursorNoteView) → v ≡ CursorNote n → IsTrueCursor g readers n
+
+-- One view changes
+
+pub by_view : (g : RingNumbers) (s : RingState) (id : ℕ) (a b : View) (words : List ℕ) (homes : Homes) (w : WriterView) (readers : ℕ → ReaderView) → Kept g s → get_elem? s.views id ≡ some a
+    → ((n : ℕ) → actor_of b ≡ Some n → actor_of a ≡ Some n) → writer_of g (set s.views id b) ≡ w → reader_of g (set s.views id b) ≡ readers
+    → IsLater (writer_of g s.views) (reader_of g s.views) w readers → (writer_of g s.views).made ≤ w.made → TellsTrue g w readers b
+    → Holds g words w readers → HoldsLanes g words homes w readers → HoldsNotes g w readers → Kept g (changed s words homes id b)
+by_view g s id a b words homes w readers k at actor now then later more tells h m t =
+    let vs = set s.views id b in
+    record {
+      alone = alone_set s.views id a b k.alone at actor;
+      made = λ i x e. subst (λ (u : WriterView). x.number < u.made) (sym now) (elim (at_set s.views id i b (Reader x) e) [
+        | inl c ↦ tells.made x c.1
+        | inr c ↦ let before = k.made i x c.1 in omega arith
+      ]);
+      head_notes = λ i n e. subst (λ u. IsTrueHead g u (reader_of g vs) n) (sym now) (subst (λ f. IsTrueHead g w f n) (sym then) (elim (at_set s.views id i b (HeadNote n) e) [
+        | inl c ↦ tells.head_note n c.1
+        | inr c ↦ later_head g (writer_of g s.views) w (reader_of g s.views) readers n later (k.head_notes i n c.1)
+      ]));
+      cursor_notes = λ i n e. subst (λ f. IsTrueCursor g f n) (sym then) (elim (at_set s.views id i b (CursorNote n) e) [
+        | inl c ↦ tells.cursor_note n c.1
+        | inr c ↦ later_cursor g (writer_of g s.views) w (reader_of g s.views) readers n later (k.cursor_notes i n c.1)
+      ]);
+      holds = subst (λ u. Holds g words u (reader_of g vs)) (sym now) (subst (λ f. Holds g words w f) (sym then) h);
+      lanes = subst (λ u. HoldsLanes g words homes u (reader_of g vs)) (sym now) (subst (λ f. HoldsLanes g words homes w f) (sym then) m);
+      told = subst (λ u. HoldsNotes g u (reader_of g vs)) (sym now) (subst (λ f. HoldsNotes g w f) (sym then) t);
+    }
+
 -- The writer's view changes
 
 pub writer_now : (g : RingNumbers) (s : RingState) (id : ℕ) (w v : WriterView) → Kept g s → get_elem? s.views id ≡ some (Writer w) → writer_of g (set s.views id (Writer v)) ≡ v
-writer_now g s id w v k at = writer_at g (set s.views id (Writer v)) id v (alone_set s.views id (Writer w) (Writer v) k.alone at tt) (set_here s.views id (Writer v) (at_in s.views id (Writer w) at))
+writer_now g s id w v k at = writer_at g (set s.views id (Writer v)) id v (alone_set s.views id (Writer w) (Writer v) k.alone at (λ n e. e)) (set_here s.views id (Writer v) (at_in s.views id (Writer w) at))
+
+-- the writer is no reader
+no_reader : (r : ℕ) → Some 0 ≢ Some (r + 1)
+no_reader r e = let f : 0 ≡ r + 1 = cc in omega arith
 
 pub readers_same : (g : RingNumbers) (s : RingState) (id : ℕ) (w v : WriterView) → get_elem? s.views id ≡ some (Writer w) → reader_of g (set s.views id (Writer v)) ≡ reader_of g s.views
-readers_same g s id w v at = λ i r. readers_by_writer g s.views id w v r at i
+readers_same g s id w v at = λ i r. reader_kept g s.views id r (Writer w) (Writer v) at (no_reader r) (no_reader r) i
 
-pub by_writer : (g : RingNumbers) (s : RingState) (id : ℕ) (w v : WriterView) (words : List ℕ) → Kept g s → get_elem? s.views id ≡ some (Writer w) → w.made ≤ v.made → Holds g words v (reader_of g s.views)
-    → Kept g (changed s words id (Writer v))
-by_writer g s id w v words k at more h =
-    let now = writer_now g s id w v k at in
-    record {
-      alone = alone_set s.views id (Writer w) (Writer v) k.alone at tt;
-      made = λ i x e. elim (at_set s.views id i (Writer v) (Reader x) e) [
-        | inl b ↦ let f : Writer v ≡ Reader x = b.1 in cc
-        | inr b ↦
-            let before : x.number < w.made = subst (λ (u : WriterView). x.number < u.made) (writer_at g s.views id w k.alone at) (k.made i x b.1) in
-            subst (λ (u : WriterView). x.number < u.made) (sym now) (omega arith)
-      ];
-      holds = subst (λ u. Holds g words u (reader_of g (set s.views id (Writer v)))) (sym now) (subst (λ f. Holds g words v f) (sym (readers_same g s id w v at)) h);
-    }
+writer_tells : (g : RingNumbers) (w v : WriterView) (readers : ℕ → ReaderView) → TellsTrue g w readers (Writer v)
+writer_tells g w v readers = record { made = λ x e. cc; head_note = λ n e. cc; cursor_note = λ n e. cc }
 
-pub shows_writer : (g : RingNumbers) (s : RingState) (id : ℕ) (w v : WriterView) (words : List ℕ) (q : ℕ) → Kept g s → get_elem? s.views id ≡ some (Writer w)
-    → progress_shown g (changed s words id (Writer v)) q ≡ shown words v (reader_of g s.views) q
-shows_writer g s id w v words q k at = λ i. shown words (writer_now g s id w v k at i) (readers_same g s id w v at i) q
+pub by_writer : (g : RingNumbers) (s : RingState) (id : ℕ) (w v : WriterView) (words : List ℕ) (homes : Homes) → Kept g s → get_elem? s.views id ≡ some (Writer w) → w.made ≤ v.made → w.head ≤ v.head
+    → ((n : CursorNoteView) → v.told ≡ Some n → IsTrueCursor g (reader_of g s.views) n)
+    → Holds g words v (reader_of g s.views) → HoldsLanes g words homes v (reader_of g s.views) → Kept g (changed s words homes id (Writer v))
+by_writer g s id w v words homes k at made head told h m =
+    let readers = reader_of g s.views in
+    let was = writer_at g s.views id w k.alone at in
+    let later : IsLater (writer_of g s.views) readers v readers = record { head = subst (λ (u : WriterView). u.head ≤ v.head) (sym was) head; taken = λ r. omega arith; left = λ r e. e } in
+    by_view g s id (Writer w) (Writer v) words homes v readers k at (λ n e. e) (writer_now g s id w v k at) (readers_same g s id w v at) later
+        (subst (λ (u : WriterView). u.made ≤ v.made) (sym was) made) (writer_tells g v v readers) h m
+        record { writer_told = told; reader_told = λ r n l e. later_head g (writer_of g s.views) v readers readers n later (k.told.reader_told r n l e) }
 
 -- A reader's view changes
 
 pub readers_now : (g : RingNumbers) (s : RingState) (id : ℕ) (x y : ReaderView) → Kept g s → get_elem? s.views id ≡ some (Reader x) → y.number ≡ x.number → reader_of g (set s.views id (Reader y)) ≡ put_reader y (reader_of g s.views)
-readers_now g s id x y k at n = λ i r. readers_by_reader g s.views id x y r k.alone at n (at_in s.views id (Reader x) at) i
+readers_now g s id x y k at n = λ i r. readers_put g s.views id x y r k.alone at n (at_in s.views id (Reader x) at) i
 
-pub by_reader : (g : RingNumbers) (s : RingState) (id : ℕ) (x y : ReaderView) (words : List ℕ) → Kept g s → get_elem? s.views id ≡ some (Reader x) → y.number ≡ x.number
-    → Holds g words (writer_of g s.views) (put_reader y (reader_of g s.views)) → Kept g (changed s words id (Reader y))
-by_reader g s id x y words k at n h =
-    let same = writer_by_reader g s.views id x y at in
-    record {
-      alone = alone_set s.views id (Reader x) (Reader y) k.alone at (sym n);
-      made = λ i z e. elim (at_set s.views id i (Reader y) (Reader z) e) [
-        | inl b ↦
-            let f : Reader y ≡ Reader z = b.1 in
-            let is : y ≡ z = cc in
-            let m : y.number ≡ z.number = ap (λ (u : ReaderView). u.number) is in
-            let before = k.made id x at in
-            subst (λ (u : WriterView). z.number < u.made) (sym same) (omega arith)
-        | inr b ↦ subst (λ (u : WriterView). z.number < u.made) (sym same) (k.made i z b.1)
-      ];
-      holds = subst (λ u. Holds g words u (reader_of g (set s.views id (Reader y)))) (sym same) (subst (λ f. Holds g words (writer_of g s.views) f) (sym (readers_now g s id x y k at n)) h);
-    }
+-- a reader is no writer
+no_writer : (r : ℕ) → Some (r + 1) ≢ Some 0
+no_writer r e = let f : r + 1 ≡ 0 = cc in omega arith
 
-pub shows_reader : (g : RingNumbers) (s : RingState) (id : ℕ) (x y : ReaderView) (words : List ℕ) (q : ℕ) → Kept g s → get_elem? s.views id ≡ some (Reader x) → y.number ≡ x.number
-    → progress_shown g (changed s words id (Reader y)) q ≡ shown words (writer_of g s.views) (put_reader y (reader_of g s.views)) q
-shows_reader g s id x y words q k at n = λ i. shown words (writer_by_reader g s.views id x y at i) (readers_now g s id x y k at n i) q
+pub writer_same : (g : RingNumbers) (s : RingState) (id : ℕ) (x y : ReaderView) → get_elem? s.views id ≡ some (Reader x) → writer_of g (set s.views id (Reader y)) ≡ writer_of g s.views
+writer_same g s id x y at = writer_kept g s.views id (Reader x) (Reader y) at (no_writer x.number) (no_writer y.number)
 
--- The writer's seat gives the next reader a seat
-
-abbrev pub more : WriterView → WriterView
-more w = record w { made = w.made + 1 }
-
-more_holds : (g : RingNumbers) (words : List ℕ) (w : WriterView) (readers : ℕ → ReaderView) → Holds g words w readers → w.made < g.readers → Holds g words (more w) readers
-more_holds g words w readers h l = record {
-  total_in = h.total_in;
-  words_in = h.words_in;
-  writer_ring = h.writer_ring;
-  reader_ring = h.reader_ring;
-  number_is = h.number_is;
-  made_in = omega arith;
-  taken_in = h.taken_in;
-  known_in = h.known_in;
-  loads_in = h.loads_in;
-  head_is = h.head_is;
-  cursor_is = h.cursor_is;
-  sound = record { some_place = h.sound.some_place; head_in = h.sound.head_in; each = h.sound.each };
+reader_later : (w : WriterView) (readers : ℕ → ReaderView) (x y : ReaderView) → readers x.number ≡ x → y.number ≡ x.number → x.taken ≤ y.taken → (x.left ≡ true → y.left ≡ true) → IsLater w readers w (put_reader y readers)
+reader_later w readers x y is n taken left = record {
+  head = omega arith;
+  taken = put_each readers y (λ q z. (readers q).taken ≤ z.taken) x.number n (subst (λ (z : ReaderView). z.taken ≤ y.taken) (sym is) taken) (λ q o. omega arith);
+  left = put_each readers y (λ q z. (readers q).left ≡ true → z.left ≡ true) x.number n (subst (λ (z : ReaderView). z.left ≡ true → y.left ≡ true) (sym is) left) (λ q o e. e);
 }
 
-abbrev with_new : RingState → ℕ → WriterView → ReaderView → RingState
-with_new s id w x = record { words = s.words; homes = s.homes; views = set s.views id (Writer (more w)) ++ Reader x ∷ [] }
+pub by_reader : (g : RingNumbers) (s : RingState) (id : ℕ) (x y : ReaderView) (words : List ℕ) (homes : Homes) → Kept g s → get_elem? s.views id ≡ some (Reader x) → y.number ≡ x.number
+    → x.taken ≤ y.taken → (x.left ≡ true → y.left ≡ true) → ((n : HeadNoteView) → y.told ≡ Some n → IsTrueHead g (writer_of g s.views) (reader_of g s.views) n)
+    → Holds g words (writer_of g s.views) (put_reader y (reader_of g s.views)) → HoldsLanes g words homes (writer_of g s.views) (put_reader y (reader_of g s.views)) → Kept g (changed s words homes id (Reader y))
+by_reader g s id x y words homes k at n taken left told h m =
+    let w = writer_of g s.views in
+    let readers = reader_of g s.views in
+    let after = put_reader y readers in
+    let later = reader_later w readers x y (reader_is g s id x k at) n taken left in
+    let tells : TellsTrue g w after (Reader y) = record {
+      made = λ z e. let is : y ≡ z = cc in let before = k.made id x at in let a : y.number ≡ z.number = ap (λ (u : ReaderView). u.number) is in omega arith;
+      head_note = λ z e. cc;
+      cursor_note = λ z e. cc;
+    } in
+    by_view g s id (Reader x) (Reader y) words homes w after k at (λ j e. ap (λ i. Some (i + 1)) (sym n) ∙ e) (writer_same g s id x y at) (readers_now g s id x y k at n) later (omega arith) tells h m
+        record {
+          writer_told = λ z e. later_cursor g w w readers after z later (k.told.writer_told z e);
+          reader_told = put_each readers y (λ q u. (z : HeadNoteView) → q < g.readers → u.told ≡ Some z → IsTrueHead g w after z) x.number n
+              (λ z l e. later_head g w w readers after z later (told z e))
+              (λ q o z l e. later_head g w w readers after z later (k.told.reader_told q z l e));
+        }
 
--- no view is of the reader that comes next
-none_yet : (g : RingNumbers) (s : RingState) (id : ℕ) (w : WriterView) → Kept g s → get_elem? s.views id ≡ some (Writer w)
-    → (j : ℕ) (v : View) → get_elem? (set s.views id (Writer (more w))) j ≡ some v → SameActor v (Reader (new_reader g w.made)) → ⊥
-none_yet g s id w k at j (Writer u) e same = same
-none_yet g s id w k at j (Reader y) e same = elim (at_set s.views id j (Writer (more w)) (Reader y) e) [
-  | inl b ↦ let f : Writer (more w) ≡ Reader y = b.1 in cc
-  | inr b ↦ let before : y.number < w.made = subst (λ (u : WriterView). y.number < u.made) (writer_at g s.views id w k.alone at) (k.made j y b.1) in omega arith
-]
-none_yet g s id w k at j Spent e same = same
+-- One more view
 
-new_kept : (g : RingNumbers) (s : RingState) (id : ℕ) (w : WriterView) → Kept g s → get_elem? s.views id ≡ some (Writer w) → w.made < g.readers → Kept g (with_new s id w (new_reader g w.made))
-new_kept g s id w k at l =
-    let v = more w in
-    let vs = set s.views id (Writer v) in
-    let x = new_reader g w.made in
-    let one = by_writer g s id w v s.words k at (omega arith) (more_holds g s.words w (reader_of g s.views) (holds_at g s id w k at) l) in
-    let now : writer_of g (vs ++ Reader x ∷ []) ≡ v = writer_more g vs x ∙ writer_now g s id w v k at in
+pub by_more : (g : RingNumbers) (s : RingState) (v : View) → Kept g s → ((n j : ℕ) (u : View) → actor_of v ≡ Some n → get_elem? s.views j ≡ some u → actor_of u ≢ Some n)
+    → writer_of g (s.views ++ v ∷ []) ≡ writer_of g s.views → reader_of g (s.views ++ v ∷ []) ≡ reader_of g s.views → TellsTrue g (writer_of g s.views) (reader_of g s.views) v
+    → Kept g record { words = s.words; homes = s.homes; views = s.views ++ v ∷ [] }
+by_more g s v k fresh now then tells =
+    let vs = s.views ++ v ∷ [] in
+    let w = writer_of g s.views in
+    let readers = reader_of g s.views in
     record {
-      alone = alone_more vs (Reader x) one.alone (none_yet g s id w k at);
-      made = λ i y e. elim (at_end vs (Reader x) (Reader y) i e) [
-        | inl b ↦ subst (λ (u : WriterView). y.number < u.made) (sym (writer_more g vs x)) (one.made i y b)
-        | inr b ↦
-            let f : Reader x ≡ Reader y = b.1 in
-            let is : x ≡ y = cc in
-            let m : w.made ≡ y.number = ap (λ (u : ReaderView). u.number) is in
-            subst (λ (u : WriterView). y.number < u.made) (sym now) (omega arith)
-      ];
-      holds = subst (λ u. Holds g s.words u (reader_of g (vs ++ Reader x ∷ []))) (sym (writer_more g vs x))
-          (subst (λ f. Holds g s.words (writer_of g vs) f) (sym (λ i r. readers_more g vs w.made r i)) one.holds);
+      alone = alone_more s.views v k.alone fresh;
+      made = λ i x e. subst (λ (u : WriterView). x.number < u.made) (sym now) (elim (at_end s.views v (Reader x) i e) [ inl c ↦ k.made i x c | inr c ↦ tells.made x c.1 ]);
+      head_notes = λ i n e. subst (λ u. IsTrueHead g u (reader_of g vs) n) (sym now) (subst (λ f. IsTrueHead g w f n) (sym then) (elim (at_end s.views v (HeadNote n) i e) [
+        | inl c ↦ k.head_notes i n c
+        | inr c ↦ tells.head_note n c.1
+      ]));
+      cursor_notes = λ i n e. subst (λ f. IsTrueCursor g f n) (sym then) (elim (at_end s.views v (CursorNote n) i e) [
+        | inl c ↦ k.cursor_notes i n c
+        | inr c ↦ tells.cursor_note n c.1
+      ]);
+      holds = subst (λ u. Holds g s.words u (reader_of g vs)) (sym now) (subst (λ f. Holds g s.words w f) (sym then) k.holds);
+      lanes = subst (λ u. HoldsLanes g s.words s.homes u (reader_of g vs)) (sym now) (subst (λ f. HoldsLanes g s.words s.homes w f) (sym then) k.lanes);
+      told = subst (λ u. HoldsNotes g u (reader_of g vs)) (sym now) (subst (λ f. HoldsNotes g w f) (sym then) k.told);
     }
-
--- the ring's numbers are the same in the writer's view
-pub ring_is : (g : RingNumbers) (s : RingState) (id : ℕ) (w : WriterView) → Kept g s → get_elem? s.views id ≡ some (Writer w) → w.ring ≡ g
-ring_is g s id w k at = (holds_at g s id w k at).writer_ring
-
-pub by_split : (g : RingNumbers) (s : RingState) (id : ℕ) (w : WriterView) → Kept g s → get_elem? s.views id ≡ some (Writer w) → w.made < g.readers → Kept g (with_reader s id w)
-by_split g s id w k at l = subst (λ h. Kept g (with_new s id w (new_reader h w.made))) (sym (ring_is g s id w k at)) (new_kept g s id w k at l)
-
-pub shows_split : (g : RingNumbers) (s : RingState) (id : ℕ) (w : WriterView) (q : ℕ) → Kept g s → get_elem? s.views id ≡ some (Writer w) → progress_shown g (with_reader s id w) q ≡ progress_shown g s q
-shows_split g s id w q k at =
-    let vs = set s.views id (Writer (more w)) in
-    let x = new_reader w.ring w.made in
-    let a : writer_of g (vs ++ Reader x ∷ []) ≡ more w = writer_more g vs x ∙ writer_now g s id w (more w) k at in
-    let b : reader_of g (vs ++ Reader (new_reader g w.made) ∷ []) ≡ reader_of g vs = λ i r. readers_more g vs w.made r i in
-    let c : reader_of g (vs ++ Reader x ∷ []) ≡ reader_of g vs = subst (λ h. reader_of g (vs ++ Reader (new_reader h w.made) ∷ []) ≡ reader_of g vs) (sym (ring_is g s id w k at)) b in
-    let d = c ∙ readers_same g s id w (more w) at in
-    let e : writer_of g s.views ≡ w = writer_at g s.views id w k.alone at in
-    (λ i. shown s.words (a i) (d i) q) ∙ (λ i. shown s.words (sym e i) (reader_of g s.views) q)
-
--- The table at the start
-
-start_shown : (g : RingNumbers) (words : List ℕ) (r : ℕ) → words ≡ replicate (g.readers + 1) 0 → r < g.readers → shown words (new_writer g) (new_reader g) r ≡ fresh_progress
-start_shown g words r e l =
-    let a = get_or-replicate {A = ℕ} g.readers r 0 0 l in
-    let b : get_or words (r + 1) 0 ≡ 0 = ap (λ ws. get_or ws (r + 1) 0) e ∙ get_or-replicate {A = ℕ} (g.readers + 1) (r + 1) 0 0 (omega arith) in
-    λ i. record { known = cursor_in (a i); cursor = cursor_in (b i); seen = 0; taken = [] }
-
-pub start_kept : (g : RingNumbers) (words : List ℕ) → 0 < g.places → g.total < left_word → words ≡ replicate (g.readers + 1) 0 → Kept g (opening words [] (Writer (new_writer g)))
-start_kept g words place total e =
-    let head : get_or words 0 0 ≡ 0 = ap (λ ws. get_or ws 0 0) e ∙ get_or-replicate {A = ℕ} (g.readers + 1) 0 0 0 (omega arith) in
-    record {
-      alone = only;
-      made = λ i x f. absurd (no_reader i x f);
-      holds = record {
-        total_in = total;
-        words_in = ap length e ∙ length-replicate {A = ℕ} (g.readers + 1) 0;
-        writer_ring = refl;
-        reader_ring = λ r l. refl;
-        number_is = λ r l. refl;
-        made_in = omega arith;
-        taken_in = λ r l. omega arith;
-        known_in = length-replicate {A = ℕ} g.readers 0;
-        loads_in = length-replicate {A = ℕ} g.readers 0;
-        head_is = head;
-        cursor_is = λ r l. ap (λ ws. get_or ws (r + 1) 0) e ∙ get_or-replicate {A = ℕ} (g.readers + 1) (r + 1) 0 0 (omega arith);
-        sound = record {
-          some_place = place;
-          head_in = subst (λ n. n ≤ g.total) (sym head) (omega arith);
-          each = λ r l. subst (λ n. IsSoundProgress g.places n (shown words (new_writer g) (new_reader g) r)) (sym head)
-              (subst (λ p. IsSoundProgress g.places 0 p) (sym (start_shown g words r e l)) (fresh_progress_sound g.places));
-        };
-      };
-    }
-  where
-    only : Alone (Writer (new_writer g) ∷ [])
-    only zero zero u v p q s = refl
-    only zero (suc j) u v p q s = absurd (some-ne-none v (sym q))
-    only (suc i) j u v p q s = absurd (some-ne-none u (sym p))
-
-    no_reader : (i : ℕ) (x : ReaderView) → get_elem? (Writer (new_writer g) ∷ []) i ≡ some (Reader x) → ⊥
-    no_reader zero x f = let h : Writer (new_writer g) ≡ Reader x = some-injective (Writer (new_writer g)) (Reader x) f in cc
-    no_reader (suc i) x f = absurd (some-ne-none (Reader x) (sym f))

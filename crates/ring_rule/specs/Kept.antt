@@ -1,29 +1,20 @@
--- The rule of the ring's table, in two levels: one over the writer's view and a function from reader to view, one over the list of views.
-use Rattle.std.specs.Prelude.{◌≡◌, ℕ, ◌+◌, ◌<◌, ◌≤◌, List, length, slice_index}
-use mathlib.Core.Option.{some}
+-- The rule of the ring's table, in two levels: over the writer's view and a function from reader to view, and over the list of views.
+use Rattle.std.specs.Prelude.{◌≡◌, ℕ, ◌+◌, ◌*◌, ◌%◌, ◌<◌, ◌≤◌, Bool, true, false, ◌&&◌, ◌||◌, nat_eq, List, [], length, Option, Some, slice_index, slice_index_or}
+use Rattle.std.specs.List.{All}
+use mathlib.Core.Option.{Option as AtHome, none, some}
 use lib.ListN.{get_elem?}
-use Rattle.atomic_table.specs.Table.{State}
-use Rattle.ring_core.specs.Schedule.{Progress}
-use Rattle.ring_core.specs.Sound.{IsSoundWords}
+use Rattle.ring_core.specs.Schedule.{lane_place}
+use Rattle.ring_core.specs.Sound.{IsSoundWords, IsSoundLanes}
+use Rattle.ring_rule.specs.declared.lane.Lane.{Lane}
 use Rattle.ring_rule.specs.declared.view.RingNumbers.{RingNumbers}
 use Rattle.ring_rule.specs.declared.view.WriterView.{WriterView}
 use Rattle.ring_rule.specs.declared.view.ReaderView.{ReaderView}
+use Rattle.ring_rule.specs.declared.view.HeadNoteView.{HeadNoteView}
+use Rattle.ring_rule.specs.declared.view.CursorNoteView.{CursorNoteView}
 use Rattle.ring_rule.specs.declared.view.View.{View}
-use Rattle.ring_rule.specs.declared.view.View.TheVariants.{Reader}
-use Rattle.ring_rule.specs.Views.{left_word, cursor_in, word_of, up_to, SameActor, writer_of, reader_of}
-
--- the head that the words show
-abbrev pub head_shown : List ℕ → ℕ
-head_shown words = slice_index words 0
-
--- the progress of reader r that the words and the views show
-abbrev pub shown : List ℕ → WriterView → (ℕ → ReaderView) → ℕ → Progress
-shown words w readers r = record {
-  known = cursor_in (slice_index w.known r);
-  cursor = cursor_in (slice_index words (r + 1));
-  seen = (readers r).seen;
-  taken = up_to (readers r).taken;
-}
+use Rattle.ring_rule.specs.declared.view.View.TheVariants.{Reader, HeadNote, CursorNote}
+use Rattle.ring_rule.specs.Views.{left_word, cursor_in, word_of, actor_of, writer_of, reader_of}
+use Rattle.ring_rule.specs.Shown.{Slot, Homes, RingState, home_at, head_shown, shown, is_number, lanes_known}
 
 -- The writer's view and those of the readers fit the words, and what they show is sound
 pub record Holds (g : RingNumbers) (words : List ℕ) (w : WriterView) (readers : ℕ → ReaderView) : Type 0 where
@@ -46,13 +37,90 @@ pub record Holds (g : RingNumbers) (words : List ℕ) (w : WriterView) (readers 
   -- what is shown is sound in its part on head, cursors, known and seen
   pub sound : IsSoundWords g.places g.total (head_shown words) g.readers (shown words w readers)
 
+-- the bytes of row n
+abbrev pub row_at : RingNumbers → ℕ → List ℕ
+row_at g n = slice_index_or g.rows n []
+
+-- a buffer that lies in its slot: one row long; its number, if it has one, is at most head, and its bytes are those of that row
+pub record Fits (g : RingNumbers) (head : ℕ) (lane : Lane) : Type 0 where
+  pub long : length lane.bytes.items ≡ g.row_len
+  pub not_ahead : (n : ℕ) → lane.number ≡ Some n → n ≤ head
+  pub row : (n : ℕ) → lane.number ≡ Some n → lane.bytes.items ≡ row_at g n
+
+-- the reader's view says that its lane for row n is out: it is that for its next row
+abbrev pub is_held : ℕ → ReaderView → ℕ → Bool
+is_held places x n = x.out && nat_eq (n % places) (x.taken % places)
+
+-- the writer's view says that the lane of reader r for row n is out: it is that for row head
+abbrev pub is_handed : ℕ → WriterView → ℕ → ℕ → Bool
+is_handed places w r n = is_number r w.hand && nat_eq (n % places) (w.head % places)
+
+abbrev pub is_away : ℕ → WriterView → (ℕ → ReaderView) → ℕ → ℕ → Bool
+is_away places w readers r n = is_handed places w r n || is_held places (readers r) n
+
+-- a slot that is out where away says so, and else has a buffer that fits
+abbrev pub LaneIs : RingNumbers → ℕ → AtHome Slot → Bool → Type 0
+LaneIs g head home true = home ≡ none
+LaneIs g head home false = (lane : Lane) × (home ≡ some (Some lane)) × Fits g head lane
+
+-- what the writer's view says where it has a lane of reader r out: there is a row to fill it with, and room for it
+pub record HandFits (g : RingNumbers) (w : WriterView) (r : ℕ) : Type 0 where
+  pub in_range : r < g.readers
+  pub row : w.head < g.total
+  pub unfilled : slice_index_or w.filled r false ≡ false
+  pub from : ℕ
+  pub known : cursor_in (slice_index w.known r) ≡ Some from
+  pub room : w.head < from + g.places
+
+-- what a reader's view says where it has its lane out: it is joined, and knows of a row at its cursor
+pub record OutFits (x : ReaderView) : Type 0 where
+  pub joined : x.left ≡ false
+  pub ahead : x.taken < x.seen
+
+-- The slots fit the views, and what they show is sound
+pub record HoldsLanes (g : RingNumbers) (words : List ℕ) (homes : Homes) (w : WriterView) (readers : ℕ → ReaderView) : Type 0 where
+  -- the rows are all of one length
+  pub rows_in : length g.rows ≡ g.total
+  pub even : All (λ row. length row ≡ g.row_len) g.rows
+  -- a slot for each reader and place
+  pub deep : length homes ≡ g.readers * g.places
+  pub filled_in : length w.filled ≡ g.readers
+  pub hand_fits : (r : ℕ) → w.hand ≡ Some r → HandFits g w r
+  pub out_fits : (r : ℕ) → r < g.readers → (readers r).out ≡ true → OutFits (readers r)
+  -- a lane is out of its slot exactly where one of the views says so
+  pub lane_is : (r n : ℕ) → r < g.readers → LaneIs g (head_shown words) (home_at homes (lane_place g.places r n)) (is_away g.places w readers r n)
+  -- what is shown is sound in its part on lanes
+  pub sound : (r : ℕ) → r < g.readers → IsSoundLanes g.places g.total (head_shown words) (shown words w readers r) (lanes_known g.places words homes w readers r)
+
+-- what a note of the writer says is true: head has come that far, and the readers that it names as left have left
+pub record IsTrueHead (g : RingNumbers) (w : WriterView) (readers : ℕ → ReaderView) (n : HeadNoteView) : Type 0 where
+  pub ring : n.ring ≡ g
+  pub head : n.head ≤ w.head
+  pub left : (r : ℕ) → r < g.readers → slice_index n.known r ≡ left_word → (readers r).left ≡ true
+
+-- what a note of a reader says is true: the reader took that many rows, and left if it says so
+pub record IsTrueCursor (g : RingNumbers) (readers : ℕ → ReaderView) (n : CursorNoteView) : Type 0 where
+  pub ring : n.ring ≡ g
+  pub in_range : n.number < g.readers
+  pub taken : n.taken ≤ (readers n.number).taken
+  pub left : n.left ≡ true → (readers n.number).left ≡ true
+
+-- what the seats keep of the notes last joined to them is true
+pub record HoldsNotes (g : RingNumbers) (w : WriterView) (readers : ℕ → ReaderView) : Type 0 where
+  pub writer_told : (n : CursorNoteView) → w.told ≡ Some n → IsTrueCursor g readers n
+  pub reader_told : (r : ℕ) (n : HeadNoteView) → r < g.readers → (readers r).told ≡ Some n → IsTrueHead g w readers n
+
 -- no two views are of one actor
 abbrev pub Alone : List View → Type 0
-Alone views = (i j : ℕ) (u v : View) → get_elem? views i ≡ some u → get_elem? views j ≡ some v → SameActor u v → i ≡ j
+Alone views = (i j a : ℕ) (u v : View) → get_elem? views i ≡ some u → get_elem? views j ≡ some v → actor_of u ≡ Some a → actor_of v ≡ Some a → i ≡ j
 
 -- the rule
-pub record Kept (g : RingNumbers) (s : State (Unit {0}) View) : Type 0 where
+pub record Kept (g : RingNumbers) (s : RingState) : Type 0 where
   pub alone : Alone s.views
   -- only readers that the writer made have a view
   pub made : (i : ℕ) (x : ReaderView) → get_elem? s.views i ≡ some (Reader x) → x.number < (writer_of g s.views).made
+  pub head_notes : (i : ℕ) (n : HeadNoteView) → get_elem? s.views i ≡ some (HeadNote n) → IsTrueHead g (writer_of g s.views) (reader_of g s.views) n
+  pub cursor_notes : (i : ℕ) (n : CursorNoteView) → get_elem? s.views i ≡ some (CursorNote n) → IsTrueCursor g (reader_of g s.views) n
   pub holds : Holds g s.words (writer_of g s.views) (reader_of g s.views)
+  pub lanes : HoldsLanes g s.words s.homes (writer_of g s.views) (reader_of g s.views)
+  pub told : HoldsNotes g (writer_of g s.views) (reader_of g s.views)

@@ -1,72 +1,150 @@
--- Each kind of step is an event of the schedule.
-use Rattle.std.specs.Prelude.{◌≡◌, ◌≢◌, ℕ, ◌+◌, ◌<◌, false, [], ◌∷◌, ◌++◌, IsSome, Some, slice_index, slice_set}
+-- Each kind of step keeps the rule and is an event of the schedule.
+use Rattle.std.specs.Prelude.{◌≡◌, ℕ, ◌+◌, ◌*◌, ◌<◌, true, false, List, [], ◌∷◌, ◌++◌, length, map, replicate, Option, Some, None, slice_index, slice_set}
+use Rattle.std.specs.List.{All}
 use mathlib.Core.Option.{some}
 use lib.ListN.{get_elem?}
-use Rattle.atomic_table.specs.Table.{State, stepped, keeps}
-use Rattle.ring_core.specs.Schedule.{Progress}
-use Rattle.ring_core.specs.Events.{looked, saw, advanced}
+use Rattle.atomic_table.specs.Table.{keeps, takes, gives, stepped, opening}
+use Rattle.ring_core.specs.declared.event.Event.{Event}
+use Rattle.ring_core.specs.declared.event.Event.TheVariants.{Look, Fill, Publish, See, Open, Close, Advance, Leave}
+use Rattle.ring_core.specs.Schedule.{Schedule, start}
+use Rattle.ring_core.specs.Events.{can_be, after}
+use Rattle.ring_core.specs.Sound.{IsSound}
+use Rattle.ring_core.specs.Plain.{plain, read_closed}
+use Rattle.ring_rule.specs.declared.lane.Lane.{Lane}
 use Rattle.ring_rule.specs.declared.view.RingNumbers.{RingNumbers}
 use Rattle.ring_rule.specs.declared.view.WriterView.{WriterView}
 use Rattle.ring_rule.specs.declared.view.ReaderView.{ReaderView}
+use Rattle.ring_rule.specs.declared.view.HeadNoteView.{HeadNoteView}
+use Rattle.ring_rule.specs.declared.view.CursorNoteView.{CursorNoteView}
 use Rattle.ring_rule.specs.declared.view.View.{View}
-use Rattle.ring_rule.specs.declared.view.View.TheVariants.{Writer, Reader}
-use Rattle.ring_rule.specs.Views.{writer_of, reader_of}
-use Rattle.ring_rule.specs.Kept.{head_shown, shown, Kept}
-use Rattle.ring_rule.specs.Plays.{looked_at, published, saw_head, went_on, MayPublish, made_more, made_reader}
+use Rattle.ring_rule.specs.declared.view.View.TheVariants.{Writer, Reader, HeadNote, CursorNote, Spent}
+use Rattle.ring_rule.specs.Views.{left_word, ring_of, new_writer, writer_of, reader_of}
+use Rattle.ring_rule.specs.Shown.{Slot, RingState, lanes_shown, lanes_known, schedule_shown}
+use Rattle.ring_rule.specs.Empty.{IsEmptyLane}
+use Rattle.ring_rule.specs.Kept.{Fits, Kept}
+use Rattle.ring_rule.specs.Plays.{slot_for, slot_of, looked_at, published, picked, placed, saw_head, took, gave, went_on, gone, MayPublish, MayFill, MayTake, made_more, made_reader, noted, met}
 
-abbrev pub RingState : Type 0
-RingState = State (Unit {0}) View
-
--- the progress of reader r that the table shows
-abbrev pub progress_shown : RingNumbers → RingState → ℕ → Progress
-progress_shown g s r = shown s.words (writer_of g s.views) (reader_of g s.views) r
-
--- the step from s to t keeps the rule, and shows the change of one reader's progress and nothing else
-pub record IsReaderEvent (g : RingNumbers) (s t : RingState) (r : ℕ) (change : Progress → Progress) : Type 0 where
+-- the step from s to t keeps the rule, the event is possible in what was shown, and what is shown is the plain reading of what it does
+pub record IsEventFrom (before : Schedule) (g : RingNumbers) (t : RingState) (e : Event) : Type 0 where
   pub kept : Kept g t
-  pub in_range : r < g.readers
-  pub head : head_shown t.words ≡ head_shown s.words
-  pub own : progress_shown g t r ≡ change (progress_shown g s r)
-  pub others : (q : ℕ) → q ≢ r → q < g.readers → progress_shown g t q ≡ progress_shown g s q
+  pub can : can_be before e ≡ true
+  pub shows : schedule_shown g t ≡ plain (after before e)
 
--- the step from s to t keeps the rule, was possible, and shows head one higher and nothing else
-pub record IsPublish (g : RingNumbers) (s t : RingState) : Type 0 where
+abbrev pub IsEvent : RingNumbers → RingState → RingState → Event → Type 0
+IsEvent g s t e = IsEventFrom (schedule_shown g s) g t e
+
+-- the step from s to t keeps the rule, and what is shown stays
+pub record ShowsTheSame (g : RingNumbers) (s t : RingState) : Type 0 where
   pub kept : Kept g t
-  pub row : head_shown s.words < g.total
-  pub room : (r k : ℕ) → r < g.readers → (progress_shown g s r).known ≡ Some k → head_shown s.words < k + g.places
-  pub head : head_shown t.words ≡ head_shown s.words + 1
-  pub same : (r : ℕ) → r < g.readers → progress_shown g t r ≡ progress_shown g s r
+  pub same : schedule_shown g t ≡ schedule_shown g s
 
--- the writer loads the cursor of reader r
+-- the seat id has this view
+abbrev pub Has : RingState → ℕ → View → Type 0
+Has s id v = get_elem? s.views id ≡ some v
+
+-- The writer, with no lane out, loads the cursor of reader r
 abbrev pub LookIsEvent : Type 0
-LookIsEvent = (g : RingNumbers) (s : RingState) (id r : ℕ) (w : WriterView) → Kept g s → get_elem? s.views id ≡ some (Writer w) → r < g.readers
-    → let n = slice_index s.words (r + 1) in IsReaderEvent g s (stepped s (r + 1) n id [] (Writer (looked_at r n w)) keeps) r looked
+LookIsEvent = (g : RingNumbers) (s : RingState) (id r : ℕ) (w : WriterView) → Kept g s → Has s id (Writer w) → r < g.readers → w.hand ≡ None
+    → let n = slice_index s.words (r + 1) in IsEvent g s (stepped s (r + 1) n id [] (Writer (looked_at r n w)) keeps) (Look r)
+
+-- the writer, with no lane out, loads word 0 and takes the lane of reader r: there is a buffer at home, and whichever it is, what is shown stays
+pub record PickStays (g : RingNumbers) (s : RingState) (id r : ℕ) (w : WriterView) : Type 0 where
+  pub home : (lane : Lane) × (get_elem? s.homes (slot_for w r) ≡ some (some (Some lane)))
+  pub step : (y : Slot) → get_elem? s.homes (slot_for w r) ≡ some (some y)
+      → ShowsTheSame g s (stepped s 0 (slice_index s.words 0) id [] (Writer (picked r w)) (takes (slot_for w r) y))
+
+abbrev pub PickShowsTheSame : Type 0
+PickShowsTheSame = (g : RingNumbers) (s : RingState) (id r : ℕ) (w : WriterView) → Kept g s → Has s id (Writer w) → w.hand ≡ None → MayFill w r → PickStays g s id r w
+
+-- the writer loads word 0 and gives the lane of reader r home with row head
+abbrev pub PlaceIsFill : Type 0
+PlaceIsFill = (g : RingNumbers) (s : RingState) (id r : ℕ) (w : WriterView) (lane : Lane) → Kept g s → Has s id (Writer w) → w.hand ≡ Some r → lane.number ≡ Some w.head → Fits g w.head lane
+    → IsEvent g s (stepped s 0 (slice_index s.words 0) id ((slot_for w r, Some lane) ∷ []) (Writer (placed w)) gives) (Fill r)
 
 -- the writer stores head + 1
 abbrev pub PublishIsEvent : Type 0
-PublishIsEvent = (g : RingNumbers) (s : RingState) (id : ℕ) (w : WriterView) → Kept g s → get_elem? s.views id ≡ some (Writer w) → MayPublish w
-    → IsPublish g s (stepped s 0 (w.head + 1) id [] (Writer (published w)) keeps)
+PublishIsEvent = (g : RingNumbers) (s : RingState) (id : ℕ) (w : WriterView) → Kept g s → Has s id (Writer w) → MayPublish w
+    → IsEvent g s (stepped s 0 (w.head + 1) id [] (Writer (published w)) keeps) Publish
 
 -- a joined reader loads the head
 abbrev pub SeeIsEvent : Type 0
-SeeIsEvent = (g : RingNumbers) (s : RingState) (id : ℕ) (x : ReaderView) → Kept g s → get_elem? s.views id ≡ some (Reader x) → x.left ≡ false
-    → let n = slice_index s.words 0 in
-    IsSome (progress_shown g s x.number).cursor × IsReaderEvent g s (stepped s 0 n id [] (Reader (saw_head n x)) keeps) x.number (saw n)
+SeeIsEvent = (g : RingNumbers) (s : RingState) (id : ℕ) (x : ReaderView) → Kept g s → Has s id (Reader x) → x.left ≡ false
+    → let n = slice_index s.words 0 in IsEvent g s (stepped s 0 n id [] (Reader (saw_head n x)) keeps) (See x.number)
 
--- a joined reader that knows of a row at its cursor stores its cursor + 1
+-- a reader loads its word and takes its lane: there is a buffer at home, and whichever it is, the step is an open
+pub record TakeOpens (g : RingNumbers) (s : RingState) (id : ℕ) (x : ReaderView) : Type 0 where
+  pub home : (lane : Lane) × (get_elem? s.homes (slot_of x) ≡ some (some (Some lane)))
+  pub step : (y : Slot) → get_elem? s.homes (slot_of x) ≡ some (some y)
+      → IsEvent g s (stepped s (x.number + 1) (slice_index s.words (x.number + 1)) id [] (Reader (took x)) (takes (slot_of x) y)) (Open x.number)
+
+abbrev pub TakeIsOpen : Type 0
+TakeIsOpen = (g : RingNumbers) (s : RingState) (id : ℕ) (x : ReaderView) → Kept g s → Has s id (Reader x) → MayTake x → TakeOpens g s id x
+
+-- a reader loads its word and gives its lane home with its row
+abbrev pub GiveIsClose : Type 0
+GiveIsClose = (g : RingNumbers) (s : RingState) (id : ℕ) (x : ReaderView) (lane : Lane) → Kept g s → Has s id (Reader x) → x.out ≡ true → lane.number ≡ Some x.taken → Fits g x.taken lane
+    → IsEvent g s (stepped s (x.number + 1) (slice_index s.words (x.number + 1)) id ((slot_of x, Some lane) ∷ []) (Reader (gave x)) gives) (Close x.number)
+
+-- a joined reader that knows of a row at its cursor, and has nothing out, stores its cursor + 1: its row was closed
 abbrev pub AdvanceIsEvent : Type 0
-AdvanceIsEvent = (g : RingNumbers) (s : RingState) (id : ℕ) (x : ReaderView) → Kept g s → get_elem? s.views id ≡ some (Reader x) → x.left ≡ false → x.taken < x.seen
-    → ((progress_shown g s x.number).cursor ≡ Some x.taken) × IsReaderEvent g s (stepped s (x.number + 1) (x.taken + 1) id [] (Reader (went_on x)) keeps) x.number (advanced x.taken)
+AdvanceIsEvent = (g : RingNumbers) (s : RingState) (id : ℕ) (x : ReaderView) → Kept g s → Has s id (Reader x) → MayTake x
+    → IsEventFrom (read_closed x.number (schedule_shown g s)) g (stepped s (x.number + 1) (x.taken + 1) id [] (Reader (went_on x)) keeps) (Advance x.number)
 
--- the table with one more seat, cut from the writer's
-abbrev pub with_reader : RingState → ℕ → WriterView → RingState
-with_reader s id w = record { words = s.words; homes = s.homes; views = slice_set s.views id (made_more (Writer w)) ++ made_reader (Writer w) ∷ [] }
+-- a joined reader with nothing out stores 2^64 - 1
+abbrev pub LeaveIsEvent : Type 0
+LeaveIsEvent = (g : RingNumbers) (s : RingState) (id : ℕ) (x : ReaderView) → Kept g s → Has s id (Reader x) → x.left ≡ false → x.out ≡ false
+    → IsEvent g s (stepped s (x.number + 1) left_word id [] (Reader (gone x)) keeps) (Leave x.number)
 
--- the writer's seat gives the next reader a seat, and what is shown stays
-pub record ShowsTheSame (g : RingNumbers) (s t : RingState) : Type 0 where
-  pub kept : Kept g t
-  pub head : head_shown t.words ≡ head_shown s.words
-  pub same : (r : ℕ) → r < g.readers → progress_shown g t r ≡ progress_shown g s r
+-- the table with the view of one seat changed and one more seat, which is how a seat is cut
+abbrev pub cut : RingState → ℕ → View → View → RingState
+cut s id left right = record { words = s.words; homes = s.homes; views = slice_set s.views id left ++ right ∷ [] }
 
+-- the writer's seat gives the next reader a seat
 abbrev pub SplitShowsTheSame : Type 0
-SplitShowsTheSame = (g : RingNumbers) (s : RingState) (id : ℕ) (w : WriterView) → Kept g s → get_elem? s.views id ≡ some (Writer w) → w.made < g.readers → ShowsTheSame g s (with_reader s id w)
+SplitShowsTheSame = (g : RingNumbers) (s : RingState) (id : ℕ) (w : WriterView) → Kept g s → Has s id (Writer w) → w.made < g.readers
+    → ShowsTheSame g s (cut s id (made_more (Writer w)) (made_reader (Writer w)))
+
+-- the writer's seat, or that of a reader, makes a note
+abbrev pub HeadNoteShowsTheSame : Type 0
+HeadNoteShowsTheSame = (g : RingNumbers) (s : RingState) (id : ℕ) (w : WriterView) → Kept g s → Has s id (Writer w) → ShowsTheSame g s (cut s id (Writer w) (noted (Writer w)))
+
+abbrev pub CursorNoteShowsTheSame : Type 0
+CursorNoteShowsTheSame = (g : RingNumbers) (s : RingState) (id : ℕ) (x : ReaderView) → Kept g s → Has s id (Reader x) → ShowsTheSame g s (cut s id (Reader x) (noted (Reader x)))
+
+-- the table with the view of the seat id made from it and that of another seat, which is spent
+abbrev pub joined : RingState → ℕ → View → ℕ → RingState
+joined s id both other = record { words = s.words; homes = s.homes; views = slice_set (slice_set s.views id both) other Spent }
+
+-- a note is joined to a reader's seat, or to the writer's
+abbrev pub MeetHeadShowsTheSame : Type 0
+MeetHeadShowsTheSame = (g : RingNumbers) (s : RingState) (id other : ℕ) (x : ReaderView) (n : HeadNoteView) → Kept g s → Has s id (Reader x) → Has s other (HeadNote n)
+    → ShowsTheSame g s (joined s id (met (Reader x) (HeadNote n)) other)
+
+abbrev pub MeetCursorShowsTheSame : Type 0
+MeetCursorShowsTheSame = (g : RingNumbers) (s : RingState) (id other : ℕ) (w : WriterView) (n : CursorNoteView) → Kept g s → Has s id (Writer w) → Has s other (CursorNote n)
+    → ShowsTheSame g s (joined s id (met (Writer w) (CursorNote n)) other)
+
+-- what the table shows is sound, and its slots show what the views say: which lanes are filled, and which readers hold their row
+pub record ShowsSound (g : RingNumbers) (s : RingState) : Type 0 where
+  pub sound : IsSound (schedule_shown g s)
+  pub agrees : (r : ℕ) → r < g.readers → lanes_shown g.places s.words s.homes r ≡ lanes_known g.places s.words s.homes (writer_of g s.views) (reader_of g s.views) r
+
+abbrev pub RuleShowsSound : Type 0
+RuleShowsSound = (g : RingNumbers) (s : RingState) → Kept g s → ShowsSound g s
+
+-- the table's first state: all words 0, an empty lane in each slot
+pub record IsFirst (g : RingNumbers) (slots : List Slot) : Type 0 where
+  pub places : 0 < g.places
+  pub total : g.total < left_word
+  pub rows_in : length g.rows ≡ g.total
+  pub even : All (λ row. length row ≡ g.row_len) g.rows
+  pub deep : length slots ≡ g.readers * g.places
+  pub empty : All (IsEmptyLane g.row_len) slots
+
+-- the first state keeps the rule, and shows the core's start
+pub record StartsAt (g : RingNumbers) (t : RingState) : Type 0 where
+  pub kept : Kept g t
+  pub shows : schedule_shown g t ≡ start g.places g.readers g.total
+
+abbrev pub FirstIsStart : Type 0
+FirstIsStart = (g : RingNumbers) (slots : List Slot) → IsFirst g slots → StartsAt g (opening (replicate (g.readers + 1) 0) slots (Writer (new_writer g)))

@@ -1,5 +1,10 @@
+pub mod RowMark
 pub mod Views
+pub mod Shown
 pub mod Kept
 pub mod Plays
 pub mod Marks
+pub mod Key
+pub mod Seats
+pub mod Empty
 pub mod Laws

@@ -1,42 +1,61 @@
-// What each atomic step tells its caller, and how the writer's seat makes a reader's.
-ghost use Rattle.ring_rule.specs.Plays.{LooksAt, PublishesAt, SeesAt, AdvancesAt, made_more, made_reader};
+// What each atomic step tells its caller.
+ghost use Rattle.ring_rule.specs.Plays.{LooksAt, PublishesAt, PlacesAt, SeesAt, TakesAt, GivesAt, AdvancesAt, LeavesAt};
 
-use crate::View;
-use atomic_table::{Play, Split};
+use crate::{Lane, View};
+use atomic_table::Play;
 
 /// The writer loads the cursor of a reader.
 pub struct Looks;
 
-impl Play<(), View> for Looks {
+impl Play<Option<Lane>, View> for Looks {
     ghost then = { LooksAt };
+}
+
+/// The writer gives a lane home that it filled.
+pub struct Places;
+
+impl Play<Option<Lane>, View> for Places {
+    ghost then = { PlacesAt };
 }
 
 /// The writer stores the head and one more.
 pub struct Publishes;
 
-impl Play<(), View> for Publishes {
+impl Play<Option<Lane>, View> for Publishes {
     ghost then = { PublishesAt };
 }
 
 /// A reader loads the head.
 pub struct Sees;
 
-impl Play<(), View> for Sees {
+impl Play<Option<Lane>, View> for Sees {
     ghost then = { SeesAt };
+}
+
+/// A reader takes its lane for its next row.
+pub struct Takes;
+
+impl Play<Option<Lane>, View> for Takes {
+    ghost then = { TakesAt };
+}
+
+/// A reader gives that lane home.
+pub struct Gives;
+
+impl Play<Option<Lane>, View> for Gives {
+    ghost then = { GivesAt };
 }
 
 /// A reader stores its cursor and one more.
 pub struct Advances;
 
-impl Play<(), View> for Advances {
+impl Play<Option<Lane>, View> for Advances {
     ghost then = { AdvancesAt };
 }
 
-/// The writer's seat gives the next reader a seat.
-pub struct Seating;
+/// A reader stores that it left.
+pub struct Leaves;
 
-impl Split<View> for Seating {
-    ghost left = { made_more };
-
-    ghost right = { made_reader };
+impl Play<Option<Lane>, View> for Leaves {
+    ghost then = { LeavesAt };
 }

@@ -1,56 +1,63 @@
 // A reader's seat at a ring.
-ghost use Rattle.std.specs.Prelude.{◌≡◌, ◌+◌, ◌<◌, ◌≤◌, false, []};
-ghost use Rattle.ring_rule.specs.declared.view.View.TheVariants.{Reader};
+ghost use Rattle.std.specs.Prelude.{◌≡◌, ◌+◌, ◌<◌, ◌≤◌, true, false, []};
 ghost use Rattle.ring_rule.specs.Marks.{ReaderMark};
-ghost use Rattle.ring_rule.specs.Plays.{reader_in, saw_head, went_on};
+ghost use Rattle.ring_rule.specs.Kept.{row_at};
+ghost use Rattle.ring_rule.specs.Plays.{reader_in, saw_head, took, gave, went_on, gone, MayTake};
+ghost use Rattle.ring_rule.specs.Key.{key_ring};
+ghost use Rattle.ring_rule.specs.Seats.{IsReaderSeat};
 
 use crate::play::{Advances, Sees};
 use crate::{RingSeat, RingShared};
+use pr_base::Deal;
 use std::marker::Model;
 
-/// The seat by which a reader loads the head and stores its cursor. Contracts see its table and its view.
+/// The seat by which a reader loads the head, takes rows out of its lanes and stores its cursor.
+///
+/// Contracts see its table, its view, and whether the row at its cursor was taken and given back.
 #[derive(Drop)]
-pub struct ReaderSeat<'t> {
-    shared: &'t RingShared,
+pub struct ReaderSeat<'t, D: Deal> {
+    shared: &'t RingShared<D>,
     seat: RingSeat,
     number: u32,
+    places: u32,
     cursor: u64,
     seen: u64,
+    closed: bool,
 }
 
-impl<'t> Model for ReaderSeat<'t> {
+impl<'t, D: Deal> Model for ReaderSeat<'t, D> {
     ghost Value = { ReaderMark };
 
-    ghost view = { λ s. record { table = s.seat.table_id; view = reader_in s.seat.me.0 } };
+    ghost view = { λ s. record { table = s.seat.table_id; view = reader_in s.seat.me.0; closed = s.closed } };
 
-    ghost invariant = { λ s. (s.seat.table_id ≡ s.shared.now.table_id) × (s.seat.me ≡ (Reader (reader_in s.seat.me.0), [])) × (s.seat.table_id.words ≡ (reader_in s.seat.me.0).ring.readers + 1) × ((reader_in s.seat.me.0).ring ≡ s.shared.now.key) × (s.number < (reader_in s.seat.me.0).ring.readers) × ((reader_in s.seat.me.0).number ≡ s.number) × ((reader_in s.seat.me.0).left ≡ false) × (s.cursor ≡ (reader_in s.seat.me.0).taken) × (s.seen ≡ (reader_in s.seat.me.0).seen) };
+    ghost invariant = { λ s. let g = key_ring D.rows D.size s.shared.now.key in IsReaderSeat g s.shared.now.table_id s.seat.table_id s.seat.me s.number s.places s.cursor s.seen s.closed };
 }
 
-impl<'t> ReaderSeat<'t> {
+impl<'t, D: Deal> ReaderSeat<'t, D> {
     /// A seat that was not used yet.
-    pub(crate) fn new(shared: &'t RingShared, seat: RingSeat, number: u32) -> ReaderSeat<'t>
-        requires table { seat.table_id ≡ shared.now.table_id }
-        requires me { seat.me ≡ (Reader (reader_in seat.me.0), []) }
-        requires words { seat.table_id.words ≡ (reader_in seat.me.0).ring.readers + 1 }
-        requires ring { (reader_in seat.me.0).ring ≡ shared.now.key }
-        requires range { number < (reader_in seat.me.0).ring.readers }
-        requires number { (reader_in seat.me.0).number ≡ number }
-        requires joined { (reader_in seat.me.0).left ≡ false }
-        requires taken { (reader_in seat.me.0).taken ≡ 0 }
-        requires seen { (reader_in seat.me.0).seen ≡ 0 }
-        ensures { result ≡ record { table = seat.table_id; view = reader_in seat.me.0 } }
+    pub(crate) fn new(
+        shared: &'t RingShared<D>,
+        seat: RingSeat,
+        number: u32,
+        places: u32,
+    ) -> ReaderSeat<'t, D>
+        requires { IsReaderSeat (key_ring D.rows D.size shared.now.key) shared.now.table_id seat.table_id seat.me number places 0 0 false }
+        ensures { result ≡ record { table = seat.table_id; view = reader_in seat.me.0; closed = false } }
     {
         ReaderSeat {
             shared,
             seat,
             number,
+            places,
             cursor: 0,
             seen: 0,
+            closed: false,
         }
     }
 
     /// Loads the head, and knows it from then on.
     pub fn see(&mut self) -> u64
+        requires { self.old.view.left ≡ false }
         ensures view { self.new ≡ record self.old { view = saw_head result self.old.view } }
         ensures grows { self.old.view.seen ≤ result }
     {
@@ -61,12 +68,13 @@ impl<'t> ReaderSeat<'t> {
 
     /// Goes on to the next row: stores the cursor and one more.
     pub fn store_cursor(&mut self)
-        requires { self.old.view.taken < self.old.view.seen }
-        ensures { self.new ≡ record self.old { view = went_on self.old.view } }
+        requires { self.old.closed ≡ true }
+        ensures { self.new ≡ record self.old { view = went_on self.old.view; closed = false } }
     {
         let cursor = self.cursor + 1;
         self.shared
             .store::<Advances>(&mut self.seat, self.number as usize + 1, cursor);
         self.cursor = cursor;
+        self.closed = false;
     }
 }

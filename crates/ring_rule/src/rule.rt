@@ -1,22 +1,34 @@
 // The rule of the ring's table.
 ghost use Rattle.ring_rule.specs.declared.view.View.TheVariants.{Writer};
-ghost use Rattle.ring_rule.specs.Views.{new_writer};
+ghost use Rattle.ring_rule.specs.Views.{ring_of, new_writer};
 ghost use Rattle.ring_rule.specs.Kept.{Kept};
 
-use crate::{RingNumbers, View};
+use crate::{Lane, View};
 use atomic_table::{Seat, Shared, TableRule};
+use pr_base::Deal;
+use std::marker::PhantomData;
+use std::snapshot::Snapshot;
 
-/// The words and the views of all seats show a sound schedule.
-pub struct RingRule;
+/// What the rule may read of a ring: its numbers, and the deal whose rows pass through it, which clauses alone see.
+#[derive(Drop)]
+pub struct RingKey<D> {
+    pub places: u64,
+    pub readers: u64,
+    pub deal: Snapshot<D>,
+}
 
-impl TableRule<(), View, RingNumbers> for RingRule {
-    ghost holds = { Kept };
+/// The words, the lanes and the views of all seats show a sound schedule, each lane at home holds the bytes of its row,
+/// and what notes say is true.
+pub struct RingRule<D>(PhantomData<D>);
 
-    ghost first = { λ ring. Writer (new_writer ring) };
+impl<D: Deal> TableRule<Option<Lane>, View, RingKey<D>> for RingRule<D> {
+    ghost holds = { λ key. Kept (ring_of key.places key.readers (D.rows key.deal.value) (D.size key.deal.value)) };
+
+    ghost first = { λ key. Writer (new_writer (ring_of key.places key.readers (D.rows key.deal.value) (D.size key.deal.value))) };
 }
 
 /// The ring's table as threads share it.
-pub type RingShared = Shared<(), View, RingNumbers, RingRule>;
+pub type RingShared<D> = Shared<Option<Lane>, View, RingKey<D>, RingRule<D>>;
 
-/// A seat at the ring's table, of the writer or of a reader.
-pub type RingSeat = Seat<(), View>;
+/// A seat at the ring's table, of the writer, of a reader or of a note.
+pub type RingSeat = Seat<Option<Lane>, View>;

@@ -1,13 +1,16 @@
 // What each seat of a ring knows. No value of these types is made: they stand in contracts and proofs alone.
 use std::collections::LinkedList;
 
-/// The numbers of a ring, fixed when it is made, and the same in every view.
-#[derive(Clone, Copy, Debug, PartialEq, Eq)]
+/// The numbers of a ring and the rows that pass through it, fixed when it is made, and the same in every view.
 pub struct RingNumbers {
     pub places: u64,
     pub readers: u64,
-    /// The number of rows that pass through the ring.
+    /// The number of rows.
     pub total: u64,
+    /// The bytes of each row.
+    pub row_len: u64,
+    /// The bytes of all rows, in order.
+    pub rows: LinkedList<LinkedList<u8>>,
 }
 
 /// What the writer's seat knows. The lists have an entry for each reader.
@@ -21,6 +24,12 @@ pub struct WriterView {
     pub known: LinkedList<u64>,
     /// How often the writer loaded it.
     pub loads: LinkedList<u64>,
+    /// Whether the writer filled the reader's lane with the row numbered head.
+    pub filled: LinkedList<bool>,
+    /// The reader whose lane for the row numbered head is out with the writer.
+    pub hand: Option<u64>,
+    /// What the note said that was joined last.
+    pub told: Option<CursorNoteView>,
 }
 
 /// What a reader's seat knows.
@@ -30,15 +39,36 @@ pub struct ReaderView {
     /// The number of rows that it took.
     pub taken: u64,
     pub left: bool,
+    /// Whether its lane for its next row is out with it.
+    pub out: bool,
     /// The head that it last loaded.
     pub seen: u64,
     /// How often it loaded the head.
     pub loads: u64,
+    /// What the note said that was joined last.
+    pub told: Option<HeadNoteView>,
 }
 
-/// What one seat knows. It names the seat's actor: the writer, a reader, or none once the seat was joined to another.
+/// What a note of the writer says: its head, and the words that it knew of the readers' cursors.
+pub struct HeadNoteView {
+    pub ring: RingNumbers,
+    pub head: u64,
+    pub known: LinkedList<u64>,
+}
+
+/// What a note of a reader says: how many rows it took, and whether it left.
+pub struct CursorNoteView {
+    pub ring: RingNumbers,
+    pub number: u64,
+    pub taken: u64,
+    pub left: bool,
+}
+
+/// What one seat knows. It names the seat's actor: the writer, a reader, a note with its maker, or none once it was joined to another.
 pub enum View {
     Writer(WriterView),
     Reader(ReaderView),
+    HeadNote(HeadNoteView),
+    CursorNote(CursorNoteView),
     Spent,
 }

@@ -1,44 +1,48 @@
 // The writer's seat at a ring.
 ghost use Rattle.std.specs.Prelude.{◌≡◌, ◌+◌, ◌<◌, [], slice_index};
-ghost use Rattle.ring_rule.specs.declared.view.View.TheVariants.{Writer};
 ghost use Rattle.ring_rule.specs.Marks.{WriterMark};
 ghost use Rattle.ring_rule.specs.Plays.{writer_in, looked_at, published, IsCursorOf, MayPublish};
+ghost use Rattle.ring_rule.specs.Key.{key_ring};
+ghost use Rattle.ring_rule.specs.Seats.{IsWriterSeat};
 
 use crate::play::{Looks, Publishes};
 use crate::{RingSeat, RingShared};
+use pr_base::Deal;
 use std::marker::Model;
 
-/// The seat by which the writer looks at cursors and stores the head. Contracts see its table and its view.
+/// The seat by which the writer looks at cursors, fills lanes and stores the head. Contracts see its table and its view.
 #[derive(Drop)]
-pub struct WriterSeat<'t> {
-    shared: &'t RingShared,
+pub struct WriterSeat<'t, D: Deal> {
+    shared: &'t RingShared<D>,
     seat: RingSeat,
+    places: u32,
     head: u64,
     total: u64,
 }
 
-impl<'t> Model for WriterSeat<'t> {
+impl<'t, D: Deal> Model for WriterSeat<'t, D> {
     ghost Value = { WriterMark };
 
     ghost view = { λ s. record { table = s.seat.table_id; view = writer_in s.seat.me.0 } };
 
-    ghost invariant = { λ s. (s.seat.table_id ≡ s.shared.now.table_id) × (s.seat.me ≡ (Writer (writer_in s.seat.me.0), [])) × (s.seat.table_id.words ≡ (writer_in s.seat.me.0).ring.readers + 1) × ((writer_in s.seat.me.0).ring ≡ s.shared.now.key) × (s.head ≡ (writer_in s.seat.me.0).head) × (s.total ≡ (writer_in s.seat.me.0).ring.total) };
+    ghost invariant = { λ s. let g = key_ring D.rows D.size s.shared.now.key in IsWriterSeat g s.shared.now.table_id s.seat.table_id s.seat.me s.places s.head s.total };
 }
 
-impl<'t> WriterSeat<'t> {
+impl<'t, D: Deal> WriterSeat<'t, D> {
     /// A seat that was not used yet.
-    pub(crate) fn new(shared: &'t RingShared, seat: RingSeat, total: u64) -> WriterSeat<'t>
-        requires table { seat.table_id ≡ shared.now.table_id }
-        requires me { seat.me ≡ (Writer (writer_in seat.me.0), []) }
-        requires words { seat.table_id.words ≡ (writer_in seat.me.0).ring.readers + 1 }
-        requires ring { (writer_in seat.me.0).ring ≡ shared.now.key }
-        requires head { (writer_in seat.me.0).head ≡ 0 }
-        requires total { (writer_in seat.me.0).ring.total ≡ total }
+    pub(crate) fn new(
+        shared: &'t RingShared<D>,
+        seat: RingSeat,
+        places: u32,
+        total: u64,
+    ) -> WriterSeat<'t, D>
+        requires { IsWriterSeat (key_ring D.rows D.size shared.now.key) shared.now.table_id seat.table_id seat.me places 0 total }
         ensures { result ≡ record { table = seat.table_id; view = writer_in seat.me.0 } }
     {
         WriterSeat {
             shared,
             seat,
+            places,
             head: 0,
             total,
         }

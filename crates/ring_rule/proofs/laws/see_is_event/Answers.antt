@@ -1,4 +1,4 @@
-use Rattle.ring_rule.proofs.Events.{see_event}
+use Rattle.ring_rule.proofs.ReaderEvents.{see_event}
 use Rattle.ring_rule.proofs.laws.see_is_event.Goals as goal
 
 pub returns : goal.returns

@@ -1,0 +1,122 @@
+-- What each call asks of the table, for a seat whose view its invariant tells, and the seat after it.
+use Rattle.std.proofs.Common.{◌≡◌, ℕ, ◌+◌, ◌<◌, ◌≤◌, Bool, true, false, cond, List, [], ◌∷◌, length, sym, ◌∙◌, refl, ap, subst, arith}
+use Rattle.std.specs.Prelude.{Option, Some, None}
+use mathlib.Core.Option.{none, some}
+use Rattle.atomic_table.specs.Table.{Me, step, Allows, Splits, Joins}
+use Rattle.atomic_table.specs.Seated.{TableId}
+use Rattle.ring_rule.specs.declared.lane.Lane.{Lane}
+use Rattle.ring_rule.specs.declared.view.RingNumbers.{RingNumbers}
+use Rattle.ring_rule.specs.declared.view.WriterView.{WriterView}
+use Rattle.ring_rule.specs.declared.view.ReaderView.{ReaderView}
+use Rattle.ring_rule.specs.declared.view.HeadNoteView.{HeadNoteView}
+use Rattle.ring_rule.specs.declared.view.CursorNoteView.{CursorNoteView}
+use Rattle.ring_rule.specs.declared.view.View.{View}
+use Rattle.ring_rule.specs.declared.view.View.TheVariants.{Writer, Reader, HeadNote, CursorNote, Spent}
+use Rattle.ring_rule.specs.Views.{left_word}
+use Rattle.ring_rule.specs.Shown.{Slot}
+use Rattle.ring_rule.specs.Kept.{row_at, Kept}
+use Rattle.ring_rule.specs.Plays.{Sat, writer_in, reader_in, head_note_in, cursor_note_in, slot_for, slot_of, looked_at, MayPublish, MayFill, MayTake, LooksAt, PublishesAt, PicksAt, PlacesAt, SeesAt, TakesAt, GivesAt, AdvancesAt, LeavesAt, made_more, made_reader, noted, met}
+use Rattle.ring_rule.specs.Seats.{seated_writer, seated_reader, held_by, IsWriterSeat, IsReaderSeat}
+use Rattle.ring_rule.proofs.WriterCalls
+use Rattle.ring_rule.proofs.ReaderCalls
+
+module _ (g : RingNumbers) (slots id : ℕ) (m : Sat) (w : WriterView) (e : m ≡ seated_writer w) where
+  pub may_look : (r : ℕ) → r < g.readers → w.hand ≡ None → Allows (Kept g) slots id m (r + 1) (λ n. n) (LooksAt (step slots (r + 1) 0 0 none) m)
+  may_look r l hand =
+      let P : Sat → Type 0 = λ m. Allows (Kept g) slots id m (r + 1) (λ n. n) (LooksAt (step slots (r + 1) 0 0 none) m) in
+      subst P (sym e) (WriterCalls.looks g slots id w r l hand)
+
+  pub may_publish : (n : ℕ) → n ≡ w.head + 1 → MayPublish w → Allows (Kept g) slots id m 0 (λ _. n) (λ _. PublishesAt (step slots 0 n 0 none) m n)
+  may_publish n up may =
+      let P : Sat → Type 0 = λ m. Allows (Kept g) slots id m 0 (λ _. n) (λ _. PublishesAt (step slots 0 n 0 none) m n) in
+      subst P (sym e) (WriterCalls.publishes g slots id w n up may)
+
+  pub may_pick : (r : ℕ) → w.hand ≡ None → MayFill w r → Allows (Kept g) slots id m 0 (λ n. n) (PicksAt r (step slots 0 0 0 none) m)
+  may_pick r hand may =
+      let P : Sat → Type 0 = λ m. Allows (Kept g) slots id m 0 (λ n. n) (PicksAt r (step slots 0 0 0 none) m) in
+      subst P (sym e) (WriterCalls.picks g slots id w r hand may)
+
+  pub may_split : w.made < g.readers → Splits (Kept g) id m.0 (made_more m.0) (made_reader m.0)
+  may_split l =
+      let P : Sat → Type 0 = λ m. Splits (Kept g) id m.0 (made_more m.0) (made_reader m.0) in
+      subst P (sym e) (WriterCalls.splits g slots id w l)
+
+  pub may_note : Splits (Kept g) id m.0 m.0 (noted m.0)
+  may_note =
+      let P : Sat → Type 0 = λ m. Splits (Kept g) id m.0 m.0 (noted m.0) in
+      subst P (sym e) (WriterCalls.notes g slots id w)
+
+  pub may_meet : (other : ℕ) (o : Sat) (n : CursorNoteView) → o ≡ (CursorNote n, []) → Joins (Kept g) id m.0 other o.0 (met m.0 o.0) Spent
+  may_meet other o n f =
+      let P : Sat → Sat → Type 0 = λ m o. Joins (Kept g) id m.0 other o.0 (met m.0 o.0) Spent in
+      subst (λ x. x) (λ i. P (sym e i) (sym f i)) (WriterCalls.meets g slots id w other n)
+
+-- the writer with a lane out gives it home
+pub may_place : (g : RingNumbers) (slots id r slot : ℕ) (m : Sat) (w : WriterView) (lane : Lane) → m ≡ (Writer w, (slot, Some lane) ∷ []) → slot ≡ slot_for w r → w.hand ≡ Some r → lane.number ≡ Some w.head → lane.bytes.items ≡ row_at w.ring w.head
+    → Allows (Kept g) slots id m 0 (λ n. n) (PlacesAt (step slots 0 0 0 none) m)
+may_place g slots id r slot m w lane e place hand number row =
+    let P : Sat → Type 0 = λ m. Allows (Kept g) slots id m 0 (λ n. n) (PlacesAt (step slots 0 0 0 none) m) in
+    subst P (sym e) (WriterCalls.places g slots id w r slot lane place hand number row)
+
+-- the writer's seat after a look
+pub looked_seat : (g : RingNumbers) (shared own after : TableId) (slots r n places head total : ℕ) (m later : Sat) → IsWriterSeat g shared own m places head total → after ≡ own → LooksAt (step slots (r + 1) 0 0 none) m n later
+    → IsWriterSeat g shared after later places head total
+looked_seat g shared own after slots r n places head total m later i t h =
+    let l = h r refl in
+    let w = writer_in m.0 in
+    let v = looked_at r n w in
+    let seat : later ≡ (Writer v, []) = l.seat ∙ (λ j. (Writer v, (i.me_is j).1)) in
+    let is : writer_in later.0 ≡ v = ap (λ (x : Sat). writer_in x.0) seat in
+    let count : after.words ≡ own.words = ap (λ (x : TableId). x.words) t in
+    record {
+      table = t ∙ i.table;
+      words = count ∙ i.words;
+      me_is = seat ∙ ap seated_writer (sym is);
+      ring = ap (λ (u : WriterView). u.ring) is ∙ i.ring;
+      hand = ap (λ (u : WriterView). u.hand) is ∙ i.hand;
+      some_place = i.some_place;
+      places_is = i.places_is;
+      head_is = i.head_is ∙ sym (ap (λ (u : WriterView). u.head) is);
+      total_is = i.total_is;
+    }
+
+-- with nothing out, a reader's seat holds no slot
+pub empty_hands : (m : Sat) → m ≡ seated_reader (reader_in m.0) → (reader_in m.0).out ≡ false → m ≡ (Reader (reader_in m.0), [])
+empty_hands m e out = e ∙ (λ i. (Reader (reader_in m.0), cond (out i) ((slot_of (reader_in m.0), None) ∷ []) []))
+
+module _ (g : RingNumbers) (slots id : ℕ) (m : Sat) (x : ReaderView) where
+  pub may_see : m ≡ seated_reader x → x.left ≡ false → Allows (Kept g) slots id m 0 (λ n. n) (SeesAt (step slots 0 0 0 none) m)
+  may_see e joined =
+      let P : Sat → Type 0 = λ m. Allows (Kept g) slots id m 0 (λ n. n) (SeesAt (step slots 0 0 0 none) m) in
+      subst P (sym e) (ReaderCalls.sees g slots id x (held_by x) joined)
+
+  pub may_take : (i : ℕ) → m ≡ (Reader x, []) → i ≡ x.number + 1 → MayTake x → Allows (Kept g) slots id m i (λ n. n) (TakesAt (step slots i 0 0 none) m)
+  may_take i e p may =
+      let P : ℕ → Sat → Type 0 = λ i m. Allows (Kept g) slots id m i (λ n. n) (TakesAt (step slots i 0 0 none) m) in
+      subst (λ z. z) (λ j. P (sym p j) (sym e j)) (ReaderCalls.takes_row g slots id x may)
+
+  pub may_give : (i slot : ℕ) (lane : Lane) → m ≡ (Reader x, (slot, Some lane) ∷ []) → i ≡ x.number + 1 → slot ≡ slot_of x → x.out ≡ true → lane.number ≡ Some x.taken → lane.bytes.items ≡ row_at x.ring x.taken
+      → Allows (Kept g) slots id m i (λ n. n) (GivesAt (step slots i 0 0 none) m)
+  may_give i slot lane e p place out number row =
+      let P : ℕ → Sat → Type 0 = λ i m. Allows (Kept g) slots id m i (λ n. n) (GivesAt (step slots i 0 0 none) m) in
+      subst (λ z. z) (λ j. P (sym p j) (sym e j)) (ReaderCalls.gives_row g slots id x slot lane place out number row)
+
+  pub may_advance : (i n : ℕ) → m ≡ (Reader x, []) → i ≡ x.number + 1 → n ≡ x.taken + 1 → MayTake x → Allows (Kept g) slots id m i (λ _. n) (λ _. AdvancesAt (step slots i n 0 none) m n)
+  may_advance i n e p q may =
+      let P : Sat → Type 0 = λ m. Allows (Kept g) slots id m i (λ _. n) (λ _. AdvancesAt (step slots i n 0 none) m n) in
+      subst P (sym e) (ReaderCalls.advances g slots id x i n p q may)
+
+  pub may_leave : (i : ℕ) → m ≡ (Reader x, []) → i ≡ x.number + 1 → x.left ≡ false → x.out ≡ false → Allows (Kept g) slots id m i (λ _. left_word) (λ _. LeavesAt (step slots i left_word 0 none) m left_word)
+  may_leave i e p joined home =
+      let P : Sat → Type 0 = λ m. Allows (Kept g) slots id m i (λ _. left_word) (λ _. LeavesAt (step slots i left_word 0 none) m left_word) in
+      subst P (sym e) (ReaderCalls.leaves g slots id x i p joined home)
+
+  pub may_note_cursor : m ≡ seated_reader x → Splits (Kept g) id m.0 m.0 (noted m.0)
+  may_note_cursor e =
+      let P : Sat → Type 0 = λ m. Splits (Kept g) id m.0 m.0 (noted m.0) in
+      subst P (sym e) (ReaderCalls.notes g slots id x)
+
+  pub may_meet_head : (other : ℕ) (o : Sat) (n : HeadNoteView) → m ≡ seated_reader x → o ≡ (HeadNote n, []) → Joins (Kept g) id m.0 other o.0 (met m.0 o.0) Spent
+  may_meet_head other o n e f =
+      let P : Sat → Sat → Type 0 = λ m o. Joins (Kept g) id m.0 other o.0 (met m.0 o.0) Spent in
+      subst (λ z. z) (λ i. P (sym e i) (sym f i)) (ReaderCalls.meets g slots id x other n)

@@ -1,0 +1,59 @@
+// The buffers of a ring: in a slot of the table, and out with a reader.
+ghost use Rattle.std.specs.Prelude.{◌≡◌, Some};
+ghost use Rattle.ring_rule.specs.RowMark.{RowMark};
+
+use std::marker::Model;
+
+/// A buffer of one row's length, and the number of the row whose bytes it holds, none before the first.
+#[derive(Drop)]
+pub struct Lane {
+    pub number: Option<u64>,
+    pub bytes: Vec<u8>,
+}
+
+/// A row that a reader took out of its lane. It goes back by `ReaderSeat::give`.
+#[derive(Drop)]
+pub struct LaneRow {
+    number: u64,
+    bytes: Vec<u8>,
+}
+
+impl Model for LaneRow {
+    ghost Value = { RowMark };
+
+    ghost view = { λ row. record { number = row.number; bytes = row.bytes.items } };
+}
+
+impl LaneRow {
+    /// The row of this number, in the buffer of its lane.
+    pub(crate) fn new(number: u64, bytes: Vec<u8>) -> LaneRow
+        ensures { result ≡ record { number = number; bytes = bytes.items } }
+    {
+        LaneRow { number, bytes }
+    }
+
+    /// What lies in the lane once the row is given back.
+    pub(crate) fn into_lane(self) -> Lane
+        ensures number { result.number ≡ Some self.number }
+        ensures bytes { result.bytes.items ≡ self.bytes }
+    {
+        Lane {
+            number: Some(self.number),
+            bytes: self.bytes,
+        }
+    }
+
+    /// The row's number.
+    pub fn number(&self) -> u64
+        ensures { result ≡ self.now.number }
+    {
+        self.number
+    }
+
+    /// The row's bytes.
+    pub fn bytes(&self) -> &[u8]
+        ensures { result.now ≡ self.now.bytes }
+    {
+        self.bytes.as_slice()
+    }
+}
