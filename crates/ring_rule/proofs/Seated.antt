@@ -1,9 +1,11 @@
 -- What each call asks of the table, for a seat whose view its invariant tells, and the seat after it.
 use Rattle.std.proofs.Common.{◌≡◌, ℕ, ◌+◌, ◌<◌, ◌≤◌, Bool, true, false, cond, List, [], ◌∷◌, length, sym, ◌∙◌, refl, ap, subst, arith}
 use Rattle.std.specs.Prelude.{Option, Some, None}
+use Rattle.std.proofs.lemmas.Bool.{false≢true}
 use mathlib.Core.Option.{none, some}
-use Rattle.atomic_table.specs.Table.{Me, step, Allows, Splits, Joins}
+use Rattle.atomic_table.specs.Table.{Me, step, rest, Allows, Splits, Joins}
 use Rattle.atomic_table.specs.Seated.{TableId}
+use Rattle.ring_core.specs.Schedule.{lane_place}
 use Rattle.ring_rule.specs.declared.lane.Lane.{Lane}
 use Rattle.ring_rule.specs.declared.view.RingNumbers.{RingNumbers}
 use Rattle.ring_rule.specs.declared.view.WriterView.{WriterView}
@@ -15,7 +17,7 @@ use Rattle.ring_rule.specs.declared.view.View.TheVariants.{Writer, Reader, HeadN
 use Rattle.ring_rule.specs.Views.{left_word}
 use Rattle.ring_rule.specs.Shown.{Slot}
 use Rattle.ring_rule.specs.Kept.{row_at, Kept}
-use Rattle.ring_rule.specs.Plays.{Sat, writer_in, reader_in, head_note_in, cursor_note_in, slot_for, slot_of, looked_at, MayPublish, MayFill, MayTake, LooksAt, PublishesAt, PicksAt, PlacesAt, SeesAt, TakesAt, GivesAt, AdvancesAt, LeavesAt, made_more, made_reader, noted, met}
+use Rattle.ring_rule.specs.Plays.{Sat, writer_in, reader_in, head_note_in, cursor_note_in, slot_for, slot_of, looked_at, gave, MayPublish, MayFill, MayTake, IsTake, LooksAt, PublishesAt, PicksAt, PlacesAt, SeesAt, TakesAt, GivesAt, AdvancesAt, LeavesAt, made_more, made_reader, noted, met}
 use Rattle.ring_rule.specs.Seats.{seated_writer, seated_reader, held_by, IsWriterSeat, IsReaderSeat}
 use Rattle.ring_rule.proofs.WriterCalls
 use Rattle.ring_rule.proofs.ReaderCalls
@@ -120,3 +122,51 @@ module _ (g : RingNumbers) (slots id : ℕ) (m : Sat) (x : ReaderView) where
   may_meet_head other o n e f =
       let P : Sat → Sat → Type 0 = λ m o. Joins (Kept g) id m.0 other o.0 (met m.0 o.0) Spent in
       subst (λ z. z) (λ i. P (sym e i) (sym f i)) (ReaderCalls.meets g slots id x other n)
+
+-- where the reader's lane for its next row stands
+pub reader_slot : (g : RingNumbers) (shared own : TableId) (m : Sat) (number places cursor seen : ℕ) (closed : Bool) → IsReaderSeat g shared own m number places cursor seen closed
+    → slot_of (reader_in m.0) ≡ lane_place places number cursor
+reader_slot g shared own m number places cursor seen closed i =
+    let x = reader_in m.0 in
+    (λ j. lane_place (i.ring j).places (i.number_is j) (sym i.cursor_is j)) ∙ (λ j. lane_place (i.places_is j) number cursor)
+
+-- the slot that a reader holds once it took its row
+pub taken_slot : (m after : Sat) (slot : ℕ) → m ≡ (Reader (reader_in m.0), []) → slot_of (reader_in m.0) ≡ slot → IsTake m after → (old : Slot) × (after.1 ≡ (slot, old) ∷ rest after.1)
+taken_slot m after slot e place t =
+    let held : after.1 ≡ (slot_of (reader_in m.0), Some t.lane) ∷ m.1 = ap (λ (a : Sat). a.1) t.seat in
+    let here : after.1 ≡ (slot, Some t.lane) ∷ [] = held ∙ (λ i. (place i, Some t.lane) ∷ (e i).1) in
+    (Some t.lane, here ∙ (λ i. (slot, Some t.lane) ∷ rest (sym here i)))
+
+-- the slot that a reader holds while its row is out
+pub held_out : (m : Sat) → m ≡ seated_reader (reader_in m.0) → (reader_in m.0).out ≡ true → m ≡ (Reader (reader_in m.0), (slot_of (reader_in m.0), None) ∷ [])
+held_out m e out = e ∙ (λ i. (Reader (reader_in m.0), cond (out i) ((slot_of (reader_in m.0), None) ∷ []) []))
+
+-- that slot with the row in it again
+pub filled_slot : (m after : Sat) (slot : ℕ) (lane : Lane) → m ≡ (Reader (reader_in m.0), (slot_of (reader_in m.0), None) ∷ []) → after ≡ (m.0, (slot, Some lane) ∷ rest m.1) → after ≡ (Reader (reader_in m.0), (slot, Some lane) ∷ [])
+filled_slot m after slot lane e f = f ∙ (λ i. ((e i).0, (slot, Some lane) ∷ rest (e i).1))
+
+-- the reader's seat once it gave its row back
+pub given_seat : (g : RingNumbers) (shared own last : TableId) (number places cursor seen slot : ℕ) (closed : Bool) (lane : Lane) (m mid after : Sat) → IsReaderSeat g shared own m number places cursor seen closed
+    → (reader_in m.0).out ≡ true → last ≡ own → mid ≡ (Reader (reader_in m.0), (slot, Some lane) ∷ []) → GivesAt (step 0 0 0 0 none) mid 0 after → IsReaderSeat g shared last after number places cursor seen true
+given_seat g shared own last number places cursor seen slot closed lane m mid after i out t e h =
+    let x = reader_in m.0 in
+    let y = gave x in
+    let f = i.out_fits out in
+    let seat : after ≡ (Reader y, []) = h ∙ (λ j. (Reader (gave (reader_in (e j).0)), rest (e j).1)) in
+    let is : reader_in after.0 ≡ y = ap (λ (a : Sat). reader_in a.0) seat in
+    let count : last.words ≡ own.words = ap (λ (z : TableId). z.words) t in
+    let P : ReaderView → Type 0 = λ z. MayTake z in
+    record {
+      table = t ∙ i.table;
+      words = count ∙ i.words;
+      me_is = seat ∙ ap seated_reader (sym is);
+      ring = ap (λ (z : ReaderView). z.ring) is ∙ i.ring;
+      number_in = i.number_in;
+      number_is = ap (λ (z : ReaderView). z.number) is ∙ i.number_is;
+      some_place = i.some_place;
+      places_is = i.places_is;
+      cursor_is = i.cursor_is ∙ sym (ap (λ (z : ReaderView). z.taken) is);
+      seen_is = i.seen_is ∙ sym (ap (λ (z : ReaderView). z.seen) is);
+      out_fits = λ o. let z : false ≡ true = sym (ap (λ (u : ReaderView). u.out) is) ∙ o in absurd (false≢true z);
+      closed_fits = λ _. subst P (sym is) record { joined = f.joined; ahead = f.ahead; home = refl };
+    }

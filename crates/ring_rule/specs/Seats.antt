@@ -8,6 +8,7 @@ use Rattle.ring_rule.specs.declared.view.View.{View}
 use Rattle.ring_rule.specs.declared.view.View.TheVariants.{Writer, Reader, HeadNote, CursorNote}
 use Rattle.ring_rule.specs.Views.{left_word, new_writer}
 use Rattle.ring_rule.specs.Shown.{Slot}
+use Rattle.ring_rule.specs.Kept.{OutFits}
 use Rattle.ring_rule.specs.Plays.{Sat, writer_in, reader_in, head_note_in, cursor_note_in, slot_of, MayTake}
 
 -- the slots that are out with a reader's seat: while its row is out, that lane, with nothing in it
@@ -45,6 +46,8 @@ pub record IsReaderSeat (g : RingNumbers) (shared own : TableId) (me : Sat) (num
   pub places_is : g.places ≡ places
   pub cursor_is : cursor ≡ (reader_in me.0).taken
   pub seen_is : seen ≡ (reader_in me.0).seen
+  -- a row that is out is one that the reader knows of
+  pub out_fits : (reader_in me.0).out ≡ true → OutFits (reader_in me.0)
   -- a row that was taken and given back is one that the reader may pass
   pub closed_fits : closed ≡ true → MayTake (reader_in me.0)
 

@@ -1,5 +1,6 @@
 // The buffers of a ring: in a slot of the table, and out with a reader.
-ghost use Rattle.std.specs.Prelude.{◌≡◌, Some};
+ghost use Rattle.std.specs.Prelude.{◌≡◌, ◌<◌, Some};
+ghost use Rattle.ring_core.specs.Schedule.{lane_place};
 ghost use Rattle.ring_rule.specs.RowMark.{RowMark};
 
 use std::marker::Model;
@@ -56,4 +57,13 @@ impl LaneRow {
     {
         self.bytes.as_slice()
     }
+}
+
+/// The slot of a reader's lane for a row: the lanes of one reader stand side by side.
+pub(crate) fn slot_number(reader: u32, places: u32, row: u64) -> usize
+    requires { 0 < places }
+    ensures { result ≡ lane_place places reader row }
+{
+    let place = row % u64::from(places);
+    reader as usize * places as usize + place as usize
 }

@@ -6,8 +6,9 @@ ghost use Rattle.ring_rule.specs.Plays.{reader_in, saw_head, took, gave, went_on
 ghost use Rattle.ring_rule.specs.Key.{key_ring};
 ghost use Rattle.ring_rule.specs.Seats.{IsReaderSeat};
 
-use crate::play::{Advances, Sees};
-use crate::{RingSeat, RingShared};
+use crate::lane::slot_number;
+use crate::play::{Advances, Gives, Leaves, Sees, Takes};
+use crate::{Lane, LaneRow, RingSeat, RingShared};
 use pr_base::Deal;
 use std::marker::Model;
 
@@ -66,6 +67,41 @@ impl<'t, D: Deal> ReaderSeat<'t, D> {
         head
     }
 
+    /// Takes the row at the cursor out of its lane.
+    pub fn take(&mut self) -> LaneRow
+        requires { MayTake self.old.view }
+        ensures seat { self.new ≡ record self.old { view = took self.old.view; closed = false } }
+        ensures number { result.number ≡ self.old.view.taken }
+        ensures bytes { result.bytes ≡ row_at self.old.view.ring self.old.view.taken }
+    {
+        let slot = slot_number(self.number, self.places, self.cursor);
+        self.shared
+            .load::<Takes>(&mut self.seat, self.number as usize + 1);
+        let Some(lane) = self.shared.exchange(&mut self.seat, slot, None) else {
+            unreachable!()
+        };
+        self.closed = false;
+        let Lane { number: _, bytes } = lane;
+        LaneRow::new(self.cursor, bytes)
+    }
+
+    /// Gives that row back to its lane.
+    pub fn give(&mut self, row: LaneRow)
+        requires out { self.old.view.out ≡ true }
+        requires number { row.number ≡ self.old.view.taken }
+        requires bytes { row.bytes ≡ row_at self.old.view.ring self.old.view.taken }
+        ensures { self.new ≡ record self.old { view = gave self.old.view; closed = true } }
+    {
+        let slot = slot_number(self.number, self.places, self.cursor);
+        let lane = row.into_lane();
+        let None = self.shared.exchange(&mut self.seat, slot, Some(lane)) else {
+            unreachable!()
+        };
+        self.shared
+            .load::<Gives>(&mut self.seat, self.number as usize + 1);
+        self.closed = true;
+    }
+
     /// Goes on to the next row: stores the cursor and one more.
     pub fn store_cursor(&mut self)
         requires { self.old.closed ≡ true }
@@ -75,6 +111,17 @@ impl<'t, D: Deal> ReaderSeat<'t, D> {
         self.shared
             .store::<Advances>(&mut self.seat, self.number as usize + 1, cursor);
         self.cursor = cursor;
+        self.closed = false;
+    }
+
+    /// Leaves the ring: stores the number that stands for no cursor.
+    pub fn store_left(&mut self)
+        requires joined { self.old.view.left ≡ false }
+        requires home { self.old.view.out ≡ false }
+        ensures { self.new ≡ record self.old { view = gone self.old.view; closed = false } }
+    {
+        self.shared
+            .store::<Leaves>(&mut self.seat, self.number as usize + 1, u64::MAX);
         self.closed = false;
     }
 }
