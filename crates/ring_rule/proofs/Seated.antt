@@ -17,7 +17,7 @@ use Rattle.ring_rule.specs.declared.view.View.TheVariants.{Writer, Reader, HeadN
 use Rattle.ring_rule.specs.Views.{left_word}
 use Rattle.ring_rule.specs.Shown.{Slot}
 use Rattle.ring_rule.specs.Kept.{row_at, Kept}
-use Rattle.ring_rule.specs.Plays.{Sat, writer_in, reader_in, head_note_in, cursor_note_in, slot_for, slot_of, looked_at, gave, MayPublish, MayFill, MayTake, IsTake, LooksAt, PublishesAt, PicksAt, PlacesAt, SeesAt, TakesAt, GivesAt, AdvancesAt, LeavesAt, made_more, made_reader, noted, met}
+use Rattle.ring_rule.specs.Plays.{Sat, writer_in, reader_in, head_note_in, cursor_note_in, slot_for, slot_of, looked_at, gave, writer_met, reader_met, IsPastNote, IsPastHead, MayPublish, MayFill, MayTake, IsPick, IsTake, picked, LooksAt, PublishesAt, PicksAt, PlacesAt, SeesAt, TakesAt, GivesAt, AdvancesAt, LeavesAt, made_more, made_reader, noted, met}
 use Rattle.ring_rule.specs.Seats.{seated_writer, seated_reader, held_by, IsWriterSeat, IsReaderSeat}
 use Rattle.ring_rule.proofs.WriterCalls
 use Rattle.ring_rule.proofs.ReaderCalls
@@ -170,3 +170,58 @@ given_seat g shared own last number places cursor seen slot closed lane m mid af
       out_fits = λ o. let z : false ≡ true = sym (ap (λ (u : ReaderView). u.out) is) ∙ o in absurd (false≢true z);
       closed_fits = λ _. subst P (sym is) record { joined = f.joined; ahead = f.ahead; home = refl };
     }
+
+-- where the writer's lane of a reader for row head stands
+pub writer_slot : (g : RingNumbers) (shared own : TableId) (m : Sat) (places head total r : ℕ) → IsWriterSeat g shared own m places head total → slot_for (writer_in m.0) r ≡ lane_place places r head
+writer_slot g shared own m places head total r i = (λ j. lane_place (i.ring j).places r (sym i.head_is j)) ∙ (λ j. lane_place (i.places_is j) r head)
+
+-- the slot that the writer holds once it took it
+pub picked_slot : (m after : Sat) (r slot : ℕ) → m ≡ seated_writer (writer_in m.0) → slot_for (writer_in m.0) r ≡ slot → IsPick r m after → (old : Slot) × (after.1 ≡ (slot, old) ∷ rest after.1)
+picked_slot m after r slot e place t =
+    let held : after.1 ≡ (slot_for (writer_in m.0) r, Some t.lane) ∷ m.1 = ap (λ (a : Sat). a.1) t.seat in
+    let here : after.1 ≡ (slot, Some t.lane) ∷ [] = held ∙ (λ i. (place i, Some t.lane) ∷ (e i).1) in
+    (Some t.lane, here ∙ (λ i. (slot, Some t.lane) ∷ rest (sym here i)))
+
+-- that slot with a buffer in it, after two exchanges
+pub placed_slot : (m one two three : Sat) (r slot : ℕ) (lane : Lane) → m ≡ seated_writer (writer_in m.0) → IsPick r m one → two ≡ (one.0, (slot, None) ∷ rest one.1) → three ≡ (two.0, (slot, Some lane) ∷ rest two.1)
+    → three ≡ (Writer (picked r (writer_in m.0)), (slot, Some lane) ∷ [])
+placed_slot m one two three r slot lane e t f h =
+    let v = picked r (writer_in m.0) in
+    let a : one ≡ (Writer v, (slot_for (writer_in m.0) r, Some t.lane) ∷ []) = t.seat ∙ (λ i. (Writer v, (slot_for (writer_in m.0) r, Some t.lane) ∷ (e i).1)) in
+    let b : two ≡ (Writer v, (slot, None) ∷ []) = f ∙ (λ i. ((a i).0, (slot, None) ∷ rest (a i).1)) in
+    h ∙ (λ i. ((b i).0, (slot, Some lane) ∷ rest (b i).1))
+
+-- Seats that met a note
+
+pub reader_after : (m o mid : Sat) (n : HeadNoteView) → m ≡ seated_reader (reader_in m.0) → o ≡ (HeadNote n, []) → mid ≡ (met m.0 o.0, m.1) → mid ≡ seated_reader (reader_met n (reader_in m.0))
+reader_after m o mid n e f h = h ∙ (λ i. (met (e i).0 (f i).0, (e i).1))
+
+pub writer_after : (m o mid : Sat) (n : CursorNoteView) → m ≡ seated_writer (writer_in m.0) → o ≡ (CursorNote n, []) → mid ≡ (met m.0 o.0, m.1) → mid ≡ seated_writer (writer_met n (writer_in m.0))
+writer_after m o mid n e f h = h ∙ (λ i. (met (e i).0 (f i).0, (e i).1))
+
+pub met_writer_seat : (g : RingNumbers) (shared own last : TableId) (places head total : ℕ) (m mid : Sat) (n : CursorNoteView) → IsWriterSeat g shared own m places head total → last ≡ own → mid ≡ seated_writer (writer_met n (writer_in m.0))
+    → IsWriterSeat g shared last mid places head total
+met_writer_seat g shared own last places head total m mid n i t e =
+    let v = writer_met n (writer_in m.0) in
+    let is : writer_in mid.0 ≡ v = ap (λ (x : Sat). writer_in x.0) e in
+    let count : last.words ≡ own.words = ap (λ (x : TableId). x.words) t in
+    record {
+      table = t ∙ i.table;
+      words = count ∙ i.words;
+      me_is = e ∙ ap seated_writer (sym is);
+      ring = ap (λ (u : WriterView). u.ring) is ∙ i.ring;
+      hand = ap (λ (u : WriterView). u.hand) is ∙ i.hand;
+      some_place = i.some_place;
+      places_is = i.places_is;
+      head_is = i.head_is ∙ sym (ap (λ (u : WriterView). u.head) is);
+      total_is = i.total_is;
+    }
+
+-- what a look behind a note tells of its reader
+pub told_past : (slots r n : ℕ) (m mid after : Sat) (note : CursorNoteView) → mid ≡ seated_writer (writer_met note (writer_in m.0)) → note.number ≡ r → LooksAt (step slots (r + 1) 0 0 none) mid n after → IsPastNote note n
+told_past slots r n m mid after note e number h = (h r refl).told note (ap (λ (x : Sat). (writer_in x.0).told) e) number
+
+-- what a sight behind a note tells
+pub told_head : (slots n : ℕ) (m mid after : Sat) (note : HeadNoteView) → mid ≡ seated_reader (reader_met note (reader_in m.0)) → SeesAt (step slots 0 0 0 none) mid n after → IsPastHead note (reader_in m.0).number n
+told_head slots n m mid after note e h =
+    subst (λ (x : ReaderView). IsPastHead note x.number n) (ap (λ (x : Sat). reader_in x.0) e) (h.told note (ap (λ (x : Sat). (reader_in x.0).told) e))

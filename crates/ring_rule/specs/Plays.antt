@@ -57,6 +57,10 @@ filled_at (Some r) filled = slice_set filled r true
 abbrev pub placed : WriterView → WriterView
 placed w = record w { hand = None; filled = filled_at w.hand w.filled }
 
+-- the writer filled the lane of reader r for the row numbered head
+abbrev pub filled_lane : ℕ → WriterView → WriterView
+filled_lane r w = record w { filled = slice_set w.filled r true }
+
 -- the reader found n in the head's word
 abbrev pub saw_head : ℕ → ReaderView → ReaderView
 saw_head n x = record x { seen = n; loads = x.loads + 1 }

@@ -1,5 +1,5 @@
 // The buffers of a ring: in a slot of the table, and out with a reader.
-ghost use Rattle.std.specs.Prelude.{◌≡◌, ◌<◌, Some};
+ghost use Rattle.std.specs.Prelude.{◌≡◌, ◌<◌, Some, length};
 ghost use Rattle.ring_core.specs.Schedule.{lane_place};
 ghost use Rattle.ring_rule.specs.RowMark.{RowMark};
 
@@ -10,6 +10,25 @@ use std::marker::Model;
 pub struct Lane {
     pub number: Option<u64>,
     pub bytes: Vec<u8>,
+}
+
+impl Lane {
+    /// The buffer with this row's bytes copied into it.
+    pub(crate) fn with_row(self, number: u64, row: &[u8]) -> Lane
+        requires { length self.bytes.items ≡ length row.now }
+        ensures number { result.number ≡ Some number }
+        ensures bytes { result.bytes.items ≡ row.now }
+    {
+        let Lane {
+            number: _,
+            mut bytes,
+        } = self;
+        bytes.as_mut_slice().copy_from_slice(row);
+        Lane {
+            number: Some(number),
+            bytes,
+        }
+    }
 }
 
 /// A row that a reader took out of its lane. It goes back by `ReaderSeat::give`.

@@ -7,6 +7,8 @@ mod cut;
 mod deal;
 mod lane;
 mod laws;
+mod note;
+mod pick;
 mod play;
 mod reader;
 mod rule;
@@ -20,6 +22,7 @@ pub use laws::{
     rule_shows_sound, see_is_event, split_shows_the_same, take_is_open,
 };
 pub use lane::{Lane, LaneRow};
+pub use note::{CursorNoteSeat, HeadNoteSeat};
 pub use reader::ReaderSeat;
 pub use rule::{RingKey, RingRule};
 use rule::{RingSeat, RingShared};

@@ -2,13 +2,14 @@
 ghost use Rattle.std.specs.Prelude.{◌≡◌, ◌+◌, ◌<◌, ◌≤◌, true, false, []};
 ghost use Rattle.ring_rule.specs.Marks.{ReaderMark};
 ghost use Rattle.ring_rule.specs.Kept.{row_at};
-ghost use Rattle.ring_rule.specs.Plays.{reader_in, saw_head, took, gave, went_on, gone, MayTake};
+ghost use Rattle.ring_rule.specs.Plays.{reader_in, saw_head, took, gave, went_on, gone, cursor_note, reader_met, IsPastHead, MayTake};
 ghost use Rattle.ring_rule.specs.Key.{key_ring};
 ghost use Rattle.ring_rule.specs.Seats.{IsReaderSeat};
 
+use crate::cut::{Meeting, Noting};
 use crate::lane::slot_number;
 use crate::play::{Advances, Gives, Leaves, Sees, Takes};
-use crate::{Lane, LaneRow, RingSeat, RingShared};
+use crate::{CursorNoteSeat, HeadNoteSeat, Lane, LaneRow, RingSeat, RingShared};
 use pr_base::Deal;
 use std::marker::Model;
 
@@ -123,5 +124,28 @@ impl<'t, D: Deal> ReaderSeat<'t, D> {
         self.shared
             .store::<Leaves>(&mut self.seat, self.number as usize + 1, u64::MAX);
         self.closed = false;
+    }
+
+    /// Makes a note of how many rows the reader took, and whether it left.
+    pub fn note(&mut self) -> CursorNoteSeat<D>
+        ensures note { result ≡ record { table = self.old.table; note = cursor_note self.old.view } }
+        ensures same { self.new ≡ self.old }
+    {
+        CursorNoteSeat::new(self.shared.split_seat::<Noting>(&mut self.seat), self.number)
+    }
+
+    /// Takes in a note of the writer and loads the head.
+    pub fn meet(&mut self, note: HeadNoteSeat<D>) -> u64
+        requires table { note.table ≡ self.old.table }
+        requires joined { self.old.view.left ≡ false }
+        ensures view { self.new ≡ record self.old { view = saw_head result (reader_met note.note self.old.view) } }
+        ensures grows { self.old.view.seen ≤ result }
+        ensures told { IsPastHead note.note self.old.view.number result }
+    {
+        self.shared
+            .join_seat::<Meeting>(&mut self.seat, note.into_seat());
+        let head = self.shared.load::<Sees>(&mut self.seat, 0);
+        self.seen = head;
+        head
     }
 }

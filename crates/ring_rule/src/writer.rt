@@ -1,14 +1,18 @@
 // The writer's seat at a ring.
 ghost use Rattle.std.specs.Prelude.{◌≡◌, ◌+◌, ◌<◌, [], slice_index};
 ghost use Rattle.ring_rule.specs.Marks.{WriterMark};
-ghost use Rattle.ring_rule.specs.Plays.{writer_in, looked_at, published, IsCursorOf, MayPublish};
+ghost use Rattle.ring_rule.specs.Kept.{row_at};
+ghost use Rattle.ring_rule.specs.Plays.{writer_in, looked_at, published, filled_lane, head_note, writer_met, IsCursorOf, IsPastNote, MayPublish, MayFill};
 ghost use Rattle.ring_rule.specs.Key.{key_ring};
 ghost use Rattle.ring_rule.specs.Seats.{IsWriterSeat};
 
-use crate::play::{Looks, Publishes};
-use crate::{RingSeat, RingShared};
+use crate::cut::{Meeting, Noting};
+use crate::lane::slot_number;
+use crate::pick::pick;
+use crate::play::{Looks, Places, Publishes};
+use crate::{CursorNoteSeat, HeadNoteSeat, RingSeat, RingShared};
 use pr_base::Deal;
-use std::marker::Model;
+use std::marker::{Brand, Model};
 
 /// The seat by which the writer looks at cursors, fills lanes and stores the head. Contracts see its table and its view.
 #[derive(Drop)]
@@ -58,6 +62,24 @@ impl<'t, D: Deal> WriterSeat<'t, D> {
             .load::<Looks>(&mut self.seat, reader as usize + 1)
     }
 
+    /// Fills the lane of a reader with the row numbered head: takes it, copies the bytes, and gives it home.
+    pub fn fill(&mut self, reader: u32, row: &[u8])
+        requires may { MayFill self.old.view reader }
+        requires bytes { row.now ≡ row_at self.old.view.ring self.old.view.head }
+        ensures { self.new ≡ record self.old { view = filled_lane reader self.old.view } }
+    {
+        let slot = slot_number(reader, self.places, self.head);
+        pick::<Brand, D>(self.shared, &mut self.seat, reader, self.places, self.head, self.total);
+        let Some(lane) = self.shared.exchange(&mut self.seat, slot, None) else {
+            unreachable!()
+        };
+        let full = lane.with_row(self.head, row);
+        let None = self.shared.exchange(&mut self.seat, slot, Some(full)) else {
+            unreachable!()
+        };
+        self.shared.load::<Places>(&mut self.seat, 0);
+    }
+
     /// Publishes the row numbered head: stores the head and one more.
     pub fn store_head(&mut self)
         requires { MayPublish self.old.view }
@@ -67,5 +89,27 @@ impl<'t, D: Deal> WriterSeat<'t, D> {
         let head = self.head + 1;
         self.shared.store::<Publishes>(&mut self.seat, 0, head);
         self.head = head;
+    }
+
+    /// Makes a note of what the writer knows.
+    pub fn note(&mut self) -> HeadNoteSeat<D>
+        ensures note { result ≡ record { table = self.old.table; note = head_note self.old.view } }
+        ensures same { self.new ≡ self.old }
+    {
+        HeadNoteSeat::new(self.shared.split_seat::<Noting>(&mut self.seat))
+    }
+
+    /// Takes in the note of a reader and loads that reader's cursor word.
+    pub fn meet(&mut self, note: CursorNoteSeat<D>) -> u64
+        requires { note.table ≡ self.old.table }
+        ensures view { self.new ≡ record self.old { view = looked_at note.note.number result (writer_met note.note self.old.view) } }
+        ensures cursor { IsCursorOf self.old.view note.note.number result }
+        ensures told { IsPastNote note.note result }
+    {
+        let reader = note.number();
+        self.shared
+            .join_seat::<Meeting>(&mut self.seat, note.into_seat());
+        self.shared
+            .load::<Looks>(&mut self.seat, reader as usize + 1)
     }
 }
