@@ -14,3 +14,4 @@ pub mod First
 pub mod WriterCalls
 pub mod ReaderCalls
 pub mod Seated
+pub mod Trial

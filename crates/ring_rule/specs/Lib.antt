@@ -7,4 +7,5 @@ pub mod Marks
 pub mod Key
 pub mod Seats
 pub mod Empty
+pub mod Numbered
 pub mod Laws

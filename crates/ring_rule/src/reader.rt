@@ -93,9 +93,9 @@ impl<'t, D: Deal> ReaderSeat<'t, D> {
         requires bytes { row.bytes ≡ row_at self.old.view.ring self.old.view.taken }
         ensures { self.new ≡ record self.old { view = gave self.old.view; closed = true } }
     {
-        let slot = slot_number(self.number, self.places, self.cursor);
+        let home = slot_number(self.number, self.places, self.cursor);
         let lane = row.into_lane();
-        let None = self.shared.exchange(&mut self.seat, slot, Some(lane)) else {
+        let None = self.shared.exchange(&mut self.seat, home, Some(lane)) else {
             unreachable!()
         };
         self.shared
@@ -144,8 +144,8 @@ impl<'t, D: Deal> ReaderSeat<'t, D> {
     {
         self.shared
             .join_seat::<Meeting>(&mut self.seat, note.into_seat());
-        let head = self.shared.load::<Sees>(&mut self.seat, 0);
-        self.seen = head;
-        head
+        let found = self.shared.load::<Sees>(&mut self.seat, 0);
+        self.seen = found;
+        found
     }
 }

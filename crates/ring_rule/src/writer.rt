@@ -106,10 +106,10 @@ impl<'t, D: Deal> WriterSeat<'t, D> {
         ensures cursor { IsCursorOf self.old.view note.note.number result }
         ensures told { IsPastNote note.note result }
     {
-        let reader = note.number();
+        let number = note.number();
         self.shared
             .join_seat::<Meeting>(&mut self.seat, note.into_seat());
         self.shared
-            .load::<Looks>(&mut self.seat, reader as usize + 1)
+            .load::<Looks>(&mut self.seat, number as usize + 1)
     }
 }

@@ -23,8 +23,8 @@ join_seat-requires g c =
       may_meet_head (key_ring g.D.Deal.rows g.D.Deal.size s.shared.now.key) s.shared.now.table_id.slots s.seat.id s.seat.me (reader_in s.seat.me.0) o.id o.me c.args.note.note i.me_is c.into_seat.ensures.me,
     )
 
-pub load-head-requires : goal.load-head-requires
-load-head-requires g c =
+pub load-found-requires : goal.load-found-requires
+load-found-requires g c =
     let s = c.self.inside in
     let i = c.self.invariant in
     let x = reader_in s.seat.me.0 in
@@ -44,5 +44,5 @@ returns-clause-told g c =
     let s = c.self.inside in
     let i = c.self.invariant in
     let me = reader_after s.seat.me c.into_seat.result.me c.join_seat.new.seat.me c.args.note.note i.me_is c.into_seat.ensures.me c.join_seat.ensures.2 in
-    subst (λ (m : ReaderMark). IsPastHead c.args.note.note m.view.number c.load-head.result) c.self.view_is
-        (told_head s.shared.now.table_id.slots c.load-head.result s.seat.me c.join_seat.new.seat.me c.load-head.new.seat.me c.args.note.note me c.load-head.ensures.2)
+    subst (λ (m : ReaderMark). IsPastHead c.args.note.note m.view.number c.load-found.result) c.self.view_is
+        (told_head s.shared.now.table_id.slots c.load-found.result s.seat.me c.join_seat.new.seat.me c.load-found.new.seat.me c.args.note.note me c.load-found.ensures.2)

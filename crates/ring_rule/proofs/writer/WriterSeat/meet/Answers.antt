@@ -34,13 +34,13 @@ load-requires g c =
     let count = i.words in
     let own : c.args.note.table ≡ s.seat.table_id = subst (λ (m : WriterMark). c.args.note.table ≡ m.table) (sym c.self.view_is) c.requires in
     let same : c.args.note.table.words ≡ s.seat.table_id.words = ap (λ (t : TableId). t.words) own in
-    let word = c.number-reader.ensures.word in
-    let in_range : c.number-reader.result < ring.readers = omega arith in
+    let word = c.number-number.ensures.word in
+    let in_range : c.number-number.result < ring.readers = omega arith in
     let me = writer_after s.seat.me c.into_seat.result.me c.join_seat.new.seat.me c.args.note.note i.me_is c.into_seat.ensures.me c.join_seat.ensures.2 in
     (
       table,
       omega arith,
-      may_look ring s.shared.now.table_id.slots c.join_seat.new.seat.id c.join_seat.new.seat.me (writer_met c.args.note.note w) me c.number-reader.result in_range i.hand,
+      may_look ring s.shared.now.table_id.slots c.join_seat.new.seat.id c.join_seat.new.seat.me (writer_met c.args.note.note w) me c.number-number.result in_range i.hand,
     )
 
 pub invariant_of-self : goal.invariant_of-self
@@ -52,7 +52,7 @@ invariant_of-self g c =
     let mid = c.join_seat.new.seat in
     let me = writer_after s.seat.me c.into_seat.result.me mid.me c.args.note.note i.me_is c.into_seat.ensures.me c.join_seat.ensures.2 in
     let seat = met_writer_seat ring shared s.seat.table_id mid.table_id s.places s.head s.total s.seat.me mid.me c.args.note.note i c.join_seat.ensures.0 me in
-    looked_seat ring shared mid.table_id c.load.new.seat.table_id shared.slots c.number-reader.result c.load.result s.places s.head s.total mid.me c.load.new.seat.me seat c.load.ensures.0 c.load.ensures.2
+    looked_seat ring shared mid.table_id c.load.new.seat.table_id shared.slots c.number-number.result c.load.result s.places s.head s.total mid.me c.load.new.seat.me seat c.load.ensures.0 c.load.ensures.2
 
 pub returns-clause-told : goal.returns-clause-told
 returns-clause-told g c =
@@ -60,4 +60,4 @@ returns-clause-told g c =
     let i = c.self.invariant in
     let mid = c.join_seat.new.seat in
     let me = writer_after s.seat.me c.into_seat.result.me mid.me c.args.note.note i.me_is c.into_seat.ensures.me c.join_seat.ensures.2 in
-    told_past s.shared.now.table_id.slots c.number-reader.result c.load.result s.seat.me mid.me c.load.new.seat.me c.args.note.note me (sym c.number-reader.ensures.number) c.load.ensures.2
+    told_past s.shared.now.table_id.slots c.number-number.result c.load.result s.seat.me mid.me c.load.new.seat.me c.args.note.note me (sym c.number-number.ensures.number) c.load.ensures.2
