@@ -1,13 +1,12 @@
 -- The table's first state keeps the rule and shows the core's start.
-use Rattle.std.proofs.Common.{◌≡◌, ◌≢◌, ℕ, zero, suc, ◌+◌, ◌*◌, ◌<◌, ◌≤◌, Bool, true, false, List, [], ◌∷◌, map, length, replicate, get_or, sym, refl, ap, ◌∙◌, subst, arith}
-use Rattle.std.specs.Prelude.{Option, Some, None}
-use Rattle.std.specs.List.{All}
+use Rattle.std.proofs.Common.{◌≡◌, ◌≢◌, ℕ, zero, suc, ◌+◌, ◌<◌, ◌≤◌, false, List, [], ◌∷◌, map, length, replicate, get_or, sym, refl, ap, ◌∙◌, subst, arith}
+use Rattle.std.specs.Prelude.{Some, None}
 use Rattle.std.proofs.lemmas.List.{get_or-replicate, length-replicate, length-map, get_or-map}
-use mathlib.Core.Option.{Option as AtHome, none, some, some-injective, some-ne-none}
+use mathlib.Core.Option.{none, some, some-injective, some-ne-none}
 use lib.ListN.{get_elem?}
 use Rattle.atomic_table.specs.Table.{opening}
-use Rattle.ring_core.specs.declared.event.Stage.TheVariants.{Idle, Holding}
-use Rattle.ring_core.specs.Schedule.{Progress, Lanes, lane_place, start}
+use Rattle.ring_core.specs.declared.event.Stage.TheVariants.{Idle}
+use Rattle.ring_core.specs.Schedule.{lane_place}
 use Rattle.ring_core.specs.Sound.{IsSoundProgress, IsSoundLanes}
 use Rattle.ring_core.specs.Plain.{schedule_of}
 use Rattle.ring_core.proofs.Made.{made_same, start_made}
@@ -15,15 +14,11 @@ use Rattle.ring_core.proofs.Readers.{fresh_progress, fresh_lanes, lane_in}
 use Rattle.ring_core.proofs.Whole.{fresh_progress_sound, fresh_lanes_sound}
 use Rattle.ring_rule.specs.declared.lane.Lane.{Lane}
 use Rattle.ring_rule.specs.declared.view.RingNumbers.{RingNumbers}
-use Rattle.ring_rule.specs.declared.view.ReaderView.{ReaderView}
-use Rattle.ring_rule.specs.declared.view.HeadNoteView.{HeadNoteView}
-use Rattle.ring_rule.specs.declared.view.CursorNoteView.{CursorNoteView}
 use Rattle.ring_rule.specs.declared.view.View.{View}
 use Rattle.ring_rule.specs.declared.view.View.TheVariants.{Writer, Reader, HeadNote, CursorNote}
-use Rattle.ring_rule.specs.Views.{left_word, cursor_in, new_writer, new_reader, actor_of}
-use Rattle.ring_rule.specs.Shown.{Slot, Homes, home_at, number_in, head_shown, shown, counted, row_shown, lanes_known, schedule_shown}
-use Rattle.ring_rule.specs.Kept.{Alone, LaneIs, Kept}
-use Rattle.ring_rule.specs.Empty.{IsEmptyLane}
+use Rattle.ring_rule.specs.Views.{cursor_in, new_writer, new_reader}
+use Rattle.ring_rule.specs.Shown.{Slot, Homes, home_at, number_in, head_shown, shown, counted, row_shown, lanes_known}
+use Rattle.ring_rule.specs.Kept.{Alone, Kept}
 use Rattle.ring_rule.specs.Laws.{IsFirst, StartsAt}
 use Rattle.ring_rule.proofs.Schedules.{table_shows}
 

@@ -1,25 +1,25 @@
 -- What the rule says of lanes, brought to where it is used: numbers at home, the readers' stages, and what the plain reading leaves.
-use Rattle.std.proofs.Common.{◌≡◌, ◌≢◌, ℕ, ◌+◌, ◌*◌, ◌%◌, ◌<◌, ◌≤◌, ◌⊎◌, Bool, true, false, cond, ◌&&◌, ◌||◌, List, [], ◌∷◌, length, get_or, set, sym, refl, ap, ◌∙◌, subst, inl, inr, arith}
-use Rattle.std.specs.Prelude.{Option, Some, None, nat_lt, nat_eq}
-use Rattle.std.proofs.lemmas.Bool.{cases_eq, cases_lt, cases_Bool, lt-ltb, le-ltb, eq-eqb, ne_eqb, false≢true, and_parts}
-use mathlib.Core.Option.{Option as AtHome, none, some, some-injective, some-ne-none}
+use Rattle.std.proofs.Common.{◌≡◌, ◌≢◌, ℕ, ◌%◌, ◌<◌, ◌≤◌, Bool, true, false, cond, ◌&&◌, ◌||◌, List, length, get_or, sym, refl, ap, ◌∙◌, subst, inl, inr, arith}
+use Rattle.std.specs.Prelude.{Option, Some, None, nat_eq}
+use Rattle.std.proofs.lemmas.Bool.{cases_eq, cases_lt, cases_Bool, lt-ltb, le-ltb, eq-eqb, ne_eqb, false≢true}
+use mathlib.Core.Option.{Option as AtHome, none, some}
 use Rattle.ring_core.specs.declared.event.Stage.{Stage}
-use Rattle.ring_core.specs.declared.event.Stage.TheVariants.{Idle, Holding, Closed}
+use Rattle.ring_core.specs.declared.event.Stage.TheVariants.{Idle, Holding}
 use Rattle.ring_core.specs.Schedule.{Progress, Lanes, lane_place}
 use Rattle.ring_core.specs.Sound.{IsSoundProgress, IsSoundLanes}
 use Rattle.ring_core.specs.Plain.{plain_stage, from_low, first_row, plain_lanes}
-use Rattle.ring_core.proofs.Places.{one_turn, apart}
+use Rattle.ring_core.proofs.Places.{apart}
 use Rattle.ring_core.proofs.Readers.{lane_in}
-use Rattle.ring_core.proofs.Lower.{plain_keeps, from_low_is}
+use Rattle.ring_core.proofs.Lower.{plain_keeps}
 use Rattle.ring_rule.specs.declared.lane.Lane.{Lane}
 use Rattle.ring_rule.specs.declared.view.RingNumbers.{RingNumbers}
 use Rattle.ring_rule.specs.declared.view.WriterView.{WriterView}
 use Rattle.ring_rule.specs.declared.view.ReaderView.{ReaderView}
 use Rattle.ring_rule.specs.Views.{cursor_in}
-use Rattle.ring_rule.specs.Shown.{Slot, Homes, home_at, number_in, is_out, head_shown, cursor_shown, shown, only, counted, row_shown, is_number, stage_shown, lanes_shown, lanes_known}
-use Rattle.ring_rule.specs.Kept.{Holds, Fits, is_held, is_handed, is_away, LaneIs, HandFits, OutFits, HoldsLanes}
+use Rattle.ring_rule.specs.Shown.{Slot, Homes, home_at, number_in, is_out, head_shown, cursor_shown, shown, counted, row_shown, is_number, stage_shown, lanes_shown, lanes_known}
+use Rattle.ring_rule.specs.Kept.{Holds, Fits, is_handed, is_away, LaneIs, HoldsLanes}
 use Rattle.ring_rule.proofs.Numbers.{length_up, or_true, and_false}
-use Rattle.ring_rule.proofs.Slots.{counted_plain, stage_plain, shown_by_place}
+use Rattle.ring_rule.proofs.Slots.{counted_plain, stage_plain}
 
 -- a lane's slot is among the slots
 pub slot_in : (g : RingNumbers) (words : List ℕ) (homes : Homes) (w : WriterView) (readers : ℕ → ReaderView) (r n : ℕ) → Holds g words w readers → HoldsLanes g words homes w readers → r < g.readers
@@ -106,17 +106,17 @@ module _ (g : RingNumbers) (words : List ℕ) (homes : Homes) (w : WriterView) (
       let out : ℕ → Bool = λ n. is_out (home_at homes (lane_place g.places r n)) in
       let filled = same_filled head (row_shown g.places words homes r head) (get_or w.filled r false) s.fresh (s.newest head) in
       let held : (c : ℕ) → cursor_shown words r ≡ Some c → (readers r).out ≡ true → (c < head) × (out c ≡ true) = λ c e o. (
-        let stage : stage_by (readers r) ≡ Holding = ap (λ b. cond b Holding Idle) o in
-        let ahead = s.holding_ahead c e stage in
-        let seen = p.seen_in in
-        let count : length (shown words w readers r).taken ≡ c = p.counted c e in
-        let taken : (readers r).taken ≡ c = sym (length_up (readers r).taken) ∙ count in
-        let away : is_away g.places w readers r c ≡ true =
-            (λ i. is_handed g.places w r c || (o i && eq-eqb (c % g.places) ((readers r).taken % g.places) (ap (λ k. k % g.places) (sym taken)) i)) ∙ or_true (is_handed g.places w r c) in
-        (omega arith, ap is_out (gone_out g head (home_at homes (lane_place g.places r c)) (is_away g.places w readers r c) away (m.lane_is r c l)))) in
+      let stage : stage_by (readers r) ≡ Holding = ap (λ b. cond b Holding Idle) o in
+      let ahead = s.holding_ahead c e stage in
+      let seen = p.seen_in in
+      let count : length (shown words w readers r).taken ≡ c = p.counted c e in
+      let taken : (readers r).taken ≡ c = sym (length_up (readers r).taken) ∙ count in
+      let away : is_away g.places w readers r c ≡ true =
+      (λ i. is_handed g.places w r c || (o i && eq-eqb (c % g.places) ((readers r).taken % g.places) (ap (λ k. k % g.places) (sym taken)) i)) ∙ or_true (is_handed g.places w r c) in
+      (omega arith, ap is_out (gone_out g head (home_at homes (lane_place g.places r c)) (is_away g.places w readers r c) away (m.lane_is r c l)))) in
       let home : (c : ℕ) → cursor_shown words r ≡ Some c → (readers r).out ≡ false → c < head → out c ≡ false = λ c e o below. (
-        let lies : row_shown g.places words homes r c ≡ Some c = s.lies c c e (omega arith) below (λ st. absurd (let b : stage_by (readers r) ≡ Holding = st in let i = idle_stage (readers r) o in let f : Holding ≡ Idle = sym b ∙ i in cc)) in
-        out_shows (home_at homes (lane_place g.places r c)) head c (cursor_shown words r) lies) in
+      let lies : row_shown g.places words homes r c ≡ Some c = s.lies c c e (omega arith) below (λ st. absurd (let b : stage_by (readers r) ≡ Holding = st in let i = idle_stage (readers r) o in let f : Holding ≡ Idle = sym b ∙ i in cc)) in
+      out_shows (home_at homes (lane_place g.places r c)) head c (cursor_shown words r) lies) in
       let stage = same_stage head (cursor_shown words r) out (readers r).out held home (left_home r l) in
       λ i. record { filled = filled i; stage = stage i; row = row_shown g.places words homes r }
 

@@ -1,22 +1,19 @@
 -- What each call of a reader asks of the table: the step keeps the rule and tells what its play says.
-use Rattle.std.proofs.Common.{◌≡◌, ◌≢◌, ℕ, ◌+◌, ◌<◌, ◌≤◌, Bool, true, false, List, [], ◌∷◌, length, get_or, set, sym, refl, ap, ◌∙◌, subst, inl, inr, arith}
-use Rattle.std.specs.Prelude.{Option, Some, None}
+use Rattle.std.proofs.Common.{◌≡◌, ℕ, ◌+◌, ◌<◌, true, false, List, [], ◌∷◌, length, get_or, set, sym, refl, ap, ◌∙◌, subst, arith}
+use Rattle.std.specs.Prelude.{Some}
 use Rattle.std.proofs.lemmas.Bool.{false≢true}
 use mathlib.Core.Option.{none, some}
-use lib.ListN.{get_elem?}
 use Rattle.atomic_table.specs.Table.{step, keeps, takes, gives, Allows, Splits, Joins}
 use Rattle.atomic_table.proofs.Lists.{set_else}
 use Rattle.ring_rule.specs.declared.lane.Lane.{Lane}
 use Rattle.ring_rule.specs.declared.view.RingNumbers.{RingNumbers}
 use Rattle.ring_rule.specs.declared.view.ReaderView.{ReaderView}
 use Rattle.ring_rule.specs.declared.view.HeadNoteView.{HeadNoteView}
-use Rattle.ring_rule.specs.declared.view.View.{View}
 use Rattle.ring_rule.specs.declared.view.View.TheVariants.{Reader, HeadNote, Spent}
 use Rattle.ring_rule.specs.Views.{left_word, writer_of, reader_of}
-use Rattle.ring_rule.specs.Shown.{Slot, RingState, head_shown}
-use Rattle.ring_rule.specs.Kept.{row_at, Fits, OutFits, Kept}
-use Rattle.ring_rule.specs.Plays.{Sat, slot_of, saw_head, took, gave, went_on, gone, IsPastHead, MayTake, IsSight, IsTake, SeesAt, TakesAt, GivesAt, AdvancesAt, LeavesAt, noted, met}
-use Rattle.ring_rule.specs.Laws.{Has}
+use Rattle.ring_rule.specs.Shown.{Slot}
+use Rattle.ring_rule.specs.Kept.{row_at, Fits, Kept}
+use Rattle.ring_rule.specs.Plays.{slot_of, saw_head, took, gave, went_on, gone, MayTake, SeesAt, TakesAt, GivesAt, AdvancesAt, LeavesAt, noted, met}
 use Rattle.ring_rule.proofs.ReaderLanes
 use Rattle.ring_rule.proofs.Tables.{reader_is, reader_in_range, reader_ring_is}
 use Rattle.ring_rule.proofs.ReaderEvents

@@ -1,27 +1,25 @@
 -- Each kind of step of a reader keeps the rule and is an event.
-use Rattle.std.proofs.Common.{◌≡◌, ◌≢◌, ℕ, ◌+◌, ◌*◌, ◌%◌, ◌<◌, ◌≤◌, Bool, true, false, List, [], ◌∷◌, length, get_or, set, sym, refl, ap, ◌∙◌, subst, inl, inr, arith, get_or-set_other}
-use Rattle.std.specs.Prelude.{Option, Some, None, is_some, nat_eq, if◌then◌else◌}
+use Rattle.std.proofs.Common.{◌≡◌, ◌≢◌, ℕ, ◌+◌, ◌<◌, ◌≤◌, true, false, List, [], ◌∷◌, get_or, set, sym, refl, ap, ◌∙◌, subst, arith, get_or-set_other}
+use Rattle.std.specs.Prelude.{Some, is_some, nat_eq, if◌then◌else◌}
 use Rattle.std.proofs.lemmas.List.{set-get_or}
-use mathlib.Core.Option.{Option as AtHome, none, some}
+use mathlib.Core.Option.{none, some}
 use lib.ListN.{get_elem?}
-use Rattle.atomic_table.specs.Table.{keeps, takes, gives, stepped}
+use Rattle.atomic_table.specs.Table.{keeps, gives, stepped}
 use Rattle.ring_core.specs.declared.event.Event.TheVariants.{See, Open, Close, Advance, Leave}
 use Rattle.ring_core.specs.Schedule.{Progress, Lanes, lane_place}
 use Rattle.ring_core.specs.Events.{after, can_open, can_close, can_advance, can_leave, advanced, departed, opened, closed, settled}
 use Rattle.ring_core.specs.Plain.{from_low, plain_lanes, read_closed}
 use Rattle.ring_core.proofs.Lower.{unsettled, from_low_is}
-use Rattle.ring_core.proofs.Made.{IsMade}
 use Rattle.ring_core.proofs.Whole.{each_by}
 use Rattle.ring_core.proofs.After
 use Rattle.ring_rule.specs.declared.lane.Lane.{Lane}
 use Rattle.ring_rule.specs.declared.view.RingNumbers.{RingNumbers}
-use Rattle.ring_rule.specs.declared.view.WriterView.{WriterView}
 use Rattle.ring_rule.specs.declared.view.ReaderView.{ReaderView}
 use Rattle.ring_rule.specs.declared.view.HeadNoteView.{HeadNoteView}
 use Rattle.ring_rule.specs.declared.view.View.TheVariants.{Reader}
-use Rattle.ring_rule.specs.Views.{left_word, cursor_in, writer_of, reader_of, put_reader}
-use Rattle.ring_rule.specs.Shown.{Slot, Homes, RingState, home_at, number_in, head_shown, cursor_shown, shown, counted, lanes_known, schedule_shown}
-use Rattle.ring_rule.specs.Kept.{Fits, Kept, Holds, HoldsLanes, IsTrueHead}
+use Rattle.ring_rule.specs.Views.{left_word, writer_of, reader_of, put_reader}
+use Rattle.ring_rule.specs.Shown.{Homes, RingState, number_in, head_shown, shown, counted, lanes_known, schedule_shown}
+use Rattle.ring_rule.specs.Kept.{Fits, Kept, Holds, IsTrueHead}
 use Rattle.ring_rule.specs.Plays.{slot_of, saw_head, took, gave, went_on, gone, MayTake}
 use Rattle.ring_rule.specs.Laws.{IsEvent, IsEventFrom, Has, TakeOpens}
 use Rattle.ring_rule.proofs.Moves
@@ -74,7 +72,7 @@ module _ (g : RingNumbers) (s : RingState) (id : ℕ) (x : ReaderView) (k : Kept
       let lanes = lanes_known g.places s.words s.homes w readers in
       let made = before_made g s w k refl in
       let kept = by_reader g s id x y s.words s.homes k at refl (omega arith) (λ e. e) told_here
-          (Moves.see_holds g s.words w readers x k.holds is_here in_range) (ReaderLanes.see_keeps g s.words s.homes w readers k.holds k.lanes x is_here in_range) in
+      (Moves.see_holds g s.words w readers x k.holds is_here in_range) (ReaderLanes.see_keeps g s.words s.homes w readers k.holds k.lanes x is_here in_range) in
       let cursor = Moves.joined_shown g s.words w readers x k.holds is_here in_range joined in
       record {
         kept = kept;
@@ -144,8 +142,7 @@ module _ (g : RingNumbers) (s : RingState) (id : ℕ) (x : ReaderView) (k : Kept
       let here = slot_in g s.words s.homes w readers x.number x.taken k.holds k.lanes in_range in
       let lies = ReaderLanes.take_shows g s.words s.homes w readers k.holds k.lanes x is_here in_range may in
       let cursor = Moves.joined_shown g s.words w readers x k.holds is_here in_range may.joined in
-      let counts : from_low x.taken home.0.number ≡ Some x.taken = (λ i. counted head (sym cursor i) (number_in (sym home.1 i))) ∙ lies in
-      (
+      let counts : from_low x.taken home.0.number ≡ Some x.taken = (λ i. counted head (sym cursor i) (number_in (sym home.1 i))) ∙ lies in (
         home.0,
         subst (λ i. get_elem? s.homes i ≡ some (some (Some home.0))) (sym slot_is) (found_at s.homes (lane_place g.places x.number x.taken) none (some (Some home.0)) here home.1),
         home.2,
@@ -181,7 +178,7 @@ module _ (g : RingNumbers) (s : RingState) (id : ℕ) (x : ReaderView) (k : Kept
       let f = ReaderLanes.out_here g s.words s.homes w readers k.holds k.lanes x is_here in_range out in
       let below : c ≤ head = let a = f.ahead in let b = (k.holds.sound.each r in_range).seen_in in let d : (readers r).seen ≡ x.seen = ap (λ (z : ReaderView). z.seen) is_here in omega arith in
       let kept = by_reader g s id x y s.words hs k at refl (omega arith) (λ i. i) told_here (same_words y e)
-          (ReaderLanes.give_keeps g s.words s.homes w readers k.holds k.lanes x is_here in_range lane out number (fits_later g c head lane below fits)) in
+      (ReaderLanes.give_keeps g s.words s.homes w readers k.holds k.lanes x is_here in_range lane out number (fits_later g c head lane below fits)) in
       let cursor = Moves.joined_shown g s.words w readers x k.holds is_here in_range f.joined in
       let can = (λ i. can_close (shown_was i) (lanes_was i)) ∙ ReaderLanes.give_possible g s.words s.homes w readers k.holds k.lanes x is_here in_range out in
       let effect : ℕ → Lanes = λ q. if nat_eq q r then closed g.places c (lanes r) else lanes q in
@@ -195,8 +192,8 @@ module _ (g : RingNumbers) (s : RingState) (id : ℕ) (x : ReaderView) (k : Kept
             (After.close_made (schedule_shown g s) g.places g.total head g.readers p lanes made r c effect in_range cursor here there)
             refl (λ j _. same_progress y j e)
             (λ j l. lanes_plain g.places s.words hs w (put_reader y readers j) j (p j) refl ∙ each_by g.readers r (λ q. plain_lanes head (p q) (later q) ≡ plain_lanes head (p q) (effect q))
-                (ap (plain_lanes head (p r)) own ∙ ap (plain_lanes head (p r)) (sym here))
-                (λ q i o. ap (plain_lanes head (p q)) (lanes_others s.words hs y q refl o ∙ (ReaderLanes.lanes_else g s.words s.homes w readers k.holds k.lanes x is_here in_range (some (Some lane)) c q (readers q) o ∙ sym (there q i o)))) j l);
+            (ap (plain_lanes head (p r)) own ∙ ap (plain_lanes head (p r)) (sym here))
+            (λ q i o. ap (plain_lanes head (p q)) (lanes_others s.words hs y q refl o ∙ (ReaderLanes.lanes_else g s.words s.homes w readers k.holds k.lanes x is_here in_range (some (Some lane)) c q (readers q) o ∙ sym (there q i o)))) j l);
       }
 
   pub give_event : (lane : Lane) → x.out ≡ true → lane.number ≡ Some x.taken → Fits g x.taken lane
@@ -244,7 +241,7 @@ module _ (g : RingNumbers) (s : RingState) (id : ℕ) (x : ReaderView) (k : Kept
       let lanes = lanes_known g.places s.words s.homes w readers in
       let made = before_made g s w k refl in
       let kept = by_reader g s id x y ws s.homes k at refl (omega arith) (λ f. f) told_here (Moves.advance_holds g s.words w readers x k.holds is_here in_range may.joined may.ahead)
-          (ReaderLanes.advance_keeps g s.words s.homes w readers k.holds k.lanes x is_here in_range may) in
+      (ReaderLanes.advance_keeps g s.words s.homes w readers k.holds k.lanes x is_here in_range may) in
       let cursor = Moves.joined_shown g s.words w readers x k.holds is_here in_range may.joined in
       let shut : ℕ → Lanes = λ j. if nat_eq j r then unsettled (lanes r) else lanes j in
       let shut_here : shut r ≡ unsettled (lanes r) = pick_same r r (unsettled (lanes r)) (lanes r) refl in
@@ -257,8 +254,8 @@ module _ (g : RingNumbers) (s : RingState) (id : ℕ) (x : ReaderView) (k : Kept
       let can = (λ i. can_advance (shown_was i) ((shut_here ∙ ap unsettled lanes_was) i)) ∙ ReaderLanes.advance_possible g s.words s.homes w readers k.holds k.lanes x is_here in_range may in
       let own : q r ≡ advanced c (p r) = Moves.advance_own g s.words w readers x k.holds is_here in_range may.ahead in
       let own_lanes : lanes_known g.places ws s.homes w (put_reader y readers) r ≡ plain_lanes head (q r) (done r) =
-          lanes_own ws s.homes y refl ∙ (ReaderLanes.advance_lanes_are g s.words s.homes w readers k.holds k.lanes x is_here in_range may
-          ∙ (λ i. plain_lanes head ((ap (advanced c) (sym shown_was) ∙ sym own) i) ((ap (λ z. settled (unsettled z)) (sym lanes_was) ∙ (ap settled (sym shut_here) ∙ sym done_here)) i))) in
+      lanes_own ws s.homes y refl ∙ (ReaderLanes.advance_lanes_are g s.words s.homes w readers k.holds k.lanes x is_here in_range may
+      ∙ (λ i. plain_lanes head ((ap (advanced c) (sym shown_was) ∙ sym own) i) ((ap (λ z. settled (unsettled z)) (sym lanes_was) ∙ (ap settled (sym shut_here) ∙ sym done_here)) i))) in
       record {
         kept = kept;
         can = After.advance_can start g.places g.total head g.readers p shut start_made r in_range can;
@@ -266,7 +263,7 @@ module _ (g : RingNumbers) (s : RingState) (id : ℕ) (x : ReaderView) (k : Kept
             (After.advance_made start g.places g.total head g.readers p shut start_made r c q done in_range cursor own (λ j _ o. word_others y (c + 1) j refl o) done_here done_there)
             (head_stays (c + 1)) (λ j _. refl)
             (λ j l. each_by g.readers r (λ i. lanes_known g.places ws s.homes w (put_reader y readers) i ≡ plain_lanes head (q i) (done i)) own_lanes
-                (λ i h o. word_lanes_others y (c + 1) i refl o ∙ ap (plain_lanes head (q i)) (sym (done_there i h o ∙ shut_there i h o))) j l);
+            (λ i h o. word_lanes_others y (c + 1) i refl o ∙ ap (plain_lanes head (q i)) (sym (done_there i h o ∙ shut_there i h o))) j l);
       }
 
   -- Leave
@@ -285,12 +282,12 @@ module _ (g : RingNumbers) (s : RingState) (id : ℕ) (x : ReaderView) (k : Kept
       let lanes = lanes_known g.places s.words s.homes w readers in
       let made = before_made g s w k refl in
       let kept = by_reader g s id x y ws s.homes k at refl (omega arith) (λ f. refl) told_here (Moves.leave_holds g s.words w readers x k.holds is_here in_range joined)
-          (ReaderLanes.leave_keeps g s.words s.homes w readers k.holds k.lanes x is_here in_range joined home) in
+      (ReaderLanes.leave_keeps g s.words s.homes w readers k.holds k.lanes x is_here in_range joined home) in
       let can = (λ i. can_leave (shown_was i) (lanes_was i)) ∙ ReaderLanes.leave_possible g s.words s.homes w readers k.holds k.lanes x is_here in_range joined home in
       let own : q r ≡ departed (p r) = Moves.leave_own g s.words w readers x k.holds is_here in_range in
       let own_lanes : lanes_known g.places ws s.homes w (put_reader y readers) r ≡ plain_lanes head (q r) (lanes r) =
-          lanes_own ws s.homes y refl ∙ (ReaderLanes.leave_lanes_are g s.words s.homes w readers k.holds k.lanes x is_here in_range joined home
-          ∙ (λ i. plain_lanes head ((ap departed (sym shown_was) ∙ sym own) i) (sym lanes_was i))) in
+      lanes_own ws s.homes y refl ∙ (ReaderLanes.leave_lanes_are g s.words s.homes w readers k.holds k.lanes x is_here in_range joined home
+      ∙ (λ i. plain_lanes head ((ap departed (sym shown_was) ∙ sym own) i) (sym lanes_was i))) in
       record {
         kept = kept;
         can = After.leave_can (schedule_shown g s) g.places g.total head g.readers p lanes made r in_range can;
@@ -298,5 +295,5 @@ module _ (g : RingNumbers) (s : RingState) (id : ℕ) (x : ReaderView) (k : Kept
             (After.leave_made (schedule_shown g s) g.places g.total head g.readers p lanes made r q in_range own (λ j _ o. word_others y left_word j refl o))
             (head_stays left_word) (λ j _. refl)
             (λ j l. each_by g.readers r (λ i. lanes_known g.places ws s.homes w (put_reader y readers) i ≡ plain_lanes head (q i) (lanes i)) own_lanes
-                (λ i h o. word_lanes_others y left_word i refl o) j l);
+            (λ i h o. word_lanes_others y left_word i refl o) j l);
       }

@@ -1,13 +1,12 @@
 -- A reader's steps, over slots: what the lanes show afterwards, and that slots and views still fit. What holds of the reader by its new
 -- view, and of each other reader by the old one, holds of each.
-use Rattle.std.proofs.Common.{◌≡◌, ◌≢◌, ℕ, ◌+◌, ◌*◌, ◌%◌, ◌<◌, ◌≤◌, ◌⊎◌, Bool, true, false, cond, ◌&&◌, ◌||◌, List, [], ◌∷◌, length, get_or, set, sym, refl, ap, ◌∙◌, subst, inl, inr, arith, get_or-set_same, get_or-set_other, length-set}
+use Rattle.std.proofs.Common.{◌≡◌, ◌≢◌, ℕ, ◌+◌, ◌%◌, ◌<◌, ◌≤◌, true, false, cond, ◌&&◌, ◌||◌, List, length, get_or, set, sym, refl, ap, ◌∙◌, subst, inl, inr, arith, get_or-set_other, length-set}
 use Rattle.std.specs.Prelude.{Option, Some, None, is_some, nat_eq}
 use Rattle.std.proofs.lemmas.Bool.{cases_eq, eq-eqb, ne_eqb, lt-ltb}
 use mathlib.Core.Option.{Option as AtHome, none, some}
-use Rattle.ring_core.specs.declared.event.Stage.{Stage}
-use Rattle.ring_core.specs.declared.event.Stage.TheVariants.{Idle, Holding, Closed}
-use Rattle.ring_core.specs.Schedule.{Progress, Lanes, lane_place}
-use Rattle.ring_core.specs.Events.{is_below, is_idle, is_holding, is_closed, can_open, can_close, can_advance, can_leave, put_row, saw, advanced, departed, opened, closed, settled}
+use Rattle.ring_core.specs.declared.event.Stage.TheVariants.{Idle, Holding}
+use Rattle.ring_core.specs.Schedule.{Progress, lane_place}
+use Rattle.ring_core.specs.Events.{is_below, is_idle, is_holding, can_open, can_close, can_advance, can_leave, advanced, departed, opened, closed, settled}
 use Rattle.ring_core.specs.Sound.{IsSoundProgress, IsSoundLanes}
 use Rattle.ring_core.specs.Plain.{from_low, plain_lanes}
 use Rattle.ring_core.proofs.Keeps.{see_lanes, open_lanes, close_lanes, advance_lanes, advance_progress, leave_lanes, leave_progress}
@@ -17,14 +16,14 @@ use Rattle.ring_rule.specs.declared.view.RingNumbers.{RingNumbers}
 use Rattle.ring_rule.specs.declared.view.WriterView.{WriterView}
 use Rattle.ring_rule.specs.declared.view.ReaderView.{ReaderView}
 use Rattle.ring_rule.specs.Views.{left_word, cursor_in, up_to, put_reader}
-use Rattle.ring_rule.specs.Shown.{Slot, Homes, home_at, number_in, head_shown, cursor_shown, shown, counted, row_shown, is_number, lanes_known}
+use Rattle.ring_rule.specs.Shown.{Slot, Homes, home_at, number_in, head_shown, cursor_shown, shown, counted, row_shown, is_number}
 use Rattle.ring_rule.specs.Kept.{Holds, Fits, is_held, is_handed, is_away, LaneIs, OutFits, HoldsLanes}
 use Rattle.ring_rule.specs.Plays.{saw_head, took, gave, went_on, gone, MayTake}
-use Rattle.ring_rule.proofs.Numbers.{or_true, or_false, and_false}
+use Rattle.ring_rule.proofs.Numbers.{or_true, and_false}
 use Rattle.ring_rule.proofs.Moves
 use Rattle.ring_rule.proofs.Moves.{put_each, shown_by}
-use Rattle.ring_rule.proofs.Slots.{IsOneLane, cases_lane, home_same, home_else, home_apart, counted_here, counted_none, counted_on, counted_left, stage_plain, row_put}
-use Rattle.ring_rule.proofs.Hold.{slot_in, number_in_head, at_home, gone_out, stage_by, lanes_by, lanes_plain, sound_by, not_handed}
+use Rattle.ring_rule.proofs.Slots.{home_same, home_else, home_apart, counted_here, counted_none, counted_on, counted_left, stage_plain, row_put}
+use Rattle.ring_rule.proofs.Hold.{slot_in, number_in_head, at_home, stage_by, lanes_by, lanes_plain, sound_by, not_handed}
 
 module _ (g : RingNumbers) (words : List ℕ) (homes : Homes) (w : WriterView) (readers : ℕ → ReaderView) (h : Holds g words w readers) (m : HoldsLanes g words homes w readers)
     (x : ReaderView) (is : readers x.number ≡ x) (l : x.number < g.readers) where
@@ -87,7 +86,7 @@ module _ (g : RingNumbers) (words : List ℕ) (homes : Homes) (w : WriterView) (
             (λ q o. m.lane_is q n) q;
         sound = put_each readers y (λ q z. q < g.readers → IsSoundLanes g.places g.total head (shown_by words w z q) (lanes_by g.places words homes w z q)) r number
             (λ k. subst (λ t. t) (λ i. IsSoundLanes g.places g.total head record { known = cursor_in (get_or w.known r 0); cursor = cursor_shown words r; seen = sym seen i; taken = up_to (sym taken i) }
-                record { filled = get_or w.filled r false; stage = cond (sym out i) Holding Idle; row = row_shown g.places words homes r }) sound_here)
+            record { filled = get_or w.filled r false; stage = cond (sym out i) Holding Idle; row = row_shown g.places words homes r }) sound_here)
             (λ q o. m.sound q);
       }
 
@@ -155,7 +154,7 @@ module _ (g : RingNumbers) (words : List ℕ) (homes : Homes) (w : WriterView) (
                   subst (LaneIs g head (home_at hs (lane_place g.places r n))) (sym away) (home_same g.places r c homes none r n here record { reader = refl; place = same })
               | inr apart ↦
                   let was : (is_handed g.places w r n || is_held g.places x n) ≡ (is_handed g.places w r n || is_held g.places y n) =
-                      (λ i. is_handed g.places w r n || (may.home i && nat_eq (n % g.places) (c % g.places))) ∙ (λ i. is_handed g.places w r n || sym (ne_eqb (n % g.places) (c % g.places) apart) i) in
+                  (λ i. is_handed g.places w r n || (may.home i && nat_eq (n % g.places) (c % g.places))) ∙ (λ i. is_handed g.places w r n || sym (ne_eqb (n % g.places) (c % g.places) apart) i) in
                   subst (λ t. t) (λ i. LaneIs g head (sym (home_apart g.places r c homes none r n refl apart) i) (was i)) (lane_here n)
             ])
             (λ q other k. subst (λ a. LaneIs g head a (is_away g.places w readers q n)) (sym (home_else g.places r c homes none q n h.sound.some_place other)) (m.lane_is q n k)) q;
@@ -209,13 +208,13 @@ module _ (g : RingNumbers) (words : List ℕ) (homes : Homes) (w : WriterView) (
                   subst (LaneIs g head (home_at hs (lane_place g.places r n))) (sym home) (lane, home_same g.places r c homes v r n here record { reader = refl; place = same }, fits)
               | inr apart ↦
                   let was : (is_handed g.places w r n || is_held g.places x n) ≡ (is_handed g.places w r n || false) =
-                      (λ i. is_handed g.places w r n || (x.out && ne_eqb (n % g.places) (c % g.places) apart i)) ∙ (λ i. is_handed g.places w r n || and_false x.out i) in
+                  (λ i. is_handed g.places w r n || (x.out && ne_eqb (n % g.places) (c % g.places) apart i)) ∙ (λ i. is_handed g.places w r n || and_false x.out i) in
                   subst (λ t. t) (λ i. LaneIs g head (sym (home_apart g.places r c homes v r n refl apart) i) (was i)) (lane_here n)
             ])
             (λ q other k. subst (λ a. LaneIs g head a (is_away g.places w readers q n)) (sym (home_else g.places r c homes v q n h.sound.some_place other)) (m.lane_is q n k)) q;
         sound = put_each readers y (λ q z. q < g.readers → IsSoundLanes g.places g.total head (shown_by words w z q) (lanes_by g.places words hs w z q)) r refl
             (λ k. sound_by g.places g.total head p (closed g.places c old) (lanes_by g.places words hs w y r) progress_here (close_lanes g.places g.total head p old c at (give_possible out) progress_here sound_here)
-                (lanes_plain g.places words hs w y r p refl ∙ ap (plain_lanes head p) (give_lanes_are lane out number)))
+            (lanes_plain g.places words hs w y r p refl ∙ ap (plain_lanes head p) (give_lanes_are lane out number)))
             (λ q other k. subst (λ t. IsSoundLanes g.places g.total head (shown words w readers q) t) (sym (lanes_else v c q (readers q) other)) (m.sound q k));
       }
 
@@ -251,15 +250,15 @@ module _ (g : RingNumbers) (words : List ℕ) (homes : Homes) (w : WriterView) (
         out_fits = put_each readers y (λ q z. q < g.readers → z.out ≡ true → OutFits z) r number (λ k o. cc) (λ q o. m.out_fits q);
         lane_is = λ q k. put_each readers y (λ q z. q < g.readers → LaneIs g (head_shown ws) (home_at homes (lane_place g.places q k)) (is_handed g.places w q k || is_held g.places z k)) r number
             (λ j.
-              let was : (is_handed g.places w r k || is_held g.places x k) ≡ (is_handed g.places w r k || is_held g.places y k) =
-                  (λ i. is_handed g.places w r k || (home i && nat_eq (k % g.places) (x.taken % g.places))) ∙ (λ i. is_handed g.places w r k || (sym still i && nat_eq (k % g.places) (y.taken % g.places))) in
-              subst (λ t. t) (λ i. LaneIs g (sym at i) (home_at homes (lane_place g.places r k)) (was i)) (lane_here k))
+            let was : (is_handed g.places w r k || is_held g.places x k) ≡ (is_handed g.places w r k || is_held g.places y k) =
+            (λ i. is_handed g.places w r k || (home i && nat_eq (k % g.places) (x.taken % g.places))) ∙ (λ i. is_handed g.places w r k || (sym still i && nat_eq (k % g.places) (y.taken % g.places))) in
+            subst (λ t. t) (λ i. LaneIs g (sym at i) (home_at homes (lane_place g.places r k)) (was i)) (lane_here k))
             (λ q other j. subst (λ a. LaneIs g a (home_at homes (lane_place g.places q k)) (is_away g.places w readers q k)) (sym at) (m.lane_is q k j)) q;
         sound = put_each readers y (λ q z. q < g.readers → IsSoundLanes g.places g.total (head_shown ws) (shown_by ws w z q) (lanes_by g.places ws homes w z q)) r number
             (λ k. subst (λ a. IsSoundLanes g.places g.total a (shown_by ws w y r) (lanes_by g.places ws homes w y r)) (sym at) sound)
             (λ q other k.
-              let shows : shown_by ws w (readers q) q ≡ shown words w readers q = λ i. record { known = cursor_in (get_or w.known q 0); cursor = cursor_else n q other i; seen = (readers q).seen; taken = up_to (readers q).taken } in
-              subst (λ t. t) (λ i. IsSoundLanes g.places g.total (sym at i) (sym shows i) (sym (word_lanes_else n q (readers q) other) i)) (m.sound q k));
+            let shows : shown_by ws w (readers q) q ≡ shown words w readers q = λ i. record { known = cursor_in (get_or w.known q 0); cursor = cursor_else n q other i; seen = (readers q).seen; taken = up_to (readers q).taken } in
+            subst (λ t. t) (λ i. IsSoundLanes g.places g.total (sym at i) (sym shows i) (sym (word_lanes_else n q (readers q) other) i)) (m.sound q k));
       }
 
   -- Advance
@@ -298,11 +297,11 @@ module _ (g : RingNumbers) (words : List ℕ) (homes : Homes) (w : WriterView) (
       let old = lanes_by g.places words homes w x r in
       let now = lanes_by g.places ws homes w (went_on x) r in
       word_keeps (c + 1) (went_on x) refl may.home may.home
-          (subst (λ q. IsSoundLanes g.places g.total head q now) (sym (advance_shows may))
-          (sound_by g.places g.total head (advanced c p) (settled (unsettled old)) now
-              (advance_progress g.places head p c (joined_at may.joined) may.ahead progress_here)
-              (advance_lanes g.places g.total head p (unsettled old) c (joined_at may.joined) (advance_possible may) (closed_here may))
-              (advance_lanes_are may)))
+      (subst (λ q. IsSoundLanes g.places g.total head q now) (sym (advance_shows may))
+      (sound_by g.places g.total head (advanced c p) (settled (unsettled old)) now
+      (advance_progress g.places head p c (joined_at may.joined) may.ahead progress_here)
+      (advance_lanes g.places g.total head p (unsettled old) c (joined_at may.joined) (advance_possible may) (closed_here may))
+      (advance_lanes_are may)))
 
   -- Leave
 
@@ -321,7 +320,7 @@ module _ (g : RingNumbers) (words : List ℕ) (homes : Homes) (w : WriterView) (
       let low : c ≤ head = let s = progress_here.seen_in in let a = progress_here.seen_ahead c (joined_at joined) in omega arith in
       let number : ℕ → Option ℕ = λ k. number_in (home_at homes (lane_place g.places r k)) in
       let row = λ (k : ℕ). (λ i. counted (head_then left_word i) (now i) (number k))
-          ∙ (sym (counted_left head c (number k) low (λ n e. number_in_head g words homes w readers r k n m l e)) ∙ (λ i. from_low head (counted head (sym (joined_at joined) i) (number k)))) in
+      ∙ (sym (counted_left head c (number k) low (λ n e. number_in_head g words homes w readers r k n m l e)) ∙ (λ i. from_low head (counted head (sym (joined_at joined) i) (number k)))) in
       λ i. record { filled = get_or w.filled r false; stage = sym (stage_plain x.out) i; row = λ k. row k i }
 
   pub leave_possible : x.left ≡ false → x.out ≡ false → can_leave (shown_by words w x x.number) (lanes_by g.places words homes w x x.number) ≡ true
@@ -336,8 +335,8 @@ module _ (g : RingNumbers) (words : List ℕ) (homes : Homes) (w : WriterView) (
       let old = lanes_by g.places words homes w x r in
       let now = lanes_by g.places ws homes w (gone x) r in
       word_keeps left_word (gone x) refl home home
-          (subst (λ q. IsSoundLanes g.places g.total head q now) (sym (leave_shows joined))
-          (sound_by g.places g.total head (departed p) old now
-              (leave_progress g.places head p x.taken (joined_at joined) progress_here)
-              (leave_lanes g.places g.total head p old (leave_possible joined home) sound_here)
-              (leave_lanes_are joined home)))
+      (subst (λ q. IsSoundLanes g.places g.total head q now) (sym (leave_shows joined))
+      (sound_by g.places g.total head (departed p) old now
+      (leave_progress g.places head p x.taken (joined_at joined) progress_here)
+      (leave_lanes g.places g.total head p old (leave_possible joined home) sound_here)
+      (leave_lanes_are joined home)))

@@ -1,8 +1,6 @@
 -- The schedule that a table shows, by the views that are found in it, and after an event.
-use Rattle.std.proofs.Common.{◌≡◌, ◌≢◌, ℕ, ◌+◌, ◌*◌, ◌%◌, ◌<◌, ◌≤◌, Bool, true, false, List, length, sym, refl, ap, ◌∙◌, subst, arith}
-use lib.ListN.{get_elem?}
+use Rattle.std.proofs.Common.{◌≡◌, ℕ, ◌<◌, sym, refl, ◌∙◌}
 use Rattle.ring_core.specs.Schedule.{Schedule, Progress, Lanes}
-use Rattle.ring_core.specs.Sound.{IsSound}
 use Rattle.ring_core.specs.Plain.{plain, plain_lanes, schedule_of}
 use Rattle.ring_core.proofs.Made.{IsMade, is_made, made_same, made_plain, made_sound}
 use Rattle.ring_rule.specs.declared.view.RingNumbers.{RingNumbers}
@@ -23,7 +21,7 @@ before_made g s w k is =
     let readers = reader_of g s.views in
     let head = head_shown s.words in
     let made = is_made g.places g.total head g.readers (shown s.words found readers) (lanes_shown g.places s.words s.homes) k.holds.sound.some_place
-        (λ r h j. shown_by_place g.places r head (cursor_shown s.words r) s.homes j) in
+    (λ r h j. shown_by_place g.places r head (cursor_shown s.words r) s.homes j) in
     record {
       places_is = made.places_is;
       total_is = made.total_is;
@@ -42,7 +40,7 @@ table_shows g t v later k now then =
     let found = writer_of g t.views in
     let readers = reader_of g t.views in
     made_same g.places g.total (head_shown t.words) g.readers (shown t.words found readers) (shown t.words found readers) (lanes_shown g.places t.words t.homes) (lanes_known g.places t.words t.homes found readers)
-        k.holds.sound.some_place (λ r h. refl) (lanes_agree g t.words t.homes found readers k.holds k.lanes)
+    k.holds.sound.some_place (λ r h. refl) (lanes_agree g t.words t.homes found readers k.holds k.lanes)
     ∙ (λ i. schedule_of g.places g.total (head_shown t.words) g.readers (shown t.words (now i) (then i)) (lanes_known g.places t.words t.homes (now i) (then i)))
 
 -- a table that shows the parts of what an event does, read plainly, shows the plain reading
@@ -64,7 +62,7 @@ same_shows g s t w v later k n is now then words progress lanes =
     table_shows g t v later n now then
     ∙ ((λ i. schedule_of g.places g.total (head_shown (words i)) g.readers (shown (words i) v later) (lanes_known g.places (words i) t.homes v later))
     ∙ (made_same g.places g.total (head_shown s.words) g.readers (shown s.words v later) (shown s.words w readers) (lanes_known g.places s.words t.homes v later) (lanes_known g.places s.words s.homes w readers)
-        k.holds.sound.some_place progress lanes
+    k.holds.sound.some_place progress lanes
     ∙ sym (table_shows g s w readers k is refl)))
 
 -- what the table shows is sound, and its slots show what the views say

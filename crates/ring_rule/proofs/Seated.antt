@@ -1,9 +1,9 @@
 -- What each call asks of the table, for a seat whose view its invariant tells, and the seat after it.
-use Rattle.std.proofs.Common.{◌≡◌, ℕ, ◌+◌, ◌<◌, ◌≤◌, Bool, true, false, cond, List, [], ◌∷◌, length, sym, ◌∙◌, refl, ap, subst, arith}
-use Rattle.std.specs.Prelude.{Option, Some, None}
+use Rattle.std.proofs.Common.{◌≡◌, ℕ, ◌+◌, ◌<◌, Bool, true, false, cond, [], ◌∷◌, sym, ◌∙◌, refl, ap, subst}
+use Rattle.std.specs.Prelude.{Some, None}
 use Rattle.std.proofs.lemmas.Bool.{false≢true}
-use mathlib.Core.Option.{none, some}
-use Rattle.atomic_table.specs.Table.{Me, step, rest, Allows, Splits, Joins}
+use mathlib.Core.Option.{none}
+use Rattle.atomic_table.specs.Table.{step, rest, Allows, Splits, Joins}
 use Rattle.atomic_table.specs.Seated.{TableId}
 use Rattle.ring_core.specs.Schedule.{lane_place}
 use Rattle.ring_rule.specs.declared.lane.Lane.{Lane}
@@ -12,12 +12,11 @@ use Rattle.ring_rule.specs.declared.view.WriterView.{WriterView}
 use Rattle.ring_rule.specs.declared.view.ReaderView.{ReaderView}
 use Rattle.ring_rule.specs.declared.view.HeadNoteView.{HeadNoteView}
 use Rattle.ring_rule.specs.declared.view.CursorNoteView.{CursorNoteView}
-use Rattle.ring_rule.specs.declared.view.View.{View}
 use Rattle.ring_rule.specs.declared.view.View.TheVariants.{Writer, Reader, HeadNote, CursorNote, Spent}
 use Rattle.ring_rule.specs.Views.{left_word}
 use Rattle.ring_rule.specs.Shown.{Slot}
 use Rattle.ring_rule.specs.Kept.{row_at, Kept}
-use Rattle.ring_rule.specs.Plays.{Sat, writer_in, reader_in, head_note_in, cursor_note_in, slot_for, slot_of, looked_at, gave, writer_met, reader_met, IsPastNote, IsPastHead, MayPublish, MayFill, MayTake, IsPick, IsTake, picked, LooksAt, PublishesAt, PicksAt, PlacesAt, SeesAt, TakesAt, GivesAt, AdvancesAt, LeavesAt, made_more, made_reader, noted, met}
+use Rattle.ring_rule.specs.Plays.{Sat, writer_in, reader_in, slot_for, slot_of, looked_at, gave, writer_met, reader_met, IsPastNote, IsPastHead, MayPublish, MayFill, MayTake, IsPick, IsTake, picked, LooksAt, PublishesAt, PicksAt, PlacesAt, SeesAt, TakesAt, GivesAt, AdvancesAt, LeavesAt, made_more, made_reader, noted, met}
 use Rattle.ring_rule.specs.Seats.{seated_writer, seated_reader, held_by, IsWriterSeat, IsReaderSeat}
 use Rattle.ring_rule.proofs.WriterCalls
 use Rattle.ring_rule.proofs.ReaderCalls

@@ -1,20 +1,17 @@
 -- Slots by reader and row number, and what they show: after a slot changed, and read again by the plain reading.
-use Rattle.std.proofs.Common.{◌≡◌, ◌≢◌, ℕ, zero, suc, ◌+◌, ◌*◌, ◌%◌, ◌<◌, ◌≤◌, ◌⊎◌, Bool, true, false, cond, List, [], ◌∷◌, length, get_or, set, sym, refl, ap, ◌∙◌, subst, inl, inr, arith, get_or-set_same, get_or-set_other}
-use Rattle.std.specs.Prelude.{Option, Some, None, nat_lt, nat_eq, unwrap_or}
-use Rattle.std.proofs.lemmas.Bool.{cases_eq, cases_lt, cases_Bool, lt-ltb, le-ltb}
+use Rattle.std.proofs.Common.{◌≡◌, ◌≢◌, ℕ, zero, suc, ◌+◌, ◌*◌, ◌%◌, ◌<◌, ◌≤◌, ◌⊎◌, Bool, true, false, cond, List, [], ◌∷◌, length, get_or, set, sym, refl, ap, ◌∙◌, inl, inr, arith, get_or-set_same, get_or-set_other}
+use Rattle.std.specs.Prelude.{Option, Some, None}
+use Rattle.std.proofs.lemmas.Bool.{cases_eq}
 use mathlib.Core.Option.{Option as AtHome, none, some}
 use lib.ListN.{get_elem?}
 use Rattle.std.proofs.Math.Nat.{mod-mod}
-use Rattle.ring_core.specs.declared.event.Stage.{Stage}
-use Rattle.ring_core.specs.declared.event.Stage.TheVariants.{Idle, Holding, Closed}
-use Rattle.ring_core.specs.Schedule.{Lanes, lane_place}
+use Rattle.ring_core.specs.declared.event.Stage.TheVariants.{Idle, Holding}
+use Rattle.ring_core.specs.Schedule.{lane_place}
 use Rattle.ring_core.specs.Events.{put_row}
-use Rattle.ring_core.specs.Plain.{plain_stage, from_low, first_row, plain_row, plain_lanes}
-use Rattle.ring_core.proofs.Readers.{lanes_apart, lane_in}
+use Rattle.ring_core.specs.Plain.{plain_stage, from_low, first_row}
+use Rattle.ring_core.proofs.Readers.{lanes_apart}
 use Rattle.ring_core.proofs.Places.{put_same, put_other}
 use Rattle.ring_core.proofs.Lower.{from_low_same, from_low_none, from_low_twice}
-use Rattle.ring_core.proofs.Made.{ByPlace}
-use Rattle.ring_rule.specs.declared.lane.Lane.{Lane}
 use Rattle.ring_rule.specs.Shown.{Slot, Homes, home_at, number_in, only, counted}
 use Rattle.ring_rule.proofs.Roster.{pick_same, pick_other}
 

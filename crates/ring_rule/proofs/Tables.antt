@@ -1,8 +1,7 @@
 -- The rule over the list of views: one seat's view changes, or a seat is cut in two.
-use Rattle.std.proofs.Common.{◌≡◌, ◌≢◌, ℕ, zero, suc, ◌+◌, ◌<◌, ◌≤◌, Bool, true, false, List, [], ◌∷◌, ◌++◌, length, get_or, set, sym, refl, ap, ◌∙◌, subst, inl, inr, arith}
-use Rattle.std.specs.Prelude.{Option, Some, None}
-use Rattle.std.proofs.lemmas.Bool.{cases_eq}
-use mathlib.Core.Option.{some, some-injective, some-ne-none}
+use Rattle.std.proofs.Common.{◌≡◌, ◌≢◌, ℕ, ◌+◌, ◌<◌, ◌≤◌, true, List, [], ◌∷◌, ◌++◌, set, sym, ap, ◌∙◌, subst, inl, inr, arith}
+use Rattle.std.specs.Prelude.{Some}
+use mathlib.Core.Option.{some}
 use lib.ListN.{get_elem?}
 use Rattle.atomic_table.proofs.Lists.{at_set, set_here}
 use Rattle.ring_rule.specs.declared.view.RingNumbers.{RingNumbers}
@@ -11,12 +10,12 @@ use Rattle.ring_rule.specs.declared.view.ReaderView.{ReaderView}
 use Rattle.ring_rule.specs.declared.view.HeadNoteView.{HeadNoteView}
 use Rattle.ring_rule.specs.declared.view.CursorNoteView.{CursorNoteView}
 use Rattle.ring_rule.specs.declared.view.View.{View}
-use Rattle.ring_rule.specs.declared.view.View.TheVariants.{Writer, Reader, HeadNote, CursorNote, Spent}
-use Rattle.ring_rule.specs.Views.{left_word, new_reader, actor_of, writer_of, reader_of, put_reader}
+use Rattle.ring_rule.specs.declared.view.View.TheVariants.{Writer, Reader, HeadNote, CursorNote}
+use Rattle.ring_rule.specs.Views.{actor_of, writer_of, reader_of, put_reader}
 use Rattle.ring_rule.specs.Shown.{Homes, RingState}
-use Rattle.ring_rule.specs.Kept.{Holds, HoldsLanes, HoldsNotes, IsTrueHead, IsTrueCursor, Alone, Kept}
+use Rattle.ring_rule.specs.Kept.{Holds, HoldsLanes, HoldsNotes, IsTrueHead, IsTrueCursor, Kept}
 use Rattle.ring_rule.proofs.Moves.{put_each}
-use Rattle.ring_rule.proofs.Roster.{writer_at, reader_at, writer_kept, reader_kept, readers_put, alone_set, alone_more, at_in, at_end, writer_more, reader_more, readers_first}
+use Rattle.ring_rule.proofs.Roster.{writer_at, reader_at, writer_kept, reader_kept, readers_put, alone_set, alone_more, at_in, at_end}
 
 -- the table with other words and slots and another view
 abbrev pub changed : RingState → List ℕ → Homes → ℕ → View → RingState
@@ -116,8 +115,8 @@ by_writer g s id w v words homes k at made head told h m =
     let was = writer_at g s.views id w k.alone at in
     let later : IsLater (writer_of g s.views) readers v readers = record { head = subst (λ (u : WriterView). u.head ≤ v.head) (sym was) head; taken = λ r. omega arith; left = λ r e. e } in
     by_view g s id (Writer w) (Writer v) words homes v readers k at (λ n e. e) (writer_now g s id w v k at) (readers_same g s id w v at) later
-        (subst (λ (u : WriterView). u.made ≤ v.made) (sym was) made) (writer_tells g v v readers) h m
-        record { writer_told = told; reader_told = λ r n l e. later_head g (writer_of g s.views) v readers readers n later (k.told.reader_told r n l e) }
+    (subst (λ (u : WriterView). u.made ≤ v.made) (sym was) made) (writer_tells g v v readers) h m
+    record { writer_told = told; reader_told = λ r n l e. later_head g (writer_of g s.views) v readers readers n later (k.told.reader_told r n l e) }
 
 -- A reader's view changes
 
@@ -152,12 +151,12 @@ by_reader g s id x y words homes k at n taken left told h m =
       cursor_note = λ z e. cc;
     } in
     by_view g s id (Reader x) (Reader y) words homes w after k at (λ j e. ap (λ i. Some (i + 1)) (sym n) ∙ e) (writer_same g s id x y at) (readers_now g s id x y k at n) later (omega arith) tells h m
-        record {
-          writer_told = λ z e. later_cursor g w w readers after z later (k.told.writer_told z e);
-          reader_told = put_each readers y (λ q u. (z : HeadNoteView) → q < g.readers → u.told ≡ Some z → IsTrueHead g w after z) x.number n
-              (λ z l e. later_head g w w readers after z later (told z e))
-              (λ q o z l e. later_head g w w readers after z later (k.told.reader_told q z l e));
-        }
+    record {
+      writer_told = λ z e. later_cursor g w w readers after z later (k.told.writer_told z e);
+      reader_told = put_each readers y (λ q u. (z : HeadNoteView) → q < g.readers → u.told ≡ Some z → IsTrueHead g w after z) x.number n
+          (λ z l e. later_head g w w readers after z later (told z e))
+          (λ q o z l e. later_head g w w readers after z later (k.told.reader_told q z l e));
+    }
 
 -- One more view
 

@@ -1,23 +1,20 @@
 -- What each call of the writer asks of the table: the step keeps the rule and tells what its play says.
-use Rattle.std.proofs.Common.{◌≡◌, ◌≢◌, ℕ, ◌+◌, ◌<◌, ◌≤◌, ◌⊎◌, Bool, true, false, List, [], ◌∷◌, length, get_or, set, sym, refl, ap, ◌∙◌, subst, inl, inr, arith}
-use Rattle.std.specs.Prelude.{Option, Some, None}
+use Rattle.std.proofs.Common.{◌≡◌, ℕ, ◌+◌, ◌<◌, ◌≤◌, true, List, [], ◌∷◌, length, get_or, set, sym, refl, ap, ◌∙◌, subst, inl, inr, arith}
+use Rattle.std.specs.Prelude.{Some, None}
 use Rattle.std.proofs.lemmas.Bool.{cases_Bool}
 use mathlib.Core.Option.{none, some}
-use lib.ListN.{get_elem?}
-use Rattle.atomic_table.specs.Table.{Me, step, keeps, takes, gives, Allows, Splits, Joins}
+use Rattle.atomic_table.specs.Table.{step, keeps, takes, gives, Allows, Splits, Joins}
 use Rattle.atomic_table.proofs.Lists.{set_else}
-use Rattle.ring_core.specs.Schedule.{lane_place}
 use Rattle.ring_rule.specs.declared.lane.Lane.{Lane}
 use Rattle.ring_rule.specs.declared.view.RingNumbers.{RingNumbers}
 use Rattle.ring_rule.specs.declared.view.WriterView.{WriterView}
 use Rattle.ring_rule.specs.declared.view.ReaderView.{ReaderView}
 use Rattle.ring_rule.specs.declared.view.CursorNoteView.{CursorNoteView}
-use Rattle.ring_rule.specs.declared.view.View.{View}
 use Rattle.ring_rule.specs.declared.view.View.TheVariants.{Writer, CursorNote, Spent}
-use Rattle.ring_rule.specs.Views.{left_word, word_of, writer_of, reader_of}
-use Rattle.ring_rule.specs.Shown.{Slot, RingState, head_shown}
-use Rattle.ring_rule.specs.Kept.{row_at, Fits, HandFits, Holds, HoldsLanes, IsTrueCursor, Kept}
-use Rattle.ring_rule.specs.Plays.{Sat, slot_for, looked_at, published, picked, placed, IsPastNote, MayPublish, MayFill, IsLook, IsPick, LooksAt, PublishesAt, PicksAt, PlacesAt, made_more, made_reader, noted, met}
+use Rattle.ring_rule.specs.Views.{reader_of}
+use Rattle.ring_rule.specs.Shown.{RingState}
+use Rattle.ring_rule.specs.Kept.{row_at, Fits, Holds, IsTrueCursor, Kept}
+use Rattle.ring_rule.specs.Plays.{slot_for, looked_at, published, picked, placed, IsPastNote, MayPublish, MayFill, IsLook, LooksAt, PublishesAt, PicksAt, PlacesAt, made_more, made_reader, noted, met}
 use Rattle.ring_rule.specs.Laws.{Has}
 use Rattle.ring_rule.proofs.Numbers.{word_joined, word_left}
 use Rattle.ring_rule.proofs.Moves

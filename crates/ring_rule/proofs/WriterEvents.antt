@@ -1,23 +1,21 @@
 -- Each kind of step of the writer keeps the rule and is an event, or shows nothing new.
-use Rattle.std.proofs.Common.{◌≡◌, ◌≢◌, ℕ, ◌+◌, ◌*◌, ◌%◌, ◌<◌, ◌≤◌, Bool, true, false, ◌||◌, List, [], ◌∷◌, length, get_or, set, sym, refl, ap, ◌∙◌, subst, inl, inr, arith}
+use Rattle.std.proofs.Common.{◌≡◌, ℕ, ◌+◌, ◌<◌, true, false, ◌||◌, [], ◌∷◌, get_or, set, sym, refl, ap, ◌∙◌, subst, arith}
 use Rattle.std.specs.Prelude.{Option, Some, None, is_none}
-use Rattle.std.proofs.lemmas.Bool.{cases_eq}
 use Rattle.std.proofs.lemmas.List.{set-get_or}
-use mathlib.Core.Option.{Option as AtHome, none, some}
+use mathlib.Core.Option.{none, some}
 use lib.ListN.{get_elem?}
-use Rattle.atomic_table.specs.Table.{keeps, takes, gives, stepped}
+use Rattle.atomic_table.specs.Table.{keeps, gives, stepped}
 use Rattle.ring_core.specs.declared.event.Event.TheVariants.{Look, Fill, Publish}
-use Rattle.ring_core.specs.Schedule.{Progress, Lanes, lane_place}
+use Rattle.ring_core.specs.Schedule.{lane_place}
 use Rattle.ring_core.specs.Events.{is_ready, unfilled, after}
 use Rattle.ring_core.proofs.Keeps.{ready_room}
 use Rattle.ring_core.proofs.After
 use Rattle.ring_rule.specs.declared.lane.Lane.{Lane}
 use Rattle.ring_rule.specs.declared.view.RingNumbers.{RingNumbers}
 use Rattle.ring_rule.specs.declared.view.WriterView.{WriterView}
-use Rattle.ring_rule.specs.declared.view.ReaderView.{ReaderView}
 use Rattle.ring_rule.specs.declared.view.View.TheVariants.{Writer}
-use Rattle.ring_rule.specs.Views.{cursor_in, writer_of, reader_of}
-use Rattle.ring_rule.specs.Shown.{Slot, Homes, RingState, home_at, head_shown, shown, row_shown, lanes_known, schedule_shown}
+use Rattle.ring_rule.specs.Views.{cursor_in, reader_of}
+use Rattle.ring_rule.specs.Shown.{RingState, head_shown, shown, row_shown, lanes_known, schedule_shown}
 use Rattle.ring_rule.specs.Kept.{Fits, HandFits, Kept}
 use Rattle.ring_rule.specs.Plays.{slot_for, looked_at, published, picked, placed, filled_at, MayPublish, MayFill}
 use Rattle.ring_rule.specs.Laws.{IsEvent, ShowsTheSame, Has, PickStays}
@@ -44,9 +42,9 @@ module _ (g : RingNumbers) (s : RingState) (id : ℕ) (w : WriterView) (k : Kept
       let q = shown s.words v readers in
       let lanes = lanes_known g.places s.words s.homes w readers in
       let kept = by_writer g s id w v s.words s.homes k at (omega arith) (omega arith) (notes_at g s id w k at).writer_told
-          (Moves.look_holds g s.words w readers r h l) (WriterLanes.look_keeps g s.words s.homes w readers h (lanes_at g s id w k at) r l hand) in
+      (Moves.look_holds g s.words w readers r h l) (WriterLanes.look_keeps g s.words s.homes w readers h (lanes_at g s id w k at) r l hand) in
       let after_made = After.look_made (schedule_shown g s) g.places g.total head g.readers p lanes made r q l
-          (Moves.look_own g s.words w readers r h l) (λ j _ o. Moves.look_other s.words w readers r (get_or s.words (r + 1) 0) j o) in
+      (Moves.look_own g s.words w readers r h l) (λ j _ o. Moves.look_other s.words w readers r (get_or s.words (r + 1) 0) j o) in
       record {
         kept = kept;
         can = After.look_can (schedule_shown g s) g.places g.total head g.readers p lanes made r l;
@@ -84,7 +82,7 @@ module _ (g : RingNumbers) (s : RingState) (id : ℕ) (w : WriterView) (k : Kept
       let row : head < g.total = let a = may.row in let b = h.head_is in let c : w.ring.total ≡ g.total = ap (λ (z : RingNumbers). z.total) h.writer_ring in omega arith in
       let holds = Moves.publish_holds g s.words w readers h row (λ r j l e. ready_room g.places g.total head (p r) (lanes r) (ready may r l) (m.sound r l) j e) in
       let kept = by_writer g s id w v ws s.homes k at (omega arith) (omega arith) (notes_at g s id w k at).writer_told holds
-          (WriterLanes.publish_keeps g s.words s.homes w readers h m row (ready may) (WriterLanes.nothing_out g s.words s.homes w readers h m may) holds) in
+      (WriterLanes.publish_keeps g s.words s.homes w readers h m row (ready may) (WriterLanes.nothing_out g s.words s.homes w readers h m may) holds) in
       record {
         kept = kept;
         can = After.publish_can (schedule_shown g s) g.places g.total head g.readers p lanes made row (ready may);
@@ -124,7 +122,7 @@ module _ (g : RingNumbers) (s : RingState) (id : ℕ) (w : WriterView) (k : Kept
       let hs = set s.homes (lane_place g.places r w.head) none in
       let t = changed s s.words hs id (Writer v) in
       let kept = by_writer g s id w v s.words hs k at (omega arith) (omega arith) (notes_at g s id w k at).writer_told
-          (Moves.writer_holds g s.words w v readers refl refl h.made_in refl refl h) (WriterLanes.pick_keeps g s.words s.homes w readers h m r hand fits) in
+      (Moves.writer_holds g s.words w v readers refl refl h.made_in refl refl h) (WriterLanes.pick_keeps g s.words s.homes w readers h m r hand fits) in
       let room : head_shown s.words < fits.from + g.places = let a = fits.room in omega arith in
       let empty = ap (row_shown g.places s.words s.homes r) (sym head) ∙ WriterLanes.unfilled_shows_none g s.words s.homes w readers h m r l fits.unfilled fits.from fits.known room in
       record {
@@ -170,7 +168,7 @@ module _ (g : RingNumbers) (s : RingState) (id : ℕ) (w : WriterView) (k : Kept
       let t = changed s s.words hs id (Writer v) in
       let now_fits : Fits g head lane = subst (λ n. Fits g n lane) (sym h.head_is) lane_fits in
       let kept = by_writer g s id w v s.words hs k at (omega arith) (omega arith) (notes_at g s id w k at).writer_told
-          (Moves.writer_holds g s.words w v readers refl refl h.made_in refl refl h) (WriterLanes.place_keeps g s.words s.homes w readers h m r lane hand number now_fits) in
+      (Moves.writer_holds g s.words w v readers refl refl h.made_in refl refl h) (WriterLanes.place_keeps g s.words s.homes w readers h m r lane hand number now_fits) in
       let made = before_made g s w k (writer_at g s.views id w k.alone at) in
       let p = shown s.words w readers in
       let lanes = lanes_known g.places s.words s.homes w readers in
@@ -180,7 +178,7 @@ module _ (g : RingNumbers) (s : RingState) (id : ℕ) (w : WriterView) (k : Kept
         can = After.fill_can (schedule_shown g s) g.places g.total head g.readers p lanes made r l (WriterLanes.fill_possible g s.words s.homes w readers h m r fits);
         shows = event_shows g t v readers (after (schedule_shown g s) (Fill r)) head p later kept (writer_now g s id w v k at) (readers_same g s id w v at)
             (After.fill_made (schedule_shown g s) g.places g.total head g.readers p lanes made r later l (WriterLanes.place_lanes_are g s.words s.homes w readers h m r lane l number)
-                (λ q _ o. WriterLanes.place_lanes_else g s.words s.homes w readers h m r q lane o))
+            (λ q _ o. WriterLanes.place_lanes_else g s.words s.homes w readers h m r q lane o))
             refl (λ q _. refl) (λ q _. lanes_plain g.places s.words hs v (readers q) q (p q) refl);
       }
 

@@ -1,16 +1,14 @@
 -- The writer's steps, over slots: what the lanes show afterwards, and that slots and views still fit.
-use Rattle.std.proofs.Common.{◌≡◌, ◌≢◌, ℕ, ◌+◌, ◌*◌, ◌%◌, ◌<◌, ◌≤◌, ◌⊎◌, Bool, true, false, cond, ◌&&◌, ◌||◌, List, [], ◌∷◌, map, length, get_or, set, sym, refl, ap, ◌∙◌, subst, inl, inr, arith, get_or-set_same, get_or-set_other, length-set}
+use Rattle.std.proofs.Common.{◌≡◌, ◌≢◌, ℕ, ◌+◌, ◌%◌, ◌<◌, Bool, true, false, ◌&&◌, ◌||◌, List, map, length, get_or, set, sym, refl, ap, ◌∙◌, subst, inl, inr, arith, get_or-set_same, get_or-set_other, length-set}
 use Rattle.std.specs.Prelude.{Option, Some, None, not, nat_eq, nat_lt, option_map}
 use Rattle.std.proofs.lemmas.Bool.{cases_eq, eq-eqb, ne_eqb, lt-ltb, false≢true}
 use Rattle.std.proofs.lemmas.List.{length-map}
 use Rattle.std.proofs.Math.ListN as ListN
-use mathlib.Core.Option.{Option as AtHome, none, some}
-use Rattle.ring_core.specs.declared.event.Stage.{Stage}
-use Rattle.ring_core.specs.declared.event.Stage.TheVariants.{Idle, Holding, Closed}
-use Rattle.ring_core.specs.Schedule.{Progress, Lanes, lane_place}
+use mathlib.Core.Option.{none, some}
+use Rattle.ring_core.specs.Schedule.{lane_place}
 use Rattle.ring_core.specs.Events.{can_fill, is_ready, is_above, put_row, filled_with, unfilled}
 use Rattle.ring_core.specs.Sound.{IsSoundProgress, IsSoundLanes}
-use Rattle.ring_core.specs.Plain.{plain_stage, from_low, first_row, plain_lanes}
+use Rattle.ring_core.specs.Plain.{plain_lanes}
 use Rattle.ring_core.proofs.Keeps.{look_lanes, publish_lanes, fill_lanes}
 use Rattle.ring_core.proofs.Places.{one_turn, put_same, put_other}
 use Rattle.ring_core.proofs.Lower.{from_low_is}
@@ -20,14 +18,14 @@ use Rattle.ring_rule.specs.declared.view.RingNumbers.{RingNumbers}
 use Rattle.ring_rule.specs.declared.view.WriterView.{WriterView}
 use Rattle.ring_rule.specs.declared.view.ReaderView.{ReaderView}
 use Rattle.ring_rule.specs.Views.{cursor_in}
-use Rattle.ring_rule.specs.Shown.{Slot, Homes, home_at, number_in, head_shown, cursor_shown, shown, only, counted, row_shown, is_number, lanes_known}
-use Rattle.ring_rule.specs.Kept.{Holds, Fits, is_held, is_handed, is_away, LaneIs, HandFits, OutFits, HoldsLanes}
-use Rattle.ring_rule.specs.Plays.{looked_at, published, picked, MayPublish, MayFill}
-use Rattle.ring_rule.proofs.Numbers.{or_true, or_false, and_false}
+use Rattle.ring_rule.specs.Shown.{Homes, home_at, number_in, head_shown, cursor_shown, shown, counted, row_shown, is_number, lanes_known}
+use Rattle.ring_rule.specs.Kept.{Holds, Fits, is_held, is_handed, is_away, LaneIs, HandFits, HoldsLanes}
+use Rattle.ring_rule.specs.Plays.{looked_at, published, picked, MayPublish}
+use Rattle.ring_rule.proofs.Numbers.{and_false}
 use Rattle.ring_rule.proofs.Moves
 use Rattle.ring_rule.proofs.Slots
 use Rattle.ring_rule.proofs.Slots.{IsOneLane, cases_lane, home_same, home_else, home_apart, counted_next, counted_head, counted_none, stage_plain, row_put, shown_by_place}
-use Rattle.ring_rule.proofs.Hold.{slot_in, number_in_head, at_home, stage_by, lanes_by, lanes_plain, sound_by, lane_later, not_handed}
+use Rattle.ring_rule.proofs.Hold.{slot_in, number_in_head, at_home, stage_by, sound_by, lane_later}
 
 module _ (g : RingNumbers) (words : List ℕ) (homes : Homes) (w : WriterView) (readers : ℕ → ReaderView) (h : Holds g words w readers) (m : HoldsLanes g words homes w readers) where
   -- Look
@@ -96,8 +94,8 @@ module _ (g : RingNumbers) (words : List ℕ) (homes : Homes) (w : WriterView) (
         out_fits = m.out_fits;
         lane_is = λ r n l.
             let same : is_away g.places w readers r n ≡ is_away g.places v readers r n =
-                (λ i. (is_number r (hand i) && nat_eq (n % g.places) (w.head % g.places)) || is_held g.places (readers r) n)
-                ∙ (λ i. (is_number r (sym hand i) && nat_eq (n % g.places) ((w.head + 1) % g.places)) || is_held g.places (readers r) n) in
+            (λ i. (is_number r (hand i) && nat_eq (n % g.places) (w.head % g.places)) || is_held g.places (readers r) n)
+            ∙ (λ i. (is_number r (sym hand i) && nat_eq (n % g.places) ((w.head + 1) % g.places)) || is_held g.places (readers r) n) in
             subst (LaneIs g (head_shown ws) (home_at homes (lane_place g.places r n))) same
             (lane_later g head (head_shown ws) (home_at homes (lane_place g.places r n)) (is_away g.places w readers r n) (omega arith) (m.lane_is r n l));
         sound = λ r l.
@@ -195,8 +193,8 @@ module _ (g : RingNumbers) (words : List ℕ) (homes : Homes) (w : WriterView) (
         lane_is = λ q n j.
             let before = m.lane_is q n j in
             let keeps : home_at taken (lane_place g.places q n) ≡ home_at homes (lane_place g.places q n) → is_handed g.places v q n ≡ false → LaneIs g head (home_at taken (lane_place g.places q n)) (is_away g.places v readers q n) = λ home off. (
-              let was : is_away g.places w readers q n ≡ is_away g.places v readers q n = ap (λ b. b || is_held g.places (readers q) n) (none_handed hand q n ∙ sym off) in
-              subst (λ x. x) (λ i. LaneIs g head (sym home i) (was i)) before) in
+            let was : is_away g.places w readers q n ≡ is_away g.places v readers q n = ap (λ b. b || is_held g.places (readers q) n) (none_handed hand q n ∙ sym off) in
+            subst (λ x. x) (λ i. LaneIs g head (sym home i) (was i)) before) in
             elim (cases_lane g.places r w.head q n) [
               | inl one ↦
                   let away : is_away g.places v readers q n ≡ true = (λ i. is_handed g.places v (one.reader i) n || is_held g.places (readers q) n) ∙ (λ i. handed_here r n one.place i || is_held g.places (readers q) n) in
@@ -258,10 +256,10 @@ module _ (g : RingNumbers) (words : List ℕ) (homes : Homes) (w : WriterView) (
       let full = set homes (lane_place g.places r w.head) (some (Some lane)) in
       let p = h.sound.each r l in
       let counts : counted head cursor lane.number ≡ Some head =
-          ap (counted head cursor) (number ∙ ap Some (sym at)) ∙ counted_head head cursor (λ c e. omega (arith, p.seen_ahead c e, p.seen_in)) in
+      ap (counted head cursor) (number ∙ ap Some (sym at)) ∙ counted_head head cursor (λ c e. omega (arith, p.seen_ahead c e, p.seen_in)) in
       let filled : get_or (set w.filled r true) r false ≡ true = get_or-set_same w.filled r true false (let k = m.filled_in in omega arith) in
       let row = λ (k : ℕ). row_put g.places r w.head head cursor homes (some (Some lane)) (Some head) k (slot_in g words homes w readers r w.head h m l) counts
-          ∙ (λ i. put_row g.places (sym at i) (Some head) (row_shown g.places words homes r) k) in
+      ∙ (λ i. put_row g.places (sym at i) (Some head) (row_shown g.places words homes r) k) in
       λ i. record { filled = filled i; stage = stage_by (readers r); row = λ k. row k i }
 
   pub place_lanes_else : (r q : ℕ) (lane : Lane) → q ≢ r
@@ -304,8 +302,8 @@ module _ (g : RingNumbers) (words : List ℕ) (homes : Homes) (w : WriterView) (
         lane_is = λ q n j.
             let before = m.lane_is q n j in
             let keeps : home_at full (lane_place g.places q n) ≡ home_at homes (lane_place g.places q n) → is_handed g.places (picked r w) q n ≡ false → LaneIs g head (home_at full (lane_place g.places q n)) (is_held g.places (readers q) n) = λ home off. (
-              let was : is_away g.places w readers q n ≡ is_held g.places (readers q) n = (λ i. (is_number q (hand i) && nat_eq (n % g.places) (w.head % g.places)) || is_held g.places (readers q) n) ∙ (λ i. off i || is_held g.places (readers q) n) in
-              subst (λ x. x) (λ i. LaneIs g head (sym home i) (was i)) before) in
+            let was : is_away g.places w readers q n ≡ is_held g.places (readers q) n = (λ i. (is_number q (hand i) && nat_eq (n % g.places) (w.head % g.places)) || is_held g.places (readers q) n) ∙ (λ i. off i || is_held g.places (readers q) n) in
+            subst (λ x. x) (λ i. LaneIs g head (sym home i) (was i)) before) in
             elim (cases_lane g.places r w.head q n) [
               | inl one ↦
                   let off : is_held g.places (readers q) n ≡ false = ap (λ i. is_held g.places (readers i) n) one.reader ∙ not_held_at r n fits one.place in

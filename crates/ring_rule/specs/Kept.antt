@@ -1,5 +1,6 @@
--- The rule of the ring's table, in two levels: over the writer's view and a function from reader to view, and over the list of views.
-use Rattle.std.specs.Prelude.{◌≡◌, ℕ, ◌+◌, ◌*◌, ◌%◌, ◌<◌, ◌≤◌, Bool, true, false, ◌&&◌, ◌||◌, nat_eq, List, [], length, Option, Some, slice_index, slice_index_or}
+-- The rule of the ring's table, in two levels: over the writer's view and a function from reader to view, and over
+-- the list of views.
+use Rattle.std.specs.Prelude.{◌≡◌, ℕ, ◌+◌, ◌*◌, ◌%◌, ◌<◌, ◌≤◌, Bool, true, false, ◌&&◌, ◌||◌, nat_eq, List, [], length, Some, slice_index, slice_index_or}
 use Rattle.std.specs.List.{All}
 use mathlib.Core.Option.{Option as AtHome, none, some}
 use lib.ListN.{get_elem?}
@@ -41,7 +42,8 @@ pub record Holds (g : RingNumbers) (words : List ℕ) (w : WriterView) (readers 
 abbrev pub row_at : RingNumbers → ℕ → List ℕ
 row_at g n = slice_index_or g.rows n []
 
--- a buffer that lies in its slot: one row long; its number, if it has one, is at most head, and its bytes are those of that row
+-- a buffer that lies in its slot: one row long; its number, if it has one, is at most head, and its bytes are those
+-- of that row
 pub record Fits (g : RingNumbers) (head : ℕ) (lane : Lane) : Type 0 where
   pub long : length lane.bytes.items ≡ g.row_len
   pub not_ahead : (n : ℕ) → lane.number ≡ Some n → n ≤ head
@@ -78,7 +80,8 @@ pub record OutFits (x : ReaderView) : Type 0 where
   pub ahead : x.taken < x.seen
 
 -- The slots fit the views, and what they show is sound
-pub record HoldsLanes (g : RingNumbers) (words : List ℕ) (homes : Homes) (w : WriterView) (readers : ℕ → ReaderView) : Type 0 where
+pub record HoldsLanes (g : RingNumbers) (words : List ℕ) (homes : Homes) (w : WriterView)
+    (readers : ℕ → ReaderView) : Type 0 where
   -- the rows are all of one length
   pub rows_in : length g.rows ≡ g.total
   pub even : All (λ row. length row ≡ g.row_len) g.rows
@@ -88,12 +91,15 @@ pub record HoldsLanes (g : RingNumbers) (words : List ℕ) (homes : Homes) (w : 
   pub hand_fits : (r : ℕ) → w.hand ≡ Some r → HandFits g w r
   pub out_fits : (r : ℕ) → r < g.readers → (readers r).out ≡ true → OutFits (readers r)
   -- a lane is out of its slot exactly where one of the views says so
-  pub lane_is : (r n : ℕ) → r < g.readers → LaneIs g (head_shown words) (home_at homes (lane_place g.places r n)) (is_away g.places w readers r n)
+  pub lane_is : (r n : ℕ) → r < g.readers
+      → LaneIs g (head_shown words) (home_at homes (lane_place g.places r n)) (is_away g.places w readers r n)
   -- what is shown is sound in its part on lanes
-  pub sound : (r : ℕ) → r < g.readers → IsSoundLanes g.places g.total (head_shown words) (shown words w readers r) (lanes_known g.places words homes w readers r)
+  pub sound : (r : ℕ) → r < g.readers → let lanes = lanes_known g.places words homes w readers r in
+      IsSoundLanes g.places g.total (head_shown words) (shown words w readers r) lanes
 
 -- what a note of the writer says is true: head has come that far, and the readers that it names as left have left
-pub record IsTrueHead (g : RingNumbers) (w : WriterView) (readers : ℕ → ReaderView) (n : HeadNoteView) : Type 0 where
+pub record IsTrueHead (g : RingNumbers) (w : WriterView) (readers : ℕ → ReaderView) (n : HeadNoteView)
+    : Type 0 where
   pub ring : n.ring ≡ g
   pub head : n.head ≤ w.head
   pub left : (r : ℕ) → r < g.readers → slice_index n.known r ≡ left_word → (readers r).left ≡ true
@@ -108,19 +114,24 @@ pub record IsTrueCursor (g : RingNumbers) (readers : ℕ → ReaderView) (n : Cu
 -- what the seats keep of the notes last joined to them is true
 pub record HoldsNotes (g : RingNumbers) (w : WriterView) (readers : ℕ → ReaderView) : Type 0 where
   pub writer_told : (n : CursorNoteView) → w.told ≡ Some n → IsTrueCursor g readers n
-  pub reader_told : (r : ℕ) (n : HeadNoteView) → r < g.readers → (readers r).told ≡ Some n → IsTrueHead g w readers n
+  pub reader_told : (r : ℕ) (n : HeadNoteView) → r < g.readers → (readers r).told ≡ Some n
+      → IsTrueHead g w readers n
 
 -- no two views are of one actor
 abbrev pub Alone : List View → Type 0
-Alone views = (i j a : ℕ) (u v : View) → get_elem? views i ≡ some u → get_elem? views j ≡ some v → actor_of u ≡ Some a → actor_of v ≡ Some a → i ≡ j
+Alone views = (i j a : ℕ) (u v : View) → get_elem? views i ≡ some u → get_elem? views j ≡ some v
+    → actor_of u ≡ Some a → actor_of v ≡ Some a → i ≡ j
 
 -- the rule
 pub record Kept (g : RingNumbers) (s : RingState) : Type 0 where
   pub alone : Alone s.views
   -- only readers that the writer made have a view
-  pub made : (i : ℕ) (x : ReaderView) → get_elem? s.views i ≡ some (Reader x) → x.number < (writer_of g s.views).made
-  pub head_notes : (i : ℕ) (n : HeadNoteView) → get_elem? s.views i ≡ some (HeadNote n) → IsTrueHead g (writer_of g s.views) (reader_of g s.views) n
-  pub cursor_notes : (i : ℕ) (n : CursorNoteView) → get_elem? s.views i ≡ some (CursorNote n) → IsTrueCursor g (reader_of g s.views) n
+  pub made : (i : ℕ) (x : ReaderView) → get_elem? s.views i ≡ some (Reader x)
+      → x.number < (writer_of g s.views).made
+  pub head_notes : (i : ℕ) (n : HeadNoteView) → get_elem? s.views i ≡ some (HeadNote n)
+      → IsTrueHead g (writer_of g s.views) (reader_of g s.views) n
+  pub cursor_notes : (i : ℕ) (n : CursorNoteView) → get_elem? s.views i ≡ some (CursorNote n)
+      → IsTrueCursor g (reader_of g s.views) n
   pub holds : Holds g s.words (writer_of g s.views) (reader_of g s.views)
   pub lanes : HoldsLanes g s.words s.homes (writer_of g s.views) (reader_of g s.views)
   pub told : HoldsNotes g (writer_of g s.views) (reader_of g s.views)

@@ -1,5 +1,5 @@
 -- What each step does to the view of its seat, and what it tells.
-use Rattle.std.specs.Prelude.{◌≡◌, ◌≢◌, ℕ, ◌+◌, ◌<◌, ◌≤◌, ◌⊎◌, Bool, true, false, if◌then◌else◌, List, [], ◌∷◌, length, map, Option, Some, None, slice_index, slice_index_or, slice_set}
+use Rattle.std.specs.Prelude.{◌≡◌, ◌≢◌, ℕ, ◌+◌, ◌<◌, ◌≤◌, ◌⊎◌, Bool, true, false, List, [], ◌∷◌, length, map, Option, Some, None, slice_index, slice_index_or, slice_set}
 use Rattle.atomic_table.specs.Table.{Me, Step, rest}
 use Rattle.ring_core.specs.Schedule.{lane_place}
 use Rattle.ring_rule.specs.declared.lane.Lane.{Lane}
@@ -39,7 +39,10 @@ reader_in Spent = new_reader no_ring 0
 
 -- the writer found n in the cursor word of reader r
 abbrev pub looked_at : ℕ → ℕ → WriterView → WriterView
-looked_at r n w = record w { known = slice_set w.known r n; loads = slice_set w.loads r (slice_index w.loads r + 1) }
+looked_at r n w = record w {
+  known = slice_set w.known r n;
+  loads = slice_set w.loads r (slice_index w.loads r + 1);
+}
 
 -- the writer published the row numbered head, and has filled no lane for the next
 abbrev pub published : WriterView → WriterView
@@ -93,12 +96,14 @@ slot_of x = lane_place x.ring.places x.number x.taken
 abbrev pub IsCursorOf : WriterView → ℕ → ℕ → Type 0
 IsCursorOf w r n = (n ≡ left_word) ⊎ ((slice_index w.known r ≤ n) × (n ≤ w.head))
 
--- a cursor word of the maker of a reader's note: it left, or took at least the rows that the note tells; it left if the note says so
+-- a cursor word of the maker of a reader's note: it left, or took at least the rows that the note tells; it left if
+-- the note says so
 pub record IsPastNote (note : CursorNoteView) (n : ℕ) : Type 0 where
   pub cursor : (n ≡ left_word) ⊎ (note.taken ≤ n)
   pub left : note.left ≡ true → n ≡ left_word
 
--- a head word once a note of the writer was met: at least the head that the note tells, and this reader isn't told as left
+-- a head word once a note of the writer was met: at least the head that the note tells, and this reader isn't told as
+-- left
 pub record IsPastHead (note : HeadNoteView) (number n : ℕ) : Type 0 where
   pub head : note.head ≤ n
   pub joined : slice_index note.known number ≢ left_word
@@ -106,9 +111,11 @@ pub record IsPastHead (note : HeadNoteView) (number n : ℕ) : Type 0 where
 -- the writer may publish: there is a row, and each reader that it did not see leave has its lane filled
 pub record MayPublish (w : WriterView) : Type 0 where
   pub row : w.head < w.ring.total
-  pub filled : (r k : ℕ) → r < w.ring.readers → cursor_in (slice_index w.known r) ≡ Some k → slice_index_or w.filled r false ≡ true
+  pub filled : (r k : ℕ) → r < w.ring.readers → cursor_in (slice_index w.known r) ≡ Some k
+      → slice_index_or w.filled r false ≡ true
 
--- the writer may fill the lane of reader r: there is a row, room for it as far as the writer knows, and it didn't fill that lane
+-- the writer may fill the lane of reader r: there is a row, room for it as far as the writer knows, and it didn't
+-- fill that lane
 pub record MayFill (w : WriterView) (r : ℕ) : Type 0 where
   pub in_range : r < w.ring.readers
   pub row : w.head < w.ring.total
@@ -128,7 +135,8 @@ Told = Step Slot → Sat → ℕ → Sat → Type 0
 pub record IsLook (before : Sat) (r n : ℕ) (after : Sat) : Type 0 where
   pub seat : after ≡ (Writer (looked_at r n (writer_in before.0)), before.1)
   pub cursor : IsCursorOf (writer_in before.0) r n
-  pub told : (note : CursorNoteView) → (writer_in before.0).told ≡ Some note → note.number ≡ r → IsPastNote note n
+  pub told : (note : CursorNoteView) → (writer_in before.0).told ≡ Some note → note.number ≡ r
+      → IsPastNote note n
 
 abbrev pub LooksAt : Told
 LooksAt s before n after = (r : ℕ) → s.word ≡ r + 1 → IsLook before r n after
@@ -139,9 +147,9 @@ PublishesAt s before n after = after ≡ (Writer (published (writer_in before.0)
 -- the writer has the lane of reader r out, whose buffer is as long as the row that it is to hold
 pub record IsPick (r : ℕ) (before after : Sat) : Type 0 where
   pub lane : Lane
-  pub seat : after ≡ (Writer (picked r (writer_in before.0)), (slot_for (writer_in before.0) r, Some lane) ∷ before.1)
+  pub seat : let w = writer_in before.0 in after ≡ (Writer (picked r w), (slot_for w r, Some lane) ∷ before.1)
   pub long : length lane.bytes.items ≡ (writer_in before.0).ring.row_len
-  pub row_long : length (row_at (writer_in before.0).ring (writer_in before.0).head) ≡ (writer_in before.0).ring.row_len
+  pub row_long : let w = writer_in before.0 in length (row_at w.ring w.head) ≡ w.ring.row_len
 
 abbrev pub PicksAt : ℕ → Told
 PicksAt r s before n after = IsPick r before after
@@ -152,7 +160,8 @@ PlacesAt s before n after = after ≡ (Writer (placed (writer_in before.0)), res
 pub record IsSight (before : Sat) (n : ℕ) (after : Sat) : Type 0 where
   pub seat : after ≡ (Reader (saw_head n (reader_in before.0)), before.1)
   pub grows : (reader_in before.0).seen ≤ n
-  pub told : (note : HeadNoteView) → (reader_in before.0).told ≡ Some note → IsPastHead note (reader_in before.0).number n
+  pub told : (note : HeadNoteView) → (reader_in before.0).told ≡ Some note
+      → IsPastHead note (reader_in before.0).number n
 
 abbrev pub SeesAt : Told
 SeesAt s before n after = IsSight before n after
@@ -160,7 +169,7 @@ SeesAt s before n after = IsSight before n after
 -- the reader has its lane out, and the buffer is that of its next row
 pub record IsTake (before after : Sat) : Type 0 where
   pub lane : Lane
-  pub seat : after ≡ (Reader (took (reader_in before.0)), (slot_of (reader_in before.0), Some lane) ∷ before.1)
+  pub seat : let x = reader_in before.0 in after ≡ (Reader (took x), (slot_of x, Some lane) ∷ before.1)
   pub number : lane.number ≡ Some (reader_in before.0).taken
   pub row : lane.bytes.items ≡ row_at (reader_in before.0).ring (reader_in before.0).taken
 

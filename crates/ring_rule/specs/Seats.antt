@@ -1,10 +1,9 @@
 -- What holds of each seat between its calls: the token's view beside the copies of its numbers that the code reads.
-use Rattle.std.specs.Prelude.{◌≡◌, ℕ, ◌+◌, ◌<◌, Bool, true, false, if◌then◌else◌, List, [], ◌∷◌, Option, Some, None}
+use Rattle.std.specs.Prelude.{◌≡◌, ℕ, ◌+◌, ◌<◌, Bool, true, if◌then◌else◌, List, [], ◌∷◌, None}
 use Rattle.atomic_table.specs.Seated.{TableId}
 use Rattle.ring_rule.specs.declared.view.RingNumbers.{RingNumbers}
 use Rattle.ring_rule.specs.declared.view.WriterView.{WriterView}
 use Rattle.ring_rule.specs.declared.view.ReaderView.{ReaderView}
-use Rattle.ring_rule.specs.declared.view.View.{View}
 use Rattle.ring_rule.specs.declared.view.View.TheVariants.{Writer, Reader, HeadNote, CursorNote}
 use Rattle.ring_rule.specs.Views.{left_word, new_writer}
 use Rattle.ring_rule.specs.Shown.{Slot}
@@ -21,7 +20,8 @@ seated_writer w = (Writer w, [])
 abbrev pub seated_reader : ReaderView → Sat
 seated_reader x = (Reader x, held_by x)
 
-pub record IsWriterSeat (g : RingNumbers) (shared own : TableId) (me : Sat) (places head total : ℕ) : Type 0 where
+pub record IsWriterSeat (g : RingNumbers) (shared own : TableId) (me : Sat) (places head total : ℕ)
+    : Type 0 where
   -- the seat is of the table that it steps on, which has a word for the head and one for each reader
   pub table : own ≡ shared
   pub words : own.words ≡ g.readers + 1
@@ -34,7 +34,8 @@ pub record IsWriterSeat (g : RingNumbers) (shared own : TableId) (me : Sat) (pla
   pub head_is : head ≡ (writer_in me.0).head
   pub total_is : total ≡ g.total
 
-pub record IsReaderSeat (g : RingNumbers) (shared own : TableId) (me : Sat) (number places cursor seen : ℕ) (closed : Bool) : Type 0 where
+pub record IsReaderSeat (g : RingNumbers) (shared own : TableId) (me : Sat) (number places cursor seen : ℕ)
+    (closed : Bool) : Type 0 where
   -- the seat is of the table that it steps on, which has a word for the head and one for each reader
   pub table : own ≡ shared
   pub words : own.words ≡ g.readers + 1

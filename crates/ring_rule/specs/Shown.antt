@@ -1,5 +1,5 @@
 -- The schedule that shared words, lane slots and the views of the seats show.
-use Rattle.std.specs.Prelude.{◌≡◌, ℕ, ◌+◌, ◌%◌, Bool, true, false, ◌&&◌, nat_lt, nat_eq, if◌then◌else◌, List, Option, Some, None, slice_index, slice_index_or}
+use Rattle.std.specs.Prelude.{ℕ, ◌+◌, Bool, true, false, ◌&&◌, nat_lt, nat_eq, if◌then◌else◌, List, Option, Some, None, slice_index, slice_index_or}
 use mathlib.Core.Option.{Option as AtHome, none, some}
 use Rattle.atomic_table.specs.Table.{State}
 use Rattle.ring_core.specs.declared.event.Stage.{Stage}
@@ -66,7 +66,8 @@ counted head (Some c) number = from_low c number
 
 -- what lies in the lane of reader r for row n
 abbrev pub row_shown : ℕ → List ℕ → Homes → ℕ → ℕ → Option ℕ
-row_shown places words homes r n = counted (head_shown words) (cursor_shown words r) (number_in (home_at homes (lane_place places r n)))
+row_shown places words homes r n =
+    counted (head_shown words) (cursor_shown words r) (number_in (home_at homes (lane_place places r n)))
 
 abbrev pub is_number : ℕ → Option ℕ → Bool
 is_number n None = false
@@ -81,7 +82,8 @@ stage_shown head (Some c) out = if nat_lt c head && out c then Holding else Idle
 abbrev pub lanes_shown : ℕ → List ℕ → Homes → ℕ → Lanes
 lanes_shown places words homes r = record {
   filled = is_number (head_shown words) (row_shown places words homes r (head_shown words));
-  stage = stage_shown (head_shown words) (cursor_shown words r) (λ n. is_out (home_at homes (lane_place places r n)));
+  stage = let out : ℕ → Bool = λ n. is_out (home_at homes (lane_place places r n)) in
+      stage_shown (head_shown words) (cursor_shown words r) out;
   row = row_shown places words homes r;
 }
 
@@ -99,4 +101,6 @@ progress_shown g s r = shown s.words (writer_of g s.views) (reader_of g s.views)
 
 -- the schedule that the table shows
 abbrev pub schedule_shown : RingNumbers → RingState → Schedule
-schedule_shown g s = schedule_of g.places g.total (head_shown s.words) g.readers (progress_shown g s) (lanes_shown g.places s.words s.homes)
+schedule_shown g s =
+    let lanes : ℕ → Lanes = lanes_shown g.places s.words s.homes in
+    schedule_of g.places g.total (head_shown s.words) g.readers (progress_shown g s) lanes

@@ -1,5 +1,6 @@
--- The views of a ring's seats: who acts by them, what they begin with, and the views that stand for actors with no seat yet.
-use Rattle.std.specs.Prelude.{◌≡◌, ℕ, zero, suc, ◌+◌, false, nat_eq, if◌then◌else◌, List, [], ◌∷◌, ◌++◌, length, replicate, Option, Some, None}
+-- The views of a ring's seats: who acts by them, what they begin with, and the views that stand for actors with no
+-- seat yet.
+use Rattle.std.specs.Prelude.{ℕ, zero, suc, ◌+◌, false, nat_eq, if◌then◌else◌, List, [], ◌∷◌, ◌++◌, length, replicate, Option, Some, None}
 use Rattle.ring_rule.specs.declared.view.RingNumbers.{RingNumbers}
 use Rattle.ring_rule.specs.declared.view.WriterView.{WriterView}
 use Rattle.ring_rule.specs.declared.view.ReaderView.{ReaderView}
@@ -8,7 +9,13 @@ use Rattle.ring_rule.specs.declared.view.View.TheVariants.{Writer, Reader, HeadN
 
 -- the numbers of a ring of these rows
 abbrev pub ring_of : ℕ → ℕ → List (List ℕ) → ℕ → RingNumbers
-ring_of places readers rows size = record { places = places; readers = readers; total = length rows; row_len = size; rows = rows }
+ring_of places readers rows size = record {
+  places = places;
+  readers = readers;
+  total = length rows;
+  row_len = size;
+  rows = rows;
+}
 
 -- the cursor word of a reader that left, 2^64 - 1
 abbrev pub left_word : ℕ
@@ -44,7 +51,16 @@ abbrev pub new_writer : RingNumbers → WriterView
 new_writer g = counted_writer g 0
 
 abbrev pub new_reader : RingNumbers → ℕ → ReaderView
-new_reader g r = record { ring = g; number = r; taken = 0; left = false; out = false; seen = 0; loads = 0; told = None }
+new_reader g r = record {
+  ring = g;
+  number = r;
+  taken = 0;
+  left = false;
+  out = false;
+  seen = 0;
+  loads = 0;
+  told = None;
+}
 
 -- who acts by a view: the writer is 0, reader r is r + 1; a note and a spent view act no more
 abbrev pub actor_of : View → Option ℕ

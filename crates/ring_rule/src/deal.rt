@@ -45,9 +45,11 @@ pub fn deal_seats<'t, D: Deal>(
     requires room { readers ≤ vec_capacity list }
     requires table { IsRingTable (key_ring D.rows D.size shared.now.key) shared.now.table_id places readers }
     requires total { (key_ring D.rows D.size shared.now.key).total ≡ total }
-    requires fresh { IsFreshSeat (key_ring D.rows D.size shared.now.key) shared.now.table_id seat.table_id seat.me }
+    requires fresh { let g = key_ring D.rows D.size shared.now.key in
+        IsFreshSeat g shared.now.table_id seat.table_id seat.me }
     ensures writer { result.writer ≡ new_writer_mark seat.table_id (key_ring D.rows D.size shared.now.key) }
-    ensures readers { result.readers.items ≡ map (new_reader_mark seat.table_id (key_ring D.rows D.size shared.now.key)) (up_to readers) }
+    ensures readers { let g = key_ring D.rows D.size shared.now.key in
+        result.readers.items ≡ map (new_reader_mark seat.table_id g) (up_to readers) }
 {
     for number in 0..readers {
         let cut = shared.split_seat::<Seating>(&mut seat);

@@ -1,5 +1,7 @@
-// A ring's head and cursors in shared words, and its lanes in slots. Word 0 is the head, word 1 + r the cursor of reader r, slot
-// r * places + p the lane of reader r at place p. Each atomic step of the writer and of the readers keeps one rule: words, slots and
+// A ring's head and cursors in shared words, and its lanes in slots. Word 0 is the head, word 1 + r the cursor of
+// reader r, slot
+// r * places + p the lane of reader r at place p. Each atomic step of the writer and of the readers keeps one rule:
+// words, slots and
 // what each seat knows show a sound schedule, and each lane at home holds the bytes of its row.
 #![tactic(auto)]
 
@@ -16,12 +18,13 @@ mod table;
 mod view;
 mod writer;
 
+pub use lane::{Lane, LaneRow};
 pub use laws::{
-    advance_is_event, cursor_note_shows_the_same, first_is_start, give_is_close, head_note_shows_the_same, leave_is_event,
-    look_is_event, meet_cursor_shows_the_same, meet_head_shows_the_same, pick_shows_the_same, place_is_fill, publish_is_event,
+    advance_is_event, cursor_note_shows_the_same, first_is_start, give_is_close,
+    head_note_shows_the_same, leave_is_event, look_is_event, meet_cursor_shows_the_same,
+    meet_head_shows_the_same, pick_shows_the_same, place_is_fill, publish_is_event,
     rule_shows_sound, see_is_event, split_shows_the_same, take_is_open,
 };
-pub use lane::{Lane, LaneRow};
 pub use note::{CursorNoteSeat, HeadNoteSeat};
 pub use reader::ReaderSeat;
 pub use rule::{RingKey, RingRule};

@@ -1,4 +1,5 @@
-// The writer takes the lane of one reader. The step is a load of word 0, which tells of no reader, so the play is of a type that has
+// The writer takes the lane of one reader. The step is a load of word 0, which tells of no reader, so the play is of
+// a type that has
 // the reader's number in a ghost member: the caller picks it.
 ghost use Rattle.std.specs.Prelude.{◌≡◌, ℕ, ◌<◌};
 ghost use Rattle.ring_rule.specs.Plays.{PicksAt, IsPick, MayFill, writer_in};
@@ -36,7 +37,8 @@ pub fn pick<J: Chosen, D: Deal>(
     total: u64,
 )
     requires chosen { reader ≡ J.reader }
-    requires seat { IsWriterSeat (key_ring D.rows D.size shared.now.key) shared.now.table_id seat.old.table_id seat.old.me places head total }
+    requires seat { let g = key_ring D.rows D.size shared.now.key in
+        IsWriterSeat g shared.now.table_id seat.old.table_id seat.old.me places head total }
     requires may { MayFill (writer_in seat.old.me.0) reader }
     ensures table { seat.new.table_id ≡ seat.old.table_id }
     ensures picked { IsPick reader seat.old.me seat.new.me }

@@ -32,7 +32,10 @@ impl<'t, D: Deal> Model for ReaderSeat<'t, D> {
 
     ghost view = { λ s. record { table = s.seat.table_id; view = reader_in s.seat.me.0; closed = s.closed } };
 
-    ghost invariant = { λ s. let g = key_ring D.rows D.size s.shared.now.key in IsReaderSeat g s.shared.now.table_id s.seat.table_id s.seat.me s.number s.places s.cursor s.seen s.closed };
+    ghost invariant = { λ s.
+        let g = key_ring D.rows D.size s.shared.now.key in
+        let table = s.shared.now.table_id in
+        IsReaderSeat g table s.seat.table_id s.seat.me s.number s.places s.cursor s.seen s.closed };
 }
 
 impl<'t, D: Deal> ReaderSeat<'t, D> {
@@ -43,7 +46,8 @@ impl<'t, D: Deal> ReaderSeat<'t, D> {
         number: u32,
         places: u32,
     ) -> ReaderSeat<'t, D>
-        requires { IsReaderSeat (key_ring D.rows D.size shared.now.key) shared.now.table_id seat.table_id seat.me number places 0 0 false }
+        requires { let g = key_ring D.rows D.size shared.now.key in
+            IsReaderSeat g shared.now.table_id seat.table_id seat.me number places 0 0 false }
         ensures { result ≡ record { table = seat.table_id; view = reader_in seat.me.0; closed = false } }
     {
         ReaderSeat {
@@ -131,14 +135,17 @@ impl<'t, D: Deal> ReaderSeat<'t, D> {
         ensures note { result ≡ record { table = self.old.table; note = cursor_note self.old.view } }
         ensures same { self.new ≡ self.old }
     {
-        CursorNoteSeat::new(self.shared.split_seat::<Noting>(&mut self.seat), self.number)
+        let cut = self.shared.split_seat::<Noting>(&mut self.seat);
+        CursorNoteSeat::new(cut, self.number)
     }
 
     /// Takes in a note of the writer and loads the head.
     pub fn meet(&mut self, note: HeadNoteSeat<D>) -> u64
         requires table { note.table ≡ self.old.table }
         requires joined { self.old.view.left ≡ false }
-        ensures view { self.new ≡ record self.old { view = saw_head result (reader_met note.note self.old.view) } }
+        ensures view { self.new ≡ record self.old {
+          view = saw_head result (reader_met note.note self.old.view);
+        } }
         ensures grows { self.old.view.seen ≤ result }
         ensures told { IsPastHead note.note self.old.view.number result }
     {

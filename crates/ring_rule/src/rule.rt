@@ -22,9 +22,12 @@ pub struct RingKey<D> {
 pub struct RingRule<D>(PhantomData<D>);
 
 impl<D: Deal> TableRule<Option<Lane>, View, RingKey<D>> for RingRule<D> {
-    ghost holds = { λ key. Kept (ring_of key.places key.readers (D.rows key.deal.value) (D.size key.deal.value)) };
+    ghost holds = { λ key.
+        Kept (ring_of key.places key.readers (D.rows key.deal.value) (D.size key.deal.value)) };
 
-    ghost first = { λ key. Writer (new_writer (ring_of key.places key.readers (D.rows key.deal.value) (D.size key.deal.value))) };
+    ghost first = { λ key.
+        let g = ring_of key.places key.readers (D.rows key.deal.value) (D.size key.deal.value) in
+        Writer (new_writer g) };
 }
 
 /// The ring's table as threads share it.

@@ -31,9 +31,16 @@ pub struct RingTable<'d, D: Deal> {
 impl<'d, D: Deal> Model for RingTable<'d, D> {
     ghost Value = { TableMark };
 
-    ghost view = { λ t. record { table = t.table.shared.table_id; ring = key_ring D.rows D.size t.table.shared.key; fresh = is_some t.seat } };
+    ghost view = { λ t. record {
+      table = t.table.shared.table_id;
+      ring = key_ring D.rows D.size t.table.shared.key;
+      fresh = is_some t.seat;
+    } };
 
-    ghost invariant = { λ t. let g = key_ring D.rows D.size t.table.shared.key in IsRingTable g t.table.shared.table_id t.places t.readers × (g.total ≡ length (D.rows t.deal.now)) × ForSome t.seat (λ s. IsFreshSeat g t.table.shared.table_id s.table_id s.me) };
+    ghost invariant = { λ t.
+        let g = key_ring D.rows D.size t.table.shared.key in
+        IsRingTable g t.table.shared.table_id t.places t.readers × (g.total ≡ length (D.rows t.deal.now))
+        × ForSome t.seat (λ s. IsFreshSeat g t.table.shared.table_id s.table_id s.me) };
 }
 
 /// The seats of a ring. The seat of reader r stands at index r.
@@ -56,7 +63,8 @@ impl<'d, D: Deal> RingTable<'d, D> {
         requires some_reader { 1 ≤ readers }
         requires few_readers { readers ≤ 17 }
         requires total { length (D.rows deal.now) ≤ 2 ^ 64 - 2 }
-        ensures ring { IfOk result (λ table. table.ring ≡ ring_of places readers (D.rows deal.now) (D.size deal.now)) }
+        ensures ring { IfOk result (λ table.
+            table.ring ≡ ring_of places readers (D.rows deal.now) (D.size deal.now)) }
         ensures fresh { IfOk result (λ table. table.fresh ≡ true) }
     {
         let key = RingKey {
@@ -78,11 +86,14 @@ impl<'d, D: Deal> RingTable<'d, D> {
         })
     }
 
-    /// Gives out the seats, all of this table. It is the first call on the table; where there is no memory they are still there.
+    /// Gives out the seats, all of this table. It is the first call on the table; where there is no memory they are
+    /// still there.
     pub fn seats(&mut self, alloc: Global) -> Result<Seats<'_, D>, NoMemory>
         requires { self.old.fresh ≡ true }
         ensures writer { IfOk result (λ seats. seats.writer ≡ new_writer_mark self.old.table self.old.ring) }
-        ensures readers { IfOk result (λ seats. seats.readers.items ≡ map (new_reader_mark self.old.table self.old.ring) (up_to self.old.ring.readers)) }
+        ensures readers { IfOk result (λ seats.
+            let g = self.old.ring in
+            seats.readers.items ≡ map (new_reader_mark self.old.table g) (up_to g.readers)) }
     {
         let list = Vec::with_capacity(alloc, self.readers as usize)?;
         let readers = self.readers;

@@ -61,7 +61,9 @@ fn serve(
 // Publishes the next row where the one reader left or has room.
 fn write_one(writer: &mut WriterSeat<'_, Numbered>, total: u64, head: u64) -> bool
     requires { IsIdleWriter 4 1 total head writer.old.view }
-    ensures done { MatchBool result (IsIdleWriter 4 1 total (head + 1) writer.new.view) (IsIdleWriter 4 1 total head writer.new.view) }
+    ensures done { MatchBool result
+        (IsIdleWriter 4 1 total (head + 1) writer.new.view)
+        (IsIdleWriter 4 1 total head writer.new.view) }
     ensures table { writer.new.table ≡ writer.old.table }
 {
     let cursor = writer.look(0);
@@ -79,7 +81,9 @@ fn write_one(writer: &mut WriterSeat<'_, Numbered>, total: u64, head: u64) -> bo
 // Publishes the next row where each of two readers left or has room.
 fn write_both(writer: &mut WriterSeat<'_, Numbered>, total: u64, head: u64) -> bool
     requires { IsIdleWriter 2 2 total head writer.old.view }
-    ensures done { MatchBool result (IsIdleWriter 2 2 total (head + 1) writer.new.view) (IsIdleWriter 2 2 total head writer.new.view) }
+    ensures done { MatchBool result
+        (IsIdleWriter 2 2 total (head + 1) writer.new.view)
+        (IsIdleWriter 2 2 total head writer.new.view) }
     ensures table { writer.new.table ≡ writer.old.table }
 {
     let first = writer.look(0);
@@ -102,7 +106,9 @@ fn write_both(writer: &mut WriterSeat<'_, Numbered>, total: u64, head: u64) -> b
 // Takes the next row where there is one, compares it, and gives it back.
 fn read_one(rt: &impl Abort, reader: &mut ReaderSeat<'_, Numbered>, total: u64, taken: u64) -> bool
     requires { IsIdleReader total taken reader.old.view }
-    ensures done { MatchBool result (IsIdleReader total (taken + 1) reader.new.view) (IsIdleReader total taken reader.new.view) }
+    ensures done { MatchBool result
+        (IsIdleReader total (taken + 1) reader.new.view)
+        (IsIdleReader total taken reader.new.view) }
     ensures table { reader.new.table ≡ reader.old.table }
 {
     if reader.see() <= taken {
@@ -164,12 +170,7 @@ fn write_rows(mut writer: WriterSeat<'_, Numbered>, total: u64, rounds: u64) -> 
 }
 
 // Takes rows until all are taken, and gives how many were.
-fn read_rows(
-    rt: &impl Abort,
-    mut reader: ReaderSeat<'_, Numbered>,
-    total: u64,
-    rounds: u64,
-) -> u64
+fn read_rows(rt: &impl Abort, mut reader: ReaderSeat<'_, Numbered>, total: u64, rounds: u64) -> u64
     requires { IsIdleReader total 0 reader.view }
 {
     let mut taken = 0;

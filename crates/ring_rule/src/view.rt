@@ -64,7 +64,8 @@ pub struct CursorNoteView {
     pub left: bool,
 }
 
-/// What one seat knows. It names the seat's actor: the writer, a reader, a note with its maker, or none once it was joined to another.
+/// What one seat knows. It names the seat's actor: the writer, a reader, a note with its maker, or none once it was
+/// joined to another.
 pub enum View {
     Writer(WriterView),
     Reader(ReaderView),

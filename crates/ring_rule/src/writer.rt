@@ -14,7 +14,8 @@ use crate::{CursorNoteSeat, HeadNoteSeat, RingSeat, RingShared};
 use pr_base::Deal;
 use std::marker::{Brand, Model};
 
-/// The seat by which the writer looks at cursors, fills lanes and stores the head. Contracts see its table and its view.
+/// The seat by which the writer looks at cursors, fills lanes and stores the head. Contracts see its table and its
+/// view.
 #[derive(Drop)]
 pub struct WriterSeat<'t, D: Deal> {
     shared: &'t RingShared<D>,
@@ -29,7 +30,9 @@ impl<'t, D: Deal> Model for WriterSeat<'t, D> {
 
     ghost view = { λ s. record { table = s.seat.table_id; view = writer_in s.seat.me.0 } };
 
-    ghost invariant = { λ s. let g = key_ring D.rows D.size s.shared.now.key in IsWriterSeat g s.shared.now.table_id s.seat.table_id s.seat.me s.places s.head s.total };
+    ghost invariant = { λ s.
+        let g = key_ring D.rows D.size s.shared.now.key in
+        IsWriterSeat g s.shared.now.table_id s.seat.table_id s.seat.me s.places s.head s.total };
 }
 
 impl<'t, D: Deal> WriterSeat<'t, D> {
@@ -40,7 +43,8 @@ impl<'t, D: Deal> WriterSeat<'t, D> {
         places: u32,
         total: u64,
     ) -> WriterSeat<'t, D>
-        requires { IsWriterSeat (key_ring D.rows D.size shared.now.key) shared.now.table_id seat.table_id seat.me places 0 total }
+        requires { let g = key_ring D.rows D.size shared.now.key in
+            IsWriterSeat g shared.now.table_id seat.table_id seat.me places 0 total }
         ensures { result ≡ record { table = seat.table_id; view = writer_in seat.me.0 } }
     {
         WriterSeat {
@@ -69,7 +73,14 @@ impl<'t, D: Deal> WriterSeat<'t, D> {
         ensures { self.new ≡ record self.old { view = filled_lane reader self.old.view } }
     {
         let slot = slot_number(reader, self.places, self.head);
-        pick::<Brand, D>(self.shared, &mut self.seat, reader, self.places, self.head, self.total);
+        pick::<Brand, D>(
+            self.shared,
+            &mut self.seat,
+            reader,
+            self.places,
+            self.head,
+            self.total,
+        );
         let Some(lane) = self.shared.exchange(&mut self.seat, slot, None) else {
             unreachable!()
         };
@@ -102,7 +113,9 @@ impl<'t, D: Deal> WriterSeat<'t, D> {
     /// Takes in the note of a reader and loads that reader's cursor word.
     pub fn meet(&mut self, note: CursorNoteSeat<D>) -> u64
         requires { note.table ≡ self.old.table }
-        ensures view { self.new ≡ record self.old { view = looked_at note.note.number result (writer_met note.note self.old.view) } }
+        ensures view { self.new ≡ record self.old {
+          view = looked_at note.note.number result (writer_met note.note self.old.view);
+        } }
         ensures cursor { IsCursorOf self.old.view note.note.number result }
         ensures told { IsPastNote note.note result }
     {

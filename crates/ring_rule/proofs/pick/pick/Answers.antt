@@ -1,4 +1,4 @@
-use Rattle.std.proofs.Common.{◌≡◌, ◌<◌, ap, sym, ◌∙◌, subst, arith}
+use Rattle.std.proofs.Common.{◌≡◌, ap, subst, arith}
 use mathlib.Core.Option.{none}
 use Rattle.atomic_table.specs.Table.{step, Allows}
 use Rattle.atomic_table.specs.Seated.{TableId}
@@ -16,8 +16,7 @@ load-requires g c =
     let w = writer_in seat.me.0 in
     let ring = key_ring g.D.Deal.rows g.D.Deal.size c.args.shared.now.key in
     let words : seat.table_id.words ≡ table.words = ap (λ (t : TableId). t.words) i.table in
-    let count = i.words in
-    (
+    let count = i.words in (
       i.table,
       omega arith,
       subst (λ r. Allows (Kept ring) table.slots seat.id seat.me 0 (λ n. n) (PicksAt r (step table.slots 0 0 0 none) seat.me)) c.requires.chosen

@@ -1,4 +1,4 @@
-use Rattle.std.proofs.Common.{◌≡◌, ◌≢◌, ◌∙◌, arith}
+use Rattle.std.proofs.Common.{◌≢◌, ◌∙◌, arith}
 use Rattle.ring_rule.specs.Views.{left_word}
 use Rattle.ring_rule.proofs.Trial.{offered_fill, offered_row}
 use Rattle.ring_rule.proofs.tests.serve.Goals as goal

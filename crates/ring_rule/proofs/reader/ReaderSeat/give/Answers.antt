@@ -1,4 +1,4 @@
-use Rattle.std.proofs.Common.{◌≡◌, ◌+◌, ◌<◌, ℕ, true, [], ◌∷◌, List, ap, sym, ◌∙◌, subst, arith}
+use Rattle.std.proofs.Common.{◌≡◌, ◌+◌, true, ap, sym, ◌∙◌, subst, arith}
 use Rattle.std.specs.Prelude.{Some}
 use Rattle.atomic_table.specs.Seated.{TableId}
 use Rattle.ring_rule.specs.Marks.{ReaderMark}
@@ -25,8 +25,7 @@ load-requires g c =
     let taken : c.args.row.number ≡ x.taken = subst (λ (m : ReaderMark). c.args.row.number ≡ m.view.taken) (sym c.self.view_is) c.requires.number in
     let bytes : c.args.row.bytes ≡ row_at x.ring x.taken = subst (λ (m : ReaderMark). c.args.row.bytes ≡ row_at m.view.ring m.view.taken) (sym c.self.view_is) c.requires.bytes in
     let slot : slot_of x ≡ c.slot_number-home.result = reader_slot ring s.shared.now.table_id s.seat.table_id s.seat.me s.number s.places s.cursor s.seen s.closed i ∙ sym c.slot_number-home.ensures in
-    let me = filled_slot s.seat.me c.exchange.new.seat.me c.slot_number-home.result lane (held_out s.seat.me i.me_is out) c.exchange.ensures.3 in
-    (
+    let me = filled_slot s.seat.me c.exchange.new.seat.me c.slot_number-home.result lane (held_out s.seat.me i.me_is out) c.exchange.ensures.3 in (
       table,
       omega arith,
       may_give ring s.shared.now.table_id.slots c.exchange.new.seat.id c.exchange.new.seat.me x (s.number + 1) c.slot_number-home.result lane me (omega arith) (sym slot) out
@@ -42,4 +41,4 @@ invariant_of-self g c =
     let out : x.out ≡ true = subst (λ (m : ReaderMark). m.view.out ≡ true) (sym c.self.view_is) c.requires.out in
     let me = filled_slot s.seat.me c.exchange.new.seat.me c.slot_number-home.result c.into_lane-lane.result (held_out s.seat.me i.me_is out) c.exchange.ensures.3 in
     given_seat ring s.shared.now.table_id s.seat.table_id c.load.new.seat.table_id s.number s.places s.cursor s.seen c.slot_number-home.result s.closed c.into_lane-lane.result s.seat.me c.exchange.new.seat.me c.load.new.seat.me
-        i out (c.load.ensures.0 ∙ c.exchange.ensures.0) me c.load.ensures.2
+    i out (c.load.ensures.0 ∙ c.exchange.ensures.0) me c.load.ensures.2

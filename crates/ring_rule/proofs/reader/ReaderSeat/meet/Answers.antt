@@ -1,4 +1,4 @@
-use Rattle.std.proofs.Common.{◌≡◌, ◌<◌, false, [], ap, sym, ◌∙◌, subst, arith}
+use Rattle.std.proofs.Common.{◌≡◌, false, ap, sym, ◌∙◌, subst, arith}
 use Rattle.atomic_table.specs.Seated.{TableId}
 use Rattle.ring_rule.specs.Marks.{ReaderMark}
 use Rattle.ring_rule.specs.Plays.{Sat, reader_in, reader_met, IsPastHead}
@@ -14,8 +14,7 @@ join_seat-requires g c =
     let words : s.seat.table_id.words ≡ s.shared.now.table_id.words = ap (λ (t : TableId). t.words) i.table in
     let count = i.words in
     let own : c.args.note.table ≡ s.seat.table_id = subst (λ (m : ReaderMark). c.args.note.table ≡ m.table) (sym c.self.view_is) c.requires.table in
-    let held = ap (λ (m : Sat). m.1) c.into_seat.ensures.me in
-    (
+    let held = ap (λ (m : Sat). m.1) c.into_seat.ensures.me in (
       i.table,
       c.into_seat.ensures.table ∙ (own ∙ i.table),
       held,
@@ -32,8 +31,7 @@ load-found-requires g c =
     let own : s.seat.table_id.words ≡ s.shared.now.table_id.words = ap (λ (t : TableId). t.words) i.table in
     let count = i.words in
     let me = reader_after s.seat.me c.into_seat.result.me c.join_seat.new.seat.me c.args.note.note i.me_is c.into_seat.ensures.me c.join_seat.ensures.2 in
-    let joined : x.left ≡ false = subst (λ (m : ReaderMark). m.view.left ≡ false) (sym c.self.view_is) c.requires.joined in
-    (
+    let joined : x.left ≡ false = subst (λ (m : ReaderMark). m.view.left ≡ false) (sym c.self.view_is) c.requires.joined in (
       table,
       omega arith,
       may_see (key_ring g.D.Deal.rows g.D.Deal.size s.shared.now.key) s.shared.now.table_id.slots c.join_seat.new.seat.id c.join_seat.new.seat.me (reader_met c.args.note.note x) me joined,
@@ -45,4 +43,4 @@ returns-clause-told g c =
     let i = c.self.invariant in
     let me = reader_after s.seat.me c.into_seat.result.me c.join_seat.new.seat.me c.args.note.note i.me_is c.into_seat.ensures.me c.join_seat.ensures.2 in
     subst (λ (m : ReaderMark). IsPastHead c.args.note.note m.view.number c.load-found.result) c.self.view_is
-        (told_head s.shared.now.table_id.slots c.load-found.result s.seat.me c.join_seat.new.seat.me c.load-found.new.seat.me c.args.note.note me c.load-found.ensures.2)
+    (told_head s.shared.now.table_id.slots c.load-found.result s.seat.me c.join_seat.new.seat.me c.load-found.new.seat.me c.args.note.note me c.load-found.ensures.2)

@@ -1,4 +1,4 @@
-use Rattle.std.proofs.Common.{◌≡◌, ◌≤◌, false, ap, sym, ◌∙◌, subst, arith}
+use Rattle.std.proofs.Common.{◌≡◌, false, ap, sym, subst, arith}
 use Rattle.atomic_table.specs.Seated.{TableId}
 use Rattle.ring_rule.specs.Marks.{ReaderMark}
 use Rattle.ring_rule.specs.Plays.{reader_in}

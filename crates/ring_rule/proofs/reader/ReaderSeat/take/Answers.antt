@@ -1,9 +1,7 @@
-use Rattle.std.proofs.Common.{◌≡◌, ◌+◌, ◌<◌, ℕ, false, [], ◌∷◌, ap, sym, ◌∙◌, subst, arith}
-use Rattle.std.specs.Prelude.{Some}
+use Rattle.std.proofs.Common.{◌≡◌, ◌+◌, ap, sym, ◌∙◌, subst, arith}
 use Rattle.atomic_table.specs.Seated.{TableId}
-use Rattle.ring_core.specs.Schedule.{lane_place}
 use Rattle.ring_rule.specs.Marks.{ReaderMark}
-use Rattle.ring_rule.specs.Plays.{Sat, reader_in, slot_of, MayTake}
+use Rattle.ring_rule.specs.Plays.{reader_in, slot_of, MayTake}
 use Rattle.ring_rule.specs.Key.{key_ring}
 use Rattle.ring_rule.proofs.Seated.{may_take, empty_hands, reader_slot, taken_slot}
 use Rattle.ring_rule.proofs.reader.ReaderSeat.take.Goals as goal

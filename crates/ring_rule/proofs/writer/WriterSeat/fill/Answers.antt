@@ -1,4 +1,4 @@
-use Rattle.std.proofs.Common.{◌≡◌, ◌+◌, ◌<◌, ℕ, true, [], ◌∷◌, List, ap, sym, ◌∙◌, refl, subst, arith}
+use Rattle.std.proofs.Common.{◌≡◌, ap, sym, ◌∙◌, refl, subst, arith}
 use Rattle.std.specs.Prelude.{Some}
 use Rattle.atomic_table.specs.Seated.{TableId}
 use Rattle.ring_rule.specs.Marks.{WriterMark}
@@ -31,8 +31,7 @@ load-requires g c =
     let count = i.words in
     let slot : slot_for w r ≡ c.slot_number-slot.result = writer_slot ring s.shared.now.table_id s.seat.table_id s.seat.me s.places s.head s.total r i ∙ sym c.slot_number-slot.ensures in
     let me = placed_slot s.seat.me c.pick.new.seat.me c.exchange.new.seat.me c.exchange-2.new.seat.me r c.slot_number-slot.result lane i.me_is c.pick.ensures.picked c.exchange.ensures.3 c.exchange-2.ensures.3 in
-    let bytes : c.args.row.now ≡ row_at w.ring w.head = subst (λ (m : WriterMark). c.args.row.now ≡ row_at m.view.ring m.view.head) (sym c.self.view_is) c.requires.bytes in
-    (
+    let bytes : c.args.row.now ≡ row_at w.ring w.head = subst (λ (m : WriterMark). c.args.row.now ≡ row_at m.view.ring m.view.head) (sym c.self.view_is) c.requires.bytes in (
       table,
       omega arith,
       may_place ring s.shared.now.table_id.slots c.exchange-2.new.seat.id r c.slot_number-slot.result c.exchange-2.new.seat.me (picked r w) lane me (sym slot) refl

@@ -1,4 +1,4 @@
-use Rattle.std.proofs.Common.{◌≡◌, ◌+◌, ◌<◌, [], ap, sym, ◌∙◌, subst, arith}
+use Rattle.std.proofs.Common.{◌≡◌, ◌<◌, ap, sym, ◌∙◌, subst, arith}
 use Rattle.atomic_table.specs.Seated.{TableId}
 use Rattle.ring_rule.specs.Marks.{WriterMark}
 use Rattle.ring_rule.specs.Plays.{Sat, writer_in, writer_met}
@@ -14,8 +14,7 @@ join_seat-requires g c =
     let words : s.seat.table_id.words ≡ s.shared.now.table_id.words = ap (λ (t : TableId). t.words) i.table in
     let count = i.words in
     let own : c.args.note.table ≡ s.seat.table_id = subst (λ (m : WriterMark). c.args.note.table ≡ m.table) (sym c.self.view_is) c.requires in
-    let held = ap (λ (m : Sat). m.1) c.into_seat.ensures.me in
-    (
+    let held = ap (λ (m : Sat). m.1) c.into_seat.ensures.me in (
       i.table,
       c.into_seat.ensures.table ∙ (own ∙ i.table),
       held,
@@ -36,8 +35,7 @@ load-requires g c =
     let same : c.args.note.table.words ≡ s.seat.table_id.words = ap (λ (t : TableId). t.words) own in
     let word = c.number-number.ensures.word in
     let in_range : c.number-number.result < ring.readers = omega arith in
-    let me = writer_after s.seat.me c.into_seat.result.me c.join_seat.new.seat.me c.args.note.note i.me_is c.into_seat.ensures.me c.join_seat.ensures.2 in
-    (
+    let me = writer_after s.seat.me c.into_seat.result.me c.join_seat.new.seat.me c.args.note.note i.me_is c.into_seat.ensures.me c.join_seat.ensures.2 in (
       table,
       omega arith,
       may_look ring s.shared.now.table_id.slots c.join_seat.new.seat.id c.join_seat.new.seat.me (writer_met c.args.note.note w) me c.number-number.result in_range i.hand,
