@@ -167,8 +167,8 @@ MeetHeadShowsTheSame = (g : RingNumbers) (s : RingState) (id other : ℕ) (x : R
     → ShowsTheSame g s (joined s id (met (Reader x) (HeadNote n)) other)
 
 abbrev pub MeetCursorShowsTheSame : Type 0
-MeetCursorShowsTheSame = (g : RingNumbers) (s : RingState) (id other : ℕ) (w : WriterView) (n : CursorNoteView)
-    → Kept g s → Has s id (Writer w) → Has s other (CursorNote n)
+MeetCursorShowsTheSame = (g : RingNumbers) (s : RingState) (id other : ℕ) (w : WriterView)
+    → (n : CursorNoteView) → Kept g s → Has s id (Writer w) → Has s other (CursorNote n)
     → ShowsTheSame g s (joined s id (met (Writer w) (CursorNote n)) other)
 
 -- what the table shows is sound, and its slots show what the views say: which lanes are filled, and which readers
