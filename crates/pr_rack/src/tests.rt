@@ -56,7 +56,7 @@ const LONG: [u8; 16] = [
 ];
 
 /// Racks are moved to threads and lent there.
-fn lent<R: Rack + Send>(_rack: &mut R) {}
+fn lent<R: Rack + Send>(_rack: &R) {}
 
 /// Builds two plates at once, and finishes the second first.
 fn build(rack: &mut MemRack, held: &Held) -> Result<(), RackFault>
@@ -79,13 +79,14 @@ fn keeps_plates_in_memory(rt: HostRuntime) -> Result<(), Fail> {
     let mut deck = deck_of(rt.alloc(), &deal)?;
     let held = deck.take();
     let mut rack = MemRack::new(rt.alloc(), Vec::new(rt.alloc()));
-    lent(&mut rack);
+    lent(&rack);
     build(&mut rack, &held)?;
     deck.give(held);
-    assert_eq!(rt; rack.files().len(), 2);
-    assert_eq!(rt; rack.files()[0].0.as_str(), "b.tif");
-    assert_eq!(rt; rack.files()[0].1.as_slice(), LONG.as_slice());
-    assert_eq!(rt; rack.files()[1].1.as_slice(), SHORT.as_slice());
+    let files = rack.files();
+    assert_eq!(rt; files.len(), 2);
+    assert_eq!(rt; files[0].0.as_str(), "b.tif");
+    assert_eq!(rt; files[0].1.as_slice(), LONG.as_slice());
+    assert_eq!(rt; files[1].1.as_slice(), SHORT.as_slice());
     assert_eq!(rt; rack.taken(), [(0, Source::Deck); 3].as_slice());
     Ok(())
 }
@@ -165,7 +166,7 @@ fn writes_files_of_the_machine(rt: HostRuntime) -> Result<(), Fail> {
     let mut deck = deck_of(rt.alloc(), &deal)?;
     let held = deck.take();
     let mut rack = HostRack::new(rt.clone()?);
-    lent(&mut rack);
+    lent(&rack);
     build_files(&mut rack, &held, first.as_str(), second.as_str())?;
     assert!(rt; has(&rt, first.as_str(), &SHORT)?);
     assert!(rt; has(&rt, second.as_str(), &LONG)?);
