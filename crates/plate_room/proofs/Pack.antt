@@ -1,5 +1,5 @@
 -- Rows that are packed one by one, and counted.
-use Rattle.std.proofs.Common.{◌≡◌, ℕ, ◌+◌, ◌*◌, ◌/◌, ◌<◌, ◌≤◌, Bool, ◌&&◌, nat_lt, List, [], ◌∷◌, ◌++◌, length, map, sum, get_or, set, take, refl, sym, ap, ◌∙◌, append_assoc, arith}
+use Rattle.std.proofs.Common.{◌≡◌, ℕ, ◌+◌, ◌*◌, ◌/◌, ◌<◌, ◌≤◌, Bool, ◌&&◌, nat_lt, List, [], ◌∷◌, ◌++◌, length, map, sum, get_or, set, take, sym, ap, ◌∙◌, append_assoc, arith}
 use Rattle.std.specs.List.{All, flat_map, range_with_len}
 use Rattle.std.proofs.lemmas.List.{append-nil, length-take-le}
 use Rattle.std.proofs.lemmas.List.FromFn.{get_or-map-range_with_len, length-map-range_with_len, map-range_with_len_more}
@@ -81,10 +81,11 @@ PackedTo-more shape bytes y each len old plate counts piece new done below is pa
 -- with all rows
 pub PackedTo-all : (shape : Shape) (bytes : List ℕ) (y : ℕ) (old plate counts : List ℕ) → PackedTo shape bytes y old plate counts → y ≡ shape.length
     → (counts ≡ strip_counts shape.width (black_rows shape bytes)) × (plate ≡ old ++ flat_map packing (black_rows shape bytes))
-PackedTo-all shape bytes y old plate counts done all =
-    (done.counted ∙ ap (λ n. counts_so_far shape.width shape.length (map (black_row shape bytes) (range_with_len 0 n))) all
-        ∙ counts_so_far-all shape.width shape.length (black_rows shape bytes) (length-first shape bytes shape.length),
-      done.packed ∙ ap (λ n. old ++ flat_map packing (map (black_row shape bytes) (range_with_len 0 n))) all)
+PackedTo-all shape bytes y old plate counts done all = (
+  done.counted ∙ ap (λ n. counts_so_far shape.width shape.length (map (black_row shape bytes) (range_with_len 0 n))) all
+      ∙ counts_so_far-all shape.width shape.length (black_rows shape bytes) (length-first shape bytes shape.length),
+  done.packed ∙ ap (λ n. old ++ flat_map packing (map (black_row shape bytes) (range_with_len 0 n))) all,
+)
 
 -- the packed bytes that a step gives are those of row y
 pub piece_is : (rows : Cursor) (shape : Shape) (bytes : List ℕ) (y n : ℕ) (packed : List ℕ) → rows ≡ record { shape = shape; bytes = bytes; next = y } → n ≤ length packed

@@ -78,11 +78,7 @@ fn make_plate(alloc: Global, image: &Contone<'_>) -> Result<Vec<u8>, NoMemory>
 }
 
 /// The front of a plate and its packed rows. Counts the bytes of each strip.
-fn begin_plate(
-    alloc: Global,
-    image: &Contone<'_>,
-    counts: &mut [u32],
-) -> Result<Vec<u8>, NoMemory>
+fn begin_plate(alloc: Global, image: &Contone<'_>, counts: &mut [u32]) -> Result<Vec<u8>, NoMemory>
     requires { counts.old ≡ counts_so_far image.now.shape.width image.now.shape.length [] }
     ensures counts { OnOk result (counts.new ≡ strip_counts image.now.shape.width (black_rows image.now.shape image.now.bytes)) }
     ensures packed { IfOk result (λ plate. plate.items ≡ front_bytes ++ flat_map packing (black_rows image.now.shape image.now.bytes)) }

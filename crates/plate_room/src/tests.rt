@@ -335,7 +335,12 @@ fn refuses_a_cut_directory(rt: HostRuntime) -> Result<(), Fail> {
     let alloc = rt.alloc();
     let mut file = four_by_one(alloc)?;
     file.truncate(100);
-    assert_refuses(&rt, alloc, file, "plateroom: file a.tif: tag 0: directory\n")
+    assert_refuses(
+        &rt,
+        alloc,
+        file,
+        "plateroom: file a.tif: tag 0: directory\n",
+    )
 }
 
 // Compression 5 is LZW.
@@ -344,7 +349,12 @@ fn refuses_lzw(rt: HostRuntime) -> Result<(), Fail> {
     let alloc = rt.alloc();
     let mut file = four_by_one(alloc)?;
     patch(&mut file, 54, &[5]);
-    assert_refuses(&rt, alloc, file, "plateroom: file a.tif: tag 259: compression\n")
+    assert_refuses(
+        &rt,
+        alloc,
+        file,
+        "plateroom: file a.tif: tag 259: compression\n",
+    )
 }
 
 #[test]
@@ -433,7 +443,13 @@ fn tells_of_an_output_without_memory(rt: HostRuntime) -> Result<(), Fail> {
     let words = one(alloc)?;
     let mut shelf = shelf_of(alloc, four_by_one(alloc)?, Vec::new(alloc))?;
     let mut note = MemSink::new(alloc, Vec::new(alloc));
-    let status = plate_main(alloc, words.as_slice(), &mut shelf, &mut FullSink, &mut note);
+    let status = plate_main(
+        alloc,
+        words.as_slice(),
+        &mut shelf,
+        &mut FullSink,
+        &mut note,
+    );
     assert_eq!(rt; status, 6);
     assert_eq!(rt; note.bytes(), b"plateroom: memory\n".as_slice());
     Ok(())

@@ -1,4 +1,4 @@
-use Rattle.std.proofs.Common.{◌≡◌, List, ℕ, [], replicate, rules, sym, ap, ◌∙◌}
+use Rattle.std.proofs.Common.{◌≡◌, [], replicate, rules, sym, ap, ◌∙◌}
 use Rattle.std.proofs.lemmas.List.{take_at}
 use Rattle.tif_plate.specs.Plate.{IsSide, strip_count}
 use Rattle.tif_plate.specs.Tail.{counts_so_far}

@@ -1,9 +1,9 @@
-use Rattle.std.proofs.Common.{◌≡◌, ℕ, ◌+◌, ◌<◌, List, length, take, sym, ap, ◌∙◌, subst, arith}
+use Rattle.std.proofs.Common.{◌≡◌, ℕ, ◌+◌, ◌<◌, length, take, sym, ap, ◌∙◌, subst, arith}
 use Rattle.tif_packbits.specs.Packbits.{packing}
 use Rattle.tif_strips.specs.Strips.{Cursor}
 use Rattle.plate_room.specs.One.{black_row}
 use Rattle.plate_room.specs.Room.{FitsRow}
-use Rattle.plate_room.proofs.Pack.{PackedTo, PackedTo-none, PackedTo-strip, PackedTo-fits, PackedTo-more, PackedTo-all, piece_is}
+use Rattle.plate_room.proofs.Pack.{PackedTo-none, PackedTo-strip, PackedTo-fits, PackedTo-more, PackedTo-all, piece_is}
 use Rattle.plate_room.proofs.plate.pack_rows.Goals as goal
 
 pub loop-y-init : goal.loop-y-init
