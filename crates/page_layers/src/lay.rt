@@ -33,14 +33,15 @@ pub(crate) fn lay_span(
     }
 }
 
-// The loops write each pixel, so that they run on vectors.
+// The loops read both values and write each pixel, so that they run on vectors.
 fn knock_out(paint: &[u8], admitted: &[u8], into: &mut [u8])
     requires paint { length paint.now ≡ length into.old }
     requires admitted { length admitted.now ≡ length into.old }
     ensures { IsLaid Painting.Knockout paint.now admitted.now into.old (length into.old) into.new }
 {
     for x in 0..into.len() {
-        into[x] = if admitted[x] == 0 { into[x] } else { paint[x] };
+        let (new, old) = (paint[x], into[x]);
+        into[x] = if admitted[x] == 0 { old } else { new };
     }
 }
 
@@ -50,7 +51,8 @@ fn overprint(paint: &[u8], admitted: &[u8], into: &mut [u8])
     ensures { IsLaid Painting.Overprint paint.now admitted.now into.old (length into.old) into.new }
 {
     for x in 0..into.len() {
-        let shows = admitted[x] != 0 && paint[x] != 0;
-        into[x] = if shows { paint[x] } else { into[x] };
+        let (new, old) = (paint[x], into[x]);
+        let shows = admitted[x] != 0 && new != 0;
+        into[x] = if shows { new } else { old };
     }
 }

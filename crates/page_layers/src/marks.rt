@@ -34,7 +34,8 @@ fn keep_ones(row: &[u8], first: usize, into: &mut [u8])
     for j in 0..into.len() {
         let x = first + j;
         let bit = row[x / 8] >> (7 - x % 8) & 1;
-        into[j] = if bit == 1 { into[j] } else { 0 };
+        let kept = into[j];
+        into[j] = if bit == 1 { kept } else { 0 };
     }
 }
 
@@ -46,6 +47,7 @@ fn keep_zeros(row: &[u8], first: usize, into: &mut [u8])
     for j in 0..into.len() {
         let x = first + j;
         let bit = row[x / 8] >> (7 - x % 8) & 1;
-        into[j] = if bit == 1 { 0 } else { into[j] };
+        let kept = into[j];
+        into[j] = if bit == 1 { 0 } else { kept };
     }
 }
