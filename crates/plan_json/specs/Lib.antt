@@ -1,0 +1,4 @@
+pub mod Data
+pub mod Forms
+pub mod Plan
+pub mod Shown

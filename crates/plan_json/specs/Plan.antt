@@ -1,0 +1,165 @@
+-- What holds of every plan that is read. Crates above rest on `IsPlan`.
+use Rattle.std.specs.Prelude.{◌≡◌, ◌≢◌, ◌<◌, ◌≤◌, ℕ, ◌+◌, ◌-◌, ◌*◌, ◌%◌, ◌==◌, ◌&&◌, ◌||◌, Bool, IsTrue, nat_eq, not, List, [], length, map, slice_index, slice_index_or, IfSome, All, AllPairs}
+use Rattle.std.specs.List.{list_any, range_with_len}
+use Rattle.indexmap.specs.IndexSet.{insert_all}
+use Rattle.plan_json.specs.declared.printing.Screen.{Screen}
+use Rattle.plan_json.specs.declared.printing.Screen.TheVariants.{Bayer, Diffuse, Own}
+use Rattle.plan_json.specs.Data.{PlanData, TileData, PageData, LayerData, SectionData, ZoneData, ReplaceData, SiteData, MarkData, CurveData, plate_width, plate_height, mentioned}
+use Rattle.plan_json.specs.Forms.{is_name, is_file_name}
+
+-- ---- words
+
+-- the number lies between two bounds
+pub record IsWithin (low high n : ℕ) : Type 0 where
+  pub least : low ≤ n
+  pub most : n ≤ high
+
+-- no text stands twice
+abbrev pub AreDistinct : List (List ℕ) → Type 0
+AreDistinct texts = AllPairs (λ a b. a ≢ b) texts
+
+-- ---- printing
+
+-- a tile's sides are 1 to 64, and it has a number of 0 to 255 for each pixel
+pub record IsTile (tile : TileData) : Type 0 where
+  pub name : IsTrue (is_name tile.name)
+  pub width : IsWithin 1 64 tile.width
+  pub height : IsWithin 1 64 tile.height
+  pub numbers : length tile.at ≡ tile.width * tile.height
+  pub bytes : All (IsWithin 0 255) tile.at
+
+-- a side of a Bayer tile
+abbrev pub is_bayer : ℕ → Bool
+is_bayer side = side == 2 || side == 4 || side == 8 || side == 16
+
+-- a Bayer tile, the diffusion, or one of the plan's tiles
+abbrev pub IsScreen : ℕ → Screen → Type 0
+IsScreen tiles (Bayer side) = IsTrue (is_bayer side)
+IsScreen tiles Diffuse = Unit {0}
+IsScreen tiles (Own tile) = tile < tiles
+
+-- the ink value at which point k stands
+abbrev pub place : CurveData → ℕ → ℕ
+place points k = (slice_index_or points k (0, 0)).0
+
+-- 2 to 32 points of bytes, from 0 to 255, at places that strictly rise
+pub record IsCurve (points : CurveData) : Type 0 where
+  pub count : IsWithin 2 32 (length points)
+  pub first : place points 0 ≡ 0
+  pub last : place points (length points - 1) ≡ 255
+  pub rises : (k : ℕ) → k + 1 < length points → place points k < place points (k + 1)
+  pub places : All (λ point. point.0 ≤ 255) points
+  pub values : All (λ point. point.1 ≤ 255) points
+
+-- a mark has some ink, its sides are 1 to 65535, and it lies in the plate
+pub record IsMark (width height : ℕ) (mark : MarkData) : Type 0 where
+  pub inks : length mark.inks ≡ 5
+  pub some : IsTrue (list_any (λ ink. ink) mark.inks)
+  pub w : IsWithin 1 65535 mark.w
+  pub h : IsWithin 1 65535 mark.h
+  pub right : mark.x + mark.w ≤ width
+  pub bottom : mark.y + mark.h ≤ height
+
+-- ---- pages
+
+-- four numbers: x and y of 0 to 65535, width and height of 1 to 65535
+pub record IsCrop (crop : List ℕ) : Type 0 where
+  pub count : length crop ≡ 4
+  pub x : slice_index crop 0 ≤ 65535
+  pub y : slice_index crop 1 ≤ 65535
+  pub width : IsWithin 1 65535 (slice_index crop 2)
+  pub height : IsWithin 1 65535 (slice_index crop 3)
+
+-- a layer of one of so many files
+pub record IsLayer (file_count : ℕ) (layer : LayerData) : Type 0 where
+  pub file : layer.file < file_count
+  pub x : layer.x ≤ 65535
+  pub y : layer.y ≤ 65535
+  pub scale : IsWithin 1 64 layer.scale
+  pub crop : IfSome layer.crop IsCrop
+  pub mask : IfSome layer.mask (λ mask. mask < file_count)
+  pub inks : length layer.ink ≡ 5
+  pub ink : All (IsWithin 0 255) layer.ink
+
+-- a page has at most 32 layers
+pub record IsPage (file_count : ℕ) (page : PageData) : Type 0 where
+  pub name : IsTrue (is_name page.name)
+  pub count : length page.layers ≤ 32
+  pub layers : All (IsLayer file_count) page.layers
+
+-- ---- zones
+
+-- a section has 2 to 128 pages, an even number of them, each one of the plan's
+pub record IsSection (page_count : ℕ) (section : SectionData) : Type 0 where
+  pub name : IsTrue (is_name section.name)
+  pub count : IsWithin 2 128 (length section.pages)
+  pub even : length section.pages % 2 ≡ 0
+  pub pages : All (λ page. page < page_count) section.pages
+
+-- the page of a section, counted from 1, that one of the plan's pages replaces
+pub record IsReplace (page_count : ℕ) (sections : List SectionData) (item : ReplaceData) : Type 0 where
+  pub section : item.section < length sections
+  pub page : (s : SectionData) → IsWithin 1 (length (slice_index_or sections item.section s).pages) item.page
+  pub with : item.with < page_count
+
+-- two items that replace pages at different places
+abbrev pub ReplaceApart : ReplaceData → ReplaceData → Type 0
+ReplaceApart a b = IsTrue (not (a.section == b.section && a.page == b.page))
+
+-- a zone has at most 1024 items, and replaces no page twice
+pub record IsZone (page_count : ℕ) (sections : List SectionData) (zone : ZoneData) : Type 0 where
+  pub name : IsTrue (is_name zone.name)
+  pub count : length zone.replace ≤ 1024
+  pub items : All (IsReplace page_count sections) zone.replace
+  pub apart : AllPairs ReplaceApart zone.replace
+
+-- a site prints the sections' own pages, or those of one of the plan's zones
+pub record IsSite (zones : ℕ) (site : SiteData) : Type 0 where
+  pub name : IsTrue (is_name site.name)
+  pub zone : IfSome site.zone (λ zone. zone < zones)
+
+-- ---- the plan
+
+pub record IsPlan (plan : PlanData) : Type 0 where
+  pub edition : IsTrue (is_name plan.edition)
+  pub dpi : IsWithin 1 10000 plan.dpi
+  pub page_width : IsWithin 1 65535 plan.page_width
+  pub page_height : IsWithin 1 65535 plan.page_height
+  -- four margins
+  pub margins : length plan.margins ≡ 4
+  -- a plate's sides are at most 65535
+  pub width : plate_width plan ≤ 65535
+  pub height : plate_height plan ≤ 65535
+  pub limit : plan.limit ≤ 1020
+  -- at most 16 tiles, named apart
+  pub tile_count : length plan.tiles ≤ 16
+  pub tiles : All IsTile plan.tiles
+  pub tile_names : AreDistinct (map (λ tile. tile.name) plan.tiles)
+  -- a screen and a curve for each ink
+  pub screen_count : length plan.screens ≡ 5
+  pub screens : All (IsScreen (length plan.tiles)) plan.screens
+  pub curve_count : length plan.curves ≡ 5
+  pub curves : All IsCurve plan.curves
+  -- at most 64 marks, all of them in the plate
+  pub mark_count : length plan.marks ≤ 64
+  pub marks : All (IsMark (plate_width plan) (plate_height plan)) plan.marks
+  -- 1 to 2048 pages, named apart
+  pub page_count : IsWithin 1 2048 (length plan.pages)
+  pub pages : All (IsPage (length plan.files)) plan.pages
+  pub page_names : AreDistinct (map (λ page. page.name) plan.pages)
+  -- 1 to 8 sections, named apart
+  pub section_count : IsWithin 1 8 (length plan.sections)
+  pub sections : All (IsSection (length plan.pages)) plan.sections
+  pub section_names : AreDistinct (map (λ section. section.name) plan.sections)
+  -- at most 16 zones, named apart
+  pub zone_count : length plan.zones ≤ 16
+  pub zones : All (IsZone (length plan.pages) plan.sections) plan.zones
+  pub zone_names : AreDistinct (map (λ zone. zone.name) plan.zones)
+  -- 1 to 16 sites, named apart
+  pub site_count : IsWithin 1 16 (length plan.sites)
+  pub sites : All (IsSite (length plan.zones)) plan.sites
+  pub site_names : AreDistinct (map (λ site. site.name) plan.sites)
+  -- the files, each once, in the order in which the layers mention them
+  pub files : All (λ file. IsTrue (is_file_name file)) plan.files
+  pub file_names : AreDistinct plan.files
+  pub first_mention : insert_all nat_eq [] (mentioned plan.pages) ≡ range_with_len 0 (length plan.files)

@@ -1,0 +1,57 @@
+// The plan of an edition.
+
+use crate::{Mark, Page, PlanCurve, PlanSite, PlanTile, Screen, Section, Zone};
+use pr_base::PathText;
+use std::marker::Model;
+
+/// An edition plan. It keeps all that reading tests (`IsPlan`): ranges, lengths, forms of names, that nothing is named
+/// twice, and that every index is in its list. Lists of five stand in the order C, M, Y, K, S.
+#[derive(Debug, Drop)]
+pub struct Plan {
+    pub edition: PathText,
+    /// Pixels an inch, 1 to 10,000.
+    pub dpi: u32,
+    pub page_width: u32,
+    pub page_height: u32,
+    /// Left, top, right and bottom, in pixels.
+    pub margins: [u32; 4],
+    /// Pixels between the two pages of a plate.
+    pub gutter: u32,
+    /// The most that C, M, Y and K may add up to, 0 to 1020.
+    pub limit: u16,
+    pub tiles: Vec<PlanTile>,
+    pub screens: [Screen; 5],
+    pub curves: [PlanCurve; 5],
+    pub marks: Vec<Mark>,
+    pub pages: Vec<Page>,
+    pub sections: Vec<Section>,
+    pub zones: Vec<Zone>,
+    pub sites: Vec<PlanSite>,
+    pub(crate) files: Vec<PathText>,
+}
+
+impl Model for Plan {
+    ghost use Rattle.plan_json.specs.Data.{PlanData};
+
+    ghost Value = { PlanData };
+
+    ghost use Rattle.plan_json.specs.Plan.{IsPlan};
+    ghost use Rattle.plan_json.specs.Shown.{shown};
+
+    ghost view = { shown };
+
+    ghost invariant = { λ p. IsPlan (shown p) };
+}
+
+impl Plan {
+    ghost use Rattle.std.specs.Prelude.{◌≡◌};
+    ghost use Rattle.plan_json.specs.Plan.{IsPlan};
+
+    /// The distinct files in order of first mention: page by page, layer by layer, the image before the mask.
+    pub fn files(&self) -> &[PathText]
+        ensures files { result.now ≡ self.now.files }
+        ensures plan { IsPlan self.now }
+    {
+        &self.files
+    }
+}
