@@ -3,7 +3,7 @@ use Rattle.std.specs.Prelude.{ℕ, ◌==◌, ◌&&◌, ◌||◌, Bool, true, fal
 use Rattle.std.specs.List.{list_all}
 
 -- a byte of a name: A to Z, a to z, 0 to 9 or `_`
-abbrev pub is_name_byte : ℕ → Bool
+unfoldable pub is_name_byte : ℕ → Bool
 is_name_byte b = nat_le 65 b && nat_le b 90 || nat_le 97 b && nat_le b 122 || nat_le 48 b && nat_le b 57 || b == 95
 
 -- a name: 1 to 16 such bytes
@@ -16,12 +16,12 @@ put_before b [] = (b ∷ []) ∷ []
 put_before b (part ∷ parts) = (b ∷ part) ∷ parts
 
 -- the parts of a text between `/`
-abbrev pub parts : List ℕ → List (List ℕ)
+unfoldable pub parts : List ℕ → List (List ℕ)
 parts [] = [] ∷ []
 parts (b ∷ text) = if b == 47 then [] ∷ parts text else put_before b (parts text)
 
 -- a part of a path that names a file: neither empty nor `.` nor `..`
-abbrev pub names_a_file : List ℕ → Bool
+unfoldable pub names_a_file : List ℕ → Bool
 names_a_file [] = false
 names_a_file (b ∷ []) = not (b == 46)
 names_a_file (a ∷ b ∷ []) = not (a == 46 && b == 46)

@@ -4,9 +4,13 @@
 #![tactic(auto)]
 
 mod fault;
+mod forms;
 mod layer;
+mod names;
+mod place;
 mod plan;
 mod printing;
+mod words;
 mod zoning;
 
 pub use fault::PlanFault;

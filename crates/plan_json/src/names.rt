@@ -1,0 +1,100 @@
+// Names: of the form, new in their list, or defined in another.
+ghost use Rattle.std.specs.Prelude.{◌≡◌, ◌<◌, List, ℕ, IfOk, IfSome, map, length};
+ghost use Rattle.plan_json.specs.Gives.{Gives};
+ghost use Rattle.plan_json.specs.Place.{path_of};
+ghost use Rattle.plan_json.specs.Reading as spec;
+ghost use Rattle.std.specs.List.{position};
+ghost use Rattle.std.specs.Str.{bytes_eq};
+ghost use Rattle.serde_json.specs.View.{view};
+
+use crate::PlanFault;
+use crate::forms;
+use crate::place::Place;
+use crate::words::text;
+use pr_base::PathText;
+use serde_json::Value;
+use std::alloc::Global;
+
+/// An item that has a name in its list.
+pub(crate) trait Named {
+    ghost named: { Self → List ℕ };
+
+    fn name(&self) -> &str
+        ensures { result.now ≡ named self.now };
+}
+
+/// A name.
+#[tactic(auto, unfolding(crate::specs::Reading::name))]
+pub(crate) fn name<'v>(alloc: Global, place: Place<'_>, value: &'v Value) -> Result<&'v str, PlanFault>
+    ensures { Gives (λ s. s.now) result (spec.name (path_of place.entry) (view value.now)) }
+{
+    let s = text(alloc, place, value)?;
+    if !forms::is_name(s) {
+        return Err(PlanFault::Range(place.path(alloc)?));
+    }
+    Ok(s)
+}
+
+/// The name of a file.
+#[tactic(auto, unfolding(crate::specs::Reading::file_name))]
+pub(crate) fn file_name<'v>(alloc: Global, place: Place<'_>, value: &'v Value) -> Result<&'v str, PlanFault>
+    ensures { Gives (λ s. s.now) result (spec.file_name (path_of place.entry) (view value.now)) }
+{
+    let s = text(alloc, place, value)?;
+    if !forms::is_file_name(s) {
+        return Err(PlanFault::Range(place.path(alloc)?));
+    }
+    Ok(s)
+}
+
+/// A name that none of the earlier items has.
+#[tactic(auto, unfolding(crate::specs::Reading::new_name))]
+pub(crate) fn new_name<T: Named>(
+    alloc: Global,
+    earlier: &[T],
+    place: Place<'_>,
+    value: &Value,
+) -> Result<PathText, PlanFault>
+    ensures { Gives (λ s. s) result
+        (spec.new_name (map T.named earlier.now) (path_of place.entry) (view value.now)) }
+{
+    let s = name(alloc, place, value)?;
+    if index_of(earlier, s).is_some() {
+        return Err(PlanFault::Repeat(place.path(alloc)?));
+    }
+    Ok(PathText::of(alloc, s)?)
+}
+
+/// The index of the item that is named so.
+#[tactic(auto, unfolding(crate::specs::Reading::defined))]
+pub(crate) fn defined<T: Named>(
+    alloc: Global,
+    items: &[T],
+    place: Place<'_>,
+    value: &Value,
+) -> Result<usize, PlanFault>
+    ensures value { Gives (λ i. i) result
+        (spec.defined (map T.named items.now) (path_of place.entry) (view value.now)) }
+    ensures within { IfOk result (λ i. i < length items.now) }
+{
+    let s = name(alloc, place, value)?;
+    match index_of(items, s) {
+        Some(i) => Ok(i),
+        None => Err(PlanFault::Unknown(place.path(alloc)?)),
+    }
+}
+
+// The index of the first item with the name.
+fn index_of<T: Named>(items: &[T], name: &str) -> Option<usize>
+    ensures value { result ≡ spec.index_in (map T.named items.now) name.now }
+    ensures within { IfSome result (λ i. i < length items.now) }
+{
+    index_by(items, name)
+}
+
+fn index_by<T: Named>(items: &[T], name: &str) -> Option<usize>
+    ensures value { result ≡ position (λ item. bytes_eq (T.named item) name.now) items.now }
+    ensures within { IfSome result (λ i. i < length items.now) }
+{
+    items.iter().position(|item| item.name() == name)
+}
