@@ -49,10 +49,14 @@ at_item path i = path ++ 47 ∷ decimal i
 abbrev pub Reader : Type 0 → Type 0
 Reader A = List ℕ → Data → Read A
 
+-- the text is one of these
+abbrev pub is_among : List (List ℕ) → List ℕ → Bool
+is_among texts s = list_any (bytes_eq s) texts
+
 -- the first key that is none of these; the members of an object stand in byte order
 abbrev pub first_unknown : List (List ℕ) → Members → Option (List ℕ)
 first_unknown keys no_members = None
-first_unknown keys (member_data key d more) = if list_any (bytes_eq key) keys then first_unknown keys more else Some key
+first_unknown keys (member_data key d more) = if is_among keys key then first_unknown keys more else Some key
 
 -- no key is unknown
 abbrev pub all_known : List ℕ → Data → Option (List ℕ) → Read Data
@@ -139,15 +143,21 @@ abbrev pub count_of : Items → ℕ
 count_of no_items = 0
 count_of (item d items) = suc (count_of items)
 
+-- the items of a list
+unfoldable pub items_in : Reader Items
+items_in path (array items) = Ok items
+items_in path null = Err (Kind path)
+items_in path (boolean b) = Err (Kind path)
+items_in path (number_data n) = Err (Kind path)
+items_in path (string s) = Err (Kind path)
+items_in path (object members) = Err (Kind path)
+
 -- the items of a list that has low to high of them
 unfoldable pub items_within : ℕ → ℕ → Reader Items
-items_within low high path (array items) =
-    if nat_le low (count_of items) && nat_le (count_of items) high then Ok items else Err (Range path)
-items_within low high path null = Err (Kind path)
-items_within low high path (boolean b) = Err (Kind path)
-items_within low high path (number_data n) = Err (Kind path)
-items_within low high path (string s) = Err (Kind path)
-items_within low high path (object members) = Err (Kind path)
+items_within low high path d = do
+  items ← items_in path d
+  must (nat_le low (count_of items) && nat_le (count_of items) high) (Range path)
+  Ok items
 
 -- the items in order, each read beside those before it
 unfoldable pub each_after : {A : Type 0} → List A → (List A → Reader A) → List ℕ → Items → Read (List A)

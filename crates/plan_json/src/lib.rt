@@ -6,7 +6,9 @@
 mod fault;
 mod forms;
 mod layer;
+mod list;
 mod names;
+mod object;
 mod place;
 mod plan;
 mod printing;

@@ -1,0 +1,45 @@
+// A list of a stated length, and its items.
+ghost use Rattle.std.specs.Prelude.{◌≡◌, ◌≤◌, ◌<◌, IfOk, length};
+ghost use Rattle.plan_json.specs.Gives.{Gives};
+ghost use Rattle.plan_json.specs.Place.{path_of};
+ghost use Rattle.plan_json.specs.Reading as spec;
+ghost use Rattle.serde_json.specs.View.{view, items_view};
+
+use crate::PlanFault;
+use crate::words;
+use crate::place::Place;
+use pr_base::PathText;
+use serde_json::Value;
+use std::alloc::Global;
+
+/// The items of the list at a path.
+#[tactic(auto, unfolding(crate::specs::Reading::items_in))]
+pub(crate) fn items_in<'v>(alloc: Global, path: &str, value: &'v Value) -> Result<&'v [Value], PlanFault>
+    ensures { Gives (λ items. items_view items.now) result (spec.items_in path.now (view value.now)) }
+{
+    match value {
+        Value::Array(items) => Ok(items.as_slice()),
+        _ => Err(PlanFault::Kind(PathText::of(alloc, path)?)),
+    }
+}
+
+/// The items of the list at a path, which has from `low` to `high` of them.
+#[tactic(auto, using(crate::proofs::Items::count_of_view), unfolding(crate::specs::Reading::items_within))]
+pub(crate) fn items_within<'v>(
+    alloc: Global,
+    low: usize,
+    high: usize,
+    path: &str,
+    value: &'v Value,
+) -> Result<&'v [Value], PlanFault>
+    ensures value { Gives (λ items. items_view items.now) result
+        (spec.items_within low high path.now (view value.now)) }
+    ensures least { IfOk result (λ items. low ≤ length items.now) }
+    ensures most { IfOk result (λ items. length items.now ≤ high) }
+{
+    let items = items_in(alloc, path, value)?;
+    if items.len() < low || items.len() > high {
+        return Err(PlanFault::Range(PathText::of(alloc, path)?));
+    }
+    Ok(items)
+}

@@ -1,0 +1,104 @@
+// An object that has no unknown keys, and what its keys have.
+ghost use Rattle.std.specs.Prelude.{◌≡◌, ◌≤◌, IfOk, not, map, option_map, string_bytes};
+ghost use Rattle.std.specs.List.{find, list_any};
+ghost use Rattle.std.specs.Str.{bytes_eq};
+ghost use Rattle.std.specs.BTreeMap.{keys as keys_of};
+ghost use Rattle.plan_json.specs.Gives.{Gives};
+ghost use Rattle.plan_json.specs.Place.{path_of};
+ghost use Rattle.plan_json.specs.Reading as spec;
+ghost use Rattle.serde_json.specs.View.{view, members_view};
+
+use crate::PlanFault;
+use crate::names;
+use crate::place::Place;
+use crate::words;
+use pr_base::PathText;
+use serde_json::{Map, Value};
+use std::alloc::Global;
+
+/// An object at a path.
+#[derive(Clone, Copy)]
+pub(crate) struct Object<'a> {
+    pub(crate) alloc: Global,
+    pub(crate) path: &'a str,
+    pub(crate) value: &'a Value,
+}
+
+impl<'a> Object<'a> {
+    /// The object that stands at a path, and has no other keys than these.
+    #[tactic(auto, unfolding(crate::specs::Reading::object_with))]
+    pub(crate) fn of(
+        alloc: Global,
+        keys: &[&str],
+        path: &'a str,
+        value: &'a Value,
+    ) -> Result<Object<'a>, PlanFault>
+        ensures value { Gives (λ o. view o.value.now) result
+            (spec.object_with (map (λ key. key.now) keys.now) path.now (view value.now)) }
+        ensures path { IfOk result (λ o. o.path.now ≡ path.now) }
+    {
+        let Value::Object(members) = value else {
+            return Err(PlanFault::Kind(PathText::of(alloc, path)?));
+        };
+        if let Some(key) = first_unknown(keys, members) {
+            return Err(PlanFault::Unknown(Place::Key(path, key).path(alloc)?));
+        }
+        Ok(Object { alloc, path, value })
+    }
+
+    /// The number of a required key.
+    pub(crate) fn number(&self, key: &str, low: u64, high: u64) -> Result<u64, PlanFault>
+        ensures value { Gives (λ n. n) result
+            (spec.required key.now (spec.number low high) self.now.path.now (view self.now.value.now)) }
+        ensures most { IfOk result (λ n. n ≤ high) }
+    {
+        let place = Place::Key(self.path, key);
+        match self.value.get(key) {
+            Some(value) => words::number(self.alloc, low, high, place, value),
+            None => Err(PlanFault::Missing(place.path(self.alloc)?)),
+        }
+    }
+
+    /// The number of a key, or one where the key is absent.
+    pub(crate) fn optional_number(&self, key: &str, absent: u64, low: u64, high: u64) -> Result<u64, PlanFault>
+        requires { absent ≤ high }
+        ensures value { Gives (λ n. n) result
+            (spec.optional key.now absent (spec.number low high) self.now.path.now (view self.now.value.now)) }
+        ensures most { IfOk result (λ n. n ≤ high) }
+    {
+        match self.value.get(key) {
+            Some(value) => words::number(self.alloc, low, high, Place::Key(self.path, key), value),
+            None => Ok(absent),
+        }
+    }
+}
+
+// The first key in byte order that is none of these.
+fn first_unknown<'v>(keys: &[&str], members: &'v Map<String, Value>) -> Option<&'v str>
+    ensures { option_map (λ key. key.now) result
+        ≡ spec.first_unknown (map (λ key. key.now) keys.now) (members_view members.now.entries) }
+{
+    match unknown_key(keys, members) {
+        Some(key) => Some(key.as_str()),
+        None => None,
+    }
+}
+
+fn unknown_key<'v>(keys: &[&str], members: &'v Map<String, Value>) -> Option<&'v String>
+    ensures { option_map (λ key. key.now) result
+        ≡ find (λ key. not (spec.is_among (map (λ k. k.now) keys.now) (string_bytes key))) (keys_of members.now) }
+{
+    members.keys().find(|key| !is_among(keys, key.as_str()))
+}
+
+fn is_among(keys: &[&str], key: &str) -> bool
+    ensures { result ≡ spec.is_among (map (λ key. key.now) keys.now) key.now }
+{
+    is_any(keys, key)
+}
+
+fn is_any(keys: &[&str], key: &str) -> bool
+    ensures { result ≡ list_any (λ k. bytes_eq key.now k.now) keys.now }
+{
+    keys.iter().any(|k| key == *k)
+}
