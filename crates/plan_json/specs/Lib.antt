@@ -5,3 +5,4 @@ pub mod Shown
 pub mod Reading
 pub mod Gives
 pub mod Place
+pub mod Printing

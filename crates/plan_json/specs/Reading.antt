@@ -4,7 +4,7 @@ use Rattle.std.specs.Prelude.{ℕ, suc, ◌+◌, ◌==◌, ◌&&◌, ◌||◌, B
 use Rattle.std.specs.List.{list_any, position_from}
 use Rattle.std.specs.Str.{bytes_eq}
 use Rattle.serde_json.specs.Data.{Data, null, boolean, number as number_data, string, array, object, Items, no_items, item, Members, no_members, member as member_data}
-use Rattle.serde_json.specs.Find.{as_number, as_u64, get}
+use Rattle.serde_json.specs.Find.{as_number, as_u64, get, get_item}
 use Rattle.plan_json.specs.declared.fault.PlanFault.{PlanFault}
 use Rattle.plan_json.specs.declared.fault.PlanFault.TheVariants.{Missing, Kind, Range, Unknown, Repeat, Memory, NotJson}
 use Rattle.plan_json.specs.Forms.{is_name, is_file_name}
@@ -65,12 +65,12 @@ all_known path d (Some key) = Err (Unknown (at_key path key))
 
 -- an object that has no other keys than these
 unfoldable pub object_with : List (List ℕ) → Reader Data
-object_with keys path (object members) = all_known path (object members) (first_unknown keys members)
+object_with keys path (object all) = all_known path (object all) (first_unknown keys all)
 object_with keys path null = Err (Kind path)
 object_with keys path (boolean b) = Err (Kind path)
 object_with keys path (number_data n) = Err (Kind path)
 object_with keys path (string s) = Err (Kind path)
-object_with keys path (array items) = Err (Kind path)
+object_with keys path (array _) = Err (Kind path)
 
 -- what a required key has
 abbrev pub required_in : {A : Type 0} → Reader A → List ℕ → Option Data → Read A
@@ -104,8 +104,8 @@ text path (string s) = Ok s
 text path null = Err (Kind path)
 text path (boolean b) = Err (Kind path)
 text path (number_data n) = Err (Kind path)
-text path (array items) = Err (Kind path)
-text path (object members) = Err (Kind path)
+text path (array _) = Err (Kind path)
+text path (object _) = Err (Kind path)
 
 -- a text of a form
 abbrev pub text_of : (List ℕ → Bool) → Reader (List ℕ)
@@ -145,12 +145,12 @@ count_of (item d items) = suc (count_of items)
 
 -- the items of a list
 unfoldable pub items_in : Reader Items
-items_in path (array items) = Ok items
+items_in path (array all) = Ok all
 items_in path null = Err (Kind path)
 items_in path (boolean b) = Err (Kind path)
 items_in path (number_data n) = Err (Kind path)
 items_in path (string s) = Err (Kind path)
-items_in path (object members) = Err (Kind path)
+items_in path (object _) = Err (Kind path)
 
 -- the items of a list that has low to high of them
 unfoldable pub items_within : ℕ → ℕ → Reader Items
@@ -168,3 +168,7 @@ each_after earlier read path (item d items) =
 -- a list of low to high items
 abbrev pub list_of : {A : Type 0} → ℕ → ℕ → (List A → Reader A) → Reader (List A)
 list_of low high read path d = items_within low high path d >>= each_after [] read path
+
+-- what stands at an index of a list
+abbrev pub nth : {A : Type 0} → ℕ → Reader A → List ℕ → Items → Read A
+nth i read path items = required_in read (at_item path i) (get_item i items)

@@ -12,6 +12,7 @@ mod object;
 mod place;
 mod plan;
 mod printing;
+mod read_printing;
 mod words;
 mod zoning;
 
