@@ -42,6 +42,10 @@ abbrev pub ink_keys : Bool → List (List ℕ)
 ink_keys true = codes "C" ∷ codes "M" ∷ codes "Y" ∷ codes "K" ∷ codes "S" ∷ []
 ink_keys false = codes "C" ∷ codes "M" ∷ codes "Y" ∷ codes "K" ∷ []
 
+-- where no screen is told
+abbrev pub bayer_screens : List Screen
+bayer_screens = Bayer 8 ∷ Bayer 8 ∷ Bayer 8 ∷ Bayer 8 ∷ Bayer 8 ∷ []
+
 -- the tile that is named behind `tile:`
 abbrev pub own_screen : List (List ℕ) → List ℕ → List ℕ → Read Screen
 own_screen names path s = some_or (Unknown path) (option_map Own (index_in names s))
@@ -73,6 +77,10 @@ screens spot tiles path d = do
 -- the curve that changes nothing
 abbrev pub identity : CurveData
 identity = (0, 0) ∷ (255, 255) ∷ []
+
+-- where no curve is told
+abbrev pub identities : List CurveData
+identities = identity ∷ identity ∷ identity ∷ identity ∷ identity ∷ []
 
 -- each point stands to the right of the one before
 abbrev pub is_rising : CurveData → Bool

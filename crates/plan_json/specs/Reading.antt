@@ -72,11 +72,11 @@ object_with keys path (number_data n) = Err (Kind path)
 object_with keys path (string s) = Err (Kind path)
 object_with keys path (array _) = Err (Kind path)
 
--- what a required key has
+-- what must be there is read
 abbrev pub required_in : {A : Type 0} → Reader A → List ℕ → Option Data → Read A
-required_in read path None = Err (Missing path)
-required_in read path (Some d) = read path d
+required_in read path found = some_or (Missing path) found >>= read path
 
+-- what a required key has
 abbrev pub required : {A : Type 0} → List ℕ → Reader A → Reader A
 required key read path d = required_in read (at_key path key) (get key d)
 

@@ -12,7 +12,9 @@ mod object;
 mod place;
 mod plan;
 mod printing;
-mod read_printing;
+mod read_curves;
+mod read_marks;
+mod read_tiles;
 mod words;
 mod zoning;
 

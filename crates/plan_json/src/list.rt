@@ -1,8 +1,9 @@
 // A list of a stated length, and its items.
-ghost use Rattle.std.specs.Prelude.{◌≡◌, ◌≤◌, ◌<◌, IfOk, length};
+ghost use Rattle.std.specs.Prelude.{◌≡◌, ◌≤◌, ◌<◌, IfOk, length, option_map};
 ghost use Rattle.plan_json.specs.Gives.{Gives};
 ghost use Rattle.plan_json.specs.Place.{path_of};
 ghost use Rattle.plan_json.specs.Reading as spec;
+ghost use Rattle.serde_json.specs.Find.{get_item};
 ghost use Rattle.serde_json.specs.View.{view, items_view};
 
 use crate::PlanFault;
@@ -42,4 +43,31 @@ pub(crate) fn items_within<'v>(
         return Err(PlanFault::Range(PathText::of(alloc, path)?));
     }
     Ok(items)
+}
+
+/// The number at an index.
+pub(crate) fn nth(
+    alloc: Global,
+    i: usize,
+    low: u64,
+    high: u64,
+    path: &str,
+    items: &[Value],
+) -> Result<u64, PlanFault>
+    ensures value { Gives (λ n. n) result
+        (spec.nth i (spec.number low high) path.now (items_view items.now)) }
+    ensures most { IfOk result (λ n. n ≤ high) }
+{
+    let place = Place::Item(path, i);
+    match found(i, items) {
+        Some(item) => words::number(alloc, low, high, place, item),
+        None => Err(PlanFault::Missing(place.path(alloc)?)),
+    }
+}
+
+// The item at an index.
+fn found(i: usize, items: &[Value]) -> Option<&Value>
+    ensures { option_map (λ item. view item.now) result ≡ get_item i (items_view items.now) }
+{
+    if i < items.len() { Some(&items[i]) } else { None }
 }

@@ -84,8 +84,8 @@ pub(crate) fn defined<T: Named>(
     }
 }
 
-// The index of the first item with the name.
-fn index_of<T: Named>(items: &[T], name: &str) -> Option<usize>
+/// The index of the first item with the name.
+pub(crate) fn index_of<T: Named>(items: &[T], name: &str) -> Option<usize>
     ensures value { result ≡ spec.index_in (map T.named items.now) name.now }
     ensures within { IfSome result (λ i. i < length items.now) }
 {

@@ -4,15 +4,18 @@ ghost use Rattle.std.specs.List.{find, list_any};
 ghost use Rattle.std.specs.Str.{bytes_eq};
 ghost use Rattle.std.specs.BTreeMap.{keys as keys_of};
 ghost use Rattle.plan_json.specs.Gives.{Gives};
+ghost use Rattle.plan_json.specs.Printing.{ink_keys};
 ghost use Rattle.plan_json.specs.Place.{path_of};
 ghost use Rattle.plan_json.specs.Reading as spec;
+ghost use Rattle.plan_json.specs.declared.fault.PlanFault.TheVariants.{Missing};
+ghost use Rattle.serde_json.specs.Find.{get};
 ghost use Rattle.serde_json.specs.View.{view, members_view};
 
 use crate::PlanFault;
 use crate::names;
 use crate::place::Place;
 use crate::words;
-use pr_base::PathText;
+use pr_base::{NoMemory, PathText};
 use serde_json::{Map, Value};
 use std::alloc::Global;
 
@@ -46,17 +49,54 @@ impl<'a> Object<'a> {
         Ok(Object { alloc, path, value })
     }
 
+    /// The object whose keys are inks: C, M, Y, K and, where there is a spot ink, S.
+    pub(crate) fn of_inks(alloc: Global, spot: bool, path: &'a str, value: &'a Value) -> Result<Object<'a>, PlanFault>
+        ensures value { Gives (λ o. view o.value.now) result
+            (spec.object_with (ink_keys spot) path.now (view value.now)) }
+        ensures path { IfOk result (λ o. o.path.now ≡ path.now) }
+    {
+        if spot {
+            Object::of(alloc, &["C", "M", "Y", "K", "S"], path, value)
+        } else {
+            Object::of(alloc, &["C", "M", "Y", "K"], path, value)
+        }
+    }
+
+    /// The place of a key.
+    pub(crate) fn place<'k>(&self, key: &'k str) -> Place<'k>
+    where
+        'a: 'k,
+        ensures { path_of result ≡ spec.at_key self.now.path.now key.now }
+    {
+        Place::Key(self.path, key)
+    }
+
+    /// The path of a key.
+    pub(crate) fn path_to(&self, key: &str) -> Result<PathText, NoMemory>
+        ensures { IfOk result (λ path. path ≡ spec.at_key self.now.path.now key.now) }
+    {
+        self.place(key).path(self.alloc)
+    }
+
+    /// What a required key has.
+    pub(crate) fn required(&self, key: &str) -> Result<&'a Value, PlanFault>
+        ensures { Gives (λ value. view value.now) result
+            (spec.some_or (Missing (spec.at_key self.now.path.now key.now)) (get key.now (view self.now.value.now))) }
+    {
+        match self.value.get(key) {
+            Some(value) => Ok(value),
+            None => Err(PlanFault::Missing(self.place(key).path(self.alloc)?)),
+        }
+    }
+
     /// The number of a required key.
     pub(crate) fn number(&self, key: &str, low: u64, high: u64) -> Result<u64, PlanFault>
         ensures value { Gives (λ n. n) result
             (spec.required key.now (spec.number low high) self.now.path.now (view self.now.value.now)) }
         ensures most { IfOk result (λ n. n ≤ high) }
     {
-        let place = Place::Key(self.path, key);
-        match self.value.get(key) {
-            Some(value) => words::number(self.alloc, low, high, place, value),
-            None => Err(PlanFault::Missing(place.path(self.alloc)?)),
-        }
+        let value = self.required(key)?;
+        words::number(self.alloc, low, high, self.place(key), value)
     }
 
     /// The number of a key, or one where the key is absent.
@@ -67,7 +107,7 @@ impl<'a> Object<'a> {
         ensures most { IfOk result (λ n. n ≤ high) }
     {
         match self.value.get(key) {
-            Some(value) => words::number(self.alloc, low, high, Place::Key(self.path, key), value),
+            Some(value) => words::number(self.alloc, low, high, self.place(key), value),
             None => Ok(absent),
         }
     }

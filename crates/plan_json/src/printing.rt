@@ -1,5 +1,6 @@
 // How inks are printed: threshold tiles, screens, tone curves and the marks on the plate.
 
+use crate::names::Named;
 use pr_base::PathText;
 use std::marker::Model;
 
@@ -20,6 +21,14 @@ impl Model for PlanTile {
     ghost Value = { TileData };
 
     ghost view = { λ t. record { name = t.name; width = t.width; height = t.height; at = t.at.items } };
+}
+
+impl Named for PlanTile {
+    ghost named = { λ t. t.name };
+
+    fn name(&self) -> &str {
+        self.name.as_str()
+    }
 }
 
 /// How an ink is screened.
