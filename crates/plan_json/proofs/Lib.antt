@@ -1,3 +1,10 @@
 pub mod Texts
 pub mod Places
 pub mod Items
+pub mod Sound
+pub mod SoundPrinting
+pub mod SoundPages
+pub mod Mentions
+pub mod SoundFiles
+pub mod SoundPlan
+pub mod Json

@@ -6,3 +6,8 @@ pub mod Reading
 pub mod Gives
 pub mod Place
 pub mod Printing
+pub mod Pages
+pub mod Zoning
+pub mod Files
+pub mod Printed
+pub mod PlanOf

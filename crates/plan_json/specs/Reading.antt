@@ -77,7 +77,7 @@ abbrev pub required_in : {A : Type 0} → Reader A → List ℕ → Option Data 
 required_in read path found = some_or (Missing path) found >>= read path
 
 -- what a required key has
-abbrev pub required : {A : Type 0} → List ℕ → Reader A → Reader A
+unfoldable pub required : {A : Type 0} → List ℕ → Reader A → Reader A
 required key read path d = required_in read (at_key path key) (get key d)
 
 -- what a key has, or that where the key is absent
@@ -85,7 +85,7 @@ abbrev pub optional_in : {A : Type 0} → A → Reader A → List ℕ → Option
 optional_in absent read path None = Ok absent
 optional_in absent read path (Some d) = read path d
 
-abbrev pub optional : {A : Type 0} → List ℕ → A → Reader A → Reader A
+unfoldable pub optional : {A : Type 0} → List ℕ → A → Reader A → Reader A
 optional key absent read path d = optional_in absent read (at_key path key) (get key d)
 
 -- ---- numbers and texts
@@ -170,5 +170,5 @@ abbrev pub list_of : {A : Type 0} → ℕ → ℕ → (List A → Reader A) → 
 list_of low high read path d = items_within low high path d >>= each_after [] read path
 
 -- what stands at an index of a list
-abbrev pub nth : {A : Type 0} → ℕ → Reader A → List ℕ → Items → Read A
+unfoldable pub nth : {A : Type 0} → ℕ → Reader A → List ℕ → Items → Read A
 nth i read path items = required_in read (at_item path i) (get_item i items)

@@ -4,17 +4,24 @@
 #![tactic(auto)]
 
 mod fault;
+mod files;
 mod forms;
+mod front;
 mod layer;
 mod list;
+mod named;
 mod names;
 mod object;
 mod place;
 mod plan;
 mod printing;
 mod read_curves;
+mod read_layers;
 mod read_marks;
+mod read_pages;
+mod reading;
 mod read_tiles;
+mod read_zones;
 mod words;
 mod zoning;
 
@@ -22,4 +29,5 @@ pub use fault::PlanFault;
 pub use layer::{Page, PlanLayer};
 pub use plan::Plan;
 pub use printing::{Mark, PlanCurve, PlanTile, Screen};
+pub use reading::read_plan;
 pub use zoning::{PlanSite, Replace, Section, Zone};

@@ -46,6 +46,7 @@ pub(crate) fn items_within<'v>(
 }
 
 /// The number at an index.
+#[tactic(auto, unfolding(crate::specs::Reading::nth))]
 pub(crate) fn nth(
     alloc: Global,
     i: usize,
@@ -65,8 +66,8 @@ pub(crate) fn nth(
     }
 }
 
-// The item at an index.
-fn found(i: usize, items: &[Value]) -> Option<&Value>
+/// The item at an index.
+pub(crate) fn found(i: usize, items: &[Value]) -> Option<&Value>
     ensures { option_map (λ item. view item.now) result ≡ get_item i (items_view items.now) }
 {
     if i < items.len() { Some(&items[i]) } else { None }

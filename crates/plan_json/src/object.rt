@@ -90,6 +90,7 @@ impl<'a> Object<'a> {
     }
 
     /// The number of a required key.
+    #[tactic(auto, unfolding(crate::specs::Reading::required))]
     pub(crate) fn number(&self, key: &str, low: u64, high: u64) -> Result<u64, PlanFault>
         ensures value { Gives (λ n. n) result
             (spec.required key.now (spec.number low high) self.now.path.now (view self.now.value.now)) }
@@ -100,6 +101,7 @@ impl<'a> Object<'a> {
     }
 
     /// The number of a key, or one where the key is absent.
+    #[tactic(auto, unfolding(crate::specs::Reading::optional))]
     pub(crate) fn optional_number(&self, key: &str, absent: u64, low: u64, high: u64) -> Result<u64, PlanFault>
         requires { absent ≤ high }
         ensures value { Gives (λ n. n) result

@@ -77,6 +77,7 @@ fn identity(alloc: Global) -> Result<PlanCurve, NoMemory>
     Ok(PlanCurve { points })
 }
 
+#[tactic(auto, unfolding(crate::specs::Reading::optional))]
 fn curve_of(o: &Object<'_>, key: &str) -> Result<PlanCurve, PlanFault>
     ensures { Gives (λ c. c) result
         (optional key.now spec.identity spec.curve o.now.path.now (view o.now.value.now)) }
@@ -113,6 +114,7 @@ fn identities(alloc: Global) -> Result<[PlanCurve; 5], NoMemory>
 }
 
 /// The curves of a plan, one for each ink.
+#[tactic(auto, unfolding(crate::specs::Reading::optional))]
 pub(crate) fn curves_in(o: &Object<'_>, spot: bool) -> Result<[PlanCurve; 5], PlanFault>
     ensures { Gives (λ c. c) result
         (optional (codes "curves") spec.identities (spec.curves spot) o.now.path.now (view o.now.value.now)) }

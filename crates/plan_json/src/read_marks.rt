@@ -15,7 +15,7 @@ use pr_base::PathText;
 use serde_json::Value;
 use std::alloc::Global;
 
-#[tactic(auto, unfolding(crate::specs::Printing::mark))]
+#[tactic(auto, unfolding(crate::specs::Printing::mark, crate::specs::Reading::required))]
 fn mark(alloc: Global, spot: bool, width: u32, height: u32, path: &str, value: &Value) -> Result<Mark, PlanFault>
     ensures { Gives (λ m. m) result (spec.mark spot width height path.now (view value.now)) }
 {
@@ -92,6 +92,7 @@ fn marks(alloc: Global, spot: bool, width: u32, height: u32, path: &str, value: 
 }
 
 /// The marks of a plan, whose plates have this width and height.
+#[tactic(auto, unfolding(crate::specs::Reading::optional))]
 pub(crate) fn marks_in(o: &Object<'_>, spot: bool, width: u32, height: u32) -> Result<Vec<Mark>, PlanFault>
     ensures { Gives (λ v. v.items) result
         (optional (codes "marks") [] (spec.marks spot width height) o.now.path.now (view o.now.value.now)) }

@@ -30,7 +30,7 @@ fn bytes_of(alloc: Global, count: usize, path: &str, value: &Value) -> Result<Ve
     Ok(all)
 }
 
-#[tactic(auto, unfolding(crate::specs::Printing::tile))]
+#[tactic(auto, unfolding(crate::specs::Printing::tile, crate::specs::Reading::required))]
 fn tile(alloc: Global, earlier: &[PlanTile], path: &str, value: &Value) -> Result<PlanTile, PlanFault>
     ensures { Gives (λ t. t) result (spec.tile earlier.now path.now (view value.now)) }
 {
@@ -62,6 +62,7 @@ fn tiles(alloc: Global, path: &str, value: &Value) -> Result<Vec<PlanTile>, Plan
 }
 
 /// The tiles of a plan.
+#[tactic(auto, unfolding(crate::specs::Reading::optional))]
 pub(crate) fn tiles_in(o: &Object<'_>) -> Result<Vec<PlanTile>, PlanFault>
     ensures { Gives (λ v. v.items) result
         (optional (codes "tiles") [] spec.tiles o.now.path.now (view o.now.value.now)) }
@@ -118,6 +119,7 @@ fn screen(alloc: Global, tiles: &[PlanTile], place: Place<'_>, value: &Value) ->
     screen_named(alloc, tiles, place, s)
 }
 
+#[tactic(auto, unfolding(crate::specs::Reading::optional))]
 fn screen_of(o: &Object<'_>, key: &str, tiles: &[PlanTile]) -> Result<Screen, PlanFault>
     ensures { Gives (λ s. s) result
         (optional key.now (Bayer 8) (spec.screen (spec.tile_names tiles.now)) o.now.path.now (view o.now.value.now)) }
@@ -148,6 +150,7 @@ fn screens(
 }
 
 /// The screens of a plan, one for each ink.
+#[tactic(auto, unfolding(crate::specs::Reading::optional))]
 pub(crate) fn screens_in(o: &Object<'_>, spot: bool, tiles: &[PlanTile]) -> Result<[Screen; 5], PlanFault>
     ensures { Gives (λ s. s) result
         (optional (codes "screens") spec.bayer_screens (spec.screens spot tiles.now)

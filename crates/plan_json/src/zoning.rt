@@ -1,9 +1,10 @@
 // Which pages make which sections, and which site prints which pages.
 
+use crate::names::Named;
 use pr_base::PathText;
 use std::marker::Model;
 
-/// A section: the indexes of its pages, an even number of them.
+/// A section: the indexes of its pages, an even number of them, at most 128.
 #[derive(Debug, Drop)]
 pub struct Section {
     pub name: PathText,
@@ -11,11 +12,22 @@ pub struct Section {
 }
 
 impl Model for Section {
+    ghost use Rattle.std.specs.Prelude.{◌≤◌, length};
     ghost use Rattle.plan_json.specs.Data.{SectionData};
 
     ghost Value = { SectionData };
 
     ghost view = { λ s. record { name = s.name; pages = s.pages.items } };
+
+    ghost invariant = { λ s. length s.pages.items ≤ 128 };
+}
+
+impl Named for Section {
+    ghost named = { λ x. x.name };
+
+    fn name(&self) -> &str {
+        self.name.as_str()
+    }
 }
 
 /// A page that stands in the place of a section's own.
@@ -43,9 +55,25 @@ impl Model for Zone {
     ghost view = { λ z. record { name = z.name; replace = z.replace.items } };
 }
 
+impl Named for Zone {
+    ghost named = { λ x. x.name };
+
+    fn name(&self) -> &str {
+        self.name.as_str()
+    }
+}
+
 /// A print site. Without a zone it prints the sections' own pages.
 #[derive(Debug, Drop)]
 pub struct PlanSite {
     pub name: PathText,
     pub zone: Option<usize>,
+}
+
+impl Named for PlanSite {
+    ghost named = { λ x. x.name };
+
+    fn name(&self) -> &str {
+        self.name.as_str()
+    }
 }

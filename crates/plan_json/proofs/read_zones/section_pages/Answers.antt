@@ -1,0 +1,28 @@
+use Rattle.std.proofs.Common.{◌≡◌, length, rules}
+use Rattle.std.proofs.lemmas.Result.{err_from_is_err_and}
+use Rattle.serde_json.specs.View.{view}
+use Rattle.plan_json.specs.Pages.{page_names}
+use Rattle.plan_json.proofs.SoundPages.{section_pages_sound}
+use Rattle.plan_json.proofs.Items.{each-more, each-fails, each-done}
+use Rattle.plan_json.proofs.read_zones.section_pages.Goals as goal
+
+pub returns-in_err-one : goal.returns-in_err-one
+returns-in_err-one c =
+    let p = err_from_is_err_and c.from_residual-in_err-one.result c.from_residual-in_err-one.ensures.1 in
+    let e : c.len.result ≡ length c.loop-item.all.items = search rules in
+    let failed = rw e at c.in_err-one.ensures.value in
+    rw (p.1, p.2) (record { value = each-fails _ _ _ _ _ c.loop-item.all.items _ _ c.loop-item-test.true c.item-item.is failed c.loop-item.invariant; most = tt })
+
+pub loop-item-preserved : goal.loop-item-preserved
+loop-item-preserved c =
+    let e : c.len.result ≡ length c.loop-item.all.items = search rules in
+    let read = rw e at c.in_ok-one.ensures.value in
+    rw c.in_ok-push.ensures.items (each-more _ _ _ _ c.loop-item.all.items _ _ _ c.loop-item-test.true c.item-item.is read c.loop-item.invariant)
+
+pub returns-clause-value : goal.returns-clause-value
+returns-clause-value c = each-done _ _ _ _ _ _ c.loop-item-test.false c.loop-item.invariant
+
+pub returns-clause-most : goal.returns-clause-most
+returns-clause-most c =
+    let read = each-done _ _ _ _ _ _ c.loop-item-test.false c.loop-item.invariant in
+    (section_pages_sound (page_names c.args.pages.now) c.args.path.now (view c.args.value.now) c.loop-item.all.items read).count.most
