@@ -8,3 +8,5 @@ pub mod Mentions
 pub mod SoundFiles
 pub mod SoundPlan
 pub mod Json
+pub mod Later
+pub mod Law

@@ -116,7 +116,6 @@ bayer tiles = refl
 pub bayer_screens_sound : (tiles : ℕ) → AreScreens tiles bayer_screens
 bayer_screens_sound tiles = (refl, five (IsScreen tiles) (Bayer 8) (Bayer 8) (Bayer 8) (Bayer 8) (Bayer 8) (bayer tiles) (bayer tiles) (bayer tiles) (bayer tiles) (bayer tiles))
 
-
 screen_optional : (key : List ℕ) (tiles : List TileData) (path : List ℕ) (o : Data) (s : Screen) → optional key (Bayer 8) (screen (tile_names tiles)) path o ≡ Ok s → IsScreen (length tiles) s
 screen_optional key tiles path o s e =
     let same : length (tile_names tiles) ≡ length tiles = length-map (λ (t : TileData). t.name) tiles in

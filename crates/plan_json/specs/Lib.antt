@@ -11,3 +11,4 @@ pub mod Zoning
 pub mod Files
 pub mod Printed
 pub mod PlanOf
+pub mod Laws

@@ -20,7 +20,10 @@ fn noted<'a>(files: &mut IndexSet<&'a str>, file: &'a str) -> Result<usize, NoMe
     Ok(found.0)
 }
 
-fn noted_mask<'a>(files: &mut IndexSet<&'a str>, mask: &'a Option<PathText>) -> Result<Option<usize>, NoMemory>
+fn noted_mask<'a>(
+    files: &mut IndexSet<&'a str>,
+    mask: &'a Option<PathText>,
+) -> Result<Option<usize>, NoMemory>
     ensures { IfOk result (spec.NotesMask (spec.texts files.old.keys) mask.now (spec.texts files.new.keys)) }
 {
     match mask {
@@ -64,7 +67,11 @@ fn placed_layers<'a>(
     Ok(all)
 }
 
-fn placed_page<'a>(alloc: Global, files: &mut IndexSet<&'a str>, page: &'a NamedPage) -> Result<Page, NoMemory>
+fn placed_page<'a>(
+    alloc: Global,
+    files: &mut IndexSet<&'a str>,
+    page: &'a NamedPage,
+) -> Result<Page, NoMemory>
     ensures { IfOk result (spec.Places spec.named_on spec.page_of
         (spec.texts files.old.keys) page.now (spec.texts files.new.keys)) }
 {
@@ -106,7 +113,10 @@ fn copies(alloc: Global, names: &[&str]) -> Result<Vec<PathText>, NoMemory>
 }
 
 /// The pages with their files by index, and the files.
-pub(crate) fn pages_and_files(alloc: Global, pages: &[NamedPage]) -> Result<(Vec<Page>, Vec<PathText>), NoMemory>
+pub(crate) fn pages_and_files(
+    alloc: Global,
+    pages: &[NamedPage],
+) -> Result<(Vec<Page>, Vec<PathText>), NoMemory>
     ensures pages { IfOk result (λ r. r.0.items ≡ spec.pages_of pages.now) }
     ensures files { IfOk result (λ r. r.1.items ≡ spec.files_of pages.now) }
 {

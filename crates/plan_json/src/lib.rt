@@ -7,6 +7,7 @@ mod fault;
 mod files;
 mod forms;
 mod front;
+mod laws;
 mod layer;
 mod list;
 mod named;
@@ -19,15 +20,19 @@ mod read_curves;
 mod read_layers;
 mod read_marks;
 mod read_pages;
-mod reading;
 mod read_tiles;
 mod read_zones;
+mod reading;
 mod words;
 mod zoning;
 
 pub use fault::PlanFault;
+pub use laws::plan_one_is_plan_two;
 pub use layer::{Page, PlanLayer};
 pub use plan::Plan;
 pub use printing::{Mark, PlanCurve, PlanTile, Screen};
 pub use reading::read_plan;
 pub use zoning::{PlanSite, Replace, Section, Zone};
+
+#[cfg(test)]
+mod tests;

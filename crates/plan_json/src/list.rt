@@ -6,16 +6,19 @@ ghost use Rattle.plan_json.specs.Reading as spec;
 ghost use Rattle.serde_json.specs.Find.{get_item};
 ghost use Rattle.serde_json.specs.View.{view, items_view};
 
-use crate::PlanFault;
-use crate::words;
 use crate::place::Place;
+use crate::{PlanFault, words};
 use pr_base::PathText;
 use serde_json::Value;
 use std::alloc::Global;
 
 /// The items of the list at a path.
 #[tactic(auto, unfolding(crate::specs::Reading::items_in))]
-pub(crate) fn items_in<'v>(alloc: Global, path: &str, value: &'v Value) -> Result<&'v [Value], PlanFault>
+pub(crate) fn items_in<'v>(
+    alloc: Global,
+    path: &str,
+    value: &'v Value,
+) -> Result<&'v [Value], PlanFault>
     ensures { Gives (λ items. items_view items.now) result (spec.items_in path.now (view value.now)) }
 {
     match value {
@@ -70,5 +73,9 @@ pub(crate) fn nth(
 pub(crate) fn found(i: usize, items: &[Value]) -> Option<&Value>
     ensures { option_map (λ item. view item.now) result ≡ get_item i (items_view items.now) }
 {
-    if i < items.len() { Some(&items[i]) } else { None }
+    if i < items.len() {
+        Some(&items[i])
+    } else {
+        None
+    }
 }

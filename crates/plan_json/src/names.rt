@@ -7,10 +7,9 @@ ghost use Rattle.std.specs.List.{position};
 ghost use Rattle.std.specs.Str.{bytes_eq};
 ghost use Rattle.serde_json.specs.View.{view};
 
-use crate::PlanFault;
-use crate::forms;
 use crate::place::Place;
 use crate::words::text;
+use crate::{PlanFault, forms};
 use pr_base::PathText;
 use serde_json::Value;
 use std::alloc::Global;
@@ -25,7 +24,11 @@ pub(crate) trait Named {
 
 /// A name.
 #[tactic(auto, unfolding(crate::specs::Reading::name))]
-pub(crate) fn name<'v>(alloc: Global, place: Place<'_>, value: &'v Value) -> Result<&'v str, PlanFault>
+pub(crate) fn name<'v>(
+    alloc: Global,
+    place: Place<'_>,
+    value: &'v Value,
+) -> Result<&'v str, PlanFault>
     ensures { Gives (λ s. s.now) result (spec.name (path_of place.entry) (view value.now)) }
 {
     let s = text(alloc, place, value)?;
@@ -37,7 +40,11 @@ pub(crate) fn name<'v>(alloc: Global, place: Place<'_>, value: &'v Value) -> Res
 
 /// The name of a file.
 #[tactic(auto, unfolding(crate::specs::Reading::file_name))]
-pub(crate) fn file_name<'v>(alloc: Global, place: Place<'_>, value: &'v Value) -> Result<&'v str, PlanFault>
+pub(crate) fn file_name<'v>(
+    alloc: Global,
+    place: Place<'_>,
+    value: &'v Value,
+) -> Result<&'v str, PlanFault>
     ensures { Gives (λ s. s.now) result (spec.file_name (path_of place.entry) (view value.now)) }
 {
     let s = text(alloc, place, value)?;

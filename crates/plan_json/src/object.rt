@@ -11,10 +11,8 @@ ghost use Rattle.plan_json.specs.declared.fault.PlanFault.TheVariants.{Missing};
 ghost use Rattle.serde_json.specs.Find.{get};
 ghost use Rattle.serde_json.specs.View.{view, members_view};
 
-use crate::PlanFault;
-use crate::names;
 use crate::place::Place;
-use crate::words;
+use crate::{PlanFault, names, words};
 use pr_base::{NoMemory, PathText};
 use serde_json::{Map, Value};
 use std::alloc::Global;
@@ -50,7 +48,12 @@ impl<'a> Object<'a> {
     }
 
     /// The object whose keys are inks: C, M, Y, K and, where there is a spot ink, S.
-    pub(crate) fn of_inks(alloc: Global, spot: bool, path: &'a str, value: &'a Value) -> Result<Object<'a>, PlanFault>
+    pub(crate) fn of_inks(
+        alloc: Global,
+        spot: bool,
+        path: &'a str,
+        value: &'a Value,
+    ) -> Result<Object<'a>, PlanFault>
         ensures value { Gives (λ o. view o.value.now) result
             (spec.object_with (ink_keys spot) path.now (view value.now)) }
         ensures path { IfOk result (λ o. o.path.now ≡ path.now) }
@@ -102,7 +105,13 @@ impl<'a> Object<'a> {
 
     /// The number of a key, or one where the key is absent.
     #[tactic(auto, unfolding(crate::specs::Reading::optional))]
-    pub(crate) fn optional_number(&self, key: &str, absent: u64, low: u64, high: u64) -> Result<u64, PlanFault>
+    pub(crate) fn optional_number(
+        &self,
+        key: &str,
+        absent: u64,
+        low: u64,
+        high: u64,
+    ) -> Result<u64, PlanFault>
         requires { absent ≤ high }
         ensures value { Gives (λ n. n) result
             (spec.optional key.now absent (spec.number low high) self.now.path.now (view self.now.value.now)) }

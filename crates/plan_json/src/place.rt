@@ -20,7 +20,10 @@ impl Place<'_> {
     {
         match self {
             Place::Top => PathText::of(alloc, ""),
-            Place::Key(path, key) => PathText::of(alloc, format!(in alloc; "{path}/{key}")?.as_str()),
+            Place::Key(path, key) => PathText::of(
+                alloc,
+                format!(in alloc; "{path}/{key}")?.as_str(),
+            ),
             Place::Item(path, i) => PathText::of(alloc, format!(in alloc; "{path}/{i}")?.as_str()),
         }
     }

@@ -6,20 +6,25 @@ ghost use Rattle.plan_json.specs.Pages as spec;
 ghost use Rattle.plan_json.specs.Reading.{file_name, optional, required};
 ghost use Rattle.serde_json.specs.View.{view, items_view};
 
-use crate::PlanFault;
 use crate::list::{found, items_within, nth};
 use crate::named::{NamedLayer, Painting, Placing};
-use crate::names;
 use crate::object::Object;
 use crate::place::Place;
 use crate::words::{number, text};
+use crate::{PlanFault, names};
 use pr_base::PathText;
 use serde_json::Value;
 use std::alloc::Global;
 
 // One text of two: whether it is the second.
 #[tactic(auto, unfolding(crate::specs::Pages::either))]
-fn either(alloc: Global, first: &str, second: &str, place: Place<'_>, value: &Value) -> Result<bool, PlanFault>
+fn either(
+    alloc: Global,
+    first: &str,
+    second: &str,
+    place: Place<'_>,
+    value: &Value,
+) -> Result<bool, PlanFault>
     ensures { Gives (λ b. b) result (spec.either first.now second.now (path_of place.entry) (view value.now)) }
 {
     let s = text(alloc, place, value)?;
@@ -77,7 +82,13 @@ fn line_of(o: &Object<'_>) -> Result<bool, PlanFault>
     ensures { Gives (λ b. b) result
         (required (codes "kind") spec.kind o.now.path.now (view o.now.value.now)) }
 {
-    either(o.alloc, "contone", "line", o.place("kind"), o.required("kind")?)
+    either(
+        o.alloc,
+        "contone",
+        "line",
+        o.place("kind"),
+        o.required("kind")?,
+    )
 }
 
 #[tactic(auto, unfolding(crate::specs::Reading::required))]
@@ -163,12 +174,19 @@ fn painting_in(o: &Object<'_>, spot: bool) -> Result<Painting, PlanFault>
 }
 
 #[tactic(auto, unfolding(crate::specs::Pages::layer))]
-fn layer<'x>(alloc: Global, spot: bool, path: &'x str, value: &'x Value) -> Result<NamedLayer, PlanFault>
+fn layer<'x>(
+    alloc: Global,
+    spot: bool,
+    path: &'x str,
+    value: &'x Value,
+) -> Result<NamedLayer, PlanFault>
     ensures { Gives (λ l. l) result (spec.layer spot path.now (view value.now)) }
 {
     let o = Object::of(
         alloc,
-        &["kind", "file", "x", "y", "scale", "crop", "mask", "paint", "ink"],
+        &[
+            "kind", "file", "x", "y", "scale", "crop", "mask", "paint", "ink",
+        ],
         path,
         value,
     )?;
@@ -196,7 +214,12 @@ fn layer<'x>(alloc: Global, spot: bool, path: &'x str, value: &'x Value) -> Resu
 
 /// The layers of a page.
 #[tactic(auto, unfolding(crate::specs::Pages::layers))]
-pub(crate) fn layers(alloc: Global, spot: bool, path: &str, value: &Value) -> Result<Vec<NamedLayer>, PlanFault>
+pub(crate) fn layers(
+    alloc: Global,
+    spot: bool,
+    path: &str,
+    value: &Value,
+) -> Result<Vec<NamedLayer>, PlanFault>
     ensures { Gives (λ v. v.items) result (spec.layers spot path.now (view value.now)) }
 {
     let items = items_within(alloc, 0, 32, path, value)?;

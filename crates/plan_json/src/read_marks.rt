@@ -16,7 +16,14 @@ use serde_json::Value;
 use std::alloc::Global;
 
 #[tactic(auto, unfolding(crate::specs::Printing::mark, crate::specs::Reading::required))]
-fn mark(alloc: Global, spot: bool, width: u32, height: u32, path: &str, value: &Value) -> Result<Mark, PlanFault>
+fn mark(
+    alloc: Global,
+    spot: bool,
+    width: u32,
+    height: u32,
+    path: &str,
+    value: &Value,
+) -> Result<Mark, PlanFault>
     ensures { Gives (λ m. m) result (spec.mark spot width height path.now (view value.now)) }
 {
     let o = Object::of(alloc, &["inks", "x", "y", "w", "h"], path, value)?;
@@ -32,7 +39,12 @@ fn mark(alloc: Global, spot: bool, width: u32, height: u32, path: &str, value: &
 }
 
 #[tactic(auto, unfolding(crate::specs::Printing::mark_inks))]
-fn mark_inks(alloc: Global, spot: bool, place: Place<'_>, value: &Value) -> Result<[bool; 5], PlanFault>
+fn mark_inks(
+    alloc: Global,
+    spot: bool,
+    place: Place<'_>,
+    value: &Value,
+) -> Result<[bool; 5], PlanFault>
     ensures { Gives (λ inks. inks) result (spec.mark_inks spot (path_of place.entry) (view value.now)) }
 {
     let s = text(alloc, place, value)?;
@@ -78,7 +90,14 @@ fn taken(letter: u8, s: &[u8]) -> (bool, &[u8])
 }
 
 #[tactic(auto, unfolding(crate::specs::Printing::marks))]
-fn marks(alloc: Global, spot: bool, width: u32, height: u32, path: &str, value: &Value) -> Result<Vec<Mark>, PlanFault>
+fn marks(
+    alloc: Global,
+    spot: bool,
+    width: u32,
+    height: u32,
+    path: &str,
+    value: &Value,
+) -> Result<Vec<Mark>, PlanFault>
     ensures { Gives (λ v. v.items) result (spec.marks spot width height path.now (view value.now)) }
 {
     let items = items_within(alloc, 0, 64, path, value)?;
@@ -93,12 +112,24 @@ fn marks(alloc: Global, spot: bool, width: u32, height: u32, path: &str, value: 
 
 /// The marks of a plan, whose plates have this width and height.
 #[tactic(auto, unfolding(crate::specs::Reading::optional))]
-pub(crate) fn marks_in(o: &Object<'_>, spot: bool, width: u32, height: u32) -> Result<Vec<Mark>, PlanFault>
+pub(crate) fn marks_in(
+    o: &Object<'_>,
+    spot: bool,
+    width: u32,
+    height: u32,
+) -> Result<Vec<Mark>, PlanFault>
     ensures { Gives (λ v. v.items) result
         (optional (codes "marks") [] (spec.marks spot width height) o.now.path.now (view o.now.value.now)) }
 {
     match o.value.get("marks") {
-        Some(value) => marks(o.alloc, spot, width, height, o.path_to("marks")?.as_str(), value),
+        Some(value) => marks(
+            o.alloc,
+            spot,
+            width,
+            height,
+            o.path_to("marks")?.as_str(),
+            value,
+        ),
         None => Ok(Vec::new(o.alloc)),
     }
 }

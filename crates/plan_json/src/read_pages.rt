@@ -19,7 +19,12 @@ use std::alloc::Global;
 
 // Whether a page prints C, M and Y, and whether it prints S.
 #[tactic(auto, unfolding(crate::specs::Pages::inks_named))]
-fn inks_named(alloc: Global, spot: bool, place: Place<'_>, s: &str) -> Result<(bool, bool), PlanFault>
+fn inks_named(
+    alloc: Global,
+    spot: bool,
+    place: Place<'_>,
+    s: &str,
+) -> Result<(bool, bool), PlanFault>
     ensures { Gives (λ i. i) result (spec.inks_named spot (path_of place.entry) s.now) }
 {
     if s == "K" {
@@ -38,7 +43,12 @@ fn inks_named(alloc: Global, spot: bool, place: Place<'_>, s: &str) -> Result<(b
 }
 
 #[tactic(auto, unfolding(crate::specs::Pages::page_inks))]
-fn page_inks(alloc: Global, spot: bool, place: Place<'_>, value: &Value) -> Result<(bool, bool), PlanFault>
+fn page_inks(
+    alloc: Global,
+    spot: bool,
+    place: Place<'_>,
+    value: &Value,
+) -> Result<(bool, bool), PlanFault>
     ensures { Gives (λ i. i) result (spec.page_inks spot (path_of place.entry) (view value.now)) }
 {
     let s = text(alloc, place, value)?;
@@ -46,13 +56,24 @@ fn page_inks(alloc: Global, spot: bool, place: Place<'_>, value: &Value) -> Resu
 }
 
 #[tactic(auto, unfolding(crate::specs::Pages::page, crate::specs::Reading::required))]
-fn page(alloc: Global, spot: bool, earlier: &[NamedPage], path: &str, value: &Value) -> Result<NamedPage, PlanFault>
+fn page(
+    alloc: Global,
+    spot: bool,
+    earlier: &[NamedPage],
+    path: &str,
+    value: &Value,
+) -> Result<NamedPage, PlanFault>
     ensures { Gives (λ p. p) result (spec.page spot earlier.now path.now (view value.now)) }
 {
     let o = Object::of(alloc, &["name", "inks", "layers"], path, value)?;
     let name = new_name(alloc, earlier, o.place("name"), o.required("name")?)?;
     let inks = page_inks(alloc, spot, o.place("inks"), o.required("inks")?)?;
-    let layers = layers(alloc, spot, o.path_to("layers")?.as_str(), o.required("layers")?)?;
+    let layers = layers(
+        alloc,
+        spot,
+        o.path_to("layers")?.as_str(),
+        o.required("layers")?,
+    )?;
     Ok(NamedPage {
         name,
         colour: inks.0,
@@ -81,5 +102,10 @@ pub(crate) fn pages_in(o: &Object<'_>, spot: bool) -> Result<Vec<NamedPage>, Pla
     ensures { Gives (λ v. v.items) result
         (required (codes "pages") (spec.pages spot) o.now.path.now (view o.now.value.now)) }
 {
-    pages(o.alloc, spot, o.path_to("pages")?.as_str(), o.required("pages")?)
+    pages(
+        o.alloc,
+        spot,
+        o.path_to("pages")?.as_str(),
+        o.required("pages")?,
+    )
 }

@@ -31,14 +31,24 @@ fn bytes_of(alloc: Global, count: usize, path: &str, value: &Value) -> Result<Ve
 }
 
 #[tactic(auto, unfolding(crate::specs::Printing::tile, crate::specs::Reading::required))]
-fn tile(alloc: Global, earlier: &[PlanTile], path: &str, value: &Value) -> Result<PlanTile, PlanFault>
+fn tile(
+    alloc: Global,
+    earlier: &[PlanTile],
+    path: &str,
+    value: &Value,
+) -> Result<PlanTile, PlanFault>
     ensures { Gives (λ t. t) result (spec.tile earlier.now path.now (view value.now)) }
 {
     let o = Object::of(alloc, &["name", "width", "height", "at"], path, value)?;
     let name = new_name(alloc, earlier, o.place("name"), o.required("name")?)?;
     let width = o.number("width", 1, 64)? as u32;
     let height = o.number("height", 1, 64)? as u32;
-    let at = bytes_of(alloc, (width * height) as usize, o.path_to("at")?.as_str(), o.required("at")?)?;
+    let at = bytes_of(
+        alloc,
+        (width * height) as usize,
+        o.path_to("at")?.as_str(),
+        o.required("at")?,
+    )?;
     Ok(PlanTile {
         name,
         width,
@@ -76,7 +86,12 @@ pub(crate) fn tiles_in(o: &Object<'_>) -> Result<Vec<PlanTile>, PlanFault>
 // ---- screens
 
 #[tactic(auto, unfolding(crate::specs::Printing::screen_named))]
-fn screen_named(alloc: Global, tiles: &[PlanTile], place: Place<'_>, s: &str) -> Result<Screen, PlanFault>
+fn screen_named(
+    alloc: Global,
+    tiles: &[PlanTile],
+    place: Place<'_>,
+    s: &str,
+) -> Result<Screen, PlanFault>
     ensures { Gives (λ s. s) result (spec.screen_named (spec.tile_names tiles.now) (path_of place.entry) s.now) }
 {
     if s == "bayer2" {
@@ -112,7 +127,12 @@ fn own_name(s: &str) -> Option<&str>
 }
 
 #[tactic(auto, unfolding(crate::specs::Printing::screen))]
-fn screen(alloc: Global, tiles: &[PlanTile], place: Place<'_>, value: &Value) -> Result<Screen, PlanFault>
+fn screen(
+    alloc: Global,
+    tiles: &[PlanTile],
+    place: Place<'_>,
+    value: &Value,
+) -> Result<Screen, PlanFault>
     ensures { Gives (λ s. s) result (spec.screen (spec.tile_names tiles.now) (path_of place.entry) (view value.now)) }
 {
     let s = text(alloc, place, value)?;
@@ -151,10 +171,14 @@ fn screens(
 
 /// The screens of a plan, one for each ink.
 #[tactic(auto, unfolding(crate::specs::Reading::optional))]
-pub(crate) fn screens_in(o: &Object<'_>, spot: bool, tiles: &[PlanTile]) -> Result<[Screen; 5], PlanFault>
+pub(crate) fn screens_in(
+    o: &Object<'_>,
+    spot: bool,
+    tiles: &[PlanTile],
+) -> Result<[Screen; 5], PlanFault>
     ensures { Gives (λ s. s) result
         (optional (codes "screens") spec.bayer_screens (spec.screens spot tiles.now)
-            o.now.path.now (view o.now.value.now)) }
+        o.now.path.now (view o.now.value.now)) }
 {
     match o.value.get("screens") {
         Some(value) => screens(o.alloc, spot, tiles, o.path_to("screens")?.as_str(), value),

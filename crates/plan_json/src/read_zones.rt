@@ -22,7 +22,12 @@ use std::alloc::Global;
 // ---- sections
 
 #[tactic(auto, using(crate::proofs::Items::count_of_view), unfolding(crate::specs::Zoning::section_pages))]
-fn section_pages(alloc: Global, pages: &[NamedPage], path: &str, value: &Value) -> Result<Vec<usize>, PlanFault>
+fn section_pages(
+    alloc: Global,
+    pages: &[NamedPage],
+    path: &str,
+    value: &Value,
+) -> Result<Vec<usize>, PlanFault>
     ensures value { Gives (λ v. v.items) result (spec.section_pages (page_names pages.now) path.now (view value.now)) }
     ensures most { IfOk result (λ v. length v.items ≤ 128) }
 {
@@ -50,7 +55,12 @@ fn section(
 {
     let o = Object::of(alloc, &["name", "pages"], path, value)?;
     let name = new_name(alloc, earlier, o.place("name"), o.required("name")?)?;
-    let pages = section_pages(alloc, pages, o.path_to("pages")?.as_str(), o.required("pages")?)?;
+    let pages = section_pages(
+        alloc,
+        pages,
+        o.path_to("pages")?.as_str(),
+        o.required("pages")?,
+    )?;
     Ok(Section { name, pages })
 }
 
@@ -79,7 +89,12 @@ pub(crate) fn sections_in(o: &Object<'_>, pages: &[NamedPage]) -> Result<Vec<Sec
     ensures { Gives (λ v. v.items) result
         (required (codes "sections") (spec.sections (page_names pages.now)) o.now.path.now (view o.now.value.now)) }
 {
-    sections(o.alloc, pages, o.path_to("sections")?.as_str(), o.required("sections")?)
+    sections(
+        o.alloc,
+        pages,
+        o.path_to("sections")?.as_str(),
+        o.required("sections")?,
+    )
 }
 
 // ---- zones
@@ -108,9 +123,7 @@ fn new_page(
 fn is_replaced(earlier: &[Replace], section: usize, page: u64) -> bool
     ensures { result ≡ list_any (spec.replaces section page) earlier.now }
 {
-    earlier
-        .iter()
-        .any(|item| item.section == section && u64::from(item.page) == page)
+    earlier.iter().any(|item| item.section == section && u64::from(item.page) == page)
 }
 
 fn page_count(sections: &[Section], section: usize) -> usize
@@ -137,7 +150,14 @@ fn replace(
     let o = Object::of(alloc, &["section", "page", "with"], path, value)?;
     let section = defined(alloc, sections, o.place("section"), o.required("section")?)?;
     let count = page_count(sections, section);
-    let page = new_page(alloc, earlier, section, count, o.place("page"), o.required("page")?)?;
+    let page = new_page(
+        alloc,
+        earlier,
+        section,
+        count,
+        o.place("page"),
+        o.required("page")?,
+    )?;
     let with = defined(alloc, pages, o.place("with"), o.required("with")?)?;
     Ok(Replace {
         section,
@@ -181,7 +201,13 @@ fn zone(
 {
     let o = Object::of(alloc, &["name", "replace"], path, value)?;
     let name = new_name(alloc, earlier, o.place("name"), o.required("name")?)?;
-    let replace = replaced(alloc, pages, sections, o.path_to("replace")?.as_str(), o.required("replace")?)?;
+    let replace = replaced(
+        alloc,
+        pages,
+        sections,
+        o.path_to("replace")?.as_str(),
+        o.required("replace")?,
+    )?;
     Ok(Zone { name, replace })
 }
 
@@ -208,13 +234,23 @@ fn zones(
 
 /// The zones of a plan.
 #[tactic(auto, unfolding(crate::specs::Reading::optional))]
-pub(crate) fn zones_in(o: &Object<'_>, pages: &[NamedPage], sections: &[Section]) -> Result<Vec<Zone>, PlanFault>
+pub(crate) fn zones_in(
+    o: &Object<'_>,
+    pages: &[NamedPage],
+    sections: &[Section],
+) -> Result<Vec<Zone>, PlanFault>
     ensures { Gives (λ v. v.items) result
         (optional (codes "zones") [] (spec.zones (page_names pages.now) sections.now)
-            o.now.path.now (view o.now.value.now)) }
+        o.now.path.now (view o.now.value.now)) }
 {
     match o.value.get("zones") {
-        Some(value) => zones(o.alloc, pages, sections, o.path_to("zones")?.as_str(), value),
+        Some(value) => zones(
+            o.alloc,
+            pages,
+            sections,
+            o.path_to("zones")?.as_str(),
+            value,
+        ),
         None => Ok(Vec::new(o.alloc)),
     }
 }
@@ -222,7 +258,12 @@ pub(crate) fn zones_in(o: &Object<'_>, pages: &[NamedPage], sections: &[Section]
 // ---- sites
 
 #[tactic(auto, unfolding(crate::specs::Zoning::site_zone))]
-fn site_zone(alloc: Global, zones: &[Zone], place: Place<'_>, value: &Value) -> Result<Option<usize>, PlanFault>
+fn site_zone(
+    alloc: Global,
+    zones: &[Zone],
+    place: Place<'_>,
+    value: &Value,
+) -> Result<Option<usize>, PlanFault>
     ensures { Gives (λ z. z) result (spec.site_zone (spec.zone_names zones.now) (path_of place.entry) (view value.now)) }
 {
     let zone = defined(alloc, zones, place, value)?;
@@ -233,7 +274,7 @@ fn site_zone(alloc: Global, zones: &[Zone], place: Place<'_>, value: &Value) -> 
 fn zone_of(o: &Object<'_>, zones: &[Zone]) -> Result<Option<usize>, PlanFault>
     ensures { Gives (λ z. z) result
         (optional (codes "zone") None (spec.site_zone (spec.zone_names zones.now))
-            o.now.path.now (view o.now.value.now)) }
+        o.now.path.now (view o.now.value.now)) }
 {
     match o.value.get("zone") {
         Some(value) => site_zone(o.alloc, zones, o.place("zone"), value),
@@ -258,7 +299,12 @@ fn site(
 }
 
 #[tactic(auto, unfolding(crate::specs::Zoning::sites))]
-fn sites(alloc: Global, zones: &[Zone], path: &str, value: &Value) -> Result<Vec<PlanSite>, PlanFault>
+fn sites(
+    alloc: Global,
+    zones: &[Zone],
+    path: &str,
+    value: &Value,
+) -> Result<Vec<PlanSite>, PlanFault>
     ensures { Gives (λ v. v.items) result (spec.sites (spec.zone_names zones.now) path.now (view value.now)) }
 {
     let items = items_within(alloc, 1, 16, path, value)?;
@@ -277,5 +323,10 @@ pub(crate) fn sites_in(o: &Object<'_>, zones: &[Zone]) -> Result<Vec<PlanSite>, 
     ensures { Gives (λ v. v.items) result
         (required (codes "sites") (spec.sites (spec.zone_names zones.now)) o.now.path.now (view o.now.value.now)) }
 {
-    sites(o.alloc, zones, o.path_to("sites")?.as_str(), o.required("sites")?)
+    sites(
+        o.alloc,
+        zones,
+        o.path_to("sites")?.as_str(),
+        o.required("sites")?,
+    )
 }

@@ -128,8 +128,8 @@ fn plan_in(alloc: Global, value: &Value) -> Result<Plan, PlanFault>
     let o = Object::of(
         alloc,
         &[
-            "plan", "edition", "dpi", "page", "margins", "gutter", "limit", "tiles", "screens", "curves",
-            "marks", "pages", "sections", "zones", "sites",
+            "plan", "edition", "dpi", "page", "margins", "gutter", "limit", "tiles", "screens",
+            "curves", "marks", "pages", "sections", "zones", "sites",
         ],
         "",
         value,

@@ -12,7 +12,13 @@ use std::alloc::Global;
 
 /// A whole number from `low` to `high`.
 #[tactic(auto, unfolding(crate::specs::Reading::number))]
-pub(crate) fn number(alloc: Global, low: u64, high: u64, place: Place<'_>, value: &Value) -> Result<u64, PlanFault>
+pub(crate) fn number(
+    alloc: Global,
+    low: u64,
+    high: u64,
+    place: Place<'_>,
+    value: &Value,
+) -> Result<u64, PlanFault>
     ensures value { Gives (λ n. n) result (number low high (path_of place.entry) (view value.now)) }
     ensures most { IfOk result (λ n. n ≤ high) }
 {
@@ -26,7 +32,11 @@ pub(crate) fn number(alloc: Global, low: u64, high: u64, place: Place<'_>, value
 }
 
 /// A text.
-pub(crate) fn text<'v>(alloc: Global, place: Place<'_>, value: &'v Value) -> Result<&'v str, PlanFault>
+pub(crate) fn text<'v>(
+    alloc: Global,
+    place: Place<'_>,
+    value: &'v Value,
+) -> Result<&'v str, PlanFault>
     ensures { Gives (λ s. s.now) result (text (path_of place.entry) (view value.now)) }
 {
     match value.as_str() {
