@@ -110,11 +110,11 @@ length-map : {A B : Type 0} (f : A → B) (xs : List A) → length (map f xs) �
 length-map f [] = refl
 length-map f (x ∷ xs) = ap suc (length-map f xs)
 
-bayer : (tiles : ℕ) → IsScreen tiles (Bayer 8)
-bayer tiles = refl
+bayer : (n : ℕ) → IsScreen n (Bayer 8)
+bayer n = refl
 
-pub bayer_screens_sound : (tiles : ℕ) → AreScreens tiles bayer_screens
-bayer_screens_sound tiles = (refl, five (IsScreen tiles) (Bayer 8) (Bayer 8) (Bayer 8) (Bayer 8) (Bayer 8) (bayer tiles) (bayer tiles) (bayer tiles) (bayer tiles) (bayer tiles))
+pub bayer_screens_sound : (n : ℕ) → AreScreens n bayer_screens
+bayer_screens_sound n = (refl, five (IsScreen n) (Bayer 8) (Bayer 8) (Bayer 8) (Bayer 8) (Bayer 8) (bayer n) (bayer n) (bayer n) (bayer n) (bayer n))
 
 screen_optional : (key : List ℕ) (tiles : List TileData) (path : List ℕ) (o : Data) (s : Screen) → optional key (Bayer 8) (screen (tile_names tiles)) path o ≡ Ok s → IsScreen (length tiles) s
 screen_optional key tiles path o s e =

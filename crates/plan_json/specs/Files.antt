@@ -44,7 +44,12 @@ layer_of files layer = record {
 
 unfoldable pub page_of : List (List ℕ) → PageText → PageData
 page_of files page =
-    record { name = page.name; colour = page.colour; spot = page.spot; layers = map (layer_of files) page.layers }
+    record {
+      name = page.name;
+      colour = page.colour;
+      spot = page.spot;
+      layers = map (layer_of files) page.layers;
+    }
 
 unfoldable pub pages_of : List PageText → List PageData
 pages_of pages = map (page_of (files_of pages)) pages
@@ -56,16 +61,19 @@ abbrev pub texts : List (Bor (List ℕ)) → List (List ℕ)
 texts keys = map (λ s. s.now) keys
 
 -- the files of an item are noted behind the old ones, and the item is told by the new ones
-pub record Places {X Y : Type 0} (names : X → List (List ℕ)) (of : List (List ℕ) → X → Y) (old : List (List ℕ)) (x : X) (new : List (List ℕ)) (y : Y) : Type 0 where
+pub record Places {X Y : Type 0} (names : X → List (List ℕ)) (of : List (List ℕ) → X → Y)
+    (old : List (List ℕ)) (x : X) (new : List (List ℕ)) (y : Y) : Type 0 where
   pub files : new ≡ insert_all bytes_eq old (names x)
   pub item : y ≡ of new x
 
 -- the same of a list of items
-pub record PlacesAll {X Y : Type 0} (names : X → List (List ℕ)) (of : List (List ℕ) → X → Y) (old : List (List ℕ)) (xs : List X) (new : List (List ℕ)) (ys : List Y) : Type 0 where
+pub record PlacesAll {X Y : Type 0} (names : X → List (List ℕ)) (of : List (List ℕ) → X → Y)
+    (old : List (List ℕ)) (xs : List X) (new : List (List ℕ)) (ys : List Y) : Type 0 where
   pub files : new ≡ insert_all bytes_eq old (flat_map names xs)
   pub items : ys ≡ map (of new) xs
 
 -- a mask is noted, and told by its index
-pub record NotesMask (old : List (List ℕ)) (mask : Option (List ℕ)) (new : List (List ℕ)) (index : Option ℕ) : Type 0 where
+pub record NotesMask (old : List (List ℕ)) (mask : Option (List ℕ)) (new : List (List ℕ)) (index : Option ℕ)
+    : Type 0 where
   pub files : new ≡ insert_all bytes_eq old (option_to_list mask)
   pub index_is : index ≡ option_map (index_of old) mask

@@ -4,7 +4,8 @@ use Rattle.std.specs.List.{list_all}
 
 -- a byte of a name: A to Z, a to z, 0 to 9 or `_`
 unfoldable pub is_name_byte : ℕ → Bool
-is_name_byte b = nat_le 65 b && nat_le b 90 || nat_le 97 b && nat_le b 122 || nat_le 48 b && nat_le b 57 || b == 95
+is_name_byte b =
+    nat_le 65 b && nat_le b 90 || nat_le 97 b && nat_le b 122 || nat_le 48 b && nat_le b 57 || b == 95
 
 -- a name: 1 to 16 such bytes
 unfoldable pub is_name : List ℕ → Bool
@@ -30,4 +31,5 @@ names_a_file (a ∷ b ∷ c ∷ rest) = true
 -- a file name: 1 to 255 bytes, none of them a control code, all parts of which name files
 unfoldable pub is_file_name : List ℕ → Bool
 is_file_name text =
-    nat_le 1 (length text) && nat_le (length text) 255 && list_all (nat_le 32) text && list_all names_a_file (parts text)
+    nat_le 1 (length text) && nat_le (length text) 255 && list_all (nat_le 32) text
+    && list_all names_a_file (parts text)

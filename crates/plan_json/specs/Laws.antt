@@ -8,5 +8,6 @@ use Rattle.plan_json.specs.PlanOf.{plan_in}
 -- where an object whose `plan` is 1 is a plan, the same object with 2 there is the same plan
 abbrev pub PlanOneIsPlanTwo : Type 0
 PlanOneIsPlanTwo =
-    (members : Members) (plan : PlanData) → get_member (codes "plan") members ≡ Some (number (unsigned 1)) → plan_in (object members) ≡ Ok plan
+    (members : Members) (plan : PlanData) → get_member (codes "plan") members ≡ Some (number (unsigned 1))
+    → plan_in (object members) ≡ Ok plan
     → plan_in (object (put (codes "plan") (number (unsigned 2)) members)) ≡ Ok plan

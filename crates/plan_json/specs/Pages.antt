@@ -20,7 +20,8 @@ pub record PageText : Type 0 where
 
 -- the text of two: the second is true
 abbrev pub either_text : List ℕ → List ℕ → List ℕ → List ℕ → Read Bool
-either_text path first second s = if bytes_eq s first then Ok false else (if bytes_eq s second then Ok true else Err (Range path))
+either_text path first second s =
+    if bytes_eq s first then Ok false else (if bytes_eq s second then Ok true else Err (Range path))
 
 -- one text of two
 unfoldable pub either : List ℕ → List ℕ → Reader Bool
@@ -70,7 +71,8 @@ black = 0 ∷ 0 ∷ 0 ∷ 255 ∷ 0 ∷ []
 
 abbrev pub layer_keys : List (List ℕ)
 layer_keys =
-    codes "kind" ∷ codes "file" ∷ codes "x" ∷ codes "y" ∷ codes "scale" ∷ codes "crop" ∷ codes "mask" ∷ codes "paint" ∷ codes "ink" ∷ []
+    codes "kind" ∷ codes "file" ∷ codes "x" ∷ codes "y" ∷ codes "scale" ∷ codes "crop"
+    ∷ codes "mask" ∷ codes "paint" ∷ codes "ink" ∷ []
 
 -- where an image lies on the page, and how large
 unfoldable pub placing : Reader Placing

@@ -51,7 +51,22 @@ front path o = do
   gutter ← optional (codes "gutter") 0 (number 0 65535) path o
   must (fits_plate margins page.0 page.1 gutter) (Range (at_key path (codes "page")))
   limit ← optional (codes "limit") 1020 (number 0 1020) path o
-  Ok (record { edition = edition; dpi = dpi; page_width = page.0; page_height = page.1; margins = margins; gutter = gutter; limit = limit })
+  Ok (record {
+    edition = edition;
+    dpi = dpi;
+    page_width = page.0;
+    page_height = page.1;
+    margins = margins;
+    gutter = gutter;
+    limit = limit;
+  })
+
+-- the sides of a plate by them
+abbrev pub front_width : Front → ℕ
+front_width f = width_over f.margins f.page_width f.gutter
+
+abbrev pub front_height : Front → ℕ
+front_height f = height_over f.margins f.page_height
 
 -- ---- the next keys: how inks are printed
 
@@ -78,7 +93,8 @@ layout spot path o = do
 
 abbrev pub top_keys : List (List ℕ)
 top_keys =
-    codes "plan" ∷ codes "edition" ∷ codes "dpi" ∷ codes "page" ∷ codes "margins" ∷ codes "gutter" ∷ codes "limit" ∷ codes "tiles" ∷ codes "screens"
+    codes "plan" ∷ codes "edition" ∷ codes "dpi" ∷ codes "page" ∷ codes "margins" ∷ codes "gutter" ∷ codes "limit"
+    ∷ codes "tiles" ∷ codes "screens"
     ∷ codes "curves" ∷ codes "marks" ∷ codes "pages" ∷ codes "sections" ∷ codes "zones" ∷ codes "sites" ∷ []
 
 -- the plan of its three parts
@@ -106,7 +122,7 @@ joined front inks layout = record {
 unfoldable pub plan_by : Bool → Reader PlanData
 plan_by spot path o = do
   front ← front path o
-  inks ← inks spot (width_over front.margins front.page_width front.gutter) (height_over front.margins front.page_height) path o
+  inks ← inks spot (front_width front) (front_height front) path o
   layout ← layout spot path o
   Ok (joined front inks layout)
 

@@ -130,7 +130,8 @@ taken letter (b ∷ s) = if b == letter then (true, s) else (false, b ∷ s)
 abbrev pub flags_in : List ℕ → List ℕ → Option (List Bool)
 flags_in [] [] = Some []
 flags_in [] (b ∷ s) = None
-flags_in (letter ∷ letters) s = option_map (λ flags. (taken letter s).0 ∷ flags) (flags_in letters (taken letter s).1)
+flags_in (letter ∷ letters) s =
+    option_map (λ flags. (taken letter s).0 ∷ flags) (flags_in letters (taken letter s).1)
 
 -- some ink, and S only in plan 2
 abbrev pub may_have : Bool → List Bool → Bool

@@ -34,7 +34,8 @@ sections pages = list_of 1 8 (section pages)
 
 -- how many pages a section has
 abbrev pub page_count : List SectionData → ℕ → ℕ
-page_count sections section = length (slice_index_or sections section (record { name = []; pages = [] })).pages
+page_count sections section =
+    length (slice_index_or sections section (record { name = []; pages = [] })).pages
 
 -- an item replaces this page of this section
 abbrev pub replaces : ℕ → ℕ → ReplaceData → Bool

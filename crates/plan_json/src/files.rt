@@ -13,7 +13,8 @@ use std::alloc::Global;
 
 // Notes a file, which goes last where it is new, and gives its index.
 fn noted<'a>(files: &mut IndexSet<&'a str>, file: &'a str) -> Result<usize, NoMemory>
-    ensures files { OnOk result (spec.texts files.new.keys ≡ insert_key bytes_eq (spec.texts files.old.keys) file.now) }
+    ensures files { OnOk result
+        (spec.texts files.new.keys ≡ insert_key bytes_eq (spec.texts files.old.keys) file.now) }
     ensures index { IfOk result (λ i. i ≡ spec.index_of (spec.texts files.old.keys) file.now) }
 {
     let found = files.insert_full(file)?;

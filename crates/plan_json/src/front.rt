@@ -81,7 +81,8 @@ fn fits_plate(margins: &[u32; 4], page_width: u32, page_height: u32, gutter: u32
 
 #[tactic(auto, unfolding(crate::specs::Reading::required))]
 fn edition_in(o: &Object<'_>) -> Result<PathText, PlanFault>
-    ensures { Gives (λ s. s) result (required (codes "edition") spec_name o.now.path.now (view o.now.value.now)) }
+    ensures { Gives (λ s. s) result
+        (required (codes "edition") spec_name o.now.path.now (view o.now.value.now)) }
 {
     let s = name(o.alloc, o.place("edition"), o.required("edition")?)?;
     Ok(PathText::of(o.alloc, s)?)
@@ -89,7 +90,8 @@ fn edition_in(o: &Object<'_>) -> Result<PathText, PlanFault>
 
 #[tactic(auto, unfolding(crate::specs::Reading::required))]
 fn page_in(o: &Object<'_>) -> Result<(u32, u32), PlanFault>
-    ensures { Gives (λ p. p) result (required (codes "page") spec.page_size o.now.path.now (view o.now.value.now)) }
+    ensures { Gives (λ p. p) result
+        (required (codes "page") spec.page_size o.now.path.now (view o.now.value.now)) }
 {
     page_size(o.alloc, o.path_to("page")?.as_str(), o.required("page")?)
 }

@@ -20,6 +20,8 @@ mod read_curves;
 mod read_layers;
 mod read_marks;
 mod read_pages;
+mod read_sections;
+mod read_sites;
 mod read_tiles;
 mod read_zones;
 mod reading;

@@ -84,7 +84,8 @@ impl<'a> Object<'a> {
     /// What a required key has.
     pub(crate) fn required(&self, key: &str) -> Result<&'a Value, PlanFault>
         ensures { Gives (λ value. view value.now) result
-            (spec.some_or (Missing (spec.at_key self.now.path.now key.now)) (get key.now (view self.now.value.now))) }
+            (spec.some_or (Missing (spec.at_key self.now.path.now key.now))
+            (get key.now (view self.now.value.now))) }
     {
         match self.value.get(key) {
             Some(value) => Ok(value),
@@ -114,7 +115,8 @@ impl<'a> Object<'a> {
     ) -> Result<u64, PlanFault>
         requires { absent ≤ high }
         ensures value { Gives (λ n. n) result
-            (spec.optional key.now absent (spec.number low high) self.now.path.now (view self.now.value.now)) }
+            (spec.optional key.now absent (spec.number low high)
+            self.now.path.now (view self.now.value.now)) }
         ensures most { IfOk result (λ n. n ≤ high) }
     {
         match self.value.get(key) {
@@ -137,7 +139,8 @@ fn first_unknown<'v>(keys: &[&str], members: &'v Map<String, Value>) -> Option<&
 
 fn unknown_key<'v>(keys: &[&str], members: &'v Map<String, Value>) -> Option<&'v String>
     ensures { option_map (λ key. key.now) result
-        ≡ find (λ key. not (spec.is_among (map (λ k. k.now) keys.now) (string_bytes key))) (keys_of members.now) }
+        ≡ find (λ key. not (spec.is_among (map (λ k. k.now) keys.now) (string_bytes key)))
+        (keys_of members.now) }
 {
     members.keys().find(|key| !is_among(keys, key.as_str()))
 }

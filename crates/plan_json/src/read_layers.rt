@@ -25,7 +25,8 @@ fn either(
     place: Place<'_>,
     value: &Value,
 ) -> Result<bool, PlanFault>
-    ensures { Gives (λ b. b) result (spec.either first.now second.now (path_of place.entry) (view value.now)) }
+    ensures { Gives (λ b. b) result
+        (spec.either first.now second.now (path_of place.entry) (view value.now)) }
 {
     let s = text(alloc, place, value)?;
     if s == first {
@@ -51,7 +52,8 @@ fn crop(alloc: Global, path: &str, value: &Value) -> Result<Option<[u32; 4]>, Pl
 
 #[tactic(auto, unfolding(crate::specs::Reading::optional))]
 fn crop_of(o: &Object<'_>) -> Result<Option<[u32; 4]>, PlanFault>
-    ensures { Gives (λ c. c) result (optional (codes "crop") None spec.crop o.now.path.now (view o.now.value.now)) }
+    ensures { Gives (λ c. c) result
+        (optional (codes "crop") None spec.crop o.now.path.now (view o.now.value.now)) }
 {
     match o.value.get("crop") {
         Some(value) => crop(o.alloc, o.path_to("crop")?.as_str(), value),
@@ -69,7 +71,8 @@ fn mask(alloc: Global, place: Place<'_>, value: &Value) -> Result<Option<PathTex
 
 #[tactic(auto, unfolding(crate::specs::Reading::optional))]
 fn mask_of(o: &Object<'_>) -> Result<Option<PathText>, PlanFault>
-    ensures { Gives (λ m. m) result (optional (codes "mask") None spec.mask o.now.path.now (view o.now.value.now)) }
+    ensures { Gives (λ m. m) result
+        (optional (codes "mask") None spec.mask o.now.path.now (view o.now.value.now)) }
 {
     match o.value.get("mask") {
         Some(value) => mask(o.alloc, o.place("mask"), value),
@@ -93,7 +96,8 @@ fn line_of(o: &Object<'_>) -> Result<bool, PlanFault>
 
 #[tactic(auto, unfolding(crate::specs::Reading::required))]
 fn file_of(o: &Object<'_>) -> Result<PathText, PlanFault>
-    ensures { Gives (λ s. s) result (required (codes "file") file_name o.now.path.now (view o.now.value.now)) }
+    ensures { Gives (λ s. s) result
+        (required (codes "file") file_name o.now.path.now (view o.now.value.now)) }
 {
     let s = names::file_name(o.alloc, o.place("file"), o.required("file")?)?;
     Ok(PathText::of(o.alloc, s)?)

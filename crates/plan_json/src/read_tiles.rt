@@ -92,7 +92,8 @@ fn screen_named(
     place: Place<'_>,
     s: &str,
 ) -> Result<Screen, PlanFault>
-    ensures { Gives (λ s. s) result (spec.screen_named (spec.tile_names tiles.now) (path_of place.entry) s.now) }
+    ensures { Gives (λ s. s) result
+        (spec.screen_named (spec.tile_names tiles.now) (path_of place.entry) s.now) }
 {
     if s == "bayer2" {
         return Ok(Screen::Bayer(2));
@@ -133,7 +134,8 @@ fn screen(
     place: Place<'_>,
     value: &Value,
 ) -> Result<Screen, PlanFault>
-    ensures { Gives (λ s. s) result (spec.screen (spec.tile_names tiles.now) (path_of place.entry) (view value.now)) }
+    ensures { Gives (λ s. s) result
+        (spec.screen (spec.tile_names tiles.now) (path_of place.entry) (view value.now)) }
 {
     let s = text(alloc, place, value)?;
     screen_named(alloc, tiles, place, s)
@@ -142,7 +144,8 @@ fn screen(
 #[tactic(auto, unfolding(crate::specs::Reading::optional))]
 fn screen_of(o: &Object<'_>, key: &str, tiles: &[PlanTile]) -> Result<Screen, PlanFault>
     ensures { Gives (λ s. s) result
-        (optional key.now (Bayer 8) (spec.screen (spec.tile_names tiles.now)) o.now.path.now (view o.now.value.now)) }
+        (optional key.now (Bayer 8) (spec.screen (spec.tile_names tiles.now))
+        o.now.path.now (view o.now.value.now)) }
 {
     match o.value.get(key) {
         Some(value) => screen(o.alloc, tiles, o.place(key), value),

@@ -13,8 +13,10 @@ use crate::object::Object;
 use crate::read_curves::curves_in;
 use crate::read_marks::marks_in;
 use crate::read_pages::pages_in;
+use crate::read_sections::sections_in;
+use crate::read_sites::sites_in;
 use crate::read_tiles::{screens_in, tiles_in};
-use crate::read_zones::{sections_in, sites_in, zones_in};
+use crate::read_zones::zones_in;
 use crate::{Mark, Plan, PlanCurve, PlanFault, PlanSite, PlanTile, Screen, Section, Zone};
 use serde_json::Value;
 use std::alloc::Global;
@@ -34,7 +36,12 @@ impl Model for Inks {
 
     ghost Value = { Printed };
 
-    ghost view = { λ i. record { tiles = i.tiles.items; screens = i.screens; curves = i.curves; marks = i.marks.items } };
+    ghost view = { λ i. record {
+      tiles = i.tiles.items;
+      screens = i.screens;
+      curves = i.curves;
+      marks = i.marks.items;
+    } };
 }
 
 // Which pages go where.
@@ -51,7 +58,12 @@ impl Model for Layout {
 
     ghost Value = { LaidOut };
 
-    ghost view = { λ l. record { pages = l.pages.items; sections = l.sections.items; zones = l.zones.items; sites = l.sites.items } };
+    ghost view = { λ l. record {
+      pages = l.pages.items;
+      sections = l.sections.items;
+      zones = l.zones.items;
+      sites = l.sites.items;
+    } };
 }
 
 #[tactic(auto, unfolding(crate::specs::PlanOf::inks))]

@@ -4,7 +4,7 @@ use Rattle.serde_json.specs.View.{view}
 use Rattle.plan_json.specs.Pages.{page_names}
 use Rattle.plan_json.proofs.SoundPages.{section_pages_sound}
 use Rattle.plan_json.proofs.Items.{each-more, each-fails, each-done}
-use Rattle.plan_json.proofs.read_zones.section_pages.Goals as goal
+use Rattle.plan_json.proofs.read_sections.section_pages.Goals as goal
 
 pub returns-in_err-one : goal.returns-in_err-one
 returns-in_err-one c =

@@ -3,7 +3,7 @@ use Rattle.plan_json.specs.Pages.{page_names}
 use Rattle.plan_json.specs.Reading.{defined}
 use Rattle.plan_json.proofs.Items.{Reads}
 use Rattle.serde_json.specs.View.{view}
-use Rattle.plan_json.proofs.read_zones.section_pages.Given as goal
+use Rattle.plan_json.proofs.read_sections.section_pages.Given as goal
 
 abbrev pub invariant-loop-item : goal.invariant-loop-item
 invariant-loop-item l = Reads (λ _. defined (page_names l.pages)) l.path l.items (spec.section_pages (page_names l.pages) l.path (view l.value)) l.all.items l.item-index
