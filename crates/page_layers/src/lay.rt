@@ -33,15 +33,15 @@ pub(crate) fn lay_span(
     }
 }
 
-// The loops read both values and write each pixel, so that they run on vectors.
+// The loops multiply by 0 or 1 in place of a choice, so that they run on vectors and no branch is guessed.
 fn knock_out(paint: &[u8], admitted: &[u8], into: &mut [u8])
     requires paint { length paint.now ≡ length into.old }
     requires admitted { length admitted.now ≡ length into.old }
     ensures { IsLaid Painting.Knockout paint.now admitted.now into.old (length into.old) into.new }
 {
     for x in 0..into.len() {
-        let (new, old) = (paint[x], into[x]);
-        into[x] = if admitted[x] == 0 { old } else { new };
+        let shows = u8::from(admitted[x] != 0);
+        into[x] = paint[x] * shows + into[x] * (1 - shows);
     }
 }
 
@@ -51,8 +51,7 @@ fn overprint(paint: &[u8], admitted: &[u8], into: &mut [u8])
     ensures { IsLaid Painting.Overprint paint.now admitted.now into.old (length into.old) into.new }
 {
     for x in 0..into.len() {
-        let (new, old) = (paint[x], into[x]);
-        let shows = admitted[x] != 0 && new != 0;
-        into[x] = if shows { new } else { old };
+        let shows = u8::from(admitted[x] != 0) * u8::from(paint[x] != 0);
+        into[x] = paint[x] * shows + into[x] * (1 - shows);
     }
 }

@@ -25,7 +25,7 @@ pub(crate) fn keep_marked(image: &Bilevel<'_>, row: &[u8], first: u32, into: &mu
     }
 }
 
-// The loops write each pixel: a branch on a bit of a photograph is often guessed wrong.
+// The loops multiply by the bit: a branch on it would often be guessed wrong.
 fn keep_ones(row: &[u8], first: usize, into: &mut [u8])
     requires small { first + length into.old ≤ 65535 }
     requires within { first + length into.old ≤ 8 * length row.now }
@@ -34,8 +34,7 @@ fn keep_ones(row: &[u8], first: usize, into: &mut [u8])
     for j in 0..into.len() {
         let x = first + j;
         let bit = row[x / 8] >> (7 - x % 8) & 1;
-        let kept = into[j];
-        into[j] = if bit == 1 { kept } else { 0 };
+        into[j] *= bit;
     }
 }
 
@@ -47,7 +46,6 @@ fn keep_zeros(row: &[u8], first: usize, into: &mut [u8])
     for j in 0..into.len() {
         let x = first + j;
         let bit = row[x / 8] >> (7 - x % 8) & 1;
-        let kept = into[j];
-        into[j] = if bit == 1 { 0 } else { kept };
+        into[j] *= u8::from(bit == 0);
     }
 }
