@@ -8,12 +8,13 @@ ghost use Rattle.ring_rule.specs.Seats.{IsHeadNoteSeat, IsCursorNoteSeat};
 use crate::RingSeat;
 use pr_base::Deal;
 use std::marker::{Model, PhantomData};
+use std::snapshot::Snapshot;
 
 /// A note of the writer: its head, and which readers it saw leave. Contracts see its table and what it says.
 #[derive(Drop)]
 pub struct HeadNoteSeat<D: Deal> {
     seat: RingSeat,
-    deal: PhantomData<D>,
+    deal: PhantomData<Snapshot<D>>,
 }
 
 impl<D: Deal> Model for HeadNoteSeat<D> {
@@ -50,7 +51,7 @@ impl<D: Deal> HeadNoteSeat<D> {
 pub struct CursorNoteSeat<D: Deal> {
     seat: RingSeat,
     number: u32,
-    deal: PhantomData<D>,
+    deal: PhantomData<Snapshot<D>>,
 }
 
 impl<D: Deal> Model for CursorNoteSeat<D> {
