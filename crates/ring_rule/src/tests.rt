@@ -2,7 +2,7 @@ ghost use Rattle.std.specs.Prelude.{◌≡◌, ◌≢◌, ◌+◌, ◌<◌, ◌�
 ghost use Rattle.ring_rule.specs.Views.{left_word};
 ghost use Rattle.ring_rule.specs.Numbered.{numbered_row, numbered_rows, IsIdleWriter, IsIdleReader, IsOffered, served};
 
-use crate::{ReaderSeat, RingTable, Seats, WriterSeat};
+use crate::{CursorNoteSeat, HeadNoteSeat, ReaderSeat, RingTable, Seats, WriterSeat};
 use pr_base::Deal;
 use std::process::Abort;
 use std::test::Fail;
@@ -225,5 +225,43 @@ fn notes_carry_what_a_seat_knows(rt: HostRuntime) -> Result<(), Fail> {
     reader.store_left();
     let left = reader.note();
     assert_eq!(rt; writer.meet(left), u64::MAX);
+    Ok(())
+}
+
+fn meet_cursor(mut writer: WriterSeat<'_, Numbered>, note: CursorNoteSeat<Numbered>) -> u64
+    requires { note.table ≡ writer.table }
+{
+    writer.meet(note)
+}
+
+fn meet_head(mut reader: ReaderSeat<'_, Numbered>, note: HeadNoteSeat<Numbered>) -> u64
+    requires table { note.table ≡ reader.table }
+    requires joined { reader.view.left ≡ false }
+{
+    reader.meet(note)
+}
+
+// Each seat meets the other's note in a thread of its own.
+#[test]
+fn notes_cross_threads(rt: HostRuntime) -> Result<(), Fail> {
+    let deal = Numbered { total: 4 };
+    let mut table = RingTable::new(rt.alloc(), &deal, 4, 1)?;
+    let Seats {
+        mut writer,
+        mut readers,
+    } = table.seats(rt.alloc())?;
+    let mut reader = readers.pop().ok_or("no reader")?;
+    assert!(rt; write_one(&mut writer, 4, 0));
+    assert!(rt; read_one(&rt, &mut reader, 4, 0));
+    assert!(rt; write_one(&mut writer, 4, 1));
+    let told = writer.note();
+    let heard = reader.note();
+    let (cursor, head) = thread::join(
+        &rt,
+        || meet_cursor(writer, heard),
+        || meet_head(reader, told),
+    );
+    assert_eq!(rt; cursor, 1);
+    assert_eq!(rt; head, 2);
     Ok(())
 }
