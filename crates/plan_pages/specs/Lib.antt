@@ -1,0 +1,4 @@
+pub mod Ink
+pub mod Pages
+pub mod Plate
+pub mod Span
