@@ -1,0 +1,75 @@
+-- The groups of a plan: for each section and pair, the sites parted by the two pages that they print.
+use Rattle.std.specs.Prelude.{ℕ, ◌+◌, ◌*◌, ◌/◌, ◌^◌, Bool, false, not, ◌==◌, ◌&&◌, ◌||◌, if◌then◌else◌, List, [], ◌∷◌, length, map, filter, sum_by, slice_get}
+use Rattle.std.specs.List.{flat_map, list_any, range_with_len}
+use Rattle.std.specs.Option.{option_map_or}
+use Rattle.plan_json.specs.Data.{PlanData, plate_height}
+use Rattle.plan_pages.specs.Pages.{chosen_page, page_count, pair_of}
+use Rattle.plan_rows.specs.declared.group.Group.{Group}
+use Rattle.plan_rows.specs.Inks.{ink_count}
+
+-- the left and the right page that a site prints as a pair of a section
+abbrev pub pages_at : PlanData → ℕ → ℕ → ℕ → ℕ × ℕ
+pages_at plan section pair site =
+    let places = pair_of (page_count plan section) pair in
+    (chosen_page plan site section places.0, chosen_page plan site section places.1)
+
+-- whether two sites print the same two pages
+abbrev pub prints_alike : PlanData → ℕ → ℕ → ℕ → ℕ → Bool
+prints_alike plan section pair a b =
+    (pages_at plan section pair a).0 == (pages_at plan section pair b).0
+    && (pages_at plan section pair a).1 == (pages_at plan section pair b).1
+
+-- the sites that print the same two pages as this one, bit i for site i
+abbrev pub sites_like : PlanData → ℕ → ℕ → ℕ → ℕ
+sites_like plan section pair site =
+    sum_by (λ i. if prints_alike plan section pair i site then 2 ^ i else 0) (range_with_len 0 (length plan.sites))
+
+-- whether no site before this one prints the same two pages
+abbrev pub is_first : PlanData → ℕ → ℕ → ℕ → Bool
+is_first plan section pair site = not (list_any (λ i. prints_alike plan section pair i site) (range_with_len 0 site))
+
+-- whether a page prints C, M and Y, and whether it prints S
+abbrev pub page_colour : PlanData → ℕ → Bool
+page_colour plan page = option_map_or (λ p. p.colour) (slice_get plan.pages page) false
+
+abbrev pub page_spot : PlanData → ℕ → Bool
+page_spot plan page = option_map_or (λ p. p.spot) (slice_get plan.pages page) false
+
+-- the part of the sites that print as this one does, with its first row yet to be numbered
+unfoldable pub group_of : PlanData → ℕ → ℕ → ℕ → Group
+group_of plan section pair site =
+    let left = (pages_at plan section pair site).0 in
+    let right = (pages_at plan section pair site).1 in
+    record {
+      section = section;
+      pair = pair;
+      left = left;
+      right = right;
+      sites = sites_like plan section pair site;
+      colour = page_colour plan left || page_colour plan right;
+      spot = page_spot plan left || page_spot plan right;
+      first = 0;
+    }
+
+-- the parts of a pair, in the order of their first sites
+unfoldable pub pair_groups : PlanData → ℕ → ℕ → List Group
+pair_groups plan section pair =
+    map (group_of plan section pair) (filter (is_first plan section pair) (range_with_len 0 (length plan.sites)))
+
+-- those of a section, pair by pair from 1
+unfoldable pub section_groups : PlanData → ℕ → List Group
+section_groups plan section = flat_map (pair_groups plan section) (range_with_len 1 (page_count plan section / 2))
+
+-- the rows of a group
+abbrev pub row_count : ℕ → Group → ℕ
+row_count height group = height * ink_count group
+
+-- groups with the numbers of their first rows: each begins where the one before ends
+abbrev pub numbered : ℕ → ℕ → List Group → List Group
+numbered height first [] = []
+numbered height first (group ∷ groups) =
+    record group { first = first } ∷ numbered height (first + row_count height group) groups
+
+-- all groups of a plan: section by section, pair by pair, and in the order of their first sites
+unfoldable pub groups_of : PlanData → List Group
+groups_of plan = numbered (plate_height plan) 0 (flat_map (section_groups plan) (range_with_len 0 (length plan.sections)))

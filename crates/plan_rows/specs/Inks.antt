@@ -1,0 +1,31 @@
+-- The inks of a group, and whether a site is of it.
+use Rattle.std.specs.Prelude.{ℕ, ◌/◌, ◌%◌, ◌^◌, Bool, true, false, ◌==◌, List, [], ◌∷◌, ◌++◌, length, count_by, nat_lt}
+use Rattle.pr_base.specs.declared.ink.Ink.{Ink}
+use Rattle.pr_base.specs.declared.ink.Ink.TheVariants.{C, M, Y, K, S}
+use Rattle.plan_pages.specs.Ink.{slot_of}
+use Rattle.plan_rows.specs.declared.group.Group.{Group}
+
+-- the process inks of a plate, told by whether it is in colour
+abbrev pub process_inks : Bool → List Ink
+process_inks true = C ∷ M ∷ Y ∷ K ∷ []
+process_inks false = K ∷ []
+
+-- the spot ink, where a plate has one
+abbrev pub spot_inks : Bool → List Ink
+spot_inks true = S ∷ []
+spot_inks false = []
+
+-- the inks of a group in order
+abbrev pub inks_of : Group → List Ink
+inks_of group = process_inks group.colour ++ spot_inks group.spot
+
+abbrev pub ink_count : Group → ℕ
+ink_count group = length (inks_of group)
+
+-- how many of the group's inks stand before this one
+abbrev pub ink_place : Group → Ink → ℕ
+ink_place group ink = count_by (λ other. nat_lt (slot_of other) (slot_of ink)) (inks_of group)
+
+-- whether a site is of the group: bit i stands for site i
+abbrev pub has_site : Group → ℕ → Bool
+has_site group site = group.sites / 2 ^ site % 2 == 1

@@ -1,0 +1,34 @@
+-- The path of a plate: OUT/SITE/EDITION-SECTION-PPP-I.tif.
+use Rattle.std.specs.Prelude.{ℕ, ◌+◌, ◌/◌, ◌%◌, List, [], ◌∷◌, ◌++◌, codes, slice_get}
+use Rattle.std.specs.Option.{option_map_or}
+use Rattle.pr_base.specs.declared.ink.Ink.{Ink}
+use Rattle.pr_base.specs.declared.ink.Ink.TheVariants.{C, M, Y, K, S}
+use Rattle.plan_json.specs.Data.{PlanData}
+use Rattle.plan_rows.specs.declared.group.Group.{Group}
+
+-- the letter of an ink
+abbrev pub letter_of : Ink → List ℕ
+letter_of C = codes "C"
+letter_of M = codes "M"
+letter_of Y = codes "Y"
+letter_of K = codes "K"
+letter_of S = codes "S"
+
+-- a number below 1000 in three digits
+abbrev pub three_digits : ℕ → List ℕ
+three_digits n = (48 + n / 100 % 10) ∷ (48 + n / 10 % 10) ∷ (48 + n % 10) ∷ []
+
+abbrev pub site_name : PlanData → ℕ → List ℕ
+site_name plan site = option_map_or (λ s. s.name) (slice_get plan.sites site) []
+
+abbrev pub section_name : PlanData → ℕ → List ℕ
+section_name plan section = option_map_or (λ s. s.name) (slice_get plan.sections section) []
+
+-- the name of a plate's file: edition, section, pair and ink
+abbrev pub file_name : PlanData → Group → Ink → List ℕ
+file_name plan group ink =
+    plan.edition ++ codes "-" ++ section_name plan group.section ++ codes "-" ++ three_digits group.pair ++ codes "-" ++ letter_of ink ++ codes ".tif"
+
+-- the path of a plate of a site
+unfoldable pub path_of : PlanData → List ℕ → ℕ → Group → Ink → List ℕ
+path_of plan out site group ink = out ++ codes "/" ++ site_name plan site ++ codes "/" ++ file_name plan group ink

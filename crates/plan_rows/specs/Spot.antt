@@ -1,0 +1,29 @@
+-- A plan without what it says of the spot ink.
+use Rattle.std.specs.Prelude.{ℕ, Bool, false, List, [], ◌∷◌, ◌++◌, map, take}
+use Rattle.plan_json.specs.declared.printing.Screen.{Screen}
+use Rattle.plan_json.specs.declared.printing.Screen.TheVariants.{Bayer}
+use Rattle.plan_json.specs.Data.{PlanData, PageData, LayerData, MarkData, CurveData}
+
+-- a mark that is not printed with S
+abbrev pub spotless_mark : MarkData → MarkData
+spotless_mark mark = record mark { inks = take 4 mark.inks ++ false ∷ [] }
+
+-- a layer that paints no S
+abbrev pub spotless_layer : LayerData → LayerData
+spotless_layer layer = record layer { ink = take 4 layer.ink ++ 0 ∷ [] }
+
+abbrev pub spotless_page : PageData → PageData
+spotless_page page = record page { layers = map spotless_layer page.layers }
+
+-- the identity
+abbrev pub plain_curve : CurveData
+plain_curve = (0, 0) ∷ (255, 255) ∷ []
+
+-- the plan with the spot ink's screen, curve, marks and layers' values as they are where a plan says nothing of it
+unfoldable pub without_spot : PlanData → PlanData
+without_spot plan = record plan {
+  screens = take 4 plan.screens ++ Bayer 8 ∷ [];
+  curves = take 4 plan.curves ++ plain_curve ∷ [];
+  marks = map spotless_mark plan.marks;
+  pages = map spotless_page plan.pages;
+}
