@@ -1,1 +1,5 @@
+pub mod AddLemmas
+pub mod CountLemmas
+pub mod PartLemmas
+pub mod RowLemmas
 mod SmallPlan

@@ -1,14 +1,12 @@
 -- The definitions at a plan of four pages, one section and two sites, of which the second prints another page 3.
-use Rattle.std.proofs.Common.{◌≡◌, ℕ, Bool, true, false, List, [], ◌∷◌, map, filter, Some, None, refl}
+use Rattle.std.proofs.Common.{◌≡◌, ℕ, false, List, [], ◌∷◌, map, filter, Some, None, refl}
 use Rattle.std.specs.Prelude.{codes}
 use Rattle.std.specs.List.{range_with_len}
 use Rattle.pr_base.specs.declared.ink.Ink.TheVariants.{K}
 use Rattle.plan_json.specs.Data.{PlanData, PageData}
 use Rattle.plan_pages.specs.Pages.{chosen_page}
 use Rattle.plan_rows.specs.declared.group.Group.{Group}
-use Rattle.plan_rows.specs.declared.place.RowPlace.{RowPlace}
-use Rattle.plan_rows.specs.Inks.{inks_of}
-use Rattle.plan_rows.specs.Groups.{group_of, pair_groups, section_groups, groups_of}
+use Rattle.plan_rows.specs.Groups.{group_of, site_pages, pair_groups, section_groups, groups_of}
 use Rattle.plan_rows.specs.Rows.{places_in, row_places, keeps_row, place_of}
 use Rattle.plan_rows.specs.Plates.{PlateOf, site_plates, plate_rows}
 use Rattle.plan_rows.specs.Paths.{path_of}
@@ -42,34 +40,34 @@ part pair left right sites first =
 
 -- pair 1 of both sites, then pair 2 of each
 small_groups : groups_of small ≡ part 1 3 0 3 0 ∷ part 2 1 2 1 2 ∷ part 2 1 4 2 4 ∷ []
-unfolding page groups_of section_groups pair_groups group_of chosen_page
+unfolding page groups_of section_groups pair_groups group_of site_pages chosen_page
 small_groups = refl
 
 small_places : row_places small ≡ place_of 0 0 K ∷ place_of 0 1 K ∷ place_of 1 0 K ∷ place_of 1 1 K ∷ place_of 2 0 K ∷ place_of 2 1 K ∷ []
-unfolding page groups_of section_groups pair_groups group_of chosen_page places_in
+unfolding page groups_of section_groups pair_groups group_of site_pages chosen_page places_in
 small_places = refl
 
 -- the rows that each site keeps
 small_keeps_first : filter (keeps_row small 0) (range_with_len 0 7) ≡ 0 ∷ 1 ∷ 2 ∷ 3 ∷ []
-unfolding page groups_of section_groups pair_groups group_of chosen_page places_in
+unfolding page groups_of section_groups pair_groups group_of site_pages chosen_page places_in
 small_keeps_first = refl
 
 small_keeps_second : filter (keeps_row small 1) (range_with_len 0 7) ≡ 0 ∷ 1 ∷ 4 ∷ 5 ∷ []
-unfolding page groups_of section_groups pair_groups group_of chosen_page places_in
+unfolding page groups_of section_groups pair_groups group_of site_pages chosen_page places_in
 small_keeps_second = refl
 
 -- the plates of the second site, their rows and their paths
 small_plates : ◌≡◌ {A = List PlateOf} (site_plates small 1) ((part 1 3 0 3 0, K) ∷ (part 2 1 4 2 4, K) ∷ [])
-unfolding page site_plates groups_of section_groups pair_groups group_of chosen_page
+unfolding page site_plates groups_of section_groups pair_groups group_of site_pages chosen_page
 small_plates = refl
 
 abbrev rows : List (List ℕ)
 rows = (10 ∷ []) ∷ (11 ∷ []) ∷ (12 ∷ []) ∷ (13 ∷ []) ∷ (14 ∷ []) ∷ (15 ∷ []) ∷ []
 
 small_rows : map (plate_rows small rows) (site_plates small 1) ≡ ((10 ∷ []) ∷ (11 ∷ []) ∷ []) ∷ ((14 ∷ []) ∷ (15 ∷ []) ∷ []) ∷ []
-unfolding page site_plates groups_of section_groups pair_groups group_of chosen_page
+unfolding page site_plates groups_of section_groups pair_groups group_of site_pages chosen_page
 small_rows = refl
 
 small_paths : map (λ plate. path_of small (codes "OUT") 1 plate.0 plate.1) (site_plates small 1) ≡ codes "OUT/BERGEN/E1-A-001-K.tif" ∷ codes "OUT/BERGEN/E1-A-002-K.tif" ∷ []
-unfolding page path_of site_plates groups_of section_groups pair_groups group_of chosen_page
+unfolding page path_of site_plates groups_of section_groups pair_groups group_of site_pages chosen_page
 small_paths = refl

@@ -1,6 +1,6 @@
 -- The groups of a plan: for each section and pair, the sites parted by the two pages that they print.
-use Rattle.std.specs.Prelude.{ℕ, ◌+◌, ◌*◌, ◌/◌, ◌^◌, Bool, false, not, ◌==◌, ◌&&◌, ◌||◌, if◌then◌else◌, List, [], ◌∷◌, length, map, filter, sum_by, slice_get}
-use Rattle.std.specs.List.{flat_map, list_any, range_with_len}
+use Rattle.std.specs.Prelude.{ℕ, ◌+◌, ◌*◌, ◌/◌, ◌^◌, Bool, false, not, ◌==◌, ◌&&◌, ◌||◌, if◌then◌else◌, List, [], ◌∷◌, length, map, filter, take, sum_by, slice_get, slice_index_or}
+use Rattle.std.specs.List.{enumerate_from, flat_map, list_any, range_with_len}
 use Rattle.std.specs.Option.{option_map_or}
 use Rattle.plan_json.specs.Data.{PlanData, plate_height}
 use Rattle.plan_pages.specs.Pages.{chosen_page, page_count, pair_of}
@@ -13,20 +13,28 @@ pages_at plan section pair site =
     let places = pair_of (page_count plan section) pair in
     (chosen_page plan site section places.0, chosen_page plan site section places.1)
 
+-- those of each site
+unfoldable pub site_pages : PlanData → ℕ → ℕ → List (ℕ × ℕ)
+site_pages plan section pair = map (pages_at plan section pair) (range_with_len 0 (length plan.sites))
+
 -- whether two sites print the same two pages
-abbrev pub prints_alike : PlanData → ℕ → ℕ → ℕ → ℕ → Bool
-prints_alike plan section pair a b =
-    (pages_at plan section pair a).0 == (pages_at plan section pair b).0
-    && (pages_at plan section pair a).1 == (pages_at plan section pair b).1
+abbrev pub same_pages : ℕ × ℕ → ℕ × ℕ → Bool
+same_pages a b = a.0 == b.0 && a.1 == b.1
+
+abbrev pub pages_of : List (ℕ × ℕ) → ℕ → ℕ × ℕ
+pages_of pages site = slice_index_or pages site (0, 0)
+
+-- whether no site before this one prints the same two pages as it
+abbrev pub is_first : List (ℕ × ℕ) → ℕ → Bool
+is_first pages site = not (list_any (same_pages (pages_of pages site)) (take site pages))
+
+-- 2 ^ i for a site i that prints these two pages
+abbrev pub site_bit : ℕ × ℕ → ℕ × (ℕ × ℕ) → ℕ
+site_bit pages (site, its) = if same_pages pages its then 2 ^ site else 0
 
 -- the sites that print the same two pages as this one, bit i for site i
-abbrev pub sites_like : PlanData → ℕ → ℕ → ℕ → ℕ
-sites_like plan section pair site =
-    sum_by (λ i. if prints_alike plan section pair i site then 2 ^ i else 0) (range_with_len 0 (length plan.sites))
-
--- whether no site before this one prints the same two pages
-abbrev pub is_first : PlanData → ℕ → ℕ → ℕ → Bool
-is_first plan section pair site = not (list_any (λ i. prints_alike plan section pair i site) (range_with_len 0 site))
+abbrev pub sites_like : List (ℕ × ℕ) → ℕ → ℕ
+sites_like pages site = sum_by (site_bit (pages_of pages site)) (enumerate_from 0 pages)
 
 -- whether a page prints C, M and Y, and whether it prints S
 abbrev pub page_colour : PlanData → ℕ → Bool
@@ -35,26 +43,30 @@ page_colour plan page = option_map_or (λ p. p.colour) (slice_get plan.pages pag
 abbrev pub page_spot : PlanData → ℕ → Bool
 page_spot plan page = option_map_or (λ p. p.spot) (slice_get plan.pages page) false
 
--- the part of the sites that print as this one does, with its first row yet to be numbered
-unfoldable pub group_of : PlanData → ℕ → ℕ → ℕ → Group
-group_of plan section pair site =
-    let left = (pages_at plan section pair site).0 in
-    let right = (pages_at plan section pair site).1 in
+-- the sites that print as this one does, with their first row yet to be numbered
+unfoldable pub group_of : PlanData → ℕ → ℕ → List (ℕ × ℕ) → ℕ → Group
+group_of plan section pair pages site =
+    let left = (pages_of pages site).0 in
+    let right = (pages_of pages site).1 in
     record {
       section = section;
       pair = pair;
       left = left;
       right = right;
-      sites = sites_like plan section pair site;
+      sites = sites_like pages site;
       colour = page_colour plan left || page_colour plan right;
       spot = page_spot plan left || page_spot plan right;
       first = 0;
     }
 
+-- the groups of a pair whose first site is among so many
+abbrev pub groups_among : PlanData → ℕ → ℕ → List (ℕ × ℕ) → ℕ → List Group
+groups_among plan section pair pages sites =
+    map (group_of plan section pair pages) (filter (is_first pages) (range_with_len 0 sites))
+
 -- the parts of a pair, in the order of their first sites
 unfoldable pub pair_groups : PlanData → ℕ → ℕ → List Group
-pair_groups plan section pair =
-    map (group_of plan section pair) (filter (is_first plan section pair) (range_with_len 0 (length plan.sites)))
+pair_groups plan section pair = groups_among plan section pair (site_pages plan section pair) (length plan.sites)
 
 -- those of a section, pair by pair from 1
 unfoldable pub section_groups : PlanData → ℕ → List Group

@@ -1,5 +1,5 @@
 -- The order of all rows of a plan: section, pair, group, y, ink.
-use Rattle.std.specs.Prelude.{ℕ, ◌+◌, ◌*◌, Bool, false, List, map, sum_by, slice_get, slice_index_or}
+use Rattle.std.specs.Prelude.{ℕ, ◌+◌, ◌*◌, ◌≡◌, ◌<◌, ◌≤◌, Bool, false, List, ◌++◌, length, map, sum_by, take, slice_get}
 use Rattle.std.specs.List.{flat_map, enumerate_from, range_with_len}
 use Rattle.std.specs.Option.{option_map_or}
 use Rattle.pr_base.specs.declared.ink.Ink.{Ink}
@@ -8,7 +8,8 @@ use Rattle.plan_pages.specs.Ink.{slot_of}
 use Rattle.plan_rows.specs.declared.group.Group.{Group}
 use Rattle.plan_rows.specs.declared.place.RowPlace.{RowPlace}
 use Rattle.plan_rows.specs.Inks.{inks_of, ink_count, ink_place, has_site}
-use Rattle.plan_rows.specs.Groups.{groups_of, row_count}
+use Rattle.plan_rows.specs.Groups.{groups_of, numbered, row_count}
+use Rattle.plan_json.specs.Plan.{IsWithin}
 
 -- what contracts see of a row plan
 pub record RowPlanData : Type 0 where
@@ -38,6 +39,27 @@ row_places plan = places_in (rows_of plan)
 -- the number of rows of all groups
 abbrev pub row_total : RowPlanData → ℕ
 row_total rows = sum_by (row_count rows.height) rows.groups
+
+-- the number of rows of the groups before the one with this index
+abbrev pub rows_before : RowPlanData → ℕ → ℕ
+rows_before rows index = sum_by (row_count rows.height) (take index rows.groups)
+
+-- row n is one of the group with this index
+pub record IsGroupAt (rows : RowPlanData) (n index : ℕ) : Type 0 where
+  pub within : index < length rows.groups
+  pub begins : rows_before rows index ≤ n
+  pub ends : n < rows_before rows (index + 1)
+
+-- the row plan is numbered from 0, and is no larger than that of any plan: 8 sections of 64 pairs for 16 sites
+pub record IsRowPlan (whole : ℕ) (rows : RowPlanData) : Type 0 where
+  pub in_order : rows.groups ≡ numbered rows.height 0 rows.groups
+  pub total : whole ≡ row_total rows
+  pub height : IsWithin 1 65535 rows.height
+  pub count : length rows.groups ≤ 8192
+
+-- groups behind those of a row plan, with the numbers of their first rows
+abbrev pub added : RowPlanData → List Group → RowPlanData
+added rows groups = record { groups = numbered rows.height 0 (rows.groups ++ groups); height = rows.height }
 
 -- whether a site prints the group with this index
 abbrev pub is_of : List Group → ℕ → ℕ → Bool

@@ -1,6 +1,5 @@
 -- A plan without what it says of the spot ink.
-use Rattle.std.specs.Prelude.{ℕ, Bool, false, List, [], ◌∷◌, ◌++◌, map, take}
-use Rattle.plan_json.specs.declared.printing.Screen.{Screen}
+use Rattle.std.specs.Prelude.{false, [], ◌∷◌, ◌++◌, map, take}
 use Rattle.plan_json.specs.declared.printing.Screen.TheVariants.{Bayer}
 use Rattle.plan_json.specs.Data.{PlanData, PageData, LayerData, MarkData, CurveData}
 

@@ -2,8 +2,12 @@
 // the paths and files of its plates.
 #![tactic(auto)]
 
+mod counts;
 mod group;
+mod parting;
 mod place;
+mod row_plan;
 
 pub use group::Group;
 pub use place::RowPlace;
+pub use row_plan::RowPlan;

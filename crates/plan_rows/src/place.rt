@@ -11,3 +11,20 @@ pub struct RowPlace {
     /// 0 to 4 for C, M, Y, K, S.
     pub slot: usize,
 }
+
+impl RowPlace {
+    ghost use Rattle.std.specs.Prelude.{◌≡◌};
+    ghost use Rattle.plan_rows.specs.Rows.{place_of};
+
+    /// The place of a row of this ink.
+    pub(crate) fn of(group: usize, y: u32, ink: Ink) -> RowPlace
+        ensures { result ≡ place_of group y ink }
+    {
+        RowPlace {
+            group,
+            y,
+            ink,
+            slot: ink as usize,
+        }
+    }
+}
