@@ -14,7 +14,8 @@ page_count plan section = length (section_pages plan section)
 -- what a site's zone replaces; nothing where it has no zone
 abbrev pub replacements : PlanData → ℕ → List ReplaceData
 replacements plan site =
-    option_map_or (λ zone. zone.replace) (option_and_then (λ zone. slice_get plan.zones zone) (option_and_then (λ s. s.zone) (slice_get plan.sites site))) []
+    let index = option_and_then (λ s. s.zone) (slice_get plan.sites site) in
+    option_map_or (λ zone. zone.replace) (option_and_then (λ zone. slice_get plan.zones zone) index) []
 
 -- the item is for this page of this section; pages count from 1
 abbrev pub is_for : ℕ → ℕ → ReplaceData → Bool
@@ -23,7 +24,8 @@ is_for section page item = item.section == section && item.page == page
 -- the page that a site prints at a place of a section: the one that its zone names for it, else the section's own
 unfoldable pub chosen_page : PlanData → ℕ → ℕ → ℕ → ℕ
 chosen_page plan site section page =
-    option_map_or (λ item. item.with) (find (is_for section page) (replacements plan site)) (slice_index (section_pages plan section) (page - 1))
+    let own = slice_index (section_pages plan section) (page - 1) in
+    option_map_or (λ item. item.with) (find (is_for section page) (replacements plan site)) own
 
 -- the left and the right page of pair j in a section of n pages: pages j and n + 1 - j, the even one left
 abbrev pub pair_of : ℕ → ℕ → ℕ × ℕ
