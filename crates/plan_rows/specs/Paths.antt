@@ -24,11 +24,19 @@ site_name plan site = option_map_or (λ s. s.name) (slice_get plan.sites site) [
 abbrev pub section_name : PlanData → ℕ → List ℕ
 section_name plan section = option_map_or (λ s. s.name) (slice_get plan.sections section) []
 
--- the name of a plate's file: edition, section, pair and ink
+-- EDITION-SECTION-PPP-I.tif
+abbrev pub name_text : List ℕ → List ℕ → ℕ → List ℕ → List ℕ
+name_text edition section pair letter =
+    edition ++ codes "-" ++ section ++ codes "-" ++ three_digits pair ++ codes "-" ++ letter ++ codes ".tif"
+
+-- OUT/SITE/NAME
+abbrev pub path_text : List ℕ → List ℕ → List ℕ → List ℕ
+path_text out site name = out ++ codes "/" ++ site ++ codes "/" ++ name
+
+-- the name of a plate's file
 abbrev pub file_name : PlanData → Group → Ink → List ℕ
-file_name plan group ink =
-    plan.edition ++ codes "-" ++ section_name plan group.section ++ codes "-" ++ three_digits group.pair ++ codes "-" ++ letter_of ink ++ codes ".tif"
+file_name plan group ink = name_text plan.edition (section_name plan group.section) group.pair (letter_of ink)
 
 -- the path of a plate of a site
 unfoldable pub path_of : PlanData → List ℕ → ℕ → Group → Ink → List ℕ
-path_of plan out site group ink = out ++ codes "/" ++ site_name plan site ++ codes "/" ++ file_name plan group ink
+path_of plan out site group ink = path_text out (site_name plan site) (file_name plan group ink)

@@ -1,5 +1,5 @@
 -- The plates of a site: what they hold, out of any list of all rows, and in which order they stand.
-use Rattle.std.specs.Prelude.{ℕ, ◌-◌, List, [], map, filter, slice_index_or}
+use Rattle.std.specs.Prelude.{ℕ, ◌-◌, List, [], map, filter, slice_index_or, count_by, nat_lt}
 use Rattle.std.specs.List.{flat_map, range_with_len}
 use Rattle.pr_base.specs.declared.ink.Ink.{Ink}
 use Rattle.plan_json.specs.Data.{PlanData, plate_width, plate_height}
@@ -38,3 +38,11 @@ file_of plan rows out site plate =
 -- the files of a site in order, out of all rows in order
 abbrev pub site_files : PlanData → List (List ℕ) → List ℕ → ℕ → List (List ℕ × List ℕ)
 site_files plan rows out site = map (file_of plan rows out site) (site_plates plan site)
+
+-- how many rows of a plate have a number below n
+abbrev pub rows_held : PlanData → ℕ → PlateOf → ℕ
+rows_held plan n plate = count_by (λ y. nat_lt (row_number plate.0 y plate.1) n) (range_with_len 0 (plate_height plan))
+
+-- how many plates of a site have all their rows below n
+abbrev pub plates_done : PlanData → ℕ → ℕ → ℕ
+plates_done plan site n = count_by (λ plate. nat_lt (last_row plan plate) n) (site_plates plan site)

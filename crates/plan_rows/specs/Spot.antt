@@ -1,5 +1,5 @@
 -- A plan without what it says of the spot ink.
-use Rattle.std.specs.Prelude.{false, [], ◌∷◌, ◌++◌, map, take}
+use Rattle.std.specs.Prelude.{◌≡◌, false, [], ◌∷◌, ◌++◌, map, take}
 use Rattle.plan_json.specs.declared.printing.Screen.TheVariants.{Bayer}
 use Rattle.plan_json.specs.Data.{PlanData, PageData, LayerData, MarkData, CurveData}
 
@@ -26,3 +26,7 @@ without_spot plan = record plan {
   marks = map spotless_mark plan.marks;
   pages = map spotless_page plan.pages;
 }
+
+-- two plans that differ in no more than what they say of the spot ink
+abbrev pub SameButSpot : PlanData → PlanData → Type 0
+SameButSpot a b = without_spot a ≡ without_spot b

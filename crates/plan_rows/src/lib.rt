@@ -4,10 +4,14 @@
 
 mod counts;
 mod group;
+mod laws;
 mod parting;
+mod path;
 mod place;
 mod row_plan;
 
 pub use group::Group;
+pub use laws::spot_law;
+pub use path::plate_path;
 pub use place::RowPlace;
 pub use row_plan::RowPlan;

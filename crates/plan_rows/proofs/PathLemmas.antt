@@ -1,0 +1,32 @@
+-- The text of a path.
+use Rattle.std.proofs.Common.{◌≡◌, ℕ, ◌+◌, ◌/◌, ◌%◌, ◌<◌, List, [], ◌∷◌, ◌++◌, refl, ap, sym, ◌∙◌, subst, append_assoc, arith}
+use Rattle.std.specs.Prelude.{codes, Result, Ok, Err, IfOk}
+use Rattle.std.specs.Fmt.{decimal}
+use Rattle.std.proofs.lemmas.Fmt.{decimal_digit}
+use Rattle.plan_rows.specs.Paths.{three_digits, name_text, path_text}
+
+-- what holds of the value in an `Ok`, from what else holds of it
+pub if_ok : {T E : Type 0} (r : Result T E) (P Q : T → Type 0) → IfOk r P → ((x : T) → P x → Q x) → IfOk r Q
+if_ok (Ok x) P Q has so = so x has
+if_ok (Err e) P Q has so = tt
+
+-- a digit as it is written
+pub digit_is : (n : ℕ) → decimal (n % 10) ≡ (48 + n % 10) ∷ []
+digit_is n = decimal_digit (n % 10) (omega arith)
+
+-- the parts of a path as they are written, with the digits of the pair
+abbrev written : List ℕ → List ℕ → List ℕ → List ℕ → List ℕ → List ℕ → List ℕ → List ℕ → List ℕ
+written out site edition section letter a b c =
+    (out ++ (codes "/" ++ (site ++ (codes "/" ++ (edition ++ (codes "-" ++ (section ++ (codes "-" ++ (a ++ (b ++ (c ++ codes "-"))))))))))) ++ (letter ++ codes ".tif")
+
+regroup : (o s i e d n a b c l t : List ℕ) → (o ++ (s ++ (i ++ (s ++ (e ++ (d ++ (n ++ (d ++ (a ++ (b ++ (c ++ d))))))))))) ++ (l ++ t) ≡ o ++ s ++ i ++ s ++ (e ++ d ++ n ++ d ++ (a ++ (b ++ c)) ++ d ++ l ++ t)
+regroup o s i e d n a b c l t = simp append_assoc
+
+pub parts_are : (out site edition section letter : List ℕ) (pair : ℕ) →
+    written out site edition section letter (decimal (pair / 100 % 10)) (decimal (pair / 10 % 10)) (decimal (pair % 10)) ≡ path_text out site (name_text edition section pair letter)
+parts_are out site edition section letter pair =
+    let all = written out site edition section letter in
+    ap (λ a. all a (decimal (pair / 10 % 10)) (decimal (pair % 10))) (digit_is (pair / 100))
+    ∙ ap (λ b. all ((48 + pair / 100 % 10) ∷ []) b (decimal (pair % 10))) (digit_is (pair / 10))
+    ∙ ap (λ c. all ((48 + pair / 100 % 10) ∷ []) ((48 + pair / 10 % 10) ∷ []) c) (digit_is pair)
+    ∙ regroup out (codes "/") site edition (codes "-") section ((48 + pair / 100 % 10) ∷ []) ((48 + pair / 10 % 10) ∷ []) ((48 + pair % 10) ∷ []) letter (codes ".tif")

@@ -1,0 +1,76 @@
+// The path of a plate: OUT/SITE/EDITION-SECTION-PPP-I.tif.
+ghost use Rattle.std.specs.Prelude.{◌≡◌, ◌<◌, length, string_bytes, IfOk};
+ghost use Rattle.plan_rows.specs.Paths.{letter_of, name_text, path_of, path_text, site_name as name_of_site, section_name as name_of_section};
+
+use crate::Group;
+use plan_json::Plan;
+use pr_base::{Ink, NoMemory, PathText};
+use std::alloc::{AllocError, Global};
+
+/// The path of a group's plate at a site, below the folder `out`: the names of site, edition and section, the pair in
+/// three digits, and the letter of the ink.
+#[tactic(auto, unfolding(crate::specs::Paths::path_of))]
+pub fn plate_path(
+    alloc: Global,
+    plan: &Plan,
+    out: &str,
+    site: usize,
+    group: &Group,
+    ink: Ink,
+) -> Result<PathText, NoMemory>
+    requires site { site < length plan.now.sites }
+    requires section { group.now.section < length plan.now.sections }
+    ensures { IfOk result (λ path. path ≡ path_of plan.now out.now site group.now ink) }
+{
+    let site = site_name(plan, site);
+    let section = section_name(plan, group.section as usize);
+    let letter = letter(ink);
+    let text = joined(alloc, out, site, plan.edition.as_str(), section, group.pair, letter)?;
+    PathText::of(alloc, text.as_str())
+}
+
+/// The parts of a path with what stands between them.
+fn joined(
+    alloc: Global,
+    out: &str,
+    site: &str,
+    edition: &str,
+    section: &str,
+    pair: u32,
+    letter: &str,
+) -> Result<String, AllocError>
+    ensures { IfOk result (λ text. string_bytes text ≡
+        path_text out.now site.now (name_text edition.now section.now pair letter.now)) }
+{
+    let (hundreds, tens, ones) = (pair / 100 % 10, pair / 10 % 10, pair % 10);
+    format!(in alloc; "{out}/{site}/{edition}-{section}-{hundreds}{tens}{ones}-{letter}.tif")
+}
+
+/// The name of a site.
+fn site_name(plan: &Plan, site: usize) -> &str
+    requires { site < length plan.now.sites }
+    ensures { result.now ≡ name_of_site plan.now site }
+{
+    plan.sites[site].name.as_str()
+}
+
+/// The name of a section.
+fn section_name(plan: &Plan, section: usize) -> &str
+    requires { section < length plan.now.sections }
+    ensures { result.now ≡ name_of_section plan.now section }
+{
+    plan.sections[section].name.as_str()
+}
+
+/// The letter of an ink.
+fn letter(ink: Ink) -> &'static str
+    ensures { result.now ≡ letter_of ink }
+{
+    match ink {
+        Ink::C => "C",
+        Ink::M => "M",
+        Ink::Y => "Y",
+        Ink::K => "K",
+        Ink::S => "S",
+    }
+}
