@@ -22,7 +22,8 @@ has_ink ink mark = slice_index_or mark.inks (slot_of ink) false
 
 -- the mark covers this pixel
 abbrev pub covers : ℕ → ℕ → MarkData → Bool
-covers x y mark = (nat_le mark.x x && nat_lt x (mark.x + mark.w)) && (nat_le mark.y y && nat_lt y (mark.y + mark.h))
+covers x y mark =
+    (nat_le mark.x x && nat_lt x (mark.x + mark.w)) && (nat_le mark.y y && nat_lt y (mark.y + mark.h))
 
 -- some mark of this ink covers this pixel
 unfoldable pub is_marked_at : PlanData → Ink → ℕ → ℕ → Bool

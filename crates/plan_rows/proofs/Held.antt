@@ -1,32 +1,20 @@
 -- The rows of one plate, from the top: their numbers, and how many of them stand below a number.
-use Rattle.std.proofs.Common.{◌≡◌, ◌≢◌, ◌↔◌, ℕ, zero, suc, ◌+◌, ◌-◌, ◌*◌, ◌/◌, ◌%◌, ◌<◌, ◌≤◌, Bool, true, false, List, [], ◌∷◌, ◌++◌, length, map, take, get_or, cond, add-zero, Option, Some, refl, ap, sym, ◌∙◌, subst, inl, inr, lit<, lit≤, arith}
-use Rattle.std.specs.Prelude.{All, Contains, count_by, filter, nat_lt, slice_get, sum_by}
-use Rattle.std.specs.List.{flat_map, range_with_len}
-use Rattle.std.proofs.lemmas.List.{length-append, length-map}
-use Rattle.std.proofs.lemmas.Bool.{cond_both, cases_lt, cases_eq, lt-ltb, le-ltb, cases_Bool}
-use Rattle.std.proofs.lemmas.List.Elements.{Contains-get_or, Contains-append_left, Contains-append_right}
-use Rattle.std.proofs.lemmas.List.FromFn.{length-range_with_len}
+use Rattle.std.proofs.Common.{◌≡◌, ◌≢◌, ◌↔◌, ℕ, zero, suc, ◌+◌, ◌-◌, ◌*◌, ◌<◌, ◌≤◌, Bool, true, false, List, ◌∷◌, cond, add-zero, Some, refl, ap, sym, ◌∙◌, inl, inr, arith}
+use Rattle.std.specs.Prelude.{Contains, count_by, nat_lt, slice_get}
+use Rattle.std.specs.List.{range_with_len}
+use Rattle.std.proofs.lemmas.Bool.{cases_lt, lt-ltb, le-ltb}
 use Rattle.std.proofs.lemmas.List.Sums.{sum_by-cons}
-use Rattle.std.proofs.lemmas.Nat.{mod_below}
-use Rattle.std.proofs.lemmas.Option.{same_Some, slice_get_within, slice_get-get_or, get_or_from_slice_get}
-use Rattle.std.proofs.Math.Nat.{mul-le-mul_right, div-add-mod, div-lt_iff_lt-mul, mul_comm}
+use Rattle.std.proofs.Math.Nat.{mul-le-mul_right}
 use Rattle.pr_base.specs.declared.ink.Ink.{Ink}
-use Rattle.pr_base.specs.declared.ink.Ink.TheVariants.{C, M, Y, K, S}
 use Rattle.plan_json.specs.Data.{PlanData, plate_height}
-use Rattle.plan_json.specs.Plan.{IsPlan, IsWithin}
-use Rattle.plan_pages.specs.Ink.{slot_of}
-use Rattle.plan_pages.specs.Pages.{page_count}
+use Rattle.plan_json.specs.Plan.{IsPlan}
 use Rattle.plan_rows.specs.declared.group.Group.{Group}
-use Rattle.plan_rows.specs.declared.place.RowPlace.{RowPlace}
-use Rattle.plan_rows.specs.Inks.{process_inks, spot_inks, inks_of, ink_count, ink_place}
-use Rattle.plan_rows.specs.Groups.{group_of, is_first, site_pages, groups_among, pair_groups, section_groups, groups_of, numbered, row_count}
-use Rattle.plan_rows.specs.Rows.{RowPlanData, rows_of, place_of, places_in, row_places, row_total, rows_before, row_number, IsRowPlan, IsGroupAt}
+use Rattle.plan_rows.specs.Inks.{inks_of, ink_count}
+use Rattle.plan_rows.specs.Groups.{groups_of}
+use Rattle.plan_rows.specs.Rows.{row_number}
 use Rattle.plan_rows.specs.Plates.{last_row, rows_held}
-use Rattle.plan_rows.proofs.CountLemmas.{section_count}
-use Rattle.plan_rows.proofs.AddLemmas.{length-numbered, numbered-numbered}
-use Rattle.plan_rows.proofs.RowLemmas.{ink_count-within, first_is, place_at, rows_before-more, total_is, row_is_of, IsRowOf}
+use Rattle.plan_rows.proofs.RowLemmas.{ink_count-within}
 use Rattle.plan_rows.proofs.Places.{IsRowAt, row_unique}
-
 
 -- the next row of a plate stands as many rows on as the group has inks
 pub next_row : (group : Group) (y : ℕ) (ink : Ink) → row_number group (y + 1) ink ≡ row_number group y ink + ink_count group
@@ -47,21 +35,25 @@ row_number-le group y z ink above =
 
 -- row n begins its plate exactly where y is 0
 pub begins_plate : (plan : PlanData) (n index : ℕ) (group : Group) (y : ℕ) (ink : Ink) → IsRowAt plan n index group y ink → (n ≡ row_number group 0 ink) ↔ (y ≡ 0)
-begins_plate plan n index group y ink at =
-    (λ first. elim (cases_lt 0 y) [
-      | inl above ↦ (let later = row_number-lt group 0 y ink above in let number = at.number in absurd (omega arith))
-      | inr top ↦ omega arith
-    ], λ top. at.number ∙ ap (λ z. row_number group z ink) top)
+begins_plate plan n index group y ink at = (
+  λ first. elim (cases_lt 0 y) [
+    | inl above ↦ (let later = row_number-lt group 0 y ink above in let number = at.number in absurd (omega arith))
+    | inr top ↦ omega arith
+  ],
+  λ top. at.number ∙ ap (λ z. row_number group z ink) top,
+)
 
 -- and ends it exactly where y is the last
 pub ends_plate : (plan : PlanData) (n index : ℕ) (group : Group) (y : ℕ) (ink : Ink) → IsRowAt plan n index group y ink → (n ≡ last_row plan (group, ink)) ↔ (y + 1 ≡ plate_height plan)
 ends_plate plan n index group y ink at =
     let top = at.top in
-    let number = at.number in
-    (λ last. elim (cases_lt y (plate_height plan - 1)) [
-      | inl above ↦ (let later = row_number-lt group y (plate_height plan - 1) ink above in absurd (omega arith))
-      | inr bottom ↦ omega arith
-    ], λ bottom. number ∙ ap (λ z. row_number group z ink) (omega arith))
+    let number = at.number in (
+      λ last. elim (cases_lt y (plate_height plan - 1)) [
+        | inl above ↦ (let later = row_number-lt group y (plate_height plan - 1) ink above in absurd (omega arith))
+        | inr bottom ↦ omega arith
+      ],
+      λ bottom. number ∙ ap (λ z. row_number group z ink) (omega arith),
+    )
 
 -- ---- the rows of a plate below a number
 
@@ -73,12 +65,12 @@ count_first p from zero c few passes fails = omega arith
 count_first p from (suc n) zero few passes fails =
     let here : p from ≡ false = ap p (sym (add-zero from)) ∙ fails 0 (omega arith) (omega arith) in
     let rest = count_first p (from + 1) n 0 (omega arith) (λ k none. absurd (omega arith))
-        (λ k _ high. ap p (omega arith) ∙ fails (suc k) (omega arith) (omega arith)) in
+    (λ k _ high. ap p (omega arith) ∙ fails (suc k) (omega arith) (omega arith)) in
     count_by-cons p from (range_with_len (from + 1) n) ∙ ap (λ b. cond b 1 0 + count_by p (range_with_len (from + 1) n)) here ∙ omega arith
 count_first p from (suc n) (suc c) few passes fails =
     let here : p from ≡ true = ap p (sym (add-zero from)) ∙ passes 0 (omega arith) in
     let rest = count_first p (from + 1) n c (omega arith) (λ k low. ap p (omega arith) ∙ passes (suc k) (omega arith))
-        (λ k low high. ap p (omega arith) ∙ fails (suc k) (omega arith) (omega arith)) in
+    (λ k low high. ap p (omega arith) ∙ fails (suc k) (omega arith) (omega arith)) in
     count_by-cons p from (range_with_len (from + 1) n) ∙ ap (λ b. cond b 1 0 + count_by p (range_with_len (from + 1) n)) here ∙ omega arith
 
 count_same : (p q : ℕ → Bool) (from n : ℕ) → ((k : ℕ) → from ≤ k → k < from + n → p k ≡ q k) → count_by p (range_with_len from n) ≡ count_by q (range_with_len from n)

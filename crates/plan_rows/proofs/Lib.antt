@@ -1,6 +1,7 @@
 pub mod AddLemmas
 pub mod CountLemmas
 pub mod Held
+pub mod Names
 pub mod Order
 pub mod PartLemmas
 pub mod PathLemmas

@@ -1,13 +1,11 @@
 -- The plates of a site stand in the order in which their last rows come.
-use Rattle.std.proofs.Common.{◌≡◌, ◌≢◌, ℕ, zero, suc, ◌+◌, ◌-◌, ◌*◌, ◌<◌, ◌≤◌, Bool, true, false, cond, List, [], ◌∷◌, ◌++◌, length, map, get_or, Some, refl, ap, sym, ◌∙◌, subst, inl, inr, add-zero, arith}
-use Rattle.std.specs.Prelude.{All, Contains, count_by, filter, nat_lt, slice_get}
+use Rattle.std.proofs.Common.{◌≡◌, ◌≢◌, ℕ, zero, suc, ◌+◌, ◌-◌, ◌*◌, ◌<◌, ◌≤◌, Bool, true, false, cond, List, [], ◌∷◌, ◌++◌, length, map, get_or, Some, refl, ap, sym, ◌∙◌, subst, add-zero, arith}
+use Rattle.std.specs.Prelude.{All, count_by, filter, nat_lt, slice_get}
 use Rattle.std.specs.List.{flat_map, range_with_len}
 use Rattle.std.proofs.lemmas.Bool.{cond_both, lt-ltb, le-ltb}
 use Rattle.std.proofs.lemmas.List.{map-append, get_or-map, length-map}
-use Rattle.std.proofs.lemmas.List.Elements.{All-head, All-tail, Contains-append_left, Contains-append_right}
+use Rattle.std.proofs.lemmas.List.Elements.{All-head, All-tail}
 use Rattle.std.proofs.lemmas.Option.{slice_get_within, get_or_from_slice_get}
-use Rattle.std.proofs.Math.Nat.{mul-le-mul_right}
-use Rattle.pr_base.specs.declared.ink.Ink.{Ink}
 use Rattle.plan_json.specs.Data.{PlanData, plate_height}
 use Rattle.plan_json.specs.Plan.{IsPlan}
 use Rattle.plan_pages.specs.Ink.{slot_of}
@@ -104,10 +102,10 @@ lasts_ascend height from test (group ∷ groups) least =
     cond_both {A = List Group} (test first) (first ∷ others) others (λ gs. Ascends from (map last (flat_map group_plates gs)))
     (λ _. subst numbers (sym (map-append last (group_plates first) (flat_map group_plates others) ∙ ap (λ ns. ns ++ map last (flat_map group_plates others)) (map-map last (λ ink. (first, ink)) (inks_of group)))) own)
     (λ _. ascends-lower from next (map last (flat_map group_plates others)) (omega arith) rest)
-    where
-  whole_rows : (h k : ℕ) → 1 ≤ h → (h - 1) * k + k ≡ h * k
-  whole_rows zero k least = absurd (omega arith)
-  whole_rows (suc h) k least = (let less : suc h - 1 ≡ h = omega arith in ap (λ m. m * k + k) less ∙ omega arith)
+  where
+    whole_rows : (h k : ℕ) → 1 ≤ h → (h - 1) * k + k ≡ h * k
+    whole_rows zero k least = absurd (omega arith)
+    whole_rows (suc h) k least = (let less : suc h - 1 ≡ h = omega arith in ap (λ m. m * k + k) less ∙ omega arith)
 
 -- the last rows of a site's plates come in the order of the plates
 pub last_rows_ascend : (plan : PlanData) (site : ℕ) → IsPlan plan → Ascends 0 (map (last_row plan) (site_plates plan site))
@@ -145,11 +143,11 @@ done_with plan site i plate is there =
 -- a row that ends no plate of the site changes nothing
 pub done_other : (plan : PlanData) (site n : ℕ) → All (λ plate. last_row plan plate ≢ n) (site_plates plan site) → plates_done plan site (n + 1) ≡ plates_done plan site n
 done_other plan site n apart = go (site_plates plan site) apart
-    where
-  go : (plates : List PlateOf) → All (λ plate. last_row plan plate ≢ n) plates → count_by (λ plate. nat_lt (last_row plan plate) (n + 1)) plates ≡ count_by (λ plate. nat_lt (last_row plan plate) n) plates
-  go [] each = refl
-  go (plate ∷ plates) each =
-      count_by-cons (λ p. nat_lt (last_row plan p) (n + 1)) plate plates
-      ∙ ap (λ b. cond b 1 0 + count_by (λ p. nat_lt (last_row plan p) (n + 1)) plates) (below_next (last_row plan plate) n (All-head (λ p. last_row plan p ≢ n) plate plates each))
-      ∙ ap (λ m. cond (nat_lt (last_row plan plate) n) 1 0 + m) (go plates (All-tail (λ p. last_row plan p ≢ n) plate plates each))
-      ∙ sym (count_by-cons (λ p. nat_lt (last_row plan p) n) plate plates)
+  where
+    go : (plates : List PlateOf) → All (λ plate. last_row plan plate ≢ n) plates → count_by (λ plate. nat_lt (last_row plan plate) (n + 1)) plates ≡ count_by (λ plate. nat_lt (last_row plan plate) n) plates
+    go [] each = refl
+    go (plate ∷ plates) each =
+        count_by-cons (λ p. nat_lt (last_row plan p) (n + 1)) plate plates
+        ∙ ap (λ b. cond b 1 0 + count_by (λ p. nat_lt (last_row plan p) (n + 1)) plates) (below_next (last_row plan plate) n (All-head (λ p. last_row plan p ≢ n) plate plates each))
+        ∙ ap (λ m. cond (nat_lt (last_row plan plate) n) 1 0 + m) (go plates (All-tail (λ p. last_row plan p ≢ n) plate plates each))
+        ∙ sym (count_by-cons (λ p. nat_lt (last_row plan p) n) plate plates)

@@ -1,17 +1,17 @@
 -- The rows of a plan: each is a row of the plate of some group in one of its inks, told by its number.
-use Rattle.std.proofs.Common.{◌≡◌, ◌≢◌, ◌↔◌, ℕ, zero, suc, ◌+◌, ◌-◌, ◌*◌, ◌/◌, ◌%◌, ◌<◌, ◌≤◌, Bool, true, false, List, [], ◌∷◌, ◌++◌, length, map, take, get_or, cond, add-zero, Option, Some, refl, ap, sym, ◌∙◌, subst, inl, inr, lit<, lit≤, arith}
-use Rattle.std.specs.Prelude.{All, Contains, count_by, filter, nat_lt, slice_get, sum_by}
+use Rattle.std.proofs.Common.{◌≡◌, ℕ, zero, suc, ◌+◌, ◌-◌, ◌*◌, ◌/◌, ◌%◌, ◌<◌, ◌≤◌, Bool, true, false, List, [], ◌∷◌, ◌++◌, length, take, get_or, Some, refl, ap, sym, ◌∙◌, subst, inl, inr, arith}
+use Rattle.std.specs.Prelude.{Contains, count_by, filter, nat_lt, slice_get, sum_by}
 use Rattle.std.specs.List.{flat_map, range_with_len}
 use Rattle.std.proofs.lemmas.List.{length-append, length-map}
-use Rattle.std.proofs.lemmas.Bool.{cond_both, cases_lt, cases_eq, lt-ltb, le-ltb, cases_Bool}
-use Rattle.std.proofs.lemmas.List.Elements.{Contains-get_or, Contains-append_left, Contains-append_right}
+use Rattle.std.proofs.lemmas.Bool.{cond_both, cases_lt}
+use Rattle.std.proofs.lemmas.List.Elements.{Contains-get_or}
 use Rattle.std.proofs.lemmas.List.FromFn.{length-range_with_len}
 use Rattle.std.proofs.lemmas.List.Sums.{sum_by-cons}
 use Rattle.std.proofs.lemmas.Nat.{mod_below}
 use Rattle.std.proofs.lemmas.Option.{same_Some, slice_get_within, slice_get-get_or, get_or_from_slice_get}
-use Rattle.std.proofs.Math.Nat.{mul-le-mul_right, div-add-mod, div-lt_iff_lt-mul, mul_comm}
+use Rattle.std.proofs.Math.Nat.{mul-le-mul_right, div-add-mod, mul_comm}
 use Rattle.pr_base.specs.declared.ink.Ink.{Ink}
-use Rattle.pr_base.specs.declared.ink.Ink.TheVariants.{C, M, Y, K, S}
+use Rattle.pr_base.specs.declared.ink.Ink.TheVariants.{K}
 use Rattle.plan_json.specs.Data.{PlanData, plate_height}
 use Rattle.plan_json.specs.Plan.{IsPlan, IsWithin}
 use Rattle.plan_pages.specs.Ink.{slot_of}
@@ -19,12 +19,11 @@ use Rattle.plan_pages.specs.Pages.{page_count}
 use Rattle.plan_rows.specs.declared.group.Group.{Group}
 use Rattle.plan_rows.specs.declared.place.RowPlace.{RowPlace}
 use Rattle.plan_rows.specs.Inks.{process_inks, spot_inks, inks_of, ink_count, ink_place}
-use Rattle.plan_rows.specs.Groups.{group_of, is_first, site_pages, groups_among, pair_groups, section_groups, groups_of, numbered, row_count}
-use Rattle.plan_rows.specs.Rows.{RowPlanData, rows_of, place_of, places_in, row_places, row_total, rows_before, row_number, IsRowPlan, IsGroupAt}
-use Rattle.plan_rows.specs.Plates.{last_row, rows_held}
+use Rattle.plan_rows.specs.Groups.{group_of, is_first, site_pages, pair_groups, section_groups, groups_of, row_count}
+use Rattle.plan_rows.specs.Rows.{rows_of, place_of, row_places, row_total, rows_before, row_number, IsRowPlan, IsGroupAt}
 use Rattle.plan_rows.proofs.CountLemmas.{section_count}
 use Rattle.plan_rows.proofs.AddLemmas.{length-numbered, numbered-numbered}
-use Rattle.plan_rows.proofs.RowLemmas.{ink_count-within, first_is, place_at, rows_before-more, total_is, row_is_of, IsRowOf}
+use Rattle.plan_rows.proofs.RowLemmas.{ink_count-within, first_is, place_at, total_is, row_is_of}
 
 -- ---- the row plan of a plan
 
@@ -186,11 +185,11 @@ row_found plan n place is there =
       number = (let m : ink_place group ink ≡ k = ink_place-at group k K small in omega arith);
     } in
     (group, subst {A = RowPlace} (λ p. IsRowAt plan n p.group group p.y p.ink) (sym is_place) row, subst {A = RowPlace} (λ p. p.slot ≡ slot_of p.ink) (sym is_place) refl)
-    where
-  get_or-default : {X : Type 0} (xs : List X) (i : ℕ) (d e : X) → i < length xs → get_or xs i d ≡ get_or xs i e
-  get_or-default [] i d e within = absurd (omega arith)
-  get_or-default (x ∷ xs) zero d e within = refl
-  get_or-default (x ∷ xs) (suc i) d e within = get_or-default xs i d e (omega arith)
+  where
+    get_or-default : {X : Type 0} (xs : List X) (i : ℕ) (d e : X) → i < length xs → get_or xs i d ≡ get_or xs i e
+    get_or-default [] i d e within = absurd (omega arith)
+    get_or-default (x ∷ xs) zero d e within = refl
+    get_or-default (x ∷ xs) (suc i) d e within = get_or-default xs i d e (omega arith)
 
 -- a number has one place
 pub record IsSamePlace (index index' y y' : ℕ) (ink ink' : Ink) : Type 0 where

@@ -25,10 +25,10 @@ flat_map-same f g (x ∷ xs) same = ap (λ ys. ys ++ flat_map f xs) (same x) ∙
 -- a page keeps its inks
 of_page : (f : PageData → Bool) (pages : List PageData) (page : ℕ) → ((p : PageData) → f (spotless_page p) ≡ f p) → option_map_or f (slice_get (map spotless_page pages) page) false ≡ option_map_or f (slice_get pages page) false
 of_page f pages page same = ap (λ o. option_map_or f o false) (slice_get-map spotless_page pages page) ∙ each (slice_get pages page)
-    where
-  each : (o : Option PageData) → option_map_or f (option_map spotless_page o) false ≡ option_map_or f o false
-  each None = refl
-  each (Some p) = same p
+  where
+    each : (o : Option PageData) → option_map_or f (option_map spotless_page o) false ≡ option_map_or f o false
+    each None = refl
+    each (Some p) = same p
 
 colour_same : (plan : PlanData) (page : ℕ) → page_colour (without_spot plan) page ≡ page_colour plan page
 unfolding without_spot

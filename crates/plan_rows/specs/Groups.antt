@@ -66,11 +66,13 @@ groups_among plan section pair pages sites =
 
 -- the parts of a pair, in the order of their first sites
 unfoldable pub pair_groups : PlanData → ℕ → ℕ → List Group
-pair_groups plan section pair = groups_among plan section pair (site_pages plan section pair) (length plan.sites)
+pair_groups plan section pair =
+    groups_among plan section pair (site_pages plan section pair) (length plan.sites)
 
 -- those of a section, pair by pair from 1
 unfoldable pub section_groups : PlanData → ℕ → List Group
-section_groups plan section = flat_map (pair_groups plan section) (range_with_len 1 (page_count plan section / 2))
+section_groups plan section =
+    flat_map (pair_groups plan section) (range_with_len 1 (page_count plan section / 2))
 
 -- the rows of a group
 abbrev pub row_count : ℕ → Group → ℕ
@@ -84,4 +86,5 @@ numbered height first (group ∷ groups) =
 
 -- all groups of a plan: section by section, pair by pair, and in the order of their first sites
 unfoldable pub groups_of : PlanData → List Group
-groups_of plan = numbered (plate_height plan) 0 (flat_map (section_groups plan) (range_with_len 0 (length plan.sections)))
+groups_of plan =
+    numbered (plate_height plan) 0 (flat_map (section_groups plan) (range_with_len 0 (length plan.sections)))

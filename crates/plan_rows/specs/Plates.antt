@@ -24,7 +24,8 @@ site_plates plan site = flat_map group_plates (filter (λ group. has_site group 
 
 -- the rows of a plate from the top, out of all rows in order
 abbrev pub plate_rows : PlanData → List (List ℕ) → PlateOf → List (List ℕ)
-plate_rows plan rows plate = map (λ y. slice_index_or rows (row_number plate.0 y plate.1) []) (range_with_len 0 (plate_height plan))
+plate_rows plan rows plate =
+    map (λ y. slice_index_or rows (row_number plate.0 y plate.1) []) (range_with_len 0 (plate_height plan))
 
 -- the number of the last row of a plate
 abbrev pub last_row : PlanData → PlateOf → ℕ
@@ -33,7 +34,8 @@ last_row plan plate = row_number plate.0 (plate_height plan - 1) plate.1
 -- a plate's path and the bytes of its file
 abbrev pub file_of : PlanData → List (List ℕ) → List ℕ → ℕ → PlateOf → List ℕ × List ℕ
 file_of plan rows out site plate =
-    (path_of plan out site plate.0 plate.1, plate_file (plate_width plan) plan.dpi (plate_rows plan rows plate))
+    let file = plate_file (plate_width plan) plan.dpi (plate_rows plan rows plate) in
+    (path_of plan out site plate.0 plate.1, file)
 
 -- the files of a site in order, out of all rows in order
 abbrev pub site_files : PlanData → List (List ℕ) → List ℕ → ℕ → List (List ℕ × List ℕ)
@@ -41,7 +43,8 @@ site_files plan rows out site = map (file_of plan rows out site) (site_plates pl
 
 -- how many rows of a plate have a number below n
 abbrev pub rows_held : PlanData → ℕ → PlateOf → ℕ
-rows_held plan n plate = count_by (λ y. nat_lt (row_number plate.0 y plate.1) n) (range_with_len 0 (plate_height plan))
+rows_held plan n plate =
+    count_by (λ y. nat_lt (row_number plate.0 y plate.1) n) (range_with_len 0 (plate_height plan))
 
 -- how many plates of a site have all their rows below n
 abbrev pub plates_done : PlanData → ℕ → ℕ → ℕ

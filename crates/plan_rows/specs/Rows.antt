@@ -27,7 +27,8 @@ place_of group y ink = record { group = group; y = y; ink = ink; slot = slot_of 
 
 -- the rows of a group: y by y, and for each y ink by ink
 abbrev pub group_rows : ℕ → ℕ × Group → List RowPlace
-group_rows height (index, group) = flat_map (λ y. map (place_of index y) (inks_of group)) (range_with_len 0 height)
+group_rows height (index, group) =
+    flat_map (λ y. map (place_of index y) (inks_of group)) (range_with_len 0 height)
 
 -- the rows of all groups
 unfoldable pub places_in : RowPlanData → List RowPlace
@@ -67,7 +68,8 @@ is_of groups site index = option_map_or (λ group. has_site group site) (slice_g
 
 -- whether a site keeps row n: the group of the row has the site
 abbrev pub keeps_in : RowPlanData → ℕ → ℕ → Bool
-keeps_in rows site n = option_map_or (λ place. is_of rows.groups site place.group) (slice_get (places_in rows) n) false
+keeps_in rows site n =
+    option_map_or (λ place. is_of rows.groups site place.group) (slice_get (places_in rows) n) false
 
 abbrev pub keeps_row : PlanData → ℕ → ℕ → Bool
 keeps_row plan site n = keeps_in (rows_of plan) site n

@@ -12,7 +12,8 @@ ghost use Rattle.plan_rows.specs.Spot.{SameButSpot};
 pub fn spot_law()
     ensures groups { (a b : PlanData) → SameButSpot a b → groups_of a ≡ groups_of b }
     ensures rows { (a b : PlanData) → SameButSpot a b → row_places a ≡ row_places b }
-    ensures keeps { (a b : PlanData) (site n : ℕ) → SameButSpot a b → keeps_row a site n ≡ keeps_row b site n }
+    ensures keeps { (a b : PlanData) (site n : ℕ) → SameButSpot a b →
+        keeps_row a site n ≡ keeps_row b site n }
     ensures files { (a b : PlanData) (rows : List (List ℕ)) (out : List ℕ) (site : ℕ) → SameButSpot a b →
         site_files a rows out site ≡ site_files b rows out site }
 {}

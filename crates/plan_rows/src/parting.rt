@@ -20,8 +20,10 @@ pub(crate) fn site_pages(plan: &Plan, section: usize, pair: u32) -> [(usize, usi
     requires last { 2 * pair ≤ page_count plan.now section }
     ensures pages { take (length plan.now.sites) result ≡ pages_of_sites plan.now section pair }
     ensures sites { length plan.now.sites ≤ 16 }
-    ensures left { (site : ℕ) → site < length plan.now.sites → (pages_of result site).0 < length plan.now.pages }
-    ensures right { (site : ℕ) → site < length plan.now.sites → (pages_of result site).1 < length plan.now.pages }
+    ensures left { (site : ℕ) → site < length plan.now.sites →
+        (pages_of result site).0 < length plan.now.pages }
+    ensures right { (site : ℕ) → site < length plan.now.sites →
+        (pages_of result site).1 < length plan.now.pages }
 {
     let (left, right) = pair_at(pages_in(plan, section), pair);
     let mut pages = [(0, 0); SITES];

@@ -25,7 +25,15 @@ pub fn plate_path(
     let site = site_name(plan, site);
     let section = section_name(plan, group.section as usize);
     let letter = letter(ink);
-    let text = joined(alloc, out, site, plan.edition.as_str(), section, group.pair, letter)?;
+    let text = joined(
+        alloc,
+        out,
+        site,
+        plan.edition.as_str(),
+        section,
+        group.pair,
+        letter,
+    )?;
     PathText::of(alloc, text.as_str())
 }
 

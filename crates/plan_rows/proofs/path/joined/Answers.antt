@@ -1,4 +1,4 @@
-use Rattle.std.proofs.Common.{◌≡◌, ◌∙◌, [], ◌∷◌, ◌++◌}
+use Rattle.std.proofs.Common.{◌≡◌, ◌∙◌}
 use Rattle.std.specs.Prelude.{string_bytes}
 use Rattle.plan_rows.specs.Paths.{name_text, path_text}
 use Rattle.plan_rows.proofs.PathLemmas.{if_ok, parts_are}
