@@ -1,11 +1,14 @@
 pub mod AddLemmas
 pub mod CountLemmas
+pub mod Distinct
 pub mod Held
+pub mod Kept
 pub mod Names
 pub mod Order
 pub mod PartLemmas
 pub mod PathLemmas
 pub mod Places
 pub mod RowLemmas
+pub mod SitesOf
 mod SmallPlan
 pub mod SpotLemmas

@@ -21,7 +21,7 @@ site_bit-true own its i same = ap (λ b. cond b (2 ^ i) 0) same
 site_bit-false : (own its : ℕ × ℕ) (i : ℕ) → same_pages own its ≡ false → site_bit own (i, its) ≡ 0
 site_bit-false own its i other = ap (λ b. cond b (2 ^ i) 0) other
 
-bits_more : (own : ℕ × ℕ) (pages : List (ℕ × ℕ)) (i : ℕ) (d : ℕ × ℕ) → i < length pages
+pub bits_more : (own : ℕ × ℕ) (pages : List (ℕ × ℕ)) (i : ℕ) (d : ℕ × ℕ) → i < length pages
     → sum_by (site_bit own) (take (i + 1) (enumerate_from 0 pages)) ≡ sum_by (site_bit own) (take i (enumerate_from 0 pages)) + site_bit own (i, get_or pages i d)
 bits_more own pages i d within =
     let e : ℕ × (ℕ × ℕ) = (0, d) in
