@@ -104,6 +104,7 @@ path_behind plan out site other group group' ink ink' same =
 -- plates of two sites have two paths
 pub paths_tell_sites : (plan : PlanData) (out : List ℕ) (site other : ℕ) (group group' : Group) (ink ink' : Ink) → IsPlan plan → site < length plan.sites → other < length plan.sites
     → path_of plan out site group ink ≡ path_of plan out other group' ink' → site ≡ other
+unfolding is_name_byte
 paths_tell_sites plan out site other group group' ink ink' is left right same =
     let parts = split_at 47 (site_name plan site) (site_name plan other) _ _ (site_lacks plan 47 site refl is left) (site_lacks plan 47 other refl is right) (path_behind plan out site other group group' ink ink' same) in
     named-distinct (λ (s : SiteData). s.name) plan.sites site other is.site_names left right parts.0
@@ -137,6 +138,7 @@ pub record IsSamePlate (group group' : Group) (ink ink' : Ink) : Type 0 where
 
 pub paths_tell_plates : (plan : PlanData) (out : List ℕ) (site : ℕ) (group group' : Group) (ink ink' : Ink) → IsPlan plan → group.section < length plan.sections → group'.section < length plan.sections
     → group.pair < 1000 → group'.pair < 1000 → path_of plan out site group ink ≡ path_of plan out site group' ink' → IsSamePlate group group' ink ink'
+unfolding is_name_byte
 paths_tell_plates plan out site group group' ink ink' is left right few few' same =
     let behind = append_cancel_left (site_name plan site) _ _ (path_behind plan out site site group group' ink ink' same) in
     let edition : plan.edition ++ (45 ∷ (section_name plan group.section ++ (45 ∷ behind_section group.pair ink))) ≡ plan.edition ++ (45 ∷ (section_name plan group'.section ++ (45 ∷ behind_section group'.pair ink'))) = cc in
