@@ -1,0 +1,67 @@
+// Pages and marks of a plan that is read from a text.
+
+use crate::zones::own_pages;
+use crate::{PlateShape, chosen, mark_row, plate_shape};
+use plan_json::read_plan;
+use pr_base::Ink;
+use std::test::Fail;
+
+const PLAN: &[u8] =
+    br#"{"plan": 1, "edition": "E1", "dpi": 1200, "page": [8, 2], "margins": [4, 2, 5, 1], "gutter": 3,
+    "marks": [{"inks": "CK", "x": 5, "y": 1, "w": 13, "h": 2}, {"inks": "K", "x": 1, "y": 2, "w": 2, "h": 1}],
+    "pages": [{"name": "a", "inks": "K", "layers": []}, {"name": "b", "inks": "K", "layers": []},
+        {"name": "z", "inks": "K", "layers": []}],
+    "sections": [{"name": "A", "pages": ["a", "b"]}, {"name": "B", "pages": ["b", "a"]}],
+    "zones": [{"name": "Z", "replace": [{"section": "B", "page": 2, "with": "z"}]}],
+    "sites": [{"name": "OSLO"}, {"name": "BERGEN", "zone": "Z"}]}"#;
+
+// Ink, row of the plate, and the row after the marks: it had the first pixel and a padding bit set.
+const ROWS: [(Ink, u32, [u8; 4]); 6] = [
+    (Ink::K, 0, [0x80, 0x00, 0x00, 0x01]),
+    (Ink::K, 1, [0x87, 0xFF, 0xC0, 0x01]),
+    (Ink::K, 2, [0xE7, 0xFF, 0xC0, 0x01]),
+    (Ink::K, 3, [0x80, 0x00, 0x00, 0x01]),
+    (Ink::C, 2, [0x87, 0xFF, 0xC0, 0x01]),
+    (Ink::M, 1, [0x80, 0x00, 0x00, 0x01]),
+];
+
+// Site, section, page, and the page that is printed there.
+const CHOSEN: [(usize, usize, u32, usize); 4] = [
+    (0, 1, 2, 0),
+    (1, 1, 2, 2),
+    (1, 1, 1, 1),
+    (1, 0, 2, 1),
+];
+
+#[test]
+fn marks_are_set_and_all_else_stays(rt: HostRuntime) -> Result<(), Fail> {
+    let plan = read_plan(rt.alloc(), PLAN)?;
+    let shape = plate_shape(&plan);
+    let wanted = PlateShape {
+        width: 28,
+        height: 5,
+        left_x: 4,
+        right_x: 15,
+        top_y: 2,
+    };
+    assert_eq!(rt; shape, wanted);
+    assert!(rt; shape.width == 28 && shape.height == 5);
+    for (ink, y, row) in ROWS {
+        assert!(rt; y < 5);
+        let mut bits = [0x80, 0x00, 0x00, 0x01];
+        mark_row(&plan, ink, y, &mut bits);
+        assert_eq!(rt; bits.as_slice(), row.as_slice(), "row {y} of {ink:?}");
+    }
+    Ok(())
+}
+
+#[test]
+fn a_zone_replaces_a_page_of_its_section(rt: HostRuntime) -> Result<(), Fail> {
+    let plan = read_plan(rt.alloc(), PLAN)?;
+    for (site, section, page, wanted) in CHOSEN {
+        assert!(rt; site < plan.sites.len() && section < plan.sections.len());
+        assert!(rt; 1 <= page && page as usize <= own_pages(&plan, section).len());
+        assert_eq!(rt; chosen(&plan, site, section, page), wanted);
+    }
+    Ok(())
+}

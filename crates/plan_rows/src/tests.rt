@@ -1,0 +1,143 @@
+// Row plans of plans that are read from texts.
+
+use crate::{Group, RowPlace, RowPlan, plate_path};
+use plan_json::read_plan;
+use pr_base::Ink;
+use std::process::Abort;
+use std::test::Fail;
+
+// Two sites, of which the second prints another page 3.
+const TWO_SITES: &[u8] = br#"{"plan": 1, "edition": "E1", "dpi": 1200, "page": [8, 2],
+    "pages": [{"name": "p", "inks": "K", "layers": []}, {"name": "q", "inks": "K", "layers": []},
+        {"name": "r", "inks": "K", "layers": []}, {"name": "s", "inks": "K", "layers": []},
+        {"name": "z", "inks": "K", "layers": []}],
+    "sections": [{"name": "A", "pages": ["p", "q", "r", "s"]}],
+    "zones": [{"name": "Z", "replace": [{"section": "A", "page": 3, "with": "z"}]}],
+    "sites": [{"name": "OSLO"}, {"name": "BERGEN", "zone": "Z"}]}"#;
+
+// Three sites with two zones over two sections, in colour and with a spot ink.
+const THREE_SITES: &[u8] = br#"{"plan": 2, "edition": "E1", "dpi": 1200, "page": [8, 2],
+    "pages": [{"name": "a", "inks": "K", "layers": []}, {"name": "c", "inks": "CMYK", "layers": []},
+        {"name": "k", "inks": "K", "layers": []}, {"name": "s", "inks": "KS", "layers": []},
+        {"name": "z", "inks": "K", "layers": []}],
+    "sections": [{"name": "A", "pages": ["a", "c"]}, {"name": "B", "pages": ["k", "k", "s", "k"]}],
+    "zones": [{"name": "Y", "replace": [{"section": "A", "page": 1, "with": "z"}]},
+        {"name": "Z", "replace": [{"section": "A", "page": 1, "with": "z"}, {"section": "B", "page": 2, "with": "z"}]}],
+    "sites": [{"name": "S0"}, {"name": "S1", "zone": "Y"}, {"name": "S2", "zone": "Z"}]}"#;
+
+// The first and the last row of each group, and each ink: number, group, y, ink, slot.
+#[rattlefmt::skip]
+const PLACES: [(u64, usize, u32, Ink, usize); 16] = [
+    (0, 0, 0, Ink::C, 0), (3, 0, 0, Ink::K, 3), (4, 0, 1, Ink::C, 0), (7, 0, 1, Ink::K, 3),
+    (8, 1, 0, Ink::C, 0), (9, 1, 0, Ink::M, 1), (10, 1, 0, Ink::Y, 2), (15, 1, 1, Ink::K, 3),
+    (16, 2, 0, Ink::K, 3), (17, 2, 1, Ink::K, 3),
+    (18, 3, 0, Ink::K, 3), (19, 3, 0, Ink::S, 4), (20, 3, 1, Ink::K, 3), (21, 3, 1, Ink::S, 4),
+    (22, 4, 0, Ink::K, 3), (25, 4, 1, Ink::S, 4),
+];
+
+#[test]
+fn two_sites_share_a_pair(rt: HostRuntime) -> Result<(), Fail> {
+    let plan = read_plan(rt.alloc(), TWO_SITES)?;
+    let rows = RowPlan::of(rt.alloc(), &plan)?;
+    assert_eq!(rt; rows.total(), 6);
+    let groups = [
+        black(1, 3, 0, 3, 0),
+        black(2, 1, 2, 1, 2),
+        black(2, 1, 4, 2, 4),
+    ];
+    assert_eq!(rt; rows.groups(), groups.as_slice());
+    for n in 0..6 {
+        assert_eq!(rt; rows.keeps(0, n), n < 4);
+        assert_eq!(rt; rows.keeps(1, n), n < 2 || n >= 4);
+    }
+    Ok(())
+}
+
+// A group of section 0 in black alone.
+fn black(pair: u32, left: usize, right: usize, sites: u16, first: u64) -> Group {
+    Group {
+        section: 0,
+        pair,
+        left,
+        right,
+        sites,
+        colour: false,
+        spot: false,
+        first,
+    }
+}
+
+#[test]
+fn three_sites_are_parted_by_their_pages(rt: HostRuntime) -> Result<(), Fail> {
+    let plan = read_plan(rt.alloc(), THREE_SITES)?;
+    let rows = RowPlan::of(rt.alloc(), &plan)?;
+    let groups = [
+        group(0, 1, [1, 0], 1, [true, false], 0),
+        group(0, 1, [1, 4], 6, [true, false], 8),
+        group(1, 1, [2, 2], 7, [false, false], 16),
+        group(1, 2, [2, 3], 3, [false, true], 18),
+        group(1, 2, [4, 3], 4, [false, true], 22),
+    ];
+    assert_eq!(rt; rows.groups(), groups.as_slice());
+    Ok(())
+}
+
+// A group by its section, pair, pages, sites, whether it has colour and a spot, and its first row.
+fn group(
+    section: u32,
+    pair: u32,
+    pages: [usize; 2],
+    sites: u16,
+    inks: [bool; 2],
+    first: u64,
+) -> Group {
+    Group {
+        section,
+        pair,
+        left: pages[0],
+        right: pages[1],
+        sites,
+        colour: inks[0],
+        spot: inks[1],
+        first,
+    }
+}
+
+#[test]
+fn rows_stand_at_their_places(rt: HostRuntime) -> Result<(), Fail> {
+    let plan = read_plan(rt.alloc(), THREE_SITES)?;
+    let rows = RowPlan::of(rt.alloc(), &plan)?;
+    assert_eq!(rt; rows.total(), 26);
+    for (n, group, y, ink, slot) in PLACES {
+        expect_place(
+            &rt,
+            &rows,
+            n,
+            RowPlace {
+                group,
+                y,
+                ink,
+                slot,
+            },
+        );
+    }
+    Ok(())
+}
+
+fn expect_place(rt: &impl Abort, rows: &RowPlan, n: u64, place: RowPlace) {
+    assert!(rt; n < rows.total());
+    assert_eq!(rt; rows.row_at(n), place);
+}
+
+#[test]
+fn plates_have_paths(rt: HostRuntime) -> Result<(), Fail> {
+    let plan = read_plan(rt.alloc(), THREE_SITES)?;
+    assert!(rt; plan.sites.len() == 3 && plan.sections.len() == 2);
+    let spot = group(1, 2, [4, 3], 4, [false, true], 22);
+    let path = plate_path(rt.alloc(), &plan, "OUT", 2, &spot, Ink::S)?;
+    assert_eq!(rt; path.as_str(), "OUT/S2/E1-B-002-S.tif");
+    let colour = group(0, 1, [1, 4], 6, [true, false], 8);
+    let path = plate_path(rt.alloc(), &plan, "OUT", 1, &colour, Ink::C)?;
+    assert_eq!(rt; path.as_str(), "OUT/S1/E1-A-001-C.tif");
+    Ok(())
+}
