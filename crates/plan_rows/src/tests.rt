@@ -1,6 +1,6 @@
 // Row plans of plans that are read from texts.
 
-use crate::{Group, RowPlace, RowPlan, plate_path};
+use crate::{Group, RowPlace, RowPlan};
 use plan_json::read_plan;
 use pr_base::Ink;
 use std::process::Abort;
@@ -127,17 +127,4 @@ fn rows_stand_at_their_places(rt: HostRuntime) -> Result<(), Fail> {
 fn expect_place(rt: &impl Abort, rows: &RowPlan, n: u64, place: RowPlace) {
     assert!(rt; n < rows.total());
     assert_eq!(rt; rows.row_at(n), place);
-}
-
-#[test]
-fn plates_have_paths(rt: HostRuntime) -> Result<(), Fail> {
-    let plan = read_plan(rt.alloc(), THREE_SITES)?;
-    assert!(rt; plan.sites.len() == 3 && plan.sections.len() == 2);
-    let spot = group(1, 2, [4, 3], 4, [false, true], 22);
-    let path = plate_path(rt.alloc(), &plan, "OUT", 2, &spot, Ink::S)?;
-    assert_eq!(rt; path.as_str(), "OUT/S2/E1-B-002-S.tif");
-    let colour = group(0, 1, [1, 4], 6, [true, false], 8);
-    let path = plate_path(rt.alloc(), &plan, "OUT", 1, &colour, Ink::C)?;
-    assert_eq!(rt; path.as_str(), "OUT/S1/E1-A-001-C.tif");
-    Ok(())
 }
