@@ -1,3 +1,0 @@
-pub mod Firsts
-pub mod FrameLemmas
-pub mod SmallJob
