@@ -1,7 +1,7 @@
 -- What each way to end says of the clauses of `plate_main`.
 use Rattle.std.proofs.Common.{◌≡◌, ℕ, ◌⊎◌, List, [], Option, Some, None, IfSome, refl, sym, subst, ◌∙◌, inl, inr, arith}
 use Rattle.pr_base.specs.declared.fault.TagFault.{TagFault}
-use Rattle.pr_ports.specs.Count.{Rose}
+use Rattle.pr_base.specs.Count.{Rose}
 use Rattle.pr_ports.specs.Sink.{Grew, GrewByPrefix}
 use Rattle.plate_room.specs.Command.{One, command_of}
 use Rattle.plate_room.specs.Line.{words_line, memory_line}

@@ -6,7 +6,7 @@ use Rattle.std.proofs.lemmas.List.FromFn.{get_or-map-range_with_len, length-map-
 use Rattle.std.proofs.lemmas.Grind.{flat_map-append}
 use Rattle.pr_base.specs.Place.{with_place}
 use Rattle.pr_base.specs.Row.{row_size}
-use Rattle.pr_base.specs.Bits.{packed_row, packed_byte}
+use Rattle.pr_base.proofs.Bits.{length-packed_row}
 use Rattle.scr_tile.specs.Tile.{threshold_at, tile_bit}
 use Rattle.tif_packbits.specs.Packbits.{packing}
 use Rattle.tif_strips.specs.declared.shape.Shape.{Shape}
@@ -25,11 +25,6 @@ pub record PackedTo (shape : Shape) (bytes : List ℕ) (y : ℕ) (old plate coun
 
 pub PackedTo-none : (shape : Shape) (bytes old counts : List ℕ) → counts ≡ counts_so_far shape.width shape.length [] → PackedTo shape bytes 0 old old counts
 PackedTo-none shape bytes old counts none = record { counted = none; packed = sym (append-nil old) }
-
--- a packed row has the bytes of a row
-length-packed_row : (width : ℕ) (bit : ℕ → Bool) → length (packed_row width bit) ≡ row_size width
-unfolding packed_row
-length-packed_row width bit = length-map-range_with_len (λ j. packed_byte (λ k. nat_lt (8 * j + k) width && bit (8 * j + k))) 0 (row_size width)
 
 -- each row has the bytes of a row
 pub row-lengths : (shape : Shape) (bytes : List ℕ) (n : ℕ) → All (λ row. length row ≡ row_size shape.width) (map (black_row shape bytes) (range_with_len 0 n))

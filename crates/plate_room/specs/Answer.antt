@@ -1,6 +1,6 @@
 -- What the steps of a command leave, each told by its answer. These are the contracts of private calls.
 use Rattle.std.specs.Prelude.{◌≡◌, ℕ, ◌⊎◌, List, [], Option, Some, None, IfSome, Result, Ok, Err}
-use Rattle.pr_ports.specs.Count.{Rose}
+use Rattle.pr_base.specs.Count.{Rose}
 use Rattle.pr_ports.specs.Sink.{Grew, GrewByPrefix}
 use Rattle.tif_image.specs.Image.{contone_shape}
 use Rattle.plate_room.specs.Command as line

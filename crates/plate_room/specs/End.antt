@@ -1,7 +1,7 @@
 -- How a command may end, in the words of the contract of `plate_main`.
 use Rattle.std.specs.Prelude.{◌≡◌, ℕ, ◌≤◌, ◌⊎◌, List, [], ◌++◌, length, take, Option, Some, None, IfSome, Ok, Err}
 use Rattle.pr_base.specs.declared.fault.TagFault.{TagFault}
-use Rattle.pr_ports.specs.Count.{Rose}
+use Rattle.pr_base.specs.Count.{Rose}
 use Rattle.pr_ports.specs.Shelf.{IsHeldAt, IsLongerAt}
 use Rattle.pr_ports.specs.Sink.{Grew, GrewByPrefix}
 use Rattle.tif_strips.specs.declared.shape.Shape.{Shape}

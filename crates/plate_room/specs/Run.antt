@@ -1,6 +1,6 @@
 -- A run of `plate_main` by its values before and after, and how it may end. This is the contract of a private call.
 use Rattle.std.specs.Prelude.{◌≡◌, ℕ, ◌⊎◌, List, Option, None}
-use Rattle.pr_ports.specs.Count.{Rose}
+use Rattle.pr_base.specs.Count.{Rose}
 use Rattle.pr_ports.specs.Sink.{Grew, GrewByPrefix}
 use Rattle.plate_room.specs.Command.{command_of}
 use Rattle.plate_room.specs.Line.{words_line, memory_line}

@@ -1,6 +1,6 @@
 // The top call.
 ghost use Rattle.std.specs.Prelude.{◌≡◌, ◌⊎◌, ℕ, List, Some, None, IfSome};
-ghost use Rattle.pr_ports.specs.Count.{Rose};
+ghost use Rattle.pr_base.specs.Count.{Rose};
 ghost use Rattle.pr_ports.specs.Sink.{Grew, GrewByPrefix};
 ghost use Rattle.pr_base.specs.declared.fault.TagFault.{TagFault};
 ghost use Rattle.plate_room.specs.Command.{command_of, words_of};

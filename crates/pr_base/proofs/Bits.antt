@@ -1,6 +1,6 @@
 -- A row of bytes is determined by its bits.
 use Rattle.std.proofs.Common.{◌≡◌, ℕ, ◌+◌, ◌-◌, ◌*◌, ◌/◌, ◌%◌, ◌^◌, ◌<◌, ◌≤◌, Bool, false, ◌&&◌, nat_eq, nat_lt, List, length, get_or, ap, sym, ◌∙◌, arith}
-use Rattle.std.proofs.lemmas.List.FromFn.{fill_by_all}
+use Rattle.std.proofs.lemmas.List.FromFn.{fill_by_all, length-map-range_with_len}
 use Rattle.std.proofs.lemmas.Bool.Decides.{nat_tests}
 use Rattle.pr_base.specs.Row.{row_size}
 use Rattle.pr_base.specs.Bits.{bit_at, bit_number, packed_byte, packed_row}
@@ -45,3 +45,8 @@ row_is_packed row width bit size bytes inside behind =
     fill_by_all (λ j. packed_byte (λ k. nat_lt (8 * j + k) width && bit (8 * j + k))) row (row_size width) 0 size
     (λ j _. byte_is (get_or row j 0) (bytes j) ∙ packed_byte-same (λ k. nat_eq (get_or row j 0 / 2 ^ (7 - k) % 2) 1) (λ k. nat_lt (8 * j + k) width && bit (8 * j + k))
     (λ k small. sym (bits_of-byte row j k small) ∙ within width (8 * j + k) (bit_at row (8 * j + k)) (bit (8 * j + k)) (inside (8 * j + k)) (behind (8 * j + k))))
+
+-- a packed row has the bytes of a row
+pub length-packed_row : (width : ℕ) (bit : ℕ → Bool) → length (packed_row width bit) ≡ row_size width
+unfolding packed_row
+length-packed_row width bit = length-map-range_with_len (λ j. packed_byte (λ k. nat_lt (8 * j + k) width && bit (8 * j + k))) 0 (row_size width)

@@ -1,17 +1,24 @@
-// What every layer of plateroom names: inks, texts, the faults of input files, want of memory, and the two
-// ways in which rows pass between layers (a numbered deal of rows, and a feed that gives them in order).
+// What every layer of plateroom names: inks, texts, the faults of input files, want of memory, single pixels, counts
+// of failures and the streams of the machine that keep them, and the two ways in which rows pass between layers (a
+// numbered deal of rows, and a feed that gives them in order).
 #![tactic(auto)]
 
+mod count;
+mod counted;
 mod deal;
 mod fault;
 mod ink;
 mod memory;
 mod path_text;
+mod pixel;
 mod row;
 
+pub use count::raised;
+pub use counted::Counted;
 pub use deal::{Deal, RowFeed};
 pub use fault::{FaultKind, FileFault, TagFault};
 pub use ink::Ink;
 pub use memory::NoMemory;
 pub use path_text::PathText;
+pub use pixel::set_bit;
 pub use row::row_bytes;

@@ -1,5 +1,3 @@
-pub mod Count
 pub mod Shelf
 pub mod Sink
-pub mod Stream
 pub mod Mem

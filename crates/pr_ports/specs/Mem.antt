@@ -1,7 +1,7 @@
 -- What contracts see of the shelf and the sink in memory.
 use Rattle.std.specs.Prelude.{◌≡◌, ℕ, List, ◌++◌, map, Option, Some, Result, Ok, Err}
 use Rattle.std.specs.Global.{Vec}
-use Rattle.pr_ports.specs.Count.{count_after}
+use Rattle.pr_base.specs.Count.{count_after}
 use Rattle.pr_ports.specs.declared.shelf.LoadFault.{LoadFault}
 use Rattle.pr_ports.specs.declared.shelf.LoadFault.TheVariants.{Failed, TooLong, Memory}
 use Rattle.pr_ports.specs.declared.sink.SinkFault.{SinkFault}

@@ -1,12 +1,11 @@
 // The shelf of the machine's files.
 ghost use Rattle.std.specs.Prelude.{◌≡◌, ◌<◌, ◌≤◌, None, IfOk, IfSome, IsErrOf, length, not};
-ghost use Rattle.pr_ports.specs.Count.{Rose, count_unless};
+ghost use Rattle.pr_base.specs.Count.{Rose, count_unless};
 ghost use Rattle.pr_ports.specs.Shelf.{has_failed, IfTooLong};
 ghost use Rattle.pr_ports.specs.Mem.{Counts, counts_after};
 
-use crate::count::raised;
-use crate::counted::Counted;
 use crate::{LoadFault, Shelf};
+use pr_base::{Counted, raised};
 use std::alloc::Global;
 use std::fs;
 use std::fs::OpenFile;

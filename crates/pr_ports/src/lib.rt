@@ -3,8 +3,6 @@
 // everything and one on the machine that tells its counts alone.
 #![tactic(auto)]
 
-mod count;
-mod counted;
 mod host_shelf;
 mod mem_shelf;
 mod mem_sink;

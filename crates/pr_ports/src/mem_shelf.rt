@@ -3,13 +3,12 @@ ghost use Rattle.std.specs.Prelude.{◌≡◌, ◌≤◌, ◌⊎◌, [], List, �
 ghost use Rattle.std.specs.Cmp.Lexicographic.{pointwise};
 ghost use Rattle.std.specs.List.{IsDistinct};
 ghost use Rattle.std.specs.Option.{option_copied};
-ghost use Rattle.pr_ports.specs.Count.{Rose};
+ghost use Rattle.pr_base.specs.Count.{Rose};
 ghost use Rattle.pr_ports.specs.Mem.{ShelfState, files_of, shelf_after, Misses};
 ghost use Rattle.pr_ports.specs.Shelf.{IsHeldAt, IsLongerAt, held_at, missed_after, has_failed, IfTooLong};
 
-use crate::count::raised;
 use crate::{LoadFault, Shelf};
-use pr_base::PathText;
+use pr_base::{PathText, raised};
 use std::alloc::Global;
 use std::marker::Model;
 

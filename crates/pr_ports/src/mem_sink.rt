@@ -1,11 +1,11 @@
 // A sink in memory that tells all, and fails at chosen calls.
 ghost use Rattle.std.specs.Prelude.{◌≡◌, ◌≤◌, [], List, ℕ, Some, Contains, OnOk, OnErr, IsErrOf};
-ghost use Rattle.pr_ports.specs.Count.{Rose};
+ghost use Rattle.pr_base.specs.Count.{Rose};
 ghost use Rattle.pr_ports.specs.Mem.{SinkState, sink_after};
 ghost use Rattle.pr_ports.specs.Sink.{Grew, GrewByPrefix};
 
-use crate::count::raised;
 use crate::{Sink, SinkFault};
+use pr_base::raised;
 use std::alloc::Global;
 use std::marker::Model;
 

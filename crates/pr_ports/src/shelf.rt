@@ -1,6 +1,6 @@
 // Where input files come from.
 ghost use Rattle.std.specs.Prelude.{◌≡◌, ◌≤◌, ℕ, List, Option, Bool, IfOk, IsErrOf, length};
-ghost use Rattle.pr_ports.specs.Count.{Rose};
+ghost use Rattle.pr_base.specs.Count.{Rose};
 ghost use Rattle.pr_ports.specs.Shelf.{IsHeldAt, IsLongerAt, missed_after, has_failed, IfTooLong};
 
 use thiserror::Error;

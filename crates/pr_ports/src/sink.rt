@@ -1,6 +1,6 @@
 // Where text and plates are written to.
 ghost use Rattle.std.specs.Prelude.{◌≡◌, ◌≤◌, ℕ, List, Option, OnOk, OnErr, IsErrOf};
-ghost use Rattle.pr_ports.specs.Count.{Rose};
+ghost use Rattle.pr_base.specs.Count.{Rose};
 ghost use Rattle.pr_ports.specs.Sink.{Grew, GrewByPrefix};
 
 use thiserror::Error;

@@ -1,13 +1,10 @@
 // A sink over a writer of the machine.
 ghost use Rattle.std.specs.Prelude.{◌≡◌, ◌≤◌, IsErrOf, OnErr, OnOk, is_ok};
-ghost use Rattle.std.specs.Bool.{OnTrue};
-ghost use Rattle.std.specs.Io.KnownBytes.{Appends};
-ghost use Rattle.pr_ports.specs.Count.{Rose, count_unless};
+ghost use Rattle.pr_base.specs.Count.{Rose, count_unless};
 ghost use Rattle.pr_ports.specs.Sink.{Grew, GrewByPrefix};
-ghost use Rattle.pr_ports.specs.Stream.{AppendsFront};
 
-use crate::counted::Counted;
 use crate::{Sink, SinkFault};
+use pr_base::Counted;
 use std::io::Write;
 use std::marker::Model;
 
@@ -38,23 +35,6 @@ impl<W: Write> WriterSink<W> {
     }
 }
 
-/// Writes all of `bytes` and flushes. False where the writer failed.
-fn write_out<W: Write>(inner: &mut Counted<W>, bytes: &[u8]) -> bool
-    ensures written { OnTrue result (Appends (W.contents inner.old.stream) (W.contents inner.new.stream) bytes.now) }
-    ensures front { AppendsFront (W.contents inner.old.stream) (W.contents inner.new.stream) bytes.now }
-    ensures count { inner.new.faults ≡ count_unless result inner.old.faults }
-    ensures faults_stay { inner.old.faults ≤ inner.new.faults }
-{
-    let mut rest = bytes;
-    while !rest.is_empty() {
-        match inner.write(rest) {
-            None => return false,
-            Some(count) => rest = &rest[count..],
-        }
-    }
-    inner.flush()
-}
-
 impl<W: Write> Sink for WriterSink<W> {
     ghost given = { λ s. s.given };
 
@@ -68,7 +48,7 @@ impl<W: Write> Sink for WriterSink<W> {
 
         ensures count { self.new.faults ≡ count_unless (is_ok result) self.old.faults }
     {
-        if write_out(&mut self.inner, bytes) {
+        if self.inner.append(bytes) && self.inner.flush() {
             Ok(())
         } else {
             Err(SinkFault::Failed)

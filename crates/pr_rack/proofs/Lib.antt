@@ -1,3 +1,2 @@
 pub mod OneFrame
 pub mod OneSlot
-pub mod Streams

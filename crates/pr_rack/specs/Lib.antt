@@ -1,4 +1,2 @@
-pub mod Count
 pub mod Rack
-pub mod Stream
 pub mod Mem

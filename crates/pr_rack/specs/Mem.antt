@@ -4,7 +4,7 @@ use Rattle.std.specs.Global.{Vec}
 use Rattle.std.specs.List.{All}
 use Rattle.std.specs.Option.{ForSome, option_map}
 use Rattle.ring_lanes.specs.declared.source.Source.{Source}
-use Rattle.pr_rack.specs.Count.{count_after}
+use Rattle.pr_base.specs.Count.{count_after}
 use Rattle.ring_lanes.specs.Held.{HeldRow}
 use Rattle.tif_packbits.specs.Frame.{packed_in}
 use Rattle.pr_rack.specs.Rack.{Plate, Slots, closed, with_bytes}

@@ -1,13 +1,13 @@
 // The rack of the machine's files.
 ghost use Rattle.std.specs.Prelude.{refl, ◌≡◌, ◌≤◌, true, false, None, Some, IsErrOf, OnErr, OnOk, is_ok, is_some, length, map, slice_get, slice_set};
 ghost use Rattle.tif_packbits.specs.Frame.{IsFrame};
-ghost use Rattle.pr_rack.specs.Count.{Rose, count_unless};
+ghost use Rattle.pr_base.specs.Count.{Rose, count_unless};
 ghost use Rattle.pr_rack.specs.Rack.{OthersBegun, none_begun};
 
-use crate::count::raised;
 use crate::open_files::OpenFiles;
-use crate::plate_file::PlateFile;
+use crate::plate_file::complete;
 use crate::{Rack, RackFault};
+use pr_base::{Counted, raised};
 use ring_lanes::Held;
 use std::fs::File;
 use std::marker::Model;
@@ -88,13 +88,13 @@ impl<R: Files<File = File>> Rack for HostRack<R> {
             self.faults = raised(self.faults);
             return Err(RackFault::Failed);
         };
-        let mut file = PlateFile::new(file, self.faults);
+        let mut file = Counted::new(file, self.faults);
         let written = file.append(head);
         self.faults = file.faults();
         if !written {
             return Err(RackFault::Failed);
         }
-        self.files.put(slot, file.into_file());
+        self.files.put(slot, file.into_stream());
         Ok(())
     }
 
@@ -108,13 +108,13 @@ impl<R: Files<File = File>> Rack for HostRack<R> {
 
         ensures count { self.new.faults ≡ count_unless (is_ok result) self.old.faults }
     {
-        let mut file = PlateFile::new(self.files.take(slot), self.faults);
+        let mut file = Counted::new(self.files.take(slot), self.faults);
         let written = file.append(framed(held.bytes()));
         self.faults = file.faults();
         if !written {
             return Err(RackFault::Failed);
         }
-        self.files.put(slot, file.into_file());
+        self.files.put(slot, file.into_stream());
         Ok(())
     }
 
@@ -127,8 +127,8 @@ impl<R: Files<File = File>> Rack for HostRack<R> {
 
         ensures count { self.new.faults ≡ count_unless (is_ok result) self.old.faults }
     {
-        let mut file = PlateFile::new(self.files.take(slot), self.faults);
-        let closed = file.complete(tail, at);
+        let mut file = Counted::new(self.files.take(slot), self.faults);
+        let closed = complete(&mut file, tail, at);
         self.faults = file.faults();
         if closed {
             Ok(())

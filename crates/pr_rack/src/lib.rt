@@ -2,7 +2,6 @@
 // one in memory that tells all, and one that writes files on the machine.
 #![tactic(auto)]
 
-mod count;
 mod host_rack;
 mod mem_rack;
 mod misses;

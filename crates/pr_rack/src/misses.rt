@@ -2,9 +2,8 @@
 ghost use Rattle.std.specs.Prelude.{◌≡◌, ◌≤◌, None};
 ghost use Rattle.pr_rack.specs.Mem.{Misses as IsMissed, MissState};
 
-use crate::count::raised;
 use crate::{RackCall, RackFault};
-use pr_base::PathText;
+use pr_base::{PathText, raised};
 use std::alloc::Global;
 use std::marker::Model;
 

@@ -1,4 +1,3 @@
-pub mod BitLemmas
 pub mod ByteLemmas
 pub mod DiffusionLemmas
 pub mod NumberLemmas

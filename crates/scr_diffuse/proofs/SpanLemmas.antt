@@ -6,7 +6,7 @@ use Rattle.std.proofs.lemmas.List.Edits.{get_or-between, length-between}
 use Rattle.pr_base.specs.Bits.{SetsBits}
 use Rattle.scr_diffuse.specs.Diffusion.{prints}
 use Rattle.scr_diffuse.specs.Passes.{AreWords, number_at}
-use Rattle.scr_diffuse.proofs.BitLemmas.{SetsBits_same, SetsBits_join, SetsBits_nowhere}
+use Rattle.pr_base.proofs.BitLemmas.{SetsBits_same, SetsBits_join, SetsBits_nowhere}
 
 -- a part of a list of words
 pub AreWords-between : (numbers : List ℤ) (i j : ℕ) → j ≤ length numbers → AreWords numbers → AreWords (slice_range numbers i j)

@@ -1,10 +1,11 @@
 // Packed pixels from the numbers v of a row: whole bytes by eight compares at a time, the ragged ends apart.
-ghost use Rattle.std.specs.Prelude.{◌≡◌, ℕ, ◌+◌, ◌*◌, ◌^◌, ◌<◌, ◌≤◌, ◌≢◌, ◌%◌, length};
-ghost use Rattle.pr_base.specs.Bits.{bit_at, byte_bit, SetsBits};
+ghost use Rattle.std.specs.Prelude.{◌≡◌, ℕ, ◌+◌, ◌*◌, ◌^◌, ◌<◌, ◌≤◌, ◌%◌, length};
+ghost use Rattle.pr_base.specs.Bits.{byte_bit, SetsBits};
 ghost use Rattle.scr_diffuse.specs.Diffusion.{prints};
 ghost use Rattle.scr_diffuse.specs.Passes.{AreWords, number_at};
 
 use crate::passes::MIDDLE;
+use pr_base::set_bit;
 use std::simd::prelude::*;
 
 /// Sets the pixels from `from` on, each where its number prints: first those up to a whole byte, then whole
@@ -30,20 +31,6 @@ fn set_bits(numbers: &[i16], bits: &mut [u8], from: usize)
 {
     for x in 0..numbers.len() {
         set_bit(bits, from + x, numbers[x] >= MIDDLE);
-    }
-}
-
-/// Sets pixel `place`, or clears it.
-fn set_bit(bits: &mut [u8], place: usize, on: bool)
-    requires { place < 8 * length bits.old }
-    ensures here { bit_at bits.new place ≡ on }
-    ensures elsewhere { (k : ℕ) → k ≢ place → bit_at bits.new k ≡ bit_at bits.old k }
-{
-    let mask = 1u8 << (7 - place % 8);
-    if on {
-        bits[place / 8] |= mask;
-    } else {
-        bits[place / 8] &= !mask;
     }
 }
 

@@ -1,4 +1,3 @@
-pub mod BitLemmas
 pub mod BlockLemmas
 pub mod DotLemmas
 pub mod RowLemmas

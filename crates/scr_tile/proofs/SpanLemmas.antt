@@ -7,7 +7,7 @@ use Rattle.std.proofs.lemmas.List.Edits.{get_or-between, length-between}
 use Rattle.std.proofs.Math.Nat.{mod-add-mod}
 use Rattle.pr_base.specs.Bits.{SetsBits}
 use Rattle.scr_tile.specs.Tile.{tile_bit, Repeats}
-use Rattle.scr_tile.proofs.BitLemmas.{SetsBits_same, SetsBits_join, SetsBits_nowhere}
+use Rattle.pr_base.proofs.BitLemmas.{SetsBits_same, SetsBits_join, SetsBits_nowhere}
 
 -- what pixel x of a row is told by
 abbrev pub row_test : List ℕ → List ℕ → ℕ → Bool

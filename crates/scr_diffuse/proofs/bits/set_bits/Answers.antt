@@ -3,7 +3,7 @@ use Rattle.std.proofs.Common.{◌∙◌, ap, pos, w16, FitsSigned, rules}
 use Rattle.std.specs.Int.Signed.{le_z}
 use Rattle.std.proofs.lemmas.Int.{to_z-of_z}
 use Rattle.scr_diffuse.specs.Passes.{number_at}
-use Rattle.scr_diffuse.proofs.BitLemmas.{SetsBits_none, SetsBits_more}
+use Rattle.pr_base.proofs.BitLemmas.{SetsBits_none, SetsBits_more}
 use Rattle.scr_diffuse.proofs.bits.set_bits.Goals as goal
 
 pub loop-x-init : goal.loop-x-init

@@ -4,7 +4,7 @@ use Rattle.std.proofs.lemmas.List.Edits.{get_or-between}
 use Rattle.pr_base.specs.Bits.{SetsBits}
 use Rattle.scr_diffuse.specs.Diffusion.{prints}
 use Rattle.scr_diffuse.specs.Passes.{number_at}
-use Rattle.scr_diffuse.proofs.BitLemmas.{SetsBits_none, SetsBits_join, SetsBits_byte}
+use Rattle.pr_base.proofs.BitLemmas.{SetsBits_none, SetsBits_join, SetsBits_byte}
 use Rattle.scr_diffuse.proofs.SpanLemmas.{AreWords-between}
 use Rattle.scr_diffuse.proofs.bits.set_bytes.Goals as goal
 

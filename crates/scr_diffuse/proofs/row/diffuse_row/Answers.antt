@@ -4,7 +4,7 @@ use Rattle.std.proofs.lemmas.List.{get_or-take, length-append, length-drop, leng
 use Rattle.pr_base.specs.Bits.{SetsBits}
 use Rattle.scr_diffuse.specs.Diffusion.{prints, v_below}
 use Rattle.scr_diffuse.specs.Passes.{errors_in, number_at}
-use Rattle.scr_diffuse.proofs.BitLemmas.{SetsBits_same}
+use Rattle.pr_base.proofs.BitLemmas.{SetsBits_same}
 use Rattle.scr_diffuse.proofs.RowLemmas.{row_numbers, row_rest, kept_are}
 use Rattle.scr_diffuse.proofs.row.diffuse_row.Goals as goal
 

@@ -1,5 +1,5 @@
 -- Each turn sets one pixel more.
-use Rattle.scr_tile.proofs.BitLemmas.{SetsBits_none, SetsBits_more}
+use Rattle.pr_base.proofs.BitLemmas.{SetsBits_none, SetsBits_more}
 use Rattle.scr_tile.proofs.bits.set_bits.Goals as goal
 
 pub loop-x-init : goal.loop-x-init

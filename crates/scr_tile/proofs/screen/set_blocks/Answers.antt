@@ -3,7 +3,7 @@ use Rattle.std.proofs.Common.{◌≡◌, ℕ, ◌+◌, ◌*◌, ◌%◌, ◌<◌
 use Rattle.std.proofs.lemmas.Nat.{mod_below}
 use Rattle.pr_base.specs.Bits.{byte_bit}
 use Rattle.scr_tile.specs.Tile.{tile_bit}
-use Rattle.scr_tile.proofs.BitLemmas.{SetsBits_join}
+use Rattle.pr_base.proofs.BitLemmas.{SetsBits_join}
 use Rattle.scr_tile.proofs.BlockLemmas.{SetsBits_block, byte_bit-block}
 use Rattle.scr_tile.proofs.RowLemmas.{step_within, step_past, bit_of_part}
 use Rattle.scr_tile.proofs.screen.set_blocks.Goals as goal

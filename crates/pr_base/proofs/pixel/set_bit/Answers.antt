@@ -1,8 +1,8 @@
 -- A byte is written with one of its pixels changed.
 use Rattle.std.proofs.Common.{◌∙◌, ◌/◌, ◌%◌, sym, arith}
-use Rattle.scr_diffuse.proofs.BitLemmas.{bit_at-set_here, bit_at-set_others, byte_bit-set_same, byte_bit-set_other, byte_bit-clear_same, byte_bit-clear_other}
+use Rattle.pr_base.proofs.BitLemmas.{bit_at-set_here, bit_at-set_others, byte_bit-set_same, byte_bit-set_other, byte_bit-clear_same, byte_bit-clear_other}
 use Rattle.std.proofs.Common.{refl}
-use Rattle.scr_diffuse.proofs.bits.set_bit.Goals as goal
+use Rattle.pr_base.proofs.pixel.set_bit.Goals as goal
 
 pub returns-then-on-clause-here : goal.returns-then-on-clause-here
 returns-then-on-clause-here c =

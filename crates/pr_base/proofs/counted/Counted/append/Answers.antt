@@ -1,8 +1,8 @@
 use Rattle.std.proofs.Common.{rules}
 use Rattle.std.proofs.KnownBytes.{Keeps-refl}
 use Rattle.std.proofs.lemmas.List.{take_rest}
-use Rattle.pr_rack.proofs.Streams.{passed_front, passed_more}
-use Rattle.pr_rack.proofs.plate_file.PlateFile.append.Goals as goal
+use Rattle.pr_base.proofs.Streams.{passed_front, passed_more}
+use Rattle.pr_base.proofs.counted.Counted.append.Goals as goal
 
 pub returns-in-None-clause-front : goal.returns-in-None-clause-front
 returns-in-None-clause-front g c = passed_front _ c.loop-rest.invariant.passed c.in-None.ensures.bytes

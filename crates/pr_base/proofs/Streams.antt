@@ -1,10 +1,10 @@
 -- How what a writer takes adds up over calls.
-use Rattle.std.proofs.Common.{◌≡◌, ℕ, ◌≤◌, List, ◌++◌, length, take, drop, Option, ap, sym, ◌∙◌, append_assoc, subst}
+use Rattle.std.proofs.Common.{◌≡◌, ℕ, List, ◌++◌, length, take, drop, Option, ap, sym, ◌∙◌, append_assoc, subst}
 use Rattle.std.specs.Io.KnownBytes.{Keeps, Appends}
 use Rattle.std.proofs.KnownBytes.{Appends-trans, Appends-kept}
 use Rattle.std.proofs.Math.Seq.{take-append_seam}
 use Rattle.std.proofs.lemmas.List.{take-append-drop}
-use Rattle.pr_ports.specs.Stream.{AppendsFront}
+use Rattle.pr_base.specs.Stream.{AppendsFront}
 
 -- of all bytes the writer took those before the rest
 pub record HasPassed (old new : Option (List ℕ)) (all rest : List ℕ) : Type 0 where

@@ -13,3 +13,8 @@ WritesSome old new taken piece = MatchOption taken (Keeps old new) (λ count. Ap
 -- the writer took a front of these bytes
 abbrev pub AppendsFront : Option (List ℕ) → Option (List ℕ) → List ℕ → Type 0
 AppendsFront old new bytes = (n : ℕ) × Appends old new (take n bytes)
+
+-- a stream, and how many of its calls failed
+pub record CountedState (S : Type 0) : Type 0 where
+  pub stream : S
+  pub faults : ℕ
