@@ -1,4 +1,5 @@
 pub mod Expansion
+pub mod Nothings
 pub mod Packing
 pub mod Pieces
 pub mod Fronts

@@ -1,5 +1,6 @@
 // One packet: a header byte, and behind it a literal's bytes or the byte that is repeated.
-ghost use Rattle.std.specs.Prelude.{◌≡◌, ◌<◌, ◌++◌, length, min, take, drop};
+ghost use Rattle.std.specs.Prelude.{◌≡◌, ◌<◌, ◌++◌, ◌==◌, length, min, take, drop};
+ghost use Rattle.std.specs.List.{prefix_len};
 ghost use Rattle.tif_packbits.specs.Packbits.{expansion};
 ghost use Rattle.tif_packbits.specs.Packet.{left_of};
 
@@ -7,6 +8,9 @@ use crate::bytes;
 
 /// The header -128, as a byte: its packet gives nothing.
 const NOTHING: u8 = 128;
+
+/// As many of them as are compared at once.
+const NOTHINGS: [u8; 64] = [NOTHING; 64];
 
 /// What is left of a packet.
 #[derive(Clone, Copy, Debug)]
@@ -17,7 +21,8 @@ pub enum Packet<'a> {
     Repeat(u8, usize),
 }
 
-/// The first packet of packed bytes, and the bytes behind it. A packet whose bytes are cut gives nothing.
+/// The first packet of packed bytes, and the bytes behind it and behind more headers like it where it gives nothing.
+/// A packet whose bytes are cut gives nothing.
 pub fn first_packet(packed: &[u8]) -> (Packet<'_>, &[u8])
     requires { 0 < length packed.now }
     ensures whole { expansion packed.now ≡ left_of result.0 ++ expansion result.1.now }
@@ -33,13 +38,27 @@ pub fn first_packet(packed: &[u8]) -> (Packet<'_>, &[u8])
             (Packet::Literal(&[]), &[])
         }
     } else if header == NOTHING {
-        (Packet::Literal(&[]), data)
+        (Packet::Literal(&[]), past_nothings(data))
     } else {
         match data {
             [byte, rest @ ..] => (Packet::Repeat(*byte, 257 - header as usize), rest),
             [] => (Packet::Literal(&[]), data),
         }
     }
+}
+
+/// The packed bytes behind all headers at the front that give nothing. A file may hold millions of them.
+// Cold, so that the loops over packets that give bytes stay small.
+#[cold]
+fn past_nothings(packed: &[u8]) -> &[u8]
+    ensures past { result.now ≡ drop (prefix_len (λ header. header == 128) packed.now) packed.now }
+    ensures same { expansion packed.now ≡ expansion result.now }
+{
+    let mut rest = packed;
+    while let [NOTHING, behind @ ..] = rest {
+        rest = rest.strip_prefix(&NOTHINGS).unwrap_or(behind);
+    }
+    rest
 }
 
 impl<'a> Packet<'a> {

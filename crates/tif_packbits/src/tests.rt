@@ -45,6 +45,10 @@ fn expands_awkward_streams(rt: HostRuntime) {
     assert_expands(&rt, &[0x00, 9, 0xFE], &[9]);
     assert_expands(&rt, &[0x00, 1, 0x00, 2, 0x00, 3], &[1, 2, 3]);
     assert_expands(&rt, &[0x81, 5], &[5; 128]);
+    let mut nothings = [0x80; 150];
+    nothings[148] = 0x00;
+    nothings[149] = 7;
+    assert_expands(&rt, &nothings, &[7]);
     let mut literal = [7; 129];
     literal[0] = 0x7F;
     literal[128] = 8;

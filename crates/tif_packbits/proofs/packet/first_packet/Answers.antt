@@ -1,5 +1,5 @@
 -- What each kind of packet gives, where it stands at the front of the packed bytes.
-use Rattle.std.proofs.Common.{◌≡◌, ◌<◌, ◌++◌, length, take, drop, ℕ, ◌+◌, ◌-◌, ◌≤◌, List, [], ◌∷◌, get_or, replicate, arith, refl}
+use Rattle.std.proofs.Common.{◌≡◌, ◌<◌, ◌++◌, length, take, drop, ℕ, ◌+◌, ◌-◌, ◌≤◌, List, [], ◌∷◌, get_or, replicate, arith, refl, sym, ap, ◌∙◌}
 use Rattle.std.proofs.lemmas.List.{take_rest}
 use Rattle.tif_packbits.specs.Packbits.{expansion}
 use Rattle.tif_packbits.proofs.Expansion.{expansion-nil, expansion-literal, expansion-cut, expansion-nothing, expansion-headless, expansion-repeat}
@@ -36,7 +36,9 @@ returns-else-len-data-clause-whole c =
     cut c.args.packed.now c.requires c.if-header-lt-NOTHING.true (simp take_rest at c.if-len-data.false)
 
 pub returns-then-header-clause-whole : goal.returns-then-header-clause-whole
-returns-then-header-clause-whole c = simp take_rest (nothing c.args.packed.now c.requires c.if-header.true)
+returns-then-header-clause-whole c =
+    nothing c.args.packed.now c.requires c.if-header.true
+    ∙ (ap expansion (sym (take_rest c.args.packed.now 1)) ∙ c.past_nothings.ensures.same)
 
 pub returns-in-empty-clause-whole : goal.returns-in-empty-clause-whole
 returns-in-empty-clause-whole c =
