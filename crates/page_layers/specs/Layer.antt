@@ -1,5 +1,5 @@
--- A layer of a page, and what it does to the ink at a pixel. The rules are plateroom's own. A pixel stands at a column and a
--- row of an image, and at x and y of a page.
+-- A layer of a page, and what it does to the ink at a pixel. The rules are plateroom's own. A pixel stands at
+-- a column and a row of an image, and at x and y of a page.
 use Rattle.std.specs.Prelude.{◌≡◌, ℕ, ◌+◌, ◌-◌, ◌*◌, ◌/◌, ◌≤◌, ◌&&◌, nat_lt, nat_le, Bool, true, if◌then◌else◌, List, [], ◌∷◌, slice_index, Option, Some, None}
 use Rattle.std.specs.List.{fold}
 use Rattle.std.specs.Option.{ForSome}
@@ -22,13 +22,15 @@ abbrev pub bytes_of : Art → List ℕ
 bytes_of (Contone image) = image.bytes
 bytes_of (Line image inks) = image.bytes
 
--- the five ink values that a pixel of the image paints: a contone image its four samples and no spot ink, linework its own
+-- the five ink values that a pixel of the image paints: a contone image its four samples and no spot ink,
+-- linework its own
 abbrev pub paint_at : Art → ℕ → ℕ → List ℕ
 paint_at (Contone image) column row =
     sample_at image.shape image.bytes column row 0 ∷ sample_at image.shape image.bytes column row 1
     ∷ sample_at image.shape image.bytes column row 2 ∷ sample_at image.shape image.bytes column row 3 ∷ 0 ∷ []
 paint_at (Line image inks) column row =
-    slice_index inks 0 ∷ slice_index inks 1 ∷ slice_index inks 2 ∷ slice_index inks 3 ∷ slice_index inks 4 ∷ []
+    slice_index inks 0 ∷ slice_index inks 1 ∷ slice_index inks 2
+    ∷ slice_index inks 3 ∷ slice_index inks 4 ∷ []
 
 -- whether a pixel of the image paints: each of a contone image, and the marked ones of linework
 abbrev pub paints_at : Art → ℕ → ℕ → Bool
@@ -77,7 +79,8 @@ ink_at layers x y = fold (λ under layer. painted layer x y under) blank layers
 
 -- ---- which layers a page takes
 
--- the crop lies in the image and isn't empty, the scale is 1 to 64, and a mask is as wide and as long as the image
+-- the crop lies in the image and isn't empty, the scale is 1 to 64,
+-- and a mask is as wide and as long as the image
 pub record IsLayer (layer : Layer) : Type 0 where
   pub wide : 1 ≤ layer.crop.width
   pub high : 1 ≤ layer.crop.height

@@ -21,9 +21,11 @@ laid_where Overprint admitted paint under =
     if admitted == 0 then under else if paint == 0 then under else paint
 
 -- paint is laid over the first values of the old row
-pub record IsLaid (painting : Painting) (paint admitted old : List ℕ) (count : ℕ) (new : List ℕ) : Type 0 where
+pub record IsLaid (painting : Painting) (paint admitted old : List ℕ) (count : ℕ) (new : List ℕ)
+    : Type 0 where
   pub each : (x : ℕ) → x < count
-      → slice_index new x ≡ laid_where painting (slice_index admitted x) (slice_index paint x) (slice_index old x)
+      → slice_index new x
+      ≡ laid_where painting (slice_index admitted x) (slice_index paint x) (slice_index old x)
 
 -- paint is laid over the old row from a column on
 pub record LaysSpan (painting : Painting) (from : ℕ) (paint admitted old new : List ℕ) : Type 0 where
@@ -100,10 +102,10 @@ pub record IsExpanded (layer : Layer) (row span : ℕ) (paint : Planes) (admitte
   pub paint_is : IsPaint layer.art layer.crop.x layer.scale row span paint
   pub admits_is : IsAdmitted layer row span admitted
 
--- what a layer's rows keep: cursors that stand before the same row of the image and of its mask, and the paint of the row
--- before it
-pub record IsLayerRows (layer : Layer) (width : ℕ) (painting : Painting) (image : Cursor) (mask : Option Cursor)
-    (paint : Planes) (marks admitted : List ℕ) : Type 0 where
+-- what a layer's rows keep: cursors that stand before the same row of the image and of its mask, and the
+-- paint of the row before it
+pub record IsLayerRows (layer : Layer) (width : ℕ) (painting : Painting) (image : Cursor)
+    (mask : Option Cursor) (paint : Planes) (marks admitted : List ℕ) : Type 0 where
   pub layer_is : IsLayer layer
   pub painting_is : painting ≡ painting_of layer
   pub sides : ((shape_of layer.art).width ≤ 65535) × ((shape_of layer.art).length ≤ 65535) × (width ≤ 65535)

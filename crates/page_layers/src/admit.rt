@@ -54,7 +54,9 @@ fn mark_art(art: &Art<'_>, image: &RowReader<'_>, first: u32, marks: &mut [u8])
     requires image { IsOf art.now image.now }
     requires read { 0 < image.now.next }
     requires within { first + length marks.old ≤ (shape_of art.now).width }
-    ensures { IsMarked (λ n. paints_at art.now (first + n) (image.now.next - 1)) (λ n. 255) (length marks.old) marks.new }
+    ensures { IsMarked
+        (λ n. paints_at art.now (first + n) (image.now.next - 1))
+        (λ n. 255) (length marks.old) marks.new }
 {
     marks.fill(255);
     if let Art::Line(line, _) = art {
@@ -74,7 +76,9 @@ fn mark_mask(
     requires reader { reader.now ≡ option_map (mask_cursor next) mask.now }
     requires read { 0 < next }
     requires within { ForSome mask.now (λ mask. first + length marks.old ≤ mask.shape.width) }
-    ensures { IsMarked (λ n. shows_through mask.now (first + n) (next - 1)) (slice_index marks.old) (length marks.old) marks.new }
+    ensures { IsMarked
+        (λ n. shows_through mask.now (first + n) (next - 1))
+        (slice_index marks.old) (length marks.old) marks.new }
 {
     if let (Some(mask), Some(reader)) = (mask, reader) {
         let _len = bilevel_row_len(mask);

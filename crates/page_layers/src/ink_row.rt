@@ -91,12 +91,14 @@ impl InkRow {
         self.spot.fill(0);
     }
 
-    /// Puts the samples of a row of pixels in the place of the process inks, from column `first` of the image on.
+    /// Puts the samples of a row of pixels in the place of the process inks,
+    /// from column `first` of the image on.
     pub(crate) fn set_samples(&mut self, pixels: &[u8], first: usize, scale: usize)
         requires wide { HasWidth self.old (length self.old.cyan) }
         requires small { length self.old.cyan ≤ 65535 }
         requires scale { (1 ≤ scale) × (scale ≤ 64) }
-        requires enough { (n : ℕ) → scale * n < length self.old.cyan → 4 * (first + n) + 3 < length pixels.now }
+        requires enough { (n : ℕ) → scale * n < length self.old.cyan
+            → 4 * (first + n) + 3 < length pixels.now }
         requires first { first ≤ 65535 }
         ensures cyan { HasSamples pixels.now (4 * first) scale self.old.cyan self.new.cyan }
         ensures magenta { HasSamples pixels.now (4 * first + 1) scale self.old.magenta self.new.magenta }
@@ -119,8 +121,10 @@ impl InkRow {
         requires black { from + length admitted.now ≤ length self.old.black }
         requires spot { from + length admitted.now ≤ length self.old.spot }
         ensures cyan { LaysSpan painting from paint.now.cyan admitted.now self.old.cyan self.new.cyan }
-        ensures magenta { LaysSpan painting from paint.now.magenta admitted.now self.old.magenta self.new.magenta }
-        ensures yellow { LaysSpan painting from paint.now.yellow admitted.now self.old.yellow self.new.yellow }
+        ensures magenta { LaysSpan painting from paint.now.magenta admitted.now
+            self.old.magenta self.new.magenta }
+        ensures yellow { LaysSpan painting from paint.now.yellow admitted.now
+            self.old.yellow self.new.yellow }
         ensures black { LaysSpan painting from paint.now.black admitted.now self.old.black self.new.black }
         ensures spot { LaysSpan painting from paint.now.spot admitted.now self.old.spot self.new.spot }
     {

@@ -16,8 +16,8 @@ use pr_base::NoMemory;
 use std::alloc::Global;
 use std::marker::Model;
 
-/// A layer with the row of its image that shows last, as paint over the page's columns. Contracts see the layer, the
-/// page's width, and how many rows of the image were read.
+/// A layer with the row of its image that shows last, as paint over the page's columns. Contracts see the
+/// layer, the page's width, and how many rows of the image were read.
 #[derive(Debug, Drop)]
 pub(crate) struct LayerRows<'a> {
     layer: Layer<'a>,
@@ -43,7 +43,8 @@ impl<'a> Model for LayerRows<'a> {
 
     ghost view = { λ r. record { layer = r.layer; width = r.width; read = r.image.next } };
 
-    ghost invariant = { λ r. IsLayerRows r.layer r.width r.painting r.image r.mask r.paint r.marks.items r.admitted.items };
+    ghost invariant = { λ r. IsLayerRows r.layer r.width r.painting r.image r.mask r.paint
+        r.marks.items r.admitted.items };
 }
 
 impl<'a> LayerRows<'a> {
@@ -104,7 +105,8 @@ impl<'a> LayerRows<'a> {
     pub(crate) fn paint(&mut self, y: u32, into: &mut InkRow)
         requires width { HasWidth into.old self.old.width }
         requires read { self.old.read ≤ row_at self.old.layer y + 1 }
-        ensures inks { (x : ℕ) → x < self.old.width → inks_at into.new x ≡ painted self.old.layer x y (inks_at into.old x) }
+        ensures inks { (x : ℕ) → x < self.old.width
+            → inks_at into.new x ≡ painted self.old.layer x y (inks_at into.old x) }
         ensures width { HasWidth into.new self.old.width }
         ensures layer { self.new ≡ record self.old { read = self.new.read } }
         ensures read { self.new.read ≤ row_at self.old.layer y + 1 }
@@ -163,7 +165,8 @@ impl<'a> LayerRows<'a> {
     }
 }
 
-// The paint of the row that was read last, at each column of the page. What is the same in each row stands there already.
+// The paint of the row that was read last, at each column of the page.
+// What is the same in each row stands there already.
 fn paint_row(art: &Art<'_>, image: &RowReader<'_>, first: u32, scale: u32, paint: &mut InkRow)
     requires image { IsOf art.now image.now }
     requires read { 0 < image.now.next }

@@ -1,4 +1,5 @@
-// The layers of a page laid in order, row by row in five inks. After a page is open no call takes memory, and none fails.
+// The layers of a page laid in order, row by row in five inks. After a page is open no call takes memory,
+// and none fails.
 #![tactic(auto)]
 
 mod admit;

@@ -41,7 +41,9 @@ fn keep_ones(row: &[u8], first: usize, into: &mut [u8])
 fn keep_zeros(row: &[u8], first: usize, into: &mut [u8])
     requires small { first + length into.old ≤ 65535 }
     requires within { first + length into.old ≤ 8 * length row.now }
-    ensures { IsMarked (λ j. not (bit_at row.now (first + j))) (slice_index into.old) (length into.old) into.new }
+    ensures { IsMarked
+        (λ j. not (bit_at row.now (first + j)))
+        (slice_index into.old) (length into.old) into.new }
 {
     for j in 0..into.len() {
         let x = first + j;

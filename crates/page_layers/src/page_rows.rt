@@ -13,7 +13,8 @@ use pr_base::NoMemory;
 use std::alloc::Global;
 use std::marker::Model;
 
-/// A page that gives its rows from the top. Contracts see its layers, its sides in pixels and the number of the next row.
+/// A page that gives its rows from the top. Contracts see its layers,
+/// its sides in pixels and the number of the next row.
 #[derive(Debug, Drop)]
 pub struct PageRows<'a> {
     layers: Vec<LayerRows<'a>>,
@@ -30,7 +31,8 @@ impl<'a> Model for PageRows<'a> {
 
     ghost use Rattle.page_layers.specs.Rows.{IsPage, layers_of};
 
-    ghost view = { λ p. record { layers = layers_of p.layers.items; width = p.width; height = p.height; next = p.next } };
+    ghost view = { λ p.
+        record { layers = layers_of p.layers.items; width = p.width; height = p.height; next = p.next } };
 
     ghost invariant = { λ p. IsPage p.layers.items p.width p.height p.next };
 }
@@ -51,8 +53,8 @@ impl<'a> PageRows<'a> {
         requires layers { All IsLayer layers.items }
         requires width { (1 ≤ width) × (width ≤ 65535) }
         requires height { (1 ≤ height) × (height ≤ 65535) }
-        ensures { IfOk result
-            (λ page. page ≡ record { layers = layers.entry.items; width = width; height = height; next = 0 }) }
+        ensures { IfOk result (λ page. page ≡
+            record { layers = layers.entry.items; width = width; height = height; next = 0 }) }
     {
         let mut rows = Vec::with_capacity(alloc, layers.len())?;
         for layer in layers {
@@ -77,7 +79,8 @@ impl<'a> PageRows<'a> {
     pub fn next(&mut self, into: &mut InkRow)
         requires left { self.old.next < self.old.height }
         requires width { HasWidth into.old self.old.width }
-        ensures inks { (x : ℕ) → x < self.old.width → inks_at into.new x ≡ ink_at self.old.layers x self.old.next }
+        ensures inks { (x : ℕ) → x < self.old.width
+            → inks_at into.new x ≡ ink_at self.old.layers x self.old.next }
         ensures width { HasWidth into.new self.old.width }
         ensures page { self.new ≡ record self.old { next = self.old.next + 1 } }
     {
@@ -95,8 +98,8 @@ impl<'a> PageRows<'a> {
         self.next += 1;
     }
 
-    /// A row was given since the start, and the next one equals it. It is told where every layer shows one row of its
-    /// image on both, or nothing.
+    /// A row was given since the start, and the next one equals it. It is told where every layer shows one
+    /// row of its image on both, or nothing.
     pub fn repeats(&self) -> bool
         ensures given { IsTrue result → 0 < self.now.next }
         ensures equal { IsTrue result
@@ -123,7 +126,8 @@ fn paint_layers(layers: &mut [LayerRows<'_>], y: u32, into: &mut InkRow)
     requires width { HasWidth into.old (length into.old.cyan) }
     requires ready { All (IsReady (length into.old.cyan) y) layers.old }
     ensures inks { (x : ℕ) → x < length into.old.cyan
-        → inks_at into.new x ≡ fold (λ under layer. painted layer x y under) (inks_at into.old x) (layers_of layers.old) }
+        → inks_at into.new x
+        ≡ fold (λ under layer. painted layer x y under) (inks_at into.old x) (layers_of layers.old) }
     ensures width { HasWidth into.new (length into.old.cyan) }
     ensures layers { layers_of layers.new ≡ layers_of layers.old }
     ensures ready { All (IsReady (length into.old.cyan) y) layers.new }

@@ -5,7 +5,8 @@ use std::alloc::Global;
 use std::marker::Model;
 use tif_strips::RowCursor;
 
-/// Reads the rows of an image into a room of its own. Contracts see the cursor; the row before its next is held.
+/// Reads the rows of an image into a room of its own. Contracts see the cursor;
+/// the row before its next is held.
 #[derive(Debug, Drop)]
 pub(crate) struct RowReader<'a> {
     rows: RowCursor<'a>,

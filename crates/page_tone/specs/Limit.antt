@@ -5,7 +5,8 @@ use Rattle.std.specs.Prelude.{ℕ, ◌+◌, ◌-◌, ◌*◌, ◌/◌, ◌==◌,
 abbrev pub share : ℕ → ℕ → ℕ → ℕ
 share value rest colours = if colours == 0 then 0 else value * rest / colours
 
--- the inks C, M, Y, K under a limit: black is kept as far as the limit goes, and the colours share what it leaves
+-- the inks C, M, Y, K under a limit: black is kept as far as the limit goes,
+-- and the colours share what it leaves
 abbrev pub limited : ℕ → ℕ → ℕ → ℕ → ℕ → List ℕ
 limited c m y k limit =
     if nat_le (c + m + y + k) limit then c ∷ m ∷ y ∷ k ∷ [] else

@@ -4,8 +4,8 @@ ghost use Rattle.page_tone.specs.Curve.{AreValid, curve_value, line_value};
 
 use std::marker::Model;
 
-/// Whether points make a curve: there are 2 to 32, the first stands at 0 and the last at 255, and their places
-/// strictly rise.
+/// Whether points make a curve: there are 2 to 32, the first stands at 0 and the last at 255, and their
+/// places strictly rise.
 pub fn valid_points(points: &[(u8, u8)]) -> bool
     ensures { IsTrue result ↔ AreValid points.now }
 {

@@ -2,11 +2,12 @@
 ghost use Rattle.std.specs.Prelude.{◌≡◌, ◌≤◌, slice_index, sum};
 ghost use Rattle.page_tone.specs.Limit.{limited};
 
-/// The inks C, M, Y, K of a pixel, with no more than `limit` of ink together: black is kept as far as the limit
-/// goes, and the colours share what it leaves in proportion, rounded down.
+/// The inks C, M, Y, K of a pixel, with no more than `limit` of ink together: black is kept as far as the
+/// limit goes, and the colours share what it leaves in proportion, rounded down.
 pub fn limit_inks(inks: [u8; 4], limit: u16) -> [u8; 4]
     requires { limit ≤ 1020 }
-    ensures limited { result ≡ limited (slice_index inks 0) (slice_index inks 1) (slice_index inks 2) (slice_index inks 3) limit }
+    ensures limited { result
+        ≡ limited (slice_index inks 0) (slice_index inks 1) (slice_index inks 2) (slice_index inks 3) limit }
     ensures within { sum result ≤ limit }
 {
     let [c, m, y, k] = inks;

@@ -93,8 +93,8 @@ layout spot path o = do
 
 abbrev pub top_keys : List (List ℕ)
 top_keys =
-    codes "plan" ∷ codes "edition" ∷ codes "dpi" ∷ codes "page" ∷ codes "margins" ∷ codes "gutter" ∷ codes "limit"
-    ∷ codes "tiles" ∷ codes "screens"
+    codes "plan" ∷ codes "edition" ∷ codes "dpi" ∷ codes "page" ∷ codes "margins" ∷ codes "gutter"
+    ∷ codes "limit" ∷ codes "tiles" ∷ codes "screens"
     ∷ codes "curves" ∷ codes "marks" ∷ codes "pages" ∷ codes "sections" ∷ codes "zones" ∷ codes "sites" ∷ []
 
 -- the plan of its three parts

@@ -1,5 +1,5 @@
--- The words of reading: an object with these keys, what a key has, a list of so many items, a number in a range, a
--- text, a name. Each gives a value or the first fault with its path.
+-- The words of reading: an object with these keys, what a key has, a list of so many items, a number in a
+-- range, a text, a name. Each gives a value or the first fault with its path.
 use Rattle.std.specs.Prelude.{ℕ, suc, ◌+◌, ◌==◌, ◌&&◌, ◌||◌, Bool, true, false, not, if◌then◌else◌, nat_le, List, [], ◌∷◌, ◌++◌, length, Option, Some, None, Result, Ok, Err, option_and_then, is_some, decimal}
 use Rattle.std.specs.List.{list_any, position_from}
 use Rattle.std.specs.Str.{bytes_eq}

@@ -6,8 +6,8 @@ use pr_base::{NoMemory, PathText};
 use std::alloc::{AllocError, AllocFailed};
 use thiserror::Error;
 
-/// What is wrong with a plan, or that there was no memory to read it. A path leads from the top to the fault: each step
-/// is `/` and a key or an index from 0, and the path of the whole plan is empty.
+/// What is wrong with a plan, or that there was no memory to read it. A path leads from the top to the fault:
+/// each step is `/` and a key or an index from 0, and the path of the whole plan is empty.
 #[derive(Debug, PartialEq, Eq, Drop, Error)]
 pub enum PlanFault {
     /// The bytes are no JSON text.

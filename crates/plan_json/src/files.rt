@@ -1,4 +1,5 @@
-// The files of a plan: each once, in the order in which the layers name them, and the layers by their indexes.
+// The files of a plan: each once, in the order in which the layers name them,
+// and the layers by their indexes.
 ghost use Rattle.std.specs.Prelude.{◌≡◌, IfOk, OnOk, map};
 ghost use Rattle.std.specs.List.{flat_map};
 ghost use Rattle.std.specs.Str.{bytes_eq};

@@ -1,6 +1,7 @@
-// The edition plan: a JSON text is read to a plan, or refused by its first fault with its path. A plan says how large
-// pages and plates are, how inks are screened, which images lie on which page, how pages make sections, and which zone
-// and site prints which pages. Contracts see each type as the plain data of its fields, and `Plan` keeps `IsPlan`.
+// The edition plan: a JSON text is read to a plan, or refused by its first fault with its path. A plan says
+// how large pages and plates are, how inks are screened, which images lie on which page, how pages make
+// sections, and which zone and site prints which pages. Contracts see each type as the plain data of its
+// fields, and `Plan` keeps `IsPlan`.
 #![tactic(auto)]
 
 mod fault;

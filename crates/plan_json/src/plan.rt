@@ -4,8 +4,8 @@ use crate::{Mark, Page, PlanCurve, PlanSite, PlanTile, Screen, Section, Zone};
 use pr_base::PathText;
 use std::marker::Model;
 
-/// An edition plan. It keeps all that reading tests (`IsPlan`): ranges, lengths, forms of names, that nothing is named
-/// twice, and that every index is in its list. Lists of five stand in the order C, M, Y, K, S.
+/// An edition plan. It keeps all that reading tests (`IsPlan`): ranges, lengths, forms of names, that nothing
+/// is named twice, and that every index is in its list. Lists of five stand in the order C, M, Y, K, S.
 #[derive(Debug, Drop)]
 pub struct Plan {
     pub edition: PathText,

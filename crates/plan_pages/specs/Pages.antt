@@ -21,7 +21,8 @@ replacements plan site =
 abbrev pub is_for : ℕ → ℕ → ReplaceData → Bool
 is_for section page item = item.section == section && item.page == page
 
--- the page that a site prints at a place of a section: the one that its zone names for it, else the section's own
+-- the page that a site prints at a place of a section: the one that its zone names for it,
+-- else the section's own
 unfoldable pub chosen_page : PlanData → ℕ → ℕ → ℕ → ℕ
 chosen_page plan site section page =
     let own = slice_index (section_pages plan section) (page - 1) in

@@ -10,8 +10,8 @@ use crate::span::set_span;
 use plan_json::{Mark, Plan};
 use pr_base::Ink;
 
-/// Sets the pixels of row `y` of a plate that a mark of this ink covers, and leaves the others. `bits` is a row of the
-/// plate, eight pixels a byte; its padding stays.
+/// Sets the pixels of row `y` of a plate that a mark of this ink covers, and leaves the others. `bits` is a
+/// row of the plate, eight pixels a byte; its padding stays.
 pub fn mark_row(plan: &Plan, ink: Ink, y: u32, bits: &mut [u8])
     requires y { y < plate_height plan.now }
     requires row { length bits.old ≡ row_size (plate_width plan.now) }

@@ -2,8 +2,8 @@
 ghost use Rattle.std.specs.Prelude.{◌≡◌, ◌≤◌, ◌*◌, ◌%◌};
 ghost use Rattle.plan_pages.specs.Pages.{pair_of};
 
-/// The left and the right page of pair `j` in a section of `n` pages, both from 1: pages `j` and `n + 1 - j`, the even
-/// one left.
+/// The left and the right page of pair `j` in a section of `n` pages, both from 1: pages `j` and `n + 1 - j`,
+/// the even one left.
 pub fn pair(n: u32, j: u32) -> (u32, u32)
     requires even { n % 2 ≡ 0 }
     requires first { 1 ≤ j }

@@ -5,7 +5,8 @@ ghost use Rattle.plan_pages.specs.Plate.{shape_of_plate};
 
 use plan_json::Plan;
 
-/// A plate in pixels: its sides, where its two pages begin from the left, and how far below the top both begin.
+/// A plate in pixels: its sides, where its two pages begin from the left,
+/// and how far below the top both begin.
 #[derive(Clone, Copy, Debug, PartialEq, Eq)]
 pub struct PlateShape {
     pub width: u32,

@@ -7,8 +7,8 @@ ghost use Rattle.plan_json.specs.Plan.{IsPlan};
 
 use plan_json::{Plan, Replace};
 
-/// The index of the page that `site` prints as page `page`, from 1, of `section`: the one that the site's zone names
-/// for this place, else the section's own.
+/// The index of the page that `site` prints as page `page`, from 1, of `section`: the one that the site's
+/// zone names for this place, else the section's own.
 #[tactic(auto, unfolding(crate::specs::Pages::chosen_page))]
 pub fn chosen(plan: &Plan, site: usize, section: usize, page: u32) -> usize
     requires site { site < length plan.now.sites }

@@ -51,7 +51,8 @@ pub record IsGroupAt (rows : RowPlanData) (n index : ℕ) : Type 0 where
   pub begins : rows_before rows index ≤ n
   pub ends : n < rows_before rows (index + 1)
 
--- the row plan is numbered from 0, and is no larger than that of any plan: 8 sections of 64 pairs for 16 sites
+-- the row plan is numbered from 0, and is no larger than that of any plan:
+-- 8 sections of 64 pairs for 16 sites
 pub record IsRowPlan (whole : ℕ) (rows : RowPlanData) : Type 0 where
   pub in_order : rows.groups ≡ numbered rows.height 0 rows.groups
   pub total : whole ≡ row_total rows

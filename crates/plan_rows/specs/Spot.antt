@@ -18,7 +18,8 @@ spotless_page page = record page { layers = map spotless_layer page.layers }
 abbrev pub plain_curve : CurveData
 plain_curve = (0, 0) ∷ (255, 255) ∷ []
 
--- the plan with the spot ink's screen, curve, marks and layers' values as they are where a plan says nothing of it
+-- the plan with the spot ink's screen, curve, marks and layers' values as they are
+-- where a plan says nothing of it
 unfoldable pub without_spot : PlanData → PlanData
 without_spot plan = record plan {
   screens = take 4 plan.screens ++ Bayer 8 ∷ [];

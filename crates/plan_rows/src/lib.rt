@@ -1,5 +1,5 @@
-// The order of all rows of an edition: which sites share a plate, the number of each row, which rows a site keeps, and
-// the paths and files of its plates.
+// The order of all rows of an edition: which sites share a plate, the number of each row, which rows a site
+// keeps, and the paths and files of its plates.
 #![tactic(auto)]
 
 mod counts;

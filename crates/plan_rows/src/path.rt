@@ -7,8 +7,8 @@ use plan_json::Plan;
 use pr_base::{Ink, NoMemory, PathText};
 use std::alloc::{AllocError, Global};
 
-/// The path of a group's plate at a site, below the folder `out`: the names of site, edition and section, the pair in
-/// three digits, and the letter of the ink.
+/// The path of a group's plate at a site, below the folder `out`: the names of site, edition and section, the
+/// pair in three digits, and the letter of the ink.
 #[tactic(auto, unfolding(crate::specs::Paths::path_of))]
 pub fn plate_path(
     alloc: Global,

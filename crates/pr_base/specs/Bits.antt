@@ -1,4 +1,5 @@
--- Pixels of one bit in bytes: eight a byte, the lower column in the higher bit (TIFF 6.0, Section 8, FillOrder 1).
+-- Pixels of one bit in bytes: eight a byte, the lower column in the higher bit
+-- (TIFF 6.0, Section 8, FillOrder 1).
 use Rattle.std.specs.Prelude.{◌≡◌, ◌<◌, ◌≤◌, ℕ, ◌+◌, ◌-◌, ◌*◌, ◌/◌, ◌%◌, ◌^◌, ◌==◌, ◌&&◌, Bool, cond, nat_lt, List, map, slice_index}
 use Rattle.std.specs.List.{range_with_len}
 use Rattle.pr_base.specs.Row.{row_size}
@@ -29,4 +30,7 @@ packed_byte bit =
 
 -- width pixels as a row of bytes (Section 3), with padding bits 0
 unfoldable pub packed_row : ℕ → (ℕ → Bool) → List ℕ
-packed_row width bit = map (λ j. packed_byte (λ k. nat_lt (8 * j + k) width && bit (8 * j + k))) (range_with_len 0 (row_size width))
+packed_row width bit =
+    map
+    (λ j. packed_byte (λ k. nat_lt (8 * j + k) width && bit (8 * j + k)))
+    (range_with_len 0 (row_size width))

@@ -4,11 +4,14 @@ use Rattle.std.specs.Io.KnownBytes.{Keeps, Appends, Consumes, IsAtEnd}
 
 -- a read gave these bytes at the front of what it wrote to, none at the end alone, or failed and gave nothing
 abbrev pub ReadsSome : Option (List ℕ) → Option (List ℕ) → Option ℕ → List ℕ → Type 0
-ReadsSome old new read into = MatchOption read (Keeps old new) (λ count. Consumes old new (take count into) × (count ≡ 0 → 0 < length into → IsAtEnd new))
+ReadsSome old new read into =
+    MatchOption read (Keeps old new)
+    (λ count. Consumes old new (take count into) × (count ≡ 0 → 0 < length into → IsAtEnd new))
 
 -- a write took this many bytes from the front of the piece, or failed and took nothing
 abbrev pub WritesSome : Option (List ℕ) → Option (List ℕ) → Option ℕ → List ℕ → Type 0
-WritesSome old new taken piece = MatchOption taken (Keeps old new) (λ count. Appends old new (take count piece))
+WritesSome old new taken piece =
+    MatchOption taken (Keeps old new) (λ count. Appends old new (take count piece))
 
 -- the writer took a front of these bytes
 abbrev pub AppendsFront : Option (List ℕ) → Option (List ℕ) → List ℕ → Type 0

@@ -10,8 +10,8 @@ use std::fs::OpenFile;
 use std::io::{Read, Seek, SeekFrom, Write};
 use std::marker::Model;
 
-/// A reader or a writer with a count of its calls that failed. The count rises here alone, by one for each failure,
-/// and stays at its last value.
+/// A reader or a writer with a count of its calls that failed. The count rises here alone, by one for each
+/// failure, and stays at its last value.
 #[derive(Drop)]
 pub struct Counted<S> {
     stream: S,
@@ -64,11 +64,12 @@ impl<S> Counted<S> {
 }
 
 impl<R: Read> Counted<R> {
-    /// Reads to the front of `into` and answers how many bytes came, 0 at the end alone. An error of the reader is
-    /// `None`, and counted.
+    /// Reads to the front of `into` and answers how many bytes came, 0 at the end alone.
+    /// An error of the reader is `None`, and counted.
     pub fn read(&mut self, into: &mut [u8]) -> Option<usize>
         ensures within { IfSome result (λ count. count ≤ length into.new) }
-        ensures bytes { ReadsSome (R.remaining self.old.stream) (R.remaining self.new.stream) result into.new }
+        ensures bytes { ReadsSome (R.remaining self.old.stream) (R.remaining self.new.stream)
+            result into.new }
         ensures count { self.new.faults ≡ count_unless (is_some result) self.old.faults }
         ensures faults_stay { self.old.faults ≤ self.new.faults }
     {
@@ -83,12 +84,13 @@ impl<R: Read> Counted<R> {
 }
 
 impl<W: Write> Counted<W> {
-    /// Writes some of `piece`, from its front, and answers how many bytes were taken. An error of the writer, or that
-    /// it took nothing, is `None`, and counted.
+    /// Writes some of `piece`, from its front, and answers how many bytes were taken. An error of the writer,
+    /// or that it took nothing, is `None`, and counted.
     fn write(&mut self, piece: &[u8]) -> Option<usize>
         ensures some { IfSome result (λ count. 0 < count) }
         ensures within { IfSome result (λ count. count ≤ length piece.now) }
-        ensures bytes { WritesSome (W.contents self.old.stream) (W.contents self.new.stream) result piece.now }
+        ensures bytes { WritesSome (W.contents self.old.stream) (W.contents self.new.stream)
+            result piece.now }
         ensures count { self.new.faults ≡ count_unless (is_some result) self.old.faults }
         ensures faults_stay { self.old.faults ≤ self.new.faults }
     {
@@ -134,7 +136,8 @@ impl<F: Seek> Counted<F> {
     /// Goes to this place of the file. False where it failed, which is counted.
     pub fn go_to(&mut self, place: u64) -> bool
         ensures there { OnTrue result
-            (IfSome (F.stream_position self.old.stream) (λ _. F.stream_position self.new.stream ≡ Some place)) }
+            (IfSome (F.stream_position self.old.stream)
+            (λ _. F.stream_position self.new.stream ≡ Some place)) }
         ensures count { self.new.faults ≡ count_unless result self.old.faults }
         ensures faults_stay { self.old.faults ≤ self.new.faults }
     {
@@ -144,7 +147,8 @@ impl<F: Seek> Counted<F> {
 }
 
 impl<F: Write + OpenFile> Counted<F> {
-    /// Has the machine keep what was written. False where that failed, as a close of the file would, which is counted.
+    /// Has the machine keep what was written. False where that failed, as a close of the file would,
+    /// which is counted.
     pub fn keep(&mut self) -> bool
         ensures count { self.new.faults ≡ count_unless result self.old.faults }
         ensures faults_stay { self.old.faults ≤ self.new.faults }

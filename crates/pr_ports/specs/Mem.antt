@@ -43,14 +43,17 @@ Misses old new path Memory = new ≡ old
 -- the shelf after a call of load at path that gave this answer
 abbrev pub shelf_after : {T : Type 0} → ShelfState → List ℕ → Result T LoadFault → ShelfState
 shelf_after shelf path (Ok bytes) = record shelf { calls = count_after shelf.calls }
-shelf_after shelf path (Err Failed) = record shelf { calls = count_after shelf.calls; faults = count_after shelf.faults; missed = Some path }
-shelf_after shelf path (Err (TooLong limit)) = record shelf { calls = count_after shelf.calls; longs = count_after shelf.longs }
+shelf_after shelf path (Err Failed) =
+    record shelf { calls = count_after shelf.calls; faults = count_after shelf.faults; missed = Some path }
+shelf_after shelf path (Err (TooLong limit)) =
+    record shelf { calls = count_after shelf.calls; longs = count_after shelf.longs }
 shelf_after shelf path (Err Memory) = record shelf { calls = count_after shelf.calls }
 
 -- the sink after a call of put that gave this answer
 abbrev pub sink_after : {T : Type 0} → SinkState → List ℕ → Result T SinkFault → SinkState
 sink_after sink bytes (Ok done) = record sink { calls = count_after sink.calls; bytes = sink.bytes ++ bytes }
-sink_after sink bytes (Err sink_faults.Failed) = record sink { calls = count_after sink.calls; faults = count_after sink.faults }
+sink_after sink bytes (Err sink_faults.Failed) =
+    record sink { calls = count_after sink.calls; faults = count_after sink.faults }
 sink_after sink bytes (Err sink_faults.Memory) = record sink { calls = count_after sink.calls }
 
 -- what the shelf of the machine tells

@@ -16,7 +16,8 @@ IsHeldAt held path bytes = IfSome held (λ files. held_at files path ≡ Some by
 
 -- where the shelf tells its files, there are more than limit bytes at the path
 abbrev pub IsLongerAt : Option (List (List ℕ × List ℕ)) → List ℕ → ℕ → Type 0
-IsLongerAt held path limit = IfSome held (λ files. IsSomeAnd (held_at files path) (λ bytes. limit < length bytes))
+IsLongerAt held path limit =
+    IfSome held (λ files. IsSomeAnd (held_at files path) (λ bytes. limit < length bytes))
 
 -- the call answered Failed
 abbrev pub has_failed : {T : Type 0} → Result T LoadFault → Bool

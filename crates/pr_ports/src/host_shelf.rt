@@ -55,7 +55,8 @@ fn read_whole<F: Read>(
     ensures told { IfTooLong result (λ told. told ≡ limit) }
     ensures within { IfOk result (λ bytes. length bytes.items ≤ limit) }
     ensures whole { IfOk result (λ bytes. IfSome (F.remaining file.old.stream) (λ left. left ≡ bytes.items)) }
-    ensures longer { IfTooLong result (λ _. IfSome (F.remaining file.old.stream) (λ left. limit < length left)) }
+    ensures longer { IfTooLong result
+        (λ _. IfSome (F.remaining file.old.stream) (λ left. limit < length left)) }
     ensures count { file.new.faults ≡ count_unless (not (has_failed result)) file.old.faults }
 {
     let Ok(mut bytes) = Vec::with_capacity(alloc, size.min(limit) as usize) else {

@@ -28,14 +28,28 @@ pub struct MemShelf {
 impl Model for MemShelf {
     ghost Value = { ShelfState };
 
-    ghost view = { λ s. record { files = files_of s.files.items; failing = s.failing.items; calls = s.calls; faults = s.faults; longs = s.longs; missed = s.missed } };
+    ghost view = { λ s. record {
+      files = files_of s.files.items;
+      failing = s.failing.items;
+      calls = s.calls;
+      faults = s.faults;
+      longs = s.longs;
+      missed = s.missed;
+    } };
 }
 
 impl MemShelf {
     /// A shelf of these files that fails at the calls with these numbers.
     pub fn new(alloc: Global, files: Vec<(PathText, Vec<u8>)>, failing: Vec<u64>) -> MemShelf
         requires { IsDistinct (pointwise nat_eq) (map (λ file. file.0) (files_of files.items)) }
-        ensures { result ≡ record { files = files_of files.items; failing = failing.items; calls = 0; faults = 0; longs = 0; missed = None } }
+        ensures { result ≡ record {
+          files = files_of files.items;
+          failing = failing.items;
+          calls = 0;
+          faults = 0;
+          longs = 0;
+          missed = None;
+        } }
     {
         MemShelf {
             alloc,
@@ -94,13 +108,17 @@ impl Shelf for MemShelf {
         ensures longer { IfTooLong result (λ _. IsLongerAt (Some self.old.files) path.now limit) }
         ensures long_counted { IfTooLong result (λ _. Rose self.old.longs self.new.longs) }
         ensures counted { IsErrOf result LoadFault.Failed → Rose self.old.faults self.new.faults }
-        ensures missed { Some self.new.missed ≡ missed_after (has_failed result) path.now (Some self.old.missed) }
+        ensures missed { Some self.new.missed
+            ≡ missed_after (has_failed result) path.now (Some self.old.missed) }
         ensures faults_stay { self.old.faults ≤ self.new.faults }
         ensures longs_stay { self.old.longs ≤ self.new.longs }
         ensures held { Some self.new.files ≡ Some self.old.files }
 
-        ensures fails { IsErrOf result LoadFault.Failed → Contains self.old.failing self.old.calls ⊎ (held_at self.old.files path.now ≡ None) }
-        ensures fails_there { Contains self.old.failing self.old.calls ⊎ (held_at self.old.files path.now ≡ None) → IsErrOf result LoadFault.Failed ⊎ IsErrOf result LoadFault.Memory }
+        ensures fails { IsErrOf result LoadFault.Failed
+            → Contains self.old.failing self.old.calls ⊎ (held_at self.old.files path.now ≡ None) }
+        ensures fails_there { Contains self.old.failing self.old.calls
+            ⊎ (held_at self.old.files path.now ≡ None)
+            → IsErrOf result LoadFault.Failed ⊎ IsErrOf result LoadFault.Memory }
         ensures after { self.new ≡ shelf_after self.old path.now result }
     {
         let fails = self.failing.contains(&self.calls);

@@ -22,7 +22,8 @@ pub struct MemSink {
 impl Model for MemSink {
     ghost Value = { SinkState };
 
-    ghost view = { λ s. record { bytes = s.bytes.items; failing = s.failing.items; calls = s.calls; faults = s.faults } };
+    ghost view = { λ s.
+        record { bytes = s.bytes.items; failing = s.failing.items; calls = s.calls; faults = s.faults } };
 }
 
 impl MemSink {

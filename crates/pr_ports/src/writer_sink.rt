@@ -9,8 +9,8 @@ use std::io::Write;
 use std::marker::Model;
 
 /// A sink that passes each piece on to a writer, flushed, before it answers. An error of the writer, or a
-/// write that takes no byte, is a counted `Failed`. It tells what its writer tells that it holds, which the streams
-/// of the machine leave untold, and its count.
+/// write that takes no byte, is a counted `Failed`. It tells what its writer tells that it holds, which the
+/// streams of the machine leave untold, and its count.
 #[derive(Drop)]
 pub struct WriterSink<W: Write> {
     inner: Counted<W>,

@@ -17,8 +17,8 @@ use std::{fs, io};
 use tif_packbits::framed;
 
 /// The files of the machine. A plate's file is written as its rows come, and a file that stood at its path is
-/// replaced; the folders of the path are made. An error of the machine is a counted `Failed`. The partial file of a
-/// plate that isn't finished stays. It tells nothing but which slots are begun, and its count.
+/// replaced; the folders of the path are made. An error of the machine is a counted `Failed`. The partial
+/// file of a plate that isn't finished stays. It tells nothing but which slots are begun, and its count.
 #[derive(Drop)]
 pub struct HostRack<R: Files<File = File>> {
     rt: R,

@@ -15,8 +15,8 @@ use std::alloc::Global;
 use std::marker::Model;
 use tif_packbits::framed;
 
-/// A rack in memory. Calls are numbered from 0, and those whose numbers are in `failing` fail. A number past 2^64 - 1
-/// counts as 2^64 - 1.
+/// A rack in memory. Calls are numbered from 0, and those whose numbers are in `failing` fail. A number past
+/// 2^64 - 1 counts as 2^64 - 1.
 #[derive(Debug, Drop)]
 pub struct MemRack {
     alloc: Global,

@@ -10,8 +10,8 @@ use std::io::{Seek, Write};
 /// Where the place of a plate's directory stands in its file.
 const PLACE: u64 = 4;
 
-/// Writes the tail of a plate and the place `at` of its directory, and has the machine keep the file. False where the
-/// file failed.
+/// Writes the tail of a plate and the place `at` of its directory, and has the machine keep the file. False
+/// where the file failed.
 pub(crate) fn complete<F: Write + Seek + OpenFile>(
     file: &mut Counted<F>,
     tail: &[u8],

@@ -27,17 +27,17 @@ pub enum RackCall {
     Finish,
 }
 
-/// A site's rack: five slots, numbered from 0, in which plates are built, and the plates that are finished. A plate
-/// takes its rows from what was taken of a deck or a ring, and from nothing else.
+/// A site's rack: five slots, numbered from 0, in which plates are built, and the plates that are finished. A
+/// plate takes its rows from what was taken of a deck or a ring, and from nothing else.
 ///
-/// Implementers define what the rack tells. `finished` is the list of the finished plates, each with its path and its
-/// bytes, `working` what stands in each slot, `taken` the number and the source of each row, and `missed` the last
-/// call that failed, if one did, with its plate's path; each of them may be untold (`None`), `finished` and `missed`
-/// wherever `working` is. `begun` says of each slot whether it is begun, and `faults` counts the calls that answered
-/// `Failed`, up to 2^64 - 1.
+/// Implementers define what the rack tells. `finished` is the list of the finished plates, each with its path
+/// and its bytes, `working` what stands in each slot, `taken` the number and the source of each row, and
+/// `missed` the last call that failed, if one did, with its plate's path; each of them may be untold
+/// (`None`), `finished` and `missed` wherever `working` is. `begun` says of each slot whether it is begun,
+/// and `faults` counts the calls that answered `Failed`, up to 2^64 - 1.
 ///
-/// Callers learn from a refusal that `faults` rose in that call, which they can't bring about themselves, or that
-/// memory was wanted; they don't use the slot again. No call changes another slot.
+/// Callers learn from a refusal that `faults` rose in that call, which they can't bring about themselves, or
+/// that memory was wanted; they don't use the slot again. No call changes another slot.
 pub trait Rack {
     /// The path and the bytes of each finished plate, in order, where told.
     ghost finished: { Self → Option (List Plate) };
@@ -92,8 +92,9 @@ pub trait Rack {
         ensures counted { IsErrOf result RackFault.Failed → Rose (faults self.old) (faults self.new) }
         ensures faults_stay { faults self.old ≤ faults self.new };
 
-    /// Finishes the plate of a slot: `tail` stands behind its rows, and the place `at` of its directory in its bytes 4
-    /// to 7, least significant byte first. The directory stands right behind the rows, so that no row is in `tail`.
+    /// Finishes the plate of a slot: `tail` stands behind its rows, and the place `at` of its directory in
+    /// its bytes 4 to 7, least significant byte first. The directory stands right behind the rows,
+    /// so that no row is in `tail`.
     fn finish(&mut self, slot: usize, tail: &[u8], at: u32) -> Result<(), RackFault>
         requires begun { slice_get (begun self.old) slot ≡ Some true }
         requires place { IfSome (plate_in (working self.old) slot) (λ plate. IsBehind (length plate.1) at) }

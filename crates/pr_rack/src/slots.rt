@@ -9,7 +9,8 @@ use std::marker::Model;
 /// A plate: its path and its bytes.
 pub(crate) type Plate = (PathText, Vec<u8>);
 
-/// The plates that a rack builds, each in its slot. A plate has at least the eight bytes that stand before its rows.
+/// The plates that a rack builds, each in its slot.
+/// A plate has at least the eight bytes that stand before its rows.
 #[derive(Debug, Drop)]
 pub(crate) struct Slots {
     plates: [Option<Plate>; 5],

@@ -8,8 +8,8 @@ pub record PageFront : Type 0 where
   pub width : ℕ
   pub rows : List (List ℕ)
 
--- a list holds the errors of the last of these rows, which are 0 before the first row, between two places that
--- hold 0; each is small enough for the sums that are made of it
+-- a list holds the errors of the last of these rows, which are 0 before the first row, between two places
+-- that hold 0; each is small enough for the sums that are made of it
 pub record StandBelow (rows : List (List ℕ)) (errors : List ℤ) : Type 0 where
   pub room : (width : ℕ) × (length errors ≡ width + 2)
   pub margined : (k : ℕ) → number_at errors k ≡ left_of (λ x. error_above rows x (length rows)) k

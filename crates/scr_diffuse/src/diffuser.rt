@@ -9,8 +9,8 @@ use pr_base::NoMemory;
 use std::alloc::Global;
 use std::marker::Model;
 
-/// Stands at a row of a page, and holds the errors of the row above. Contracts see the front of the page: its width in
-/// pixels, and the rows of values that were handed in since the start or `restart`.
+/// Stands at a row of a page, and holds the errors of the row above. Contracts see the front of the page: its
+/// width in pixels, and the rows of values that were handed in since the start or `restart`.
 #[derive(Debug, Drop)]
 pub struct Diffuser {
     /// The error of pixel x of the row above stands at x + 1, between two places that hold 0.

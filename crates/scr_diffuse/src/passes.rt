@@ -10,8 +10,9 @@ const DOT: i16 = 255;
 /// The least number that prints.
 pub(crate) const MIDDLE: i16 = 128;
 
-/// Makes of the errors of the row above, with a margin of one place, what each pixel of a row begins with: sixteen
-/// times its value and the weighted errors above it. No sum waits for another, so many are made at a time.
+/// Makes of the errors of the row above, with a margin of one place, what each pixel of a row begins with:
+/// sixteen times its value and the weighted errors above it. No sum waits for another,
+/// so many are made at a time.
 pub(crate) fn add_above(values: &[u8], errors: &mut [i16])
     requires room { length errors.old ≡ length values.now + 2 }
     requires errors { (k : ℕ) → IsError (number_at errors.old k) }
@@ -34,7 +35,8 @@ fn sum_of(value: u8, above_right: i16, above: i16, above_left: i16) -> i16
     16 * i16::from(value) + 3 * above_right + 5 * above + above_left
 }
 
-/// Makes of what each pixel begins with its number v, from left to right: each sum waits for the one before it.
+/// Makes of what each pixel begins with its number v, from left to right:
+/// each sum waits for the one before it.
 pub(crate) fn add_left(sums: &mut [i16])
     ensures numbers { (x : ℕ) → x < length sums.old → number_at sums.new x ≡ v_from sums.old sums.new x }
     ensures range { AreWords sums.new }
@@ -46,8 +48,8 @@ pub(crate) fn add_left(sums: &mut [i16])
     }
 }
 
-/// The whole sum of a pixel, from what it begins with and the whole sum of the pixel before it. What waits for that sum
-/// is kept short: its dot is taken away while its sixteenth is multiplied.
+/// The whole sum of a pixel, from what it begins with and the whole sum of the pixel before it. What waits
+/// for that sum is kept short: its dot is taken away while its sixteenth is multiplied.
 fn sum_after(sum: i32, before: i32) -> i32
     requires word { FitsSigned w16 sum }
     requires before { IsSum before }

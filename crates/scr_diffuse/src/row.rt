@@ -7,8 +7,8 @@ ghost use Rattle.scr_diffuse.specs.Passes.{errors_in, number_at};
 use crate::bits::set_row;
 use crate::passes::{add_above, add_left, keep_errors};
 
-/// Sets the pixels of a row of values from `from` on. `errors` are those of the row above with a margin of one place on
-/// both sides, and become those of this row.
+/// Sets the pixels of a row of values from `from` on. `errors` are those of the row above with a margin of
+/// one place on both sides, and become those of this row.
 pub(crate) fn diffuse_row(values: &[u8], errors: &mut [i16], bits: &mut [u8], from: u32)
     requires room { length errors.old ≡ length values.now + 2 }
     requires errors { (k : ℕ) → IsError (number_at errors.old k) }

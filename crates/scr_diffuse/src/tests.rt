@@ -2,8 +2,8 @@
 use super::*;
 use std::test::Fail;
 
-/// A page of 61 by 17 values from a linear congruential generator. A Python program of ten lines, which keeps the
-/// errors of the whole page in a table and reads the formula as it stands, made these bits.
+/// A page of 61 by 17 values from a linear congruential generator. A Python program of ten lines, which keeps
+/// the errors of the whole page in a table and reads the formula as it stands, made these bits.
 const SEEDED: [[u8; 8]; 17] = [
     [0x71, 0x9D, 0x37, 0x9D, 0x94, 0xD5, 0x8C, 0xA8],
     [0x9B, 0x38, 0x50, 0xC7, 0x73, 0xAC, 0xB6, 0x08],
@@ -86,7 +86,8 @@ fn one_column(rt: HostRuntime) -> Result<(), Fail> {
     Ok(())
 }
 
-// The errors are -55, 75, 82, 60, -49, 68, -98, 84, 39, 12 and 104, of which seven sixteenths go to the right.
+// The errors are -55, 75, 82, 60, -49, 68, -98, 84, 39, 12 and 104,
+// of which seven sixteenths go to the right.
 #[test]
 fn one_row(rt: HostRuntime) -> Result<(), Fail> {
     let mut diffuser = Diffuser::new(rt.alloc(), 11)?;

@@ -19,4 +19,5 @@ thresholds n = map (λ i. i * 255 / n ^ 2) (range_with_len 0 (n ^ 2))
 -- a flat value prints, on one whole tile, as many dots as there are thresholds below it
 abbrev pub PrintsThresholdsBelow : ℕ → Type 0
 PrintsThresholdsBelow n =
-    (value : ℕ) → pixel_count n (λ x y. tile_bit value (threshold_at n x y)) ≡ count_by (λ t. nat_lt t value) (thresholds n)
+    (value : ℕ) → pixel_count n (λ x y. tile_bit value (threshold_at n x y))
+    ≡ count_by (λ t. nat_lt t value) (thresholds n)

@@ -7,9 +7,9 @@ use crate::Tile;
 /// The largest side that is built.
 const SIDE: usize = 16;
 
-/// The thresholds of side 16. Since a matrix stands, four times as large, in the top left quarter of the next,
-/// and thresholds are taken in proportion to the largest index, the tile of each smaller side is the corner of
-/// this one.
+/// The thresholds of side 16. Since a matrix stands, four times as large, in the top left quarter of the
+/// next, and thresholds are taken in proportion to the largest index, the tile of each smaller side is the
+/// corner of this one.
 const THRESHOLDS: [[u8; SIDE]; SIDE] = [
     [
         0, 127, 31, 159, 7, 135, 39, 167, 1, 129, 33, 161, 9, 137, 41, 169,

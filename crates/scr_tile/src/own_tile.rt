@@ -40,7 +40,9 @@ impl OwnTile {
 
     /// The thresholds of the pixels of row `y`, one for each column of the tile.
     pub(crate) fn row(&self, y: u32) -> &[u8]
-        ensures row { result.now ≡ slice_range self.now.at (y % self.now.height * self.now.width) (y % self.now.height * self.now.width + self.now.width) }
+        ensures row { result.now ≡ slice_range self.now.at
+            (y % self.now.height * self.now.width)
+            (y % self.now.height * self.now.width + self.now.width) }
         ensures width { length result.now ≡ self.now.width }
         ensures side { IsSide self.now.width }
     {

@@ -118,7 +118,8 @@ fn block_of(values: &[u8], thresholds: &[u8]) -> u64
     requires values { length values.now ≡ BLOCK }
     requires thresholds { length thresholds.now ≡ BLOCK }
     ensures { (x : ℕ) → x < BLOCK →
-        (result / 2 ^ (63 - x) % 2 == 1) ≡ tile_bit (slice_index values.now x) (slice_index thresholds.now x) }
+        (result / 2 ^ (63 - x) % 2 == 1)
+        ≡ tile_bit (slice_index values.now x) (slice_index thresholds.now x) }
 {
     let values = u8x64::from_slice(values).reverse();
     let thresholds = u8x64::from_slice(thresholds).reverse();

@@ -1,4 +1,5 @@
--- The first directory of a TIFF file, and the values of its fields (TIFF 6.0, Section 2). A file is its bytes.
+-- The first directory of a TIFF file, and the values of its fields (TIFF 6.0, Section 2).
+-- A file is its bytes.
 use Rattle.std.specs.Prelude.{ℕ, ◌+◌, ◌*◌, ◌==◌, nat_lt, nat_le, nat_eq, Bool, true, false, if◌then◌else◌, List, length, take, drop, map, slice_index, slice_range, Option, Some, None, Result, Ok, Err, option_map, option_and_then, ok_or, codes}
 use Rattle.std.specs.List.{starts_with, find}
 use Rattle.std.specs.Result.{result_err}
@@ -37,7 +38,8 @@ number_of Big width bytes = big_number width bytes
 abbrev pub header_of : List ℕ → Option Order
 header_of bytes =
     option_and_then
-    (λ order. if nat_lt (length bytes) 8 then None else if number_of order 2 (drop 2 bytes) == 42 then Some order else None)
+    (λ order. if nat_lt (length bytes) 8 then None
+    else if number_of order 2 (drop 2 bytes) == 42 then Some order else None)
     (order_of bytes)
 
 -- where the first directory begins ("Image File Header", bytes 4-7)
@@ -48,8 +50,8 @@ directory_place order bytes = number_of order 4 (drop 4 bytes)
 abbrev pub entry_count : Order → List ℕ → ℕ
 entry_count order bytes = number_of order 2 (drop (directory_place order bytes) bytes)
 
--- the entries of the first directory, each its 12 bytes; none where they or their count do not lie in the file,
--- or there is no entry
+-- the entries of the first directory, each its 12 bytes; none where they or their count do not lie in the
+-- file, or there is no entry
 abbrev pub entries_of : Order → List ℕ → Option (List (List ℕ))
 entries_of order bytes =
     let place = directory_place order bytes in
@@ -67,7 +69,9 @@ pub record FirstDirectory : Type 0 where
 abbrev pub content_in : List ℕ → Option Order → Result FirstDirectory TagFault
 content_in bytes None = Err (fault_at 0 Header)
 content_in bytes (Some order) =
-    ok_or (option_map (λ entries. record { order = order; entries = entries }) (entries_of order bytes)) (fault_at 0 Directory)
+    ok_or
+    (option_map (λ entries. record { order = order; entries = entries }) (entries_of order bytes))
+    (fault_at 0 Directory)
 
 -- the first directory of a file, or the fault of the header or of the directory
 unfoldable pub directory_of : List ℕ → Result FirstDirectory TagFault
@@ -99,10 +103,11 @@ size_of Long = 4
 
 -- the values in these bytes, one after the other
 abbrev pub values_in : Order → ValueType → ℕ → List ℕ → List ℕ
-values_in order kind count bytes = map (number_of order (size_of kind)) (first_chunks (size_of kind) count bytes)
+values_in order kind count bytes =
+    map (number_of order (size_of kind)) (first_chunks (size_of kind) count bytes)
 
--- the bytes of an entry's values, of which there are so many: at most 4 stand in the entry, from the left ("Value/Offset"),
--- and more at the offset; none where they do not lie in the file
+-- the bytes of an entry's values, of which there are so many: at most 4 stand in the entry, from the left
+-- ("Value/Offset"), and more at the offset; none where they do not lie in the file
 abbrev pub held_bytes : Order → List ℕ → List ℕ → ℕ → Option (List ℕ)
 held_bytes order bytes entry total =
     let place = number_of order 4 (drop 8 entry) in
@@ -116,13 +121,15 @@ typed_field order bytes tag entry None = Err (fault_at tag FieldType)
 typed_field order bytes tag entry (Some kind) =
     let count = number_of order 4 (drop 4 entry) in
     ok_or
-    (option_map (λ held. Some (values_in order kind count held)) (held_bytes order bytes entry (size_of kind * count)))
+    (option_map (λ held. Some (values_in order kind count held))
+    (held_bytes order bytes entry (size_of kind * count)))
     (fault_at tag FieldPlace)
 
 -- the values of an entry, if there is one
 abbrev pub field_in : Order → List ℕ → ℕ → Option (List ℕ) → Result (Option (List ℕ)) TagFault
 field_in order bytes tag None = Ok None
-field_in order bytes tag (Some entry) = typed_field order bytes tag entry (type_of (number_of order 2 (drop 2 entry)))
+field_in order bytes tag (Some entry) =
+    typed_field order bytes tag entry (type_of (number_of order 2 (drop 2 entry)))
 
 abbrev pub field_from : List ℕ → ℕ → Result FirstDirectory TagFault → Result (Option (List ℕ)) TagFault
 field_from bytes tag (Err fault) = Err fault
@@ -146,7 +153,7 @@ number_in tag i least (Ok None) = ok_or (default_of tag i) (fault_at tag Missing
 number_in tag i least (Ok (Some values)) =
     if nat_lt (length values) least then Err (fault_at tag FieldCount) else Ok (slice_index values i)
 
--- value i of the field of a tag, or its default where the file leaves the field out. A field that is present must have
--- least values.
+-- value i of the field of a tag, or its default where the file leaves the field out. A field that is present
+-- must have least values.
 unfoldable pub number_at : List ℕ → ℕ → ℕ → ℕ → Result ℕ TagFault
 number_at bytes tag i least = number_in tag i least (field_of bytes tag)

@@ -1,5 +1,5 @@
--- The table of the fields that plateroom reads: which there are, their defaults and their least counts. The names
--- and most defaults are those of TIFF 6.0, Section 8; the least counts are plateroom's own.
+-- The table of the fields that plateroom reads: which there are, their defaults and their least counts. The
+-- names and most defaults are those of TIFF 6.0, Section 8; the least counts are plateroom's own.
 use Rattle.std.specs.Prelude.{ℕ, Bool, Option, Some, None, ◌==◌, ◌%◌, ◌||◌, if◌then◌else◌}
 use Rattle.tif_dir.specs.Names.{image_width, image_length, bits_per_sample, compression, photometric_interpretation, fill_order, strip_offsets, orientation, samples_per_pixel, rows_per_strip, strip_byte_counts, planar_configuration, ink_set, dot_range}
 
@@ -8,8 +8,8 @@ abbrev pub is_listed : ℕ → Bool
 is_listed tag =
     tag == image_width || tag == image_length || tag == bits_per_sample || tag == compression
     || tag == photometric_interpretation || tag == fill_order || tag == strip_offsets || tag == orientation
-    || tag == samples_per_pixel || tag == rows_per_strip || tag == strip_byte_counts || tag == planar_configuration
-    || tag == ink_set || tag == dot_range
+    || tag == samples_per_pixel || tag == rows_per_strip || tag == strip_byte_counts
+    || tag == planar_configuration || tag == ink_set || tag == dot_range
 
 -- value i of a field that a file leaves out; none where the file must have it
 abbrev pub default_of : ℕ → ℕ → Option ℕ

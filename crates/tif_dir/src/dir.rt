@@ -1,8 +1,8 @@
 // The first directory of a TIFF file (TIFF 6.0, Section 2).
 //
-// A file begins with II or MM, the number 42 in two bytes, and the place of the directory in four. The directory is
-// the number of its entries in two bytes, and then the entries: a tag in two bytes, a type in two, a count in four,
-// and four bytes with the values or their place.
+// A file begins with II or MM, the number 42 in two bytes, and the place of the directory in four. The
+// directory is the number of its entries in two bytes, and then the entries: a tag in two bytes, a type in
+// two, a count in four, and four bytes with the values or their place.
 ghost use Rattle.std.specs.Prelude.{◌≡◌, ◌<◌, ◌≤◌, ◌^◌, ◌==◌, length, IfOk, IsTrue};
 ghost use Rattle.std.specs.List.{find};
 ghost use Rattle.std.specs.Option.{option_copied};
@@ -32,7 +32,8 @@ impl<'a> Model for Dir<'a> {
 
     ghost view = { λ d. d.bytes.now };
 
-    ghost invariant = { λ d. directory_of d.bytes.now ≡ Ok (record { order = d.order; entries = d.entries.now }) };
+    ghost invariant = { λ d. directory_of d.bytes.now
+        ≡ Ok (record { order = d.order; entries = d.entries.now }) };
 }
 
 /// Finds the first directory of a file. The fault's tag is 0.

@@ -4,8 +4,8 @@ ghost use Rattle.tif_dir.specs.Table.{default_of, is_listed, least_of};
 
 use crate::tag::*;
 
-// A row for each field, in the order of the tags: its tag, the value of a field that the file leaves out, and how
-// many values a field has at least.
+// A row for each field, in the order of the tags: its tag, the value of a field that the file leaves out, and
+// how many values a field has at least.
 macro_rules! fields {
     ($cases:ident $arguments:tt) => {
         $cases! {

@@ -1,5 +1,5 @@
--- The tests of an image's fields, each over the whole file: what the field says, or its fault (TIFF 6.0, Sections 8,
--- 15 and 16; which values are taken is plateroom's own).
+-- The tests of an image's fields, each over the whole file: what the field says, or its fault (TIFF 6.0,
+-- Sections 8, 15 and 16; which values are taken is plateroom's own).
 use Rattle.std.specs.Prelude.{ℕ, ◌==◌, ◌%◌, ◌&&◌, ◌||◌, nat_lt, nat_le, Bool, true, false, if◌then◌else◌, List, [], ◌∷◌, length, take, replicate, Option, Some, None, Result, Ok, Err}
 use Rattle.std.specs.List.{enumerate_from, find, list_all, list_any}
 use Rattle.pr_base.specs.declared.fault.TagFault.{TagFault}

@@ -46,7 +46,8 @@ image_fields usage bytes = do
     rows_per_strip = rows;
   })
 
--- the shape of an image of this use, or the first fault of all: of the header and the directory, of a field, of a strip
+-- the shape of an image of this use, or the first fault of all: of the header and the directory, of a field,
+-- of a strip
 unfoldable pub shape_of : Usage → List ℕ → Result Shape TagFault
 shape_of usage bytes = do
   no_fault (dir_fault bytes)
@@ -96,8 +97,8 @@ sample_at shape bytes x y i = slice_index (image_row shape bytes y) (4 * x + i)
 abbrev pub photometric : List ℕ → ℕ
 photometric bytes = result_unwrap_or (number_at bytes tag.photometric_interpretation 0 1) 0
 
--- pixel x of a row is marked: its bit is 1 where zero is white (0) and in a mask (4), and 0 where zero is black (1)
--- (Section 8)
+-- pixel x of a row is marked: its bit is 1 where zero is white (0) and in a mask (4), and 0 where zero is
+-- black (1) (Section 8)
 abbrev pub is_marked : ℕ → List ℕ → ℕ → Bool
 is_marked interpretation row x = if interpretation == 1 then not (bit_at row x) else bit_at row x
 

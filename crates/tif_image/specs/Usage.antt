@@ -14,8 +14,8 @@ abbrev pub depth_of : Usage → ℕ
 depth_of Contone = 8
 depth_of (Bilevel usage) = 1
 
--- what PhotometricInterpretation may be: 5 for separated inks (Section 16); 0 where zero is white, 1 where zero is
--- black; and 4 for a mask (Section 8)
+-- what PhotometricInterpretation may be: 5 for separated inks (Section 16); 0 where zero is white, 1 where
+-- zero is black; and 4 for a mask (Section 8)
 abbrev pub photometrics_of : Usage → List ℕ
 photometrics_of Contone = 5 ∷ []
 photometrics_of (Bilevel Line) = 0 ∷ 1 ∷ []

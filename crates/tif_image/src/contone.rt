@@ -21,7 +21,8 @@ impl<'a> Model for Contone<'a> {
 
     ghost view = { λ c. c.strips };
 
-    ghost invariant = { λ c. (c.shape ≡ c.strips.shape) × (contone_shape c.strips.bytes ≡ Ok c.strips.shape) × (IsContone c.strips.shape) };
+    ghost invariant = { λ c. (c.shape ≡ c.strips.shape)
+        × (contone_shape c.strips.bytes ≡ Ok c.strips.shape) × (IsContone c.strips.shape) };
 }
 
 impl<'a> Contone<'a> {
@@ -32,7 +33,8 @@ impl<'a> Contone<'a> {
     /// Tests the header and the directory of a file, its fields and its strips, in this order: the first
     /// test that fails is the answer.
     pub fn check(bytes: &'a [u8]) -> Result<Contone<'a>, TagFault>
-        ensures passed { IfOk result (λ image. (image.bytes ≡ bytes.now) × (contone_shape bytes.now ≡ Ok image.shape)) }
+        ensures passed { IfOk result
+            (λ image. (image.bytes ≡ bytes.now) × (contone_shape bytes.now ≡ Ok image.shape)) }
         ensures refused { IfErr result (λ fault. contone_shape bytes.now ≡ Err fault) }
     {
         let image = check_image(bytes, Usage::Contone)?;

@@ -1,5 +1,6 @@
--- Frames: packings of rows in a space of fixed length, so that rows of one length have frames of one length. Their form
--- is plateroom's own: the length of the packing in two bytes, least significant first, the packing, and zeros.
+-- Frames: packings of rows in a space of fixed length, so that rows of one length have frames of one length.
+-- Their form is plateroom's own: the length of the packing in two bytes, least significant first,
+-- the packing, and zeros.
 use Rattle.std.specs.Prelude.{◌≡◌, ℕ, ◌+◌, ◌-◌, ◌≤◌, List, ◌++◌, length, map, take, drop, replicate}
 use Rattle.std.specs.List.{All}
 use Rattle.byteorder.specs.Endian.{little_bytes, little_number}
@@ -12,7 +13,8 @@ frame_size n = 2 + packed_bound n
 -- the frame of a row
 unfoldable pub frame_of : List ℕ → List ℕ
 frame_of row =
-    (little_bytes 2 (length (packing row)) ++ packing row) ++ replicate (packed_bound (length row) - length (packing row)) 0
+    (little_bytes 2 (length (packing row)) ++ packing row)
+    ++ replicate (packed_bound (length row) - length (packing row)) 0
 
 -- the packed bytes of a frame: as many as its first two bytes tell
 unfoldable pub packed_in : List ℕ → List ℕ

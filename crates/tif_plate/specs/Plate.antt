@@ -1,6 +1,6 @@
--- The plate file: a TIFF 6.0 file of one bit a pixel whose rows are packed by PackBits, each by itself (Section 9), least
--- significant byte first. The directory stands behind the rows. The order of the parts, the entries and the rows of a
--- strip are plateroom's own choice among those that TIFF allows.
+-- The plate file: a TIFF 6.0 file of one bit a pixel whose rows are packed by PackBits, each by itself
+-- (Section 9), least significant byte first. The directory stands behind the rows. The order of the parts,
+-- the entries and the rows of a strip are plateroom's own choice among those that TIFF allows.
 use Rattle.std.specs.Prelude.{ℕ, ◌+◌, ◌-◌, ◌*◌, ◌/◌, ◌%◌, ◌≤◌, List, [], ◌∷◌, ◌++◌, length, map, max, take, drop, replicate, codes, nat_lt, if◌then◌else◌}
 use Rattle.std.specs.List.{flat_map, range_with_len}
 use Rattle.byteorder.specs.Endian.{little_bytes}
@@ -53,7 +53,9 @@ directory_place end = end + end % 2
 
 -- an entry of a directory (Section 2): tag, type, count, and value or place
 abbrev pub entry_bytes : Entry → List ℕ
-entry_bytes entry = ((little_bytes 2 entry.tag ++ little_bytes 2 entry.kind) ++ little_bytes 4 entry.count) ++ little_bytes 4 entry.value
+entry_bytes entry =
+    ((little_bytes 2 entry.tag ++ little_bytes 2 entry.kind) ++ little_bytes 4 entry.count)
+    ++ little_bytes 4 entry.value
 
 -- the types of fields (Section 2)
 abbrev pub short : ℕ
@@ -81,10 +83,20 @@ plate_entries width height end =
     ∷ record { tag = bits_per_sample; kind = short; count = 1; value = 1 }
     ∷ record { tag = compression; kind = short; count = 1; value = 32773 }
     ∷ record { tag = photometric_interpretation; kind = short; count = 1; value = 0 }
-    ∷ record { tag = strip_offsets; kind = long; count = strip_count width height; value = places_value (strip_count width height) end }
+    ∷ record {
+      tag = strip_offsets;
+      kind = long;
+      count = strip_count width height;
+      value = places_value (strip_count width height) end;
+    }
     ∷ record { tag = samples_per_pixel; kind = short; count = 1; value = 1 }
     ∷ record { tag = rows_per_strip; kind = long; count = 1; value = rows_each width }
-    ∷ record { tag = strip_byte_counts; kind = long; count = strip_count width height; value = counts_value (strip_count width height) end }
+    ∷ record {
+      tag = strip_byte_counts;
+      kind = long;
+      count = strip_count width height;
+      value = counts_value (strip_count width height) end;
+    }
     ∷ record { tag = x_resolution; kind = rational; count = 1; value = directory_place end + 150 }
     ∷ record { tag = y_resolution; kind = rational; count = 1; value = directory_place end + 158 }
     ∷ record { tag = resolution_unit; kind = short; count = 1; value = 2 }
@@ -105,11 +117,12 @@ strip_table places counts =
     if nat_lt (length counts) 2 then []
     else flat_map (little_bytes 4) places ++ flat_map (little_bytes 4) counts
 
--- all bytes behind rows that end at a place: a zero byte if that place is odd, the directory, XResolution, YResolution,
--- the table of strips
+-- all bytes behind rows that end at a place: a zero byte if that place is odd, the directory, XResolution,
+-- YResolution, the table of strips
 unfoldable pub bytes_behind : ℕ → ℕ → ℕ → ℕ → List ℕ → List ℕ → List ℕ
 bytes_behind width height dpi end places counts =
-    ((replicate (end % 2) 0 ++ plate_directory width height end) ++ (whole dpi ++ whole dpi)) ++ strip_table places counts
+    ((replicate (end % 2) 0 ++ plate_directory width height end) ++ (whole dpi ++ whole dpi))
+    ++ strip_table places counts
 
 -- the first eight bytes (Section 2): the order of bytes, 42, and the place of the directory
 abbrev pub header_bytes : ℕ → List ℕ
@@ -119,8 +132,10 @@ header_bytes place = (codes "II" ++ little_bytes 2 42) ++ little_bytes 4 place
 abbrev pub rows_end : List (List ℕ) → ℕ
 rows_end rows = 8 + length (flat_map packing rows)
 
--- a plate of this width and resolution with these rows from the top, each of row_size width bytes before it is packed
+-- a plate of this width and resolution with these rows from the top,
+-- each of row_size width bytes before it is packed
 unfoldable pub plate_file : ℕ → ℕ → List (List ℕ) → List ℕ
 plate_file width dpi rows =
     (header_bytes (directory_place (rows_end rows)) ++ flat_map packing rows)
-    ++ bytes_behind width (length rows) dpi (rows_end rows) (strip_places width rows) (strip_counts width rows)
+    ++ bytes_behind width (length rows) dpi (rows_end rows)
+    (strip_places width rows) (strip_counts width rows)

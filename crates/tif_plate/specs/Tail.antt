@@ -1,4 +1,5 @@
--- The parts of a plate that are written before and behind its packed rows, by the byte counts of its strips alone.
+-- The parts of a plate that are written before and behind its packed rows,
+-- by the byte counts of its strips alone.
 use Rattle.std.specs.Prelude.{ℕ, ◌+◌, ◌*◌, ◌≤◌, List, length, map, sum, take}
 use Rattle.std.specs.List.{range_with_len}
 use Rattle.tif_plate.specs.Plate.{strip_count, size_of, directory_place, bytes_behind, header_bytes}

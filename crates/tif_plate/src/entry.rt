@@ -42,8 +42,8 @@ struct Entry {
     value: u32,
 }
 
-/// Writes the directory of a plate whose rows end at `end`, and gives the place behind it: its count, the twelve
-/// entries, and that no directory follows.
+/// Writes the directory of a plate whose rows end at `end`, and gives the place behind it: its count, the
+/// twelve entries, and that no directory follows.
 #[tactic(auto, unfolding(crate::specs::Plate::plate_directory))]
 pub(crate) fn put_directory(into: &mut [u8], at: usize, width: u32, height: u32, end: u32) -> usize
     requires width { IsSide width }
@@ -112,7 +112,8 @@ fn entries(width: u32, height: u32, end: u32) -> [Entry; 12]
     ]
 }
 
-/// The value of StripOffsets: the place of the one strip, or that of the table behind the directory at `place`.
+/// The value of StripOffsets: the place of the one strip,
+/// or that of the table behind the directory at `place`.
 fn places_value(strips: u32, place: u32) -> u32
     requires { place ≤ 4000000009 }
     ensures { result ≡ (if nat_lt strips 2 then 8 else place + 166) }
@@ -124,8 +125,8 @@ fn places_value(strips: u32, place: u32) -> u32
     }
 }
 
-/// The value of StripByteCounts: the bytes of the one strip, which ends at `end`, or the place of the counts in the
-/// table.
+/// The value of StripByteCounts: the bytes of the one strip, which ends at `end`, or the place of the counts
+/// in the table.
 fn counts_value(strips: u32, place: u32, end: u32) -> u32
     requires strips { strips ≤ 65535 }
     requires rows { 8 ≤ end }

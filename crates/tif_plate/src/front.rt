@@ -5,7 +5,8 @@
 ghost use Rattle.std.specs.Prelude.{◌≡◌};
 ghost use Rattle.tif_plate.specs.Tail.{front_bytes};
 
-/// The first eight bytes of a plate, with 0 in bytes 4 to 7. There the place of the directory is to stand at the end.
+/// The first eight bytes of a plate, with 0 in bytes 4 to 7.
+/// There the place of the directory is to stand at the end.
 pub fn plate_front() -> [u8; 8]
     ensures { result ≡ front_bytes }
 {

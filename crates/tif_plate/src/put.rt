@@ -1,5 +1,5 @@
-// Numbers written into a buffer one after the other, least significant byte first. Each call gives the place behind what
-// it wrote.
+// Numbers written into a buffer one after the other, least significant byte first. Each call gives the place
+// behind what it wrote.
 ghost use Rattle.std.specs.Prelude.{◌≡◌, ◌+◌, ◌*◌, ◌≤◌, ◌++◌, length, replicate};
 ghost use Rattle.std.specs.List.{flat_map};
 ghost use Rattle.byteorder.specs.Endian.{little_bytes};

@@ -5,8 +5,8 @@ ghost use Rattle.tif_plate.specs.Plate.{IsSide, rows_each, strip_count};
 
 use pr_base::row_bytes;
 
-/// The bytes that the rows of a strip have at most before they are packed, unless one row is longer (TIFF 6.0,
-/// Section 3, advises 8 kilobytes).
+/// The bytes that the rows of a strip have at most before they are packed, unless one row is longer
+/// (TIFF 6.0, Section 3, advises 8 kilobytes).
 const STRIP_BYTES: u32 = 8192;
 
 /// The rows of a strip of a plate that is `width` pixels wide, the last strip aside.

@@ -23,8 +23,8 @@ pub struct Tail {
     pub at: u32,
 }
 
-/// Writes all bytes behind the rows of a plate to the front of `into`. `counts` holds the bytes of each strip's packed
-/// rows. Says how many bytes it wrote, and what is to stand in bytes 4 to 7 of the plate.
+/// Writes all bytes behind the rows of a plate to the front of `into`. `counts` holds the bytes of each
+/// strip's packed rows. Says how many bytes it wrote, and what is to stand in bytes 4 to 7 of the plate.
 pub fn plate_tail(width: u32, height: u32, dpi: u32, counts: &[u32], into: &mut [u8]) -> Tail
     requires width { IsSide width }
     requires height { IsSide height }

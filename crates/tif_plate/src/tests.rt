@@ -1,5 +1,5 @@
-// The tails of the smallest plate, of one whose rows end at an odd place, and of one of two strips. The bytes are those
-// of hex dumps.
+// The tails of the smallest plate, of one whose rows end at an odd place, and of one of two strips. The bytes
+// are those of hex dumps.
 use crate::{Tail, plate_front, plate_tail, rows_per_strip, strips};
 
 // Behind the packed row 00 90 of a plate of 4 by 1 pixels at 1200 dpi.

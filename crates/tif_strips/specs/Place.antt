@@ -11,8 +11,8 @@ pub record HoldsRows (image : Image) (plane y rows : ℕ) (samples : List ℕ) :
       → take (plane_row_length image.shape) (drop (k * plane_row_length image.shape) samples)
       ≡ plane_row image.shape image.bytes plane (y + k)
 
--- the image has passed its tests; the rows up to the end of the strip that was begun last, or of the image, are still to
--- come, and in each plane they come first among the samples ahead
+-- the image has passed its tests; the rows up to the end of the strip that was begun last, or of the image,
+-- are still to come, and in each plane they come first among the samples ahead
 pub record IsPlace (image : Image) (place : Place) : Type 0 where
   pub striped : IsStriped image.shape
   pub passed : strip_fault image.shape image.bytes ≡ None

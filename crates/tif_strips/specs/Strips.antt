@@ -1,5 +1,5 @@
--- Strips and rows (TIFF 6.0, Section 3 "Physical Dimensions" and "RowsPerStrip", Section 8 "PlanarConfiguration",
--- Section 16 "CMYK Images").
+-- Strips and rows (TIFF 6.0, Section 3 "Physical Dimensions" and "RowsPerStrip", Section 8
+-- "PlanarConfiguration", Section 16 "CMYK Images").
 use Rattle.std.specs.Prelude.{ℕ, ◌+◌, ◌-◌, ◌*◌, ◌/◌, ◌%◌, ◌≤◌, min, ◌==◌, ◌&&◌, ◌||◌, nat_lt, if◌then◌else◌, IsTrue, Bool, List, [], ◌∷◌, length, take, drop, map, slice_index, Option, Some, None}
 use Rattle.std.specs.Result.{result_err, result_unwrap_or}
 use Rattle.std.specs.List.{flat_map, range_with_len}
@@ -67,7 +67,8 @@ unfoldable pub stored_bytes : Shape → List ℕ → ℕ → List ℕ
 stored_bytes shape bytes strip =
     take (strip_size shape bytes strip) (drop (strip_offset shape bytes strip) bytes)
 
--- the samples in stored bytes: their expansion where they are packed (Section 9), one stream for the whole strip
+-- the samples in stored bytes: their expansion where they are packed (Section 9),
+-- one stream for the whole strip
 abbrev pub samples_in : Bool → List ℕ → List ℕ
 samples_in packed stored = if packed then expansion stored else stored
 
@@ -87,7 +88,8 @@ unfoldable pub fault_of_strip : Shape → List ℕ → ℕ → Option TagFault
 fault_of_strip shape bytes strip =
     if nat_lt (length bytes) (strip_offset shape bytes strip + strip_size shape bytes strip)
     then Some (fault_at strip_offsets StripPlace)
-    else if nat_lt (length (samples_in shape.packed (stored_bytes shape bytes strip))) (needed_length shape strip)
+    else if nat_lt (length (samples_in shape.packed (stored_bytes shape bytes strip)))
+    (needed_length shape strip)
     then Some (fault_at strip_offsets Short)
     else None
 

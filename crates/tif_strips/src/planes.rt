@@ -31,7 +31,8 @@ impl<'a> Planes<'a> {
         requires room { length into.old ≡ length (aheads_of self.old) * row }
         requires enough { (plane : ℕ) → plane < length (aheads_of self.old)
             → row ≤ length (slice_index_or (aheads_of self.old) plane []) }
-        ensures one { length (aheads_of self.old) ≡ 1 → into.new ≡ take row (slice_index_or (aheads_of self.old) 0 []) }
+        ensures one { length (aheads_of self.old) ≡ 1
+            → into.new ≡ take row (slice_index_or (aheads_of self.old) 0 []) }
         ensures four { length (aheads_of self.old) ≢ 1 → HasPixels (aheads_of self.old) row into.new }
         ensures left { aheads_of self.new ≡ map (drop row) (aheads_of self.old) }
     {

@@ -3,8 +3,8 @@ use crate::place::Place;
 use crate::strip_table::StripTable;
 use std::marker::Model;
 
-/// A cursor over the rows of an image. Contracts see the image's shape, the bytes of its file and the number of the
-/// next row.
+/// A cursor over the rows of an image. Contracts see the image's shape, the bytes of its file and the number
+/// of the next row.
 #[derive(Debug, Drop)]
 pub struct RowCursor<'a> {
     table: StripTable<'a>,
@@ -45,7 +45,8 @@ impl<'a> RowCursor<'a> {
         self.table.shape().length - self.place.next
     }
 
-    /// Gives the next row: for four samples pixel by pixel cyan, magenta, yellow and black, and for one as it is stored.
+    /// Gives the next row: for four samples pixel by pixel cyan, magenta, yellow and black,
+    /// and for one as it is stored.
     pub fn next_row(&mut self, into: &mut [u8])
         requires left { self.old.next < self.old.shape.length }
         requires room { length into.old ≡ row_length self.old.shape }

@@ -4,8 +4,8 @@ ghost use Rattle.tif_strips.specs.Strips.{IsStriped, needed_length, plane_row_le
 
 use pr_base::row_bytes;
 
-/// The shape of an image. Width and length are in pixels. A contone image has four samples of eight bits a pixel, a
-/// bilevel one has one sample of one bit.
+/// The shape of an image. Width and length are in pixels. A contone image has four samples of eight bits a
+/// pixel, a bilevel one has one sample of one bit.
 #[derive(Clone, Copy, Debug, PartialEq, Eq)]
 pub struct Shape {
     /// ImageWidth (256).

@@ -104,7 +104,8 @@ impl<'a> StripTable<'a> {
     fn samples(&self, i: u32) -> Samples<'a>
         requires passed { strip_fault self.now.shape self.now.bytes ≡ None }
         requires within { i < strip_count self.now.shape }
-        ensures { ahead_of result ≡ samples_in self.now.shape.packed (stored_bytes self.now.shape self.now.bytes i) }
+        ensures { ahead_of result
+            ≡ samples_in self.now.shape.packed (stored_bytes self.now.shape self.now.bytes i) }
     {
         let Some(stored) = self.strip(i).stored(self.bytes) else {
             unreachable!()

@@ -10,8 +10,8 @@ use pr_base::TagFault;
 use std::marker::Model;
 use tif_dir::{Dir, read_dir};
 
-/// The strips of an image, all of which lie in the file and have the samples that they need. Contracts see the
-/// image's shape and the bytes of its file.
+/// The strips of an image, all of which lie in the file and have the samples that they need. Contracts see
+/// the image's shape and the bytes of its file.
 #[derive(Debug, Drop)]
 pub struct Strips<'a> {
     bytes: &'a [u8],
@@ -30,8 +30,8 @@ impl<'a> Model for Strips<'a> {
 }
 
 impl<'a> Strips<'a> {
-    /// Tests StripOffsets, StripByteCounts and each strip in order. `dir` is the directory of `bytes`, and `shape` has
-    /// passed the tests of the other fields.
+    /// Tests StripOffsets, StripByteCounts and each strip in order. `dir` is the directory of `bytes`, and
+    /// `shape` has passed the tests of the other fields.
     pub fn check(bytes: &'a [u8], dir: &Dir<'a>, shape: Shape) -> Result<Strips<'a>, TagFault>
         requires dir { dir.now ≡ bytes.now }
         requires shape { IsStriped shape }

@@ -8,7 +8,8 @@ use pr_base::Ink;
 use std::process::Abort;
 use std::test::Fail;
 
-// 4 by 2 pixels in four inks, uncompressed, least significant byte first: sample i of pixel x of row y is 10 y + x + 40 i + 1.
+// 4 by 2 pixels in four inks, uncompressed, least significant byte first:
+// sample i of pixel x of row y is 10 y + x + 40 i + 1.
 pub const CONTONE: [u8; 162] = [
     0x49, 0x49, 0x2a, 0x00, 0x08, 0x00, 0x00, 0x00, 0x09, 0x00, // 8: nine entries
     0x00, 0x01, 0x04, 0x00, 0x01, 0x00, 0x00, 0x00, 0x04, 0x00, 0x00, 0x00, // 256 LONG 1: 4
@@ -26,7 +27,8 @@ pub const CONTONE: [u8; 162] = [
     11, 51, 91, 131, 12, 52, 92, 132, 13, 53, 93, 133, 14, 54, 94, 134, // row 1
 ];
 
-// 4 by 2 pixels of one bit, PhotometricInterpretation 0: marked are the pixels 0 and 2 of row 0, and 1 to 3 of row 1.
+// 4 by 2 pixels of one bit, PhotometricInterpretation 0: marked are the pixels 0 and 2 of row 0,
+// and 1 to 3 of row 1.
 pub const BILEVEL: [u8; 124] = [
     0x49, 0x49, 0x2a, 0x00, 0x08, 0x00, 0x00, 0x00, 0x09, 0x00, // 8: nine entries
     0x00, 0x01, 0x04, 0x00, 0x01, 0x00, 0x00, 0x00, 0x04, 0x00, 0x00, 0x00, // 10: 256 LONG 1: 4

@@ -1,4 +1,5 @@
-// A contone image of 4 by 1 pixels, what its tests answer once a byte is another, and the image written in other ways.
+// A contone image of 4 by 1 pixels, what its tests answer once a byte is another,
+// and the image written in other ways.
 use super::files::{LEAST_FIRST, MOST_FIRST, PLANES, changed};
 use crate::Contone;
 use pr_base::{FaultKind, TagFault};
