@@ -1,8 +1,9 @@
 // Row plans of plans that are read from texts.
 
-use crate::{Group, RowPlace, RowPlan};
-use plan_json::read_plan;
-use pr_base::Ink;
+use crate::{Group, RowPlace, RowPlan, plate_path};
+use plan_json::{Plan, read_plan};
+use pr_base::{Ink, NoMemory};
+use std::alloc::Global;
 use std::process::Abort;
 use std::test::Fail;
 
@@ -79,8 +80,12 @@ fn three_sites_are_parted_by_their_pages(rt: HostRuntime) -> Result<(), Fail> {
         group(1, 2, [4, 3], 4, [false, true], 22),
     ];
     assert_eq!(rt; rows.groups(), groups.as_slice());
+    shared(&rows);
     Ok(())
 }
+
+// Row plans are moved to threads and lent there.
+fn shared<T: Send + Sync>(_value: &T) {}
 
 // A group by its section, pair, pages, sites, whether it has colour and a spot, and its first row.
 fn group(
@@ -127,4 +132,47 @@ fn rows_stand_at_their_places(rt: HostRuntime) -> Result<(), Fail> {
 fn expect_place(rt: &impl Abort, rows: &RowPlan, n: u64, place: RowPlace) {
     assert!(rt; n < rows.total());
     assert_eq!(rt; rows.row_at(n), place);
+}
+
+#[test]
+fn plates_have_paths(rt: HostRuntime) -> Result<(), Fail> {
+    let plan = read_plan(rt.alloc(), THREE_SITES)?;
+    let colour = group(0, 1, [1, 4], 6, [true, false], 8);
+    expect_path(
+        &rt,
+        rt.alloc(),
+        &plan,
+        1,
+        &colour,
+        Ink::C,
+        "OUT/S1/E1-A-001-C.tif",
+    )?;
+    let spot = group(1, 2, [4, 3], 4, [false, true], 22);
+    expect_path(
+        &rt,
+        rt.alloc(),
+        &plan,
+        2,
+        &spot,
+        Ink::S,
+        "OUT/S2/E1-B-002-S.tif",
+    )?;
+    Ok(())
+}
+
+fn expect_path(
+    rt: &impl Abort,
+    alloc: Global,
+    plan: &Plan,
+    site: usize,
+    group: &Group,
+    ink: Ink,
+    path: &str,
+) -> Result<(), NoMemory> {
+    let section = group.section as usize;
+    assert!(rt; site < plan.sites.len());
+    assert!(rt; section < plan.sections.len());
+    let made = plate_path(alloc, plan, "OUT", site, group, ink)?;
+    assert_eq!(rt; made.as_str(), path);
+    Ok(())
 }
