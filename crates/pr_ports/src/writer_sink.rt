@@ -1,5 +1,5 @@
 // A sink over a writer of the machine.
-ghost use Rattle.std.specs.Prelude.{◌≡◌, ◌≤◌, IsErrOf, OnErr, OnOk, is_ok};
+ghost use Rattle.std.specs.Prelude.{◌≡◌, ◌≤◌, IfErr, IsErrOf, OnErr, OnOk, is_ok};
 ghost use Rattle.pr_base.specs.Count.{Rose, count_unless};
 ghost use Rattle.pr_ports.specs.Sink.{Grew, GrewByPrefix};
 
@@ -47,6 +47,7 @@ impl<W: Write> Sink for WriterSink<W> {
         ensures faults_stay { self.old.faults ≤ self.new.faults }
 
         ensures count { self.new.faults ≡ count_unless (is_ok result) self.old.faults }
+        ensures failed { IfErr result (λ fault. fault ≡ SinkFault.Failed) }
     {
         if self.inner.append(bytes) && self.inner.flush() {
             Ok(())
