@@ -1,1 +1,6 @@
 pub mod Decks
+pub mod Fills
+pub mod Keeps
+pub mod Looks
+pub mod Rooms
+pub mod Trial

@@ -1,5 +1,5 @@
 -- What each call of a reader asks of the table: the step keeps the rule and tells what its play says.
-use Rattle.std.proofs.Common.{◌≡◌, ℕ, ◌+◌, ◌<◌, true, false, List, [], ◌∷◌, length, get_or, set, sym, refl, ap, ◌∙◌, subst, arith}
+use Rattle.std.proofs.Common.{◌≡◌, ℕ, ◌+◌, ◌<◌, ◌≤◌, true, false, List, [], ◌∷◌, length, get_or, set, sym, refl, ap, ◌∙◌, subst, arith}
 use Rattle.std.specs.Prelude.{Some}
 use Rattle.std.proofs.lemmas.Bool.{false≢true}
 use mathlib.Core.Option.{none, some}
@@ -26,7 +26,8 @@ module _ (g : RingNumbers) (slots id : ℕ) (x : ReaderView) where
       let l = reader_in_range g s id x k at in
       let is : (reader_of g s.views x.number).seen ≡ x.seen = ap (λ (y : ReaderView). y.seen) (reader_is g s id x k at) in
       let known = (k.holds.sound.each x.number l).seen_in in
-      let head = k.holds.head_is in (
+      let head = k.holds.head_is in
+      let ring = reader_ring_is g s id x k at in (
         Reader (saw_head n x),
         keeps,
         tt,
@@ -34,6 +35,7 @@ module _ (g : RingNumbers) (slots id : ℕ) (x : ReaderView) where
         record {
           seat = refl;
           grows = omega arith;
+          within = subst (λ (z : RingNumbers). n ≤ z.total) (sym ring) k.holds.sound.head_in;
           told = λ note e.
               let t = ReaderEvents.told_here g s id x k at note e in
               let here = reader_is g s id x k at in

@@ -160,6 +160,7 @@ PlacesAt s before n after = after ≡ (Writer (placed (writer_in before.0)), res
 pub record IsSight (before : Sat) (n : ℕ) (after : Sat) : Type 0 where
   pub seat : after ≡ (Reader (saw_head n (reader_in before.0)), before.1)
   pub grows : (reader_in before.0).seen ≤ n
+  pub within : n ≤ (reader_in before.0).ring.total
   pub told : (note : HeadNoteView) → (reader_in before.0).told ≡ Some note
       → IsPastHead note (reader_in before.0).number n
 

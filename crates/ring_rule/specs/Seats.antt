@@ -1,5 +1,5 @@
 -- What holds of each seat between its calls: the token's view beside the copies of its numbers that the code reads.
-use Rattle.std.specs.Prelude.{◌≡◌, ℕ, ◌+◌, ◌<◌, Bool, true, if◌then◌else◌, List, [], ◌∷◌, None}
+use Rattle.std.specs.Prelude.{◌≡◌, ℕ, ◌+◌, ◌<◌, ◌≤◌, Bool, true, if◌then◌else◌, List, [], ◌∷◌, None}
 use Rattle.atomic_table.specs.Seated.{TableId}
 use Rattle.ring_rule.specs.declared.view.RingNumbers.{RingNumbers}
 use Rattle.ring_rule.specs.declared.view.WriterView.{WriterView}
@@ -72,4 +72,7 @@ pub record IsRingTable (g : RingNumbers) (shared : TableId) (places readers : �
   pub readers_is : g.readers ≡ readers
   pub places_is : g.places ≡ places
   pub some_place : 0 < places
+  pub few_readers : readers ≤ 17
   pub total_in : g.total < left_word
+  pub some_byte : 1 ≤ g.row_len
+  pub few_bytes : g.row_len ≤ 8258

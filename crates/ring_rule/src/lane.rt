@@ -46,10 +46,17 @@ impl Model for LaneRow {
 
 impl LaneRow {
     /// The row of this number, in the buffer of its lane.
-    pub(crate) fn new(number: u64, bytes: Vec<u8>) -> LaneRow
+    pub fn new(number: u64, bytes: Vec<u8>) -> LaneRow
         ensures { result ≡ record { number = number; bytes = bytes.items } }
     {
         LaneRow { number, bytes }
+    }
+
+    /// The row's buffer, which is that of its lane.
+    pub fn into_bytes(self) -> Vec<u8>
+        ensures { result.items ≡ self.bytes }
+    {
+        self.bytes
     }
 
     /// What lies in the lane once the row is given back.

@@ -66,6 +66,7 @@ impl<'t, D: Deal> ReaderSeat<'t, D> {
         requires { self.old.view.left ≡ false }
         ensures view { self.new ≡ record self.old { view = saw_head result self.old.view } }
         ensures grows { self.old.view.seen ≤ result }
+        ensures within { result ≤ self.old.view.ring.total }
     {
         let head = self.shared.load::<Sees>(&mut self.seat, 0);
         self.seen = head;
@@ -147,6 +148,7 @@ impl<'t, D: Deal> ReaderSeat<'t, D> {
           view = saw_head result (reader_met note.note self.old.view);
         } }
         ensures grows { self.old.view.seen ≤ result }
+        ensures within { result ≤ self.old.view.ring.total }
         ensures told { IsPastHead note.note self.old.view.number result }
     {
         self.shared

@@ -40,7 +40,7 @@ impl<'d, D: Deal> Model for RingTable<'d, D> {
     ghost invariant = { λ t.
         let g = key_ring D.rows D.size t.table.shared.key in
         IsRingTable g t.table.shared.table_id t.places t.readers × (g.total ≡ length (D.rows t.deal.now))
-        × ForSome t.seat (λ s. IsFreshSeat g t.table.shared.table_id s.table_id s.me) };
+        × (g.row_len ≡ D.size t.deal.now) × ForSome t.seat (λ s. IsFreshSeat g t.table.shared.table_id s.table_id s.me) };
 }
 
 /// The seats of a ring. The seat of reader r stands at index r.
@@ -63,6 +63,8 @@ impl<'d, D: Deal> RingTable<'d, D> {
         requires some_reader { 1 ≤ readers }
         requires few_readers { readers ≤ 17 }
         requires total { length (D.rows deal.now) ≤ 2 ^ 64 - 2 }
+        requires some_byte { 1 ≤ D.size deal.now }
+        requires few_bytes { D.size deal.now ≤ 8258 }
         ensures ring { IfOk result (λ table.
             table.ring ≡ ring_of places readers (D.rows deal.now) (D.size deal.now)) }
         ensures fresh { IfOk result (λ table. table.fresh ≡ true) }
@@ -84,6 +86,40 @@ impl<'d, D: Deal> RingTable<'d, D> {
             places,
             readers,
         })
+    }
+
+    /// The number of places of each reader.
+    pub fn places(&self) -> u32
+        ensures places { result ≡ self.now.ring.places }
+        ensures some { 1 ≤ result }
+    {
+        self.places
+    }
+
+    /// The number of readers.
+    pub fn readers(&self) -> u32
+        ensures readers { result ≡ self.now.ring.readers }
+        ensures few { result ≤ 17 }
+    {
+        self.readers
+    }
+
+    /// The number of rows of the deal.
+    pub fn total(&self) -> u64
+        ensures total { result ≡ self.now.ring.total }
+        ensures rows { length self.now.ring.rows ≡ result }
+        ensures within { result ≤ 2 ^ 64 - 2 }
+    {
+        self.deal.total()
+    }
+
+    /// The bytes of each row.
+    pub fn row_len(&self) -> usize
+        ensures row_len { result ≡ self.now.ring.row_len }
+        ensures some { 1 ≤ result }
+        ensures few { result ≤ 8258 }
+    {
+        self.deal.row_len()
     }
 
     /// Gives out the seats, all of this table. It is the first call on the table; where there is no memory they are

@@ -116,6 +116,7 @@ impl<'t, D: Deal> WriterSeat<'t, D> {
         ensures view { self.new ≡ record self.old {
           view = looked_at note.note.number result (writer_met note.note self.old.view);
         } }
+        ensures number { note.note.number < self.old.view.ring.readers }
         ensures cursor { IsCursorOf self.old.view note.note.number result }
         ensures told { IsPastNote note.note result }
     {

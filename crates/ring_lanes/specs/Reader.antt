@@ -1,0 +1,99 @@
+-- What contracts see of a reader's end of a ring, what its calls answer, and what it keeps.
+use Rattle.std.specs.Prelude.{◌≡◌, ℕ, ◌+◌, ◌<◌, ◌≤◌, Bool, true, false, not, List, Some, slice_get}
+use Rattle.atomic_table.specs.Seated.{TableId}
+use Rattle.ring_rule.specs.declared.view.RingNumbers.{RingNumbers}
+use Rattle.ring_rule.specs.Marks.{ReaderMark}
+use Rattle.ring_lanes.specs.declared.answer.NotYet.{NotYet}
+use Rattle.ring_lanes.specs.declared.numbers.Numbers.{Numbers}
+use Rattle.ring_lanes.specs.declared.source.Source.{Source}
+use Rattle.ring_lanes.specs.declared.source.Source.TheVariants.{Ring}
+use Rattle.ring_lanes.specs.Held.{HeldRow}
+use Rattle.ring_lanes.specs.Numbers.{HasNumbers}
+
+-- a reader's end of a ring
+pub record ReaderState : Type 0 where
+  -- which ring it is of, and that ring's numbers and rows
+  pub table : TableId
+  pub ring : RingNumbers
+  -- which reader it is
+  pub number : ℕ
+  -- how many rows it took and gave back
+  pub cursor : ℕ
+  pub left : Bool
+  -- the row at the cursor is out
+  pub held : Bool
+  -- the head that was loaded last, and how often one was loaded
+  pub seen : ℕ
+  pub loads : ℕ
+
+abbrev pub reader_state : ReaderMark → ReaderState
+reader_state m = record {
+  table = m.table;
+  ring = m.view.ring;
+  number = m.view.number;
+  cursor = m.view.taken;
+  left = m.view.left;
+  held = m.view.out;
+  seen = m.view.seen;
+  loads = m.view.loads;
+}
+
+-- reader r before the first call
+abbrev pub new_reader_state : TableId → RingNumbers → ℕ → ReaderState
+new_reader_state table ring r = record {
+  table = table;
+  ring = ring;
+  number = r;
+  cursor = 0;
+  left = false;
+  held = false;
+  seen = 0;
+  loads = 0;
+}
+
+-- where the reader takes its rows
+abbrev pub source_of : ReaderState → Source
+source_of x = Ring x.number x.ring.readers x.ring.places
+
+-- the row at the reader's cursor, taken by it
+pub record IsNextRow (x : ReaderState) (held : HeldRow) : Type 0 where
+  pub number : held.number ≡ x.cursor
+  pub bytes : slice_get x.ring.rows x.cursor ≡ Some held.bytes
+  pub source : held.source ≡ source_of x
+
+-- the head was loaded at most once: where a row at the cursor is known of, it wasn't; else it was, and what
+-- is found is no lower than what was known, and no more than there are rows
+pub record SeesOnce (before after : ReaderState) : Type 0 where
+  pub seen : before.cursor < before.seen → after.seen ≡ before.seen
+  pub loads : before.cursor < before.seen → after.loads ≡ before.loads
+  pub grows : before.seen ≤ before.cursor → before.seen ≤ after.seen
+  pub counted : before.seen ≤ before.cursor → after.loads ≡ before.loads + 1
+  pub within : after.seen ≤ before.ring.total
+
+-- the row at the cursor was taken
+pub record IsOpened (before after : ReaderState) (held : HeldRow) : Type 0 where
+  pub row : IsNextRow before held
+  pub ahead : before.cursor < after.seen
+  pub stays : after ≡ record before { held = true; seen = after.seen; loads = after.loads }
+
+-- a load found head at the cursor
+pub record IsNotYet (before after : ReaderState) (answer : NotYet) : Type 0 where
+  pub head : answer.head ≡ before.cursor
+  pub stays : after ≡ record before { seen = answer.head; loads = before.loads + 1 }
+
+-- what a reader's end keeps between its calls, over its copies of the numbers
+pub record IsReader (m : ReaderMark) (n : Numbers) (number cursor seen : ℕ) (joined : Bool) : Type 0 where
+  pub numbers : HasNumbers m.view.ring n
+  pub number_is : m.view.number ≡ number
+  pub number_in : number < n.readers
+  pub cursor_is : m.view.taken ≡ cursor
+  pub seen_is : m.view.seen ≡ seen
+  pub joined_is : m.view.left ≡ not joined
+  pub cursor_in : cursor ≤ seen
+  pub seen_in : seen ≤ n.total
+  -- a row that is out is one that the reader knows of
+  pub ahead : m.view.out ≡ true → cursor < seen
+
+-- seats of a ring of these numbers, in the order of readers, before the first call
+abbrev pub AreNewSeats : Numbers → List ReaderMark → Type 0
+AreNewSeats n seats = (r : ℕ) (m : ReaderMark) → slice_get seats r ≡ Some m → IsReader m n r 0 0 true
