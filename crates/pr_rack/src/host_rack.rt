@@ -1,5 +1,5 @@
 // The rack of the machine's files.
-ghost use Rattle.std.specs.Prelude.{refl, ◌≡◌, ◌≤◌, true, false, None, Some, IsErrOf, OnErr, OnOk, is_ok, is_some, length, map, slice_get, slice_set};
+ghost use Rattle.std.specs.Prelude.{refl, ◌≡◌, ◌≤◌, true, false, None, Some, IfErr, IsErrOf, OnErr, OnOk, is_ok, is_some, length, map, slice_get, slice_set};
 ghost use Rattle.tif_packbits.specs.Frame.{IsFrame};
 ghost use Rattle.pr_base.specs.Count.{Rose, count_unless};
 ghost use Rattle.pr_rack.specs.Rack.{OthersBegun, none_begun};
@@ -83,6 +83,7 @@ impl<R: Files<File = File>> Rack for HostRack<R> {
         ensures faults_stay { self.old.faults ≤ self.new.faults }
 
         ensures count { self.new.faults ≡ count_unless (is_ok result) self.old.faults }
+        ensures failed { IfErr result (λ fault. fault ≡ RackFault.Failed) }
     {
         let Ok(file) = create(&self.rt, path) else {
             self.faults = raised(self.faults);
@@ -107,6 +108,7 @@ impl<R: Files<File = File>> Rack for HostRack<R> {
         ensures faults_stay { self.old.faults ≤ self.new.faults }
 
         ensures count { self.new.faults ≡ count_unless (is_ok result) self.old.faults }
+        ensures failed { IfErr result (λ fault. fault ≡ RackFault.Failed) }
     {
         let mut file = Counted::new(self.files.take(slot), self.faults);
         let written = file.append(framed(held.bytes()));
@@ -126,6 +128,7 @@ impl<R: Files<File = File>> Rack for HostRack<R> {
         ensures faults_stay { self.old.faults ≤ self.new.faults }
 
         ensures count { self.new.faults ≡ count_unless (is_ok result) self.old.faults }
+        ensures failed { IfErr result (λ fault. fault ≡ RackFault.Failed) }
     {
         let mut file = Counted::new(self.files.take(slot), self.faults);
         let closed = complete(&mut file, tail, at);
