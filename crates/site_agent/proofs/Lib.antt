@@ -1,0 +1,19 @@
+pub mod Fronts
+pub mod Givens
+pub mod Opens
+pub mod Steps
+pub mod Holding
+pub mod Standing
+pub mod Answering
+pub mod Finding
+pub mod Placing
+pub mod Counting
+pub mod Keeping
+pub mod Jobs
+pub mod Fresh
+pub mod Making
+pub mod Runs
+pub mod Keeps
+pub mod Taken
+pub mod Going
+mod Numbered

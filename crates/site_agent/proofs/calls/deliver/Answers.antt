@@ -1,0 +1,22 @@
+use Rattle.std.proofs.Common.{◌≡◌, ◌+◌, ◌-◌, ℕ, length, IfSome, subst, arith}
+use Rattle.tif_packbits.specs.Frame.{packed_in}
+use Rattle.tif_plate.specs.Tail.{strips_end}
+use Rattle.site_agent.specs.Stands.{IsAsLong}
+use Rattle.site_agent.specs.Tells.{Tells, tells}
+use Rattle.site_agent.proofs.Answering.{stands-begun, stands-taken}
+use Rattle.site_agent.proofs.calls.deliver.Goals as goal
+
+pub end-requires-clause-stands : goal.end-requires-clause-stands
+end-requires-clause-stands g c =
+    let packed : ℕ = length (packed_in c.args.held.now.bytes) in
+    let len : ℕ = strips_end c.args.counts.now - packed in
+    let old : Tells = tells (g.R.Rack.finished c.args.rack.now) (g.R.Rack.working c.args.rack.now) (g.R.Rack.begun c.args.rack.now) (g.R.Rack.taken c.args.rack.now) in
+    let begun : Tells = tells (g.R.Rack.finished c.begin.new.rack) (g.R.Rack.working c.begin.new.rack) (g.R.Rack.begun c.begin.new.rack) (g.R.Rack.taken c.begin.new.rack) in
+    let taken : Tells = tells (g.R.Rack.finished c.take.new.rack) (g.R.Rack.working c.take.new.rack) (g.R.Rack.begun c.take.new.rack) (g.R.Rack.taken c.take.new.rack) in
+    let P : ℕ → Type 0 = λ n. IfSome (g.R.Rack.working c.take.new.rack) (IsAsLong c.args.plate.now n) in
+    let fits = c.requires.fits in
+    let whole : len + packed ≡ strips_end c.args.counts.now = omega (arith, fits) in
+    subst P whole
+    (stands-taken c.args.plate.now len c.args.held.now.number c.args.held.now.bytes c.args.held.now.source begun taken c.in_ok-take.ensures.ok
+    (stands-begun c.args.y len c.args.plate.now old begun c.in_ok-begin.ensures.ok c.requires.begun (g.met.R.Rack.begun_told c.args.rack.now) c.requires.stands
+    (λ none. let first = c.requires.first none in omega (arith, first))))

@@ -1,0 +1,15 @@
+-- A site that goes on, in a run over all rows.
+use Rattle.std.specs.Prelude.{◌≡◌, ℕ, false, List, All, length}
+use Rattle.ring_lanes.specs.declared.source.Source.{Source}
+use Rattle.pr_base.specs.Row.{row_size}
+use Rattle.site_agent.specs.Site.{SiteData}
+use Rattle.site_agent.specs.Stands.{StandsAfter}
+use Rattle.site_agent.specs.Tells.{Tells}
+
+-- of a run over these rows, taken from this source, the site has dealt with those below its next one, and its rack,
+-- which told one thing before, tells another now
+pub record IsGoing (rows : List (List ℕ)) (source : Source) (before now : Tells) (site : SiteData) : Type 0 where
+  pub on : site.ended ≡ false
+  pub total : length rows ≡ site.job.total
+  pub sides : All (λ row. length row ≡ row_size site.job.width) rows
+  pub stands : StandsAfter site.job rows source site.next before now site.counts

@@ -1,0 +1,60 @@
+-- What a site has to make: its plates, and which of all rows are theirs.
+use Rattle.std.specs.Prelude.{◌≡◌, ◌≢◌, ℕ, ◌+◌, ◌-◌, ◌*◌, ◌^◌, ◌<◌, List, length, All, AllPairs}
+use Rattle.tif_plate.specs.Plate.{IsSide, IsDpi}
+use Rattle.site_agent.specs.declared.plate.SitePlate.{SitePlate}
+
+-- the number of row y of a plate among all rows
+abbrev pub number_in : SitePlate → ℕ → ℕ
+number_in plate y = plate.first + y * plate.step
+
+-- the number of the last row of a plate
+abbrev pub last_in : ℕ → SitePlate → ℕ
+last_in height plate = number_in plate (height - 1)
+
+-- the sides of a plate in pixels, and its resolution
+pub record Shape : Type 0 where
+  pub width : ℕ
+  pub height : ℕ
+  pub dpi : ℕ
+
+-- what makes the ends of plates of one shape, in a room
+pub record TailsData : Type 0 where
+  pub shape : Shape
+  pub room : List ℕ
+
+-- the plates of a site in the order of their files, their sides in pixels and their resolution, and the number of all
+-- rows
+pub record SiteJob : Type 0 where
+  pub plates : List SitePlate
+  pub width : ℕ
+  pub height : ℕ
+  pub dpi : ℕ
+  pub total : ℕ
+
+abbrev pub shape_of : SiteJob → Shape
+shape_of job = record { width = job.width; height = job.height; dpi = job.dpi }
+
+-- a plate of this height stands before another in the order of their rows
+pub record IsBefore (height : ℕ) (plate next : SitePlate) : Type 0 where
+  pub starts : plate.first < next.first
+  pub ends : last_in height plate < last_in height next
+  -- in one slot they don't meet
+  pub apart : plate.slot ≡ next.slot → last_in height plate < next.first
+  -- no row is of both
+  pub other : (y z : ℕ) → y < height → z < height → number_in plate y ≢ number_in next z
+
+-- one of the five slots, and rows with different numbers
+pub record IsSitePlate (plate : SitePlate) : Type 0 where
+  pub slot : plate.slot < 5
+  pub step : 0 < plate.step
+
+pub record IsJob (job : SiteJob) : Type 0 where
+  pub width : IsSide job.width
+  pub height : IsSide job.height
+  pub dpi : IsDpi job.dpi
+  pub each : All IsSitePlate job.plates
+  pub order : AllPairs (IsBefore job.height) job.plates
+  pub within : All (λ plate. last_in job.height plate < job.total) job.plates
+  -- the number of a row fits 64 bits, and that of a plate 32
+  pub rows : job.total < 2 ^ 64
+  pub few : length job.plates < 2 ^ 32

@@ -1,0 +1,10 @@
+pub mod Job
+pub mod Given
+pub mod Tells
+pub mod Stands
+pub mod Refused
+pub mod Site
+pub mod Kept
+pub mod Plan
+pub mod Going
+pub mod Numbered

@@ -1,0 +1,177 @@
+// The calls by which a row of a plate comes to the rack.
+ghost use Rattle.std.specs.Prelude.{◌≡◌, ◌+◌, ◌-◌, ◌<◌, ◌≤◌, None, Some, IfErr, IfSome, OnOk, length, nat_lt, slice_get, slice_index_or, sum, true};
+ghost use Rattle.std.specs.Option.{option_map};
+ghost use Rattle.tif_packbits.specs.Frame.{IsFrame, packed_in};
+ghost use Rattle.tif_plate.specs.Plate.{strip_count};
+ghost use Rattle.tif_plate.specs.Tail.{IsPlaceable, strips_end};
+ghost use Rattle.pr_rack.specs.Rack.{IsBehind, path_in, plate_in};
+ghost use Rattle.site_agent.specs.Refused.{IsRefused, IsStopped};
+ghost use Rattle.site_agent.specs.Stands.{IsAsLong};
+ghost use Rattle.site_agent.specs.Tells.{after_row, begun_at, finished_at, tells, with_closed, with_taken};
+
+use crate::plate::SitePlate;
+use crate::tails::Tails;
+use pr_rack::{Rack, RackCall, RackFault};
+use ring_lanes::Held;
+use tif_plate::plate_front;
+
+/// A call that the rack refused, and its answer.
+#[derive(Clone, Copy, Debug)]
+pub(crate) struct Refusal {
+    pub(crate) call: RackCall,
+    pub(crate) fault: RackFault,
+}
+
+/// Begins a plate where this is its first row.
+fn begin<R: Rack>(plate: &SitePlate, y: u32, rack: &mut R) -> Result<(), Refusal>
+    requires { slice_get (R.begun rack.old) plate.now.slot ≡ Some (nat_lt 0 y) }
+    ensures ok { OnOk result (
+        tells (R.finished rack.new) (R.working rack.new) (R.begun rack.new) (R.taken rack.new)
+        ≡ begun_at y plate.now
+        (tells (R.finished rack.old) (R.working rack.old) (R.begun rack.old) (R.taken rack.old))) }
+    ensures first { IfErr result (λ _. y ≡ 0) }
+    ensures err { IfErr result (
+        IsRefused RackCall.Begin plate.now.path
+        (tells (R.finished rack.old) (R.working rack.old) (R.begun rack.old) (R.taken rack.old))
+        (tells (R.finished rack.new) (R.working rack.new) (R.begun rack.new) (R.taken rack.new))
+        (R.missed rack.old) (R.missed rack.new) (R.faults rack.old) (R.faults rack.new)) }
+    ensures missed_stay { OnOk result (R.missed rack.new ≡ R.missed rack.old) }
+    ensures faults_stay { R.faults rack.old ≤ R.faults rack.new }
+{
+    if y > 0 {
+        return Ok(());
+    }
+    match rack.begin(plate.slot, plate.path.as_str(), &plate_front()) {
+        Ok(()) => Ok(()),
+        Err(fault) => Err(Refusal {
+            call: RackCall::Begin,
+            fault,
+        }),
+    }
+}
+
+/// Gives a row to the begun plate.
+fn take<R: Rack>(plate: &SitePlate, held: &Held, rack: &mut R) -> Result<(), Refusal>
+    requires begun { slice_get (R.begun rack.old) plate.now.slot ≡ Some true }
+    requires frame { IsFrame held.now.bytes }
+    requires path { IfSome (R.working rack.old) (λ slots.
+        path_in (Some slots) plate.now.slot ≡ plate.now.path) }
+    ensures ok { OnOk result (
+        tells (R.finished rack.new) (R.working rack.new) (R.begun rack.new) (R.taken rack.new)
+        ≡ with_taken plate.now.slot held.now.number held.now.bytes held.now.source
+        (tells (R.finished rack.old) (R.working rack.old) (R.begun rack.old) (R.taken rack.old))) }
+    ensures err { IfErr result (
+        IsRefused RackCall.Row plate.now.path
+        (tells (R.finished rack.old) (R.working rack.old) (R.begun rack.old) (R.taken rack.old))
+        (tells (R.finished rack.new) (R.working rack.new) (R.begun rack.new) (R.taken rack.new))
+        (R.missed rack.old) (R.missed rack.new) (R.faults rack.old) (R.faults rack.new)) }
+    ensures missed_stay { OnOk result (R.missed rack.new ≡ R.missed rack.old) }
+    ensures faults_stay { R.faults rack.old ≤ R.faults rack.new }
+{
+    match rack.row(plate.slot, held) {
+        Ok(()) => Ok(()),
+        Err(fault) => Err(Refusal {
+            call: RackCall::Row,
+            fault,
+        }),
+    }
+}
+
+/// Finishes the begun plate by this tail and this place of its directory.
+fn finish<R: Rack>(plate: &SitePlate, tail: &[u8], at: u32, rack: &mut R) -> Result<(), Refusal>
+    requires begun { slice_get (R.begun rack.old) plate.now.slot ≡ Some true }
+    requires path { IfSome (R.working rack.old) (λ slots.
+        path_in (Some slots) plate.now.slot ≡ plate.now.path) }
+    requires place { IfSome (plate_in (R.working rack.old) plate.now.slot) (λ held.
+        IsBehind (length held.1) at) }
+    ensures ok { OnOk result (
+        tells (R.finished rack.new) (R.working rack.new) (R.begun rack.new) (R.taken rack.new)
+        ≡ with_closed plate.now.slot tail.now at
+        (tells (R.finished rack.old) (R.working rack.old) (R.begun rack.old) (R.taken rack.old))) }
+    ensures err { IfErr result (
+        IsRefused RackCall.Finish plate.now.path
+        (tells (R.finished rack.old) (R.working rack.old) (R.begun rack.old) (R.taken rack.old))
+        (tells (R.finished rack.new) (R.working rack.new) (R.begun rack.new) (R.taken rack.new))
+        (R.missed rack.old) (R.missed rack.new) (R.faults rack.old) (R.faults rack.new)) }
+    ensures missed_stay { OnOk result (R.missed rack.new ≡ R.missed rack.old) }
+    ensures faults_stay { R.faults rack.old ≤ R.faults rack.new }
+{
+    match rack.finish(plate.slot, tail, at) {
+        Ok(()) => Ok(()),
+        Err(fault) => Err(Refusal {
+            call: RackCall::Finish,
+            fault,
+        }),
+    }
+}
+
+/// Finishes the begun plate, whose strips have these byte counts, where `y` is its last row.
+fn end<R: Rack>(
+    plate: &SitePlate,
+    y: u32,
+    counts: &[u32],
+    tails: &mut Tails,
+    rack: &mut R,
+) -> Result<(), Refusal>
+    requires y { y < tails.old.shape.height }
+    requires counts { length counts.now ≡ strip_count tails.old.shape.width tails.old.shape.height }
+    requires sum { IsPlaceable counts.now }
+    requires begun { slice_get (R.begun rack.old) plate.now.slot ≡ Some true }
+    requires stands { IfSome (R.working rack.old) (IsAsLong plate.now (strips_end counts.now)) }
+    ensures ok { OnOk result (
+        tells (R.finished rack.new) (R.working rack.new) (R.begun rack.new) (R.taken rack.new)
+        ≡ finished_at tails.old.shape y plate.now counts.now
+        (tells (R.finished rack.old) (R.working rack.old) (R.begun rack.old) (R.taken rack.old))) }
+    ensures last { IfErr result (λ _. y + 1 ≡ tails.old.shape.height) }
+    ensures err { IfErr result (
+        IsRefused RackCall.Finish plate.now.path
+        (tells (R.finished rack.old) (R.working rack.old) (R.begun rack.old) (R.taken rack.old))
+        (tells (R.finished rack.new) (R.working rack.new) (R.begun rack.new) (R.taken rack.new))
+        (R.missed rack.old) (R.missed rack.new) (R.faults rack.old) (R.faults rack.new)) }
+    ensures missed_stay { OnOk result (R.missed rack.new ≡ R.missed rack.old) }
+    ensures faults_stay { R.faults rack.old ≤ R.faults rack.new }
+    ensures shape { tails.new.shape ≡ tails.old.shape }
+{
+    if y < tails.height() - 1 {
+        return Ok(());
+    }
+    let tail = tails.write(counts);
+    finish(plate, tails.bytes(tail.len), tail.at, rack)
+}
+
+/// Deals with row `y` of a plate: begins the plate where this is its first row, gives the row to it, and finishes it
+/// where this was its last. `counts` are the byte counts of its strips with this row.
+pub(crate) fn deliver<R: Rack>(
+    plate: &SitePlate,
+    y: u32,
+    counts: &[u32],
+    tails: &mut Tails,
+    held: &Held,
+    rack: &mut R,
+) -> Result<(), Refusal>
+    requires y { y < tails.old.shape.height }
+    requires counts { length counts.now ≡ strip_count tails.old.shape.width tails.old.shape.height }
+    requires sum { IsPlaceable counts.now }
+    requires frame { IsFrame held.now.bytes }
+    requires begun { slice_get (R.begun rack.old) plate.now.slot ≡ Some (nat_lt 0 y) }
+    requires fits { length (packed_in held.now.bytes) ≤ sum counts.now }
+    requires first { y ≡ 0 → sum counts.now ≡ length (packed_in held.now.bytes) }
+    requires stands { 0 < y → IfSome (R.working rack.old)
+        (IsAsLong plate.now (strips_end counts.now - length (packed_in held.now.bytes))) }
+    ensures ok { OnOk result (
+        tells (R.finished rack.new) (R.working rack.new) (R.begun rack.new) (R.taken rack.new)
+        ≡ after_row tails.old.shape plate.now y held.now.number held.now.bytes held.now.source counts.now
+        (tells (R.finished rack.old) (R.working rack.old) (R.begun rack.old) (R.taken rack.old))) }
+    ensures err { IfErr result (
+        IsStopped tails.old.shape.height y held.now.number held.now.source plate.now.path
+        (tells (R.finished rack.old) (R.working rack.old) (R.begun rack.old) (R.taken rack.old))
+        (tells (R.finished rack.new) (R.working rack.new) (R.begun rack.new) (R.taken rack.new))
+        (R.missed rack.old) (R.missed rack.new) (R.faults rack.old) (R.faults rack.new)) }
+    ensures missed_stay { OnOk result (R.missed rack.new ≡ R.missed rack.old) }
+    ensures faults_stay { R.faults rack.old ≤ R.faults rack.new }
+    ensures shape { tails.new.shape ≡ tails.old.shape }
+{
+    begin(plate, y, rack)?;
+    take(plate, held, rack)?;
+    end(plate, y, counts, tails, rack)
+}

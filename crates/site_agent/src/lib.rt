@@ -1,0 +1,17 @@
+// The turn of a print site: which of all rows of an edition are its own, and how it builds its plates of them on its
+// rack.
+#![tactic(auto)]
+
+mod calls;
+mod kept;
+mod place;
+mod plate;
+mod plates;
+mod site;
+mod slot;
+mod tails;
+#[cfg(test)]
+mod tests;
+
+pub use kept::{Kept, LeftCause};
+pub use site::Site;

@@ -1,0 +1,9 @@
+// Which row of which plate a row is.
+
+/// A row of one of a site's plates: the index of the plate, its slot, and the row's y from the top.
+#[derive(Clone, Copy, Debug)]
+pub(crate) struct Place {
+    pub(crate) plate: usize,
+    pub(crate) slot: usize,
+    pub(crate) y: u32,
+}

@@ -1,0 +1,139 @@
+// The plates of a site, as a plan gives them.
+ghost use Rattle.std.specs.Prelude.{◌≡◌, ◌+◌, ◌++◌, ◌<◌, ◌≤◌, ◌^◌, if◌then◌else◌, IfOk, OnOk, length, map, replicate};
+ghost use Rattle.plan_json.specs.Plan.{IsPlan};
+ghost use Rattle.plan_rows.specs.Inks.{has_site, ink_place};
+ghost use Rattle.plan_rows.specs.Plates.{group_plates, site_plates};
+ghost use Rattle.plan_rows.specs.Rows.{rows_of};
+ghost use Rattle.site_agent.specs.Plan.{plate_of};
+ghost use Rattle.site_agent.specs.Site.{AreFresh};
+
+use crate::plate::SitePlate;
+use crate::slot::Slot;
+use plan_json::Plan;
+use plan_rows::{Group, RowPlan, plate_path};
+use pr_base::{Ink, NoMemory};
+use std::alloc::Global;
+
+/// The number of slots.
+const SLOTS: u32 = 5;
+
+/// The plates of a site, group by group and ink by ink.
+#[tactic(auto, unfolding(plan_rows::specs::Plates::site_plates))]
+pub(crate) fn plates_of(
+    alloc: Global,
+    plan: &Plan,
+    rows: &RowPlan,
+    out: &str,
+    site: usize,
+) -> Result<Vec<SitePlate>, NoMemory>
+    requires plan { IsPlan plan.now }
+    requires rows { rows.now ≡ rows_of plan.now }
+    requires site { site < length plan.now.sites }
+    ensures { IfOk result (λ plates.
+        plates.items ≡ map (plate_of plan.now out.now site) (site_plates plan.now site)) }
+{
+    let mut plates = Vec::new(alloc);
+    let groups = rows.groups();
+    for group in groups {
+        add_printed(alloc, plan, out, site, group, &mut plates)?;
+    }
+    Ok(plates)
+}
+
+/// Whether the site prints the group.
+fn prints(group: &Group, site: usize) -> bool
+    requires { site < 16 }
+    ensures { result ≡ has_site group.now site }
+{
+    group.sites >> site & 1 == 1
+}
+
+/// Adds the plates of a group where the site prints it.
+fn add_printed(
+    alloc: Global,
+    plan: &Plan,
+    out: &str,
+    site: usize,
+    group: &Group,
+    plates: &mut Vec<SitePlate>,
+) -> Result<(), NoMemory>
+    requires site { site < length plan.now.sites }
+    requires few { site < 16 }
+    requires section { group.now.section < length plan.now.sections }
+    requires first { group.now.first < 2 ^ 32 }
+    ensures { OnOk result (
+        plates.new.items
+        ≡ (if has_site group.now site
+        then plates.old.items ++ map (plate_of plan.now out.now site) (group_plates group.now)
+        else plates.old.items)) }
+{
+    if !prints(group, site) {
+        return Ok(());
+    }
+    add_plates(alloc, plan, out, site, group, plates)
+}
+
+/// Adds the plates of a group.
+fn add_plates(
+    alloc: Global,
+    plan: &Plan,
+    out: &str,
+    site: usize,
+    group: &Group,
+    plates: &mut Vec<SitePlate>,
+) -> Result<(), NoMemory>
+    requires site { site < length plan.now.sites }
+    requires section { group.now.section < length plan.now.sections }
+    requires first { group.now.first < 2 ^ 32 }
+    ensures { OnOk result (
+        plates.new.items
+        ≡ plates.old.items ++ map (plate_of plan.now out.now site) (group_plates group.now)) }
+{
+    let inks = group.inks();
+    for i in 0..inks.len() {
+        let ink = inks[i];
+        let made = plate(alloc, plan, out, site, group, i, ink)?;
+        plates.push(made)?;
+    }
+    Ok(())
+}
+
+/// The plate of a group in the ink at this place among the group's.
+fn plate(
+    alloc: Global,
+    plan: &Plan,
+    out: &str,
+    site: usize,
+    group: &Group,
+    place: usize,
+    ink: Ink,
+) -> Result<SitePlate, NoMemory>
+    requires site { site < length plan.now.sites }
+    requires section { group.now.section < length plan.now.sections }
+    requires first { group.now.first < 2 ^ 32 }
+    requires few { place < 5 }
+    requires place { place ≡ ink_place group.now ink }
+    ensures { IfOk result (λ plate. plate ≡ plate_of plan.now out.now site (group.now, ink)) }
+{
+    let path = plate_path(alloc, plan, out, site, group, ink)?;
+    Ok(SitePlate {
+        path,
+        first: group.first + place as u64,
+        step: group.inks().len() as u32,
+        slot: ink as usize,
+    })
+}
+
+/// Empty slots, each with counts for so many strips.
+pub(crate) fn empty_slots(alloc: Global, strips: usize) -> Result<Vec<Slot>, NoMemory>
+    ensures { IfOk result (λ slots. AreFresh strips slots.items) }
+{
+    let mut slots = Vec::new(alloc);
+    for _i in 0..SLOTS {
+        slots.push(Slot {
+            rows: 0,
+            counts: vec![in alloc; 0; strips]?,
+        })?;
+    }
+    Ok(slots)
+}

@@ -1,0 +1,253 @@
+// A print site and its turn for a row.
+ghost use Rattle.std.specs.Prelude.{◌≡◌, ◌≢◌, ◌+◌, ◌/◌, ◌<◌, ◌≤◌, ℕ, List, [], Some, false, true, IfErr, IfNone, IfOk, IfSome, OnErr, OnOk, length, slice_get, slice_index_or};
+ghost use Rattle.pr_base.specs.Row.{row_size};
+ghost use Rattle.tif_packbits.specs.Frame.{IsFrame, framed_row, packed_in};
+ghost use Rattle.tif_plate.specs.Plate.{rows_each};
+ghost use Rattle.pr_base.specs.Count.{Rose};
+ghost use Rattle.site_agent.specs.declared.plate.SitePlate.{SitePlate as SitePlateData};
+ghost use Rattle.site_agent.specs.Job.{shape_of};
+ghost use Rattle.site_agent.specs.Given.{IsNoRow, is_kept};
+ghost use Rattle.site_agent.specs.Kept.{GoesOn, IfLeft, IsCauseAt, OnDone, OnEnd, OnMemory, TakenOnce, kept_of};
+ghost use Rattle.plan_rows.specs.Rows.{rows_of};
+ghost use Rattle.site_agent.specs.Plan.{fresh_site};
+ghost use Rattle.site_agent.specs.Refused.{IsStopped, taken_at};
+ghost use Rattle.site_agent.specs.Site.{IsPlaceOf};
+ghost use Rattle.site_agent.specs.Stands.{AreAsLong, AreBegun, StandsAfter};
+ghost use Rattle.site_agent.specs.Tells.{Tells, after_row, counted, tells};
+
+use crate::calls::{Refusal, deliver};
+use crate::place::Place;
+use crate::plate::SitePlate;
+use crate::plates::{empty_slots, plates_of};
+use crate::slot::{Slot, finished_with};
+use crate::tails::Tails;
+use crate::{Kept, LeftCause};
+use plan_json::Plan;
+use plan_pages::plate_shape;
+use plan_rows::RowPlan;
+use pr_base::NoMemory;
+use pr_rack::{Rack, RackFault};
+use ring_lanes::Held;
+use std::alloc::Global;
+use std::marker::Model;
+use tif_packbits::framed;
+use tif_plate::strips;
+
+/// A print site, which builds its plates row by row on its rack. It takes all memory when it is made: the paths of its
+/// plates, the counts of strips for each slot, and room for the end of a plate.
+#[derive(Debug, Drop)]
+pub struct Site {
+    plates: Vec<SitePlate>,
+    tails: Tails,
+    total: u64,
+    next: u64,
+    finished: u32,
+    slots: Vec<Slot>,
+    ended: bool,
+}
+
+impl Model for Site {
+    ghost use Rattle.std.specs.Prelude.{◌≡◌, false};
+    ghost use Rattle.site_agent.specs.Site.{IsCounting, SiteData, counts_of, job_with};
+
+    ghost Value = { SiteData };
+
+    ghost view = { λ s. record {
+      job = job_with s.plates.items s.tails.shape s.total;
+      next = s.next;
+      counts = counts_of s.slots.items;
+      ended = s.ended;
+    } };
+
+    ghost invariant = { λ s. s.ended ≡ false
+        → IsCounting (job_with s.plates.items s.tails.shape s.total) s.next s.finished s.slots.items };
+}
+
+impl Site {
+    /// The site with this index of a plan, before its first row. Its plates have paths below the folder `out`.
+    pub fn new(
+        alloc: Global,
+        job_plan: &Plan,
+        rows: &RowPlan,
+        out: &str,
+        site: usize,
+    ) -> Result<Site, NoMemory>
+        requires rows { rows.now ≡ rows_of job_plan.now }
+        requires site { site < length job_plan.now.sites }
+        ensures { IfOk result (λ made. made ≡ fresh_site job_plan.now out.now site) }
+    {
+        let dpi = job_plan.dpi;
+        let shape = plate_shape(job_plan);
+        let plates = plates_of(alloc, job_plan, rows, out, site)?;
+        let tails = Tails::of(alloc, shape.width, shape.height, dpi)?;
+        let slots = empty_slots(alloc, strips(shape.width, shape.height) as usize)?;
+        Ok(Site {
+            plates,
+            tails,
+            total: rows.total(),
+            next: 0,
+            finished: 0,
+            slots,
+            ended: false,
+        })
+    }
+
+    /// The place of the row that comes next, if it is one of the site's.
+    fn place(&self) -> Option<Place>
+        requires { self.now.ended ≡ false }
+        ensures found { IfSome result (IsPlaceOf self.now.job self.now.next) }
+        ensures none { IfNone result (IsNoRow self.now.job self.now.next) }
+    {
+        for i in self.finished as usize..self.plates.len() {
+            let plate = &self.plates[i];
+            if plate.first > self.next {
+                return None;
+            }
+            let y = self.slots[plate.slot].rows;
+            if plate.first + y as u64 * plate.step as u64 == self.next {
+                return Some(Place {
+                    plate: i,
+                    slot: plate.slot,
+                    y,
+                });
+            }
+        }
+        None
+    }
+
+    /// Deals with the row that comes next, which is this one of a plate.
+    fn give<R: Rack>(&mut self, place: Place, held: &Held, rack: &mut R) -> Result<(), Refusal>
+        requires going { self.old.ended ≡ false }
+        requires next { held.now.number ≡ self.old.next }
+        requires within { self.old.next < self.old.job.total }
+        requires place { IsPlaceOf self.old.job self.old.next place }
+        requires frame { IsFrame held.now.bytes }
+        requires row { length (framed_row held.now.bytes) ≡ row_size self.old.job.width }
+        requires begun { AreBegun self.old.job self.old.next (R.begun rack.old) }
+        requires working { IfSome (R.working rack.old)
+            (AreAsLong self.old.job self.old.next self.old.counts) }
+        ensures rack { OnOk result ((d : SitePlateData) →
+            tells (R.finished rack.new) (R.working rack.new) (R.begun rack.new) (R.taken rack.new)
+            ≡ after_row (shape_of self.old.job) (slice_index_or self.old.job.plates place.plate d) place.y
+            held.now.number held.now.bytes held.now.source (slice_index_or self.new.counts place.slot [])
+            (tells (R.finished rack.old) (R.working rack.old) (R.begun rack.old) (R.taken rack.old))) }
+        ensures own { OnOk result (
+            slice_index_or self.new.counts place.slot []
+            ≡ counted place.y (place.y / rows_each self.old.job.width) (length (packed_in held.now.bytes))
+            (slice_index_or self.old.counts place.slot [])) }
+        ensures others { OnOk result ((s : ℕ) → s < 5 → s ≢ place.slot →
+            slice_index_or self.new.counts s [] ≡ slice_index_or self.old.counts s []) }
+        ensures goes_on { OnOk result (GoesOn self.old self.new) }
+        ensures stopped { IfErr result (λ refusal. (d : SitePlateData) →
+            IsStopped self.old.job.height place.y held.now.number held.now.source
+            (slice_index_or self.old.job.plates place.plate d).path
+            (tells (R.finished rack.old) (R.working rack.old) (R.begun rack.old) (R.taken rack.old))
+            (tells (R.finished rack.new) (R.working rack.new) (R.begun rack.new) (R.taken rack.new))
+            (R.missed rack.old) (R.missed rack.new) (R.faults rack.old) (R.faults rack.new) refusal) }
+        ensures ended { OnErr result (self.new.ended ≡ true) }
+        ensures job { self.new.job ≡ self.old.job }
+        ensures faults_stay { R.faults rack.old ≤ R.faults rack.new }
+    {
+        // Ended, unless all calls succeed.
+        self.ended = true;
+        let height = self.tails.height();
+        let packed = framed(held.bytes()).len() as u32;
+        let slot = &mut self.slots[place.slot];
+        slot.count(place.y, height, self.tails.strip_of(place.y), packed);
+        let plate = &self.plates[place.plate];
+        deliver(
+            plate,
+            place.y,
+            slot.counts.as_slice(),
+            &mut self.tails,
+            held,
+            rack,
+        )?;
+        self.finished = finished_with(self.finished, place.y, height);
+        self.next += 1;
+        self.ended = false;
+        Ok(())
+    }
+
+    /// What the site answers where the rack refused a call for this row, with so many plates finished.
+    fn refused(&mut self, place: Place, plates: u32, row: u64, refusal: Refusal) -> Kept
+        requires ended { self.old.ended ≡ true }
+        requires plate { place.plate < length self.old.job.plates }
+        ensures answer { (d : SitePlateData) → result ≡ kept_of refusal.fault (record {
+          plates = plates;
+          row = row;
+          call = refusal.call;
+          path = (slice_index_or self.old.job.plates place.plate d).path;
+        }) }
+        ensures ended { self.new.ended ≡ true }
+    {
+        match refusal.fault {
+            RackFault::Failed => {
+                let plate = self.plates.swap_remove(place.plate);
+                Kept::Left(LeftCause {
+                    plates,
+                    row,
+                    call: refusal.call,
+                    path: plate.path,
+                })
+            }
+            RackFault::Memory => Kept::Memory,
+        }
+    }
+
+    /// Keeps the row that comes next if it is one of the site's: begins its plate where it is the first, gives it to
+    /// the plate, and finishes the plate where it is the last. Takes no memory of its own. After `Left` and `Memory`
+    /// the site has ended, and keeps no more rows.
+    pub fn keep<R: Rack>(&mut self, held: &Held, rack: &mut R) -> Kept
+        requires going { self.old.ended ≡ false }
+        requires next { held.now.number ≡ self.old.next }
+        requires within { self.old.next < self.old.job.total }
+        requires frame { IsFrame held.now.bytes }
+        requires row { length (framed_row held.now.bytes) ≡ row_size self.old.job.width }
+        requires begun { AreBegun self.old.job self.old.next (R.begun rack.old) }
+        requires working { IfSome (R.working rack.old)
+            (AreAsLong self.old.job self.old.next self.old.counts) }
+
+        // Done: the rows up to this one are dealt with.
+        ensures keeps { OnDone result (
+            (rows : List (List ℕ)) (before : Tells)
+            → slice_get rows self.old.next ≡ Some (framed_row held.now.bytes)
+            → StandsAfter self.old.job rows held.now.source self.old.next before
+            (tells (R.finished rack.old) (R.working rack.old) (R.begun rack.old) (R.taken rack.old))
+            self.old.counts
+            → StandsAfter self.old.job rows held.now.source (self.old.next + 1) before
+            (tells (R.finished rack.new) (R.working rack.new) (R.begun rack.new) (R.taken rack.new))
+            self.new.counts) }
+        ensures goes_on { OnDone result (GoesOn self.old self.new) }
+        // A row that isn't the site's.
+        ensures passes { is_kept self.old.job self.old.next ≡ false → result ≡ Kept.Done }
+        ensures leaves_alone { is_kept self.old.job self.old.next ≡ false → rack.new ≡ rack.old }
+
+        // Left: a call of the rack failed.
+        ensures left { IfLeft result (IsCauseAt self.old.job self.old.next) }
+        ensures left_counted { IfLeft result (λ _. Rose (R.faults rack.old) (R.faults rack.new)) }
+        ensures left_missed { IfLeft result (λ cause.
+            IfSome (R.missed rack.new) (λ last. last ≡ Some (cause.call, cause.path))) }
+        ensures left_taken { IfLeft result (λ cause.
+            R.taken rack.new ≡ taken_at cause.call self.old.next held.now.source (R.taken rack.old)) }
+        // Memory: a call of the rack wanted it, and none failed.
+        ensures memory_missed { OnMemory result (R.missed rack.new ≡ R.missed rack.old) }
+        ensures memory_taken { OnMemory result
+            (TakenOnce self.old.next held.now.source (R.taken rack.old) (R.taken rack.new)) }
+
+        // Both: no plate was finished, and the site has ended.
+        ensures finished_stay { OnEnd result (R.finished rack.new ≡ R.finished rack.old) }
+        ensures ended { OnEnd result (self.new.ended ≡ true) }
+        ensures faults_stay { R.faults rack.old ≤ R.faults rack.new }
+    {
+        let Some(place) = self.place() else {
+            self.next += 1;
+            return Kept::Done;
+        };
+        let plates = self.finished;
+        match self.give(place, held, rack) {
+            Ok(()) => Kept::Done,
+            Err(refusal) => self.refused(place, plates, held.number(), refusal),
+        }
+    }
+}
