@@ -1,0 +1,5 @@
+pub mod Bounds
+pub mod Entries
+pub mod Growing
+pub mod ImageFields
+pub mod Pieces

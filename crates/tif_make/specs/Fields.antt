@@ -1,0 +1,106 @@
+-- A TIFF file of fields (TIFF 6.0, Section 2): the header, one directory right behind it, and the values that
+-- do not fit in an entry. The order of these parts is this crate's own choice among those that TIFF allows.
+use Rattle.std.specs.Prelude.{ℕ, ◌+◌, ◌-◌, ◌*◌, ◌≤◌, nat_le, if◌then◌else◌, List, [], ◌∷◌, ◌++◌, length, replicate, codes}
+use Rattle.std.specs.List.{All, flat_map}
+use Rattle.byteorder.specs.Endian.{little_bytes, big_bytes}
+use Rattle.tif_make.specs.declared.order.Order.{Order}
+use Rattle.tif_make.specs.declared.order.Order.TheVariants.{Little, Big}
+use Rattle.tif_make.specs.declared.field.Field.{Field}
+use Rattle.tif_make.specs.declared.field.Values.{Values}
+use Rattle.tif_make.specs.declared.field.Values.TheVariants.{Short, Shorts, Long, Longs}
+
+-- ---- numbers
+
+-- a number in so many bytes: II has the least significant byte first, MM the most significant
+abbrev pub bytes_of : Order → ℕ → ℕ → List ℕ
+bytes_of Little size n = little_bytes size n
+bytes_of Big size n = big_bytes size n
+
+-- the first two bytes of a file ("Image File Header", bytes 0-1)
+abbrev pub mark_of : Order → List ℕ
+mark_of Little = codes "II"
+mark_of Big = codes "MM"
+
+-- ---- a field
+
+-- a tag, the number of a type, the bytes of a value of it, and the values
+pub record FieldData : Type 0 where
+  pub tag : ℕ
+  pub kind : ℕ
+  pub size : ℕ
+  pub values : List ℕ
+
+-- a field of numbers of 16 bits ("Types": 3 SHORT), and one of numbers of 32 bits (4 LONG)
+abbrev pub shorts : ℕ → List ℕ → FieldData
+shorts tag values = record { tag = tag; kind = 3; size = 2; values = values }
+
+abbrev pub longs : ℕ → List ℕ → FieldData
+longs tag values = record { tag = tag; kind = 4; size = 4; values = values }
+
+-- a field of the code
+abbrev pub data_of_values : ℕ → Values → FieldData
+data_of_values tag (Short n) = shorts tag (n ∷ [])
+data_of_values tag (Shorts ns) = shorts tag ns.now
+data_of_values tag (Long n) = longs tag (n ∷ [])
+data_of_values tag (Longs ns) = longs tag ns.now
+
+abbrev pub data_of : Field → FieldData
+data_of field = data_of_values field.tag field.values
+
+-- the bytes of all values
+abbrev pub total : FieldData → ℕ
+total field = field.size * length field.values
+
+abbrev pub value_bytes : Order → FieldData → List ℕ
+value_bytes order field = flat_map (bytes_of order field.size) field.values
+
+-- those of values that do not fit in the entry ("Value/Offset": at most 4 bytes do)
+abbrev pub outside_size : FieldData → ℕ
+outside_size field = if nat_le (total field) 4 then 0 else total field
+
+abbrev pub outside : Order → FieldData → List ℕ
+outside order field = if nat_le (total field) 4 then [] else value_bytes order field
+
+-- those of all fields
+abbrev pub outside_total : List FieldData → ℕ
+outside_total [] = 0
+outside_total (field ∷ fields) = outside_size field + outside_total fields
+
+-- ---- the directory
+
+-- the last four bytes of an entry: the values from the left, or where they stand
+abbrev pub value_or_place : Order → ℕ → FieldData → List ℕ
+value_or_place order place field =
+    if nat_le (total field) 4 then value_bytes order field ++ replicate (4 - total field) 0
+    else bytes_of order 4 place
+
+-- the entry of a field whose values stand at a place, if they do not fit in it ("Image File Directory")
+unfoldable pub entry : Order → ℕ → FieldData → List ℕ
+entry order place field =
+    ((bytes_of order 2 field.tag ++ bytes_of order 2 field.kind) ++ bytes_of order 4 (length field.values))
+    ++ value_or_place order place field
+
+-- the entries of fields whose values stand from a place on, one behind the other
+unfoldable pub entries : Order → ℕ → List FieldData → List ℕ
+entries order place [] = []
+entries order place (field ∷ fields) =
+    entry order place field ++ entries order (place + outside_size field) fields
+
+-- where the directory of so many fields ends: behind the header, its count, its entries, and that no
+-- directory follows
+abbrev pub directory_end : ℕ → ℕ
+directory_end fields = 14 + 12 * fields
+
+-- the bytes of a file up to the end of its fields' values
+unfoldable pub front : Order → List FieldData → List ℕ
+front order fields =
+    ((mark_of order ++ bytes_of order 2 42) ++ bytes_of order 4 8)
+    ++ ((bytes_of order 2 (length fields) ++ entries order (directory_end (length fields)) fields)
+    ++ bytes_of order 4 0)
+    ++ flat_map (outside order) fields
+
+-- fields that a directory can have: their number has 16 bits, those of values and their places 32
+pub record AreFields (fields : List FieldData) : Type 0 where
+  pub count : length fields ≤ 65535
+  pub values : All (λ field. length field.values ≤ 4294967295) fields
+  pub places : directory_end (length fields) + outside_total fields ≤ 4294967295

@@ -1,0 +1,49 @@
+-- The file of an image: its fields, and its strips behind them (TIFF 6.0, Sections 3, 8, 9 and 16).
+use Rattle.std.specs.Prelude.{ℕ, ◌+◌, ◌*◌, nat_le, if◌then◌else◌, List, [], ◌∷◌, ◌++◌, take}
+use Rattle.tif_make.specs.declared.form.ImageForm.{ImageForm}
+use Rattle.tif_make.specs.declared.form.Kind.{Kind}
+use Rattle.tif_make.specs.declared.form.Kind.TheVariants.{Contone, Line, Mask}
+use Rattle.tif_make.specs.Fields.{FieldData, shorts, longs, front, directory_end}
+use Rattle.tif_make.specs.Form.{bits_of, compression_of, field_count, photometric_of, samples_of, strip_count}
+use Rattle.tif_make.specs.Strips.{begins, joined, sizes, strips}
+use Rattle.tif_make.specs.declared.tag.TheConstants as tag
+
+-- the fields of an image whose strips have these places and byte counts, by their tags
+unfoldable pub all_fields : ImageForm → List ℕ → List ℕ → List FieldData
+all_fields form places counts =
+    longs tag.IMAGE_WIDTH (form.width ∷ [])
+    ∷ longs tag.IMAGE_LENGTH (form.length ∷ [])
+    ∷ shorts tag.BITS_PER_SAMPLE (bits_of form.kind)
+    ∷ shorts tag.COMPRESSION (compression_of form.compression ∷ [])
+    ∷ shorts tag.PHOTOMETRIC_INTERPRETATION (photometric_of form.kind ∷ [])
+    ∷ longs tag.STRIP_OFFSETS places
+    ∷ shorts tag.SAMPLES_PER_PIXEL (samples_of form.kind ∷ [])
+    ∷ longs tag.ROWS_PER_STRIP (form.rows_per_strip ∷ [])
+    ∷ longs tag.STRIP_BYTE_COUNTS counts
+    ∷ shorts tag.PLANAR_CONFIGURATION (2 ∷ [])
+    ∷ []
+
+-- PlanarConfiguration, the last, is left out where it is 1, its default
+unfoldable pub image_fields : ImageForm → List ℕ → List ℕ → List FieldData
+image_fields form places counts = take (field_count form.planar) (all_fields form places counts)
+
+-- the bytes that BitsPerSample has outside of its entry, and those of a value for each of so many strips
+abbrev pub bits_outside : Kind → ℕ
+bits_outside Contone = 8
+bits_outside Line = 0
+bits_outside Mask = 0
+
+abbrev pub table_outside : ℕ → ℕ
+table_outside count = if nat_le (4 * count) 4 then 0 else 4 * count
+
+-- where the first strip begins: behind the directory and the values outside of it
+unfoldable pub first_strip : ImageForm → ℕ
+first_strip form =
+    directory_end (field_count form.planar) + bits_outside form.kind + 2 * table_outside (strip_count form)
+
+-- the file of an image with these rows, one behind the other from the top
+unfoldable pub image_file : ImageForm → List ℕ → List ℕ
+image_file form rows =
+    front form.order
+    (image_fields form (begins (first_strip form) (strips form rows)) (sizes (strips form rows)))
+    ++ joined (strips form rows)

@@ -1,0 +1,5 @@
+pub mod Fields
+pub mod Form
+pub mod Strips
+pub mod Made
+pub mod Image

@@ -1,0 +1,158 @@
+// A field of a directory.
+ghost use Rattle.std.specs.Prelude.{◌≡◌, ◌≤◌, ◌+◌, ◌*◌, ◌++◌, ◌<◌, OnOk, length, map, replicate, nat_le, if◌then◌else◌};
+ghost use Rattle.std.specs.List.{flat_map};
+ghost use Rattle.tif_make.specs.Fields.{bytes_of, data_of, entry, outside, outside_size, total, value_bytes, value_or_place};
+
+use crate::order::Order;
+use pr_base::NoMemory;
+
+/// The types of a field (TIFF 6.0, Section 2).
+const SHORT: u16 = 3;
+
+const LONG: u16 = 4;
+
+/// The most bytes of values that an entry holds.
+const HELD: usize = 4;
+
+/// The values of a field, of 16 or of 32 bits.
+#[derive(Clone, Copy)]
+pub(crate) enum Values<'a> {
+    Short(u16),
+    Shorts(&'a [u16]),
+    Long(u32),
+    Longs(&'a [u32]),
+}
+
+/// A tag and its values.
+#[derive(Clone, Copy)]
+pub(crate) struct Field<'a> {
+    pub(crate) tag: u16,
+    pub(crate) values: Values<'a>,
+}
+
+impl Field<'_> {
+    /// The number of the values' type.
+    fn kind(&self) -> u16
+        ensures { result ≡ (data_of self.now).kind }
+    {
+        match self.values {
+            Values::Short(_) | Values::Shorts(_) => SHORT,
+            Values::Long(_) | Values::Longs(_) => LONG,
+        }
+    }
+
+    /// How many values there are.
+    fn count(&self) -> usize
+        ensures { result ≡ length (data_of self.now).values }
+    {
+        match self.values {
+            Values::Short(_) | Values::Long(_) => 1,
+            Values::Shorts(numbers) => numbers.len(),
+            Values::Longs(numbers) => numbers.len(),
+        }
+    }
+
+    /// The bytes of all values.
+    fn total(&self) -> usize
+        requires { length (data_of self.now).values ≤ 4294967295 }
+        ensures { result ≡ total (data_of self.now) }
+    {
+        match self.values {
+            Values::Short(_) => 2,
+            Values::Long(_) => 4,
+            Values::Shorts(numbers) => 2 * numbers.len(),
+            Values::Longs(numbers) => 4 * numbers.len(),
+        }
+    }
+
+    /// Appends the values.
+    fn put_values(&self, order: Order, file: &mut Vec<u8>) -> Result<(), NoMemory>
+        ensures { OnOk result (file.new.items ≡ file.old.items ++ value_bytes order (data_of self.now)) }
+    {
+        match self.values {
+            Values::Short(n) => file.extend_from_slice(&order.short(n))?,
+            Values::Long(n) => file.extend_from_slice(&order.long(n))?,
+            Values::Shorts(numbers) => put_shorts(numbers, order, file)?,
+            Values::Longs(numbers) => put_longs(numbers, order, file)?,
+        }
+        Ok(())
+    }
+
+    /// The bytes of the values that do not fit in the entry.
+    pub(crate) fn outside_size(&self) -> usize
+        requires { length (data_of self.now).values ≤ 4294967295 }
+        ensures { result ≡ outside_size (data_of self.now) }
+    {
+        let total = self.total();
+        if total <= HELD { 0 } else { total }
+    }
+
+    /// Appends the values that do not fit in the entry.
+    pub(crate) fn put_outside(&self, order: Order, file: &mut Vec<u8>) -> Result<(), NoMemory>
+        requires { length (data_of self.now).values ≤ 4294967295 }
+        ensures { OnOk result (file.new.items ≡ file.old.items ++ outside order (data_of self.now)) }
+    {
+        if self.total() <= HELD {
+            return Ok(());
+        }
+        self.put_values(order, file)
+    }
+
+    /// Appends the entry of the field, whose values stand at `place` if they do not fit in it.
+    #[tactic(auto, unfolding(crate::specs::Fields::entry))]
+    pub(crate) fn put_entry(
+        &self,
+        order: Order,
+        place: u32,
+        file: &mut Vec<u8>,
+    ) -> Result<(), NoMemory>
+        requires { length (data_of self.now).values ≤ 4294967295 }
+        ensures { OnOk result (file.new.items ≡ file.old.items ++ entry order place (data_of self.now)) }
+    {
+        file.extend_from_slice(&order.short(self.tag))?;
+        file.extend_from_slice(&order.short(self.kind()))?;
+        file.extend_from_slice(&order.long(self.count() as u32))?;
+        self.put_value_or_place(order, place, file)
+    }
+
+    /// Appends the last four bytes of the entry.
+    fn put_value_or_place(
+        &self,
+        order: Order,
+        place: u32,
+        file: &mut Vec<u8>,
+    ) -> Result<(), NoMemory>
+        requires { length (data_of self.now).values ≤ 4294967295 }
+        ensures { OnOk result (file.new.items
+            ≡ file.old.items ++ value_or_place order place (data_of self.now)) }
+    {
+        let total = self.total();
+        if total > HELD {
+            file.extend_from_slice(&order.long(place))?;
+            return Ok(());
+        }
+        self.put_values(order, file)?;
+        file.extend_from_slice(&[0; HELD][total..])?;
+        Ok(())
+    }
+}
+
+/// Appends numbers of 16 bits.
+fn put_shorts(numbers: &[u16], order: Order, file: &mut Vec<u8>) -> Result<(), NoMemory>
+    ensures { OnOk result (file.new.items ≡ file.old.items ++ flat_map (bytes_of order 2) numbers.now) }
+{
+    for n in numbers {
+        file.extend_from_slice(&order.short(*n))?;
+    }
+    Ok(())
+}
+
+/// Appends numbers of 32 bits.
+fn put_longs(numbers: &[u32], order: Order, file: &mut Vec<u8>) -> Result<(), NoMemory>
+    ensures { OnOk result (file.new.items ≡ file.old.items ++ flat_map (bytes_of order 4) numbers.now) }
+{
+    for n in numbers {
+        file.extend_from_slice(&order.long(*n))?;
+    }
+    Ok(())
+}

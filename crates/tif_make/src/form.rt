@@ -1,0 +1,137 @@
+// The form of an image in its file.
+ghost use Rattle.std.specs.Prelude.{◌≡◌, ◌≤◌};
+ghost use Rattle.tif_make.specs.Form.{IsForm, bits_of, compression_of, field_count, photometric_of, plane_row_length, planes, row_length, samples_of, strip_count, strips_each};
+
+use crate::order::Order;
+use pr_base::row_bytes;
+
+/// What an image holds.
+#[derive(Clone, Copy, Debug, PartialEq, Eq)]
+pub enum Kind {
+    /// Four samples of eight bits a pixel: cyan, magenta, yellow, black (TIFF 6.0, Section 16).
+    Contone,
+    /// One bit a pixel, whose ones are marked: PhotometricInterpretation is 0, zero is white.
+    Line,
+    /// One bit a pixel, whose ones are marked: PhotometricInterpretation is 4.
+    Mask,
+}
+
+/// Where the samples of a pixel stand (PlanarConfiguration, 284).
+#[derive(Clone, Copy, Debug, PartialEq, Eq)]
+pub enum Planar {
+    /// Side by side: 1, which is left out of the file.
+    Chunky,
+    /// In a plane for each ink: 2.
+    Separate,
+}
+
+/// How rows are stored (Compression, 259).
+#[derive(Clone, Copy, Debug, PartialEq, Eq)]
+pub enum Compression {
+    /// As they are: 1.
+    Uncompressed,
+    /// Each packed by itself: 32773 (TIFF 6.0, Section 9).
+    PackBits,
+}
+
+/// How an image is laid into its file. Width and length are in pixels.
+#[derive(Clone, Copy, Debug, PartialEq, Eq)]
+pub struct ImageForm {
+    pub kind: Kind,
+    /// 1 to 65,535.
+    pub width: u32,
+    /// 1 to 65,535.
+    pub length: u32,
+    pub order: Order,
+    pub planar: Planar,
+    pub compression: Compression,
+    /// At least 1.
+    pub rows_per_strip: u32,
+}
+
+impl ImageForm {
+    /// The bytes of a row of the image.
+    pub(crate) fn row_len(&self) -> usize
+        requires { IsForm self.now }
+        ensures len { result ≡ row_length self.now }
+        ensures within { result ≤ 262140 }
+    {
+        match self.kind {
+            Kind::Contone => 4 * self.width as usize,
+            Kind::Line | Kind::Mask => row_bytes(self.width),
+        }
+    }
+
+    /// The planes of the image.
+    pub(crate) fn planes(&self) -> u32
+        ensures count { result ≡ planes self.now }
+        ensures within { result ≤ 4 }
+    {
+        match (self.kind, self.planar) {
+            (Kind::Contone, Planar::Separate) => 4,
+            _ => 1,
+        }
+    }
+
+    /// The strips of one plane.
+    #[tactic(auto, using(crate::proofs::Pieces::rounded_up))]
+    pub(crate) fn strips_each(&self) -> u32
+        requires { IsForm self.now }
+        ensures count { result ≡ strips_each self.now }
+        ensures within { result ≤ self.now.length }
+    {
+        self.length.div_ceil(self.rows_per_strip)
+    }
+
+    /// BitsPerSample.
+    pub(crate) fn bits(&self) -> &'static [u16]
+        ensures { result.now ≡ bits_of self.now.kind }
+    {
+        match self.kind {
+            Kind::Contone => &[8, 8, 8, 8],
+            Kind::Line | Kind::Mask => &[1],
+        }
+    }
+
+    /// SamplesPerPixel.
+    pub(crate) fn samples(&self) -> u16
+        ensures { result ≡ samples_of self.now.kind }
+    {
+        match self.kind {
+            Kind::Contone => 4,
+            Kind::Line | Kind::Mask => 1,
+        }
+    }
+
+    /// PhotometricInterpretation.
+    pub(crate) fn photometric(&self) -> u16
+        ensures { result ≡ photometric_of self.now.kind }
+    {
+        match self.kind {
+            Kind::Contone => 5,
+            Kind::Line => 0,
+            Kind::Mask => 4,
+        }
+    }
+
+    /// Compression.
+    pub(crate) fn compression_number(&self) -> u16
+        ensures { result ≡ compression_of self.now.compression }
+    {
+        match self.compression {
+            Compression::Uncompressed => 1,
+            Compression::PackBits => 32773,
+        }
+    }
+
+    /// How many fields the file has.
+    pub(crate) fn field_count(&self) -> usize
+        ensures count { result ≡ field_count self.now.planar }
+        ensures within { result ≤ 10 }
+    {
+        match self.planar {
+            Planar::Chunky => 9,
+            Planar::Separate => 10,
+        }
+    }
+}

@@ -1,0 +1,104 @@
+// The file of an image: its directory, and its strips behind it.
+ghost use Rattle.std.specs.Prelude.{◌≡◌, ◌≤◌, ◌++◌, IfOk, OnOk, length, map};
+ghost use Rattle.tif_make.specs.Fields.{data_of, front};
+ghost use Rattle.tif_make.specs.Form.{IsForm, strip_count};
+ghost use Rattle.tif_make.specs.Image.{first_strip as first_strip_of, all_fields as fields_of, image_fields, image_file, table_outside as table_outside_of};
+ghost use Rattle.tif_make.specs.Made.{HasRows};
+
+use crate::directory::put_front;
+use crate::field::{Field, Values};
+use crate::form::{ImageForm, Kind};
+use crate::strips::Strips;
+use crate::tag::{
+    BITS_PER_SAMPLE, COMPRESSION, IMAGE_LENGTH, IMAGE_WIDTH, PHOTOMETRIC_INTERPRETATION,
+    PLANAR_CONFIGURATION, ROWS_PER_STRIP, SAMPLES_PER_PIXEL, STRIP_BYTE_COUNTS, STRIP_OFFSETS,
+};
+use pr_base::NoMemory;
+use std::alloc::Global;
+
+/// The bytes before the entries of a directory and behind them, and those of an entry.
+const DIRECTORY_ENDS: u32 = 14;
+
+const ENTRY: u32 = 12;
+
+/// The file of an image, from its rows, which stand one behind the other from the top. A row of a contone
+/// image has four bytes a pixel, 0 for no ink and 255 for full ink; a row of the other kinds has eight pixels
+/// a byte, the lower column in the higher bit.
+#[tactic(auto, unfolding(crate::specs::Image::image_file))]
+pub fn make_image(alloc: Global, form: &ImageForm, rows: &[u8]) -> Result<Vec<u8>, NoMemory>
+    requires form { IsForm form.now }
+    requires rows { HasRows form.now rows.now }
+    ensures { IfOk result (λ file. file.items ≡ image_file form.now rows.now) }
+{
+    let made = Strips::of(alloc, form, first_strip(form), rows)?;
+    let mut file = Vec::new(alloc);
+    put_fields(
+        form,
+        made.places.as_slice(),
+        made.counts.as_slice(),
+        &mut file,
+    )?;
+    file.extend_from_slice(made.bytes.as_slice())?;
+    Ok(file)
+}
+
+/// Appends all that stands before the strips of an image, which have these places and byte counts.
+fn put_fields(
+    form: &ImageForm,
+    places: &[u32],
+    counts: &[u32],
+    file: &mut Vec<u8>,
+) -> Result<(), NoMemory>
+    requires form { IsForm form.now }
+    requires places { length places.now ≡ strip_count form.now }
+    requires counts { length counts.now ≡ strip_count form.now }
+    ensures { OnOk result (file.new.items
+        ≡ file.old.items ++ front form.now.order (image_fields form.now places.now counts.now)) }
+{
+    let fields = all_fields(form, places, counts);
+    put_front(form.order, &fields[..form.field_count()], file)
+}
+
+/// The fields of an image, by their tags. PlanarConfiguration, the last, is left out where it is 1.
+#[tactic(auto, unfolding(crate::specs::Image::all_fields))]
+#[rattlefmt::skip]
+fn all_fields<'a>(form: &ImageForm, places: &'a [u32], counts: &'a [u32]) -> [Field<'a>; 10]
+    ensures { map data_of result ≡ fields_of form.now places.now counts.now }
+{
+    [
+        Field { tag: IMAGE_WIDTH, values: Values::Long(form.width) },
+        Field { tag: IMAGE_LENGTH, values: Values::Long(form.length) },
+        Field { tag: BITS_PER_SAMPLE, values: Values::Shorts(form.bits()) },
+        Field { tag: COMPRESSION, values: Values::Short(form.compression_number()) },
+        Field { tag: PHOTOMETRIC_INTERPRETATION, values: Values::Short(form.photometric()) },
+        Field { tag: STRIP_OFFSETS, values: Values::Longs(places) },
+        Field { tag: SAMPLES_PER_PIXEL, values: Values::Short(form.samples()) },
+        Field { tag: ROWS_PER_STRIP, values: Values::Long(form.rows_per_strip) },
+        Field { tag: STRIP_BYTE_COUNTS, values: Values::Longs(counts) },
+        Field { tag: PLANAR_CONFIGURATION, values: Values::Short(2) },
+    ]
+}
+
+/// Where the first strip of an image stands.
+#[tactic(auto, unfolding(crate::specs::Image::first_strip))]
+fn first_strip(form: &ImageForm) -> u32
+    requires { IsForm form.now }
+    ensures place { result ≡ first_strip_of form.now }
+    ensures within { result ≤ 3000000 }
+{
+    let bits = match form.kind {
+        Kind::Contone => 8,
+        Kind::Line | Kind::Mask => 0,
+    };
+    let table = table_outside(form.planes() * form.strips_each());
+    DIRECTORY_ENDS + ENTRY * form.field_count() as u32 + bits + 2 * table
+}
+
+/// The bytes outside of its entry of a field that has a value of 32 bits for each strip.
+fn table_outside(strips: u32) -> u32
+    requires { strips ≤ 262140 }
+    ensures bytes { result ≡ table_outside_of strips }
+    ensures within { result ≤ 1048560 }
+{
+    if strips < 2 { 0 } else { 4 * strips }
+}

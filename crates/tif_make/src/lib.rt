@@ -1,0 +1,20 @@
+// Makes TIFF 6.0 files in memory: a contone image, linework or a mask, of given sides, byte order, planar
+// form, compression and rows a strip, from its rows. The bytes of a file are a definition: header, directory,
+// values, strips.
+#![tactic(auto)]
+
+mod directory;
+mod field;
+mod form;
+mod image;
+mod order;
+mod room;
+mod strips;
+mod tag;
+
+pub use form::{Compression, ImageForm, Kind, Planar};
+pub use image::make_image;
+pub use order::Order;
+
+#[cfg(test)]
+mod tests;

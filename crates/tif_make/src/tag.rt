@@ -1,0 +1,21 @@
+//! The tags of the fields that a made file has, by their names in TIFF 6.0 (Section 8).
+
+pub const IMAGE_WIDTH: u16 = 256;
+
+pub const IMAGE_LENGTH: u16 = 257;
+
+pub const BITS_PER_SAMPLE: u16 = 258;
+
+pub const COMPRESSION: u16 = 259;
+
+pub const PHOTOMETRIC_INTERPRETATION: u16 = 262;
+
+pub const STRIP_OFFSETS: u16 = 273;
+
+pub const SAMPLES_PER_PIXEL: u16 = 277;
+
+pub const ROWS_PER_STRIP: u16 = 278;
+
+pub const STRIP_BYTE_COUNTS: u16 = 279;
+
+pub const PLANAR_CONFIGURATION: u16 = 284;
