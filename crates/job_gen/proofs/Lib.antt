@@ -1,0 +1,12 @@
+pub mod ImageRows
+pub mod JobFiles
+pub mod JobImages
+pub mod JobPaths
+pub mod Listed
+pub mod MadeDirectory
+pub mod MadeFields
+pub mod MadeImage
+pub mod MadeStrips
+pub mod MadeTests
+pub mod PlanRead
+pub mod PlanText

@@ -1,0 +1,7 @@
+pub mod Images
+pub mod Job
+pub mod Made
+pub mod Numbers
+pub mod Passes
+pub mod Plan
+pub mod Text

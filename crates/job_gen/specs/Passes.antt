@@ -1,0 +1,78 @@
+-- What is promised of the files of a generated job: they pass the tests of their uses, in these forms and
+-- with these pixels.
+use Rattle.std.specs.Prelude.{◌≡◌, ℕ, ◌%◌, ◌<◌, ◌≤◌, ◌==◌, if◌then◌else◌, true, false, List, length, Some, Ok}
+use Rattle.tif_dir.specs.declared.order.Order.TheVariants.{Little, Big}
+use Rattle.tif_dir.specs.Directory.{header_of}
+use Rattle.tif_strips.specs.declared.shape.Shape.{Shape}
+use Rattle.tif_image.specs.declared.usage.BilevelUse.TheVariants.{Line, Mask}
+use Rattle.tif_image.specs.Image.{bilevel_shape, contone_shape, pixel_marked, sample_at}
+use Rattle.job_gen.specs.Images.{line_marked, mask_marked, sample}
+use Rattle.job_gen.specs.Numbers.{image_length, image_width}
+
+-- the most bytes of a file
+abbrev pub most_bytes : ℕ
+most_bytes = 4000000
+
+-- the shape of the contone image of index f: of odd index with the samples of a pixel side by side, of even
+-- index with a plane for each ink; uncompressed, four rows a strip
+abbrev pub contone_shape_of : ℕ → ℕ → Shape
+contone_shape_of n f = record {
+  width = image_width n;
+  length = image_length n;
+  samples = 4;
+  bits = 8;
+  planar = if f % 2 == 1 then 1 else 2;
+  packed = false;
+  rows_per_strip = 4;
+}
+
+-- the shape of the linework: packed, four rows a strip
+abbrev pub line_shape_of : ℕ → Shape
+line_shape_of n = record {
+  width = image_width n;
+  length = image_length n;
+  samples = 1;
+  bits = 1;
+  planar = 1;
+  packed = true;
+  rows_per_strip = 4;
+}
+
+-- the shape of the mask: uncompressed, in one strip
+abbrev pub mask_shape_of : ℕ → Shape
+mask_shape_of n = record {
+  width = image_width n;
+  length = image_length n;
+  samples = 1;
+  bits = 1;
+  planar = 1;
+  packed = false;
+  rows_per_strip = image_length n;
+}
+
+-- the contone image of index f: of odd index least significant byte first, of even index most significant
+-- byte first
+pub record IsContoneFile (n f : ℕ) (file : List ℕ) : Type 0 where
+  pub order : header_of file ≡ Some (if f % 2 == 1 then Little else Big)
+  pub passes : contone_shape file ≡ Ok (contone_shape_of n f)
+  pub pixels : (x y i : ℕ) → x < image_width n → y < image_length n → i < 4
+      → sample_at (contone_shape_of n f) file x y i ≡ sample n f i x y
+  pub small : length file ≤ most_bytes
+
+pub record IsLineFile (n : ℕ) (file : List ℕ) : Type 0 where
+  pub passes : bilevel_shape Line file ≡ Ok (line_shape_of n)
+  pub pixels : (x y : ℕ) → x < image_width n → y < image_length n
+      → pixel_marked (line_shape_of n) file x y ≡ line_marked x y
+  pub small : length file ≤ most_bytes
+
+pub record IsMaskFile (n : ℕ) (file : List ℕ) : Type 0 where
+  pub passes : bilevel_shape Mask file ≡ Ok (mask_shape_of n)
+  pub pixels : (x y : ℕ) → x < image_width n → y < image_length n
+      → pixel_marked (mask_shape_of n) file x y ≡ mask_marked (image_width n) x
+  pub small : length file ≤ most_bytes
+
+-- all images of job n
+pub record ArePassing (n : ℕ) (contone : ℕ → List ℕ) (line mask : List ℕ) : Type 0 where
+  pub contones : (f : ℕ) → IsContoneFile n f (contone f)
+  pub line_is : IsLineFile n line
+  pub mask_is : IsMaskFile n mask

@@ -1,0 +1,213 @@
+// The images of a job: their rows, and the files that they make.
+ghost use Rattle.std.specs.Prelude.{◌≡◌, ◌≤◌, ◌*◌, ◌++◌, IfOk, OnOk, nat_lt, if◌then◌else◌};
+ghost use Rattle.tif_make.specs.Form.{IsForm};
+ghost use Rattle.job_gen.specs.Images.{contone_bytes, contone_form as contone_form_of, contone_pixel, contone_row, line_bytes, line_form as line_form_of, line_row, mask_bytes, mask_form as mask_form_of, mask_row, rows_of, sample as sample_of};
+
+use crate::numbers::size;
+use pr_base::NoMemory;
+use std::alloc::Global;
+use tif_make::{Compression, ImageForm, Kind, Order, Planar, make_image};
+
+/// The least sides of an image in pixels.
+const WIDTH: u32 = 16;
+
+const LENGTH: u32 = 12;
+
+/// The rows of a strip, the mask aside.
+const STRIP_ROWS: u32 = 4;
+
+/// Eight pixels of the linework in a row, by the number of the row modulo 4: every fourth is marked, in each
+/// row one to the left of the row above.
+const LINE_BYTES: [u8; 4] = [0x88, 0x11, 0x22, 0x44];
+
+/// The contone image of index `f`.
+#[tactic(auto, unfolding(crate::specs::Images::contone_bytes))]
+pub(crate) fn contone_image(alloc: Global, n: u32, f: u32) -> Result<Vec<u8>, NoMemory>
+    requires { f ≤ 8 }
+    ensures { IfOk result (λ file. file.items ≡ contone_bytes n f) }
+{
+    let form = contone_form(n, f);
+    let rows = contone_rows(alloc, n, f, form.width, form.length)?;
+    make_image(alloc, &form, rows.as_slice())
+}
+
+/// The linework.
+#[tactic(auto, unfolding(crate::specs::Images::line_bytes))]
+pub(crate) fn line_image(alloc: Global, n: u32) -> Result<Vec<u8>, NoMemory>
+    ensures { IfOk result (λ file. file.items ≡ line_bytes n) }
+{
+    let form = line_form(n);
+    let rows = line_rows(alloc, 2 * size(n), form.length)?;
+    make_image(alloc, &form, rows.as_slice())
+}
+
+/// The mask.
+#[tactic(auto, unfolding(crate::specs::Images::mask_bytes))]
+pub(crate) fn mask_image(alloc: Global, n: u32) -> Result<Vec<u8>, NoMemory>
+    ensures { IfOk result (λ file. file.items ≡ mask_bytes n) }
+{
+    let form = mask_form(n);
+    let rows = mask_rows(alloc, size(n), form.length)?;
+    make_image(alloc, &form, rows.as_slice())
+}
+
+/// How the contone image of index `f` is laid into its file.
+fn contone_form(n: u32, f: u32) -> ImageForm
+    ensures form { result ≡ contone_form_of n f }
+    ensures is { IsForm result }
+{
+    let (order, planar) = if f % 2 == 1 {
+        (Order::Little, Planar::Chunky)
+    } else {
+        (Order::Big, Planar::Separate)
+    };
+    ImageForm {
+        kind: Kind::Contone,
+        width: WIDTH * size(n),
+        length: LENGTH * size(n),
+        order,
+        planar,
+        compression: Compression::Uncompressed,
+        rows_per_strip: STRIP_ROWS,
+    }
+}
+
+/// How the linework is laid into its file.
+fn line_form(n: u32) -> ImageForm
+    ensures form { result ≡ line_form_of n }
+    ensures is { IsForm result }
+{
+    ImageForm {
+        kind: Kind::Line,
+        width: WIDTH * size(n),
+        length: LENGTH * size(n),
+        order: Order::Little,
+        planar: Planar::Chunky,
+        compression: Compression::PackBits,
+        rows_per_strip: STRIP_ROWS,
+    }
+}
+
+/// How the mask is laid into its file: in one strip.
+fn mask_form(n: u32) -> ImageForm
+    ensures form { result ≡ mask_form_of n }
+    ensures is { IsForm result }
+{
+    ImageForm {
+        kind: Kind::Mask,
+        width: WIDTH * size(n),
+        length: LENGTH * size(n),
+        order: Order::Little,
+        planar: Planar::Chunky,
+        compression: Compression::Uncompressed,
+        rows_per_strip: LENGTH * size(n),
+    }
+}
+
+/// The rows of a contone image.
+fn contone_rows(alloc: Global, n: u32, f: u32, width: u32, length: u32) -> Result<Vec<u8>, NoMemory>
+    requires index { f ≤ 8 }
+    requires width { width ≤ 65535 }
+    requires length { length ≤ 65535 }
+    ensures { IfOk result (λ rows. rows.items ≡ rows_of (contone_row n f width) length) }
+{
+    let mut rows = Vec::new(alloc);
+    for y in 0..length {
+        put_contone_row(&mut rows, n, f, width, y)?;
+    }
+    Ok(rows)
+}
+
+/// The rows of the linework, each of so many bytes.
+fn line_rows(alloc: Global, bytes: u32, length: u32) -> Result<Vec<u8>, NoMemory>
+    requires { bytes ≤ 8191 }
+    ensures { IfOk result (λ rows. rows.items ≡ rows_of (line_row (8 * bytes)) length) }
+{
+    let mut rows = Vec::new(alloc);
+    for y in 0..length {
+        put_line_row(&mut rows, bytes, y)?;
+    }
+    Ok(rows)
+}
+
+/// The rows of the mask, of which half has so many bytes.
+fn mask_rows(alloc: Global, half: u32, length: u32) -> Result<Vec<u8>, NoMemory>
+    requires { half ≤ 4095 }
+    ensures { IfOk result (λ rows. rows.items ≡ rows_of (mask_row (16 * half)) length) }
+{
+    let mut rows = Vec::new(alloc);
+    for y in 0..length {
+        put_mask_row(&mut rows, half, y)?;
+    }
+    Ok(rows)
+}
+
+/// Appends a row of a contone image.
+#[tactic(auto, unfolding(crate::specs::Images::contone_row))]
+fn put_contone_row(rows: &mut Vec<u8>, n: u32, f: u32, width: u32, y: u32) -> Result<(), NoMemory>
+    requires index { f ≤ 8 }
+    requires width { width ≤ 65535 }
+    requires y { y ≤ 65535 }
+    ensures { OnOk result (rows.new.items ≡ rows.old.items ++ contone_row n f width y) }
+{
+    for x in 0..width {
+        rows.extend_from_slice(&pixel(n, f, x, y))?;
+    }
+    Ok(())
+}
+
+/// The samples of a pixel.
+fn pixel(n: u32, f: u32, x: u32, y: u32) -> [u8; 4]
+    requires index { f ≤ 8 }
+    requires x { x ≤ 65535 }
+    requires y { y ≤ 65535 }
+    ensures { result ≡ contone_pixel n f y x }
+{
+    [
+        sample(n, f, 0, x, y),
+        sample(n, f, 1, x, y),
+        sample(n, f, 2, x, y),
+        sample(n, f, 3, x, y),
+    ]
+}
+
+/// A sample.
+fn sample(n: u32, f: u32, ink: u32, x: u32, y: u32) -> u8
+    requires index { f ≤ 8 }
+    requires ink { ink ≤ 3 }
+    requires x { x ≤ 65535 }
+    requires y { y ≤ 65535 }
+    ensures { result ≡ sample_of n f ink x y }
+{
+    ((n % 256 + 29 * f + 61 * ink + 3 * x + 7 * y) % 256) as u8
+}
+
+/// Appends a row of the linework, which has so many bytes.
+fn put_line_row(rows: &mut Vec<u8>, bytes: u32, y: u32) -> Result<(), NoMemory>
+    requires { bytes ≤ 8191 }
+    ensures { OnOk result (rows.new.items ≡ rows.old.items ++ line_row (8 * bytes) y) }
+{
+    let byte = LINE_BYTES[y as usize % 4];
+    for _j in 0..bytes {
+        rows.push(byte)?;
+    }
+    Ok(())
+}
+
+/// Appends a row of the mask, of which half has so many bytes.
+fn put_mask_row(rows: &mut Vec<u8>, half: u32, y: u32) -> Result<(), NoMemory>
+    requires { half ≤ 4095 }
+    ensures { OnOk result (rows.new.items ≡ rows.old.items ++ mask_row (16 * half) y) }
+{
+    for j in 0..2 * half {
+        rows.push(mask_byte(half, j))?;
+    }
+    Ok(())
+}
+
+/// Byte `j` of a row of the mask.
+fn mask_byte(half: u32, j: u32) -> u8
+    ensures { result ≡ (if nat_lt j half then 255 else 0) }
+{
+    if j < half { 0xFF } else { 0 }
+}

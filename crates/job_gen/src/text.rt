@@ -1,0 +1,111 @@
+// The text of a job's plan.
+ghost use Rattle.std.specs.Prelude.{◌≡◌, ◌≤◌, IfOk, Ok, OnOk, map, string_bytes};
+ghost use Rattle.job_gen.specs.Plan.{job_plan};
+ghost use Rattle.job_gen.specs.Text.{job_value, layout_members, list_of, marks_value, printing_members, put_all, screens_value, value_with, whole};
+ghost use Rattle.plan_json.specs.PlanOf.{plan_of};
+ghost use Rattle.serde_json.specs.View.{members_view, view};
+
+use crate::layout::{pages, sections, sites, zones};
+use crate::numbers::{page_count, site_count, size};
+use pr_base::NoMemory;
+use serde_json::{Map, Value, json, put};
+use std::alloc::Global;
+
+/// The text of the plan of job `n`.
+pub(crate) fn plan_text(alloc: Global, n: u32) -> Result<String, NoMemory>
+    ensures { IfOk result (λ text. plan_of (string_bytes text) ≡ Ok (job_plan n)) }
+{
+    let plan = plan_value(alloc, site_count(n), page_count(n), size(n))?;
+    Ok(plan.to_string(alloc)?)
+}
+
+/// How the inks are screened.
+fn screens(alloc: Global) -> Result<Value, NoMemory>
+    ensures { IfOk result (λ value. view value ≡ screens_value) }
+{
+    Ok(json!(in alloc; {"C": "bayer4", "M": "bayer8", "Y": "bayer16", "K": "diffuse"})?)
+}
+
+/// The mark in the plate's corner.
+fn marks(alloc: Global) -> Result<Value, NoMemory>
+    ensures { IfOk result (λ value. view value ≡ list_of marks_value) }
+{
+    Ok(json!(in alloc; [{"inks": "CMYK", "x": 0u32, "y": 0u32, "w": 4u32, "h": 4u32}])?)
+}
+
+/// A list of numbers.
+fn numbers(alloc: Global, all: &[u32]) -> Result<Value, NoMemory>
+    ensures { IfOk result (λ value. view value ≡ list_of (map whole all.now)) }
+{
+    let mut values = Vec::new(alloc);
+    for n in all {
+        values.push(Value::from(*n))?;
+    }
+    Ok(Value::Array(values))
+}
+
+/// Puts what is printed on what, and how.
+#[tactic(auto, unfolding(crate::specs::Text::printing_members))]
+fn put_printing(alloc: Global, size: u32, plan: &mut Map<String, Value>) -> Result<(), NoMemory>
+    requires { size ≤ 16 }
+    ensures { OnOk result (members_view plan.new.entries
+        ≡ put_all (members_view plan.old.entries) (printing_members size)) }
+{
+    put(plan, alloc, "plan", Value::from(1u32))?;
+    put(plan, alloc, "edition", Value::try_from_str(alloc, "DRILL")?)?;
+    put(plan, alloc, "dpi", Value::from(1200u32))?;
+    put(
+        plan,
+        alloc,
+        "page",
+        numbers(alloc, &[64 * size, 48 * size])?,
+    )?;
+    put(plan, alloc, "margins", numbers(alloc, &[8, 8, 8, 8])?)?;
+    put(plan, alloc, "gutter", Value::from(16u32))?;
+    put(plan, alloc, "limit", Value::from(612u32))?;
+    put(plan, alloc, "screens", screens(alloc)?)?;
+    put(plan, alloc, "marks", marks(alloc)?)?;
+    Ok(())
+}
+
+/// Puts which pages go where.
+#[tactic(auto, unfolding(crate::specs::Text::layout_members))]
+fn put_layout(
+    alloc: Global,
+    site_count: u32,
+    page_count: u32,
+    plan: &mut Map<String, Value>,
+) -> Result<(), NoMemory>
+    requires { page_count ≤ 8 }
+    ensures { OnOk result (members_view plan.new.entries
+        ≡ put_all (members_view plan.old.entries) (layout_members site_count page_count)) }
+{
+    put(
+        plan,
+        alloc,
+        "pages",
+        Value::Array(pages(alloc, page_count)?),
+    )?;
+    put(plan, alloc, "sections", sections(alloc, page_count)?)?;
+    put(plan, alloc, "zones", zones(alloc)?)?;
+    put(
+        plan,
+        alloc,
+        "sites",
+        Value::Array(sites(alloc, site_count)?),
+    )?;
+    Ok(())
+}
+
+/// The plan with so many sites and pages, and of this size.
+#[tactic(auto, unfolding(crate::specs::Text::value_with))]
+fn plan_value(alloc: Global, site_count: u32, page_count: u32, size: u32) -> Result<Value, NoMemory>
+    requires pages { page_count ≤ 8 }
+    requires size { size ≤ 16 }
+    ensures { IfOk result (λ value. view value ≡ value_with site_count page_count size) }
+{
+    let mut plan = Map::new(alloc);
+    put_printing(alloc, size, &mut plan)?;
+    put_layout(alloc, site_count, page_count, &mut plan)?;
+    Ok(Value::Object(plan))
+}
