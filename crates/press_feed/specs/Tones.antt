@@ -1,0 +1,28 @@
+-- The tone of a plan.
+use Rattle.std.specs.Prelude.{◌≡◌, ◌<◌, ℕ, Bool, false, nat_lt, List, [], ◌∷◌, length, slice_index, slice_index_or}
+use Rattle.pr_base.specs.declared.ink.Ink.{Ink}
+use Rattle.pr_base.specs.declared.ink.Ink.TheVariants.{C, M, Y, K, S}
+use Rattle.plan_json.specs.Data.{CurveData, PlanData}
+use Rattle.plan_json.specs.Plan.{IsPlan}
+use Rattle.plan_pages.specs.Ink.{slot_of}
+use Rattle.press_feed.specs.Printing.{toned}
+
+-- tables of the curves of a plan
+pub record AreCurves (plan : PlanData) (curves : List (List ℕ)) : Type 0 where
+  pub plan_is : IsPlan plan
+  pub five : length curves ≡ 5
+  pub each : (ink : Ink) (value : ℕ) → value < 256
+      → slice_index (slice_index_or curves (slot_of ink) []) value ≡ toned plan ink value
+
+-- whether the plan's limit can change the values of an ink: S isn't limited, and four values add up to no
+-- more than 1020
+abbrev pub limits : PlanData → Ink → Bool
+limits plan C = nat_lt plan.limit 1020
+limits plan M = nat_lt plan.limit 1020
+limits plan Y = nat_lt plan.limit 1020
+limits plan K = nat_lt plan.limit 1020
+limits plan S = false
+
+-- the points of the curve that changes nothing
+abbrev pub identity : CurveData
+identity = (0, 0) ∷ (255, 255) ∷ []

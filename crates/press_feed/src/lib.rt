@@ -1,0 +1,25 @@
+// A job and its feed: a plan and its files, tested before any row is made, and all plate rows in order. After
+// `prepare` nothing can be refused but for want of memory.
+#![tactic(auto)]
+
+mod feed;
+mod file_test;
+mod files;
+mod fit;
+mod job;
+mod layers;
+mod loading;
+mod plane;
+mod preparing;
+mod printed_row;
+mod refusal;
+mod screener;
+mod side;
+mod side_pages;
+mod tones;
+mod usage;
+
+pub use feed::Feed;
+pub use job::Job;
+pub use preparing::prepare;
+pub use refusal::Refusal;

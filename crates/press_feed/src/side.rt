@@ -1,0 +1,44 @@
+// The two sides of a plate, and which pages stand on them.
+ghost use Rattle.std.specs.Prelude.{◌≡◌};
+ghost use Rattle.press_feed.specs.Sides.{left_edge, page_on, stands_in};
+
+use plan_json::Plan;
+use plan_pages::plate_shape;
+use plan_rows::Group;
+
+/// A side of a plate, on which one of its two pages stands.
+#[derive(Clone, Copy, Debug, PartialEq, Eq)]
+pub(crate) enum Side {
+    Left,
+    Right,
+}
+
+impl Side {
+    /// The page of a group that stands on this side.
+    pub(crate) fn page_of(self, group: &Group) -> usize
+        ensures { result ≡ page_on self group.now }
+    {
+        match self {
+            Side::Left => group.left,
+            Side::Right => group.right,
+        }
+    }
+
+    /// Whether a page stands on this side of the plates of some group.
+    pub(crate) fn has(self, groups: &[Group], page: usize) -> bool
+        ensures { result ≡ stands_in groups.now self page }
+    {
+        groups.iter().any(|group| self.page_of(group) == page)
+    }
+
+    /// Where its pages begin from the left.
+    pub(crate) fn left_edge(self, plan: &Plan) -> u32
+        ensures { result ≡ left_edge plan.now self }
+    {
+        let shape = plate_shape(plan);
+        match self {
+            Side::Left => shape.left_x,
+            Side::Right => shape.right_x,
+        }
+    }
+}
