@@ -1,237 +1,280 @@
 -- What each way to end says of the clauses of `plate_main`.
-use Rattle.std.proofs.Common.{◌≡◌, ℕ, ◌⊎◌, List, [], Option, Some, None, IfSome, refl, sym, subst, ◌∙◌, inl, inr, arith}
-use Rattle.pr_base.specs.declared.fault.TagFault.{TagFault}
-use Rattle.pr_base.specs.Count.{Rose}
-use Rattle.pr_ports.specs.Sink.{Grew, GrewByPrefix}
-use Rattle.plate_room.specs.Command.{One, command_of}
-use Rattle.plate_room.specs.Line.{words_line, memory_line}
-use Rattle.plate_room.specs.Verdict.{verdict_of, verdict_for}
-use Rattle.plate_room.specs.Verdict as verdicts
-use Rattle.plate_room.specs.End.{GrewByTwo, IsCutShort, IsRefusal, IsStatus, PrintsOne, PrintsOnePart, RefusesOne, TellsFile, TellsShelf, TellsVerdict}
-use Rattle.plate_room.specs.Run.{Run, RunMeets, RunMayTell, Ending, Printed, NoCommand, Refused, NotLoaded, Wanted, Untold, NotPrinted, NotNoted}
-use Rattle.plate_room.proofs.Grow.{grew_nothing}
-use Rattle.plate_room.proofs.Verdicts.{pass_is, part_is, refused_is, none_is}
+use Rattle.std.proofs.Common.{◌≡◌, ◌≢◌, ◌⊎◌, ℕ, List, [], Option, Some, None, IfSome, refl, sym, subst, ◌∙◌, inl, inr, arith}
+use Rattle.pr_ports.specs.Sink.{Grew}
+use Rattle.pr_rack.specs.declared.rack.Rack.{Ghosts}
+use Rattle.plate_room.specs.Command.{Command, command_of}
+use Rattle.plate_room.specs.Line.{memory_line}
+use Rattle.plate_room.specs.Refusal.{Refusal, NoCommand, LongPlan, BadPlan, Faulty, NotLoaded, status_of, line_of}
+use Rattle.plate_room.specs.Verdict.{verdict_of}
+use Rattle.plate_room.specs.Met.{Meets}
+use Rattle.plate_room.specs.Done.{IsDone, IsCut}
+use Rattle.plate_room.specs.End.{IsCutShort, IsDoneStatus, IsRefusal, IsStatus, Tells, TellsVerdict, TellsOfMemory, TellsPart}
+use Rattle.plate_room.specs.Ending.{Ending, IsFinished, IsStopped, IsSilent, Done, Refused, Untold, NotNoted, Wanted, NotPrinted}
+use Rattle.plate_room.specs.Seen.{Seen, SinkSeen, Files, IsUntouched, LoadFailed, PutFailed, RackFailed}
+use Rattle.plate_room.proofs.Grow.{grew_nothing, second_front}
+use Rattle.plate_room.proofs.Verdicts.{command_known, met_is, part_passes, done_passes, done_or_left}
 
-pub status_is : (run : Run) (status : ℕ) → Ending run status → IsStatus status
-status_is run status (Printed s p n) = inl s
-status_is run status (NoCommand s none same grew) = inr (inl (inl s))
-status_is run status (Refused s tells same) = inr (inl (inr (inl s)))
-status_is run status (NotLoaded s tells same) = inr (inl (inr (inr s)))
-status_is run status (Wanted s front line) = inr (inr (inl s))
-status_is run status (Untold s same line) = inr (inr (inl s))
-status_is run status (NotPrinted s part rose same) = inr (inr (inr s))
-status_is run status (NotNoted s same rose line) = inr (inr (inr s))
+-- ---- statuses
 
-pub done_prints : (run : Run) (status : ℕ) → Ending run status → status ≡ 0 → PrintsOne run.words run.held run.out run.out'
-done_prints run status (Printed s p n) h = p
-done_prints run status (NoCommand s none same grew) h = absurd (omega arith)
-done_prints run status (Refused s tells same) h = absurd (omega arith)
-done_prints run status (NotLoaded s tells same) h = absurd (omega arith)
-done_prints run status (Wanted s front line) h = absurd (omega arith)
-done_prints run status (Untold s same line) h = absurd (omega arith)
-done_prints run status (NotPrinted s part rose same) h = absurd (omega arith)
-done_prints run status (NotNoted s same rose line) h = absurd (omega arith)
+status_refuses : (refusal : Refusal) → IsRefusal (status_of refusal)
+status_refuses NoCommand = inl refl
+status_refuses LongPlan = inr (inl refl)
+status_refuses (BadPlan fault) = inr (inl refl)
+status_refuses (Faulty fault) = inr (inr (inl refl))
+status_refuses (NotLoaded path) = inr (inr (inr refl))
 
-pub done_note : (run : Run) (status : ℕ) → Ending run status → status ≡ 0 → run.note' ≡ run.note
-done_note run status (Printed s p n) h = n
-done_note run status (NoCommand s none same grew) h = absurd (omega arith)
-done_note run status (Refused s tells same) h = absurd (omega arith)
-done_note run status (NotLoaded s tells same) h = absurd (omega arith)
-done_note run status (Wanted s front line) h = absurd (omega arith)
-done_note run status (Untold s same line) h = absurd (omega arith)
-done_note run status (NotPrinted s part rose same) h = absurd (omega arith)
-done_note run status (NotNoted s same rose line) h = absurd (omega arith)
+-- the status of a refusal
+refuses : (status : ℕ) (refusal : Refusal) → status ≡ status_of refusal → IsRefusal status
+refuses status refusal is = subst IsRefusal (sym is) (status_refuses refusal)
+
+done_or_refused : (status : ℕ) → IsDoneStatus status → IsRefusal status → ⊥
+done_or_refused status done refused = grind arith
+
+done_or_cut : (status : ℕ) → IsDoneStatus status → IsCutShort status → ⊥
+done_or_cut status done cut = grind arith
+
+refused_or_cut : (status : ℕ) → IsRefusal status → IsCutShort status → ⊥
+refused_or_cut status refused cut = grind arith
+
+six_or_seven : (status : ℕ) → status ≡ 6 → status ≡ 7 → ⊥
+six_or_seven status six seven = omega arith
+
+-- words that are no command aren't one
+none_asked : (words : List (List ℕ)) (command : Command) → command_of words ≡ None → command_of words ≡ Some command → ⊥
+none_asked words command none asked = let e : None ≡ Some command = sym none ∙ asked in cc
 
 -- P of the files that a shelf tells
-told : (held : Option (List (List ℕ × List ℕ))) (P : List (List ℕ × List ℕ) → Type 0) → ((files : List (List ℕ × List ℕ)) → held ≡ Some files → P files) → IfSome held P
+told : (held : Option Files) (P : Files → Type 0) → ((files : Files) → held ≡ Some files → P files) → IfSome held P
 told None P f = tt
 told (Some files) P f = f files refl
 
-pub done_verdict : (run : Run) (status : ℕ) → Ending run status → status ≡ 0 → IfSome run.held (λ files. verdict_of run.words files ≡ verdicts.Pass)
-done_verdict run status e h = told run.held (λ files. verdict_of run.words files ≡ verdicts.Pass) (λ files is.
-    let P : Option (List (List ℕ × List ℕ)) → Type 0 = λ held. PrintsOne run.words held run.out run.out' in
-    pass_is run.words files run.out run.out' (subst P is (done_prints run status e h)))
+-- a refusal with this status was met, and its line told
+pub record HasRefused {R : Type 0} (seen : Seen R) (note : SinkSeen) (status : ℕ) : Type 0 where
+  pub refusal : Refusal
+  pub is : status ≡ status_of refusal
+  pub stopped : IsStopped seen refusal
+  pub line : Grew note.given note.given' (line_of refusal)
 
-pub words_asked : (run : Run) (status : ℕ) → Ending run status → status ≡ 2 → (command_of run.words ≡ None) × Grew run.note run.note' words_line
-words_asked run status (Printed s p n) h = absurd (omega arith)
-words_asked run status (NoCommand s none same grew) h = (none, grew)
-words_asked run status (Refused s tells same) h = absurd (omega arith)
-words_asked run status (NotLoaded s tells same) h = absurd (omega arith)
-words_asked run status (Wanted s front line) h = absurd (omega arith)
-words_asked run status (Untold s same line) h = absurd (omega arith)
-words_asked run status (NotPrinted s part rose same) h = absurd (omega arith)
-words_asked run status (NotNoted s same rose line) h = absurd (omega arith)
+module _ {R : Type 0} (g : Ghosts R) (seen : Seen R) (note : SinkSeen) (status : ℕ) where
+  pub status_is : Ending g seen note status → IsStatus status
+  status_is (Done f s) = inl f.is
+  status_is (Refused r is stopped line) = inr (inl (refuses status r is))
+  status_is (Untold r is stopped line) = inr (inr (inl is))
+  status_is (NotNoted r is stopped rose line) = inr (inr (inr is))
+  status_is (Wanted is broken line) = inr (inr (inl is))
+  status_is (NotPrinted is broken rose same) = inr (inr (inr is))
 
--- words that are no command aren't `one` of a file
-other_words : (words : List (List ℕ)) (file : List ℕ) → command_of words ≡ None → command_of words ≡ Some (One file) → ⊥
-other_words words file none asked = let e : None ≡ Some (One file) = sym none ∙ asked in cc
+  finished_at : Ending g seen note status → IsDoneStatus status → IsFinished g seen status × IsSilent note
+  finished_at (Done f s) h = (f, s)
+  finished_at (Refused r is stopped line) h = absurd (done_or_refused status h (refuses status r is))
+  finished_at (Untold r is stopped line) h = absurd (done_or_cut status h (inl is))
+  finished_at (NotNoted r is stopped rose line) h = absurd (done_or_cut status h (inr is))
+  finished_at (Wanted is broken line) h = absurd (done_or_cut status h (inl is))
+  finished_at (NotPrinted is broken rose same) h = absurd (done_or_cut status h (inr is))
 
-pub words_there : (run : Run) (status : ℕ) → Ending run status → command_of run.words ≡ None → (status ≡ 2) ⊎ IsCutShort status
-words_there run status (Printed s p n) none = absurd (other_words run.words p.file none p.asked)
-words_there run status (NoCommand s other same grew) none = inl s
-words_there run status (Refused s (r, grew) same) none = absurd (other_words run.words r.file none r.asked)
-words_there run status (NotLoaded s (r, grew) same) none = absurd (other_words run.words r.file none r.asked)
-words_there run status (Wanted s front line) none = inr (inl s)
-words_there run status (Untold s same line) none = inr (inl s)
-words_there run status (NotPrinted s part rose same) none = inr (inr s)
-words_there run status (NotNoted s same rose line) none = inr (inr s)
+  refused_at : Ending g seen note status → IsRefusal status → HasRefused seen note status
+  refused_at (Done f s) h = absurd (done_or_refused status f.is h)
+  refused_at (Refused r is stopped line) h = record { refusal = r; is = is; stopped = stopped; line = line }
+  refused_at (Untold r is stopped line) h = absurd (refused_or_cut status h (inl is))
+  refused_at (NotNoted r is stopped rose line) h = absurd (refused_or_cut status h (inr is))
+  refused_at (Wanted is broken line) h = absurd (refused_or_cut status h (inl is))
+  refused_at (NotPrinted is broken rose same) h = absurd (refused_or_cut status h (inr is))
 
-pub file_tells : (run : Run) (status : ℕ) → Ending run status → status ≡ 4 → TellsFile run.words run.held run.longs run.longs' run.note run.note'
-file_tells run status (Printed s p n) h = absurd (omega arith)
-file_tells run status (NoCommand s none same grew) h = absurd (omega arith)
-file_tells run status (Refused s tells same) h = tells
-file_tells run status (NotLoaded s tells same) h = absurd (omega arith)
-file_tells run status (Wanted s front line) h = absurd (omega arith)
-file_tells run status (Untold s same line) h = absurd (omega arith)
-file_tells run status (NotPrinted s part rose same) h = absurd (omega arith)
-file_tells run status (NotNoted s same rose line) h = absurd (omega arith)
+  -- ---- done
 
--- a file's fault is the verdict
-fault_is : (run : Run) (files : List (List ℕ × List ℕ)) → run.held ≡ Some files → (r : RefusesOne run.words run.held run.longs run.longs') → verdict_of run.words files ≡ verdicts.Refused r.file r.fault
-fault_is run files is r =
-    let P : Option (List (List ℕ × List ℕ)) → Type 0 = λ held. (q : RefusesOne run.words held run.longs run.longs') → verdict_of run.words files ≡ verdicts.Refused q.file q.fault in
-    subst P (sym is) (refused_is run.words files run.longs run.longs') r
+  pub done_made : Ending g seen note status → IsDoneStatus status
+      → IsDone g seen.words seen.shelf.held seen.racks seen.racks' seen.out status
+  done_made e h = (finished_at e h).0.made
 
-pub file_verdict : (run : Run) (status : ℕ) → Ending run status → status ≡ 4 → IfSome run.held (λ files. TellsVerdict (verdict_of run.words files) run.note run.note')
-file_verdict run status e h = told run.held (λ files. TellsVerdict (verdict_of run.words files) run.note run.note') (λ files is.
-    let t = file_tells run status e h in (t.0.file, t.0.fault, fault_is run files is t.0, t.1))
+  pub done_verdict : Ending g seen note status → IsDoneStatus status
+      → IfSome seen.shelf.held (λ files. verdict_of seen.words files ≡ None)
+  done_verdict e h = told seen.shelf.held (λ files. verdict_of seen.words files ≡ None) (λ files is.
+      done_passes g seen.words files seen.shelf.held seen.racks seen.racks' seen.out status is (done_made e h))
 
-pub file_there : (run : Run) (status : ℕ) → Ending run status → (files : List (List ℕ × List ℕ)) → run.held ≡ Some files → (name : List ℕ) (fault : TagFault)
-    → verdict_of run.words files ≡ verdicts.Refused name fault → (Rose run.faults run.faults' → ⊥) → (status ≡ 4) ⊎ IsCutShort status
-file_there run status (Printed s p n) files is name fault v calm =
-    let P : Option (List (List ℕ × List ℕ)) → Type 0 = λ held. PrintsOne run.words held run.out run.out' in
-    let e : verdicts.Pass ≡ verdicts.Refused name fault = sym (pass_is run.words files run.out run.out' (subst P is p)) ∙ v in cc
-file_there run status (NoCommand s none same grew) files is name fault v calm =
-    let e : verdicts.NoCommand ≡ verdicts.Refused name fault = sym (none_is run.words files none) ∙ v in cc
-file_there run status (Refused s tells same) files is name fault v calm = inl s
-file_there run status (NotLoaded s (r, grew) same) files is name fault v calm = absurd (calm r.counted)
-file_there run status (Wanted s front line) files is name fault v calm = inr (inl s)
-file_there run status (Untold s same line) files is name fault v calm = inr (inl s)
-file_there run status (NotPrinted s part rose same) files is name fault v calm = inr (inr s)
-file_there run status (NotNoted s same rose line) files is name fault v calm = inr (inr s)
+  pub done_note : Ending g seen note status → IsDoneStatus status → IsSilent note
+  done_note e h = (finished_at e h).1
 
-pub shelf_tells : (run : Run) (status : ℕ) → Ending run status → status ≡ 5 → TellsShelf run.words run.missed run.faults run.faults' run.note run.note'
-shelf_tells run status (Printed s p n) h = absurd (omega arith)
-shelf_tells run status (NoCommand s none same grew) h = absurd (omega arith)
-shelf_tells run status (Refused s tells same) h = absurd (omega arith)
-shelf_tells run status (NotLoaded s tells same) h = tells
-shelf_tells run status (Wanted s front line) h = absurd (omega arith)
-shelf_tells run status (Untold s same line) h = absurd (omega arith)
-shelf_tells run status (NotPrinted s part rose same) h = absurd (omega arith)
-shelf_tells run status (NotNoted s same rose line) h = absurd (omega arith)
+  pub done_missed : Ending g seen note status → IsDoneStatus status → seen.shelf.missed' ≡ seen.shelf.missed
+  done_missed e h = (finished_at e h).0.missed
 
-pub printing_rose : (run : Run) (status : ℕ) → Ending run status → status ≡ 7 → Rose run.out_faults run.out_faults' ⊎ Rose run.note_faults run.note_faults'
-printing_rose run status (Printed s p n) h = absurd (omega arith)
-printing_rose run status (NoCommand s none same grew) h = absurd (omega arith)
-printing_rose run status (Refused s tells same) h = absurd (omega arith)
-printing_rose run status (NotLoaded s tells same) h = absurd (omega arith)
-printing_rose run status (Wanted s front line) h = absurd (omega arith)
-printing_rose run status (Untold s same line) h = absurd (omega arith)
-printing_rose run status (NotPrinted s part rose same) h = inl rose
-printing_rose run status (NotNoted s same rose line) h = inr rose
+  pub one_left : Ending g seen note status → status ≡ 1 → RackFailed g seen.racks seen.racks'
+  one_left e h = by (done_or_left g seen.words seen.shelf.held seen.racks seen.racks' seen.out status (done_made e (inr h))) where
+    by : (status ≡ 0) ⊎ ((status ≡ 1) × RackFailed g seen.racks seen.racks') → RackFailed g seen.racks seen.racks'
+    by (inl zero) = absurd (omega arith)
+    by (inr (is, failed)) = failed
 
--- where the verdict is pass and the shelf didn't fail, no refusal is met
-none_met : (run : Run) (files : List (List ℕ × List ℕ)) (line : List ℕ) → run.held ≡ Some files → verdict_of run.words files ≡ verdicts.Pass → (Rose run.faults run.faults' → ⊥) → RunMeets run line → ⊥
-none_met run files line is v calm (inl (none, l)) = let e : verdicts.NoCommand ≡ verdicts.Pass = sym (none_is run.words files none) ∙ v in cc
-none_met run files line is v calm (inr (inl (r, l))) = let e : verdicts.Refused r.file r.fault ≡ verdicts.Pass = sym (fault_is run files is r) ∙ v in cc
-none_met run files line is v calm (inr (inr (r, l))) = calm r.counted
+  -- ---- refused
 
-pub printing_out : (run : Run) (status : ℕ) → Ending run status → (files : List (List ℕ × List ℕ)) → run.held ≡ Some files → verdict_of run.words files ≡ verdicts.Pass
-    → (Rose run.faults run.faults' → ⊥) → status ≡ 7 → Rose run.out_faults run.out_faults'
-printing_out run status (Printed s p n) files is v calm h = absurd (omega arith)
-printing_out run status (NoCommand s none same grew) files is v calm h = absurd (omega arith)
-printing_out run status (Refused s tells same) files is v calm h = absurd (omega arith)
-printing_out run status (NotLoaded s tells same) files is v calm h = absurd (omega arith)
-printing_out run status (Wanted s front line) files is v calm h = absurd (omega arith)
-printing_out run status (Untold s same line) files is v calm h = absurd (omega arith)
-printing_out run status (NotPrinted s part rose same) files is v calm h = rose
-printing_out run status (NotNoted s same rose (line, meets, front)) files is v calm h = absurd (none_met run files line is v calm meets)
+  refused_tells : Ending g seen note status → IsRefusal status → Tells seen.words seen.shelf note status
+  refused_tells e h =
+      let r = refused_at e h in record { refusal = r.refusal; is = sym r.is; met = r.stopped.met; line = r.line }
 
--- a file of which a part was printed passes
-part_passes : (run : Run) (files : List (List ℕ × List ℕ)) → run.held ≡ Some files → PrintsOnePart run.words run.held run.out run.out' → verdict_of run.words files ≡ verdicts.Pass
-part_passes run files is p =
-    let P : Option (List (List ℕ × List ℕ)) → Type 0 = λ held. PrintsOnePart run.words held run.out run.out' in
-    part_is run.words files run.out run.out' (subst P is p)
+  -- the same at one of the four statuses
+  pub tells_at : (own : ℕ) → IsRefusal own → Ending g seen note status → status ≡ own → Tells seen.words seen.shelf note own
+  tells_at own is e h =
+      let T : ℕ → Type 0 = Tells seen.words seen.shelf note in subst T h (refused_tells e (subst IsRefusal (sym h) is))
 
-pub out_stays : (run : Run) (status : ℕ) → Ending run status → (files : List (List ℕ × List ℕ)) → run.held ≡ Some files → (verdict_of run.words files ≡ verdicts.Pass → ⊥) → run.out' ≡ run.out
-out_stays run status (Printed s p n) files is v =
-    let P : Option (List (List ℕ × List ℕ)) → Type 0 = λ held. PrintsOne run.words held run.out run.out' in
-    absurd (v (pass_is run.words files run.out run.out' (subst P is p)))
-out_stays run status (NoCommand s none same grew) files is v = same
-out_stays run status (Refused s tells same) files is v = same
-out_stays run status (NotLoaded s tells same) files is v = same
-out_stays run status (Wanted s (inl same) line) files is v = same
-out_stays run status (Wanted s (inr part) line) files is v = absurd (v (part_passes run files is part))
-out_stays run status (Untold s same line) files is v = same
-out_stays run status (NotPrinted s part rose same) files is v = absurd (v (part_passes run files is part))
-out_stays run status (NotNoted s same rose line) files is v = same
+  pub refused_racks : Ending g seen note status → IsRefusal status → seen.racks' ≡ seen.racks
+  refused_racks e h = (refused_at e h).stopped.racks
 
-not_done : (status : ℕ) → status ≡ 0 → IsRefusal status → ⊥
-not_done status s (inl h) = omega arith
-not_done status s (inr (inl h)) = omega arith
-not_done status s (inr (inr h)) = omega arith
+  pub refused_out : Ending g seen note status → IsRefusal status → IsSilent seen.out
+  refused_out e h = let r = refused_at e h in record { given = r.stopped.given; faults = r.stopped.faults }
 
-not_six : (status : ℕ) → status ≡ 6 → IsRefusal status → ⊥
-not_six status s (inl h) = omega arith
-not_six status s (inr (inl h)) = omega arith
-not_six status s (inr (inr h)) = omega arith
+  -- words that met the refusal of no command are none
+  no_command : (refusal : Refusal) → status_of refusal ≡ 2 → Meets seen.words seen.shelf refusal → command_of seen.words ≡ None
+  no_command refusal is (inl (none, r, same)) = none
+  no_command refusal is (inr (command, asked, met)) = absurd (command_known seen.shelf command refusal met is)
 
-not_seven : (status : ℕ) → status ≡ 7 → IsRefusal status → ⊥
-not_seven status s (inl h) = omega arith
-not_seven status s (inr (inl h)) = omega arith
-not_seven status s (inr (inr h)) = omega arith
+  pub words_none : Ending g seen note status → status ≡ 2 → command_of seen.words ≡ None
+  words_none e h =
+      let r = refused_at e (inl h) in no_command r.refusal (sym r.is ∙ h) r.stopped.met
 
-not_cut : (status : ℕ) → status ≡ 0 → IsCutShort status → ⊥
-not_cut status s (inl h) = omega arith
-not_cut status s (inr h) = omega arith
+  -- words that are no command met that refusal alone
+  none_met : (refusal : Refusal) → command_of seen.words ≡ None → Meets seen.words seen.shelf refusal
+      → (refusal ≡ NoCommand) × IsUntouched seen.shelf
+  none_met refusal none (inl (n, is, same)) = (is, same)
+  none_met refusal none (inr (command, asked, met)) = absurd (none_asked seen.words command none asked)
 
-pub out_refused : (run : Run) (status : ℕ) → Ending run status → IsRefusal status → run.out' ≡ run.out
-out_refused run status (Printed s p n) h = absurd (not_done status s h)
-out_refused run status (NoCommand s none same grew) h = same
-out_refused run status (Refused s tells same) h = same
-out_refused run status (NotLoaded s tells same) h = same
-out_refused run status (Wanted s front line) h = absurd (not_six status s h)
-out_refused run status (Untold s same line) h = same
-out_refused run status (NotPrinted s part rose same) h = absurd (not_seven status s h)
-out_refused run status (NotNoted s same rose line) h = same
+  pub words_there : Ending g seen note status → command_of seen.words ≡ None → (status ≡ 2) ⊎ IsCutShort status
+  words_there (Done f s) none = absurd (none_asked seen.words f.made.command none f.made.asked)
+  words_there (Refused r is stopped line) none =
+      let m = none_met r none stopped.met in inl (let S : Refusal → Type 0 = λ q. status ≡ status_of q in subst S m.0 is)
+  words_there (Untold r is stopped line) none = inr (inl is)
+  words_there (NotNoted r is stopped rose line) none = inr (inr is)
+  words_there (Wanted is broken line) none = inr (inl is)
+  words_there (NotPrinted is broken rose same) none = inr (inr is)
 
-pub out_front : (run : Run) (status : ℕ) → Ending run status → IsCutShort status → (run.out' ≡ run.out) ⊎ PrintsOnePart run.words run.held run.out run.out'
-out_front run status (Printed s p n) h = absurd (not_cut status s h)
-out_front run status (NoCommand s none same grew) h = inl same
-out_front run status (Refused s tells same) h = inl same
-out_front run status (NotLoaded s tells same) h = inl same
-out_front run status (Wanted s front line) h = front
-out_front run status (Untold s same line) h = inl same
-out_front run status (NotPrinted s part rose same) h = inr part
-out_front run status (NotNoted s same rose line) h = inl same
+  pub words_shelf : Ending g seen note status → command_of seen.words ≡ None → IsUntouched seen.shelf
+  words_shelf (Done f s) none = absurd (none_asked seen.words f.made.command none f.made.asked)
+  words_shelf (Refused r is stopped line) none = (none_met r none stopped.met).1
+  words_shelf (Untold r is stopped line) none = (none_met r none stopped.met).1
+  words_shelf (NotNoted r is stopped rose line) none = (none_met r none stopped.met).1
+  words_shelf (Wanted is broken line) none = absurd (none_asked seen.words broken.asked.0 none broken.asked.1)
+  words_shelf (NotPrinted is broken rose same) none = absurd (none_asked seen.words broken.asked.0 none broken.asked.1)
 
-pub memory_note : (run : Run) (status : ℕ) → Ending run status → status ≡ 6 → (line : List ℕ) × RunMayTell run line × GrewByTwo run.note run.note' line memory_line
-memory_note run status (Printed s p n) h = absurd (omega arith)
-memory_note run status (NoCommand s none same grew) h = absurd (omega arith)
-memory_note run status (Refused s tells same) h = absurd (omega arith)
-memory_note run status (NotLoaded s tells same) h = absurd (omega arith)
-memory_note run status (Wanted s front line) h = line
-memory_note run status (Untold s same (line, meets, two)) h = (line, inr meets, two)
-memory_note run status (NotPrinted s part rose same) h = absurd (omega arith)
-memory_note run status (NotNoted s same rose line) h = absurd (omega arith)
+  -- ---- the verdict
 
-pub printing_note : (run : Run) (status : ℕ) → Ending run status → status ≡ 7 → (line : List ℕ) × RunMayTell run line × GrewByPrefix run.note run.note' line
-printing_note run status (Printed s p n) h = absurd (omega arith)
-printing_note run status (NoCommand s none same grew) h = absurd (omega arith)
-printing_note run status (Refused s tells same) h = absurd (omega arith)
-printing_note run status (NotLoaded s tells same) h = absurd (omega arith)
-printing_note run status (Wanted s front line) h = absurd (omega arith)
-printing_note run status (Untold s same line) h = absurd (omega arith)
-printing_note run status (NotPrinted s part rose same) h = ([], inl refl, (0, grew_nothing run.note run.note' same))
-printing_note run status (NotNoted s same rose (line, meets, front)) h = (line, inr meets, front)
+  verdict_met : (files : Files) (refusal : Refusal) → seen.shelf.held ≡ Some files → IsStopped seen refusal
+      → (verdict_of seen.words files ≡ Some refusal) ⊎ ((status_of refusal ≡ 5) × LoadFailed seen.shelf)
+  verdict_met files refusal is stopped = met_is seen.words files seen.shelf refusal is stopped.met
 
-pub complete : (run : Run) (status : ℕ) → Ending run status → (files : List (List ℕ × List ℕ)) → run.held ≡ Some files → verdict_of run.words files ≡ verdicts.Pass
-    → (Rose run.faults run.faults' → ⊥) → (Rose run.out_faults run.out_faults' → ⊥) → (Rose run.note_faults run.note_faults' → ⊥) → (status ≡ 0) ⊎ (status ≡ 6)
-complete run status (Printed s p n) files is v calm out note = inl s
-complete run status (NoCommand s none same grew) files is v calm out note = absurd (none_met run files words_line is v calm (inl (none, refl)))
-complete run status (Refused s (r, grew) same) files is v calm out note = absurd (none_met run files _ is v calm (inr (inl (r, refl))))
-complete run status (NotLoaded s (r, grew) same) files is v calm out note = absurd (calm r.counted)
-complete run status (Wanted s front line) files is v calm out note = inr s
-complete run status (Untold s same line) files is v calm out note = inr s
-complete run status (NotPrinted s part rose same) files is v calm out note = absurd (out rose)
-complete run status (NotNoted s same rose line) files is v calm out note = absurd (note rose)
+  pub verdict_told : Ending g seen note status → (files : Files) → seen.shelf.held ≡ Some files → IsRefusal status
+      → status ≢ 5 → TellsVerdict seen.words files note status
+  verdict_told e files is h other = by (verdict_met files r.refusal is r.stopped) where
+    r : HasRefused seen note status
+    r = refused_at e h
+
+    by : (verdict_of seen.words files ≡ Some r.refusal) ⊎ ((status_of r.refusal ≡ 5) × LoadFailed seen.shelf)
+        → TellsVerdict seen.words files note status
+    by (inl verdict) = record { refusal = r.refusal; verdict = verdict; is = sym r.is; line = r.line }
+    by (inr (five, failed)) = absurd (other (r.is ∙ five))
+
+  -- where no load failed a refusal that was met is the verdict
+  calm_verdict : (files : Files) (refusal : Refusal) → seen.shelf.held ≡ Some files → (LoadFailed seen.shelf → ⊥)
+      → IsStopped seen refusal → verdict_of seen.words files ≡ Some refusal
+  calm_verdict files refusal is calm stopped = elim (verdict_met files refusal is stopped) [
+    | inl verdict ↦ verdict
+    | inr failed ↦ absurd (calm failed.1)
+  ]
+
+  pub verdict_there : Ending g seen note status → (files : Files) → seen.shelf.held ≡ Some files → (refusal : Refusal)
+      → verdict_of seen.words files ≡ Some refusal → (LoadFailed seen.shelf → ⊥)
+      → (status ≡ status_of refusal) ⊎ IsCutShort status
+  verdict_there (Done f s) files is refusal verdict calm =
+      let pass : verdict_of seen.words files ≡ None =
+      done_passes g seen.words files seen.shelf.held seen.racks seen.racks' seen.out status is f.made in
+      let e : None ≡ Some refusal = sym pass ∙ verdict in cc
+  verdict_there (Refused r st stopped line) files is refusal verdict calm =
+      let e : Some r ≡ Some refusal = sym (calm_verdict files r is calm stopped) ∙ verdict in
+      let same : r ≡ refusal = cc in
+      inl (let S : Refusal → Type 0 = λ q. status ≡ status_of q in subst S same st)
+  verdict_there (Untold r st stopped line) files is refusal verdict calm = inr (inl st)
+  verdict_there (NotNoted r st stopped rose line) files is refusal verdict calm = inr (inr st)
+  verdict_there (Wanted st broken line) files is refusal verdict calm = inr (inl st)
+  verdict_there (NotPrinted st broken rose same) files is refusal verdict calm = inr (inr st)
+
+  -- a refusal isn't met where nothing is wrong and no load failed
+  none_wrong : (files : Files) (refusal : Refusal) → seen.shelf.held ≡ Some files → verdict_of seen.words files ≡ None
+      → (LoadFailed seen.shelf → ⊥) → IsStopped seen refusal → ⊥
+  none_wrong files refusal is pass calm stopped =
+      let e : None ≡ Some refusal = sym pass ∙ calm_verdict files refusal is calm stopped in cc
+
+  -- ---- printing
+
+  pub printing_rose : Ending g seen note status → status ≡ 7 → PutFailed seen.out ⊎ PutFailed note
+  printing_rose (Done f s) h = absurd (done_or_cut status f.is (inr h))
+  printing_rose (Refused r is stopped line) h = absurd (refused_or_cut status (refuses status r is) (inr h))
+  printing_rose (Untold r is stopped line) h = absurd (six_or_seven status is h)
+  printing_rose (NotNoted r is stopped rose line) h = inr rose
+  printing_rose (Wanted is broken line) h = absurd (six_or_seven status is h)
+  printing_rose (NotPrinted is broken rose same) h = inl rose
+
+  pub printing_out : Ending g seen note status → (files : Files) → seen.shelf.held ≡ Some files
+      → verdict_of seen.words files ≡ None → (LoadFailed seen.shelf → ⊥) → status ≡ 7 → PutFailed seen.out
+  printing_out (Done f s) files is pass calm h = absurd (done_or_cut status f.is (inr h))
+  printing_out (Refused r st stopped line) files is pass calm h = absurd (none_wrong files r is pass calm stopped)
+  printing_out (Untold r st stopped line) files is pass calm h = absurd (none_wrong files r is pass calm stopped)
+  printing_out (NotNoted r st stopped rose line) files is pass calm h = absurd (none_wrong files r is pass calm stopped)
+  printing_out (Wanted st broken line) files is pass calm h = absurd (six_or_seven status st h)
+  printing_out (NotPrinted st broken rose same) files is pass calm h = rose
+
+  -- ---- what stands
+
+  -- a part of a command left racks and output as they were, or its verdict is pass
+  broken_stays : (files : Files) → seen.shelf.held ≡ Some files → (verdict_of seen.words files ≡ None → ⊥)
+      → IsCut g seen.words seen.shelf.held seen.racks seen.racks' seen.out
+      → (seen.racks' ≡ seen.racks) × (seen.out.given' ≡ seen.out.given)
+  broken_stays files is wrong (inl same) = same
+  broken_stays files is wrong (inr part) =
+      absurd (wrong (part_passes g seen.words files seen.shelf.held seen.racks seen.racks' seen.out is part))
+
+  pub stays : Ending g seen note status → (files : Files) → seen.shelf.held ≡ Some files
+      → (verdict_of seen.words files ≡ None → ⊥) → (seen.racks' ≡ seen.racks) × (seen.out.given' ≡ seen.out.given)
+  stays (Done f s) files is wrong =
+      absurd (wrong (done_passes g seen.words files seen.shelf.held seen.racks seen.racks' seen.out status is f.made))
+  stays (Refused r st stopped line) files is wrong = (stopped.racks, stopped.given)
+  stays (Untold r st stopped line) files is wrong = (stopped.racks, stopped.given)
+  stays (NotNoted r st stopped rose line) files is wrong = (stopped.racks, stopped.given)
+  stays (Wanted st broken line) files is wrong = broken_stays files is wrong broken.cut
+  stays (NotPrinted st broken rose same) files is wrong = broken_stays files is wrong broken.cut
+
+  pub cut_left : Ending g seen note status → IsCutShort status
+      → IsCut g seen.words seen.shelf.held seen.racks seen.racks' seen.out
+  cut_left (Done f s) h = absurd (done_or_cut status f.is h)
+  cut_left (Refused r is stopped line) h = inl (stopped.racks, stopped.given)
+  cut_left (Untold r is stopped line) h = inl (stopped.racks, stopped.given)
+  cut_left (NotNoted r is stopped rose line) h = inl (stopped.racks, stopped.given)
+  cut_left (Wanted is broken line) h = broken.cut
+  cut_left (NotPrinted is broken rose same) h = broken.cut
+
+  pub memory_note : Ending g seen note status → status ≡ 6 → TellsOfMemory seen.words seen.shelf note
+  memory_note (Done f s) h = absurd (done_or_cut status f.is (inl h))
+  memory_note (Refused r is stopped line) h = absurd (refused_or_cut status (refuses status r is) (inl h))
+  memory_note (Untold r is stopped two) h = (line_of r, inr (r, stopped.met, refl), two)
+  memory_note (NotNoted r is stopped rose line) h = absurd (six_or_seven status h is)
+  memory_note (Wanted is broken front) h = ([], inl refl, second_front note.given note.given' [] memory_line front)
+  memory_note (NotPrinted is broken rose same) h = absurd (six_or_seven status h is)
+
+  pub printing_note : Ending g seen note status → status ≡ 7 → TellsPart seen.words seen.shelf note
+  printing_note (Done f s) h = absurd (done_or_cut status f.is (inr h))
+  printing_note (Refused r is stopped line) h = absurd (refused_or_cut status (refuses status r is) (inr h))
+  printing_note (Untold r is stopped line) h = absurd (six_or_seven status is h)
+  printing_note (NotNoted r is stopped rose front) h = (line_of r, inr (r, stopped.met, refl), front)
+  printing_note (Wanted is broken line) h = absurd (six_or_seven status is h)
+  printing_note (NotPrinted is broken rose same) h = ([], inl refl, (0, grew_nothing note.given note.given' same))
+
+  -- ---- completeness
+
+  pub complete : Ending g seen note status → (files : Files) → seen.shelf.held ≡ Some files
+      → verdict_of seen.words files ≡ None → (LoadFailed seen.shelf → ⊥) → (RackFailed g seen.racks seen.racks' → ⊥)
+      → (PutFailed seen.out → ⊥) → (PutFailed note → ⊥) → (status ≡ 0) ⊎ (status ≡ 6)
+  complete (Done f s) files is pass calm kept out noted = by
+      (done_or_left g seen.words seen.shelf.held seen.racks seen.racks' seen.out status f.made) where
+        by : (status ≡ 0) ⊎ ((status ≡ 1) × RackFailed g seen.racks seen.racks') → (status ≡ 0) ⊎ (status ≡ 6)
+        by (inl zero) = inl zero
+        by (inr (one, failed)) = absurd (kept failed)
+  complete (Refused r st stopped line) files is pass calm kept out noted = absurd (none_wrong files r is pass calm stopped)
+  complete (Untold r st stopped line) files is pass calm kept out noted = inr st
+  complete (NotNoted r st stopped rose line) files is pass calm kept out noted = absurd (noted rose)
+  complete (Wanted st broken line) files is pass calm kept out noted = inr st
+  complete (NotPrinted st broken rose same) files is pass calm kept out noted = absurd (out rose)

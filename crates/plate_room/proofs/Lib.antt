@@ -1,6 +1,13 @@
 pub mod Grow
 pub mod Results
 pub mod Verdicts
-pub mod Ends
+pub mod Told
 pub mod Clauses
 pub mod Pack
+pub mod Numbers
+pub mod Delivering
+pub mod Serving
+pub mod Turns
+pub mod Kept
+pub mod Running
+pub mod JobRows

@@ -1,18 +1,64 @@
 -- The words of a command line.
-use Rattle.std.specs.Prelude.{ℕ, if◌then◌else◌, ◌&&◌, not, List, [], ◌∷◌, Option, Some, None, codes, map, length, nat_eq, String, string_bytes}
+use Rattle.std.specs.Prelude.{ℕ, if◌then◌else◌, ◌&&◌, not, ◌==◌, Bool, List, [], ◌∷◌, Option, Some, None, option_map, option_and_then, codes, map, length, nat_eq, String, string_bytes}
 use Rattle.std.specs.Cmp.Lexicographic.{pointwise}
+use Rattle.plate_room.specs.Number.{number_within}
+
+-- an edition to be run: its plan, the folder of its files, the folder of its plates, the places of the ring, and the
+-- patience of a turn
+pub record Edition : Type 0 where
+  pub plan : List ℕ
+  pub files : List ℕ
+  pub out : List ℕ
+  pub ring : ℕ
+  pub patience : ℕ
 
 -- what a command line asks for
 pub data Command : Type 0 where
   -- the black plate of one file
   One : List ℕ → Command
+  -- the plates of all sites of an edition
+  Run : Edition → Command
+
+-- the word isn't empty
+abbrev pub is_given : List ℕ → Bool
+is_given word = not (length word == 0)
+
+-- the words behind `one`: a file
+abbrev pub one_of : List (List ℕ) → Option Command
+one_of [] = None
+one_of (file ∷ []) = if is_given file then Some (One file) else None
+one_of (file ∷ word ∷ words) = None
+
+-- the last words of a run: the places of the ring and the patience, 64 and 1024 where they aren't told
+abbrev pub numbers_of : List (List ℕ) → Option (ℕ × ℕ)
+numbers_of [] = Some (64, 1024)
+numbers_of (ring ∷ []) = option_map (λ places. (places, 1024)) (number_within 1 1024 ring)
+numbers_of (ring ∷ patience ∷ []) =
+    option_and_then (λ places. option_map (λ turns. (places, turns)) (number_within 1 65536 patience))
+    (number_within 1 1024 ring)
+numbers_of (ring ∷ patience ∷ word ∷ words) = None
+
+-- an edition with these numbers
+abbrev pub edition_with : List ℕ → List ℕ → List ℕ → ℕ × ℕ → Edition
+edition_with plan files out numbers =
+    record { plan = plan; files = files; out = out; ring = numbers.0; patience = numbers.1 }
+
+-- the words behind `run`: a plan, two folders, and numbers
+abbrev pub edition_of : List (List ℕ) → Option Edition
+edition_of [] = None
+edition_of (plan ∷ []) = None
+edition_of (plan ∷ files ∷ []) = None
+edition_of (plan ∷ files ∷ out ∷ numbers) =
+    if is_given plan && is_given files && is_given out then option_map (edition_with plan files out) (numbers_of numbers)
+    else None
 
 -- the command that these words are, if they are one
-abbrev pub command_of : List (List ℕ) → Option Command
+unfoldable pub command_of : List (List ℕ) → Option Command
 command_of [] = None
-command_of (name ∷ []) = None
-command_of (name ∷ file ∷ []) = if pointwise nat_eq name (codes "one") && not (nat_eq (length file) 0) then Some (One file) else None
-command_of (name ∷ file ∷ word ∷ words) = None
+command_of (name ∷ words) =
+    if pointwise nat_eq name (codes "one") then one_of words
+    else if pointwise nat_eq name (codes "run") then option_map Run (edition_of words)
+    else None
 
 -- the bytes of each word
 abbrev pub words_of : {Z : Type 0} → List (String Z) → List (List ℕ)

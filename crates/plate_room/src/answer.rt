@@ -1,69 +1,39 @@
-// Doing a command: loading what it names, and printing.
-ghost use Rattle.std.specs.Prelude.{◌≡◌, ◌≤◌, None, OnOk, string_bytes};
-ghost use Rattle.plate_room.specs.Command.{command_of as line_command, words_of};
-ghost use Rattle.plate_room.specs.Answer.{Answered, KeepsFaults, OneAnswered};
+// Doing a command.
+ghost use Rattle.plate_room.specs.Command.{words_of};
+ghost use Rattle.plate_room.specs.Answer.{Answered};
+ghost use Rattle.plate_room.specs.Seen.{AreIdle, shelf_seen, sink_seen};
+ghost use Rattle.std.specs.Prelude.{◌≡◌, ◌≤◌, length};
 
 use crate::command::{Command, command_of};
+use crate::edition::run_edition;
 use crate::note::Refusal;
-use crate::plate::{PlateFault, print_plate};
-use pr_base::{FaultKind, TagFault};
-use pr_ports::{LoadFault, Shelf, Sink};
+use crate::one::print_one;
+use pr_ports::{Shelf, Sink};
+use pr_rack::Rack;
 use std::alloc::Global;
 
-/// The bytes of a file that are read at most.
-const FILE_LIMIT: u64 = 536_870_912;
-
-/// Does what the words ask for.
-pub(crate) fn answer<'a, H: Shelf, S: Sink>(
+/// Does what the words ask for, and answers the status of what was done.
+pub(crate) fn answer<H: Shelf, R: Rack + Send, S: Sink>(
     alloc: Global,
-    words: &'a [String],
+    words: &[String],
     shelf: &mut H,
+    racks: &mut [R],
     out: &mut S,
-) -> Result<(), Refusal<'a>>
-    ensures answered { Answered (words_of words.now) (H.held shelf.old) (H.missed shelf.new) (H.faults shelf.old) (H.faults shelf.new) (H.longs shelf.old) (H.longs shelf.new)
-        (S.given out.old) (S.given out.new) (S.faults out.old) (S.faults out.new) result }
+) -> Result<u8, Refusal>
+    requires racks { 16 ≤ length racks.old }
+    requires idle { AreIdle R.Rack racks.old }
+    ensures answered { Answered R.Rack (record {
+      words = words_of words.now;
+      shelf = shelf_seen H.Shelf shelf.old shelf.new;
+      racks = racks.old;
+      racks' = racks.new;
+      out = sink_seen S.Sink out.old out.new;
+    }) result }
     ensures held { H.held shelf.new ≡ H.held shelf.old }
-    ensures words_faults { line_command (words_of words.now) ≡ None → H.faults shelf.new ≡ H.faults shelf.old }
-    ensures words_longs { line_command (words_of words.now) ≡ None → H.longs shelf.new ≡ H.longs shelf.old }
-    ensures words_missed { line_command (words_of words.now) ≡ None → H.missed shelf.new ≡ H.missed shelf.old }
-    ensures done_missed { OnOk result (H.missed shelf.new ≡ H.missed shelf.old) }
-    ensures out_faults { KeepsFaults (S.faults out.old) (S.faults out.new) result }
 {
     match command_of(words) {
-        Some(Command::One { file }) => one(alloc, file, shelf, out),
+        Some(Command::One { file }) => print_one(alloc, file, shelf, out),
+        Some(Command::Run(edition)) => run_edition(alloc, edition, shelf, racks, out),
         None => Err(Refusal::Words),
-    }
-}
-
-/// Prints the black plate of one file.
-fn one<'a, H: Shelf, S: Sink>(
-    alloc: Global,
-    file: &'a str,
-    shelf: &mut H,
-    out: &mut S,
-) -> Result<(), Refusal<'a>>
-    ensures answered { OneAnswered file.now (H.held shelf.old) (H.missed shelf.new) (H.faults shelf.old) (H.faults shelf.new) (H.longs shelf.old) (H.longs shelf.new)
-        (S.given out.old) (S.given out.new) (S.faults out.old) (S.faults out.new) result }
-    ensures held { H.held shelf.new ≡ H.held shelf.old }
-    ensures done_missed { OnOk result (H.missed shelf.new ≡ H.missed shelf.old) }
-    ensures out_faults { KeepsFaults (S.faults out.old) (S.faults out.new) result }
-{
-    let bytes = match shelf.load(file, FILE_LIMIT) {
-        Ok(bytes) => bytes,
-        Err(LoadFault::TooLong { .. }) => {
-            let fault = TagFault {
-                tag: 0,
-                kind: FaultKind::TooLong,
-            };
-            return Err(Refusal::File { file, fault });
-        }
-        Err(LoadFault::Failed) => return Err(Refusal::Shelf { path: file }),
-        Err(LoadFault::Memory) => return Err(Refusal::Memory),
-    };
-    match print_plate(alloc, bytes.as_slice(), out) {
-        Ok(()) => Ok(()),
-        Err(PlateFault::Refused(fault)) => Err(Refusal::File { file, fault }),
-        Err(PlateFault::Memory) => Err(Refusal::Memory),
-        Err(PlateFault::Printing) => Err(Refusal::Printing),
     }
 }

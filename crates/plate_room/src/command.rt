@@ -1,22 +1,113 @@
 // The words of a command line.
-ghost use Rattle.plate_room.specs.Command.{command_of as meant, words_of};
-ghost use Rattle.plate_room.specs.Answer.{IsCommand};
+ghost use Rattle.std.specs.Prelude.{◌≡◌, IfSome};
+ghost use Rattle.plan_json.specs.Plan.{IsWithin};
+ghost use Rattle.plate_room.specs.Command.{command_of as meant, edition_of as edition_meant, numbers_of as numbers_meant, one_of as one_meant, words_of};
+ghost use Rattle.plate_room.specs.Answer.{HasNumbers, IfRun, IsCommand, IsEdition};
+
+use crate::number::number_within;
+
+/// An edition to be run.
+#[derive(Clone, Copy)]
+pub(crate) struct Edition<'a> {
+    /// The path of the plan.
+    pub(crate) plan: &'a str,
+    /// The folder of the plan's files.
+    pub(crate) files: &'a str,
+    /// The folder of the plates.
+    pub(crate) out: &'a str,
+    /// Places of the ring, 1 to 1024.
+    pub(crate) ring: u32,
+    /// How often a turn looks for a row in vain, 1 to 65,536.
+    pub(crate) patience: u32,
+}
 
 /// What the words ask for.
 #[derive(Clone, Copy)]
 pub(crate) enum Command<'a> {
     /// `one FILE`: the black plate of a file.
     One { file: &'a str },
+    /// `run PLAN FILES OUT [RING [PATIENCE]]`: the plates of all sites of an edition.
+    Run(Edition<'a>),
 }
 
-/// The command that the words are, if they are one. A file's word isn't empty.
+const RING: u32 = 64;
+
+const MOST_RING: u32 = 1024;
+
+const PATIENCE: u32 = 1024;
+
+const MOST_PATIENCE: u32 = 65_536;
+
+/// The command that the words are, if they are one. The words of files and folders aren't empty.
+#[tactic(auto, unfolding(crate::specs::Command::command_of))]
 pub(crate) fn command_of(words: &[String]) -> Option<Command<'_>>
-    ensures { IsCommand result (meant (words_of words.now)) }
+    ensures meant { IsCommand result (meant (words_of words.now)) }
+    ensures within { IfRun result }
+{
+    let [name, words @ ..] = words else {
+        return None;
+    };
+    match name.as_str() {
+        "one" => one_of(words),
+        "run" => match edition_of(words) {
+            Some(edition) => Some(Command::Run(edition)),
+            None => None,
+        },
+        _ => None,
+    }
+}
+
+/// The words behind `one`.
+fn one_of(words: &[String]) -> Option<Command<'_>>
+    ensures meant { IsCommand result (one_meant (words_of words.now)) }
+    ensures within { IfRun result }
 {
     match words {
-        [name, file] if name.as_str() == "one" && !file.is_empty() => Some(Command::One {
+        [file] if !file.is_empty() => Some(Command::One {
             file: file.as_str(),
         }),
+        _ => None,
+    }
+}
+
+/// The words behind `run`.
+fn edition_of(words: &[String]) -> Option<Edition<'_>>
+    ensures meant { IsEdition result (edition_meant (words_of words.now)) }
+    ensures within { IfSome result HasNumbers }
+{
+    let [plan, files, out, numbers @ ..] = words else {
+        return None;
+    };
+    if plan.is_empty() || files.is_empty() || out.is_empty() {
+        return None;
+    }
+    let (ring, patience) = numbers_of(numbers)?;
+    Some(Edition {
+        plan: plan.as_str(),
+        files: files.as_str(),
+        out: out.as_str(),
+        ring,
+        patience,
+    })
+}
+
+/// The last words of a run: the places of the ring and the patience.
+fn numbers_of(words: &[String]) -> Option<(u32, u32)>
+    ensures meant { result ≡ numbers_meant (words_of words.now) }
+    ensures ring { IfSome result (λ numbers. IsWithin 1 1024 numbers.0) }
+    ensures patience { IfSome result (λ numbers. IsWithin 1 65536 numbers.1) }
+{
+    match words {
+        [] => Some((RING, PATIENCE)),
+        [ring] => {
+            let ring = number_within(ring.as_str(), 1, MOST_RING)?;
+            Some((ring, PATIENCE))
+        }
+        [ring, patience] => {
+            let ring = number_within(ring.as_str(), 1, MOST_RING)?;
+            let patience = number_within(patience.as_str(), 1, MOST_PATIENCE)?;
+            Some((ring, patience))
+        }
         _ => None,
     }
 }

@@ -5,12 +5,20 @@
 mod answer;
 mod black;
 mod command;
+mod edition;
+mod job_run;
 mod main_call;
 mod note;
+mod number;
+mod one;
 mod plate;
+mod report;
 mod room;
+mod run_ends;
+mod run_rows;
+mod run_site;
+mod site_end;
 
+pub use job_run::run_job;
 pub use main_call::plate_main;
-
-#[cfg(test)]
-mod tests;
+pub use site_end::{Outcome, SiteEnd};

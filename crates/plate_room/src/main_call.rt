@@ -1,129 +1,136 @@
 // The top call.
-ghost use Rattle.std.specs.Prelude.{◌≡◌, ◌⊎◌, ℕ, List, Some, None, IfSome};
-ghost use Rattle.pr_base.specs.Count.{Rose};
-ghost use Rattle.pr_ports.specs.Sink.{Grew, GrewByPrefix};
-ghost use Rattle.pr_base.specs.declared.fault.TagFault.{TagFault};
+ghost use Rattle.std.specs.Prelude.{◌≡◌, ◌≤◌, ◌⊎◌, ◌<◌, ◌≢◌, ℕ, None, Some, IfSome, length, slice_index};
+ghost use Rattle.pr_rack.specs.Rack.{none_begun};
 ghost use Rattle.plate_room.specs.Command.{command_of, words_of};
-ghost use Rattle.plate_room.specs.Line.{memory_line, words_line};
-ghost use Rattle.plate_room.specs.Verdict.{verdict_of, Refused, Pass};
-ghost use Rattle.plate_room.specs.End.{GrewByTwo, IsCutShort, IsRefusal, IsStatus, MayTell, PrintsOne, PrintsOnePart, TellsFile, TellsShelf, TellsVerdict};
-ghost use Rattle.plate_room.specs.Run.{Ending};
+ghost use Rattle.plate_room.specs.Done.{IsCut, IsDone};
+ghost use Rattle.plate_room.specs.End.{IsCutShort, IsDoneStatus, IsRefusal, IsStatus, Tells, TellsOfMemory, TellsPart, TellsVerdict};
+ghost use Rattle.plate_room.specs.Ending.{Ending};
+ghost use Rattle.plate_room.specs.Refusal.{Refusal as RefusalData, status_of};
+ghost use Rattle.plate_room.specs.Seen.{AreIdle, Files, IsUntouched, LoadFailed, PutFailed, RackFailed, shelf_seen, sink_seen};
+ghost use Rattle.plate_room.specs.Verdict.{verdict_of};
 
 use crate::answer::answer;
 use crate::note::tell;
 use pr_ports::{Shelf, Sink};
+use pr_rack::Rack;
 use std::alloc::Global;
 
-/// Does what the words of a command line ask for: loads files from `shelf`, writes to `out`, and writes the
-/// line of a refusal to `note`. It answers the exit status.
+/// Does what the words of a command line ask for: loads files from `shelf`, keeps plates on `racks`, writes to `out`,
+/// and writes the line of a refusal to `note`. It answers the exit status.
 ///
 /// | status | when |
 /// |---|---|
 /// | 0 | done |
+/// | 1 | done, and a site left since its rack failed |
 /// | 2 | the words are no command |
+/// | 3 | the plan is refused |
 /// | 4 | an input file is refused |
 /// | 5 | the shelf failed |
 /// | 6 | memory was wanted |
 /// | 7 | `out` or `note` failed |
-pub fn plate_main<H: Shelf, S: Sink, E: Sink>(
+pub fn plate_main<H: Shelf, R: Rack + Send, S: Sink, E: Sink>(
     alloc: Global,
     words: &[String],
     shelf: &mut H,
+    racks: &mut [R],
     out: &mut S,
     note: &mut E,
 ) -> u8
+    requires racks { 16 ≤ length racks.old }
+    requires idle { AreIdle R.Rack racks.old }
     ensures statuses { IsStatus result }
     ensures held { H.held shelf.new ≡ H.held shelf.old }
 
-    // Done: the output took exactly the plate.
-    ensures done { result ≡ 0 → PrintsOne (words_of words.now) (H.held shelf.old) (S.given out.old) (S.given out.new) }
-    ensures done_note { result ≡ 0 → E.given note.new ≡ E.given note.old }
-    ensures done_verdict { result ≡ 0 → IfSome (H.held shelf.old) (λ files. verdict_of (words_of words.now) files ≡ Pass) }
+    // Done: the output and the racks took exactly what the command makes.
+    ensures done { IsDoneStatus result → IsDone R.Rack (words_of words.now) (H.held shelf.old)
+        racks.old racks.new (sink_seen S.Sink out.old out.new) result }
+    ensures done_verdict { IsDoneStatus result →
+        IfSome (H.held shelf.old) (λ files. verdict_of (words_of words.now) files ≡ None) }
+    ensures done_note { IsDoneStatus result → E.given note.new ≡ E.given note.old }
+    ensures one { result ≡ 1 → RackFailed R.Rack racks.old racks.new }
 
-    // The words are no command.
+    // Refused: the note took the whole line of a refusal that the words met.
     ensures words { result ≡ 2 → command_of (words_of words.now) ≡ None }
     ensures words_there { command_of (words_of words.now) ≡ None → (result ≡ 2) ⊎ IsCutShort result }
-    ensures words_note { result ≡ 2 → Grew (E.given note.old) (E.given note.new) words_line }
-
-    // A file is refused.
-    ensures file { result ≡ 4 → TellsFile (words_of words.now) (H.held shelf.old) (H.longs shelf.old) (H.longs shelf.new) (E.given note.old) (E.given note.new) }
-    ensures file_verdict { result ≡ 4 → IfSome (H.held shelf.old) (λ files. TellsVerdict (verdict_of (words_of words.now) files) (E.given note.old) (E.given note.new)) }
-    ensures file_there { (files : List (List ℕ × List ℕ)) → H.held shelf.old ≡ Some files → (name : List ℕ) (fault : TagFault) → verdict_of (words_of words.now) files ≡ Refused name fault
-        → (Rose (H.faults shelf.old) (H.faults shelf.new) → ⊥) → (result ≡ 4) ⊎ IsCutShort result }
-
-    // The shelf failed.
-    ensures shelf { result ≡ 5 → TellsShelf (words_of words.now) (H.missed shelf.new) (H.faults shelf.old) (H.faults shelf.new) (E.given note.old) (E.given note.new) }
+    ensures plan { result ≡ 3 → Tells (words_of words.now)
+        (shelf_seen H.Shelf shelf.old shelf.new) (sink_seen E.Sink note.old note.new) 3 }
+    ensures file { result ≡ 4 → Tells (words_of words.now)
+        (shelf_seen H.Shelf shelf.old shelf.new) (sink_seen E.Sink note.old note.new) 4 }
+    ensures shelf { result ≡ 5 → Tells (words_of words.now)
+        (shelf_seen H.Shelf shelf.old shelf.new) (sink_seen E.Sink note.old note.new) 5 }
+    ensures words_note { result ≡ 2 → Tells (words_of words.now)
+        (shelf_seen H.Shelf shelf.old shelf.new) (sink_seen E.Sink note.old note.new) 2 }
+    // Where files are told that is the verdict, a failed load aside; and the verdict is told where no load failed.
+    ensures verdict { (files : Files) → H.held shelf.old ≡ Some files → IsRefusal result → result ≢ 5
+        → TellsVerdict (words_of words.now) files (sink_seen E.Sink note.old note.new) result }
+    ensures verdict_there { (files : Files) → H.held shelf.old ≡ Some files
+        → (refusal : RefusalData) → verdict_of (words_of words.now) files ≡ Some refusal
+        → (LoadFailed (shelf_seen H.Shelf shelf.old shelf.new) → ⊥)
+        → (result ≡ status_of refusal) ⊎ IsCutShort result }
 
     // The output or the note failed.
-    ensures printing { result ≡ 7 → Rose (S.faults out.old) (S.faults out.new) ⊎ Rose (E.faults note.old) (E.faults note.new) }
-    ensures printing_out { (files : List (List ℕ × List ℕ)) → H.held shelf.old ≡ Some files → verdict_of (words_of words.now) files ≡ Pass
-        → (Rose (H.faults shelf.old) (H.faults shelf.new) → ⊥) → result ≡ 7 → Rose (S.faults out.old) (S.faults out.new) }
+    ensures printing { result ≡ 7 →
+        PutFailed (sink_seen S.Sink out.old out.new) ⊎ PutFailed (sink_seen E.Sink note.old note.new) }
+    ensures printing_out { (files : Files) → H.held shelf.old ≡ Some files
+        → verdict_of (words_of words.now) files ≡ None
+        → (LoadFailed (shelf_seen H.Shelf shelf.old shelf.new) → ⊥)
+        → result ≡ 7 → PutFailed (sink_seen S.Sink out.old out.new) }
+
+    // What stands of the racks and the output: nothing is made before the verdict, nor of a command that is refused.
+    ensures racks_stay { (files : Files) → H.held shelf.old ≡ Some files
+        → (verdict_of (words_of words.now) files ≡ None → ⊥) → racks.new ≡ racks.old }
+    ensures out_stays { (files : Files) → H.held shelf.old ≡ Some files
+        → (verdict_of (words_of words.now) files ≡ None → ⊥) → S.given out.new ≡ S.given out.old }
+    ensures refused_racks { IsRefusal result → racks.new ≡ racks.old }
+    ensures refused_out { IsRefusal result → S.given out.new ≡ S.given out.old }
+    ensures cut { IsCutShort result → IsCut R.Rack (words_of words.now) (H.held shelf.old)
+        racks.old racks.new (sink_seen S.Sink out.old out.new) }
+    ensures memory_note { result ≡ 6 → TellsOfMemory (words_of words.now)
+        (shelf_seen H.Shelf shelf.old shelf.new) (sink_seen E.Sink note.old note.new) }
+    ensures printing_note { result ≡ 7 → TellsPart (words_of words.now)
+        (shelf_seen H.Shelf shelf.old shelf.new) (sink_seen E.Sink note.old note.new) }
 
     // What stands of the counts: nothing is loaded for words that are no command, and no load fails where all is done.
-    ensures words_faults { command_of (words_of words.now) ≡ None → H.faults shelf.new ≡ H.faults shelf.old }
-    ensures words_longs { command_of (words_of words.now) ≡ None → H.longs shelf.new ≡ H.longs shelf.old }
-    ensures words_missed { command_of (words_of words.now) ≡ None → H.missed shelf.new ≡ H.missed shelf.old }
-    ensures done_missed { result ≡ 0 → H.missed shelf.new ≡ H.missed shelf.old }
-    ensures done_note_faults { result ≡ 0 → E.faults note.new ≡ E.faults note.old }
+    ensures words_shelf { command_of (words_of words.now) ≡ None
+        → IsUntouched (shelf_seen H.Shelf shelf.old shelf.new) }
+    ensures done_missed { IsDoneStatus result → H.missed shelf.new ≡ H.missed shelf.old }
+    ensures done_note_faults { IsDoneStatus result → E.faults note.new ≡ E.faults note.old }
     ensures refused_out_faults { IsRefusal result → S.faults out.new ≡ S.faults out.old }
 
-    // What stands in the output.
-    ensures out_stays { (files : List (List ℕ × List ℕ)) → H.held shelf.old ≡ Some files → (verdict_of (words_of words.now) files ≡ Pass → ⊥)
-        → S.given out.new ≡ S.given out.old }
-    ensures out_refused { IsRefusal result → S.given out.new ≡ S.given out.old }
-    ensures out_front { IsCutShort result → (S.given out.new ≡ S.given out.old) ⊎ PrintsOnePart (words_of words.now) (H.held shelf.old) (S.given out.old) (S.given out.new) }
-
-    // What stands in the note of a command that was cut short.
-    ensures memory_note { result ≡ 6 → (line : List ℕ)
-        × MayTell (words_of words.now) (H.held shelf.old) (H.missed shelf.new) (H.faults shelf.old) (H.faults shelf.new) (H.longs shelf.old) (H.longs shelf.new) line
-        × GrewByTwo (E.given note.old) (E.given note.new) line memory_line }
-    ensures printing_note { result ≡ 7 → (line : List ℕ)
-        × MayTell (words_of words.now) (H.held shelf.old) (H.missed shelf.new) (H.faults shelf.old) (H.faults shelf.new) (H.longs shelf.old) (H.longs shelf.new) line
-        × GrewByPrefix (E.given note.old) (E.given note.new) line }
-
     // Where nothing is wrong and nothing fails, the command is done or memory was wanted.
-    ensures complete { (files : List (List ℕ × List ℕ)) → H.held shelf.old ≡ Some files → verdict_of (words_of words.now) files ≡ Pass
-        → (Rose (H.faults shelf.old) (H.faults shelf.new) → ⊥) → (Rose (S.faults out.old) (S.faults out.new) → ⊥) → (Rose (E.faults note.old) (E.faults note.new) → ⊥)
+    ensures complete { (files : Files) → H.held shelf.old ≡ Some files
+        → verdict_of (words_of words.now) files ≡ None
+        → (LoadFailed (shelf_seen H.Shelf shelf.old shelf.new) → ⊥)
+        → (RackFailed R.Rack racks.old racks.new → ⊥)
+        → (PutFailed (sink_seen S.Sink out.old out.new) → ⊥)
+        → (PutFailed (sink_seen E.Sink note.old note.new) → ⊥)
         → (result ≡ 0) ⊎ (result ≡ 6) }
 {
-    run(alloc, words, shelf, out, note)
+    run(alloc, words, shelf, racks, out, note)
 }
 
 /// Does a command and tells of a refusal.
-fn run<H: Shelf, S: Sink, E: Sink>(
+fn run<H: Shelf, R: Rack + Send, S: Sink, E: Sink>(
     alloc: Global,
     words: &[String],
     shelf: &mut H,
+    racks: &mut [R],
     out: &mut S,
     note: &mut E,
 ) -> u8
-    ensures ending { Ending (record {
+    requires racks { 16 ≤ length racks.old }
+    requires idle { AreIdle R.Rack racks.old }
+    ensures ending { Ending R.Rack (record {
       words = words_of words.now;
-      held = H.held shelf.old;
-      missed = H.missed shelf.new;
-      faults = H.faults shelf.old;
-      faults' = H.faults shelf.new;
-      longs = H.longs shelf.old;
-      longs' = H.longs shelf.new;
-      out = S.given out.old;
-      out' = S.given out.new;
-      out_faults = S.faults out.old;
-      out_faults' = S.faults out.new;
-      note = E.given note.old;
-      note' = E.given note.new;
-      note_faults = E.faults note.old;
-      note_faults' = E.faults note.new;
-    }) result }
+      shelf = shelf_seen H.Shelf shelf.old shelf.new;
+      racks = racks.old;
+      racks' = racks.new;
+      out = sink_seen S.Sink out.old out.new;
+    }) (sink_seen E.Sink note.old note.new) result }
     ensures held { H.held shelf.new ≡ H.held shelf.old }
-    ensures words_faults { command_of (words_of words.now) ≡ None → H.faults shelf.new ≡ H.faults shelf.old }
-    ensures words_longs { command_of (words_of words.now) ≡ None → H.longs shelf.new ≡ H.longs shelf.old }
-    ensures words_missed { command_of (words_of words.now) ≡ None → H.missed shelf.new ≡ H.missed shelf.old }
-    ensures done_missed { result ≡ 0 → H.missed shelf.new ≡ H.missed shelf.old }
-    ensures done_note_faults { result ≡ 0 → E.faults note.new ≡ E.faults note.old }
-    ensures refused_out_faults { IsRefusal result → S.faults out.new ≡ S.faults out.old }
 {
-    match answer(alloc, words, shelf, out) {
-        Ok(()) => 0,
+    match answer(alloc, words, shelf, racks, out) {
+        Ok(status) => status,
         Err(refusal) => tell(alloc, &refusal, note),
     }
 }

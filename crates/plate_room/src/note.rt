@@ -1,23 +1,28 @@
 // The lines that tell why a command was refused, and the status that goes with each.
 ghost use Rattle.std.specs.Prelude.{◌≡◌, ◌≤◌, IfOk, string_bytes};
 ghost use Rattle.pr_ports.specs.Sink.{GrewByPrefix};
-ghost use Rattle.plate_room.specs.Line.{memory_line};
-ghost use Rattle.plate_room.specs.End.{IsRefusal};
-ghost use Rattle.plate_room.specs.Answer.{IsOwn, Told, Tells, line_of};
+ghost use Rattle.plate_room.specs.Line.{memory_line, plan_line as plan_line_lem, plan_line_at as line_at};
+ghost use Rattle.plate_room.specs.Answer.{Told, TellsLine, own_line};
+ghost use Rattle.plate_room.specs.Seen.{sink_seen};
 
-use pr_base::TagFault;
+use plan_json::PlanFault;
+use pr_base::{FileFault, PathText};
 use pr_ports::{Sink, SinkFault};
 use std::alloc::{AllocError, Global};
 
 /// Why a command wasn't done.
-#[derive(Clone, Copy)]
-pub(crate) enum Refusal<'a> {
+#[derive(Debug, Drop)]
+pub(crate) enum Refusal {
     /// The words are no command.
     Words,
-    /// A file is refused; it is named as the words name it.
-    File { file: &'a str, fault: TagFault },
+    /// The plan has more bytes than are read.
+    LongPlan,
+    /// The plan is refused.
+    Plan(PlanFault),
+    /// A file is refused; it is named as the words or the plan name it.
+    File(FileFault),
     /// The shelf failed at this path.
-    Shelf { path: &'a str },
+    Shelf(PathText),
     Memory,
     /// The output failed.
     Printing,
@@ -25,6 +30,8 @@ pub(crate) enum Refusal<'a> {
 
 /// The statuses of a command that wasn't done.
 const WORDS: u8 = 2;
+
+const PLAN: u8 = 3;
 
 const FILE: u8 = 4;
 
@@ -38,19 +45,44 @@ const PRINTING: u8 = 7;
 const MEMORY_LINE: &[u8] = b"plateroom: memory\n";
 
 /// The line of a refusal; empty where it has none of its own.
-fn line(alloc: Global, refusal: &Refusal<'_>) -> Result<String, AllocError>
-    ensures { IfOk result (λ line. string_bytes line ≡ line_of refusal.now) }
+fn line(alloc: Global, refusal: &Refusal) -> Result<String, AllocError>
+    ensures { IfOk result (λ line. string_bytes line ≡ own_line refusal.now) }
 {
     match refusal {
         Refusal::Words => String::from_str(alloc, "plateroom: words\n"),
-        Refusal::File { file, fault } => {
+        Refusal::LongPlan => String::from_str(alloc, "plateroom: plan: too long\n"),
+        Refusal::Plan(fault) => plan_line(alloc, fault),
+        Refusal::File(fault) => {
+            let file = &fault.file;
             let tag = fault.tag;
             let kind = fault.kind.text();
             format!(in alloc; "plateroom: file {file}: tag {tag}: {kind}\n")
         }
-        Refusal::Shelf { path } => format!(in alloc; "plateroom: shelf: {path}\n"),
+        Refusal::Shelf(path) => format!(in alloc; "plateroom: shelf: {path}\n"),
         Refusal::Memory | Refusal::Printing => Ok(String::new(alloc)),
     }
+}
+
+/// The line of a fault of the plan; empty at want of memory, which is none.
+fn plan_line(alloc: Global, fault: &PlanFault) -> Result<String, AllocError>
+    ensures { IfOk result (λ line. string_bytes line ≡ plan_line_lem fault.now) }
+{
+    match fault {
+        PlanFault::NotJson => String::from_str(alloc, "plateroom: plan: not JSON\n"),
+        PlanFault::Missing(path) => plan_line_at(alloc, path, "missing"),
+        PlanFault::Kind(path) => plan_line_at(alloc, path, "kind"),
+        PlanFault::Range(path) => plan_line_at(alloc, path, "range"),
+        PlanFault::Unknown(path) => plan_line_at(alloc, path, "unknown"),
+        PlanFault::Repeat(path) => plan_line_at(alloc, path, "repeat"),
+        PlanFault::Memory => Ok(String::new(alloc)),
+    }
+}
+
+/// The line of a fault of this kind at a path of the plan.
+fn plan_line_at(alloc: Global, path: &PathText, kind: &str) -> Result<String, AllocError>
+    ensures { IfOk result (λ line. string_bytes line ≡ line_at path.now kind.now) }
+{
+    format!(in alloc; "plateroom: plan {path}: {kind}\n")
 }
 
 /// Tells of want of memory, as far as that can be told.
@@ -63,8 +95,8 @@ fn tell_memory<E: Sink>(note: &mut E) -> u8
 }
 
 /// Tells of a refusal by its line, and answers the status: that of the refusal, or why the line wasn't told.
-fn tell_line<E: Sink>(alloc: Global, refusal: &Refusal<'_>, status: u8, note: &mut E) -> u8
-    ensures { Tells status (line_of refusal.now) (E.given note.old) (E.given note.new) (E.faults note.old) (E.faults note.new) result }
+fn tell_line<E: Sink>(alloc: Global, refusal: &Refusal, status: u8, note: &mut E) -> u8
+    ensures { TellsLine status (own_line refusal.now) (sink_seen E.Sink note.old note.new) result }
 {
     let Ok(line) = line(alloc, refusal) else {
         return tell_memory(note);
@@ -77,15 +109,14 @@ fn tell_line<E: Sink>(alloc: Global, refusal: &Refusal<'_>, status: u8, note: &m
 }
 
 /// Tells of a refusal, and answers its status.
-pub(crate) fn tell<E: Sink>(alloc: Global, refusal: &Refusal<'_>, note: &mut E) -> u8
-    ensures told { Told refusal.now (E.given note.old) (E.given note.new) (E.faults note.old) (E.faults note.new) result }
-    ensures status { 2 ≤ result }
-    ensures refused { IsRefusal result → IsOwn refusal.now }
+pub(crate) fn tell<E: Sink>(alloc: Global, refusal: &Refusal, note: &mut E) -> u8
+    ensures { Told refusal.now (sink_seen E.Sink note.old note.new) result }
 {
     match refusal {
         Refusal::Words => tell_line(alloc, refusal, WORDS, note),
-        Refusal::File { .. } => tell_line(alloc, refusal, FILE, note),
-        Refusal::Shelf { .. } => tell_line(alloc, refusal, SHELF, note),
+        Refusal::LongPlan | Refusal::Plan(_) => tell_line(alloc, refusal, PLAN, note),
+        Refusal::File(_) => tell_line(alloc, refusal, FILE, note),
+        Refusal::Shelf(_) => tell_line(alloc, refusal, SHELF, note),
         Refusal::Memory => tell_memory(note),
         Refusal::Printing => PRINTING,
     }

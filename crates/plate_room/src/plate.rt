@@ -10,7 +10,8 @@ ghost use Rattle.tif_plate.specs.Tail.{IsPlaceable, counts_so_far, front_bytes, 
 ghost use Rattle.tif_strips.specs.Strips.{row_length};
 ghost use Rattle.plate_room.specs.One.{black_plate, black_rows};
 ghost use Rattle.plate_room.specs.Room.{FitsRow};
-ghost use Rattle.plate_room.specs.Answer.{OnRefused, Printed};
+ghost use Rattle.plate_room.specs.Answer.{Printed};
+ghost use Rattle.plate_room.specs.Seen.{sink_seen};
 
 use crate::room::{RowRoom, pack_next, row_room};
 use byteorder::{ByteOrder, LittleEndian};
@@ -47,8 +48,7 @@ pub(crate) fn print_plate<S: Sink>(
     bytes: &[u8],
     out: &mut S,
 ) -> Result<(), PlateFault>
-    ensures printed { Printed bytes.now (S.given out.old) (S.given out.new) (S.faults out.old) (S.faults out.new) result }
-    ensures refused { OnRefused result (S.faults out.new ≡ S.faults out.old) }
+    ensures { Printed bytes.now (sink_seen S.Sink out.old out.new) result }
 {
     let image = match Contone::check(bytes) {
         Ok(image) => image,

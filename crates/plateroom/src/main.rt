@@ -2,8 +2,12 @@
 // its status.
 #![tactic(auto)]
 
+ghost use Rattle.std.specs.Prelude.{◌≡◌, IfOk, length};
+ghost use Rattle.plate_room.specs.Seen.{AreIdle};
+
 use plate_room::plate_main;
 use pr_ports::{HostShelf, WriterSink};
+use pr_rack::{HostRack, Rack};
 use std::alloc::AllocError;
 use std::env;
 use std::env::Env;
@@ -13,6 +17,9 @@ use std::process::ExitCode;
 /// The status of want of memory.
 const MEMORY: u8 = 6;
 
+/// An edition has at most so many sites.
+const RACKS: usize = 16;
+
 /// The words after the program's name. A command line that can't be read has none, and so is no command.
 fn words<R: Env + AllocGlobal>(rt: &R) -> Result<Vec<String>, AllocError> {
     match env::args(rt) {
@@ -20,6 +27,18 @@ fn words<R: Env + AllocGlobal>(rt: &R) -> Result<Vec<String>, AllocError> {
         Err(error) if error.kind() == ErrorKind::OutOfMemory => Err(AllocError),
         Err(_) => Ok(Vec::new(rt.alloc())),
     }
+}
+
+/// A rack of the machine's files for each site that an edition may have.
+fn racks(rt: &HostRuntime) -> Result<Vec<HostRack<HostRuntime>>, AllocError>
+    ensures count { IfOk result (λ racks. length racks.items ≡ 16) }
+    ensures idle { IfOk result (λ racks. AreIdle ⟦<HostRack<HostRuntime> as Rack>⟧ racks.items) }
+{
+    let mut racks = Vec::new(rt.alloc());
+    for _i in 0..RACKS {
+        racks.push(HostRack::new(rt.clone()?))?;
+    }
+    Ok(racks)
 }
 
 /// Tells of want of memory before the command began.
@@ -35,12 +54,21 @@ fn main(rt: HostRuntime) -> ExitCode {
     let Ok(files) = rt.clone() else {
         return want_of_memory(&rt);
     };
+    let Ok(mut racks) = racks(&rt) else {
+        return want_of_memory(&rt);
+    };
     let status = plate_main(
         rt.alloc(),
         words.as_slice(),
         &mut HostShelf::new(files),
+        racks.as_mut_slice(),
         &mut WriterSink::new(rt.stdout()),
         &mut WriterSink::new(rt.stderr()),
     );
     ExitCode::from(status)
 }
+
+#[cfg(test)]
+mod run_tests;
+#[cfg(test)]
+mod tests;

@@ -1,59 +1,84 @@
-use Rattle.plate_room.proofs.Clauses.{complete, done_note, done_prints, done_verdict, file_tells, file_there, file_verdict, memory_note, out_front, out_refused, out_stays, printing_note, printing_out, printing_rose, shelf_tells, status_is, words_asked, words_there}
+use Rattle.std.proofs.Common.{refl, inl, inr}
+use Rattle.plate_room.proofs.Clauses.{complete, cut_left, done_made, done_missed, done_note, done_verdict, memory_note, one_left, printing_note, printing_out, printing_rose, refused_out, refused_racks, status_is, stays, tells_at, verdict_there, verdict_told, words_none, words_shelf, words_there}
 use Rattle.plate_room.proofs.main_call.plate_main.Goals as goal
 
 pub returns-clause-statuses : goal.returns-clause-statuses
-returns-clause-statuses g c = status_is _ c.run.result c.run.ensures.ending
+returns-clause-statuses g c = status_is g.R.Rack _ _ c.run.result c.run.ensures.ending
 
 pub returns-clause-done : goal.returns-clause-done
-returns-clause-done g c = done_prints _ c.run.result c.run.ensures.ending
-
-pub returns-clause-done_note : goal.returns-clause-done_note
-returns-clause-done_note g c = done_note _ c.run.result c.run.ensures.ending
+returns-clause-done g c = done_made g.R.Rack _ _ c.run.result c.run.ensures.ending
 
 pub returns-clause-done_verdict : goal.returns-clause-done_verdict
-returns-clause-done_verdict g c = done_verdict _ c.run.result c.run.ensures.ending
+returns-clause-done_verdict g c = done_verdict g.R.Rack _ _ c.run.result c.run.ensures.ending
 
-pub returns-clause-words_there : goal.returns-clause-words_there
-returns-clause-words_there g c = words_there _ c.run.result c.run.ensures.ending
+pub returns-clause-done_note : goal.returns-clause-done_note
+returns-clause-done_note g c = λ h. (done_note g.R.Rack _ _ c.run.result c.run.ensures.ending h).given
 
-pub returns-clause-file : goal.returns-clause-file
-returns-clause-file g c = file_tells _ c.run.result c.run.ensures.ending
-
-pub returns-clause-file_verdict : goal.returns-clause-file_verdict
-returns-clause-file_verdict g c = file_verdict _ c.run.result c.run.ensures.ending
-
-pub returns-clause-file_there : goal.returns-clause-file_there
-returns-clause-file_there g c = file_there _ c.run.result c.run.ensures.ending
-
-pub returns-clause-shelf : goal.returns-clause-shelf
-returns-clause-shelf g c = shelf_tells _ c.run.result c.run.ensures.ending
-
-pub returns-clause-printing : goal.returns-clause-printing
-returns-clause-printing g c = printing_rose _ c.run.result c.run.ensures.ending
-
-pub returns-clause-printing_out : goal.returns-clause-printing_out
-returns-clause-printing_out g c = printing_out _ c.run.result c.run.ensures.ending
-
-pub returns-clause-out_stays : goal.returns-clause-out_stays
-returns-clause-out_stays g c = out_stays _ c.run.result c.run.ensures.ending
-
-pub returns-clause-out_refused : goal.returns-clause-out_refused
-returns-clause-out_refused g c = out_refused _ c.run.result c.run.ensures.ending
-
-pub returns-clause-out_front : goal.returns-clause-out_front
-returns-clause-out_front g c = out_front _ c.run.result c.run.ensures.ending
-
-pub returns-clause-memory_note : goal.returns-clause-memory_note
-returns-clause-memory_note g c = memory_note _ c.run.result c.run.ensures.ending
-
-pub returns-clause-printing_note : goal.returns-clause-printing_note
-returns-clause-printing_note g c = printing_note _ c.run.result c.run.ensures.ending
-
-pub returns-clause-complete : goal.returns-clause-complete
-returns-clause-complete g c = complete _ c.run.result c.run.ensures.ending
+pub returns-clause-one : goal.returns-clause-one
+returns-clause-one g c = one_left g.R.Rack _ _ c.run.result c.run.ensures.ending
 
 pub returns-clause-words : goal.returns-clause-words
-returns-clause-words g c = λ h. (words_asked _ c.run.result c.run.ensures.ending h).0
+returns-clause-words g c = words_none g.R.Rack _ _ c.run.result c.run.ensures.ending
+
+pub returns-clause-words_there : goal.returns-clause-words_there
+returns-clause-words_there g c = words_there g.R.Rack _ _ c.run.result c.run.ensures.ending
+
+pub returns-clause-plan : goal.returns-clause-plan
+returns-clause-plan g c = tells_at g.R.Rack _ _ c.run.result 3 (inr (inl refl)) c.run.ensures.ending
+
+pub returns-clause-file : goal.returns-clause-file
+returns-clause-file g c = tells_at g.R.Rack _ _ c.run.result 4 (inr (inr (inl refl))) c.run.ensures.ending
+
+pub returns-clause-shelf : goal.returns-clause-shelf
+returns-clause-shelf g c = tells_at g.R.Rack _ _ c.run.result 5 (inr (inr (inr refl))) c.run.ensures.ending
 
 pub returns-clause-words_note : goal.returns-clause-words_note
-returns-clause-words_note g c = λ h. (words_asked _ c.run.result c.run.ensures.ending h).1
+returns-clause-words_note g c = tells_at g.R.Rack _ _ c.run.result 2 (inl refl) c.run.ensures.ending
+
+pub returns-clause-verdict : goal.returns-clause-verdict
+returns-clause-verdict g c = verdict_told g.R.Rack _ _ c.run.result c.run.ensures.ending
+
+pub returns-clause-verdict_there : goal.returns-clause-verdict_there
+returns-clause-verdict_there g c = verdict_there g.R.Rack _ _ c.run.result c.run.ensures.ending
+
+pub returns-clause-printing : goal.returns-clause-printing
+returns-clause-printing g c = printing_rose g.R.Rack _ _ c.run.result c.run.ensures.ending
+
+pub returns-clause-printing_out : goal.returns-clause-printing_out
+returns-clause-printing_out g c = printing_out g.R.Rack _ _ c.run.result c.run.ensures.ending
+
+pub returns-clause-racks_stay : goal.returns-clause-racks_stay
+returns-clause-racks_stay g c = λ files is wrong. (stays g.R.Rack _ _ c.run.result c.run.ensures.ending files is wrong).0
+
+pub returns-clause-out_stays : goal.returns-clause-out_stays
+returns-clause-out_stays g c = λ files is wrong. (stays g.R.Rack _ _ c.run.result c.run.ensures.ending files is wrong).1
+
+pub returns-clause-refused_racks : goal.returns-clause-refused_racks
+returns-clause-refused_racks g c = refused_racks g.R.Rack _ _ c.run.result c.run.ensures.ending
+
+pub returns-clause-refused_out : goal.returns-clause-refused_out
+returns-clause-refused_out g c = λ h. (refused_out g.R.Rack _ _ c.run.result c.run.ensures.ending h).given
+
+pub returns-clause-cut : goal.returns-clause-cut
+returns-clause-cut g c = cut_left g.R.Rack _ _ c.run.result c.run.ensures.ending
+
+pub returns-clause-memory_note : goal.returns-clause-memory_note
+returns-clause-memory_note g c = memory_note g.R.Rack _ _ c.run.result c.run.ensures.ending
+
+pub returns-clause-printing_note : goal.returns-clause-printing_note
+returns-clause-printing_note g c = printing_note g.R.Rack _ _ c.run.result c.run.ensures.ending
+
+pub returns-clause-words_shelf : goal.returns-clause-words_shelf
+returns-clause-words_shelf g c = words_shelf g.R.Rack _ _ c.run.result c.run.ensures.ending
+
+pub returns-clause-done_missed : goal.returns-clause-done_missed
+returns-clause-done_missed g c = done_missed g.R.Rack _ _ c.run.result c.run.ensures.ending
+
+pub returns-clause-done_note_faults : goal.returns-clause-done_note_faults
+returns-clause-done_note_faults g c = λ h. (done_note g.R.Rack _ _ c.run.result c.run.ensures.ending h).faults
+
+pub returns-clause-refused_out_faults : goal.returns-clause-refused_out_faults
+returns-clause-refused_out_faults g c = λ h. (refused_out g.R.Rack _ _ c.run.result c.run.ensures.ending h).faults
+
+pub returns-clause-complete : goal.returns-clause-complete
+returns-clause-complete g c = complete g.R.Rack _ _ c.run.result c.run.ensures.ending

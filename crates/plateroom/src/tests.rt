@@ -1,9 +1,11 @@
 // Whole runs of `plate_main` over a shelf and sinks in memory.
-ghost use Rattle.std.specs.Prelude.{None};
+ghost use Rattle.std.specs.Prelude.{◌≡◌, None, IfOk, length};
+ghost use Rattle.plate_room.specs.Seen.{AreIdle};
 
-use super::*;
+use plate_room::plate_main;
 use pr_base::PathText;
 use pr_ports::{LoadFault, MemShelf, MemSink, Shelf, Sink, SinkFault};
+use pr_rack::{MemRack, Rack};
 use std::alloc::{AllocError, Global};
 use std::process::Abort;
 use std::test::Fail;
@@ -42,7 +44,7 @@ const BIG_HEAD: [u8; 130] = [
 ];
 
 // The plate of 4 by 1 pixels with black 1, 127, 31, 255: thresholds 0, 127, 31, 159.
-const PLATE: [u8; 176] = [
+pub(crate) const PLATE: [u8; 176] = [
     0x49, 0x49, 0x2A, 0, 0x0A, 0, 0, 0, //
     0x00, 0x90, //
     0x0C, 0, //
@@ -64,14 +66,19 @@ const PLATE: [u8; 176] = [
 ];
 
 // Replaces the bytes from a place on.
-fn patch(bytes: &mut [u8], at: usize, with: &[u8]) {
+pub(crate) fn patch(bytes: &mut [u8], at: usize, with: &[u8]) {
     for (byte, new) in bytes.iter_mut().skip(at).zip(with) {
         *byte = *new;
     }
 }
 
 // A CMYK file of one strip with these black samples and no other ink.
-fn input(alloc: Global, width: u32, length: u32, black: &[u8]) -> Result<Vec<u8>, AllocError> {
+pub(crate) fn input(
+    alloc: Global,
+    width: u32,
+    length: u32,
+    black: &[u8],
+) -> Result<Vec<u8>, AllocError> {
     let mut file = INPUT_HEAD.to_vec(alloc)?;
     patch(&mut file, 18, &width.to_le_bytes());
     patch(&mut file, 30, &length.to_le_bytes());
@@ -88,7 +95,12 @@ fn input(alloc: Global, width: u32, length: u32, black: &[u8]) -> Result<Vec<u8>
 }
 
 // The same where all black samples are alike.
-fn flat(alloc: Global, width: u32, length: u32, sample: u8) -> Result<Vec<u8>, AllocError> {
+pub(crate) fn flat(
+    alloc: Global,
+    width: u32,
+    length: u32,
+    sample: u8,
+) -> Result<Vec<u8>, AllocError> {
     let mut file = input(alloc, width, length, &[])?;
     for _pixel in 0..width.wrapping_mul(length) {
         file.extend_from_slice(&[0, 0, 0, sample])?;
@@ -96,15 +108,54 @@ fn flat(alloc: Global, width: u32, length: u32, sample: u8) -> Result<Vec<u8>, A
     Ok(file)
 }
 
-fn four_by_one(alloc: Global) -> Result<Vec<u8>, AllocError> {
+pub(crate) fn four_by_one(alloc: Global) -> Result<Vec<u8>, AllocError> {
     input(alloc, 4, 1, &[1, 127, 31, 255])
 }
 
+// A bilevel file of one strip with two rows of a byte, with PhotometricInterpretation as told.
+pub(crate) fn bilevel(
+    alloc: Global,
+    width: u32,
+    length: u32,
+    photometric: u8,
+    rows: &[u8; 2],
+) -> Result<Vec<u8>, AllocError> {
+    let mut file = INPUT_HEAD.to_vec(alloc)?;
+    patch(&mut file, 18, &width.to_le_bytes());
+    patch(&mut file, 30, &length.to_le_bytes());
+    patch(&mut file, 38, &[1, 0, 0, 0, 1]);
+    patch(&mut file, 66, &[photometric]);
+    patch(&mut file, 90, &[1]);
+    patch(&mut file, 102, &length.to_le_bytes());
+    patch(&mut file, 114, &[2]);
+    file.extend_from_slice(rows)?;
+    Ok(file)
+}
+
 // A shelf with the file a.tif alone.
-fn shelf_of(alloc: Global, file: Vec<u8>, failing: Vec<u64>) -> Result<MemShelf, Fail> {
+pub(crate) fn shelf_of(alloc: Global, file: Vec<u8>, failing: Vec<u64>) -> Result<MemShelf, Fail> {
     let mut files = Vec::new(alloc);
     files.push((PathText::of(alloc, "a.tif")?, file))?;
     Ok(MemShelf::new(alloc, files, failing))
+}
+
+// An edition has at most so many sites.
+const RACKS: usize = 16;
+
+// Sixteen racks, none of which fails.
+pub(crate) fn idle_racks(alloc: Global, failing: &[Option<u64>]) -> Result<Vec<MemRack>, AllocError>
+    ensures count { IfOk result (λ racks. length racks.items ≡ 16) }
+    ensures idle { IfOk result (λ racks. AreIdle ⟦<MemRack as Rack>⟧ racks.items) }
+{
+    let mut racks = Vec::new(alloc);
+    for i in 0..RACKS {
+        let failing = match failing.get(i) {
+            Some(call) => numbers(alloc, *call)?,
+            None => Vec::new(alloc),
+        };
+        racks.push(MemRack::new(alloc, failing))?;
+    }
+    Ok(racks)
 }
 
 // What a run leaves.
@@ -130,11 +181,19 @@ fn run_words(
     let mut shelf = shelf_of(alloc, file, numbers(alloc, shelf)?)?;
     let mut out = MemSink::new(alloc, numbers(alloc, out)?);
     let mut note = MemSink::new(alloc, numbers(alloc, note)?);
-    let status = plate_main(alloc, all.as_slice(), &mut shelf, &mut out, &mut note);
+    let mut racks = idle_racks(alloc, &[])?;
+    let status = plate_main(
+        alloc,
+        all.as_slice(),
+        &mut shelf,
+        racks.as_mut_slice(),
+        &mut out,
+        &mut note,
+    );
     Ok(Left { status, out, note })
 }
 
-fn numbers(alloc: Global, number: Option<u64>) -> Result<Vec<u64>, AllocError> {
+pub(crate) fn numbers(alloc: Global, number: Option<u64>) -> Result<Vec<u64>, AllocError> {
     let mut numbers = Vec::new(alloc);
     if let Some(number) = number {
         numbers.push(number)?;
@@ -147,7 +206,12 @@ const ONE: [&str; 2] = ["one", "a.tif"];
 const CALM: [Option<u64>; 3] = [None, None, None];
 
 // Over this file `one` prints this plate, and tells nothing.
-fn assert_prints(rt: &impl Abort, alloc: Global, file: Vec<u8>, plate: &[u8]) -> Result<(), Fail> {
+pub(crate) fn assert_prints(
+    rt: &impl Abort,
+    alloc: Global,
+    file: Vec<u8>,
+    plate: &[u8],
+) -> Result<(), Fail> {
     let left = run_words(alloc, &ONE, file, CALM)?;
     assert_eq!(rt; left.status, 0);
     assert_eq!(rt; left.out.bytes(), plate);
@@ -156,7 +220,7 @@ fn assert_prints(rt: &impl Abort, alloc: Global, file: Vec<u8>, plate: &[u8]) ->
 }
 
 // A plate with these packed rows, behind them the directory and the resolutions of `PLATE`, and behind these a table.
-fn plate_of(alloc: Global, rows: &[u8], table: &[u8]) -> Result<Vec<u8>, AllocError> {
+pub(crate) fn plate_of(alloc: Global, rows: &[u8], table: &[u8]) -> Result<Vec<u8>, AllocError> {
     let mut plate = PLATE[..8].to_vec(alloc)?;
     plate.extend_from_slice(rows)?;
     plate.extend_from_slice(&PLATE[10..])?;
@@ -165,7 +229,7 @@ fn plate_of(alloc: Global, rows: &[u8], table: &[u8]) -> Result<Vec<u8>, AllocEr
 }
 
 // Packets one behind the other, each so often.
-fn packets(alloc: Global, runs: &[(u32, [u8; 2])]) -> Result<Vec<u8>, AllocError> {
+pub(crate) fn packets(alloc: Global, runs: &[(u32, [u8; 2])]) -> Result<Vec<u8>, AllocError> {
     let mut packed = Vec::new(alloc);
     for (times, packet) in runs {
         for _packet in 0..*times {
@@ -176,14 +240,14 @@ fn packets(alloc: Global, runs: &[(u32, [u8; 2])]) -> Result<Vec<u8>, AllocError
 }
 
 #[test]
-fn prints_the_smallest_plate(rt: HostRuntime) -> Result<(), Fail> {
+pub(crate) fn prints_the_smallest_plate(rt: HostRuntime) -> Result<(), Fail> {
     let alloc = rt.alloc();
     assert_prints(&rt, alloc, four_by_one(alloc)?, &PLATE)
 }
 
 // 9 by 1 pixels, all black: two bytes a row, the second padded, and a byte before the directory.
 #[test]
-fn prints_a_padded_row(rt: HostRuntime) -> Result<(), Fail> {
+pub(crate) fn prints_a_padded_row(rt: HostRuntime) -> Result<(), Fail> {
     let alloc = rt.alloc();
     let mut plate = plate_of(alloc, &[1, 0xFF, 0x80, 0], &[])?;
     patch(&mut plate, 4, &[12]);
@@ -197,7 +261,7 @@ fn prints_a_padded_row(rt: HostRuntime) -> Result<(), Fail> {
 
 // 32,768 by 3 pixels without ink: rows of 4,096 bytes, packed to 64, in two strips.
 #[test]
-fn prints_white_in_two_strips(rt: HostRuntime) -> Result<(), Fail> {
+pub(crate) fn prints_white_in_two_strips(rt: HostRuntime) -> Result<(), Fail> {
     let alloc = rt.alloc();
     let rows = packets(alloc, &[(96, [0x81, 0])])?;
     let table = [8, 0, 0, 0, 136, 0, 0, 0, 128, 0, 0, 0, 64, 0, 0, 0];
@@ -215,7 +279,7 @@ fn prints_white_in_two_strips(rt: HostRuntime) -> Result<(), Fail> {
 
 // 65,535 by 2 pixels, all black: a strip for each row of 8,192 bytes, packed to 130.
 #[test]
-fn prints_the_widest_plate(rt: HostRuntime) -> Result<(), Fail> {
+pub(crate) fn prints_the_widest_plate(rt: HostRuntime) -> Result<(), Fail> {
     let alloc = rt.alloc();
     let row: [(u32, [u8; 2]); 3] = [(63, [0x81, 0xFF]), (1, [0x82, 0xFF]), (1, [0, 0xFE])];
     let mut rows = packets(alloc, &row)?;
@@ -235,7 +299,7 @@ fn prints_the_widest_plate(rt: HostRuntime) -> Result<(), Fail> {
 
 // Compression 32773, and the samples as one literal.
 #[test]
-fn reads_a_packed_image(rt: HostRuntime) -> Result<(), Fail> {
+pub(crate) fn reads_a_packed_image(rt: HostRuntime) -> Result<(), Fail> {
     let alloc = rt.alloc();
     let mut file = INPUT_HEAD.to_vec(alloc)?;
     patch(&mut file, 18, &[4]);
@@ -249,7 +313,7 @@ fn reads_a_packed_image(rt: HostRuntime) -> Result<(), Fail> {
 
 // PlanarConfiguration 2 in place of Compression, whose default is 1, and four strips, one for each ink.
 #[test]
-fn reads_a_planar_image(rt: HostRuntime) -> Result<(), Fail> {
+pub(crate) fn reads_a_planar_image(rt: HostRuntime) -> Result<(), Fail> {
     let alloc = rt.alloc();
     let mut file = INPUT_HEAD.to_vec(alloc)?;
     patch(&mut file, 18, &[4]);
@@ -266,7 +330,7 @@ fn reads_a_planar_image(rt: HostRuntime) -> Result<(), Fail> {
 
 // The most significant byte first.
 #[test]
-fn reads_the_other_order(rt: HostRuntime) -> Result<(), Fail> {
+pub(crate) fn reads_the_other_order(rt: HostRuntime) -> Result<(), Fail> {
     let alloc = rt.alloc();
     let mut file = BIG_HEAD.to_vec(alloc)?;
     file.extend_from_slice(&[0, 0, 0, 1, 0, 0, 0, 127, 0, 0, 0, 31, 0, 0, 0, 255])?;
@@ -275,7 +339,7 @@ fn reads_the_other_order(rt: HostRuntime) -> Result<(), Fail> {
 
 // The nine entries from the last to the first.
 #[test]
-fn reads_entries_in_any_order(rt: HostRuntime) -> Result<(), Fail> {
+pub(crate) fn reads_entries_in_any_order(rt: HostRuntime) -> Result<(), Fail> {
     let alloc = rt.alloc();
     let file = four_by_one(alloc)?;
     assert_eq!(rt; file.len(), 146);
@@ -291,7 +355,7 @@ fn reads_entries_in_any_order(rt: HostRuntime) -> Result<(), Fail> {
 
 // Two entries of ImageWidth, of which the first counts: in place of Compression, whose default is 1.
 #[test]
-fn takes_the_first_entry(rt: HostRuntime) -> Result<(), Fail> {
+pub(crate) fn takes_the_first_entry(rt: HostRuntime) -> Result<(), Fail> {
     let alloc = rt.alloc();
     let mut file = four_by_one(alloc)?;
     patch(&mut file, 46, &[0x00, 1, 4, 0, 1, 0, 0, 0, 9]);
@@ -299,7 +363,7 @@ fn takes_the_first_entry(rt: HostRuntime) -> Result<(), Fail> {
 }
 
 #[test]
-fn refuses_by_name(rt: HostRuntime) -> Result<(), Fail> {
+pub(crate) fn refuses_by_name(rt: HostRuntime) -> Result<(), Fail> {
     let alloc = rt.alloc();
     let words: [(&[&str], u8, &str); 8] = [
         (&[], 2, "plateroom: words\n"),
@@ -321,7 +385,12 @@ fn refuses_by_name(rt: HostRuntime) -> Result<(), Fail> {
 }
 
 // Over this file `one` prints nothing, and tells this line.
-fn assert_refuses(rt: &impl Abort, alloc: Global, file: Vec<u8>, line: &str) -> Result<(), Fail> {
+pub(crate) fn assert_refuses(
+    rt: &impl Abort,
+    alloc: Global,
+    file: Vec<u8>,
+    line: &str,
+) -> Result<(), Fail> {
     let left = run_words(alloc, &ONE, file, CALM)?;
     assert_eq!(rt; left.status, 4);
     assert_eq!(rt; left.out.bytes(), b"".as_slice());
@@ -331,7 +400,7 @@ fn assert_refuses(rt: &impl Abort, alloc: Global, file: Vec<u8>, line: &str) -> 
 
 // The first 100 bytes hold no whole directory.
 #[test]
-fn refuses_a_cut_directory(rt: HostRuntime) -> Result<(), Fail> {
+pub(crate) fn refuses_a_cut_directory(rt: HostRuntime) -> Result<(), Fail> {
     let alloc = rt.alloc();
     let mut file = four_by_one(alloc)?;
     file.truncate(100);
@@ -345,7 +414,7 @@ fn refuses_a_cut_directory(rt: HostRuntime) -> Result<(), Fail> {
 
 // Compression 5 is LZW.
 #[test]
-fn refuses_lzw(rt: HostRuntime) -> Result<(), Fail> {
+pub(crate) fn refuses_lzw(rt: HostRuntime) -> Result<(), Fail> {
     let alloc = rt.alloc();
     let mut file = four_by_one(alloc)?;
     patch(&mut file, 54, &[5]);
@@ -358,7 +427,7 @@ fn refuses_lzw(rt: HostRuntime) -> Result<(), Fail> {
 }
 
 #[test]
-fn tells_what_failed(rt: HostRuntime) -> Result<(), Fail> {
+pub(crate) fn tells_what_failed(rt: HostRuntime) -> Result<(), Fail> {
     let alloc = rt.alloc();
     // The output, which takes the whole plate in one call, and the shelf.
     let cases: [([Option<u64>; 3], u8, &str); 2] = [
@@ -415,7 +484,7 @@ impl Sink for FullSink {
 }
 
 // The words of `ONE`.
-fn one(alloc: Global) -> Result<Vec<String>, AllocError> {
+pub(crate) fn one(alloc: Global) -> Result<Vec<String>, AllocError> {
     let mut words = Vec::new(alloc);
     words.push(String::from_str(alloc, "one")?)?;
     words.push(String::from_str(alloc, "a.tif")?)?;
@@ -423,13 +492,21 @@ fn one(alloc: Global) -> Result<Vec<String>, AllocError> {
 }
 
 #[test]
-fn refuses_a_file_that_is_too_long(rt: HostRuntime) -> Result<(), Fail> {
+pub(crate) fn refuses_a_file_that_is_too_long(rt: HostRuntime) -> Result<(), Fail> {
     let alloc = rt.alloc();
     let words = one(alloc)?;
     let mut shelf = LongShelf { longs: 0 };
     let mut out = MemSink::new(alloc, Vec::new(alloc));
     let mut note = MemSink::new(alloc, Vec::new(alloc));
-    let status = plate_main(alloc, words.as_slice(), &mut shelf, &mut out, &mut note);
+    let mut racks = idle_racks(alloc, &[])?;
+    let status = plate_main(
+        alloc,
+        words.as_slice(),
+        &mut shelf,
+        racks.as_mut_slice(),
+        &mut out,
+        &mut note,
+    );
     assert_eq!(rt; status, 4);
     assert_eq!(rt; out.bytes(), b"".as_slice());
     let line = "plateroom: file a.tif: tag 0: too long\n";
@@ -438,15 +515,17 @@ fn refuses_a_file_that_is_too_long(rt: HostRuntime) -> Result<(), Fail> {
 }
 
 #[test]
-fn tells_of_an_output_without_memory(rt: HostRuntime) -> Result<(), Fail> {
+pub(crate) fn tells_of_an_output_without_memory(rt: HostRuntime) -> Result<(), Fail> {
     let alloc = rt.alloc();
     let words = one(alloc)?;
     let mut shelf = shelf_of(alloc, four_by_one(alloc)?, Vec::new(alloc))?;
     let mut note = MemSink::new(alloc, Vec::new(alloc));
+    let mut racks = idle_racks(alloc, &[])?;
     let status = plate_main(
         alloc,
         words.as_slice(),
         &mut shelf,
+        racks.as_mut_slice(),
         &mut FullSink,
         &mut note,
     );

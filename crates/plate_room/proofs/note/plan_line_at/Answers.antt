@@ -1,0 +1,9 @@
+use Rattle.std.proofs.Common.{◌≡◌, ◌∙◌, append_assoc, string_bytes}
+use Rattle.plate_room.specs.Line.{plan_line_at}
+use Rattle.plate_room.proofs.Results.{if_ok}
+use Rattle.plate_room.proofs.note.plan_line_at.Goals as goal
+
+pub returns : goal.returns
+returns c =
+    if_ok c.format.result _ (λ line. string_bytes line ≡ plan_line_at c.args.path.now c.args.kind.now)
+    (λ line h. h ∙ (simp append_assoc)) c.format.ensures.ok

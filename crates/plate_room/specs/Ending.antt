@@ -1,0 +1,54 @@
+-- How a run of `plate_main` ends. This is the contract of a private call.
+use Rattle.std.specs.Prelude.{◌≡◌, ℕ, List, Some}
+use Rattle.pr_ports.specs.Sink.{Grew, GrewByPrefix}
+use Rattle.pr_rack.specs.declared.rack.Rack.{Ghosts}
+use Rattle.plate_room.specs.Command.{Command, command_of}
+use Rattle.plate_room.specs.Line.{memory_line}
+use Rattle.plate_room.specs.Refusal.{Refusal, status_of, line_of}
+use Rattle.plate_room.specs.Met.{Meets}
+use Rattle.plate_room.specs.Done.{IsDone, IsCut}
+use Rattle.plate_room.specs.End.{IsDoneStatus, GrewByTwo}
+use Rattle.plate_room.specs.Seen.{Seen, SinkSeen, PutFailed}
+
+-- the words are a command
+abbrev pub IsAsked : List (List ℕ) → Type 0
+IsAsked words = (command : Command) × (command_of words ≡ Some command)
+
+-- the command met a refusal, and made nothing
+pub record IsStopped {R : Type 0} (seen : Seen R) (refusal : Refusal) : Type 0 where
+  pub met : Meets seen.words seen.shelf refusal
+  pub racks : seen.racks' ≡ seen.racks
+  pub given : seen.out.given' ≡ seen.out.given
+  pub faults : seen.out.faults' ≡ seen.out.faults
+
+-- a sink took nothing, and no write failed
+pub record IsSilent (sink : SinkSeen) : Type 0 where
+  pub given : sink.given' ≡ sink.given
+  pub faults : sink.faults' ≡ sink.faults
+
+module _ {R : Type 0} (g : Ghosts R) where
+  -- the command is done, and no load failed that the shelf tells of
+  pub record IsFinished (seen : Seen R) (status : ℕ) : Type 0 where
+    pub is : IsDoneStatus status
+    pub made : IsDone g seen.words seen.shelf.held seen.racks seen.racks' seen.out status
+    pub missed : seen.shelf.missed' ≡ seen.shelf.missed
+
+  -- a part of a command was done
+  pub record IsBroken (seen : Seen R) : Type 0 where
+    pub asked : IsAsked seen.words
+    pub cut : IsCut g seen.words seen.shelf.held seen.racks seen.racks' seen.out
+
+  pub data Ending (seen : Seen R) (note : SinkSeen) (status : ℕ) : Type 0 where
+    Done : IsFinished seen status → IsSilent note → Ending seen note status
+    Refused : (refusal : Refusal) → status ≡ status_of refusal → IsStopped seen refusal
+        → Grew note.given note.given' (line_of refusal) → Ending seen note status
+    -- memory was wanted to tell of a refusal
+    Untold : (refusal : Refusal) → status ≡ 6 → IsStopped seen refusal
+        → GrewByTwo note.given note.given' (line_of refusal) memory_line → Ending seen note status
+    -- the note failed
+    NotNoted : (refusal : Refusal) → status ≡ 7 → IsStopped seen refusal → PutFailed note
+        → GrewByPrefix note.given note.given' (line_of refusal) → Ending seen note status
+    -- memory was wanted
+    Wanted : status ≡ 6 → IsBroken seen → GrewByPrefix note.given note.given' memory_line → Ending seen note status
+    -- the output failed
+    NotPrinted : status ≡ 7 → IsBroken seen → PutFailed seen.out → note.given' ≡ note.given → Ending seen note status

@@ -1,0 +1,116 @@
+// The sites of a run before its first row and behind its last.
+ghost use Rattle.std.specs.Prelude.{◌≡◌, ◌<◌, ◌≤◌, IfOk, if◌then◌else◌, length};
+ghost use Rattle.plan_json.specs.Plan.{IsPlan};
+ghost use Rattle.plan_rows.specs.Inks.{has_site, ink_count};
+ghost use Rattle.plan_rows.specs.Plates.{site_plates};
+ghost use Rattle.plan_rows.specs.Rows.{rows_of};
+ghost use Rattle.plate_room.specs.Fits.{kept_rows};
+ghost use Rattle.plate_room.specs.Served.{end_of, ends_in, fresh_sites, plates_in};
+
+use crate::SiteEnd;
+use crate::run_site::RunSite;
+use plan_json::Plan;
+use plan_pages::plate_shape;
+use plan_rows::{Group, RowPlan};
+use pr_base::NoMemory;
+use site_agent::Site;
+use std::alloc::Global;
+
+/// The sites of a plan, before the first row.
+pub(crate) fn sites_of(
+    alloc: Global,
+    plan: &Plan,
+    rows: &RowPlan,
+    out: &str,
+) -> Result<Vec<RunSite>, NoMemory>
+    requires { rows.now ≡ rows_of plan.now }
+    ensures { IfOk result (λ sites. sites.items ≡ fresh_sites plan.now out.now) }
+{
+    let mut sites = Vec::new(alloc);
+    for index in 0..plan.sites.len() {
+        let site = Site::new(alloc, plan, rows, out, index)?;
+        sites.push(RunSite::Going(site))?;
+    }
+    Ok(sites)
+}
+
+/// How the sites ended, behind the last row.
+pub(crate) fn ends_of(
+    alloc: Global,
+    plan: &Plan,
+    rows: &RowPlan,
+    sites: Vec<RunSite>,
+) -> Result<Vec<SiteEnd>, NoMemory>
+    requires plan { IsPlan plan.now }
+    requires rows { rows.now ≡ rows_of plan.now }
+    requires sites { length sites.items ≡ length plan.now.sites }
+    ensures { IfOk result (λ ends. ends.items ≡ ends_in plan.now sites.items) }
+{
+    let mut ends = Vec::new(alloc);
+    for site in sites {
+        let end = end_at(plan, rows, ends.len(), site);
+        ends.push(end)?;
+    }
+    Ok(ends)
+}
+
+/// How a site ended.
+fn end_at(plan: &Plan, rows: &RowPlan, index: usize, site: RunSite) -> SiteEnd
+    requires plan { IsPlan plan.now }
+    requires rows { rows.now ≡ rows_of plan.now }
+    requires index { index < length plan.now.sites }
+    ensures { result ≡ end_of plan.now (index, site) }
+{
+    match site {
+        RunSite::Going(_site) => finished(plan, rows, index),
+        RunSite::Left(cause) => SiteEnd::Left(cause),
+    }
+}
+
+/// The end of a site that has all its plates.
+fn finished(plan: &Plan, rows: &RowPlan, site: usize) -> SiteEnd
+    requires plan { IsPlan plan.now }
+    requires rows { rows.now ≡ rows_of plan.now }
+    requires site { site < length plan.now.sites }
+    ensures { result ≡ SiteEnd.Finished (length (site_plates plan.now site)) (kept_rows plan.now site) }
+{
+    let plates = plate_count(rows, site);
+    SiteEnd::Finished {
+        plates,
+        rows: plates as u64 * plate_shape(plan).height as u64,
+    }
+}
+
+/// How many plates a site has.
+fn plate_count(rows: &RowPlan, site: usize) -> u32
+    requires { site < 16 }
+    ensures { result ≡ length (plates_in rows.now.groups site) }
+{
+    let mut count = 0;
+    let groups = rows.groups();
+    for group in groups {
+        count += printed(group, site);
+    }
+    count
+}
+
+/// How many plates of a group a site has.
+fn printed(group: &Group, site: usize) -> u32
+    requires { site < 16 }
+    ensures count { result ≡ (if has_site group.now site then ink_count group.now else 0) }
+    ensures most { result ≤ 5 }
+{
+    if prints(group, site) {
+        group.inks().len() as u32
+    } else {
+        0
+    }
+}
+
+/// Whether a site prints a group.
+fn prints(group: &Group, site: usize) -> bool
+    requires { site < 16 }
+    ensures { result ≡ has_site group.now site }
+{
+    group.sites >> site & 1 == 1
+}

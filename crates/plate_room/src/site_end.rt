@@ -1,0 +1,18 @@
+// How a run ended at its sites.
+
+use site_agent::LeftCause;
+
+/// How a site ended.
+#[derive(Debug, PartialEq, Eq, Drop)]
+pub enum SiteEnd {
+    /// All its plates are finished: so many of them, of so many rows together.
+    Finished { plates: u32, rows: u64 },
+    /// A call of its rack failed.
+    Left(LeftCause),
+}
+
+/// How a run ended: the end of each site, in the plan's order.
+#[derive(Debug, Drop)]
+pub struct Outcome {
+    pub sites: Vec<SiteEnd>,
+}
