@@ -23,6 +23,3 @@ pub use feed::Feed;
 pub use job::Job;
 pub use preparing::prepare;
 pub use refusal::Refusal;
-
-#[cfg(test)]
-mod tests;
