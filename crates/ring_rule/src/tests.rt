@@ -7,7 +7,6 @@ use pr_base::Deal;
 use std::process::Abort;
 use std::test::Fail;
 use std::thread;
-use std::thread::Threads;
 
 // Rows of two bytes that tell their number.
 #[derive(Drop)]
@@ -229,114 +228,20 @@ fn notes_carry_what_a_seat_knows(rt: HostRuntime) -> Result<(), Fail> {
     Ok(())
 }
 
-// The writer takes in the reader's note.
-fn hear(writer: &mut WriterSeat<'_, Numbered>, note: CursorNoteSeat<Numbered>, total: u64, head: u64)
-    requires table { note.table ≡ writer.old.table }
-    requires idle { IsIdleWriter 4 1 total head writer.old.view }
-    ensures table { writer.new.table ≡ writer.old.table }
-    ensures idle { IsIdleWriter 4 1 total head writer.new.view }
+fn meet_cursor(mut writer: WriterSeat<'_, Numbered>, note: CursorNoteSeat<Numbered>) -> u64
+    requires { note.table ≡ writer.table }
 {
-    writer.meet(note);
+    writer.meet(note)
 }
 
-// In a round the writer takes in the reader's note, publishes the next row, and makes a note.
-fn write_round<'t>(
-    mut writer: WriterSeat<'t, Numbered>,
-    note: CursorNoteSeat<Numbered>,
-    total: u64,
-    head: u64,
-) -> (WriterSeat<'t, Numbered>, HeadNoteSeat<Numbered>, u64)
-    requires table { note.table ≡ writer.table }
-    requires idle { IsIdleWriter 4 1 total head writer.view }
-    requires within { head ≤ total }
-    ensures table { result.0.table ≡ writer.entry.table }
-    ensures note { result.1.table ≡ writer.entry.table }
-    ensures idle { IsIdleWriter 4 1 total result.2 result.0.view }
-    ensures within { result.2 ≤ total }
-{
-    hear(&mut writer, note, total, head);
-    if head < total {
-        if write_one(&mut writer, total, head) {
-            let told = writer.note();
-            return (writer, told, head + 1);
-        }
-    }
-    let told = writer.note();
-    (writer, told, head)
-}
-
-// In a round the reader takes in the writer's note, takes the next row where the writer told of one, and makes a note.
-fn read_round<'t>(
-    rt: &impl Abort,
-    mut reader: ReaderSeat<'t, Numbered>,
-    note: HeadNoteSeat<Numbered>,
-    total: u64,
-    taken: u64,
-) -> (ReaderSeat<'t, Numbered>, CursorNoteSeat<Numbered>, u64)
+fn meet_head(mut reader: ReaderSeat<'_, Numbered>, note: HeadNoteSeat<Numbered>) -> u64
     requires table { note.table ≡ reader.table }
-    requires idle { IsIdleReader total taken reader.view }
-    ensures table { result.0.table ≡ reader.entry.table }
-    ensures note { result.1.table ≡ reader.entry.table }
-    ensures idle { IsIdleReader total result.2 result.0.view }
+    requires joined { reader.view.left ≡ false }
 {
-    if reader.meet(note) > taken {
-        let row = reader.take();
-        assert!(rt; row.number() == taken && row.bytes() == row_bytes(taken).as_slice());
-        reader.give(row);
-        reader.store_cursor();
-        let told = reader.note();
-        return (reader, told, taken + 1);
-    }
-    let told = reader.note();
-    (reader, told, taken)
+    reader.meet(note)
 }
 
-// A round: each seat in a thread of its own.
-fn round<'t, R: Threads + Abort + Sync>(
-    rt: &R,
-    writer: WriterSeat<'t, Numbered>,
-    heard: CursorNoteSeat<Numbered>,
-    head: u64,
-    reader: ReaderSeat<'t, Numbered>,
-    told: HeadNoteSeat<Numbered>,
-    taken: u64,
-) -> (
-    (WriterSeat<'t, Numbered>, HeadNoteSeat<Numbered>, u64),
-    (ReaderSeat<'t, Numbered>, CursorNoteSeat<Numbered>, u64),
-)
-    requires same { writer.table ≡ reader.table }
-    requires heard { heard.table ≡ writer.table }
-    requires told { told.table ≡ reader.table }
-    requires writer { IsIdleWriter 4 1 4 head writer.view }
-    requires within { head ≤ 4 }
-    requires reader { IsIdleReader 4 taken reader.view }
-    ensures same { result.0.0.table ≡ result.1.0.table }
-    ensures heard { result.1.1.table ≡ result.0.0.table }
-    ensures told { result.0.1.table ≡ result.1.0.table }
-    ensures writer { IsIdleWriter 4 1 4 result.0.2 result.0.0.view }
-    ensures within { result.0.2 ≤ 4 }
-    ensures reader { IsIdleReader 4 result.1.2 result.1.0.view }
-{
-    let write = move || -> (WriterSeat<'_, Numbered>, HeadNoteSeat<Numbered>, u64)
-        requires table { heard.table ≡ writer.table }
-        requires idle { IsIdleWriter 4 1 4 head writer.view }
-        requires within { head ≤ 4 }
-        ensures table { result.0.table ≡ writer.entry.table }
-        ensures note { result.1.table ≡ writer.entry.table }
-        ensures idle { IsIdleWriter 4 1 4 result.2 result.0.view }
-        ensures within { result.2 ≤ 4 }
-    { write_round(writer, heard, 4, head) };
-    let read = move || -> (ReaderSeat<'_, Numbered>, CursorNoteSeat<Numbered>, u64)
-        requires table { told.table ≡ reader.table }
-        requires idle { IsIdleReader 4 taken reader.view }
-        ensures table { result.0.table ≡ reader.entry.table }
-        ensures note { result.1.table ≡ reader.entry.table }
-        ensures idle { IsIdleReader 4 result.2 result.0.view }
-    { read_round(rt, reader, told, 4, taken) };
-    thread::join(rt, write, read)
-}
-
-// Notes go back and forth between two threads: after five rounds four rows are written and taken.
+// Each seat meets the other's note in a thread of its own.
 #[test]
 fn notes_cross_threads(rt: HostRuntime) -> Result<(), Fail> {
     let deal = Numbered { total: 4 };
@@ -346,20 +251,17 @@ fn notes_cross_threads(rt: HostRuntime) -> Result<(), Fail> {
         mut readers,
     } = table.seats(rt.alloc())?;
     let mut reader = readers.pop().ok_or("no reader")?;
-    let mut told = writer.note();
-    let mut heard = reader.note();
-    let mut head = 0;
-    let mut taken = 0;
-    for _round in 0..5u64 {
-        let (written, read) = round(&rt, writer, heard, head, reader, told, taken);
-        writer = written.0;
-        told = written.1;
-        head = written.2;
-        reader = read.0;
-        heard = read.1;
-        taken = read.2;
-    }
-    assert_eq!(rt; head, 4);
-    assert_eq!(rt; taken, 4);
+    assert!(rt; write_one(&mut writer, 4, 0));
+    assert!(rt; read_one(&rt, &mut reader, 4, 0));
+    assert!(rt; write_one(&mut writer, 4, 1));
+    let told = writer.note();
+    let heard = reader.note();
+    let (cursor, head) = thread::join(
+        &rt,
+        || meet_cursor(writer, heard),
+        || meet_head(reader, told),
+    );
+    assert_eq!(rt; cursor, 1);
+    assert_eq!(rt; head, 2);
     Ok(())
 }
