@@ -23,7 +23,8 @@ const THREE_SITES: &[u8] = br#"{"plan": 2, "edition": "E1", "dpi": 1200, "page":
         {"name": "z", "inks": "K", "layers": []}],
     "sections": [{"name": "A", "pages": ["a", "c"]}, {"name": "B", "pages": ["k", "k", "s", "k"]}],
     "zones": [{"name": "Y", "replace": [{"section": "A", "page": 1, "with": "z"}]},
-        {"name": "Z", "replace": [{"section": "A", "page": 1, "with": "z"}, {"section": "B", "page": 2, "with": "z"}]}],
+        {"name": "Z", "replace": [{"section": "A", "page": 1, "with": "z"},
+            {"section": "B", "page": 2, "with": "z"}]}],
     "sites": [{"name": "S0"}, {"name": "S1", "zone": "Y"}, {"name": "S2", "zone": "Z"}]}"#;
 
 // The first and the last row of each group, and each ink: number, group, y, ink, slot.

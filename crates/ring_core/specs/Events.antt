@@ -39,7 +39,8 @@ each_below (suc n) p = each_below n p && p n
 -- What of one reader makes its event possible.
 
 abbrev pub can_fill : ℕ → ℕ → ℕ → Progress → Lanes → Bool
-can_fill places total head p l = is_above head (option_map (λ k. k + places) p.known) && (nat_lt head total && not l.filled)
+can_fill places total head p l =
+    is_above head (option_map (λ k. k + places) p.known) && (nat_lt head total && not l.filled)
 
 -- the writer saw it leave, or filled its lane
 abbrev pub is_ready : Progress → Lanes → Bool
@@ -61,7 +62,8 @@ can_leave p l = is_some p.cursor && is_idle l.stage
 abbrev pub can_be : Schedule → Event → Bool
 can_be s (Look r) = nat_lt r (readers s)
 can_be s (Fill r) = nat_lt r (readers s) && can_fill s.places s.total s.head (progress_of s r) (lanes_of s r)
-can_be s Publish = nat_lt s.head s.total && each_below (readers s) (λ r. is_ready (progress_of s r) (lanes_of s r))
+can_be s Publish =
+    nat_lt s.head s.total && each_below (readers s) (λ r. is_ready (progress_of s r) (lanes_of s r))
 can_be s (See r) = nat_lt r (readers s) && is_some (progress_of s r).cursor
 can_be s (Open r) = nat_lt r (readers s) && can_open (progress_of s r) (lanes_of s r)
 can_be s (Close r) = nat_lt r (readers s) && can_close (progress_of s r) (lanes_of s r)

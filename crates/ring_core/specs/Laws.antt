@@ -12,13 +12,16 @@ EveryEventKeeps = (s : Schedule) (e : Event) → IsSound s → can_be s e ≡ tr
 
 -- the schedule after every list of events is sound
 abbrev pub EveryRunIsSound : Type 0
-EveryRunIsSound = (places readers total : ℕ) (es : List Event) → 0 < places → IsSound (run (start places readers total) es)
+EveryRunIsSound = (places readers total : ℕ) (es : List Event) → 0 < places
+    → IsSound (run (start places readers total) es)
 
--- each row of that place that was published before, and the one that lies there, was closed by the reader: it is below c
+-- each row of that place that was published before, and the one that lies there, was closed by the reader:
+-- it is below c
 pub record WasClosed (s : Schedule) (r c : ℕ) : Type 0 where
   pub published : (n : ℕ) → n < s.head → n % s.places ≡ s.head % s.places → n < c
   pub lying : (n : ℕ) → (lanes_of s r).row s.head ≡ Some n → n < c
 
 -- a lane is filled only once its reader closed all rows that lay there
 abbrev pub FillsOnlyClosedRows : Type 0
-FillsOnlyClosedRows = (s : Schedule) (r c : ℕ) → IsSound s → can_be s (Fill r) ≡ true → (progress_of s r).cursor ≡ Some c → WasClosed s r c
+FillsOnlyClosedRows = (s : Schedule) (r c : ℕ) → IsSound s → can_be s (Fill r) ≡ true
+    → (progress_of s r).cursor ≡ Some c → WasClosed s r c

@@ -1,6 +1,5 @@
--- What shared words and lanes can show of a schedule: a closed row counts as one that was not taken, and a row that
--- its reader
--- has passed doesn't count. So a schedule is read before it is compared with a ring.
+-- What shared words and lanes can show of a schedule: a closed row counts as one that was not taken, and a
+-- row that its reader has passed doesn't count. So a schedule is read before it is compared with a ring.
 use Rattle.std.specs.Prelude.{List, ℕ, ◌*◌, ◌/◌, ◌%◌, nat_lt, if◌then◌else◌, map, Option, Some, None, unwrap_or, slice_set}
 use Rattle.std.specs.List.{range_with_len}
 use Rattle.ring_core.specs.declared.event.Stage.{Stage}
@@ -28,7 +27,11 @@ abbrev pub plain_row : ℕ → Option ℕ → (ℕ → Option ℕ) → ℕ → O
 plain_row head cursor row n = from_low (first_row head cursor) (row n)
 
 abbrev pub plain_lanes : ℕ → Progress → Lanes → Lanes
-plain_lanes head p l = record { filled = l.filled; stage = plain_stage l.stage; row = plain_row head p.cursor l.row }
+plain_lanes head p l = record {
+  filled = l.filled;
+  stage = plain_stage l.stage;
+  row = plain_row head p.cursor l.row;
+}
 
 -- 0, 1, 2 and so on, below n
 abbrev pub numbers : ℕ → List ℕ
@@ -51,7 +54,8 @@ schedule_of places total head n p l = record {
 
 -- the plain reading
 abbrev pub plain : Schedule → Schedule
-plain s = schedule_of s.places s.total s.head (readers s) (progress_of s) (λ r. plain_lanes s.head (progress_of s r) (lanes_of s r))
+plain s = schedule_of s.places s.total s.head (readers s) (progress_of s)
+    (λ r. plain_lanes s.head (progress_of s r) (lanes_of s r))
 
 -- the schedule with the stage of reader r read as closed
 abbrev pub read_closed : ℕ → Schedule → Schedule

@@ -1,5 +1,5 @@
--- A sound schedule. The clauses on head, cursors, known and seen stand apart from those on lanes, so that a rule over shared
--- words alone can cite them; all are said of one reader over plain values.
+-- A sound schedule. The clauses on head, cursors, known and seen stand apart from those on lanes, so that a
+-- rule over shared words alone can cite them; all are said of one reader over plain values.
 use Rattle.std.specs.Prelude.{◌≡◌, ◌≢◌, ℕ, ◌+◌, ◌*◌, ◌%◌, ◌<◌, ◌≤◌, true, length, Some, None, slice_index}
 use Rattle.ring_core.specs.declared.event.Stage.TheVariants.{Idle, Holding, Closed}
 use Rattle.ring_core.specs.Schedule.{Schedule, readers, Progress, Lanes, progress_of, lanes_of}

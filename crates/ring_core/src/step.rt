@@ -168,8 +168,11 @@ fn clear(flags: &mut [bool])
 // Adds a row number to the list of one reader.
 fn push_row(taken: &mut Vec<Vec<u64>>, reader: usize, row: u64) -> Result<(), NoMemory>
     requires { reader < vec_len taken.old }
-    ensures ok { OnOk result (let lists = map (λ rows. rows.items) taken.old.items in map (λ rows. rows.items) taken.new.items ≡ slice_set lists reader (slice_index_or lists reader [] ++ row ∷ [])) }
-    ensures err { OnErr result (map (λ rows. rows.items) taken.new.items ≡ map (λ rows. rows.items) taken.old.items) }
+    ensures ok { OnOk result (let lists = map (λ rows. rows.items) taken.old.items in
+        map (λ rows. rows.items) taken.new.items
+        ≡ slice_set lists reader (slice_index_or lists reader [] ++ row ∷ [])) }
+    ensures err { OnErr result (
+        map (λ rows. rows.items) taken.new.items ≡ map (λ rows. rows.items) taken.old.items) }
 {
     taken[reader].push(row)?;
     Ok(())

@@ -21,8 +21,8 @@ pub enum Packet<'a> {
     Repeat(u8, usize),
 }
 
-/// The first packet of packed bytes, and the bytes behind it and behind more headers like it where it gives nothing.
-/// A packet whose bytes are cut gives nothing.
+/// The first packet of packed bytes, and the bytes behind it and behind more headers like it where it gives
+/// nothing. A packet whose bytes are cut gives nothing.
 pub fn first_packet(packed: &[u8]) -> (Packet<'_>, &[u8])
     requires { 0 < length packed.now }
     ensures whole { expansion packed.now ≡ left_of result.0 ++ expansion result.1.now }
