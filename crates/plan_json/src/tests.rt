@@ -12,14 +12,15 @@ const SAMPLE: &str =
 'curves':{'C':[[0,0],[128,110],[255,255]],'K':[[0,5],[255,250]],'S':[[0,0],[255,255]]},\
 'marks':[{'inks':'CMYKS','x':0,'y':0,'w':25,'h':10},{'inks':'K','x':1,'y':2,'w':3,'h':4}],\
 'pages':[{'name':'w','inks':'K','layers':[]},{'name':'p','inks':'CMYKS','layers':[\
-{'kind':'contone','file':'a.tif','x':1,'y':2,'scale':3,'crop':[5,6,7,8],'mask':'m/b.tif','paint':'overprint','ink':[1,2,3,4,5]},\
+{'kind':'contone','file':'a.tif','x':1,'y':2,'scale':3,'crop':[5,6,7,8],'mask':'m/b.tif',\
+'paint':'overprint','ink':[1,2,3,4,5]},\
 {'kind':'line','file':'m/b.tif','mask':'c.tif'}]}],\
 'sections':[{'name':'A','pages':['w','p']}],\
 'zones':[{'name':'N','replace':[{'section':'A','page':2,'with':'w'},{'section':'A','page':1,'with':'p'}]}],\
 'sites':[{'name':'OSLO','zone':'N'},{'name':'BERGEN'}]}";
 
 // What stands in the sample, what stands there instead, and the fault.
-const CHANGES: [&str; 186] = [
+const CHANGES: [&str; 226] = [
     " |  | ok",
     // the top object
     "'plan':2, |  | /plan: missing",
@@ -54,7 +55,8 @@ const CHANGES: [&str; 186] = [
     "'page':[8,4] | 'page':[32763,4] | ok",
     "'page':[8,4] | 'page':[32764,4] | /page: range",
     "'page':[8,4] | 'page':[8,65530] | /page: range",
-    "[8,4],'margins':[1,2,3,4],'gutter':5,'limit':300 | [8,65530],'margins':[1,2,3,4],'gutter':5,'limit':-1 | /page: range",
+    "[8,4],'margins':[1,2,3,4],'gutter':5,'limit':300 | [8,65530],'margins':[1,2,3,4],'gutter':5,\
+'limit':-1 | /page: range",
     "[8,4],'margins':[1,2,3,4],'gutter':5 | [8,65530],'margins':[1,2,3,4],'gutter':-1 | /gutter: kind",
     "'margins':[1,2,3,4] | 'margins':1 | /margins: kind",
     "'margins':[1,2,3,4] | 'margins':[1,2,3] | /margins: range",
@@ -67,6 +69,7 @@ const CHANGES: [&str; 186] = [
     "'limit':300 | 'limit':1021 | /limit: range",
     "'limit':300, |  | ok",
     // tiles
+    "'screens':{ | 'tiles':0,'screens':{ | /tiles: kind",
     "'tiles':[ | 'tiles':{},'zz':[ | /zz: unknown",
     "'tiles':[ | 'tiles':[0, | /tiles/0: kind",
     "'tiles':[ | 'tiles':[0,0,0,0,0,0,0,0,0,0,0,0,0,0,0, | /tiles: range",
@@ -92,6 +95,7 @@ const CHANGES: [&str; 186] = [
     "'at':[7,9] | 'at':[7,'9'] | /tiles/0/at/1: kind",
     "'at':[7,9] | 'at':[7,256] | /tiles/0/at/1: range",
     // screens
+    "'curves':{ | 'screens':[],'curves':{ | /screens: kind",
     "'screens':{ | 'screens':[],'zz':{ | /zz: unknown",
     "'C':'bayer2' | 'c':'bayer2' | /screens/c: unknown",
     "'C':'bayer2' | 'C':2 | /screens/C: kind",
@@ -102,6 +106,7 @@ const CHANGES: [&str; 186] = [
     "'Y':'tile:t1' | 'Y':'tile:t 1' | /screens/Y: unknown",
     "'M':'diffuse', |  | ok",
     // curves
+    "'marks':[ | 'curves':[],'marks':[ | /curves: kind",
     "'C':[[0,0] | 'Z':[[0,0] | /curves/Z: unknown",
     "[[0,5],[255,250]] | 5 | /curves/K: kind",
     "[[0,5],[255,250]] | [[0,5]] | /curves/K: range",
@@ -113,6 +118,9 @@ const CHANGES: [&str; 186] = [
     "[[0,5],[255,250]] | [[0,5],[254,250]] | /curves/K: range",
     "[[0,5],[255,250]] | [[0,5],[9,1],[9,2],[255,250]] | /curves/K: range",
     // marks
+    "'pages':[{'name':'w' | 'marks':{},'pages':[{'name':'w' | /marks: kind",
+    "'pages':[{'name':'w' | 'marks':[0,0,0,0,0,0,0,0,0,0,0,0,0,0,0,0,0,0,0,0,0,0,0,0,0,0,0,0,0,0,0,0,0,\
+0,0,0,0,0,0,0,0,0,0,0,0,0,0,0,0,0,0,0,0,0,0,0,0,0,0,0,0,0,0,0,0],'pages':[{'name':'w' | /marks: range",
     "'marks':[ | 'marks':[0, | /marks/0: kind",
     "'inks':'CMYKS','x':0 | 'inks':'CMYKS','a':0,'x':0 | /marks/0/a: unknown",
     "'inks':'CMYKS','x':0 | 'x':0 | /marks/0/inks: missing",
@@ -127,13 +135,21 @@ const CHANGES: [&str; 186] = [
     "'x':0 | 'x':1 | /marks/0: range",
     "'y':0, |  | /marks/0/y: missing",
     "'y':0 | 'y':1 | /marks/0: range",
+    "'y':0 | 'y':[] | /marks/0/y: kind",
+    "'y':0 | 'y':65536 | /marks/0/y: range",
     "'w':25, |  | /marks/0/w: missing",
     "'w':25 | 'w':0 | /marks/0/w: range",
+    "'w':25 | 'w':'25' | /marks/0/w: kind",
+    "'w':25 | 'w':65536 | /marks/0/w: range",
     "'w':25 | 'w':26 | /marks/0: range",
     ",'h':10 |  | /marks/0/h: missing",
     "'h':10 | 'h':0 | /marks/0/h: range",
+    "'h':10 | 'h':{} | /marks/0/h: kind",
+    "'h':10 | 'h':65536 | /marks/0/h: range",
     "'h':10 | 'h':11 | /marks/0: range",
     // pages
+    "'sections':[ | 'pages':{},'sections':[ | /pages: kind",
+    "'sections':[ | 'pages':[],'sections':[ | /pages: range",
     "'pages':[{'name':'w','inks':'K','layers':[]}, | 'pages':[0, | /pages/0: kind",
     "{'name':'w','inks':'K','layers':[]} | {'name':'w','inks':'K','layers':[],'a':1} | /pages/0/a: unknown",
     "{'name':'w', | { | /pages/0/name: missing",
@@ -146,7 +162,8 @@ const CHANGES: [&str; 186] = [
     "'inks':'K','layers':[] | 'inks':'KS','layers':[] | ok",
     ",'layers':[] |  | /pages/0/layers: missing",
     "'layers':[] | 'layers':{} | /pages/0/layers: kind",
-    "'layers':[] | 'layers':[0,0,0,0,0,0,0,0,0,0,0,0,0,0,0,0,0,0,0,0,0,0,0,0,0,0,0,0,0,0,0,0,0] | /pages/0/layers: range",
+    "'layers':[] | 'layers':[0,0,0,0,0,0,0,0,0,0,0,0,0,0,0,0,0,0,0,0,0,0,0,0,0,0,0,0,0,0,0,0,0] | \
+/pages/0/layers: range",
     "'layers':[] | 'layers':[0] | /pages/0/layers/0: kind",
     // layers
     "'kind':'contone', |  | /pages/1/layers/0/kind: missing",
@@ -189,10 +206,14 @@ const CHANGES: [&str; 186] = [
     "'sections':[{'name':'A','pages':['w','p']}], |  | /sections: missing",
     "[{'name':'A','pages':['w','p']}] | 0 | /sections: kind",
     "[{'name':'A','pages':['w','p']}] | [] | /sections: range",
+    "[{'name':'A','pages':['w','p']}] | [0,0,0,0,0,0,0,0,0] | /sections: range",
     "[{'name':'A','pages':['w','p']}] | [[]] | /sections/0: kind",
     "{'name':'A','pages' | {'name':'A','a':1,'pages' | /sections/0/a: unknown",
     "{'name':'A','pages' | {'pages' | /sections/0/name: missing",
-    "{'name':'A','pages':['w','p']} | {'name':'A','pages':['w','p']},{'name':'A','pages':[]} | /sections/1/name: repeat",
+    "{'name':'A','pages' | {'name':1,'pages' | /sections/0/name: kind",
+    "{'name':'A','pages' | {'name':'','pages' | /sections/0/name: range",
+    "{'name':'A','pages':['w','p']} | {'name':'A','pages':['w','p']},{'name':'A','pages':[]} | \
+/sections/1/name: repeat",
     ",'pages':['w','p'] |  | /sections/0/pages: missing",
     "['w','p'] | 'w' | /sections/0/pages: kind",
     "['w','p'] | ['w'] | /sections/0/pages: range",
@@ -201,20 +222,44 @@ const CHANGES: [&str; 186] = [
     "['w','p'] | ['w','p!'] | /sections/0/pages/1: range",
     "['w','p'] | ['w','q'] | /sections/0/pages/1: unknown",
     // zones
+    "'sites':[ | 'zones':{},'sites':[ | /zones: kind",
+    "'sites':[ | 'zones':[0,0,0,0,0,0,0,0,0,0,0,0,0,0,0,0,0],'sites':[ | /zones: range",
+    "'zones':[ | 'zones':[0, | /zones/0: kind",
     "{'name':'N','replace' | {'name':'N','a':1,'replace' | /zones/0/a: unknown",
     "{'name':'N','replace' | {'replace' | /zones/0/name: missing",
+    "{'name':'N','replace' | {'name':0,'replace' | /zones/0/name: kind",
+    "{'name':'N','replace' | {'name':'N!','replace' | /zones/0/name: range",
+    "'zones':[ | 'zones':[{'name':'N','replace':[]}, | /zones/1/name: repeat",
+    "'zones':[ | 'zones':[{'name':'Z'}, | /zones/0/replace: missing",
+    "'zones':[ | 'zones':[{'name':'Z','replace':0}, | /zones/0/replace: kind",
+    "'replace':[ | 'replace':[0, | /zones/0/replace/0: kind",
+    "{'section':'A','page':2 | {'section':'A','a':1,'page':2 | /zones/0/replace/0/a: unknown",
+    "{'section':'A','page':2 | {'page':2 | /zones/0/replace/0/section: missing",
+    "{'section':'A','page':2 | {'section':0,'page':2 | /zones/0/replace/0/section: kind",
+    "{'section':'A','page':2 | {'section':'A B','page':2 | /zones/0/replace/0/section: range",
     "{'section':'A','page':2 | {'section':'B','page':2 | /zones/0/replace/0/section: unknown",
+    "{'section':'A','page':2 | {'section':'A' | /zones/0/replace/0/page: missing",
+    "{'section':'A','page':2 | {'section':'A','page':'2' | /zones/0/replace/0/page: kind",
     "{'section':'A','page':2 | {'section':'A','page':0 | /zones/0/replace/0/page: range",
     "{'section':'A','page':2 | {'section':'A','page':3 | /zones/0/replace/0/page: range",
     "{'section':'A','page':2 | {'section':'A','page':1 | /zones/0/replace/1/page: repeat",
     "'page':1,'with':'p' | 'page':2,'with':'q' | /zones/0/replace/1/page: repeat",
     "'page':1,'with':'p' | 'page':1,'with':'q' | /zones/0/replace/1/with: unknown",
+    "'page':1,'with':'p' | 'page':1,'with':1 | /zones/0/replace/1/with: kind",
+    "'page':1,'with':'p' | 'page':1,'with':'p.' | /zones/0/replace/1/with: range",
     "'page':1,'with':'p' | 'page':1 | /zones/0/replace/1/with: missing",
     // sites
+    "{'name':'BERGEN'}] | {'name':'BERGEN'}],'sites':{} | /sites: kind",
+    "{'name':'BERGEN'}] | {'name':'BERGEN'}],'sites':[] | /sites: range",
+    "{'name':'BERGEN'}] | {'name':'BERGEN'}],'sites':[0,0,0,0,0,0,0,0,0,0,0,0,0,0,0,0,0] | /sites: range",
+    "{'name':'BERGEN'} | 0 | /sites/1: kind",
     "{'name':'OSLO', | { | /sites/0/name: missing",
+    "'name':'BERGEN' | 'name':null | /sites/1/name: kind",
+    "'name':'BERGEN' | 'name':'BER GEN' | /sites/1/name: range",
     "'name':'BERGEN' | 'name':'OSLO' | /sites/1/name: repeat",
     "'zone':'N' | 'zone':'M' | /sites/0/zone: unknown",
     "'zone':'N' | 'zone':0 | /sites/0/zone: kind",
+    "'zone':'N' | 'zone':'' | /sites/0/zone: range",
     "'zone':'N' | 'Zone':'N' | /sites/0/Zone: unknown",
 ];
 
@@ -227,9 +272,9 @@ fn quoted(alloc: Global, text: &str) -> Result<String, AllocError> {
     Ok(out)
 }
 
-// The sample with its first `old` replaced.
-fn changed(alloc: Global, old: &str, new: &str) -> Result<String, AllocError> {
-    match SAMPLE.split_once(old) {
+// A sample with its first `old` replaced.
+fn changed(alloc: Global, sample: &str, old: &str, new: &str) -> Result<String, AllocError> {
+    match sample.split_once(old) {
         Some((front, back)) => quoted(alloc, format!(in alloc; "{front}{new}{back}")?.as_str()),
         None => quoted(alloc, "not in the sample"),
     }
@@ -243,11 +288,16 @@ fn fault_of(alloc: Global, text: &str) -> Result<String, AllocError> {
     }
 }
 
-fn check_all(rt: &impl Abort, alloc: Global, rows: &[&str]) -> Result<(), AllocError> {
+fn check_all(
+    rt: &impl Abort,
+    alloc: Global,
+    sample: &str,
+    rows: &[&str],
+) -> Result<(), AllocError> {
     for row in rows {
         if let Some((old, rest)) = row.split_once(" | ") {
             if let Some((new, wanted)) = rest.split_once(" | ") {
-                let text = changed(alloc, old, new)?;
+                let text = changed(alloc, sample, old, new)?;
                 let found = fault_of(alloc, text.as_str())?;
                 assert_eq!(rt; found.as_str(), wanted, "{old} -> {new}");
             }
@@ -258,7 +308,7 @@ fn check_all(rt: &impl Abort, alloc: Global, rows: &[&str]) -> Result<(), AllocE
 
 #[test]
 fn each_change_has_its_fault(rt: HostRuntime) -> Result<(), Fail> {
-    check_all(&rt, rt.alloc(), &CHANGES)?;
+    check_all(&rt, rt.alloc(), SAMPLE, &CHANGES)?;
     Ok(())
 }
 
@@ -266,13 +316,47 @@ fn each_change_has_its_fault(rt: HostRuntime) -> Result<(), Fail> {
 fn other_texts_have_their_faults(rt: HostRuntime) -> Result<(), Fail> {
     assert_eq!(rt; fault_of(rt.alloc(), "{")?.as_str(), "not JSON");
     assert_eq!(rt; fault_of(rt.alloc(), "[]")?.as_str(), ": kind");
+    let text = quoted(
+        rt.alloc(),
+        "{'plan':1,'edition':'E1','dpi':1200,'page':[8,2]}",
+    )?;
+    assert_eq!(rt;
+        fault_of(rt.alloc(), text.as_str())?.as_str(),
+        "/pages: missing"
+    );
+    let text = quoted(
+        rt.alloc(),
+        "{'plan':1,'edition':'E1','dpi':1200,'page':[8,2],'pages':[{'name':'w','inks':'K','layers':[]}],\
+'sections':[{'name':'A','pages':['w','w']}]}",
+    )?;
+    assert_eq!(rt;
+        fault_of(rt.alloc(), text.as_str())?.as_str(),
+        "/sites: missing"
+    );
     Ok(())
 }
 
 // A plan 1 that leaves all defaults: its files are told once each, in the order of their first mention.
 const SMALL: &str = "{'plan':1,'edition':'E1','dpi':1200,'page':[8,2],\
-'pages':[{'name':'w','inks':'CMYK','layers':[{'kind':'contone','file':'b','mask':'a'},{'kind':'line','file':'a','mask':'b'},\
-{'kind':'line','file':'c'}]},{'name':'p','inks':'K','layers':[]}],'sections':[{'name':'A','pages':['p','w']}],'sites':[{'name':'OSLO'}]}";
+'pages':[{'name':'w','inks':'CMYK','layers':[{'kind':'contone','file':'b','mask':'a'},\
+{'kind':'line','file':'a','mask':'b'},{'kind':'line','file':'c'}]},{'name':'p','inks':'K','layers':[]}],\
+'sections':[{'name':'A','pages':['p','w']}],'sites':[{'name':'OSLO'}]}";
+
+// Changes of this plan 1: what is of a fifth ink isn't known there.
+const SMALL_CHANGES: [&str; 6] = [
+    " |  | ok",
+    "'page':[8,2] | 'page':[8,2],'screens':{'S':'bayer4'} | /screens/S: unknown",
+    "'page':[8,2] | 'page':[8,2],'curves':{'S':[[0,0],[255,255]]} | /curves/S: unknown",
+    "'page':[8,2] | 'page':[8,2],'marks':[{'inks':'KS','x':0,'y':0,'w':1,'h':1}] | /marks/0/inks: range",
+    "'inks':'CMYK' | 'inks':'KS' | /pages/0/inks: range",
+    "'file':'c'} | 'file':'c','ink':[0,0,0,0,255]} | /pages/0/layers/2/ink: range",
+];
+
+#[test]
+fn each_change_of_a_plan_1_has_its_fault(rt: HostRuntime) -> Result<(), Fail> {
+    check_all(&rt, rt.alloc(), SMALL, &SMALL_CHANGES)?;
+    Ok(())
+}
 
 #[test]
 fn a_small_plan_is_read(rt: HostRuntime) -> Result<(), Fail> {
