@@ -1,5 +1,5 @@
--- The rule of the ring's table, in two levels: over the writer's view and a function from reader to view, and over
--- the list of views.
+-- The rule of the ring's table, in two levels: over the writer's view and a function from reader to view,
+-- and over the list of views.
 use Rattle.std.specs.Prelude.{◌≡◌, ℕ, ◌+◌, ◌*◌, ◌%◌, ◌<◌, ◌≤◌, Bool, true, false, ◌&&◌, ◌||◌, nat_eq, List, [], length, Some, slice_index, slice_index_or}
 use Rattle.std.specs.List.{All}
 use mathlib.Core.Option.{Option as AtHome, none, some}
@@ -42,8 +42,8 @@ pub record Holds (g : RingNumbers) (words : List ℕ) (w : WriterView) (readers 
 abbrev pub row_at : RingNumbers → ℕ → List ℕ
 row_at g n = slice_index_or g.rows n []
 
--- a buffer that lies in its slot: one row long; its number, if it has one, is at most head, and its bytes are those
--- of that row
+-- a buffer that lies in its slot: one row long; its number, if it has one, is at most head, and its bytes
+-- are those of that row
 pub record Fits (g : RingNumbers) (head : ℕ) (lane : Lane) : Type 0 where
   pub long : length lane.bytes.items ≡ g.row_len
   pub not_ahead : (n : ℕ) → lane.number ≡ Some n → n ≤ head
@@ -65,7 +65,8 @@ abbrev pub LaneIs : RingNumbers → ℕ → AtHome Slot → Bool → Type 0
 LaneIs g head home true = home ≡ none
 LaneIs g head home false = (lane : Lane) × (home ≡ some (Some lane)) × Fits g head lane
 
--- what the writer's view says where it has a lane of reader r out: there is a row to fill it with, and room for it
+-- what the writer's view says where it has a lane of reader r out: there is a row to fill it with, and room
+-- for it
 pub record HandFits (g : RingNumbers) (w : WriterView) (r : ℕ) : Type 0 where
   pub in_range : r < g.readers
   pub row : w.head < g.total
@@ -97,7 +98,8 @@ pub record HoldsLanes (g : RingNumbers) (words : List ℕ) (homes : Homes) (w : 
   pub sound : (r : ℕ) → r < g.readers → let lanes = lanes_known g.places words homes w readers r in
       IsSoundLanes g.places g.total (head_shown words) (shown words w readers r) lanes
 
--- what a note of the writer says is true: head has come that far, and the readers that it names as left have left
+-- what a note of the writer says is true: head has come that far, and the readers that it names as left
+-- have left
 pub record IsTrueHead (g : RingNumbers) (w : WriterView) (readers : ℕ → ReaderView) (n : HeadNoteView)
     : Type 0 where
   pub ring : n.ring ≡ g

@@ -24,8 +24,8 @@ use Rattle.ring_rule.specs.Empty.{IsEmptyLane}
 use Rattle.ring_rule.specs.Kept.{Fits, Kept}
 use Rattle.ring_rule.specs.Plays.{slot_for, slot_of, looked_at, published, picked, placed, saw_head, took, gave, went_on, gone, MayPublish, MayFill, MayTake, made_more, made_reader, noted, met}
 
--- the step from s to t keeps the rule, the event is possible in what was shown, and what is shown is the plain
--- reading of what it does
+-- the step from s to t keeps the rule, the event is possible in what was shown, and what is shown is the
+-- plain reading of what it does
 pub record IsEventFrom (before : Schedule) (g : RingNumbers) (t : RingState) (e : Event) : Type 0 where
   pub kept : Kept g t
   pub can : can_be before e ≡ true
@@ -65,8 +65,8 @@ LookIsEvent = (g : RingNumbers) (s : RingState) (id r : ℕ) (w : WriterView) �
     → r < g.readers → w.hand ≡ None → let n = slice_index s.words (r + 1) in
     IsEvent g s (loads s (r + 1) id (Writer (looked_at r n w))) (Look r)
 
--- the writer loads word 0 and takes the lane of reader r: there is a buffer at home, and whichever it is, what is
--- shown stays
+-- the writer loads word 0 and takes the lane of reader r: there is a buffer at home, and whichever it is,
+-- what is shown stays
 pub record PickStays (g : RingNumbers) (s : RingState) (id r : ℕ) (w : WriterView) : Type 0 where
   pub home : (lane : Lane) × (get_elem? s.homes (slot_for w r) ≡ some (some (Some lane)))
   pub step : (y : Slot) → get_elem? s.homes (slot_for w r) ≡ some (some y)
@@ -97,7 +97,8 @@ SeeIsEvent = (g : RingNumbers) (s : RingState) (id : ℕ) (x : ReaderView) → K
     → x.left ≡ false
     → IsEvent g s (loads s 0 id (Reader (saw_head (slice_index s.words 0) x))) (See x.number)
 
--- a reader loads its word and takes its lane: there is a buffer at home, and whichever it is, the step is an open
+-- a reader loads its word and takes its lane: there is a buffer at home, and whichever it is, the step is
+-- an open
 pub record TakeOpens (g : RingNumbers) (s : RingState) (id : ℕ) (x : ReaderView) : Type 0 where
   pub home : (lane : Lane) × (get_elem? s.homes (slot_of x) ≡ some (some (Some lane)))
   pub step : (y : Slot) → get_elem? s.homes (slot_of x) ≡ some (some y)
@@ -115,8 +116,8 @@ GiveIsClose = (g : RingNumbers) (s : RingState) (id : ℕ) (x : ReaderView) (lan
     → x.out ≡ true → lane.number ≡ Some x.taken → Fits g x.taken lane
     → IsEvent g s (gives_slot s (x.number + 1) id (Reader (gave x)) (slot_of x) (Some lane)) (Close x.number)
 
--- a joined reader that knows of a row at its cursor, and has nothing out, stores its cursor + 1; its stage is first
--- read as closed
+-- a joined reader that knows of a row at its cursor, and has nothing out, stores its cursor + 1; its stage
+-- is first read as closed
 abbrev pub AdvanceIsEvent : Type 0
 AdvanceIsEvent = (g : RingNumbers) (s : RingState) (id : ℕ) (x : ReaderView) → Kept g s → Has s id (Reader x)
     → MayTake x
@@ -171,8 +172,8 @@ MeetCursorShowsTheSame = (g : RingNumbers) (s : RingState) (id other : ℕ) (w :
     → (n : CursorNoteView) → Kept g s → Has s id (Writer w) → Has s other (CursorNote n)
     → ShowsTheSame g s (joined s id (met (Writer w) (CursorNote n)) other)
 
--- what the table shows is sound, and its slots show what the views say: which lanes are filled, and which readers
--- hold their row
+-- what the table shows is sound, and its slots show what the views say: which lanes are filled, and which
+-- readers hold their row
 pub record ShowsSound (g : RingNumbers) (s : RingState) : Type 0 where
   pub sound : IsSound (schedule_shown g s)
   pub agrees : (r : ℕ) → r < g.readers → let w = writer_of g s.views in

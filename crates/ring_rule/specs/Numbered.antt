@@ -1,5 +1,5 @@
--- Rows of two bytes that tell their number, which the tests pass through a ring, and what a test knows of a seat
--- between its calls.
+-- Rows of two bytes that tell their number, which the tests pass through a ring, and what a test knows of a
+-- seat between its calls.
 use Rattle.std.specs.Prelude.{◌≡◌, ◌≢◌, ℕ, ◌+◌, ◌/◌, ◌%◌, ◌<◌, false, nat_eq, if◌then◌else◌, List, [], ◌∷◌, length, map, slice_index, slice_index_or}
 use Rattle.std.specs.List.{range_with_len}
 use Rattle.ring_rule.specs.declared.view.WriterView.{WriterView}
@@ -30,7 +30,8 @@ pub record IsIdleReader (total taken : ℕ) (x : ReaderView) : Type 0 where
   pub out : x.out ≡ false
   pub count : x.taken ≡ taken
 
--- the writer looked at a reader whose cursor word is this, which it saw leave or which leaves room for row head
+-- the writer looked at a reader whose cursor word is this, which it saw leave or which leaves room for row
+-- head
 pub record IsOffered (places readers total head : ℕ) (r cursor : ℕ) (w : WriterView) : Type 0 where
   pub ring : w.ring ≡ ring_of places readers (numbered_rows total) 2
   pub at : w.head ≡ head

@@ -96,14 +96,14 @@ slot_of x = lane_place x.ring.places x.number x.taken
 abbrev pub IsCursorOf : WriterView → ℕ → ℕ → Type 0
 IsCursorOf w r n = (n ≡ left_word) ⊎ ((slice_index w.known r ≤ n) × (n ≤ w.head))
 
--- a cursor word of the maker of a reader's note: it left, or took at least the rows that the note tells; it left if
--- the note says so
+-- a cursor word of the maker of a reader's note: it left, or took at least the rows that the note tells; it
+-- left if the note says so
 pub record IsPastNote (note : CursorNoteView) (n : ℕ) : Type 0 where
   pub cursor : (n ≡ left_word) ⊎ (note.taken ≤ n)
   pub left : note.left ≡ true → n ≡ left_word
 
--- a head word once a note of the writer was met: at least the head that the note tells, and this reader isn't told as
--- left
+-- a head word once a note of the writer was met: at least the head that the note tells, and this reader
+-- isn't told as left
 pub record IsPastHead (note : HeadNoteView) (number n : ℕ) : Type 0 where
   pub head : note.head ≤ n
   pub joined : slice_index note.known number ≢ left_word
@@ -114,8 +114,8 @@ pub record MayPublish (w : WriterView) : Type 0 where
   pub filled : (r k : ℕ) → r < w.ring.readers → cursor_in (slice_index w.known r) ≡ Some k
       → slice_index_or w.filled r false ≡ true
 
--- the writer may fill the lane of reader r: there is a row, room for it as far as the writer knows, and it didn't
--- fill that lane
+-- the writer may fill the lane of reader r: there is a row, room for it as far as the writer knows, and it
+-- didn't fill that lane
 pub record MayFill (w : WriterView) (r : ℕ) : Type 0 where
   pub in_range : r < w.ring.readers
   pub row : w.head < w.ring.total

@@ -1,4 +1,5 @@
--- What holds of each seat between its calls: the token's view beside the copies of its numbers that the code reads.
+-- What holds of each seat between its calls: the token's view beside the copies of its numbers that the
+-- code reads.
 use Rattle.std.specs.Prelude.{◌≡◌, ℕ, ◌+◌, ◌<◌, ◌≤◌, Bool, true, if◌then◌else◌, List, [], ◌∷◌, None}
 use Rattle.atomic_table.specs.Seated.{TableId}
 use Rattle.ring_rule.specs.declared.view.RingNumbers.{RingNumbers}

@@ -1,5 +1,5 @@
--- The views of a ring's seats: who acts by them, what they begin with, and the views that stand for actors with no
--- seat yet.
+-- The views of a ring's seats: who acts by them, what they begin with, and the views that stand for actors
+-- with no seat yet.
 use Rattle.std.specs.Prelude.{ℕ, zero, suc, ◌+◌, false, nat_eq, if◌then◌else◌, List, [], ◌∷◌, ◌++◌, length, replicate, Option, Some, None}
 use Rattle.ring_rule.specs.declared.view.RingNumbers.{RingNumbers}
 use Rattle.ring_rule.specs.declared.view.WriterView.{WriterView}

@@ -1,4 +1,5 @@
-// How the views of seats are cut in two and joined: a reader's seat is cut from the writer's, and a note from either.
+// How the views of seats are cut in two and joined: a reader's seat is cut from the writer's, and a note
+// from either.
 ghost use Rattle.ring_rule.specs.declared.view.View.TheVariants.{Spent};
 ghost use Rattle.ring_rule.specs.Plays.{made_more, made_reader, noted, met};
 

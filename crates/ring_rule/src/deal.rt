@@ -1,4 +1,5 @@
-// What a ring's table is made of and gives out: empty lanes, and a seat for each reader, cut from the writer's.
+// What a ring's table is made of and gives out: empty lanes, and a seat for each reader, cut from the
+// writer's.
 ghost use Rattle.std.specs.Prelude.{◌≡◌, ◌+◌, ◌<◌, ◌≤◌, [], length, map, IfOk, vec_len, vec_capacity};
 ghost use Rattle.std.specs.List.{All};
 ghost use Rattle.ring_rule.specs.Views.{up_to};

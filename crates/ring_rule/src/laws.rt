@@ -1,5 +1,5 @@
-// Each kind of step keeps the rule and is an event of the schedule, each law the contract of a function with nothing
-// to do.
+// Each kind of step keeps the rule and is an event of the schedule, each law the contract of a function
+// with nothing to do.
 ghost use Rattle.ring_rule.specs.Laws.{RuleShowsSound, FirstIsStart, LookIsEvent, PickShowsTheSame, PlaceIsFill, PublishIsEvent, SeeIsEvent, TakeIsOpen, GiveIsClose, AdvanceIsEvent, LeaveIsEvent};
 ghost use Rattle.ring_rule.specs.Laws.{SplitShowsTheSame, HeadNoteShowsTheSame, CursorNoteShowsTheSame, MeetHeadShowsTheSame, MeetCursorShowsTheSame};
 

@@ -1,6 +1,5 @@
-// The writer takes the lane of one reader. The step is a load of word 0, which tells of no reader, so the play is of
-// a type that has
-// the reader's number in a ghost member: the caller picks it.
+// The writer takes the lane of one reader. The step is a load of word 0, which tells of no reader, so the
+// play is of a type that has the reader's number in a ghost member: the caller picks it.
 ghost use Rattle.std.specs.Prelude.{◌≡◌, ℕ, ◌<◌};
 ghost use Rattle.ring_rule.specs.Plays.{PicksAt, IsPick, MayFill, writer_in};
 ghost use Rattle.ring_rule.specs.Key.{key_ring};

@@ -9,7 +9,8 @@ use pr_base::Deal;
 use std::marker::PhantomData;
 use std::snapshot::Snapshot;
 
-/// What the rule may read of a ring: its numbers, and the deal whose rows pass through it, which clauses alone see.
+/// What the rule may read of a ring: its numbers, and the deal whose rows pass through it, which clauses
+/// alone see.
 #[derive(Drop)]
 pub struct RingKey<D> {
     pub places: u64,
@@ -17,8 +18,8 @@ pub struct RingKey<D> {
     pub deal: Snapshot<D>,
 }
 
-/// The words, the lanes and the views of all seats show a sound schedule, each lane at home holds the bytes of its row,
-/// and what notes say is true.
+/// The words, the lanes and the views of all seats show a sound schedule, each lane at home holds the bytes
+/// of its row, and what notes say is true.
 pub struct RingRule<D>(PhantomData<D>);
 
 impl<D: Deal> TableRule<Option<Lane>, View, RingKey<D>> for RingRule<D> {

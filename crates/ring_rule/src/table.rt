@@ -40,7 +40,8 @@ impl<'d, D: Deal> Model for RingTable<'d, D> {
     ghost invariant = { λ t.
         let g = key_ring D.rows D.size t.table.shared.key in
         IsRingTable g t.table.shared.table_id t.places t.readers × (g.total ≡ length (D.rows t.deal.now))
-        × (g.row_len ≡ D.size t.deal.now) × ForSome t.seat (λ s. IsFreshSeat g t.table.shared.table_id s.table_id s.me) };
+        × (g.row_len ≡ D.size t.deal.now)
+        × ForSome t.seat (λ s. IsFreshSeat g t.table.shared.table_id s.table_id s.me) };
 }
 
 /// The seats of a ring. The seat of reader r stands at index r.
@@ -122,8 +123,8 @@ impl<'d, D: Deal> RingTable<'d, D> {
         self.deal.row_len()
     }
 
-    /// Gives out the seats, all of this table. It is the first call on the table; where there is no memory they are
-    /// still there.
+    /// Gives out the seats, all of this table. It is the first call on the table; where there is no memory
+    /// they are still there.
     pub fn seats(&mut self, alloc: Global) -> Result<Seats<'_, D>, NoMemory>
         requires { self.old.fresh ≡ true }
         ensures writer { IfOk result (λ seats. seats.writer ≡ new_writer_mark self.old.table self.old.ring) }

@@ -1,4 +1,4 @@
-ghost use Rattle.std.specs.Prelude.{◌≡◌, ◌≢◌, ◌+◌, ◌<◌, ◌≤◌, false, IsTrue, MatchBool};
+ghost use Rattle.std.specs.Prelude.{◌≡◌, ◌≢◌, ◌+◌, ◌<◌, ◌≤◌, false, IfSome, IsTrue, MatchBool};
 ghost use Rattle.ring_rule.specs.Views.{left_word};
 ghost use Rattle.ring_rule.specs.Numbered.{numbered_row, numbered_rows, IsIdleWriter, IsIdleReader, IsOffered, served};
 
@@ -7,6 +7,7 @@ use pr_base::Deal;
 use std::process::Abort;
 use std::test::Fail;
 use std::thread;
+use std::thread::{Threads, join_mut};
 
 // Rows of two bytes that tell their number.
 #[derive(Drop)]
@@ -228,40 +229,127 @@ fn notes_carry_what_a_seat_knows(rt: HostRuntime) -> Result<(), Fail> {
     Ok(())
 }
 
-fn meet_cursor(mut writer: WriterSeat<'_, Numbered>, note: CursorNoteSeat<Numbered>) -> u64
-    requires { note.table ≡ writer.table }
-{
-    writer.meet(note)
+// The writer of four rows between two rounds: how many it published, the reader's note that it has yet to
+// meet, and its own that the reader has yet to meet.
+#[derive(Drop)]
+struct WriterSide<'t> {
+    seat: WriterSeat<'t, Numbered>,
+    head: u64,
+    heard: Option<CursorNoteSeat<Numbered>>,
+    told: Option<HeadNoteSeat<Numbered>>,
 }
 
-fn meet_head(mut reader: ReaderSeat<'_, Numbered>, note: HeadNoteSeat<Numbered>) -> u64
-    requires table { note.table ≡ reader.table }
-    requires joined { reader.view.left ≡ false }
-{
-    reader.meet(note)
+// The reader between two rounds, likewise.
+#[derive(Drop)]
+struct ReaderSide<'t> {
+    seat: ReaderSeat<'t, Numbered>,
+    taken: u64,
+    heard: Option<HeadNoteSeat<Numbered>>,
+    told: Option<CursorNoteSeat<Numbered>>,
 }
 
-// Each seat meets the other's note in a thread of its own.
+// In a round the writer meets the reader's note, publishes the next row, and makes a note.
+fn write_round(side: &mut WriterSide<'_>)
+    requires idle { IsIdleWriter 4 1 4 side.old.head side.old.seat.view }
+    requires heard { IfSome side.old.heard (λ note. note.table ≡ side.old.seat.table) }
+    ensures idle { IsIdleWriter 4 1 4 side.new.head side.new.seat.view }
+    ensures table { side.new.seat.table ≡ side.old.seat.table }
+    ensures told { IfSome side.new.told (λ note. note.table ≡ side.old.seat.table) }
+{
+    if let Some(note) = side.heard.take() {
+        side.seat.meet(note);
+    }
+    if side.head < 4 {
+        if write_one(&mut side.seat, 4, side.head) {
+            side.head += 1;
+        }
+    }
+    side.told = Some(side.seat.note());
+}
+
+// In a round the reader meets the writer's note, takes the next row where that told of one, and makes a note.
+fn read_round(rt: &impl Abort, side: &mut ReaderSide<'_>)
+    requires idle { IsIdleReader 4 side.old.taken side.old.seat.view }
+    requires heard { IfSome side.old.heard (λ note. note.table ≡ side.old.seat.table) }
+    ensures idle { IsIdleReader 4 side.new.taken side.new.seat.view }
+    ensures table { side.new.seat.table ≡ side.old.seat.table }
+    ensures told { IfSome side.new.told (λ note. note.table ≡ side.old.seat.table) }
+{
+    if let Some(note) = side.heard.take() {
+        take_told(rt, side, note);
+    }
+    side.told = Some(side.seat.note());
+}
+
+// Meets a note, and takes the next row where there is one.
+fn take_told(rt: &impl Abort, side: &mut ReaderSide<'_>, note: HeadNoteSeat<Numbered>)
+    requires idle { IsIdleReader 4 side.old.taken side.old.seat.view }
+    requires note { note.table ≡ side.old.seat.table }
+    ensures idle { IsIdleReader 4 side.new.taken side.new.seat.view }
+    ensures table { side.new.seat.table ≡ side.old.seat.table }
+{
+    if side.seat.meet(note) > side.taken {
+        let row = side.seat.take();
+        assert!(rt; row.number() == side.taken && row.bytes() == row_bytes(side.taken).as_slice());
+        side.seat.give(row);
+        side.seat.store_cursor();
+        side.taken += 1;
+    }
+}
+
+// A round: each seat in a thread of its own.
+fn round<R: Threads + Abort + Sync>(
+    rt: &R,
+    writer: &mut WriterSide<'_>,
+    reader: &mut ReaderSide<'_>,
+)
+    requires writer { IsIdleWriter 4 1 4 writer.old.head writer.old.seat.view }
+    requires reader { IsIdleReader 4 reader.old.taken reader.old.seat.view }
+    requires heard { IfSome writer.old.heard (λ note. note.table ≡ writer.old.seat.table) }
+    requires told { IfSome reader.old.heard (λ note. note.table ≡ reader.old.seat.table) }
+    ensures writer { IsIdleWriter 4 1 4 writer.new.head writer.new.seat.view }
+    ensures reader { IsIdleReader 4 reader.new.taken reader.new.seat.view }
+    ensures writer_table { writer.new.seat.table ≡ writer.old.seat.table }
+    ensures reader_table { reader.new.seat.table ≡ reader.old.seat.table }
+    ensures heard { IfSome writer.new.told (λ note. note.table ≡ writer.old.seat.table) }
+    ensures told { IfSome reader.new.told (λ note. note.table ≡ reader.old.seat.table) }
+{
+    join_mut(
+        rt,
+        &mut || write_round(writer),
+        &mut || read_round(rt, reader),
+    );
+}
+
+// Notes go back and forth between two threads. A row is taken in the round after the one that published it,
+// so five rounds pass four rows.
 #[test]
 fn notes_cross_threads(rt: HostRuntime) -> Result<(), Fail> {
     let deal = Numbered { total: 4 };
     let mut table = RingTable::new(rt.alloc(), &deal, 4, 1)?;
     let Seats {
-        mut writer,
+        writer,
         mut readers,
     } = table.seats(rt.alloc())?;
-    let mut reader = readers.pop().ok_or("no reader")?;
-    assert!(rt; write_one(&mut writer, 4, 0));
-    assert!(rt; read_one(&rt, &mut reader, 4, 0));
-    assert!(rt; write_one(&mut writer, 4, 1));
-    let told = writer.note();
-    let heard = reader.note();
-    let (cursor, head) = thread::join(
-        &rt,
-        || meet_cursor(writer, heard),
-        || meet_head(reader, told),
-    );
-    assert_eq!(rt; cursor, 1);
-    assert_eq!(rt; head, 2);
+    let seat = readers.pop().ok_or("no reader")?;
+    let mut writer = WriterSide {
+        seat: writer,
+        head: 0,
+        heard: None,
+        told: None,
+    };
+    let mut reader = ReaderSide {
+        seat,
+        taken: 0,
+        heard: None,
+        told: None,
+    };
+    for _round in 0..5u64 {
+        round(&rt, &mut writer, &mut reader);
+        writer.heard = reader.told.take();
+        reader.heard = writer.told.take();
+    }
+    assert_eq!(rt; writer.head, 4);
+    assert_eq!(rt; reader.taken, 4);
     Ok(())
 }

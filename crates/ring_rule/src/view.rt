@@ -1,7 +1,8 @@
 // What each seat of a ring knows. No value of these types is made: they stand in contracts and proofs alone.
 use std::collections::LinkedList;
 
-/// The numbers of a ring and the rows that pass through it, fixed when it is made, and the same in every view.
+/// The numbers of a ring and the rows that pass through it, fixed when it is made, and the same in every
+/// view.
 pub struct RingNumbers {
     pub places: u64,
     pub readers: u64,
@@ -64,8 +65,8 @@ pub struct CursorNoteView {
     pub left: bool,
 }
 
-/// What one seat knows. It names the seat's actor: the writer, a reader, a note with its maker, or none once it was
-/// joined to another.
+/// What one seat knows. It names the seat's actor: the writer, a reader, a note with its maker, or none
+/// once it was joined to another.
 pub enum View {
     Writer(WriterView),
     Reader(ReaderView),

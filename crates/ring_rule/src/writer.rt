@@ -14,8 +14,8 @@ use crate::{CursorNoteSeat, HeadNoteSeat, RingSeat, RingShared};
 use pr_base::Deal;
 use std::marker::{Brand, Model};
 
-/// The seat by which the writer looks at cursors, fills lanes and stores the head. Contracts see its table and its
-/// view.
+/// The seat by which the writer looks at cursors, fills lanes and stores the head. Contracts see its table
+/// and its view.
 #[derive(Drop)]
 pub struct WriterSeat<'t, D: Deal> {
     shared: &'t RingShared<D>,
