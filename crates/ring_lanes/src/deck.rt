@@ -6,8 +6,9 @@ use pr_base::{Deal, NoMemory};
 use std::alloc::Global;
 use std::marker::Model;
 
-/// The rows of a deal in one place. Each row is put once, in order, and then taken and given back as often as there
-/// are sites. Contracts see the rows of the deal, how many of them were put, and whether a row is out.
+/// The rows of a deal in one place. Each row is put once, in order, and then taken and given back as often
+/// as there are sites. Contracts see the rows of the deal, how many of them were put, and whether a row is
+/// out.
 #[derive(Drop)]
 pub struct Deck<'d, D: Deal> {
     deal: &'d D,

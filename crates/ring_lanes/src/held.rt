@@ -4,9 +4,9 @@ ghost use Rattle.std.specs.Prelude.{◌≡◌};
 use crate::Source;
 use std::marker::Model;
 
-/// A row that was taken from a deck or a ring: its bytes, its number among the rows of its deal and where it was
-/// taken. It holds the very buffer that the row lay in, and goes home by the call that takes it back. This crate
-/// alone makes one.
+/// A row that was taken from a deck or a ring: its bytes, its number among the rows of its deal and where
+/// it was taken. It holds the very buffer that the row lay in, and goes home by the call that takes it
+/// back. This crate alone makes one.
 #[derive(Debug, Drop)]
 pub struct Held {
     bytes: Vec<u8>,

@@ -57,7 +57,8 @@ impl<'r, D: Deal> Writer<'r, D> {
 
     /// How many readers the writer hasn't seen leave.
     pub fn joined(&self) -> u32
-        ensures { result ≡ joined_count self.now.known }
+        ensures count { result ≡ joined_count self.now.known }
+        ensures known { length self.now.known ≡ self.now.ring.readers }
     {
         self.known.iter().filter(|word| **word != u64::MAX).count() as u32
     }
