@@ -14,6 +14,9 @@ impl Model for History {
     ghost also_owns = { λ _. ftrue };
 }
 
+// It owns nothing.
+unsafe impl Send for History {}
+
 /// A row that is handed in.
 #[derive(Drop)]
 pub(crate) struct Row<'a> {
