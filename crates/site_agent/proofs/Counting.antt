@@ -38,7 +38,7 @@ packed-few width frame wide framed size =
     omega arith
 
 -- the counts with a row, which belongs to a strip that is there
-sum-counted : (y strip bytes : ℕ) (counts : List ℕ) → strip < length counts → sum (counted y strip bytes counts) ≡ (if y == 0 then 0 else sum counts) + bytes
+pub sum-counted : (y strip bytes : ℕ) (counts : List ℕ) → strip < length counts → sum (counted y strip bytes counts) ≡ (if y == 0 then 0 else sum counts) + bytes
 sum-counted y strip bytes counts within =
     ⊎_elim
     (λ (none : y ≡ 0).

@@ -9,6 +9,7 @@ pub mod Finding
 pub mod Placing
 pub mod Counting
 pub mod Keeping
+pub mod Asking
 pub mod Jobs
 pub mod Fresh
 pub mod Making
@@ -16,4 +17,6 @@ pub mod Runs
 pub mod Keeps
 pub mod Taken
 pub mod Going
+pub mod Drawing
+pub mod Turning
 mod Numbered

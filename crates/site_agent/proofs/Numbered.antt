@@ -1,6 +1,6 @@
 -- Sites that take numbered rows from a deck.
-use Rattle.std.proofs.Common.{◌≡◌, ℕ, ◌+◌, ◌<◌, List, [], ◌∷◌, length, map, get_or, Some, Result, Ok, Err, IfOk, refl, sym, ap, subst, ◌∙◌, arith}
-use Rattle.std.specs.Prelude.{All, slice_get}
+use Rattle.std.proofs.Common.{◌≡◌, ℕ, ◌+◌, ◌<◌, List, [], ◌∷◌, length, map, get_or, Some, false, Result, Ok, Err, IfOk, refl, sym, ap, subst, ◌∙◌, arith}
+use Rattle.std.specs.Prelude.{All, is_some, slice_get}
 use Rattle.std.specs.List.{range_with_len}
 use Rattle.std.specs.Option.{option_map}
 use Rattle.std.proofs.lemmas.List.{length-map}
@@ -8,8 +8,13 @@ use Rattle.std.proofs.lemmas.List.FromFn.{length-map-range_with_len, get_or-map-
 use Rattle.std.proofs.lemmas.Option.{slice_get-get_or, slice_get-map, slice_get_within, get_or_from_slice_get}
 use Rattle.ring_lanes.specs.declared.source.Source.{Source}
 use Rattle.ring_lanes.specs.declared.source.Source.TheVariants.{Deck}
+use Rattle.ring_rule.specs.declared.view.RingNumbers.{RingNumbers}
+use Rattle.ring_rule.specs.Views.{ring_of}
+use Rattle.ring_lanes.specs.Reader.{ReaderState}
+use Rattle.ring_lanes.specs.Writer.{WriterState}
 use Rattle.pr_base.specs.Row.{row_size}
-use Rattle.pr_rack.specs.Mem.{MemState}
+use Rattle.pr_rack.specs.Mem.{MemState, empty_slots}
+use Rattle.pr_rack.specs.Rack.{Slots}
 use Rattle.tif_packbits.specs.Frame.{AreFrames, IsFrame, frame_of, framed_row}
 use Rattle.tif_packbits.proofs.Frames.{AreFrames-frame, framed_row-frame_of, length-frame_of}
 use Rattle.plan_json.specs.Data.{PlanData, plate_width}
@@ -19,12 +24,13 @@ use Rattle.site_agent.specs.declared.kept.Kept.{Kept}
 use Rattle.site_agent.specs.declared.kept.Kept.TheVariants.{Done, Left, Memory}
 use Rattle.site_agent.specs.Going.{IsGoing}
 use Rattle.site_agent.specs.Kept.{GoesOn, OnDone}
-use Rattle.site_agent.specs.Numbered.{Takes, numbered, told_by, told_first}
+use Rattle.site_agent.specs.Numbered.{IsFeeding, IsTurning, Takes, numbered, told_by, told_first}
 use Rattle.site_agent.specs.Plan.{fresh_site}
 use Rattle.site_agent.specs.Site.{SiteData}
-use Rattle.site_agent.specs.Stands.{StandsAfter}
+use Rattle.site_agent.specs.Stands.{AreAsLong, AreBegun, StandsAfter}
 use Rattle.site_agent.specs.Tells.{Tells}
-use Rattle.site_agent.proofs.Going.{going_at_start, going_further, idle_at_first}
+use Rattle.site_agent.specs.Turn.{AreRowsFor}
+use Rattle.site_agent.proofs.Going.{going_at_start, going_begun, going_further, going_working, idle_at_first}
 
 -- ---- the rows
 
@@ -106,3 +112,38 @@ takes-first plan out site (Ok made) is two fresh =
     (length-map (numbered count) framed_row ∙ length-numbered count)
     (λ k d less. (numbered-frames count).each k d less ∙ sym two))
 takes-first plan out site (Err e) is two fresh = tt
+
+-- ---- at a ring
+
+pub next-fed : (count n : ℕ) (writer : WriterState) → IsFeeding count n writer → n < count → slice_get writer.ring.rows writer.head ≡ Some (frame_of ((n + 1) ∷ 0 ∷ []))
+next-fed count n writer feeding less = ap (λ r. slice_get r.rows writer.head) feeding.ring ∙ ap (slice_get (numbered count)) feeding.at ∙ numbered-next count n less
+
+pub rows-fed : (count n : ℕ) (writer : WriterState) → IsFeeding count n writer → writer.ring.total ≡ count
+rows-fed count n writer feeding = ap (λ r. r.total) feeding.ring ∙ length-numbered count
+
+-- a new site at a new reader
+pub turning-first : (count : ℕ) (source : Source) (reader : ReaderState) (rack : MemState) (site : SiteData) → 0 < count
+    → IsGoing (map framed_row (numbered count)) source told_first told_first site → site.next ≡ 0 → reader.ring ≡ ring_of 2 1 (numbered count) 5 → reader.cursor ≡ 0
+    → reader.left ≡ false → reader.held ≡ false → rack.slots ≡ empty_slots → IsTurning reader rack site
+turning-first count source reader rack site some going first ring cursor joined home empty =
+    let rows : List (List ℕ) = map framed_row (numbered count) in
+    let inside : 0 < length rows = omega (arith, length-map (numbered count) framed_row, length-numbered count) in
+    let two : row_size site.job.width ≡ 2 = sym (going.sides 0 [] inside) ∙ (numbered-frames count).each 0 [] inside in
+    let total : reader.ring.total ≡ length (numbered count) = ap (λ r. r.total) ring in
+    record {
+      ready = record {
+        going = going.on;
+        joined = joined;
+        home = home;
+        next = cursor ∙ sym first;
+        rows = subst (λ (r : RingNumbers). AreRowsFor site.job r) (sym ring)
+            (record {
+              total = sym (length-map (numbered count) framed_row) ∙ going.total;
+              count = refl;
+              frames = subst (λ (n : ℕ). AreFrames n rows (numbered count)) (sym two) (numbered-frames count);
+            });
+        begun = subst (λ (slots : Slots). AreBegun site.job site.next (map is_some slots)) (sym empty) (going_begun rows source told_first told_first site going);
+        working = subst (λ (slots : Slots). AreAsLong site.job site.next site.counts slots) (sym empty) (going_working rows source told_first told_first site going);
+      };
+      row = omega (arith, length-numbered count);
+    }

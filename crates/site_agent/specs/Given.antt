@@ -1,4 +1,5 @@
--- What the rows below row n are to a site: which of them it keeps, how many each plate has, and which plates are open.
+-- What the rows below row n are to a site: which of them it keeps, how many each plate has, and which
+-- plates are open.
 use Rattle.std.specs.Prelude.{◌≡◌, ◌≢◌, ◌<◌, ℕ, ◌==◌, ◌&&◌, Bool, nat_lt, List, [], length, map, filter, find, count_by, Option, slice_index_or}
 use Rattle.std.specs.List.{list_any, range_with_len}
 use Rattle.std.specs.Option.{option_map_or}

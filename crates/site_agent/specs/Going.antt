@@ -6,9 +6,10 @@ use Rattle.site_agent.specs.Site.{SiteData}
 use Rattle.site_agent.specs.Stands.{StandsAfter}
 use Rattle.site_agent.specs.Tells.{Tells}
 
--- of a run over these rows, taken from this source, the site has dealt with those below its next one, and its rack,
--- which told one thing before, tells another now
-pub record IsGoing (rows : List (List ℕ)) (source : Source) (before now : Tells) (site : SiteData) : Type 0 where
+-- of a run over these rows, taken from this source, the site has dealt with those below its next one, and
+-- its rack, which told one thing before, tells another now
+pub record IsGoing (rows : List (List ℕ)) (source : Source) (before now : Tells) (site : SiteData)
+    : Type 0 where
   pub on : site.ended ≡ false
   pub total : length rows ≡ site.job.total
   pub sides : All (λ row. length row ≡ row_size site.job.width) rows

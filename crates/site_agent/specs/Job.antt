@@ -22,8 +22,8 @@ pub record TailsData : Type 0 where
   pub shape : Shape
   pub room : List ℕ
 
--- the plates of a site in the order of their files, their sides in pixels and their resolution, and the number of all
--- rows
+-- the plates of a site in the order of their files, their sides in pixels and their resolution, and the
+-- number of all rows
 pub record SiteJob : Type 0 where
   pub plates : List SitePlate
   pub width : ℕ

@@ -48,8 +48,8 @@ pub record GoesOn (old new : SiteData) : Type 0 where
   pub next : new.next ≡ old.next + 1
   pub going : new.ended ≡ false
 
--- why a site left at row n: the row is one of its plate at this path, the call begins the plate only at its first row
--- and finishes it only at its last, and so many plates have their last row below row n
+-- why a site left at row n: the row is one of its plate at this path, the call begins the plate only at its
+-- first row and finishes it only at its last, and so many plates have their last row below row n
 pub record IsCauseAt (job : SiteJob) (n : ℕ) (cause : LeftCause) : Type 0 where
   -- the index of the plate, and the row's y from its top
   pub index : ℕ

@@ -7,4 +7,6 @@ pub mod Site
 pub mod Kept
 pub mod Plan
 pub mod Going
+pub mod Turn
+pub mod Draw
 pub mod Numbered

@@ -24,8 +24,8 @@ pub record IsRefused (call' : RackCall) (path : List ℕ) (old new : Tells) (was
   -- no call failed
   pub unmissed : refusal.fault ≡ Memory → missed' ≡ was
 
--- the rows that were taken, where this call for the row with this number was refused: with the row only where its
--- plate was to be finished
+-- the rows that were taken, where this call for the row with this number was refused: with the row only
+-- where its plate was to be finished
 abbrev pub taken_at : RackCall → ℕ → Source → Option (List (ℕ × Source)) → Option (List (ℕ × Source))
 taken_at Begin number source taken = taken
 taken_at Row number source taken = taken

@@ -7,8 +7,8 @@ use Rattle.site_agent.specs.declared.place.Place.{Place}
 use Rattle.site_agent.specs.Job.{Shape, SiteJob, IsJob}
 use Rattle.site_agent.specs.Given.{open_rows, finished_count, IsRowOf}
 
--- a site: its job, the number of the row that comes next, the byte counts of the strips of the plate in each slot, and
--- whether its rack refused a row
+-- a site: its job, the number of the row that comes next, the byte counts of the strips of the plate in
+-- each slot, and whether its rack refused a row
 pub record SiteData : Type 0 where
   pub job : SiteJob
   pub next : ℕ

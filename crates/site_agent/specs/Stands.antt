@@ -57,9 +57,9 @@ AreCounts job rows n counts slot =
     IfSome (open_in job n slot) (λ plate.
     slice_index_or counts slot [] ≡ counts_so_far job.width job.height (rows_below job rows n plate))
 
--- all rows below row n are dealt with: of a rack that told one thing before and tells another now, the plates whose
--- last row is below row n are finished, the begun plates hold their rows so far, and the site's rows were taken from
--- this source
+-- all rows below row n are dealt with: of a rack that told one thing before and tells another now, the
+-- plates whose last row is below row n are finished, the begun plates hold their rows so far, and the
+-- site's rows were taken from this source
 pub record StandsAfter (job : SiteJob) (rows : List (List ℕ)) (source : Source) (n : ℕ) (before now : Tells)
     (counts : List (List ℕ)) : Type 0 where
   pub rack : Holds (files_below job rows n) (taken_below job source n) (plate_below job rows n) before now

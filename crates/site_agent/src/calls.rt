@@ -139,8 +139,8 @@ fn end<R: Rack>(
     finish(plate, tails.bytes(tail.len), tail.at, rack)
 }
 
-/// Deals with row `y` of a plate: begins the plate where this is its first row, gives the row to it, and finishes it
-/// where this was its last. `counts` are the byte counts of its strips with this row.
+/// Deals with row `y` of a plate: begins the plate where this is its first row, gives the row to it, and
+/// finishes it where this was its last. `counts` are the byte counts of its strips with this row.
 pub(crate) fn deliver<R: Rack>(
     plate: &SitePlate,
     y: u32,

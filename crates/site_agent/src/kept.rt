@@ -3,8 +3,8 @@
 use pr_base::PathText;
 use pr_rack::RackCall;
 
-/// Why a site left: how many of its plates were finished, the number of the row, the call that its rack counted as
-/// failed, and the path of the row's plate.
+/// Why a site left: how many of its plates were finished, the number of the row, the call that its rack
+/// counted as failed, and the path of the row's plate.
 #[derive(Debug, PartialEq, Eq, Drop)]
 pub struct LeftCause {
     pub plates: u32,

@@ -1,5 +1,5 @@
-// The turn of a print site: which of all rows of an edition are its own, and how it builds its plates of them on its
-// rack.
+// The turn of a print site: which of all rows of an edition are its own, and how it builds its plates of
+// them on its rack.
 #![tactic(auto)]
 
 mod calls;
@@ -12,6 +12,11 @@ mod slot;
 mod tails;
 #[cfg(test)]
 mod tests;
+mod turn;
+mod turn_end;
+#[cfg(test)]
+mod turn_tests;
 
 pub use kept::{Kept, LeftCause};
 pub use site::Site;
+pub use turn_end::TurnEnd;

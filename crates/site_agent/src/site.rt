@@ -33,8 +33,8 @@ use std::marker::Model;
 use tif_packbits::framed;
 use tif_plate::strips;
 
-/// A print site, which builds its plates row by row on its rack. It takes all memory when it is made: the paths of its
-/// plates, the counts of strips for each slot, and room for the end of a plate.
+/// A print site, which builds its plates row by row on its rack. It takes all memory when it is made: the
+/// paths of its plates, the counts of strips for each slot, and room for the end of a plate.
 #[derive(Debug, Drop)]
 pub struct Site {
     plates: Vec<SitePlate>,
@@ -64,7 +64,8 @@ impl Model for Site {
 }
 
 impl Site {
-    /// The site with this index of a plan, before its first row. Its plates have paths below the folder `out`.
+    /// The site with this index of a plan, before its first row. Its plates have paths below the folder
+    /// `out`.
     pub fn new(
         alloc: Global,
         job_plan: &Plan,
@@ -138,6 +139,7 @@ impl Site {
         ensures others { OnOk result ((s : ℕ) → s < 5 → s ≢ place.slot →
             slice_index_or self.new.counts s [] ≡ slice_index_or self.old.counts s []) }
         ensures goes_on { OnOk result (GoesOn self.old self.new) }
+        ensures missed_stay { OnOk result (R.missed rack.new ≡ R.missed rack.old) }
         ensures stopped { IfErr result (λ refusal. (d : SitePlateData) →
             IsStopped self.old.job.height place.y held.now.number held.now.source
             (slice_index_or self.old.job.plates place.plate d).path
@@ -195,9 +197,9 @@ impl Site {
         }
     }
 
-    /// Keeps the row that comes next if it is one of the site's: begins its plate where it is the first, gives it to
-    /// the plate, and finishes the plate where it is the last. Takes no memory of its own. After `Left` and `Memory`
-    /// the site has ended, and keeps no more rows.
+    /// Keeps the row that comes next if it is one of the site's: begins its plate where it is the first,
+    /// gives it to the plate, and finishes the plate where it is the last. Takes no memory of its own.
+    /// After `Left` and `Memory` the site has ended, and keeps no more rows.
     pub fn keep<R: Rack>(&mut self, held: &Held, rack: &mut R) -> Kept
         requires going { self.old.ended ≡ false }
         requires next { held.now.number ≡ self.old.next }
@@ -219,6 +221,10 @@ impl Site {
             (tells (R.finished rack.new) (R.working rack.new) (R.begun rack.new) (R.taken rack.new))
             self.new.counts) }
         ensures goes_on { OnDone result (GoesOn self.old self.new) }
+        ensures begun_on { OnDone result (AreBegun self.new.job self.new.next (R.begun rack.new)) }
+        ensures working_on { OnDone result (IfSome (R.working rack.new)
+            (AreAsLong self.new.job self.new.next self.new.counts)) }
+        ensures done_missed { OnDone result (R.missed rack.new ≡ R.missed rack.old) }
         // A row that isn't the site's.
         ensures passes { is_kept self.old.job self.old.next ≡ false → result ≡ Kept.Done }
         ensures leaves_alone { is_kept self.old.job self.old.next ≡ false → rack.new ≡ rack.old }

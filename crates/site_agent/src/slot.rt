@@ -2,8 +2,8 @@
 ghost use Rattle.std.specs.Prelude.{◌≡◌, ◌+◌, ◌==◌, ◌<◌, ◌^◌, if◌then◌else◌, length, slice_index};
 ghost use Rattle.site_agent.specs.Tells.{counted, finished_after, rows_after};
 
-/// The plate that stands in a slot: how many of its rows were given, 0 where no plate is begun, and the bytes of its
-/// packed rows, strip by strip.
+/// The plate that stands in a slot: how many of its rows were given, 0 where no plate is begun, and the
+/// bytes of its packed rows, strip by strip.
 #[derive(Debug, Drop)]
 pub(crate) struct Slot {
     pub(crate) rows: u32,
@@ -11,7 +11,8 @@ pub(crate) struct Slot {
 }
 
 impl Slot {
-    /// Counts row `y` of a plate of this height, whose packed bytes go to this strip. Row 0 begins another plate.
+    /// Counts row `y` of a plate of this height, whose packed bytes go to this strip. Row 0 begins another
+    /// plate.
     pub(crate) fn count(&mut self, y: u32, height: u32, strip: usize, bytes: u32)
         requires y { y < height }
         requires strip { strip < length self.old.counts.items }

@@ -69,8 +69,8 @@ impl Tails {
         (y / rows_per_strip(self.width)) as usize
     }
 
-    /// Writes the end of a plate whose strips have these byte counts to the room, and gives its length and the place of
-    /// its directory.
+    /// Writes the end of a plate whose strips have these byte counts to the room, and gives its length and
+    /// the place of its directory.
     pub(crate) fn write(&mut self, counts: &[u32]) -> Tail
         requires counts { length counts.now ≡ strip_count self.old.shape.width self.old.shape.height }
         requires sum { IsPlaceable counts.now }

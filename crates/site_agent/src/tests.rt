@@ -22,8 +22,8 @@ use tif_packbits::frame_row;
 
 /// Rows of two bytes in frames: row n is n + 1 and 0.
 #[derive(Drop)]
-struct Numbered {
-    count: u8,
+pub(crate) struct Numbered {
+    pub(crate) count: u8,
 }
 
 impl Deal for Numbered {
@@ -43,7 +43,7 @@ impl Deal for Numbered {
 }
 
 /// The frame of row `n`.
-fn frame(n: u8) -> [u8; 5]
+pub(crate) fn frame(n: u8) -> [u8; 5]
     requires { n < 255 }
     ensures { result ≡ frame_of ((n + 1) ∷ 0 ∷ []) }
 {
@@ -52,8 +52,8 @@ fn frame(n: u8) -> [u8; 5]
     frame
 }
 
-/// Hands the row that was put last to a site whose last answer this is, and gives its answer. One that ended takes no
-/// more rows.
+/// Hands the row that was put last to a site whose last answer this is, and gives its answer. One that
+/// ended takes no more rows.
 fn offer(deck: &mut Deck<'_, Numbered>, last: Kept, site: &mut Site, rack: &mut MemRack) -> Kept
     requires home { deck.old.out ≡ false }
     requires frames { AreFrames 2 (map framed_row deck.old.rows) deck.old.rows }
@@ -74,7 +74,8 @@ fn offer(deck: &mut Deck<'_, Numbered>, last: Kept, site: &mut Site, rack: &mut 
     }
 }
 
-/// Puts so many rows on a deck, one after the other, and hands each to two sites. Gives what they answered last.
+/// Puts so many rows on a deck, one after the other, and hands each to two sites. Gives what they answered
+/// last.
 fn carry(
     alloc: Global,
     count: u8,
@@ -101,12 +102,18 @@ fn carry(
 }
 
 /// The site with this index of a plan whose plates have rows of two bytes.
-fn site_of(alloc: Global, plan: &Plan, rows: &RowPlan, index: usize) -> Result<Site, NoMemory>
+pub(crate) fn site_of(
+    alloc: Global,
+    plan: &Plan,
+    rows: &RowPlan,
+    index: usize,
+) -> Result<Site, NoMemory>
     requires rows { rows.now ≡ rows_of plan.now }
     requires site { index < length plan.now.sites }
     requires sides { row_size (plate_width plan.now) ≡ 2 }
     ensures takes { IfOk result (λ site.
-        IsGoing (map framed_row (numbered (length (row_places plan.now)))) Source.Deck told_first told_first site) }
+        IsGoing (map framed_row (numbered (length (row_places plan.now)))) Source.Deck told_first told_first
+        site) }
     ensures next { IfOk result (λ site. site.next ≡ 0) }
 {
     prove!(index < plan.sites.len());
@@ -144,7 +151,8 @@ fn run(
     Ok(((last.0, first_rack), (last.1, second_rack)))
 }
 
-/// A plate file of 16 by 2 pixels at 1200 dpi in the table of its places. Its two rows are 1 and 0, and 2 and 0.
+/// A plate file of 16 by 2 pixels at 1200 dpi in the table of its places. Its two rows are 1 and 0, and 2
+/// and 0.
 #[rattlefmt::skip]
 const PLATE: [u8; 180] = [
     0x49, 0x49, 0x2A, 0x00, 14, 0, 0, 0,
@@ -168,9 +176,16 @@ const PLATE: [u8; 180] = [
     0xB0, 0x04, 0, 0, 1, 0, 0, 0,
 ];
 
-/// Compares what a rack has with the first of these plates, each a path and the numbers of its rows, and with the
-/// first rows taken.
-fn compare(rt: &impl Abort, rack: &MemRack, plates: &[(&str, u8, u8)], count: usize, taken: usize) {
+/// Compares what a rack has with the first of these plates, each a path and the numbers of its rows, and
+/// with the first rows taken at this source.
+pub(crate) fn compare(
+    rt: &impl Abort,
+    rack: &MemRack,
+    source: Source,
+    plates: &[(&str, u8, u8)],
+    count: usize,
+    taken: usize,
+) {
     let files = rack.files();
     assert_eq!(rt; files.len(), count);
     for (file, (path, top, last)) in files.iter().zip(plates) {
@@ -183,19 +198,19 @@ fn compare(rt: &impl Abort, rack: &MemRack, plates: &[(&str, u8, u8)], count: us
     let rows = rack.taken();
     assert_eq!(rt; rows.len(), taken);
     for (n, row) in rows.iter().enumerate() {
-        assert_eq!(rt; *row, (n as u64, Source::Deck));
+        assert_eq!(rt; *row, (n as u64, source));
     }
 }
 
 /// Threads take sites along.
 fn sent<T: Send>(_value: &T) {}
 
-const TWO_PAIRS: &[u8] = br#"{"plan": 1, "edition": "E1", "dpi": 1200, "page": [8, 2],
+pub(crate) const TWO_PAIRS: &[u8] = br#"{"plan": 1, "edition": "E1", "dpi": 1200, "page": [8, 2],
     "pages": [{"name": "p", "inks": "K", "layers": []}],
     "sections": [{"name": "A", "pages": ["p", "p", "p", "p"]}],
     "sites": [{"name": "OSLO"}, {"name": "BERGEN"}]}"#;
 
-const OSLO: [(&str, u8, u8); 2] = [
+pub(crate) const OSLO: [(&str, u8, u8); 2] = [
     ("OUT/OSLO/E1-A-001-K.tif", 0, 1),
     ("OUT/OSLO/E1-A-002-K.tif", 2, 3),
 ];
@@ -204,10 +219,10 @@ const FIRST: &str = "OUT/BERGEN/E1-A-001-K.tif";
 
 const SECOND: &str = "OUT/BERGEN/E1-A-002-K.tif";
 
-const BERGEN: [(&str, u8, u8); 2] = [(FIRST, 0, 1), (SECOND, 2, 3)];
+pub(crate) const BERGEN: [(&str, u8, u8); 2] = [(FIRST, 0, 1), (SECOND, 2, 3)];
 
 /// Where each call of a rack fails: plates, row, call, path, and the rows taken.
-const FAILING: [(u32, u64, RackCall, &str, usize); 8] = [
+pub(crate) const FAILING: [(u32, u64, RackCall, &str, usize); 8] = [
     (0, 0, RackCall::Begin, FIRST, 0),
     (0, 0, RackCall::Row, FIRST, 0),
     (0, 1, RackCall::Row, FIRST, 1),
@@ -234,10 +249,17 @@ fn a_site_leaves_at_the_call_that_fails(rt: HostRuntime) -> Result<(), Fail> {
             failing as u64,
         )?;
         assert_eq!(rt; oslo, Kept::Done);
-        compare(&rt, &oslo_rack, &OSLO, 2, 4);
+        compare(&rt, &oslo_rack, Source::Deck, &OSLO, 2, 4);
         let cause = left(rt.alloc(), *plates, *row, *call, path)?;
         assert_eq!(rt; bergen, cause);
-        compare(&rt, &bergen_rack, &BERGEN, *plates as usize, *taken);
+        compare(
+            &rt,
+            &bergen_rack,
+            Source::Deck,
+            &BERGEN,
+            *plates as usize,
+            *taken,
+        );
     }
     Ok(())
 }
@@ -272,7 +294,8 @@ const INKS: [(&str, u8, u8); 5] = [
     ("OUT/OSLO/E1-A-001-S.tif", 4, 9),
 ];
 
-// The twelfth call is the first that finishes a plate: five were begun and have a row each, and the first has its last.
+// The twelfth call is the first that finishes a plate: five were begun and have a row each, and the first
+// has its last.
 #[test]
 fn five_plates_are_open_at_once(rt: HostRuntime) -> Result<(), Fail> {
     let plan = read_plan(rt.alloc(), FIVE_INKS)?;
@@ -283,7 +306,7 @@ fn five_plates_are_open_at_once(rt: HostRuntime) -> Result<(), Fail> {
     assert!(rt; rows.total() == 10);
     let ((oslo, oslo_rack), (bergen, bergen_rack)) = run(rt.alloc(), &plan, &rows, 11)?;
     assert_eq!(rt; oslo, Kept::Done);
-    compare(&rt, &oslo_rack, &INKS, 5, 10);
+    compare(&rt, &oslo_rack, Source::Deck, &INKS, 5, 10);
     let cause = left(
         rt.alloc(),
         0,
@@ -292,7 +315,7 @@ fn five_plates_are_open_at_once(rt: HostRuntime) -> Result<(), Fail> {
         "OUT/BERGEN/E1-A-001-C.tif",
     )?;
     assert_eq!(rt; bergen, cause);
-    compare(&rt, &bergen_rack, &[], 0, 6);
+    compare(&rt, &bergen_rack, Source::Deck, &[], 0, 6);
     Ok(())
 }
 

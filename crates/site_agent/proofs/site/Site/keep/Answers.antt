@@ -10,8 +10,9 @@ use Rattle.site_agent.specs.Job.{IsJob, SiteJob, shape_of}
 use Rattle.site_agent.specs.Kept.{IsCauseAt, kept_of}
 use Rattle.site_agent.specs.Refused.{taken_at}
 use Rattle.site_agent.specs.Site.{SiteData, IsCounting, IsPlaceOf, job_with}
-use Rattle.site_agent.specs.Stands.{StandsAfter}
+use Rattle.site_agent.specs.Stands.{AreAsLong, AreBegun, StandsAfter}
 use Rattle.site_agent.specs.Tells.{tells, after_row}
+use Rattle.site_agent.proofs.Asking.{Asks, asks-kept, asks-passed}
 use Rattle.site_agent.proofs.Counting.{any, counts-past}
 use Rattle.site_agent.proofs.Keeping.{done-refused, end-refused, left-refused, memory-only, memory-refused, row_kept-slot, strips-of, taken-once}
 use Rattle.site_agent.proofs.Standing.{row_passed}
@@ -59,8 +60,6 @@ pub returns-in-Ok-clause-leaves_alone : goal.returns-in-Ok-clause-leaves_alone
 returns-in-Ok-clause-leaves_alone g c =
     let job : SiteJob = c.args.self.now.job in
     let n : ℕ = c.args.self.now.next in
-    let going : c.self.inside.ended ≡ false = ap (λ s. s.ended) c.self.view_is ∙ c.requires.going in
-    let counting : IsCounting (job_with c.self.inside.plates.items c.self.inside.tails.shape c.self.inside.total) c.self.inside.next c.self.inside.finished c.self.inside.slots.items = c.self.invariant going in
     let place : Place = c.in-Some.place in
     let there : IsPlaceOf job n place = c.in-Some.ensures.found in
     let kept : is_kept job n ≡ true = is_kept-row job n place.plate place.y any there.row in
@@ -69,39 +68,25 @@ returns-in-Ok-clause-leaves_alone g c =
 pub returns-in-Err-clause-keeps : goal.returns-in-Err-clause-keeps
 returns-in-Err-clause-keeps g c =
     let job : SiteJob = c.args.self.now.job in
-    let n : ℕ = c.args.self.now.next in
-    let going : c.self.inside.ended ≡ false = ap (λ s. s.ended) c.self.view_is ∙ c.requires.going in
-    let counting : IsCounting (job_with c.self.inside.plates.items c.self.inside.tails.shape c.self.inside.total) c.self.inside.next c.self.inside.finished c.self.inside.slots.items = c.self.invariant going in
     let place : Place = c.in-Some.place in
-    let there : IsPlaceOf job n place = c.in-Some.ensures.found in
     let refusal : Refusal = c.in-Err.refusal in
     let cause : LeftCause = record { plates = c.self.inside.finished; row = c.number.result; call = refusal.call; path = (slice_index_or c.give.new.self.job.plates place.plate any).path } in
     let answer : c.refused.result ≡ kept_of refusal.fault cause = c.refused.ensures.answer any in
-    let path : (slice_index_or c.give.new.self.job.plates place.plate any).path ≡ (slice_index_or job.plates place.plate any).path = ap (λ j. (slice_index_or j.plates place.plate any).path) c.in-Err.ensures.job in
-    let stopped = c.in-Err.ensures.stopped any in
     done-refused c.refused.result refusal.fault cause _ answer
 
 pub returns-in-Err-clause-goes_on : goal.returns-in-Err-clause-goes_on
 returns-in-Err-clause-goes_on g c =
     let job : SiteJob = c.args.self.now.job in
-    let n : ℕ = c.args.self.now.next in
-    let going : c.self.inside.ended ≡ false = ap (λ s. s.ended) c.self.view_is ∙ c.requires.going in
-    let counting : IsCounting (job_with c.self.inside.plates.items c.self.inside.tails.shape c.self.inside.total) c.self.inside.next c.self.inside.finished c.self.inside.slots.items = c.self.invariant going in
     let place : Place = c.in-Some.place in
-    let there : IsPlaceOf job n place = c.in-Some.ensures.found in
     let refusal : Refusal = c.in-Err.refusal in
     let cause : LeftCause = record { plates = c.self.inside.finished; row = c.number.result; call = refusal.call; path = (slice_index_or c.give.new.self.job.plates place.plate any).path } in
     let answer : c.refused.result ≡ kept_of refusal.fault cause = c.refused.ensures.answer any in
-    let path : (slice_index_or c.give.new.self.job.plates place.plate any).path ≡ (slice_index_or job.plates place.plate any).path = ap (λ j. (slice_index_or j.plates place.plate any).path) c.in-Err.ensures.job in
-    let stopped = c.in-Err.ensures.stopped any in
     done-refused c.refused.result refusal.fault cause _ answer
 
 pub returns-in-Err-clause-passes : goal.returns-in-Err-clause-passes
 returns-in-Err-clause-passes g c =
     let job : SiteJob = c.args.self.now.job in
     let n : ℕ = c.args.self.now.next in
-    let going : c.self.inside.ended ≡ false = ap (λ s. s.ended) c.self.view_is ∙ c.requires.going in
-    let counting : IsCounting (job_with c.self.inside.plates.items c.self.inside.tails.shape c.self.inside.total) c.self.inside.next c.self.inside.finished c.self.inside.slots.items = c.self.invariant going in
     let place : Place = c.in-Some.place in
     let there : IsPlaceOf job n place = c.in-Some.ensures.found in
     let kept : is_kept job n ≡ true = is_kept-row job n place.plate place.y any there.row in
@@ -111,8 +96,6 @@ pub returns-in-Err-clause-leaves_alone : goal.returns-in-Err-clause-leaves_alone
 returns-in-Err-clause-leaves_alone g c =
     let job : SiteJob = c.args.self.now.job in
     let n : ℕ = c.args.self.now.next in
-    let going : c.self.inside.ended ≡ false = ap (λ s. s.ended) c.self.view_is ∙ c.requires.going in
-    let counting : IsCounting (job_with c.self.inside.plates.items c.self.inside.tails.shape c.self.inside.total) c.self.inside.next c.self.inside.finished c.self.inside.slots.items = c.self.invariant going in
     let place : Place = c.in-Some.place in
     let there : IsPlaceOf job n place = c.in-Some.ensures.found in
     let kept : is_kept job n ≡ true = is_kept-row job n place.plate place.y any there.row in
@@ -147,26 +130,17 @@ returns-in-Err-clause-left g c =
 pub returns-in-Err-clause-left_counted : goal.returns-in-Err-clause-left_counted
 returns-in-Err-clause-left_counted g c =
     let job : SiteJob = c.args.self.now.job in
-    let n : ℕ = c.args.self.now.next in
-    let going : c.self.inside.ended ≡ false = ap (λ s. s.ended) c.self.view_is ∙ c.requires.going in
-    let counting : IsCounting (job_with c.self.inside.plates.items c.self.inside.tails.shape c.self.inside.total) c.self.inside.next c.self.inside.finished c.self.inside.slots.items = c.self.invariant going in
     let place : Place = c.in-Some.place in
-    let there : IsPlaceOf job n place = c.in-Some.ensures.found in
     let refusal : Refusal = c.in-Err.refusal in
     let cause : LeftCause = record { plates = c.self.inside.finished; row = c.number.result; call = refusal.call; path = (slice_index_or c.give.new.self.job.plates place.plate any).path } in
     let answer : c.refused.result ≡ kept_of refusal.fault cause = c.refused.ensures.answer any in
-    let path : (slice_index_or c.give.new.self.job.plates place.plate any).path ≡ (slice_index_or job.plates place.plate any).path = ap (λ j. (slice_index_or j.plates place.plate any).path) c.in-Err.ensures.job in
     let stopped = c.in-Err.ensures.stopped any in
     left-refused c.refused.result refusal.fault cause _ answer (λ failed. stopped.counted failed)
 
 pub returns-in-Err-clause-left_missed : goal.returns-in-Err-clause-left_missed
 returns-in-Err-clause-left_missed g c =
     let job : SiteJob = c.args.self.now.job in
-    let n : ℕ = c.args.self.now.next in
-    let going : c.self.inside.ended ≡ false = ap (λ s. s.ended) c.self.view_is ∙ c.requires.going in
-    let counting : IsCounting (job_with c.self.inside.plates.items c.self.inside.tails.shape c.self.inside.total) c.self.inside.next c.self.inside.finished c.self.inside.slots.items = c.self.invariant going in
     let place : Place = c.in-Some.place in
-    let there : IsPlaceOf job n place = c.in-Some.ensures.found in
     let refusal : Refusal = c.in-Err.refusal in
     let cause : LeftCause = record { plates = c.self.inside.finished; row = c.number.result; call = refusal.call; path = (slice_index_or c.give.new.self.job.plates place.plate any).path } in
     let answer : c.refused.result ≡ kept_of refusal.fault cause = c.refused.ensures.answer any in
@@ -179,14 +153,10 @@ pub returns-in-Err-clause-left_taken : goal.returns-in-Err-clause-left_taken
 returns-in-Err-clause-left_taken g c =
     let job : SiteJob = c.args.self.now.job in
     let n : ℕ = c.args.self.now.next in
-    let going : c.self.inside.ended ≡ false = ap (λ s. s.ended) c.self.view_is ∙ c.requires.going in
-    let counting : IsCounting (job_with c.self.inside.plates.items c.self.inside.tails.shape c.self.inside.total) c.self.inside.next c.self.inside.finished c.self.inside.slots.items = c.self.invariant going in
     let place : Place = c.in-Some.place in
-    let there : IsPlaceOf job n place = c.in-Some.ensures.found in
     let refusal : Refusal = c.in-Err.refusal in
     let cause : LeftCause = record { plates = c.self.inside.finished; row = c.number.result; call = refusal.call; path = (slice_index_or c.give.new.self.job.plates place.plate any).path } in
     let answer : c.refused.result ≡ kept_of refusal.fault cause = c.refused.ensures.answer any in
-    let path : (slice_index_or c.give.new.self.job.plates place.plate any).path ≡ (slice_index_or job.plates place.plate any).path = ap (λ j. (slice_index_or j.plates place.plate any).path) c.in-Err.ensures.job in
     let stopped = c.in-Err.ensures.stopped any in
     left-refused c.refused.result refusal.fault cause (λ (cause' : LeftCause). g.R.Rack.taken c.give.new.rack ≡ taken_at cause'.call n c.args.held.now.source (g.R.Rack.taken c.args.rack.now)) answer
     (λ failed. stopped.taken ∙ ap (λ m. taken_at refusal.call m c.args.held.now.source (g.R.Rack.taken c.args.rack.now)) c.requires.next)
@@ -194,15 +164,10 @@ returns-in-Err-clause-left_taken g c =
 pub returns-in-Err-clause-memory_missed : goal.returns-in-Err-clause-memory_missed
 returns-in-Err-clause-memory_missed g c =
     let job : SiteJob = c.args.self.now.job in
-    let n : ℕ = c.args.self.now.next in
-    let going : c.self.inside.ended ≡ false = ap (λ s. s.ended) c.self.view_is ∙ c.requires.going in
-    let counting : IsCounting (job_with c.self.inside.plates.items c.self.inside.tails.shape c.self.inside.total) c.self.inside.next c.self.inside.finished c.self.inside.slots.items = c.self.invariant going in
     let place : Place = c.in-Some.place in
-    let there : IsPlaceOf job n place = c.in-Some.ensures.found in
     let refusal : Refusal = c.in-Err.refusal in
     let cause : LeftCause = record { plates = c.self.inside.finished; row = c.number.result; call = refusal.call; path = (slice_index_or c.give.new.self.job.plates place.plate any).path } in
     let answer : c.refused.result ≡ kept_of refusal.fault cause = c.refused.ensures.answer any in
-    let path : (slice_index_or c.give.new.self.job.plates place.plate any).path ≡ (slice_index_or job.plates place.plate any).path = ap (λ j. (slice_index_or j.plates place.plate any).path) c.in-Err.ensures.job in
     let stopped = c.in-Err.ensures.stopped any in
     memory-only c.refused.result refusal.fault cause (g.R.Rack.missed c.give.new.rack ≡ g.R.Rack.missed c.args.rack.now) answer (λ memory. stopped.unmissed memory)
 
@@ -210,14 +175,10 @@ pub returns-in-Err-clause-memory_taken : goal.returns-in-Err-clause-memory_taken
 returns-in-Err-clause-memory_taken g c =
     let job : SiteJob = c.args.self.now.job in
     let n : ℕ = c.args.self.now.next in
-    let going : c.self.inside.ended ≡ false = ap (λ s. s.ended) c.self.view_is ∙ c.requires.going in
-    let counting : IsCounting (job_with c.self.inside.plates.items c.self.inside.tails.shape c.self.inside.total) c.self.inside.next c.self.inside.finished c.self.inside.slots.items = c.self.invariant going in
     let place : Place = c.in-Some.place in
-    let there : IsPlaceOf job n place = c.in-Some.ensures.found in
     let refusal : Refusal = c.in-Err.refusal in
     let cause : LeftCause = record { plates = c.self.inside.finished; row = c.number.result; call = refusal.call; path = (slice_index_or c.give.new.self.job.plates place.plate any).path } in
     let answer : c.refused.result ≡ kept_of refusal.fault cause = c.refused.ensures.answer any in
-    let path : (slice_index_or c.give.new.self.job.plates place.plate any).path ≡ (slice_index_or job.plates place.plate any).path = ap (λ j. (slice_index_or j.plates place.plate any).path) c.in-Err.ensures.job in
     let stopped = c.in-Err.ensures.stopped any in
     memory-refused c.refused.result refusal.fault cause _ answer (taken-once refusal.call n c.args.held.now.source (g.R.Rack.taken c.args.rack.now) (g.R.Rack.taken c.give.new.rack)
     (stopped.taken ∙ ap (λ m. taken_at refusal.call m c.args.held.now.source (g.R.Rack.taken c.args.rack.now)) c.requires.next))
@@ -225,14 +186,88 @@ returns-in-Err-clause-memory_taken g c =
 pub returns-in-Err-clause-finished_stay : goal.returns-in-Err-clause-finished_stay
 returns-in-Err-clause-finished_stay g c =
     let job : SiteJob = c.args.self.now.job in
-    let n : ℕ = c.args.self.now.next in
-    let going : c.self.inside.ended ≡ false = ap (λ s. s.ended) c.self.view_is ∙ c.requires.going in
-    let counting : IsCounting (job_with c.self.inside.plates.items c.self.inside.tails.shape c.self.inside.total) c.self.inside.next c.self.inside.finished c.self.inside.slots.items = c.self.invariant going in
     let place : Place = c.in-Some.place in
-    let there : IsPlaceOf job n place = c.in-Some.ensures.found in
     let refusal : Refusal = c.in-Err.refusal in
     let cause : LeftCause = record { plates = c.self.inside.finished; row = c.number.result; call = refusal.call; path = (slice_index_or c.give.new.self.job.plates place.plate any).path } in
     let answer : c.refused.result ≡ kept_of refusal.fault cause = c.refused.ensures.answer any in
-    let path : (slice_index_or c.give.new.self.job.plates place.plate any).path ≡ (slice_index_or job.plates place.plate any).path = ap (λ j. (slice_index_or j.plates place.plate any).path) c.in-Err.ensures.job in
     let stopped = c.in-Err.ensures.stopped any in
     end-refused c.refused.result refusal.fault cause _ answer stopped.finished
+
+pub returns-in_default-clause-begun_on : goal.returns-in_default-clause-begun_on
+returns-in_default-clause-begun_on g c =
+    let asks : Asks c.args.self.now.job (c.args.self.now.next + 1) c.args.self.now.counts (tells (g.R.Rack.finished c.args.rack.now) (g.R.Rack.working c.args.rack.now) (g.R.Rack.begun c.args.rack.now) (g.R.Rack.taken c.args.rack.now)) = asks-passed c.args.self.now.job c.args.self.now.next c.args.self.now.counts (tells (g.R.Rack.finished c.args.rack.now) (g.R.Rack.working c.args.rack.now) (g.R.Rack.begun c.args.rack.now) (g.R.Rack.taken c.args.rack.now)) c.in_default.ensures.none (record { begun = c.requires.begun; working = c.requires.working }) in
+    subst (λ (s : SiteData). AreBegun s.job (s.next + 1) (g.R.Rack.begun c.args.rack.now)) (sym c.self.view_is) asks.begun
+
+pub returns-in_default-clause-working_on : goal.returns-in_default-clause-working_on
+returns-in_default-clause-working_on g c =
+    let asks : Asks c.args.self.now.job (c.args.self.now.next + 1) c.args.self.now.counts (tells (g.R.Rack.finished c.args.rack.now) (g.R.Rack.working c.args.rack.now) (g.R.Rack.begun c.args.rack.now) (g.R.Rack.taken c.args.rack.now)) = asks-passed c.args.self.now.job c.args.self.now.next c.args.self.now.counts (tells (g.R.Rack.finished c.args.rack.now) (g.R.Rack.working c.args.rack.now) (g.R.Rack.begun c.args.rack.now) (g.R.Rack.taken c.args.rack.now)) c.in_default.ensures.none (record { begun = c.requires.begun; working = c.requires.working }) in
+    subst (λ (s : SiteData). IfSome (g.R.Rack.working c.args.rack.now) (AreAsLong s.job (s.next + 1) s.counts)) (sym c.self.view_is) asks.working
+
+pub returns-in-Ok-clause-begun_on : goal.returns-in-Ok-clause-begun_on
+returns-in-Ok-clause-begun_on g c =
+    let job : SiteJob = c.args.self.now.job in
+    let n : ℕ = c.args.self.now.next in
+    let going : c.self.inside.ended ≡ false = ap (λ s. s.ended) c.self.view_is ∙ c.requires.going in
+    let counting : IsCounting (job_with c.self.inside.plates.items c.self.inside.tails.shape c.self.inside.total) c.self.inside.next c.self.inside.finished c.self.inside.slots.items = c.self.invariant going in
+    let is : IsJob job = subst (λ (s : SiteData). IsJob s.job) c.self.view_is counting.is in
+    let place : Place = c.in-Some.place in
+    let there : IsPlaceOf job n place = c.in-Some.ensures.found in
+    let inside : place.slot < 5 = subst (λ (s : ℕ). s < 5) (there.slot any) (is.each place.plate any there.row.within).slot in
+    let five : length c.self.inside.slots.items ≡ 5 = counting.slots in
+    let size : length (slice_index_or c.args.self.now.counts place.slot []) ≡ strip_count job.width job.height =
+    subst (λ (s : SiteData). length (slice_index_or s.counts place.slot []) ≡ strip_count s.job.width s.job.height) c.self.view_is
+    (strips-of (job_with c.self.inside.plates.items c.self.inside.tails.shape c.self.inside.total) c.self.inside.next c.self.inside.finished c.self.inside.slots.items place.slot counting inside (omega arith)) in
+    let asks : Asks job (n + 1) c.give.new.self.counts (tells (g.R.Rack.finished c.give.new.rack) (g.R.Rack.working c.give.new.rack) (g.R.Rack.begun c.give.new.rack) (g.R.Rack.taken c.give.new.rack)) =
+    asks-kept job c.args.held.now.source n place.plate place.y place.slot (tells (g.R.Rack.finished c.args.rack.now) (g.R.Rack.working c.args.rack.now) (g.R.Rack.begun c.args.rack.now) (g.R.Rack.taken c.args.rack.now)) (tells (g.R.Rack.finished c.give.new.rack) (g.R.Rack.working c.give.new.rack) (g.R.Rack.begun c.give.new.rack) (g.R.Rack.taken c.give.new.rack)) c.args.self.now.counts c.give.new.self.counts any c.args.held.now.bytes is there.row (there.slot any) (record { begun = c.requires.begun; working = c.requires.working })
+    (g.met.R.Rack.begun_told c.args.rack.now) size c.in-Ok.ensures.own c.in-Ok.ensures.others
+    (c.in-Ok.ensures.rack any
+    ∙ ap (λ m. after_row (shape_of job) (slice_index_or job.plates place.plate any) place.y m c.args.held.now.bytes c.args.held.now.source (slice_index_or c.give.new.self.counts place.slot []) (tells (g.R.Rack.finished c.args.rack.now) (g.R.Rack.working c.args.rack.now) (g.R.Rack.begun c.args.rack.now) (g.R.Rack.taken c.args.rack.now))) c.requires.next) in
+    subst (λ (j : SiteJob). AreBegun j c.give.new.self.next (g.R.Rack.begun c.give.new.rack)) (sym c.in-Ok.ensures.goes_on.job) (subst (λ (m : ℕ). AreBegun job m (g.R.Rack.begun c.give.new.rack)) (sym c.in-Ok.ensures.goes_on.next) asks.begun)
+
+pub returns-in-Ok-clause-working_on : goal.returns-in-Ok-clause-working_on
+returns-in-Ok-clause-working_on g c =
+    let job : SiteJob = c.args.self.now.job in
+    let n : ℕ = c.args.self.now.next in
+    let going : c.self.inside.ended ≡ false = ap (λ s. s.ended) c.self.view_is ∙ c.requires.going in
+    let counting : IsCounting (job_with c.self.inside.plates.items c.self.inside.tails.shape c.self.inside.total) c.self.inside.next c.self.inside.finished c.self.inside.slots.items = c.self.invariant going in
+    let is : IsJob job = subst (λ (s : SiteData). IsJob s.job) c.self.view_is counting.is in
+    let place : Place = c.in-Some.place in
+    let there : IsPlaceOf job n place = c.in-Some.ensures.found in
+    let inside : place.slot < 5 = subst (λ (s : ℕ). s < 5) (there.slot any) (is.each place.plate any there.row.within).slot in
+    let five : length c.self.inside.slots.items ≡ 5 = counting.slots in
+    let size : length (slice_index_or c.args.self.now.counts place.slot []) ≡ strip_count job.width job.height =
+    subst (λ (s : SiteData). length (slice_index_or s.counts place.slot []) ≡ strip_count s.job.width s.job.height) c.self.view_is
+    (strips-of (job_with c.self.inside.plates.items c.self.inside.tails.shape c.self.inside.total) c.self.inside.next c.self.inside.finished c.self.inside.slots.items place.slot counting inside (omega arith)) in
+    let asks : Asks job (n + 1) c.give.new.self.counts (tells (g.R.Rack.finished c.give.new.rack) (g.R.Rack.working c.give.new.rack) (g.R.Rack.begun c.give.new.rack) (g.R.Rack.taken c.give.new.rack)) =
+    asks-kept job c.args.held.now.source n place.plate place.y place.slot (tells (g.R.Rack.finished c.args.rack.now) (g.R.Rack.working c.args.rack.now) (g.R.Rack.begun c.args.rack.now) (g.R.Rack.taken c.args.rack.now)) (tells (g.R.Rack.finished c.give.new.rack) (g.R.Rack.working c.give.new.rack) (g.R.Rack.begun c.give.new.rack) (g.R.Rack.taken c.give.new.rack)) c.args.self.now.counts c.give.new.self.counts any c.args.held.now.bytes is there.row (there.slot any) (record { begun = c.requires.begun; working = c.requires.working })
+    (g.met.R.Rack.begun_told c.args.rack.now) size c.in-Ok.ensures.own c.in-Ok.ensures.others
+    (c.in-Ok.ensures.rack any
+    ∙ ap (λ m. after_row (shape_of job) (slice_index_or job.plates place.plate any) place.y m c.args.held.now.bytes c.args.held.now.source (slice_index_or c.give.new.self.counts place.slot []) (tells (g.R.Rack.finished c.args.rack.now) (g.R.Rack.working c.args.rack.now) (g.R.Rack.begun c.args.rack.now) (g.R.Rack.taken c.args.rack.now))) c.requires.next) in
+    subst (λ (j : SiteJob). IfSome (g.R.Rack.working c.give.new.rack) (AreAsLong j c.give.new.self.next c.give.new.self.counts)) (sym c.in-Ok.ensures.goes_on.job) (subst (λ (m : ℕ). IfSome (g.R.Rack.working c.give.new.rack) (AreAsLong job m c.give.new.self.counts)) (sym c.in-Ok.ensures.goes_on.next) asks.working)
+
+pub returns-in-Err-clause-begun_on : goal.returns-in-Err-clause-begun_on
+returns-in-Err-clause-begun_on g c =
+    let job : SiteJob = c.args.self.now.job in
+    let place : Place = c.in-Some.place in
+    let refusal : Refusal = c.in-Err.refusal in
+    let cause : LeftCause = record { plates = c.self.inside.finished; row = c.number.result; call = refusal.call; path = (slice_index_or c.give.new.self.job.plates place.plate any).path } in
+    let answer : c.refused.result ≡ kept_of refusal.fault cause = c.refused.ensures.answer any in
+    done-refused c.refused.result refusal.fault cause _ answer
+
+pub returns-in-Err-clause-working_on : goal.returns-in-Err-clause-working_on
+returns-in-Err-clause-working_on g c =
+    let job : SiteJob = c.args.self.now.job in
+    let place : Place = c.in-Some.place in
+    let refusal : Refusal = c.in-Err.refusal in
+    let cause : LeftCause = record { plates = c.self.inside.finished; row = c.number.result; call = refusal.call; path = (slice_index_or c.give.new.self.job.plates place.plate any).path } in
+    let answer : c.refused.result ≡ kept_of refusal.fault cause = c.refused.ensures.answer any in
+    done-refused c.refused.result refusal.fault cause _ answer
+
+pub returns-in-Err-clause-done_missed : goal.returns-in-Err-clause-done_missed
+returns-in-Err-clause-done_missed g c =
+    let job : SiteJob = c.args.self.now.job in
+    let place : Place = c.in-Some.place in
+    let refusal : Refusal = c.in-Err.refusal in
+    let cause : LeftCause = record { plates = c.self.inside.finished; row = c.number.result; call = refusal.call; path = (slice_index_or c.give.new.self.job.plates place.plate any).path } in
+    let answer : c.refused.result ≡ kept_of refusal.fault cause = c.refused.ensures.answer any in
+    done-refused c.refused.result refusal.fault cause _ answer

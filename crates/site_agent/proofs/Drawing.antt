@@ -1,0 +1,184 @@
+-- A row that a site takes from its reader, and gives back.
+use Rattle.std.proofs.Common.{◌≡◌, ◌≢◌, ℕ, ◌+◌, ◌<◌, ◌≤◌, Bool, true, false, List, length, map, Option, Some, Ok, IfSome, refl, sym, ap, subst, ◌∙◌, ⊎_elim, arith}
+use Rattle.std.specs.Prelude.{slice_get}
+use Rattle.std.specs.Option.{option_map}
+use Rattle.std.proofs.lemmas.Bool.{cases_lt}
+use Rattle.std.proofs.lemmas.List.{length-map}
+use Rattle.std.proofs.lemmas.Option.{slice_get-map, slice_get_within, get_or_from_slice_get}
+use Rattle.pr_base.specs.Count.{Rose}
+use Rattle.pr_base.specs.Row.{row_size}
+use Rattle.ring_rule.specs.declared.view.RingNumbers.{RingNumbers}
+use Rattle.ring_lanes.specs.declared.source.Source.{Source}
+use Rattle.ring_lanes.specs.Held.{HeldRow}
+use Rattle.ring_lanes.specs.Reader.{ReaderState, IsOpened, SeesOnce, source_of}
+use Rattle.tif_packbits.specs.Frame.{IsFrame, framed_row}
+use Rattle.tif_packbits.proofs.Frames.{AreFrames-frame}
+use Rattle.site_agent.specs.declared.kept.Kept.{Kept}
+use Rattle.site_agent.specs.declared.kept.Kept.TheVariants.{Done, Left, Memory}
+use Rattle.site_agent.specs.declared.kept.LeftCause.{LeftCause}
+use Rattle.site_agent.specs.Draw.{Closes, Draws, IsReady, stage}
+use Rattle.site_agent.specs.Given.{is_kept}
+use Rattle.site_agent.specs.Job.{SiteJob}
+use Rattle.site_agent.specs.Kept.{GoesOn, IfLeft, IsCauseAt, OnDone, OnEnd, OnMemory, TakenOnce}
+use Rattle.site_agent.specs.Refused.{Missed, taken_at}
+use Rattle.site_agent.specs.Site.{SiteData}
+use Rattle.site_agent.specs.Stands.{AreAsLong, AreBegun, StandsAfter, files_below, grown, taken_below}
+use Rattle.site_agent.specs.Tells.{Tells}
+use Rattle.site_agent.specs.Turn.{AreRowsFor, IsGoingBy, LeavesAt, StopsAt}
+use Rattle.site_agent.proofs.Going.{going_further}
+
+-- ---- the row
+
+pub frame-taken : (job : SiteJob) (ring : RingNumbers) (n : ℕ) (bytes : List ℕ) → AreRowsFor job ring → slice_get ring.rows n ≡ Some bytes → IsFrame bytes
+frame-taken job ring n bytes are there =
+    subst IsFrame (get_or_from_slice_get ring.rows n bytes bytes there)
+    (AreFrames-frame (row_size job.width) (map framed_row ring.rows) ring.rows n bytes are.frames (omega (arith, slice_get_within ring.rows n bytes there, length-map ring.rows framed_row)))
+
+pub row-taken : (rows : List (List ℕ)) (n m : ℕ) (bytes : List ℕ) → n ≡ m → slice_get rows n ≡ Some bytes → slice_get (map framed_row rows) m ≡ Some (framed_row bytes)
+row-taken rows n m bytes same there =
+    ap (slice_get (map framed_row rows)) (sym same) ∙ slice_get-map framed_row rows n ∙ ap (λ o. option_map framed_row o) there
+
+pub side-taken : (job : SiteJob) (ring : RingNumbers) (n : ℕ) (bytes : List ℕ) → AreRowsFor job ring → slice_get ring.rows n ≡ Some bytes → length (framed_row bytes) ≡ row_size job.width
+side-taken job ring n bytes are there =
+    let here : slice_get (map framed_row ring.rows) n ≡ Some (framed_row bytes) = row-taken ring.rows n n bytes refl there in
+    ap length (sym (get_or_from_slice_get (map framed_row ring.rows) n (framed_row bytes) (framed_row bytes) here))
+    ∙ are.frames.each n (framed_row bytes) (slice_get_within (map framed_row ring.rows) n (framed_row bytes) here)
+
+-- ---- the reader
+
+pub closes-row : (reader opened closed : ReaderState) (held : HeldRow) → reader.held ≡ false → IsOpened reader opened held → SeesOnce reader opened
+    → closed ≡ record opened { cursor = opened.cursor + 1; held = false } → Closes reader closed
+closes-row reader opened closed held home is sees given-back =
+    let all : closed ≡ record reader { cursor = reader.cursor + 1; held = false; seen = opened.seen; loads = opened.loads } =
+    given-back ∙ ap {A = ReaderState} (λ r. record r { cursor = r.cursor + 1; held = false }) is.stays in
+    let seen : closed.seen ≡ opened.seen = ap (λ r. r.seen) all in
+    let loads : closed.loads ≡ opened.loads = ap (λ r. r.loads) all in
+    let ahead : reader.cursor < opened.seen = is.ahead in
+    record {
+      reader =
+          all
+          ∙ ap (λ h. record reader { cursor = reader.cursor + 1; held = h; seen = opened.seen; loads = opened.loads }) (sym home)
+          ∙ ap (λ s. record reader { cursor = reader.cursor + 1; seen = s; loads = opened.loads }) (sym seen)
+          ∙ ap (λ l. record reader { cursor = reader.cursor + 1; seen = closed.seen; loads = l }) (sym loads);
+      known = omega arith;
+      grows = ⊎_elim
+          (λ (less : reader.cursor < reader.seen). let same : opened.seen ≡ reader.seen = sees.seen less in omega arith)
+          (λ (most : reader.seen ≤ reader.cursor). let more : reader.seen ≤ opened.seen = sees.grows most in omega arith)
+          (cases_lt reader.cursor reader.seen);
+      within = let most : opened.seen ≤ reader.ring.total = sees.within in omega arith;
+      loads = ⊎_elim
+          (λ (less : reader.cursor < reader.seen). let same : opened.loads ≡ reader.loads = sees.loads less in omega arith)
+          (λ (most : reader.seen ≤ reader.cursor). let more : opened.loads ≡ reader.loads + 1 = sees.counted most in omega arith)
+          (cases_lt reader.cursor reader.seen);
+    }
+
+-- ---- what keeping it makes of the site and its rack
+
+-- the clauses of Site::keep
+pub record Keeps (site site' : SiteData) (held : HeldRow) (old new : Tells) (was missed' : Missed) (before' now : ℕ) (kept : Kept) : Type 0 where
+  pub keeps : OnDone kept
+      ((rows : List (List ℕ)) (before : Tells) → slice_get rows site.next ≡ Some (framed_row held.bytes) → StandsAfter site.job rows held.source site.next before old site.counts
+      → StandsAfter site.job rows held.source (site.next + 1) before new site'.counts)
+  pub goes_on : OnDone kept (GoesOn site site')
+  pub begun_on : OnDone kept (AreBegun site'.job site'.next new.begun)
+  pub working_on : OnDone kept (IfSome new.working (AreAsLong site'.job site'.next site'.counts))
+  pub done_missed : OnDone kept (missed' ≡ was)
+  pub passes : is_kept site.job site.next ≡ false → kept ≡ Done
+  pub left : IfLeft kept (IsCauseAt site.job site.next)
+  pub left_counted : IfLeft kept (λ _. Rose before' now)
+  pub left_missed : IfLeft kept (λ cause. IfSome missed' (λ last. last ≡ Some (cause.call, cause.path)))
+  pub left_taken : IfLeft kept (λ cause. new.taken ≡ taken_at cause.call site.next held.source old.taken)
+  pub memory_missed : OnMemory kept (missed' ≡ was)
+  pub memory_taken : OnMemory kept (TakenOnce site.next held.source old.taken new.taken)
+  pub finished_stay : OnEnd kept (new.finished ≡ old.finished)
+  pub ended : OnEnd kept (site'.ended ≡ true)
+  pub faults_stay : before' ≤ now
+
+going-on : (site site' : SiteData) (reader : ReaderState) (held : HeldRow) (old new before : Tells) → slice_get (map framed_row reader.ring.rows) site.next ≡ Some (framed_row held.bytes) → held.source ≡ source_of reader
+    → ((rows : List (List ℕ)) (before' : Tells) → slice_get rows site.next ≡ Some (framed_row held.bytes) → StandsAfter site.job rows held.source site.next before' old site.counts
+    → StandsAfter site.job rows held.source (site.next + 1) before' new site'.counts)
+    → GoesOn site site' → IsGoingBy reader before old site → IsGoingBy reader before new site'
+going-on site site' reader held old new before here from keeps goes going =
+    let rows : List (List ℕ) = map framed_row reader.ring.rows in
+    going_further rows (source_of reader) before old new site site' going goes
+    (λ stands.
+    subst (λ (s : Source). StandsAfter site.job rows s (site.next + 1) before new site'.counts) from
+    (keeps rows before here (subst (λ (s : Source). StandsAfter site.job rows s site.next before old site.counts) (sym from) stands)))
+
+leaving : (site : SiteData) (reader : ReaderState) (source : Source) (old new before : Tells) (cause : LeftCause) → source ≡ source_of reader → cause.row ≡ site.next → new.finished ≡ old.finished
+    → new.taken ≡ taken_at cause.call site.next source old.taken → IsGoingBy reader before old site
+    → LeavesAt site.job (map framed_row reader.ring.rows) (source_of reader) before new cause
+leaving site reader source old new before cause from row finished taken going =
+    let rows : List (List ℕ) = map framed_row reader.ring.rows in
+    let src : Source = source_of reader in
+    record {
+      finished = finished ∙ going.stands.rack.finished ∙ ap (λ n. grown (files_below site.job rows n) before.finished) (sym row);
+      taken =
+          taken
+          ∙ ap (λ s. taken_at cause.call site.next s old.taken) from
+          ∙ ap (taken_at cause.call site.next src) going.stands.rack.taken
+          ∙ ap (λ n. taken_at cause.call n src (grown (taken_below site.job src n) before.taken)) (sym row);
+    }
+
+stopping : (site : SiteData) (reader : ReaderState) (source : Source) (old new before : Tells) → is_kept site.job site.next ≡ true → source ≡ source_of reader → reader.cursor ≡ site.next → new.finished ≡ old.finished
+    → TakenOnce site.next source old.taken new.taken → IsGoingBy reader before old site
+    → StopsAt site.job (map framed_row reader.ring.rows) (source_of reader) reader.cursor before new
+stopping site reader source old new before kept from next finished taken going =
+    let rows : List (List ℕ) = map framed_row reader.ring.rows in
+    let src : Source = source_of reader in
+    record {
+      kept = ap (is_kept site.job) next ∙ kept;
+      finished = finished ∙ going.stands.rack.finished ∙ ap (λ n. grown (files_below site.job rows n) before.finished) (sym next);
+      taken =
+          subst (λ (n : ℕ). TakenOnce n src (grown (taken_below site.job src n) before.taken) new.taken) (sym next)
+          (subst (λ (t : Option (List (ℕ × Source))). TakenOnce site.next src t new.taken) going.stands.rack.taken
+          (subst (λ (s : Source). TakenOnce site.next s old.taken new.taken) from taken));
+    }
+
+-- a row that isn't the site's is Done
+kept-there : (test : Bool) (kept : Kept) → (test ≡ false → kept ≡ Done) → kept ≢ Done → test ≡ true
+kept-there true kept passes other = refl
+kept-there false kept passes other = absurd (other (passes refl))
+
+pub kept-draws : (site site' : SiteData) (reader opened closed : ReaderState) (held : HeldRow) (old new : Tells) (was missed' : Missed) (before' now : ℕ) (kept : Kept)
+    → IsReady (stage site reader old was before') → IsOpened reader opened held → SeesOnce reader opened
+    → closed ≡ record opened { cursor = opened.cursor + 1; held = false } → Keeps site site' held old new was missed' before' now kept
+    → Draws (stage site reader old was before') (stage site' closed new missed' now) (Ok kept)
+kept-draws site site' reader opened closed held old new was missed' before' now Done ready is sees given-back keeps =
+    let closes : Closes reader closed = closes-row reader opened closed held ready.home is sees given-back in
+    let goes : GoesOn site site' = keeps.goes_on in
+    let P : SiteJob → RingNumbers → Type 0 = λ job ring. AreRowsFor job ring in
+    record {
+      closes = closes;
+      ready = record {
+        going = goes.going;
+        joined = ap (λ r. r.left) closes.reader ∙ ready.joined;
+        home = ap (λ r. r.held) closes.reader ∙ ready.home;
+        next = ap (λ r. r.cursor) closes.reader ∙ ap (λ n. n + 1) ready.next ∙ sym goes.next;
+        rows = subst (λ (job : SiteJob). P job closed.ring) (sym goes.job) (subst (λ (ring : RingNumbers). P site.job ring) (sym (ap (λ r. r.ring) closes.reader)) ready.rows);
+        begun = keeps.begun_on;
+        working = keeps.working_on;
+      };
+      job = goes.job;
+      stands = λ before going. going-on site site' reader held old new before (row-taken reader.ring.rows reader.cursor site.next held.bytes ready.next is.row.bytes) is.row.source keeps.keeps goes going;
+      missed = keeps.done_missed;
+      faults = keeps.faults_stay;
+    }
+kept-draws site site' reader opened closed held old new was missed' before' now (Left cause) ready is sees given-back keeps =
+    let at : IsCauseAt site.job site.next cause = keeps.left in
+    record {
+      closes = closes-row reader opened closed held ready.home is sees given-back;
+      is = subst (λ (n : ℕ). IsCauseAt site.job n cause) (sym ready.next) at;
+      stands = λ before going. leaving site reader held.source old new before cause is.row.source at.row keeps.finished_stay keeps.left_taken going;
+      missed = keeps.left_missed;
+      counted = keeps.left_counted;
+      faults = keeps.faults_stay;
+      ended = keeps.ended;
+    }
+kept-draws site site' reader opened closed held old new was missed' before' now Memory ready is sees given-back keeps = record {
+  closes = closes-row reader opened closed held ready.home is sees given-back;
+  stands = λ before going. stopping site reader held.source old new before (kept-there (is_kept site.job site.next) Memory keeps.passes (λ done. (cc))) is.row.source ready.next keeps.finished_stay keeps.memory_taken going;
+  missed = keeps.memory_missed;
+  faults = keeps.faults_stay;
+  ended = keeps.ended;
+}

@@ -1,0 +1,118 @@
+-- A turn of a site, row by row.
+use Rattle.std.proofs.Common.{◌≡◌, ℕ, ◌+◌, ◌<◌, ◌≤◌, false, map, IfSome, sym, ap, subst, ◌∙◌, arith}
+use Rattle.ring_lanes.specs.declared.answer.NotYet.{NotYet}
+use Rattle.ring_lanes.specs.Reader.{ReaderState, source_of}
+use Rattle.tif_packbits.specs.Frame.{framed_row}
+use Rattle.site_agent.specs.declared.kept.LeftCause.{LeftCause}
+use Rattle.site_agent.specs.Draw.{Stage, Awaits, DrawsLast, DrawsNone, DrawsOn, Goes}
+use Rattle.site_agent.specs.Job.{SiteJob}
+use Rattle.site_agent.specs.Site.{SiteData}
+use Rattle.site_agent.specs.Stands.{AreAsLong, AreBegun}
+use Rattle.site_agent.specs.Tells.{Tells}
+use Rattle.site_agent.specs.Turn.{AreRowsFor, IsGoingBy, LeavesAt, StopsAt}
+
+-- the reader at another cursor
+abbrev at : ReaderState → ℕ → ℕ → ℕ → ReaderState
+at reader cursor seen loads = record reader { cursor = cursor; seen = seen; loads = loads }
+
+chained : (first now next : ReaderState) (cursor : ℕ) → now ≡ at first now.cursor now.seen now.loads → next ≡ at now cursor next.seen next.loads → next ≡ at first next.cursor next.seen next.loads
+chained first now next cursor was is =
+    let all : next ≡ at first cursor next.seen next.loads = is ∙ ap (λ r. at r cursor next.seen next.loads) was in
+    all ∙ ap (λ n. at first n next.seen next.loads) (sym (ap (λ r. r.cursor) all))
+
+going-there : (first now : Stage) (waits : ℕ) (before : Tells) → Goes first now waits → IsGoingBy first.reader before first.told first.site → IsGoingBy now.reader before now.told now.site
+going-there first now waits before goes going =
+    subst (λ (r : ReaderState). IsGoingBy r before now.told now.site) (sym goes.reader) (goes.stands before going)
+
+-- a row more was kept
+pub goes-on : (first now next : Stage) (waits : ℕ) → now.reader.cursor < now.reader.ring.total → Goes first now waits → DrawsOn now next → Goes first next waits
+goes-on first now next waits less goes draws =
+    let total : now.reader.ring.total ≡ first.reader.ring.total = ap (λ r. r.ring.total) goes.reader in
+    let cursor : next.reader.cursor ≡ now.reader.cursor + 1 = ap (λ r. r.cursor) draws.closes.reader in
+    let low : first.reader.cursor ≤ now.reader.cursor = goes.grows in
+    let seen : first.reader.seen ≤ now.reader.seen = goes.seen in
+    let more : now.reader.seen ≤ next.reader.seen = draws.closes.grows in
+    let counted : first.reader.loads + waits ≤ now.reader.loads = goes.counted in
+    let loads : now.reader.loads ≤ next.reader.loads = draws.closes.loads in
+    let stay : first.faults ≤ now.faults = goes.faults in
+    let faults : now.faults ≤ next.faults = draws.faults in
+    record {
+      ready = draws.ready;
+      reader = chained first.reader now.reader next.reader (now.reader.cursor + 1) goes.reader draws.closes.reader;
+      grows = omega arith;
+      within = omega arith;
+      seen = omega arith;
+      counted = omega arith;
+      job = draws.job ∙ goes.job;
+      stands = λ before going.
+          subst (λ (r : ReaderState). IsGoingBy r before next.told next.site) goes.reader (draws.stands before (going-there first now waits before goes going));
+      missed = draws.missed ∙ goes.missed;
+      faults = omega arith;
+    }
+
+-- the row was awaited once more
+pub goes-awaiting : (first now next : Stage) (waits : ℕ) (answer : NotYet) → Goes first now waits → Awaits now next answer → Goes first next (waits + 1)
+goes-awaiting first now next waits answer goes awaits =
+    let same : next.reader ≡ at now.reader now.reader.cursor answer.head (now.reader.loads + 1) = awaits.not_yet.stays in
+    let cursor : next.reader.cursor ≡ now.reader.cursor = ap (λ r. r.cursor) same in
+    let seen : next.reader.seen ≡ answer.head = ap (λ r. r.seen) same in
+    let loads : next.reader.loads ≡ now.reader.loads + 1 = ap (λ r. r.loads) same in
+    let head : answer.head ≡ now.reader.cursor = awaits.not_yet.head in
+    let behind : now.reader.seen ≤ now.reader.cursor = awaits.behind in
+    let low : first.reader.cursor ≤ now.reader.cursor = goes.grows in
+    let high : now.reader.cursor ≤ first.reader.ring.total = goes.within in
+    let known : first.reader.seen ≤ now.reader.seen = goes.seen in
+    let counted : first.reader.loads + waits ≤ now.reader.loads = goes.counted in
+    let stay : first.faults ≤ now.faults = goes.faults in
+    let faults : next.faults ≡ now.faults = awaits.faults in
+    let site : now.site ≡ next.site = sym awaits.site in
+    let told : now.told ≡ next.told = sym awaits.told in
+    record {
+      ready = record {
+        going = subst (λ (s : SiteData). s.ended ≡ false) site goes.ready.going;
+        joined = ap (λ r. r.left) same ∙ goes.ready.joined;
+        home = ap (λ r. r.held) same ∙ goes.ready.home;
+        next = cursor ∙ goes.ready.next ∙ ap (λ s. s.next) site;
+        rows =
+            subst (λ (s : SiteData). AreRowsFor s.job next.reader.ring) site
+            (subst (λ (r : ReaderState). AreRowsFor now.site.job r.ring) (sym same) goes.ready.rows);
+        begun =
+            subst (λ (t : Tells). AreBegun next.site.job next.site.next t.begun) told
+            (subst (λ (s : SiteData). AreBegun s.job s.next now.told.begun) site goes.ready.begun);
+        working =
+            subst (λ (t : Tells). IfSome t.working (AreAsLong next.site.job next.site.next next.site.counts)) told
+            (subst (λ (s : SiteData). IfSome now.told.working (AreAsLong s.job s.next s.counts)) site goes.ready.working);
+      };
+      reader =
+          chained first.reader now.reader next.reader now.reader.cursor goes.reader
+          (same ∙ ap (λ s. at now.reader now.reader.cursor s (now.reader.loads + 1)) (sym seen) ∙ ap (at now.reader now.reader.cursor next.reader.seen) (sym loads));
+      grows = omega arith;
+      within = omega arith;
+      seen = omega arith;
+      counted = omega arith;
+      job = ap (λ s. s.job) awaits.site ∙ goes.job;
+      stands = λ before going.
+          subst (λ (t : Tells). IsGoingBy first.reader before t next.site) told
+          (subst (λ (s : SiteData). IsGoingBy first.reader before now.told s) site (goes.stands before going));
+      missed = awaits.missed ∙ goes.missed;
+      faults = omega arith;
+    }
+
+-- a call of the rack failed
+pub goes-leaves : (first now next : Stage) (waits : ℕ) (cause : LeftCause) (before : Tells) → Goes first now waits → DrawsLast now next cause → IsGoingBy first.reader before first.told first.site
+    → LeavesAt first.site.job (map framed_row first.reader.ring.rows) (source_of first.reader) before next.told cause
+goes-leaves first now next waits cause before goes draws going =
+    subst (λ (job : SiteJob). LeavesAt job (map framed_row first.reader.ring.rows) (source_of first.reader) before next.told cause) goes.job
+    (subst (λ (r : ReaderState). LeavesAt now.site.job (map framed_row r.ring.rows) (source_of r) before next.told cause) goes.reader
+    (draws.stands before (going-there first now waits before goes going)))
+
+-- a call of the rack wanted memory
+pub goes-stops : (first now next : Stage) (waits n : ℕ) (before : Tells) → n + 1 ≡ next.reader.cursor → Goes first now waits → DrawsNone now next → IsGoingBy first.reader before first.told first.site
+    → StopsAt first.site.job (map framed_row first.reader.ring.rows) (source_of first.reader) n before next.told
+goes-stops first now next waits n before last goes draws going =
+    let cursor : next.reader.cursor ≡ now.reader.cursor + 1 = ap (λ r. r.cursor) draws.closes.reader in
+    let same : now.reader.cursor ≡ n = omega arith in
+    subst (λ (m : ℕ). StopsAt first.site.job (map framed_row first.reader.ring.rows) (source_of first.reader) m before next.told) same
+    (subst (λ (job : SiteJob). StopsAt job (map framed_row first.reader.ring.rows) (source_of first.reader) now.reader.cursor before next.told) goes.job
+    (subst (λ (r : ReaderState). StopsAt now.site.job (map framed_row r.ring.rows) (source_of r) now.reader.cursor before next.told) goes.reader
+    (draws.stands before (going-there first now waits before goes going))))

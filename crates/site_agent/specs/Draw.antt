@@ -1,0 +1,119 @@
+-- What one row at a reader's cursor makes of a site, the reader and the rack. This is the contract of a
+-- private call.
+use Rattle.std.specs.Prelude.{◌≡◌, ℕ, ◌+◌, ◌<◌, ◌≤◌, true, false, Some, IfSome, Result, Ok, Err, map}
+use Rattle.pr_base.specs.Count.{Rose}
+use Rattle.tif_packbits.specs.Frame.{framed_row}
+use Rattle.ring_lanes.specs.declared.answer.NotYet.{NotYet}
+use Rattle.ring_lanes.specs.Reader.{ReaderState, IsNotYet, source_of}
+use Rattle.site_agent.specs.declared.kept.Kept.{Kept}
+use Rattle.site_agent.specs.declared.kept.Kept.TheVariants.{Done, Left, Memory}
+use Rattle.site_agent.specs.declared.kept.LeftCause.{LeftCause}
+use Rattle.site_agent.specs.Kept.{IsCauseAt}
+use Rattle.site_agent.specs.Refused.{Missed}
+use Rattle.site_agent.specs.Site.{SiteData}
+use Rattle.site_agent.specs.Stands.{AreAsLong, AreBegun}
+use Rattle.site_agent.specs.Tells.{Tells}
+use Rattle.site_agent.specs.Turn.{AreRowsFor, IsGoingBy, LeavesAt, StopsAt}
+
+-- a site, its reader, and what its rack tells
+pub record Stage : Type 0 where
+  pub site : SiteData
+  pub reader : ReaderState
+  pub told : Tells
+  pub missed : Missed
+  pub faults : ℕ
+
+abbrev pub stage : SiteData → ReaderState → Tells → Missed → ℕ → Stage
+stage site reader told missed faults = record {
+  site = site;
+  reader = reader;
+  told = told;
+  missed = missed;
+  faults = faults;
+}
+
+-- the site may take the row at the reader's cursor
+pub record IsReady (s : Stage) : Type 0 where
+  pub going : s.site.ended ≡ false
+  pub joined : s.reader.left ≡ false
+  pub home : s.reader.held ≡ false
+  pub next : s.reader.cursor ≡ s.site.next
+  pub rows : AreRowsFor s.site.job s.reader.ring
+  pub begun : AreBegun s.site.job s.site.next s.told.begun
+  pub working : IfSome s.told.working (AreAsLong s.site.job s.site.next s.site.counts)
+
+-- the reader took the row and gave it back, and loaded the head perhaps
+pub record Closes (old new : ReaderState) : Type 0 where
+  pub reader : new ≡ record old { cursor = old.cursor + 1; seen = new.seen; loads = new.loads }
+  pub known : old.cursor < new.seen
+  pub grows : old.seen ≤ new.seen
+  pub within : new.seen ≤ old.ring.total
+  pub loads : old.loads ≤ new.loads
+
+-- the row was kept
+pub record DrawsOn (old new : Stage) : Type 0 where
+  pub closes : Closes old.reader new.reader
+  pub ready : IsReady new
+  pub job : new.site.job ≡ old.site.job
+  pub stands : (before : Tells) → IsGoingBy old.reader before old.told old.site
+      → IsGoingBy old.reader before new.told new.site
+  pub missed : new.missed ≡ old.missed
+  pub faults : old.faults ≤ new.faults
+
+-- a call of the rack failed
+pub record DrawsLast (old new : Stage) (cause : LeftCause) : Type 0 where
+  pub closes : Closes old.reader new.reader
+  pub is : IsCauseAt old.site.job old.reader.cursor cause
+  pub stands : (before : Tells) → IsGoingBy old.reader before old.told old.site
+      → LeavesAt old.site.job (map framed_row old.reader.ring.rows) (source_of old.reader) before new.told
+      cause
+  pub missed : IfSome new.missed (λ last. last ≡ Some (cause.call, cause.path))
+  pub counted : Rose old.faults new.faults
+  pub faults : old.faults ≤ new.faults
+  pub ended : new.site.ended ≡ true
+
+-- a call of the rack wanted memory
+pub record DrawsNone (old new : Stage) : Type 0 where
+  pub closes : Closes old.reader new.reader
+  pub stands : (before : Tells) → IsGoingBy old.reader before old.told old.site
+      → StopsAt old.site.job (map framed_row old.reader.ring.rows) (source_of old.reader) old.reader.cursor
+      before new.told
+  pub missed : new.missed ≡ old.missed
+  pub faults : old.faults ≤ new.faults
+  pub ended : new.site.ended ≡ true
+
+-- the row wasn't published yet
+pub record Awaits (old new : Stage) (answer : NotYet) : Type 0 where
+  pub not_yet : IsNotYet old.reader new.reader answer
+  pub behind : old.reader.seen ≤ old.reader.cursor
+  pub site : new.site ≡ old.site
+  pub told : new.told ≡ old.told
+  pub missed : new.missed ≡ old.missed
+  pub faults : new.faults ≡ old.faults
+
+-- one of these, by the answer
+abbrev pub Draws : Stage → Stage → Result Kept NotYet → Type 0
+Draws old new (Ok Done) = DrawsOn old new
+Draws old new (Ok (Left cause)) = DrawsLast old new cause
+Draws old new (Ok Memory) = DrawsNone old new
+Draws old new (Err answer) = Awaits old new answer
+
+-- ---- a run of rows
+
+-- the rows from the first cursor up to this one were kept, and so many were awaited between them
+pub record Goes (first now : Stage) (waits : ℕ) : Type 0 where
+  pub ready : IsReady now
+  pub reader : now.reader ≡ record first.reader {
+    cursor = now.reader.cursor;
+    seen = now.reader.seen;
+    loads = now.reader.loads;
+  }
+  pub grows : first.reader.cursor ≤ now.reader.cursor
+  pub within : now.reader.cursor ≤ first.reader.ring.total
+  pub seen : first.reader.seen ≤ now.reader.seen
+  pub counted : first.reader.loads + waits ≤ now.reader.loads
+  pub job : now.site.job ≡ first.site.job
+  pub stands : (before : Tells) → IsGoingBy first.reader before first.told first.site
+      → IsGoingBy first.reader before now.told now.site
+  pub missed : now.missed ≡ first.missed
+  pub faults : first.faults ≤ now.faults

@@ -1,0 +1,101 @@
+-- What an answer of a turn says, and the rows that a site takes from a ring.
+use Rattle.std.specs.Prelude.{◌≡◌, ℕ, ◌+◌, ◌<◌, ◌≤◌, true, false, List, length, map}
+use Rattle.ring_rule.specs.declared.view.RingNumbers.{RingNumbers}
+use Rattle.ring_lanes.specs.declared.source.Source.{Source}
+use Rattle.ring_lanes.specs.Reader.{ReaderState, source_of}
+use Rattle.pr_base.specs.Row.{row_size}
+use Rattle.tif_packbits.specs.Frame.{AreFrames, framed_row}
+use Rattle.site_agent.specs.declared.kept.LeftCause.{LeftCause}
+use Rattle.site_agent.specs.declared.turn_end.TurnEnd.{TurnEnd}
+use Rattle.site_agent.specs.declared.turn_end.TurnEnd.TheVariants.{Waiting, Finished, Left, Memory}
+use Rattle.site_agent.specs.Given.{is_kept}
+use Rattle.site_agent.specs.Going.{IsGoing}
+use Rattle.site_agent.specs.Job.{SiteJob}
+use Rattle.site_agent.specs.Kept.{TakenOnce}
+use Rattle.site_agent.specs.Refused.{taken_at}
+use Rattle.site_agent.specs.Site.{SiteData}
+use Rattle.site_agent.specs.Stands.{files_below, grown, taken_below}
+use Rattle.site_agent.specs.Tells.{Tells}
+
+-- P where the site goes on
+abbrev pub OnGoing : TurnEnd → Type 0 → Type 0
+OnGoing (Waiting head) P = P
+OnGoing Finished P = P
+OnGoing (Left cause) P = Unit {0}
+OnGoing Memory P = Unit {0}
+
+-- P where the site goes no further
+abbrev pub OnEnd : TurnEnd → Type 0 → Type 0
+OnEnd (Waiting head) P = Unit {0}
+OnEnd Finished P = Unit {0}
+OnEnd (Left cause) P = P
+OnEnd Memory P = P
+
+-- P of the head where the answer is Waiting
+abbrev pub IfWaiting : TurnEnd → (ℕ → Type 0) → Type 0
+IfWaiting (Waiting head) P = P head
+IfWaiting Finished P = Unit {0}
+IfWaiting (Left cause) P = Unit {0}
+IfWaiting Memory P = Unit {0}
+
+-- P where the answer is Finished
+abbrev pub OnFinished : TurnEnd → Type 0 → Type 0
+OnFinished (Waiting head) P = Unit {0}
+OnFinished Finished P = P
+OnFinished (Left cause) P = Unit {0}
+OnFinished Memory P = Unit {0}
+
+-- P of the cause where the answer is Left
+abbrev pub IfLeft : TurnEnd → (LeftCause → Type 0) → Type 0
+IfLeft (Waiting head) P = Unit {0}
+IfLeft Finished P = Unit {0}
+IfLeft (Left cause) P = P cause
+IfLeft Memory P = Unit {0}
+
+-- P where the answer is Memory
+abbrev pub OnMemory : TurnEnd → Type 0 → Type 0
+OnMemory (Waiting head) P = Unit {0}
+OnMemory Finished P = Unit {0}
+OnMemory (Left cause) P = Unit {0}
+OnMemory Memory P = P
+
+-- the rows of a ring are frames of rows for a job, as many as the job has
+pub record AreRowsFor (job : SiteJob) (ring : RingNumbers) : Type 0 where
+  pub total : ring.total ≡ job.total
+  pub count : length ring.rows ≡ ring.total
+  pub frames : AreFrames (row_size job.width) (map framed_row ring.rows) ring.rows
+
+-- a site goes on, with the rows that this reader takes
+abbrev pub IsGoingBy : ReaderState → Tells → Tells → SiteData → Type 0
+IsGoingBy reader before now site =
+    IsGoing (map framed_row reader.ring.rows) (source_of reader) before now site
+
+-- the site goes on with the row at this cursor
+pub record GoesOnTo (old new : SiteData) (cursor : ℕ) : Type 0 where
+  pub job : new.job ≡ old.job
+  pub next : new.next ≡ cursor
+  pub going : new.ended ≡ false
+
+-- the row at the reader's cursor was looked for at least so often, and the last load found this head there
+pub record Waits (old new : ReaderState) (patience head : ℕ) : Type 0 where
+  pub at : head ≡ new.cursor
+  pub within : head < old.ring.total
+  pub last : new.seen ≡ head
+  pub counted : old.loads + patience ≤ new.loads
+
+-- a site left for this cause, and its rack, which told one thing before, tells another now: the plates whose
+-- last row is below the cause's row are finished, and the site's rows below it were taken, and that row
+-- only where its plate was to be finished
+pub record LeavesAt (job : SiteJob) (rows : List (List ℕ)) (source : Source) (before now : Tells)
+    (cause : LeftCause) : Type 0 where
+  pub finished : now.finished ≡ grown (files_below job rows cause.row) before.finished
+  pub taken : now.taken
+      ≡ taken_at cause.call cause.row source (grown (taken_below job source cause.row) before.taken)
+
+-- the rack of a site wanted memory for its row n: the plates whose last row is below it are finished, and the
+-- site's rows below it were taken, and that row once more or not
+pub record StopsAt (job : SiteJob) (rows : List (List ℕ)) (source : Source) (n : ℕ) (before now : Tells)
+    : Type 0 where
+  pub kept : is_kept job n ≡ true
+  pub finished : now.finished ≡ grown (files_below job rows n) before.finished
+  pub taken : TakenOnce n source (grown (taken_below job source n) before.taken) now.taken
