@@ -222,7 +222,7 @@ shape_from (Ok u) (Ok s) strips shape is = ap {A = Shape} Ok (kept (strips s) s 
     kept (Err fault) s shape is = cc
     kept (Ok u) s shape is = same_Ok {A = Shape} s shape is
 
-shape_sides : (usage : _) (bytes : List ℕ) (shape : Shape) → shape_of usage bytes ≡ Ok shape → HasSides bytes shape
+pub shape_sides : (usage : _) (bytes : List ℕ) (shape : Shape) → shape_of usage bytes ≡ Ok shape → HasSides bytes shape
 unfolding shape_of
 shape_sides usage bytes shape is =
     fields_sides usage bytes shape (shape_from (no_fault (dir_fault bytes)) (image_fields usage bytes) (λ s. no_fault (strip_fault s bytes)) shape is)

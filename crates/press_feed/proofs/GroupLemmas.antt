@@ -21,18 +21,18 @@ record HasPages (plan : PlanData) (group : Group) : Type 0 where
   left : group.left < length plan.pages
   right : group.right < length plan.pages
 
-all_pieces : {X : Type 0} (P : X → Type 0) (f : ℕ → List X) (from n : ℕ) → ((k : ℕ) → from ≤ k → k < from + n → All P (f k)) → All P (flat_map f (range_with_len from n))
+-- what holds of each piece holds of all
+pub all_pieces : {X : Type 0} (P : X → Type 0) (f : ℕ → List X) (from n : ℕ) → ((k : ℕ) → from ≤ k → k < from + n → All P (f k)) → All P (flat_map f (range_with_len from n))
 all_pieces P f from zero each = All-nil P
 all_pieces P f from (suc n) each =
     All-append P (f from) (flat_map f (range_with_len (from + 1) n)) (each from (omega arith) (omega arith))
     (all_pieces P f (from + 1) n (λ k low high. each k (omega arith) (omega arith)))
 
-all_numbered : (plan : PlanData) (height first : ℕ) (groups : List Group) → All (HasPages plan) groups → All (HasPages plan) (numbered height first groups)
-all_numbered plan height first [] each = All-nil (HasPages plan)
-all_numbered plan height first (group ∷ groups) each =
-    let here = All-head (HasPages plan) group groups each in
-    All-cons (HasPages plan) (record group { first = first }) (numbered height (first + row_count height group) groups) (record { left = here.left; right = here.right })
-    (all_numbered plan height (first + row_count height group) groups (All-tail (HasPages plan) group groups each))
+all_numbered : (P : Group → Type 0) (height first : ℕ) (groups : List Group) → ((group : Group) (n : ℕ) → P group → P (record group { first = n })) → All P groups → All P (numbered height first groups)
+all_numbered P height first [] stays each = All-nil P
+all_numbered P height first (group ∷ groups) stays each =
+    All-cons P (record group { first = first }) (numbered height (first + row_count height group) groups) (stays group first (All-head P group groups each))
+    (all_numbered P height (first + row_count height group) groups stays (All-tail P group groups each))
 
 below_all : (n : ℕ) → All (λ k. k < n) (range_with_len 0 n)
 below_all n k d less =
@@ -61,24 +61,34 @@ site_has plan section pair site is first last within =
       right = subst {A = ℕ × ℕ} (λ pages. pages.1 < length plan.pages) (sym at) (chosen_page-within plan site section (pair_of (page_count plan section) pair).1 is places.2 places.3);
     }
 
-pair_has : (plan : PlanData) (section pair : ℕ) → IsPlan plan → 1 ≤ pair → 2 * pair ≤ page_count plan section → All (HasPages plan) (pair_groups plan section pair)
+-- what holds of the sites that print one pair of pages, whatever their first row is, holds of each group of a
+-- plan
+record IsOfEach (plan : PlanData) (P : Group → Type 0) : Type 0 where
+  stays : (group : Group) (n : ℕ) → P group → P (record group { first = n })
+  each : (section pair site : ℕ) → 1 ≤ pair → 2 * pair ≤ page_count plan section → site < length plan.sites → P (group_of plan section pair (site_pages plan section pair) site)
+
+all_of_pair : (plan : PlanData) (P : Group → Type 0) (section pair : ℕ) → IsOfEach plan P → 1 ≤ pair → 2 * pair ≤ page_count plan section → All P (pair_groups plan section pair)
 unfolding pair_groups
-pair_has plan section pair is first last =
+all_of_pair plan P section pair is first last =
     let sites = filter (is_first (site_pages plan section pair)) (range_with_len 0 (length plan.sites)) in
-    All-map (HasPages plan) (group_of plan section pair (site_pages plan section pair)) sites
-    (All-weaker (λ site. site < length plan.sites) (λ site. HasPages plan (group_of plan section pair (site_pages plan section pair) site)) (λ site within. site_has plan section pair site is first last within)
+    All-map P (group_of plan section pair (site_pages plan section pair)) sites
+    (All-weaker (λ site. site < length plan.sites) (λ site. P (group_of plan section pair (site_pages plan section pair) site)) (λ site within. is.each section pair site first last within)
     sites (All-filter (is_first (site_pages plan section pair)) (λ site. site < length plan.sites) (range_with_len 0 (length plan.sites)) (below_all (length plan.sites))))
 
-section_has : (plan : PlanData) (section : ℕ) → IsPlan plan → All (HasPages plan) (section_groups plan section)
+all_of_section : (plan : PlanData) (P : Group → Type 0) (section : ℕ) → IsOfEach plan P → All P (section_groups plan section)
 unfolding section_groups
-section_has plan section is =
-    all_pieces (HasPages plan) (pair_groups plan section) 1 (page_count plan section / 2) (λ pair low high. pair_has plan section pair is low (omega arith))
+all_of_section plan P section is =
+    all_pieces P (pair_groups plan section) 1 (page_count plan section / 2) (λ pair low high. all_of_pair plan P section pair is low (omega arith))
+
+pub all_groups : (plan : PlanData) (P : Group → Type 0) → ((group : Group) (n : ℕ) → P group → P (record group { first = n }))
+    → ((section pair site : ℕ) → 1 ≤ pair → 2 * pair ≤ page_count plan section → site < length plan.sites → P (group_of plan section pair (site_pages plan section pair) site)) → All P (groups_of plan)
+unfolding groups_of
+all_groups plan P stays each =
+    all_numbered P (plate_height plan) 0 (flat_map (section_groups plan) (range_with_len 0 (length plan.sections))) stays
+    (all_pieces P (section_groups plan) 0 (length plan.sections) (λ section _ _. all_of_section plan P section (record { stays = stays; each = each })))
 
 groups_have : (plan : PlanData) → IsPlan plan → All (HasPages plan) (groups_of plan)
-unfolding groups_of
-groups_have plan is =
-    all_numbered plan (plate_height plan) 0 (flat_map (section_groups plan) (range_with_len 0 (length plan.sections)))
-    (all_pieces (HasPages plan) (section_groups plan) 0 (length plan.sections) (λ section _ _. section_has plan section is))
+groups_have plan is = all_groups plan (HasPages plan) (λ group n has. record { left = has.left; right = has.right }) (λ section pair site first last within. site_has plan section pair site is first last within)
 
 or_true : (a b : Bool) → (a || b) ≡ true → (a ≡ true) ⊎ (b ≡ true)
 or_true true b e = inl refl

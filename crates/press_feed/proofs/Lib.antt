@@ -10,4 +10,5 @@ pub mod PlateLemmas
 pub mod ScreenerLemmas
 pub mod SideLemmas
 pub mod SmallJob
+pub mod SpotlessLemmas
 pub mod ValueLemmas

@@ -14,3 +14,4 @@ pub mod Sides
 pub mod SidePages
 pub mod Plates
 pub mod Feed
+pub mod Spotless

@@ -130,7 +130,8 @@ fn draw_pages(
     requires right { CanDraw plan.now Right place.ink place.y right.old }
     requires same { left.old.files ≡ right.old.files }
     requires row { length bits.old ≡ row_size (plate_width plan.now) }
-    ensures pages { ShowsPages plan.now left.old.files left.old.page right.old.page place.ink place.y bits.new }
+    ensures pages { ShowsPages plan.now left.old.files left.old.page right.old.page place.ink place.y
+        bits.new }
     ensures left { left.new ≡ row_after place.ink place.y left.old }
     ensures right { right.new ≡ row_after place.ink place.y right.old }
 {

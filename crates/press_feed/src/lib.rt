@@ -7,6 +7,7 @@ mod file_test;
 mod files;
 mod fit;
 mod job;
+mod laws;
 mod layers;
 mod loading;
 mod plane;
@@ -16,10 +17,13 @@ mod refusal;
 mod screener;
 mod side;
 mod side_pages;
+#[cfg(test)]
+mod tests;
 mod tones;
 mod usage;
 
 pub use feed::Feed;
 pub use job::Job;
+pub use laws::spotless_law;
 pub use preparing::prepare;
 pub use refusal::Refusal;

@@ -1,5 +1,5 @@
 // Loading the files of a plan, each tested as soon as it is loaded.
-ghost use Rattle.std.specs.Prelude.{◌≡◌, ◌+◌, ◌<◌, ◌≤◌, Contains, Some, None, IfOk, IfSome, OnOk, length, sum_by};
+ghost use Rattle.std.specs.Prelude.{◌≡◌, ◌+◌, ◌<◌, ◌≤◌, Contains, Some, None, IfOk, IfSome, IsErrOf, OnOk, length, sum_by};
 ghost use Rattle.plan_json.specs.Plan.{IsPlan};
 ghost use Rattle.pr_base.specs.declared.fault.FaultKind.{FaultKind};
 ghost use Rattle.pr_base.specs.Count.{Rose};
@@ -90,6 +90,8 @@ fn load_file<H: Shelf>(
     ensures counted { IfShelf result (λ _. Rose (H.faults shelf.old) (H.faults shelf.new)) }
     ensures missed { IfShelf result (λ path. IfSome (H.missed shelf.new) (λ last. last ≡ Some path)) }
     ensures done_missed { OnOk result (H.missed shelf.new ≡ H.missed shelf.old) }
+    ensures file_missed { IfFile result (λ _. H.missed shelf.new ≡ H.missed shelf.old) }
+    ensures memory_missed { IsErrOf result Refusal.Memory → H.missed shelf.new ≡ H.missed shelf.old }
     ensures held { H.held shelf.new ≡ H.held shelf.old }
     ensures faults_stay { H.faults shelf.old ≤ H.faults shelf.new }
     ensures longs_stay { H.longs shelf.old ≤ H.longs shelf.new }
@@ -140,6 +142,8 @@ pub(crate) fn load_files<H: Shelf>(
     ensures counted { IfShelf result (λ _. Rose (H.faults shelf.old) (H.faults shelf.new)) }
     ensures missed { IfShelf result (λ path. IfSome (H.missed shelf.new) (λ last. last ≡ Some path)) }
     ensures done_missed { OnOk result (H.missed shelf.new ≡ H.missed shelf.old) }
+    ensures file_missed { IfFile result (λ _. H.missed shelf.new ≡ H.missed shelf.old) }
+    ensures memory_missed { IsErrOf result Refusal.Memory → H.missed shelf.new ≡ H.missed shelf.old }
     ensures held { H.held shelf.new ≡ H.held shelf.old }
     ensures faults_stay { H.faults shelf.old ≤ H.faults shelf.new }
     ensures longs_stay { H.longs shelf.old ≤ H.longs shelf.new }

@@ -1,5 +1,5 @@
 // From a plan and a shelf to a job.
-ghost use Rattle.std.specs.Prelude.{◌≡◌, ◌≤◌, Contains, IfOk, IfSome, None, OnOk, Some, length, sum_by};
+ghost use Rattle.std.specs.Prelude.{◌≡◌, ◌≤◌, Contains, IfOk, IfSome, IsErrOf, None, OnOk, Some, length, sum_by};
 ghost use Rattle.pr_base.specs.Count.{Rose};
 ghost use Rattle.pr_base.specs.declared.fault.FaultKind.{FaultKind};
 ghost use Rattle.press_feed.specs.Verdict.{IfFile, IfShelf, IsMissing, files_in, verdict_on_files};
@@ -41,6 +41,8 @@ pub fn prepare<H: Shelf>(
     ensures counted { IfShelf result (λ _. Rose (H.faults shelf.old) (H.faults shelf.new)) }
     ensures missed { IfShelf result (λ path. IfSome (H.missed shelf.new) (λ last. last ≡ Some path)) }
     ensures done_missed { OnOk result (H.missed shelf.new ≡ H.missed shelf.old) }
+    ensures file_missed { IfFile result (λ _. H.missed shelf.new ≡ H.missed shelf.old) }
+    ensures memory_missed { IsErrOf result Refusal.Memory → H.missed shelf.new ≡ H.missed shelf.old }
 
     ensures held { H.held shelf.new ≡ H.held shelf.old }
     ensures faults_stay { H.faults shelf.old ≤ H.faults shelf.new }

@@ -65,7 +65,8 @@ impl PrintedRow {
         requires width { HasWidth self.old page.old.width }
         requires before { 0 < page.old.next →
             ShowsInks tones.now colour spot page.old.layers page.old.width (page.old.next - 1) self.old }
-        ensures shows { ShowsInks tones.now colour spot page.old.layers page.old.width page.old.next self.new }
+        ensures shows { ShowsInks tones.now colour spot page.old.layers page.old.width page.old.next
+            self.new }
         ensures width { HasWidth self.new page.old.width }
         ensures page { page.new ≡ record page.old { next = page.old.next + 1 } }
     {
@@ -80,7 +81,8 @@ impl PrintedRow {
     fn paint(&mut self, page: &mut PageRows<'_>, tones: &Tones<'_>, colour: bool, spot: bool)
         requires left { page.old.next < page.old.height }
         requires width { HasWidth self.old page.old.width }
-        ensures shows { ShowsInks tones.now colour spot page.old.layers page.old.width page.old.next self.new }
+        ensures shows { ShowsInks tones.now colour spot page.old.layers page.old.width page.old.next
+            self.new }
         ensures width { HasWidth self.new page.old.width }
         ensures page { page.new ≡ record page.old { next = page.old.next + 1 } }
     {
@@ -161,7 +163,8 @@ fn limit_values(
     requires magenta { length magenta.old ≡ length cyan.old }
     requires yellow { length yellow.old ≡ length cyan.old }
     requires black { length black.old ≡ length cyan.old }
-    ensures { AreLimited limit cyan.old magenta.old yellow.old black.old cyan.new magenta.new yellow.new black.new }
+    ensures { AreLimited limit cyan.old magenta.old yellow.old black.old
+        cyan.new magenta.new yellow.new black.new }
 {
     for x in 0..cyan.len() {
         let inks = [cyan[x], magenta[x], yellow[x], black[x]];

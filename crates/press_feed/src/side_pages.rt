@@ -62,7 +62,8 @@ impl<'j> Model for SidePages<'j> {
       screened = map rows_in s.screeners.items;
     } };
 
-    ghost invariant = { λ s. IsSide s.job.now s.side s.pages.items s.page s.shown s.tones s.row s.screeners.items };
+    ghost invariant = { λ s.
+        IsSide s.job.now s.side s.pages.items s.page s.shown s.tones s.row s.screeners.items };
 }
 
 impl<'j> SidePages<'j> {
@@ -117,7 +118,8 @@ impl<'j> SidePages<'j> {
     /// Sets the pixels of an ink of row `y` of the page, where it stands on the plate.
     pub(crate) fn draw(&mut self, ink: Ink, y: u32, bits: &mut [u8])
         requires ready { IsReady ink y self.old }
-        requires room { left_edge self.old.plan self.old.side + self.old.plan.page_width ≤ 8 * length bits.old }
+        requires room { left_edge self.old.plan self.old.side + self.old.plan.page_width
+            ≤ 8 * length bits.old }
         ensures bits { SetsBits (λ x. page_bit self.old.plan self.old.files self.old.page ink x y)
             (left_edge self.old.plan self.old.side) self.old.plan.page_width bits.old bits.new }
         ensures behind { self.new ≡ behind_row ink y self.old }
