@@ -7,7 +7,11 @@ pub mod Pack
 pub mod Numbers
 pub mod Delivering
 pub mod Serving
-pub mod Turns
 pub mod Kept
 pub mod Running
 pub mod JobRows
+pub mod Feeds
+pub mod Rounds
+pub mod DrillVerdict
+pub mod DrillDots
+pub mod Drilled

@@ -18,7 +18,7 @@ use Rattle.plate_room.specs.Fits.{FitsCause}
 use Rattle.plate_room.specs.Report.{is_finished, status_of_ends}
 use Rattle.plate_room.specs.declared.site_end.SiteEnd.{SiteEnd}
 use Rattle.plate_room.specs.declared.site_end.SiteEnd.TheVariants.{Finished, Left}
-use Rattle.plate_room.specs.Command.{Command, Edition, One, Run, command_of}
+use Rattle.plate_room.specs.Command.{Command, Drill, Edition, IsDrill, One, Run, command_of}
 use Rattle.plate_room.specs.Refusal.{Refusal, NoCommand, LongPlan, BadPlan, Faulty, NotLoaded, status_of}
 use Rattle.plate_room.specs.Verdict.{verdict_of, verdict_for, verdict_on, verdict_on_run, verdict_on_plan, files_refusal, judged, named, file_limit, plan_limit, too_long}
 use Rattle.plate_room.specs.Met.{IsLoaded, IsPlanned, HasFault, OneMeets, RunMeets, CommandMeets, Meets}
@@ -145,7 +145,7 @@ some_left (Finished plates rows ∷ ends) h =
 some_left (Left cause ∷ ends) h = (0, cause, refl)
 
 -- the element at an index within
-there : {A : Type 0} (xs : List A) (k : ℕ) → k < length xs → (x : A) × (slice_get xs k ≡ Some x)
+pub there : {A : Type 0} (xs : List A) (k : ℕ) → k < length xs → (x : A) × (slice_get xs k ≡ Some x)
 there xs k less = elim ((slice_get_cases xs k).1) [
   | inl found ↦ (found.0, found.2)
   | inr past ↦ absurd (let far = past.0 in omega arith)
@@ -158,6 +158,7 @@ command_met : (files : Files) (shelf : ShelfSeen) (command : Command) (refusal :
     → (verdict_for (Some command) files ≡ Some refusal) ⊎ ((status_of refusal ≡ 5) × LoadFailed shelf)
 command_met files shelf (One file) refusal told met = one_met files shelf file refusal told met
 command_met files shelf (Run edition) refusal told met = run_met files shelf edition refusal told met
+command_met files shelf (Drill number ring patience) refusal told met = absurd met
 
 one_known : (shelf : ShelfSeen) (file : List ℕ) (refusal : Refusal) → OneMeets file shelf refusal → status_of refusal ≡ 2 → ⊥
 one_known shelf file NoCommand met is = met
@@ -171,6 +172,14 @@ pub command_known : (shelf : ShelfSeen) (command : Command) (refusal : Refusal) 
     → status_of refusal ≡ 2 → ⊥
 command_known shelf (One file) refusal met is = one_known shelf file refusal met is
 command_known shelf (Run edition) refusal met is = run_known shelf edition refusal met is
+command_known shelf (Drill number ring patience) refusal met is = met
+
+-- a drill isn't refused
+pub drill_unmet : (shelf : ShelfSeen) (command : Command) (refusal : Refusal) → IsDrill (Some command)
+    → CommandMeets command shelf refusal → ⊥
+drill_unmet shelf (One file) refusal drill met = drill
+drill_unmet shelf (Run edition) refusal drill met = drill
+drill_unmet shelf (Drill number ring patience) refusal drill met = met
 
 -- the verdict on a command line that is a command
 asked_is : (words : List (List ℕ)) (files : Files) (command : Command) → command_of words ≡ Some command
@@ -196,6 +205,7 @@ module _ {R : Type 0} (g : Ghosts R) where
       let L : Option Files → Type 0 = λ h. IsLoaded h file_limit file made.bytes in
       loaded_is files file made.bytes (subst L told made.image.loaded) ∙ ap (judged file) made.image.passed
   part_made files held (Run edition) racks racks' out told made = prepared_is edition files held made.job told made.prepared
+  part_made files held (Drill number ring patience) racks racks' out told made = refl
 
   whole_made : (files : Files) (held : Option Files) (command : Command) (racks racks' : List R) (out : SinkSeen)
       (status : ℕ) → held ≡ Some files → Makes g command held racks racks' out status
@@ -205,6 +215,14 @@ module _ {R : Type 0} (g : Ghosts R) where
       loaded_is files file made.bytes (subst L told made.image.loaded) ∙ ap (judged file) made.image.passed
   whole_made files held (Run edition) racks racks' out status told made =
       prepared_is edition files held made.job told made.prepared
+  whole_made files held (Drill number ring patience) racks racks' out status told made = refl
+
+  -- a drill that is done has status 0
+  pub drill_zero : (command : Command) (held : Option Files) (racks racks' : List R) (out : SinkSeen) (status : ℕ)
+      → IsDrill (Some command) → Makes g command held racks racks' out status → status ≡ 0
+  drill_zero (One file) held racks racks' out status drill made = absurd drill
+  drill_zero (Run edition) held racks racks' out status drill made = absurd drill
+  drill_zero (Drill number ring patience) held racks racks' out status drill made = made.zero
 
   -- a command of which a part was made passes
   pub part_passes : (words : List (List ℕ)) (files : Files) (held : Option Files) (racks racks' : List R) (out : SinkSeen)
@@ -249,6 +267,7 @@ module _ {R : Type 0} (g : Ghosts R) where
   one_failed held (Run edition) racks racks' out status made =
       let r = made.reports in
       run_failed edition made.job racks racks' r.ends status r.delivers (list_all is_finished r.ends) refl r.is
+  one_failed held (Drill number ring patience) racks racks' out status made = inl made.zero
 
   -- the status is 0, or a call of a rack failed
   pub done_or_left : (words : List (List ℕ)) (held : Option Files) (racks racks' : List R) (out : SinkSeen) (status : ℕ)

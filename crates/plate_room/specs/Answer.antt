@@ -9,6 +9,7 @@ use Rattle.plate_room.specs.Command as line
 use Rattle.plate_room.specs.Line.{memory_line}
 use Rattle.plate_room.specs.Refusal as meant
 use Rattle.plate_room.specs.One.{black_plate}
+use Rattle.plate_room.specs.Drill.{drill_text}
 use Rattle.plate_room.specs.End.{GrewByTwo, IsDoneStatus}
 use Rattle.plate_room.specs.Verdict.{file_limit}
 use Rattle.plate_room.specs.Met.{HasMissed, IsLoaded, OneMeets, RunMeets}
@@ -19,6 +20,7 @@ use Rattle.plate_room.specs.Seen.{Seen, ShelfSeen, SinkSeen, PutFailed}
 use Rattle.plate_room.specs.declared.command.Command as asked_type
 use Rattle.plate_room.specs.declared.command.Command.TheVariants as asked
 use Rattle.plate_room.specs.declared.command.Edition.{Edition}
+use Rattle.plate_room.specs.declared.command.Drill.{Drill}
 use Rattle.plate_room.specs.declared.plate.PlateFault.{PlateFault}
 use Rattle.plate_room.specs.declared.plate.PlateFault.TheVariants.{Refused, Memory, Printing}
 use Rattle.plate_room.specs.declared.note.Refusal.{Refusal}
@@ -39,22 +41,38 @@ pub record HasNumbers (edition : Edition) : Type 0 where
   pub ring : IsWithin 1 1024 edition.ring
   pub patience : IsWithin 1 65536 edition.patience
 
--- so are those of a run
+-- so are those of a drill
+pub record HasTurns (drill : Drill) : Type 0 where
+  pub ring : IsWithin 1 1024 drill.ring
+  pub patience : IsWithin 1 65536 drill.patience
+
+-- so are those of a command
 abbrev pub IfRun : Option asked_type.Command → Type 0
 IfRun None = Unit {0}
 IfRun (Some (asked.One file)) = Unit {0}
 IfRun (Some (asked.Run edition)) = HasNumbers edition
+IfRun (Some (asked.Drill drill)) = HasTurns drill
+
+-- what the words of a drill are
+abbrev pub drill_told : Drill → line.Command
+drill_told drill = line.Drill drill.number drill.ring drill.patience
 
 -- the code's command is this one
 abbrev pub IsCommand : Option asked_type.Command → Option line.Command → Type 0
 IsCommand None meant = meant ≡ None
 IsCommand (Some (asked.One file)) meant = meant ≡ Some (line.One file.now)
 IsCommand (Some (asked.Run edition)) meant = meant ≡ Some (line.Run (edition_told edition))
+IsCommand (Some (asked.Drill drill)) meant = meant ≡ Some (drill_told drill)
 
 -- the code's edition is this one
 abbrev pub IsEdition : Option Edition → Option line.Edition → Type 0
 IsEdition None meant = meant ≡ None
 IsEdition (Some edition) meant = meant ≡ Some (edition_told edition)
+
+-- the code's drill is this command
+abbrev pub IsDrill : Option Drill → Option line.Command → Type 0
+IsDrill None meant = meant ≡ None
+IsDrill (Some drill) meant = meant ≡ Some (drill_told drill)
 
 -- ---- `one`
 
@@ -90,8 +108,10 @@ OneAnswered file shelf out (Ok status) =
 OneAnswered file shelf out (Err refusals.Words) = ⊥
 OneAnswered file shelf out (Err refusals.LongPlan) = ⊥
 OneAnswered file shelf out (Err (refusals.Plan fault)) = ⊥
-OneAnswered file shelf out (Err (refusals.File fault)) = OneMeets file shelf (meant.Faulty fault) × IsSilent out
-OneAnswered file shelf out (Err (refusals.Shelf path)) = OneMeets file shelf (meant.NotLoaded path) × IsSilent out
+OneAnswered file shelf out (Err (refusals.File fault)) =
+    OneMeets file shelf (meant.Faulty fault) × IsSilent out
+OneAnswered file shelf out (Err (refusals.Shelf path)) =
+    OneMeets file shelf (meant.NotLoaded path) × IsSilent out
 OneAnswered file shelf out (Err refusals.Memory) = (out.given' ≡ out.given) ⊎ OnePart file shelf out
 OneAnswered file shelf out (Err refusals.Printing) = OnePart file shelf out × PutFailed out
 
@@ -156,6 +176,20 @@ module _ {R : Type 0} (g : Ghosts R) where
   RunAnswered edition shelf racks racks' out (Err refusals.Printing) =
       RunsPart g edition shelf.held racks racks' out × PutFailed out
 
+-- ---- `drill`
+
+-- what `drill` leaves of the output
+abbrev pub DrillAnswered : ℕ → SinkSeen → Result ℕ Refusal → Type 0
+DrillAnswered number out (Ok status) = (status ≡ 0) × Grew out.given out.given' (drill_text number)
+DrillAnswered number out (Err refusals.Words) = ⊥
+DrillAnswered number out (Err refusals.LongPlan) = ⊥
+DrillAnswered number out (Err (refusals.Plan fault)) = ⊥
+DrillAnswered number out (Err (refusals.File fault)) = ⊥
+DrillAnswered number out (Err (refusals.Shelf path)) = ⊥
+DrillAnswered number out (Err refusals.Memory) = GrewByPrefix out.given out.given' (drill_text number)
+DrillAnswered number out (Err refusals.Printing) =
+    GrewByPrefix out.given out.given' (drill_text number) × PutFailed out
+
 -- ---- all commands
 
 module _ {R : Type 0} (g : Ghosts R) where
@@ -182,7 +216,8 @@ own_line (refusals.Shelf path) = meant.line_of (meant.NotLoaded path)
 own_line refusals.Memory = []
 own_line refusals.Printing = []
 
--- how a line with a status of its own is told: whole, or a front of it where the note failed or memory was wanted
+-- how a line with a status of its own is told: whole, or a front of it where the note failed or memory was
+-- wanted
 abbrev pub TellsLine : ℕ → List ℕ → SinkSeen → ℕ → Type 0
 TellsLine own line note status =
     ((status ≡ own) × Grew note.given note.given' line)

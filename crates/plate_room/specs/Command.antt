@@ -3,8 +3,8 @@ use Rattle.std.specs.Prelude.{ℕ, if◌then◌else◌, ◌&&◌, not, ◌==◌,
 use Rattle.std.specs.Cmp.Lexicographic.{pointwise}
 use Rattle.plate_room.specs.Number.{number_within}
 
--- an edition to be run: its plan, the folder of its files, the folder of its plates, the places of the ring, and the
--- patience of a turn
+-- an edition to be run: its plan, the folder of its files, the folder of its plates, the places of the
+-- ring, and the patience of a turn
 pub record Edition : Type 0 where
   pub plan : List ℕ
   pub files : List ℕ
@@ -18,6 +18,8 @@ pub data Command : Type 0 where
   One : List ℕ → Command
   -- the plates of all sites of an edition
   Run : Edition → Command
+  -- the plates of the generated job with this number, over a ring of so many places and with this patience
+  Drill : ℕ → ℕ → ℕ → Command
 
 -- the word isn't empty
 abbrev pub is_given : List ℕ → Bool
@@ -29,7 +31,8 @@ one_of [] = None
 one_of (file ∷ []) = if is_given file then Some (One file) else None
 one_of (file ∷ word ∷ words) = None
 
--- the last words of a run: the places of the ring and the patience, 64 and 1024 where they aren't told
+-- the last words of a run or a drill: the places of the ring and the patience, 64 and 1024 where they
+-- aren't told
 abbrev pub numbers_of : List (List ℕ) → Option (ℕ × ℕ)
 numbers_of [] = Some (64, 1024)
 numbers_of (ring ∷ []) = option_map (λ places. (places, 1024)) (number_within 1 1024 ring)
@@ -49,8 +52,16 @@ edition_of [] = None
 edition_of (plan ∷ []) = None
 edition_of (plan ∷ files ∷ []) = None
 edition_of (plan ∷ files ∷ out ∷ numbers) =
-    if is_given plan && is_given files && is_given out then option_map (edition_with plan files out) (numbers_of numbers)
+    if is_given plan && is_given files && is_given out
+    then option_map (edition_with plan files out) (numbers_of numbers)
     else None
+
+-- the words behind `drill`: the number of a job, and numbers
+abbrev pub drill_of : List (List ℕ) → Option Command
+drill_of [] = None
+drill_of (number ∷ numbers) =
+    option_and_then (λ n. option_map (λ turns. Drill n turns.0 turns.1) (numbers_of numbers))
+    (number_within 0 4294967295 number)
 
 -- the command that these words are, if they are one
 unfoldable pub command_of : List (List ℕ) → Option Command
@@ -58,7 +69,15 @@ command_of [] = None
 command_of (name ∷ words) =
     if pointwise nat_eq name (codes "one") then one_of words
     else if pointwise nat_eq name (codes "run") then option_map Run (edition_of words)
+    else if pointwise nat_eq name (codes "drill") then drill_of words
     else None
+
+-- a command is a drill
+abbrev pub IsDrill : Option Command → Type 0
+IsDrill None = ⊥
+IsDrill (Some (One file)) = ⊥
+IsDrill (Some (Run edition)) = ⊥
+IsDrill (Some (Drill number ring patience)) = Unit {0}
 
 -- the bytes of each word
 abbrev pub words_of : {Z : Type 0} → List (String Z) → List (List ℕ)

@@ -1,4 +1,5 @@
--- What a command made: a finished one of the output and the racks, and what of it one that was cut short left.
+-- What a command made: a finished one of the output and the racks, and what of it one that was cut short
+-- left.
 use Rattle.std.specs.Prelude.{◌≡◌, ◌≤◌, ℕ, ◌⊎◌, List, length, drop, Option, Some, None, IfSome, Ok}
 use Rattle.pr_ports.specs.Sink.{Grew, GrewByPrefix}
 use Rattle.pr_rack.specs.declared.rack.Rack.{Ghosts}
@@ -7,12 +8,13 @@ use Rattle.tif_image.specs.Image.{contone_shape}
 use Rattle.press_feed.specs.Job.{JobData}
 use Rattle.press_feed.specs.Rows.{plate_rows}
 use Rattle.press_feed.specs.Verdict.{files_in, verdict_on_files}
-use Rattle.plate_room.specs.Command.{Command, Edition, One, Run, command_of}
+use Rattle.plate_room.specs.Command.{Command, Drill, Edition, One, Run, command_of}
 use Rattle.plate_room.specs.One.{black_plate}
+use Rattle.plate_room.specs.Drill.{drill_text}
 use Rattle.plate_room.specs.Verdict.{file_limit}
 use Rattle.plate_room.specs.Met.{IsLoaded, IsPlanned}
 use Rattle.plate_room.specs.Seen.{Files, SinkSeen}
-use Rattle.plate_room.specs.Fits.{Delivery, RackTells, RunFits, RunPart, by_deck, rack_told, racks_told}
+use Rattle.plate_room.specs.Fits.{Delivery, RackTells, RunFits, RunPart, by_ring, rack_told, racks_told}
 use Rattle.plate_room.specs.Report.{report_of, status_of_ends}
 use Rattle.plate_room.specs.declared.site_end.SiteEnd.{SiteEnd}
 
@@ -24,7 +26,8 @@ pub record IsImage (held : Option Files) (file bytes : List ℕ) (shape : Shape)
   pub passed : contone_shape bytes ≡ Ok shape
 
 -- the output took the whole black plate of the file, and the racks are as they were
-pub record PrintsOne {R : Type 0} (file : List ℕ) (held : Option Files) (racks racks' : List R) (out : SinkSeen)
+pub record PrintsOne {R : Type 0} (file : List ℕ) (held : Option Files) (racks racks' : List R)
+    (out : SinkSeen)
     (status : ℕ) : Type 0 where
   pub bytes : List ℕ
   pub shape : Shape
@@ -34,12 +37,28 @@ pub record PrintsOne {R : Type 0} (file : List ℕ) (held : Option Files) (racks
   pub zero : status ≡ 0
 
 -- the output took a front of it
-pub record PrintsPart {R : Type 0} (file : List ℕ) (held : Option Files) (racks racks' : List R) (out : SinkSeen)
+pub record PrintsPart {R : Type 0} (file : List ℕ) (held : Option Files) (racks racks' : List R)
+    (out : SinkSeen)
     : Type 0 where
   pub bytes : List ℕ
   pub shape : Shape
   pub image : IsImage held file bytes shape
   pub grew : GrewByPrefix out.given out.given' (black_plate shape bytes)
+  pub stay : racks' ≡ racks
+
+-- ---- `drill`
+
+-- the output took the whole text of the drill of a number, and the racks are as they were
+pub record PrintsDrill {R : Type 0} (number : ℕ) (racks racks' : List R) (out : SinkSeen) (status : ℕ)
+    : Type 0 where
+  pub grew : Grew out.given out.given' (drill_text number)
+  pub stay : racks' ≡ racks
+  pub zero : status ≡ 0
+
+-- the output took a front of it
+pub record PrintsDrillPart {R : Type 0} (number : ℕ) (racks racks' : List R) (out : SinkSeen)
+    : Type 0 where
+  pub grew : GrewByPrefix out.given out.given' (drill_text number)
   pub stay : racks' ≡ racks
 
 -- ---- `run`
@@ -52,7 +71,7 @@ pub record IsPrepared (held : Option Files) (edition : Edition) (job : JobData) 
 
 -- what the run of a job delivers
 abbrev pub delivery_of : Edition → JobData → Delivery
-delivery_of edition job = by_deck job.plan (plate_rows job.plan job.files) edition.out
+delivery_of edition job = by_ring job.plan (plate_rows job.plan job.files) edition.out edition.ring
 
 module _ {R : Type 0} (g : Ghosts R) where
   -- what a rack tells
@@ -64,20 +83,23 @@ module _ {R : Type 0} (g : Ghosts R) where
   tellings racks = racks_told g.finished g.working g.begun g.taken g.missed g.faults racks
 
   -- each site's end fits what its rack has more, and the racks past the last site are as they were
-  pub record Delivers (edition : Edition) (job : JobData) (racks racks' : List R) (ends : List SiteEnd) : Type 0 where
+  pub record Delivers (edition : Edition) (job : JobData) (racks racks' : List R) (ends : List SiteEnd)
+      : Type 0 where
     pub enough : length job.plan.sites ≤ length racks
     pub kept : length racks' ≡ length racks
     pub fits : RunFits (delivery_of edition job) (tellings racks) (tellings racks') ends
     pub others : drop (length job.plan.sites) racks' ≡ drop (length job.plan.sites) racks
 
-  -- memory was wanted: each rack has the first of its site's files and rows more, and the others are as they were
+  -- memory was wanted: each rack has the first of its site's files and rows more, and the others are as
+  -- they were
   pub record DeliversPart (edition : Edition) (job : JobData) (racks racks' : List R) : Type 0 where
     pub part : RunPart (delivery_of edition job) (tellings racks) (tellings racks')
     pub others : drop (length job.plan.sites) racks' ≡ drop (length job.plan.sites) racks
 
-  -- the racks took what the sites' ends say, and the output the whole report of them; the status is 0 where every site
-  -- finished
-  pub record ReportsJob (edition : Edition) (job : JobData) (racks racks' : List R) (out : SinkSeen) (status : ℕ)
+  -- the racks took what the sites' ends say, and the output the whole report of them; the status is 0 where
+  -- every site finished
+  pub record ReportsJob (edition : Edition) (job : JobData) (racks racks' : List R) (out : SinkSeen)
+      (status : ℕ)
       : Type 0 where
     pub ends : List SiteEnd
     pub delivers : Delivers edition job racks racks' ends
@@ -85,7 +107,8 @@ module _ {R : Type 0} (g : Ghosts R) where
     pub is : status ≡ status_of_ends ends
 
   -- the output took a front of the report
-  pub record ReportsFront (edition : Edition) (job : JobData) (racks racks' : List R) (out : SinkSeen) : Type 0 where
+  pub record ReportsFront (edition : Edition) (job : JobData) (racks racks' : List R) (out : SinkSeen)
+      : Type 0 where
     pub ends : List SiteEnd
     pub delivers : Delivers edition job racks racks' ends
     pub grew : GrewByPrefix out.given out.given' (report_of job.plan ends)
@@ -93,17 +116,20 @@ module _ {R : Type 0} (g : Ghosts R) where
   -- want of memory ended the run before its report, or in it
   abbrev pub RunsFront : Edition → JobData → List R → List R → SinkSeen → Type 0
   RunsFront edition job racks racks' out =
-      (DeliversPart edition job racks racks' × (out.given' ≡ out.given)) ⊎ ReportsFront edition job racks racks' out
+      (DeliversPart edition job racks racks' × (out.given' ≡ out.given))
+      ⊎ ReportsFront edition job racks racks' out
 
   -- the edition was prepared, and its run is done
-  pub record Runs (edition : Edition) (held : Option Files) (racks racks' : List R) (out : SinkSeen) (status : ℕ)
+  pub record Runs (edition : Edition) (held : Option Files) (racks racks' : List R) (out : SinkSeen)
+      (status : ℕ)
       : Type 0 where
     pub job : JobData
     pub prepared : IsPrepared held edition job
     pub reports : ReportsJob edition job racks racks' out status
 
   -- the edition was prepared, and its run was cut short
-  pub record RunsPart (edition : Edition) (held : Option Files) (racks racks' : List R) (out : SinkSeen) : Type 0 where
+  pub record RunsPart (edition : Edition) (held : Option Files) (racks racks' : List R) (out : SinkSeen)
+      : Type 0 where
     pub job : JobData
     pub prepared : IsPrepared held edition job
     pub front : RunsFront edition job racks racks' out
@@ -114,11 +140,13 @@ module _ {R : Type 0} (g : Ghosts R) where
   abbrev pub Makes : Command → Option Files → List R → List R → SinkSeen → ℕ → Type 0
   Makes (One file) held racks racks' out status = PrintsOne file held racks racks' out status
   Makes (Run edition) held racks racks' out status = Runs edition held racks racks' out status
+  Makes (Drill number ring patience) held racks racks' out status = PrintsDrill number racks racks' out status
 
   -- what a command that was cut short made
   abbrev pub MakesPart : Command → Option Files → List R → List R → SinkSeen → Type 0
   MakesPart (One file) held racks racks' out = PrintsPart file held racks racks' out
   MakesPart (Run edition) held racks racks' out = RunsPart edition held racks racks' out
+  MakesPart (Drill number ring patience) held racks racks' out = PrintsDrillPart number racks racks' out
 
   -- the words are a command, which finished with this status
   pub record IsDone (words : List (List ℕ)) (held : Option Files) (racks racks' : List R) (out : SinkSeen)

@@ -47,7 +47,8 @@ pub record TellsVerdict (words : List (List ℕ)) (files : Files) (note : SinkSe
 
 -- a line that a command which was cut short may have begun to tell: that of the refusal that it met, or none
 abbrev pub MayTell : List (List ℕ) → ShelfSeen → List ℕ → Type 0
-MayTell words shelf line = (line ≡ []) ⊎ ((refusal : Refusal) × Meets words shelf refusal × (line ≡ line_of refusal))
+MayTell words shelf line =
+    (line ≡ []) ⊎ ((refusal : Refusal) × Meets words shelf refusal × (line ≡ line_of refusal))
 
 -- the note took a front of such a line, and then a front of the line on memory
 abbrev pub TellsOfMemory : List (List ℕ) → ShelfSeen → SinkSeen → Type 0
@@ -56,4 +57,5 @@ TellsOfMemory words shelf note =
 
 -- the note took a front of such a line
 abbrev pub TellsPart : List (List ℕ) → ShelfSeen → SinkSeen → Type 0
-TellsPart words shelf note = (line : List ℕ) × MayTell words shelf line × GrewByPrefix note.given note.given' line
+TellsPart words shelf note =
+    (line : List ℕ) × MayTell words shelf line × GrewByPrefix note.given note.given' line

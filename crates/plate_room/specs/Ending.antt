@@ -49,6 +49,8 @@ module _ {R : Type 0} (g : Ghosts R) where
     NotNoted : (refusal : Refusal) → status ≡ 7 → IsStopped seen refusal → PutFailed note
         → GrewByPrefix note.given note.given' (line_of refusal) → Ending seen note status
     -- memory was wanted
-    Wanted : status ≡ 6 → IsBroken seen → GrewByPrefix note.given note.given' memory_line → Ending seen note status
+    Wanted : status ≡ 6 → IsBroken seen → GrewByPrefix note.given note.given' memory_line
+        → Ending seen note status
     -- the output failed
-    NotPrinted : status ≡ 7 → IsBroken seen → PutFailed seen.out → note.given' ≡ note.given → Ending seen note status
+    NotPrinted : status ≡ 7 → IsBroken seen → PutFailed seen.out → note.given' ≡ note.given
+        → Ending seen note status

@@ -1,9 +1,9 @@
 -- What a run leaves on the racks of its sites, by what each of them told before and tells now.
-use Rattle.std.specs.Prelude.{◌≡◌, ℕ, ◌<◌, ◌≤◌, Bool, false, List, length, map, take, count_by, Option, Some, IfSome, slice_get}
+use Rattle.std.specs.Prelude.{◌≡◌, ℕ, ◌<◌, ◌≤◌, Bool, false, List, length, map, take, count_by, Option, Some, IfSome, is_some, slice_get}
 use Rattle.std.specs.List.{range_with_len}
 use Rattle.pr_base.specs.Count.{Rose}
 use Rattle.ring_lanes.specs.declared.source.Source.{Source}
-use Rattle.ring_lanes.specs.declared.source.Source.TheVariants.{Deck}
+use Rattle.ring_lanes.specs.declared.source.Source.TheVariants.{Ring}
 use Rattle.pr_rack.specs.Rack.{Plate, Slots, none_begun}
 use Rattle.plan_json.specs.Data.{PlanData}
 use Rattle.plan_rows.specs.Plates.{site_plates, site_files}
@@ -41,17 +41,22 @@ racks_told finished working begun taken missed faults racks =
 
 -- ---- a run
 
--- what a run is to deliver: all rows of a plan, to sites that take them from these sources, as plates with paths
--- below the folder `out`
+-- what a run is to deliver: all rows of a plan, to sites that take them from these sources, as plates with
+-- paths below the folder `out`
 pub record Delivery : Type 0 where
   pub plan : PlanData
   pub rows : List (List ℕ)
   pub out : List ℕ
   pub source : ℕ → Source
 
--- the same by a deck
-abbrev pub by_deck : PlanData → List (List ℕ) → List ℕ → Delivery
-by_deck plan rows out = record { plan = plan; rows = rows; out = out; source = λ site. Deck }
+-- the same by a ring of so many places, which has a reader for each site, with its number
+abbrev pub by_ring : PlanData → List (List ℕ) → List ℕ → ℕ → Delivery
+by_ring plan rows out ring = record {
+  plan = plan;
+  rows = rows;
+  out = out;
+  source = λ site. Ring site (length plan.sites) ring;
+}
 
 -- the files of a site in order
 abbrev pub files_for : Delivery → ℕ → List Plate
@@ -67,8 +72,8 @@ kept_rows plan site = count_by (keeps_row plan site) (range_with_len 0 (length (
 
 -- ---- the end of a site
 
--- a site that finished with so many plates and rows: its rack has all its files and all its rows more, and no slot
--- of it is begun
+-- a site that finished with so many plates and rows: its rack has all its files and all its rows more, and
+-- no slot of it is begun
 pub record FitsFinished (delivery : Delivery) (site : ℕ) (before now : RackTells) (plates rows' : ℕ)
     : Type 0 where
   pub plates_are : plates ≡ length (site_plates delivery.plan site)
@@ -85,8 +90,8 @@ files_by delivery site cause = take cause.plates (files_for delivery site)
 abbrev pub drawn_by : Delivery → ℕ → LeftCause → List (ℕ × Source)
 drawn_by delivery site cause = rows_up_to cause.row cause.call (drawn_for delivery site)
 
--- a site that left: its rack has the files more that were finished by then, and the rows up to the one that it left
--- at; and it left since a call failed, which is the last that failed
+-- a site that left: its rack has the files more that were finished by then, and the rows up to the one that
+-- it left at; and it left since a call failed, which is the last that failed
 pub record FitsCause (delivery : Delivery) (site : ℕ) (before now : RackTells) (cause : LeftCause)
     : Type 0 where
   pub cause_fits : FitsLeft delivery.plan delivery.rows delivery.out site cause (files_by delivery site cause)
@@ -101,7 +106,8 @@ FitsEnd delivery site before now (Finished plates rows') =
     FitsFinished delivery site before now plates rows'
 FitsEnd delivery site before now (Left cause) = FitsCause delivery site before now cause
 
--- a site of a run that want of memory ended: its rack has the first of its files more, and the first of its rows
+-- a site of a run that want of memory ended: its rack has the first of its files more, and the first of its
+-- rows
 pub record FitsPart (delivery : Delivery) (site : ℕ) (before now : RackTells) : Type 0 where
   pub files : ℕ
   pub rows' : ℕ
@@ -130,3 +136,11 @@ pub record KeepCounts (before now : List RackTells) : Type 0 where
 pub record AreIdle (count : ℕ) (racks : List RackTells) : Type 0 where
   pub each : (site : ℕ) (told : RackTells) → site < count → slice_get racks site ≡ Some told
       → told.tells.begun ≡ none_begun
+
+-- a rack tells of its slots what it tells of the begun ones
+abbrev pub TellsSlots : RackTells → Type 0
+TellsSlots told = IfSome told.tells.working (λ slots. told.tells.begun ≡ map is_some slots)
+
+-- each of the racks does
+abbrev pub AllTellSlots : List RackTells → Type 0
+AllTellSlots racks = (site : ℕ) (told : RackTells) → slice_get racks site ≡ Some told → TellsSlots told

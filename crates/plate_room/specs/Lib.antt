@@ -8,9 +8,14 @@ pub mod Verdict
 pub mod Met
 pub mod Fits
 pub mod Report
+pub mod Drill
 pub mod Done
 pub mod End
 pub mod Answer
 pub mod Room
 pub mod Ending
 pub mod Served
+pub mod Seat
+pub mod Feeding
+pub mod Round
+pub mod Pairs

@@ -10,7 +10,7 @@ use Rattle.plan_json.specs.Data.{PlanData}
 use Rattle.plan_json.specs.PlanOf.{plan_of}
 use Rattle.press_feed.specs.declared.refusal.Refusal.TheVariants as refused
 use Rattle.press_feed.specs.Verdict.{verdict_on_files, IsMissing}
-use Rattle.plate_room.specs.Command.{Command, Edition, One, Run, command_of}
+use Rattle.plate_room.specs.Command.{Command, Drill, Edition, One, Run, command_of}
 use Rattle.plate_room.specs.Refusal.{Refusal, NoCommand, LongPlan, BadPlan, Faulty, NotLoaded}
 use Rattle.plate_room.specs.Verdict.{file_limit, named, plan_limit, too_long}
 use Rattle.plate_room.specs.Seen.{Files, ShelfSeen, IsUntouched}
@@ -49,13 +49,14 @@ pub record IsPlanned (held : Option Files) (edition : Edition) (plan : PlanData)
   pub loaded : IsLoaded held plan_limit edition.plan bytes
   pub read : plan_of bytes ≡ Ok plan
 
--- and has a file with this fault, which is the first thing that is wrong with its files, where told; a file is too long
--- only where the shelf counted that
+-- and has a file with this fault, which is the first thing that is wrong with its files, where told; a file
+-- is too long only where the shelf counted that
 pub record HasBadFile (shelf : ShelfSeen) (edition : Edition) (fault : FileFault) : Type 0 where
   pub plan : PlanData
   pub planned : IsPlanned shelf.held edition plan
   pub named' : Contains plan.files fault.file
-  pub verdict : IfSome shelf.held (λ files. verdict_on_files plan edition.files files ≡ Some (refused.File fault))
+  pub verdict : IfSome shelf.held (λ files.
+      verdict_on_files plan edition.files files ≡ Some (refused.File fault))
   pub long : fault.kind ≡ TooLong → Rose shelf.longs shelf.longs'
 
 -- what wasn't loaded is the plan, or one of its files, with nothing wrong before it, where told
@@ -67,7 +68,8 @@ IsPathOf held edition path =
 -- `run` of an edition meets this refusal
 abbrev pub RunMeets : Edition → ShelfSeen → Refusal → Type 0
 RunMeets edition shelf NoCommand = ⊥
-RunMeets edition shelf LongPlan = IsLongerAt shelf.held edition.plan plan_limit × Rose shelf.longs shelf.longs'
+RunMeets edition shelf LongPlan =
+    IsLongerAt shelf.held edition.plan plan_limit × Rose shelf.longs shelf.longs'
 RunMeets edition shelf (BadPlan fault) =
     (bytes : List ℕ) × IsLoaded shelf.held plan_limit edition.plan bytes × (plan_of bytes ≡ Err fault)
 RunMeets edition shelf (Faulty fault) = HasBadFile shelf edition fault
@@ -79,6 +81,7 @@ RunMeets edition shelf (NotLoaded path) = IsPathOf shelf.held edition path × Ha
 abbrev pub CommandMeets : Command → ShelfSeen → Refusal → Type 0
 CommandMeets (One file) shelf refusal = OneMeets file shelf refusal
 CommandMeets (Run edition) shelf refusal = RunMeets edition shelf refusal
+CommandMeets (Drill number ring patience) shelf refusal = ⊥
 
 -- words meet this refusal: they are no command, and nothing is loaded, or they are one that meets it
 abbrev pub Meets : List (List ℕ) → ShelfSeen → Refusal → Type 0

@@ -9,7 +9,8 @@ use Rattle.tif_plate.specs.Plate.{plate_file}
 
 -- row y: the tile bits of the black samples under the Bayer tile of side 4
 abbrev pub black_row : Shape → List ℕ → ℕ → List ℕ
-black_row shape bytes y = packed_row shape.width (λ x. tile_bit (sample_at shape bytes x y 3) (threshold_at 4 x y))
+black_row shape bytes y =
+    packed_row shape.width (λ x. tile_bit (sample_at shape bytes x y 3) (threshold_at 4 x y))
 
 -- all rows from the top
 abbrev pub black_rows : Shape → List ℕ → List (List ℕ)

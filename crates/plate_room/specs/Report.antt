@@ -17,9 +17,11 @@ call_word Finish = codes "finish"
 -- the line of a site
 abbrev pub site_line : SiteData → SiteEnd → List ℕ
 site_line site (Finished plates rows) =
-    codes "site " ++ site.name ++ codes " finished plates " ++ decimal plates ++ codes " rows " ++ decimal rows ++ codes "\n"
+    codes "site " ++ site.name ++ codes " finished plates " ++ decimal plates
+    ++ codes " rows " ++ decimal rows ++ codes "\n"
 site_line site (Left cause) =
-    codes "site " ++ site.name ++ codes " left plates " ++ decimal cause.plates ++ codes " row " ++ decimal cause.row
+    codes "site " ++ site.name ++ codes " left plates " ++ decimal cause.plates
+    ++ codes " row " ++ decimal cause.row
     ++ codes " call " ++ call_word cause.call ++ codes " file " ++ cause.path ++ codes "\n"
 
 -- the lines of the sites with these ends, in order

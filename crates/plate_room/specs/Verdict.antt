@@ -12,7 +12,7 @@ use Rattle.plan_json.specs.PlanOf.{plan_of}
 use Rattle.press_feed.specs.declared.refusal.Refusal as filed
 use Rattle.press_feed.specs.declared.refusal.Refusal.TheVariants as refused
 use Rattle.press_feed.specs.Verdict.{verdict_on_files}
-use Rattle.plate_room.specs.Command.{Command, Edition, One, Run, command_of}
+use Rattle.plate_room.specs.Command.{Command, Drill, Edition, One, Run, command_of}
 use Rattle.plate_room.specs.Refusal.{Refusal, NoCommand, LongPlan, BadPlan, Faulty, NotLoaded}
 use Rattle.plate_room.specs.Seen.{Files}
 
@@ -39,7 +39,8 @@ judged file (Err fault) = Some (Faulty (named file fault))
 abbrev pub verdict_on : List ℕ → Option (List ℕ) → Option Refusal
 verdict_on file None = Some (NotLoaded file)
 verdict_on file (Some bytes) =
-    if nat_lt file_limit (length bytes) then Some (Faulty (named file too_long)) else judged file (contone_shape bytes)
+    if nat_lt file_limit (length bytes) then Some (Faulty (named file too_long))
+    else judged file (contone_shape bytes)
 
 -- ---- `run`
 
@@ -67,11 +68,12 @@ verdict_on_run edition files (Some bytes) =
 
 -- ---- all commands
 
--- the verdict on a command: its refusal, or none
+-- the verdict on a command: its refusal, or none. A drill loads nothing that is handed in.
 abbrev pub verdict_for : Option Command → Files → Option Refusal
 verdict_for None files = Some NoCommand
 verdict_for (Some (One file)) files = verdict_on file (held_at files file)
 verdict_for (Some (Run edition)) files = verdict_on_run edition files (held_at files edition.plan)
+verdict_for (Some (Drill number ring patience)) files = None
 
 -- the verdict on a command line
 abbrev pub verdict_of : List (List ℕ) → Files → Option Refusal

@@ -1,19 +1,22 @@
 // Doing a command.
-ghost use Rattle.plate_room.specs.Command.{words_of};
+ghost use Rattle.plate_room.specs.Command.{IsDrill, command_of as meant, words_of};
 ghost use Rattle.plate_room.specs.Answer.{Answered};
 ghost use Rattle.plate_room.specs.Seen.{AreIdle, shelf_seen, sink_seen};
 ghost use Rattle.std.specs.Prelude.{◌≡◌, ◌≤◌, length};
 
 use crate::command::{Command, command_of};
+use crate::drill::print_drill;
 use crate::edition::run_edition;
 use crate::note::Refusal;
 use crate::one::print_one;
 use pr_ports::{Shelf, Sink};
 use pr_rack::Rack;
 use std::alloc::Global;
+use std::thread::Threads;
 
 /// Does what the words ask for, and answers the status of what was done.
-pub(crate) fn answer<H: Shelf, R: Rack + Send, S: Sink>(
+pub(crate) fn answer<T: Threads + Sync, H: Shelf, R: Rack + Send, S: Sink>(
+    rt: &T,
     alloc: Global,
     words: &[String],
     shelf: &mut H,
@@ -30,10 +33,13 @@ pub(crate) fn answer<H: Shelf, R: Rack + Send, S: Sink>(
       out = sink_seen S.Sink out.old out.new;
     }) result }
     ensures held { H.held shelf.new ≡ H.held shelf.old }
+    ensures drill_shelf { IsDrill (meant (words_of words.now)) → shelf.new ≡ shelf.old }
+    ensures drill_racks { IsDrill (meant (words_of words.now)) → racks.new ≡ racks.old }
 {
     match command_of(words) {
         Some(Command::One { file }) => print_one(alloc, file, shelf, out),
-        Some(Command::Run(edition)) => run_edition(alloc, edition, shelf, racks, out),
+        Some(Command::Run(edition)) => run_edition(rt, alloc, edition, shelf, racks, out),
+        Some(Command::Drill(drill)) => print_drill(rt, alloc, drill, out),
         None => Err(Refusal::Words),
     }
 }

@@ -24,7 +24,8 @@ pub(crate) fn screen_black(tile: &AnyTile, y: u32, pixels: &[u8], black: &mut [u
     requires pixels { length pixels.now ≡ 4 * length black.old }
     requires bits { length bits.old ≡ row_size (length black.old) }
     requires padding { (x : ℕ) → length black.old ≤ x → bit_at bits.old x ≡ false }
-    ensures row { bits.new ≡ packed_row (length black.old) (λ x. tile_bit (slice_index pixels.now (4 * x + 3)) (threshold_at 4 x y)) }
+    ensures row { bits.new ≡ packed_row (length black.old)
+        (λ x. tile_bit (slice_index pixels.now (4 * x + 3)) (threshold_at 4 x y)) }
     ensures padding { (x : ℕ) → length black.old ≤ x → bit_at bits.new x ≡ false }
 {
     take_black(pixels, black);

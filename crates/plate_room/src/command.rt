@@ -1,8 +1,8 @@
 // The words of a command line.
 ghost use Rattle.std.specs.Prelude.{◌≡◌, IfSome};
 ghost use Rattle.plan_json.specs.Plan.{IsWithin};
-ghost use Rattle.plate_room.specs.Command.{command_of as meant, edition_of as edition_meant, numbers_of as numbers_meant, one_of as one_meant, words_of};
-ghost use Rattle.plate_room.specs.Answer.{HasNumbers, IfRun, IsCommand, IsEdition};
+ghost use Rattle.plate_room.specs.Command.{command_of as meant, drill_of as drill_meant, edition_of as edition_meant, numbers_of as numbers_meant, one_of as one_meant, words_of};
+ghost use Rattle.plate_room.specs.Answer.{HasNumbers, HasTurns, IfRun, IsCommand, IsDrill, IsEdition};
 
 use crate::number::number_within;
 
@@ -21,6 +21,17 @@ pub(crate) struct Edition<'a> {
     pub(crate) patience: u32,
 }
 
+/// A generated job to be run in memory.
+#[derive(Clone, Copy)]
+pub(crate) struct Drill {
+    /// The number of the job.
+    pub(crate) number: u32,
+    /// Places of the ring, 1 to 1024.
+    pub(crate) ring: u32,
+    /// How often a turn looks for a row in vain, 1 to 65,536.
+    pub(crate) patience: u32,
+}
+
 /// What the words ask for.
 #[derive(Clone, Copy)]
 pub(crate) enum Command<'a> {
@@ -28,6 +39,8 @@ pub(crate) enum Command<'a> {
     One { file: &'a str },
     /// `run PLAN FILES OUT [RING [PATIENCE]]`: the plates of all sites of an edition.
     Run(Edition<'a>),
+    /// `drill N [RING [PATIENCE]]`: the report of a generated job, and the dots on its plates.
+    Drill(Drill),
 }
 
 const RING: u32 = 64;
@@ -51,6 +64,10 @@ pub(crate) fn command_of(words: &[String]) -> Option<Command<'_>>
         "one" => one_of(words),
         "run" => match edition_of(words) {
             Some(edition) => Some(Command::Run(edition)),
+            None => None,
+        },
+        "drill" => match drill_of(words) {
+            Some(drill) => Some(Command::Drill(drill)),
             None => None,
         },
         _ => None,
@@ -91,7 +108,24 @@ fn edition_of(words: &[String]) -> Option<Edition<'_>>
     })
 }
 
-/// The last words of a run: the places of the ring and the patience.
+/// The words behind `drill`.
+fn drill_of(words: &[String]) -> Option<Drill>
+    ensures meant { IsDrill result (drill_meant (words_of words.now)) }
+    ensures within { IfSome result HasTurns }
+{
+    let [number, numbers @ ..] = words else {
+        return None;
+    };
+    let number = number_within(number.as_str(), 0, u32::MAX)?;
+    let (ring, patience) = numbers_of(numbers)?;
+    Some(Drill {
+        number,
+        ring,
+        patience,
+    })
+}
+
+/// The last words of a run or a drill: the places of the ring and the patience.
 fn numbers_of(words: &[String]) -> Option<(u32, u32)>
     ensures meant { result ≡ numbers_meant (words_of words.now) }
     ensures ring { IfSome result (λ numbers. IsWithin 1 1024 numbers.0) }

@@ -18,6 +18,7 @@ use pr_ports::{LoadFault, Shelf, Sink, SinkFault};
 use pr_rack::Rack;
 use press_feed::{Job, prepare};
 use std::alloc::Global;
+use std::thread::Threads;
 
 /// The bytes of a plan that are read at most.
 const PLAN_LIMIT: u64 = 16_777_216;
@@ -27,9 +28,10 @@ const FINISHED: u8 = 0;
 
 const LEFT: u8 = 1;
 
-/// Runs an edition: delivers the plates of its sites to the racks, and prints the report. It answers the status of what
-/// was done.
-pub(crate) fn run_edition<H: Shelf, R: Rack + Send, S: Sink>(
+/// Runs an edition: delivers the plates of its sites to the racks, and prints the report. It answers the
+/// status of what was done.
+pub(crate) fn run_edition<T: Threads + Sync, H: Shelf, R: Rack + Send, S: Sink>(
+    rt: &T,
     alloc: Global,
     edition: Edition<'_>,
     shelf: &mut H,
@@ -40,12 +42,13 @@ pub(crate) fn run_edition<H: Shelf, R: Rack + Send, S: Sink>(
     requires idle { AreIdle R.Rack racks.old }
     requires ring { IsWithin 1 1024 edition.ring }
     requires patience { IsWithin 1 65536 edition.patience }
-    ensures answered { RunAnswered R.Rack (edition_told edition.entry) (shelf_seen H.Shelf shelf.old shelf.new)
+    ensures answered { RunAnswered R.Rack (edition_told edition.entry)
+        (shelf_seen H.Shelf shelf.old shelf.new)
         racks.old racks.new (sink_seen S.Sink out.old out.new) result }
     ensures held { H.held shelf.new ≡ H.held shelf.old }
 {
     let job = prepare_edition(alloc, edition, shelf)?;
-    deliver(alloc, edition, &job, racks, out)
+    deliver(rt, alloc, edition, &job, racks, out)
 }
 
 /// Loads the plan of an edition and its files, and tests them all.
@@ -96,7 +99,8 @@ fn load_plan<H: Shelf>(alloc: Global, edition: Edition<'_>, shelf: &mut H) -> Re
 }
 
 /// Runs a job to the racks and prints the report.
-fn deliver<R: Rack + Send, S: Sink>(
+fn deliver<T: Threads + Sync, R: Rack + Send, S: Sink>(
+    rt: &T,
     alloc: Global,
     edition: Edition<'_>,
     job: &Job,
@@ -113,6 +117,7 @@ fn deliver<R: Rack + Send, S: Sink>(
     let plan = job.plan();
     let _files = plan.files();
     let Ok(outcome) = run_job(
+        rt,
         alloc,
         job,
         racks,

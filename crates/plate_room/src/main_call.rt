@@ -1,7 +1,7 @@
 // The top call.
 ghost use Rattle.std.specs.Prelude.{◌≡◌, ◌≤◌, ◌⊎◌, ◌<◌, ◌≢◌, ℕ, None, Some, IfSome, length, slice_index};
 ghost use Rattle.pr_rack.specs.Rack.{none_begun};
-ghost use Rattle.plate_room.specs.Command.{command_of, words_of};
+ghost use Rattle.plate_room.specs.Command.{IsDrill, command_of, words_of};
 ghost use Rattle.plate_room.specs.Done.{IsCut, IsDone};
 ghost use Rattle.plate_room.specs.End.{IsCutShort, IsDoneStatus, IsRefusal, IsStatus, Tells, TellsOfMemory, TellsPart, TellsVerdict};
 ghost use Rattle.plate_room.specs.Ending.{Ending};
@@ -14,9 +14,10 @@ use crate::note::tell;
 use pr_ports::{Shelf, Sink};
 use pr_rack::Rack;
 use std::alloc::Global;
+use std::thread::Threads;
 
-/// Does what the words of a command line ask for: loads files from `shelf`, keeps plates on `racks`, writes to `out`,
-/// and writes the line of a refusal to `note`. It answers the exit status.
+/// Does what the words of a command line ask for: loads files from `shelf`, keeps plates on `racks`, writes
+/// to `out`, and writes the line of a refusal to `note`. It answers the exit status.
 ///
 /// | status | when |
 /// |---|---|
@@ -28,7 +29,10 @@ use std::alloc::Global;
 /// | 5 | the shelf failed |
 /// | 6 | memory was wanted |
 /// | 7 | `out` or `note` failed |
-pub fn plate_main<H: Shelf, R: Rack + Send, S: Sink, E: Sink>(
+///
+/// A drill runs in memory of its own, so that statuses 1, 3, 4 and 5 never come of it.
+pub fn plate_main<T: Threads + Sync, H: Shelf, R: Rack + Send, S: Sink, E: Sink>(
+    rt: &T,
     alloc: Global,
     words: &[String],
     shelf: &mut H,
@@ -60,7 +64,8 @@ pub fn plate_main<H: Shelf, R: Rack + Send, S: Sink, E: Sink>(
         (shelf_seen H.Shelf shelf.old shelf.new) (sink_seen E.Sink note.old note.new) 5 }
     ensures words_note { result ≡ 2 → Tells (words_of words.now)
         (shelf_seen H.Shelf shelf.old shelf.new) (sink_seen E.Sink note.old note.new) 2 }
-    // Where files are told that is the verdict, a failed load aside; and the verdict is told where no load failed.
+    // Where files are told that is the verdict, a failed load aside; and the verdict is told where no load
+    // failed.
     ensures verdict { (files : Files) → H.held shelf.old ≡ Some files → IsRefusal result → result ≢ 5
         → TellsVerdict (words_of words.now) files (sink_seen E.Sink note.old note.new) result }
     ensures verdict_there { (files : Files) → H.held shelf.old ≡ Some files
@@ -76,7 +81,8 @@ pub fn plate_main<H: Shelf, R: Rack + Send, S: Sink, E: Sink>(
         → (LoadFailed (shelf_seen H.Shelf shelf.old shelf.new) → ⊥)
         → result ≡ 7 → PutFailed (sink_seen S.Sink out.old out.new) }
 
-    // What stands of the racks and the output: nothing is made before the verdict, nor of a command that is refused.
+    // What stands of the racks and the output: nothing is made before the verdict, nor of a command that is
+    // refused.
     ensures racks_stay { (files : Files) → H.held shelf.old ≡ Some files
         → (verdict_of (words_of words.now) files ≡ None → ⊥) → racks.new ≡ racks.old }
     ensures out_stays { (files : Files) → H.held shelf.old ≡ Some files
@@ -90,12 +96,18 @@ pub fn plate_main<H: Shelf, R: Rack + Send, S: Sink, E: Sink>(
     ensures printing_note { result ≡ 7 → TellsPart (words_of words.now)
         (shelf_seen H.Shelf shelf.old shelf.new) (sink_seen E.Sink note.old note.new) }
 
-    // What stands of the counts: nothing is loaded for words that are no command, and no load fails where all is done.
+    // What stands of the counts: nothing is loaded for words that are no command, and no load fails where
+    // all is done.
     ensures words_shelf { command_of (words_of words.now) ≡ None
         → IsUntouched (shelf_seen H.Shelf shelf.old shelf.new) }
     ensures done_missed { IsDoneStatus result → H.missed shelf.new ≡ H.missed shelf.old }
     ensures done_note_faults { IsDoneStatus result → E.faults note.new ≡ E.faults note.old }
     ensures refused_out_faults { IsRefusal result → S.faults out.new ≡ S.faults out.old }
+
+    // A drill is done, or cut short by want of memory or by a sink. It leaves shelf and racks alone.
+    ensures drill { IsDrill (command_of (words_of words.now)) → (result ≡ 0) ⊎ IsCutShort result }
+    ensures drill_shelf { IsDrill (command_of (words_of words.now)) → shelf.new ≡ shelf.old }
+    ensures drill_racks { IsDrill (command_of (words_of words.now)) → racks.new ≡ racks.old }
 
     // Where nothing is wrong and nothing fails, the command is done or memory was wanted.
     ensures complete { (files : Files) → H.held shelf.old ≡ Some files
@@ -106,11 +118,12 @@ pub fn plate_main<H: Shelf, R: Rack + Send, S: Sink, E: Sink>(
         → (PutFailed (sink_seen E.Sink note.old note.new) → ⊥)
         → (result ≡ 0) ⊎ (result ≡ 6) }
 {
-    run(alloc, words, shelf, racks, out, note)
+    run(rt, alloc, words, shelf, racks, out, note)
 }
 
 /// Does a command and tells of a refusal.
-fn run<H: Shelf, R: Rack + Send, S: Sink, E: Sink>(
+fn run<T: Threads + Sync, H: Shelf, R: Rack + Send, S: Sink, E: Sink>(
+    rt: &T,
     alloc: Global,
     words: &[String],
     shelf: &mut H,
@@ -128,8 +141,10 @@ fn run<H: Shelf, R: Rack + Send, S: Sink, E: Sink>(
       out = sink_seen S.Sink out.old out.new;
     }) (sink_seen E.Sink note.old note.new) result }
     ensures held { H.held shelf.new ≡ H.held shelf.old }
+    ensures drill_shelf { IsDrill (command_of (words_of words.now)) → shelf.new ≡ shelf.old }
+    ensures drill_racks { IsDrill (command_of (words_of words.now)) → racks.new ≡ racks.old }
 {
-    match answer(alloc, words, shelf, racks, out) {
+    match answer(rt, alloc, words, shelf, racks, out) {
         Ok(status) => status,
         Err(refusal) => tell(alloc, &refusal, note),
     }

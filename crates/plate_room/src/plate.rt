@@ -41,8 +41,8 @@ pub(crate) enum PlateFault {
     Printing,
 }
 
-/// Checks an image and prints its black plate. Nothing is printed of an image that is refused, nor before the whole
-/// plate is made.
+/// Checks an image and prints its black plate. Nothing is printed of an image that is refused, nor before
+/// the whole plate is made.
 pub(crate) fn print_plate<S: Sink>(
     alloc: Global,
     bytes: &[u8],
@@ -64,8 +64,8 @@ pub(crate) fn print_plate<S: Sink>(
     }
 }
 
-/// The plate of an image that was checked. The directory stands behind the rows, whose packed length isn't known before
-/// they are screened, so all rows are packed before the first byte of a plate can be told.
+/// The plate of an image that was checked. The directory stands behind the rows, whose packed length isn't
+/// known before they are screened, so all rows are packed before the first byte of a plate can be told.
 fn make_plate(alloc: Global, image: &Contone<'_>) -> Result<Vec<u8>, NoMemory>
     ensures { IfOk result (λ plate. plate.items ≡ black_plate image.now.shape image.now.bytes) }
 {
@@ -80,8 +80,10 @@ fn make_plate(alloc: Global, image: &Contone<'_>) -> Result<Vec<u8>, NoMemory>
 /// The front of a plate and its packed rows. Counts the bytes of each strip.
 fn begin_plate(alloc: Global, image: &Contone<'_>, counts: &mut [u32]) -> Result<Vec<u8>, NoMemory>
     requires { counts.old ≡ counts_so_far image.now.shape.width image.now.shape.length [] }
-    ensures counts { OnOk result (counts.new ≡ strip_counts image.now.shape.width (black_rows image.now.shape image.now.bytes)) }
-    ensures packed { IfOk result (λ plate. plate.items ≡ front_bytes ++ flat_map packing (black_rows image.now.shape image.now.bytes)) }
+    ensures counts { OnOk result (counts.new ≡ strip_counts image.now.shape.width
+        (black_rows image.now.shape image.now.bytes)) }
+    ensures packed { IfOk result (λ plate. plate.items
+        ≡ front_bytes ++ flat_map packing (black_rows image.now.shape image.now.bytes)) }
 {
     let mut room = row_room(alloc, image.width())?;
     let Some(tile) = AnyTile::bayer(SIDE) else {
@@ -107,7 +109,8 @@ fn finish_plate(
     requires counts { length counts.now ≡ strip_count width height }
     requires sum { IsPlaceable counts.now }
     requires front { 8 ≤ length plate.old.items }
-    ensures { OnOk result (plate.new.items ≡ with_place (tail_place counts.now) (plate.old.items ++ tail_bytes width height 1200 counts.now)) }
+    ensures { OnOk result (plate.new.items ≡ with_place (tail_place counts.now)
+        (plate.old.items ++ tail_bytes width height 1200 counts.now)) }
 {
     let mut tail = vec![in alloc; 0; MOST_TAIL + 8 * counts.len()]?;
     let end = plate_tail(width, height, DPI, counts, &mut tail);
@@ -124,7 +127,8 @@ fn put_place(plate: &mut [u8], place: u32)
     LittleEndian::write_u32(&mut plate[4..8], place);
 }
 
-/// Appends the packed rows of the plate of an image to `plate`, and counts the bytes of each strip of `each` rows.
+/// Appends the packed rows of the plate of an image to `plate`, and counts the bytes of each strip of
+/// `each` rows.
 fn pack_rows(
     mut rows: RowCursor<'_>,
     tile: &AnyTile,
@@ -141,8 +145,10 @@ fn pack_rows(
     requires each { each ≡ rows_each rows.shape.width }
     requires room { FitsRow rows.shape.width room.old }
     requires counts { counts.old ≡ counts_so_far rows.shape.width rows.shape.length [] }
-    ensures counts { OnOk result (counts.new ≡ strip_counts rows.entry.shape.width (black_rows rows.entry.shape rows.entry.bytes)) }
-    ensures packed { OnOk result (plate.new.items ≡ plate.old.items ++ flat_map packing (black_rows rows.entry.shape rows.entry.bytes)) }
+    ensures counts { OnOk result (counts.new ≡ strip_counts rows.entry.shape.width
+        (black_rows rows.entry.shape rows.entry.bytes)) }
+    ensures packed { OnOk result (plate.new.items
+        ≡ plate.old.items ++ flat_map packing (black_rows rows.entry.shape rows.entry.bytes)) }
 {
     for y in 0..rows.left() {
         let len = pack_next(&mut rows, y, tile, room);

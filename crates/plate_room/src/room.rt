@@ -38,8 +38,8 @@ pub(crate) fn row_room(alloc: Global, width: u32) -> Result<RowRoom, NoMemory>
     })
 }
 
-/// Screens the black of the next row of an image, which is row `y`, and packs it. Says how many bytes of `packed` the
-/// packing has.
+/// Screens the black of the next row of an image, which is row `y`, and packs it. Says how many bytes of
+/// `packed` the packing has.
 pub(crate) fn pack_next(
     rows: &mut RowCursor<'_>,
     y: u32,

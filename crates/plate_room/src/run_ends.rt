@@ -1,69 +1,74 @@
 // The sites of a run before its first row and behind its last.
-ghost use Rattle.std.specs.Prelude.{◌≡◌, ◌<◌, ◌≤◌, IfOk, if◌then◌else◌, length};
+ghost use Rattle.std.specs.Prelude.{◌≡◌, ◌<◌, ◌≤◌, IfOk, Some, if◌then◌else◌, length, map};
 ghost use Rattle.plan_json.specs.Plan.{IsPlan};
 ghost use Rattle.plan_rows.specs.Inks.{has_site, ink_count};
 ghost use Rattle.plan_rows.specs.Plates.{site_plates};
 ghost use Rattle.plan_rows.specs.Rows.{rows_of};
 ghost use Rattle.plate_room.specs.Fits.{kept_rows};
-ghost use Rattle.plate_room.specs.Served.{end_of, ends_in, fresh_sites, plates_in};
+ghost use Rattle.plate_room.specs.Served.{end_of, ends_in, fresh_seats, plates_in};
 
 use crate::SiteEnd;
 use crate::run_site::RunSite;
+use crate::seat::Seat;
 use plan_json::Plan;
 use plan_pages::plate_shape;
 use plan_rows::{Group, RowPlan};
-use pr_base::NoMemory;
+use pr_base::{Deal, NoMemory};
+use ring_lanes::Reader;
 use site_agent::Site;
 use std::alloc::Global;
 
-/// The sites of a plan, before the first row.
-pub(crate) fn sites_of(
+/// The sites of a plan before the first row, each at its reader's end.
+pub(crate) fn seats_of<'r, D: Deal>(
     alloc: Global,
     plan: &Plan,
     rows: &RowPlan,
     out: &str,
-) -> Result<Vec<RunSite>, NoMemory>
-    requires { rows.now ≡ rows_of plan.now }
-    ensures { IfOk result (λ sites. sites.items ≡ fresh_sites plan.now out.now) }
+    readers: Vec<Reader<'r, D>>,
+) -> Result<Vec<Seat<'r, D>>, NoMemory>
+    requires rows { rows.now ≡ rows_of plan.now }
+    requires readers { length readers.items ≡ length plan.now.sites }
+    ensures { IfOk result (λ seats. seats.items ≡ fresh_seats plan.now out.now readers.entry.items) }
 {
-    let mut sites = Vec::new(alloc);
-    for index in 0..plan.sites.len() {
-        let site = Site::new(alloc, plan, rows, out, index)?;
-        sites.push(RunSite::Going(site))?;
+    let mut seats = Vec::new(alloc);
+    for reader in readers {
+        let site = Site::new(alloc, plan, rows, out, seats.len())?;
+        seats.push(Seat::new(reader, RunSite::Going(site)))?;
     }
-    Ok(sites)
+    Ok(seats)
 }
 
-/// How the sites ended, behind the last row.
-pub(crate) fn ends_of(
+/// How the sites ended; none is told where want of memory stopped one.
+pub(crate) fn ends_of<D: Deal>(
     alloc: Global,
     plan: &Plan,
     rows: &RowPlan,
-    sites: Vec<RunSite>,
+    seats: Vec<Seat<'_, D>>,
 ) -> Result<Vec<SiteEnd>, NoMemory>
     requires plan { IsPlan plan.now }
     requires rows { rows.now ≡ rows_of plan.now }
-    requires sites { length sites.items ≡ length plan.now.sites }
-    ensures { IfOk result (λ ends. ends.items ≡ ends_in plan.now sites.items) }
+    requires seats { length seats.items ≡ length plan.now.sites }
+    ensures { IfOk result (λ ends. map Some ends.items ≡ ends_in plan.now seats.entry.items) }
 {
     let mut ends = Vec::new(alloc);
-    for site in sites {
-        let end = end_at(plan, rows, ends.len(), site);
+    for seat in seats {
+        let end = end_at(plan, rows, ends.len(), seat.into_site()).ok_or(NoMemory)?;
         ends.push(end)?;
     }
     Ok(ends)
 }
 
-/// How a site ended.
-fn end_at(plan: &Plan, rows: &RowPlan, index: usize, site: RunSite) -> SiteEnd
+/// How a site ended, unless want of memory stopped it.
+fn end_at(plan: &Plan, rows: &RowPlan, index: usize, site: RunSite) -> Option<SiteEnd>
     requires plan { IsPlan plan.now }
     requires rows { rows.now ≡ rows_of plan.now }
     requires index { index < length plan.now.sites }
-    ensures { result ≡ end_of plan.now (index, site) }
+    ensures { result ≡ end_of plan.now index site }
 {
     match site {
-        RunSite::Going(_site) => finished(plan, rows, index),
-        RunSite::Left(cause) => SiteEnd::Left(cause),
+        RunSite::Going(_site) => Some(finished(plan, rows, index)),
+        RunSite::Left(cause) => Some(SiteEnd::Left(cause)),
+        RunSite::Stopped => None,
     }
 }
 

@@ -1,54 +1,58 @@
-// A site of a run, and its turn for a row.
-ghost use Rattle.std.specs.Prelude.{◌≡◌, ◌+◌, false, OnErr, OnOk};
+// A site of a run, and its turn at its reader's end of the ring.
+ghost use Rattle.std.specs.Prelude.{◌≡◌, ◌<◌};
 ghost use Rattle.plate_room.specs.Fits.{rack_told};
-ghost use Rattle.plate_room.specs.Served.{ServesRow, SomeServed, StopsAtRow};
+ghost use Rattle.plate_room.specs.Seat.{is_stopped as is_stopped_lem};
+ghost use Rattle.plate_room.specs.Served.{SomeSeated, Turned};
 
-use pr_base::{Deal, NoMemory};
+use pr_base::Deal;
 use pr_rack::Rack;
-use ring_lanes::Deck;
-use site_agent::{Kept, LeftCause, Site};
+use ring_lanes::Reader;
+use site_agent::{LeftCause, Site, TurnEnd};
 
-/// A site of a run: it goes on, or it has left.
+/// A site of a run: it goes on, it has left, or want of memory stopped it.
 #[derive(Debug, Drop)]
 pub(crate) enum RunSite {
     Going(Site),
     Left(LeftCause),
+    Stopped,
 }
 
 impl RunSite {
-    /// Takes the row that was put last, keeps it and gives it back, unless the site has left.
-    pub(crate) fn serve<D: Deal, R: Rack>(
+    /// Takes rows at the reader's end and keeps them, if the site goes on and rows are still to come.
+    pub(crate) fn turn<D: Deal, R: Rack>(
         &mut self,
-        deck: &mut Deck<'_, D>,
+        reader: &mut Reader<'_, D>,
         rack: &mut R,
-    ) -> Result<(), NoMemory>
-        requires home { deck.old.out ≡ false }
-        requires some { SomeServed deck.old
+        patience: u32,
+    )
+        requires some { SomeSeated
             (rack_told R.finished R.working R.begun R.taken R.missed R.faults rack.old)
-            self.old }
-        ensures served { OnOk result (ServesRow deck.old
-            (rack_told R.finished R.working R.begun R.taken R.missed R.faults rack.old)
-            (rack_told R.finished R.working R.begun R.taken R.missed R.faults rack.new)
-            self.old self.new) }
-        ensures stopped { OnErr result (StopsAtRow deck.old
+            (record { reader = reader.old; site = self.old }) }
+        requires patience { 0 < patience }
+        ensures turned { Turned
             (rack_told R.finished R.working R.begun R.taken R.missed R.faults rack.old)
             (rack_told R.finished R.working R.begun R.taken R.missed R.faults rack.new)
-            self.old) }
-        ensures deck { deck.new ≡ deck.old }
+            (record { reader = reader.old; site = self.old })
+            (record { reader = reader.new; site = self.new }) }
     {
         let RunSite::Going(site) = self else {
-            return Ok(());
+            return;
         };
-        let held = deck.take();
-        let kept = site.keep(&held, rack);
-        deck.give(held);
-        match kept {
-            Kept::Done => Ok(()),
-            Kept::Left(cause) => {
-                *self = RunSite::Left(cause);
-                Ok(())
-            }
-            Kept::Memory => Err(NoMemory),
+        if reader.cursor() == reader.total() {
+            return;
         }
+        match site.turn(reader, rack, patience) {
+            TurnEnd::Waiting { head: _ } => {}
+            TurnEnd::Finished => {}
+            TurnEnd::Left(cause) => *self = RunSite::Left(cause),
+            TurnEnd::Memory => *self = RunSite::Stopped,
+        }
+    }
+
+    /// Whether want of memory stopped it.
+    pub(crate) fn is_stopped(&self) -> bool
+        ensures { result ≡ is_stopped_lem self.now }
+    {
+        matches!(self, RunSite::Stopped)
     }
 }

@@ -58,6 +58,7 @@ fn main(rt: HostRuntime) -> ExitCode {
         return want_of_memory(&rt);
     };
     let status = plate_main(
+        &rt,
         rt.alloc(),
         words.as_slice(),
         &mut HostShelf::new(files),
@@ -69,6 +70,14 @@ fn main(rt: HostRuntime) -> ExitCode {
 }
 
 #[cfg(test)]
+mod drill_tests;
+#[cfg(test)]
+mod ink_tests;
+#[cfg(test)]
+mod realistic_tests;
+#[cfg(test)]
 mod run_tests;
 #[cfg(test)]
 mod tests;
+#[cfg(test)]
+mod thread_tests;

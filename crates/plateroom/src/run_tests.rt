@@ -8,6 +8,7 @@ use ring_lanes::Source;
 use std::alloc::{AllocError, Global};
 use std::process::Abort;
 use std::test::Fail;
+use std::thread::Threads;
 
 // Two pages, the second with one image at scale 2, for one site.
 const PLAN: &str = r#"{"plan":1,"edition":"E1","dpi":1200,"page":[8,2],"screens":{"K":"bayer4"},
@@ -45,14 +46,14 @@ const WORDS: [&str; 4] = ["run", "plan.json", "FILES", "OUT"];
 
 // Which calls fail: of the shelf, of the first two racks, of the output, and of the note.
 #[derive(Clone, Copy)]
-struct Failing {
+pub(crate) struct Failing {
     shelf: Option<u64>,
     racks: [Option<u64>; 2],
     out: Option<u64>,
     note: Option<u64>,
 }
 
-const CALM: Failing = Failing {
+pub(crate) const CALM: Failing = Failing {
     shelf: None,
     racks: [None, None],
     out: None,
@@ -61,15 +62,15 @@ const CALM: Failing = Failing {
 
 // What a run leaves.
 #[derive(Drop)]
-struct Ran {
-    status: u8,
+pub(crate) struct Ran {
+    pub(crate) status: u8,
     out: MemSink,
     note: MemSink,
-    racks: Vec<MemRack>,
+    pub(crate) racks: Vec<MemRack>,
 }
 
 // A shelf with a plan and two files.
-fn edition_shelf(
+pub(crate) fn edition_shelf(
     alloc: Global,
     plan: &[u8],
     first: &[u8],
@@ -84,7 +85,8 @@ fn edition_shelf(
 }
 
 // A run of these words over a shelf.
-fn run_over(
+fn run_over<R: Threads + Sync>(
+    rt: &R,
     alloc: Global,
     words: &[&str],
     mut shelf: MemShelf,
@@ -98,6 +100,7 @@ fn run_over(
     let mut out = MemSink::new(alloc, numbers(alloc, failing.out)?);
     let mut note = MemSink::new(alloc, numbers(alloc, failing.note)?);
     let status = plate_main(
+        rt,
         alloc,
         all.as_slice(),
         &mut shelf,
@@ -114,7 +117,8 @@ fn run_over(
 }
 
 // A run of a plan whose files are these.
-fn run_plan(
+pub(crate) fn run_plan<R: Threads + Sync>(
+    rt: &R,
     alloc: Global,
     plan: &str,
     first: &[u8],
@@ -122,11 +126,11 @@ fn run_plan(
     failing: Failing,
 ) -> Result<Ran, Fail> {
     let shelf = edition_shelf(alloc, plan.as_bytes(), first, second, failing.shelf)?;
-    run_over(alloc, &WORDS, shelf, failing)
+    run_over(rt, alloc, &WORDS, shelf, failing)
 }
 
 // The run ended with this status, this report and this line.
-fn assert_ended(rt: &impl Abort, ran: &Ran, status: u8, report: &str, line: &str) {
+pub(crate) fn assert_ended(rt: &impl Abort, ran: &Ran, status: u8, report: &str, line: &str) {
     assert_eq!(rt; ran.status, status);
     assert_eq!(rt; ran.out.bytes(), report.as_bytes());
     assert_eq!(rt; ran.note.bytes(), line.as_bytes());
@@ -148,13 +152,25 @@ fn assert_files(
     Ok(())
 }
 
-// The rack with this number took the rows with these numbers, in this order, of a deck.
-fn assert_taken(rt: &impl Abort, ran: &Ran, rack: usize, rows: &[u64]) -> Result<(), Fail> {
-    let rack = ran.racks.get(rack).ok_or("no rack")?;
+// The rack with this number took the rows with these numbers, in this order, by its own reader of a ring of
+// 64 places with so many readers.
+fn assert_taken(
+    rt: &impl Abort,
+    ran: &Ran,
+    index: u32,
+    readers: u32,
+    rows: &[u64],
+) -> Result<(), Fail> {
+    let rack = ran.racks.get(index as usize).ok_or("no rack")?;
+    let source = Source::Ring {
+        reader: index,
+        readers,
+        places: 64,
+    };
     assert_eq!(rt; rack.taken().len(), rows.len());
     for (taken, row) in rack.taken().iter().zip(rows) {
         assert_eq!(rt; taken.0, *row);
-        assert!(rt; matches!(taken.1, Source::Deck));
+        assert_eq!(rt; taken.1, source);
     }
     Ok(())
 }
@@ -177,7 +193,7 @@ fn plate_with(alloc: Global, rows: &[u8; 6]) -> Result<Vec<u8>, AllocError> {
 #[test]
 fn runs_an_edition(rt: HostRuntime) -> Result<(), Fail> {
     let alloc = rt.alloc();
-    let ran = run_plan(alloc, PLAN, &four_by_one(alloc)?, &[], CALM)?;
+    let ran = run_plan(&rt, alloc, PLAN, &four_by_one(alloc)?, &[], CALM)?;
     assert_ended(
         &rt,
         &ran,
@@ -188,7 +204,36 @@ fn runs_an_edition(rt: HostRuntime) -> Result<(), Fail> {
     let plate = plate_with(alloc, &[1, 0xAB, 0, 1, 0x13, 0])?;
     assert_eq!(rt; plate.len(), 180);
     assert_files(&rt, &ran, 0, &[("OUT/OSLO/E1-A-001-K.tif", &plate)])?;
-    assert_taken(&rt, &ran, 0, &[0, 1])
+    assert_taken(&rt, &ran, 0, 1, &[0, 1])
+}
+
+// A ring of one place, and a turn that looks once.
+#[test]
+fn runs_at_one_place(rt: HostRuntime) -> Result<(), Fail> {
+    let alloc = rt.alloc();
+    let shelf = edition_shelf(alloc, PLAN.as_bytes(), &four_by_one(alloc)?, &[], None)?;
+    let words = ["run", "plan.json", "FILES", "OUT", "1", "1"];
+    let ran = run_over(&rt, alloc, &words, shelf, CALM)?;
+    assert_ended(
+        &rt,
+        &ran,
+        0,
+        "site OSLO finished plates 1 rows 2\ntotal rows 2 sites 1\n",
+        "",
+    );
+    let plate = plate_with(alloc, &[1, 0xAB, 0, 1, 0x13, 0])?;
+    assert_files(&rt, &ran, 0, &[("OUT/OSLO/E1-A-001-K.tif", &plate)])?;
+    let rack = ran.racks.first().ok_or("no rack")?;
+    let source = Source::Ring {
+        reader: 0,
+        readers: 1,
+        places: 1,
+    };
+    assert_eq!(rt; rack.taken().len(), 2);
+    for (n, taken) in rack.taken().iter().enumerate() {
+        assert_eq!(rt; *taken, (n as u64, source));
+    }
+    Ok(())
 }
 
 #[test]
@@ -235,24 +280,25 @@ fn reads_ring_and_patience(rt: HostRuntime) -> Result<(), Fail> {
     ];
     for (words, status, line) in words {
         let shelf = edition_shelf(alloc, PLAN.as_bytes(), &four_by_one(alloc)?, &[], None)?;
-        let ran = run_over(alloc, words, shelf, CALM)?;
+        let ran = run_over(&rt, alloc, words, shelf, CALM)?;
         assert_eq!(rt; ran.status, status);
         assert_eq!(rt; ran.note.bytes(), line.as_bytes());
     }
     Ok(())
 }
 
-// A second file with compression 5, which is LZW: nothing is made, and where the note fails nothing is told.
+// A second file with compression 5, which is LZW, behind a crop that doesn't fit: files come before layers.
+// Nothing is made, and where the note fails nothing is told.
 #[test]
 fn refuses_a_later_file(rt: HostRuntime) -> Result<(), Fail> {
     let alloc = rt.alloc();
     let plan = r#"{"plan":1,"edition":"E1","dpi":1200,"page":[8,2],"screens":{"K":"bayer4"},
 "pages":[{"name":"w","inks":"K","layers":[]},{"name":"p","inks":"K","layers":[
-{"kind":"contone","file":"a.tif","scale":2},{"kind":"contone","file":"b.tif"}]}],
+{"kind":"contone","file":"a.tif","crop":[2,0,3,1]},{"kind":"contone","file":"b.tif"}]}],
 "sections":[{"name":"A","pages":["w","p"]}],"sites":[{"name":"OSLO"}]}"#;
     let mut lzw = four_by_one(alloc)?;
     patch(&mut lzw, 54, &[5]);
-    let ran = run_plan(alloc, plan, &four_by_one(alloc)?, &lzw, CALM)?;
+    let ran = run_plan(&rt, alloc, plan, &four_by_one(alloc)?, &lzw, CALM)?;
     assert_ended(
         &rt,
         &ran,
@@ -263,33 +309,49 @@ fn refuses_a_later_file(rt: HostRuntime) -> Result<(), Fail> {
     assert_files(&rt, &ran, 0, &[])?;
     let mut failing = CALM;
     failing.note = Some(0);
-    let ran = run_plan(alloc, plan, &four_by_one(alloc)?, &lzw, failing)?;
+    let ran = run_plan(&rt, alloc, plan, &four_by_one(alloc)?, &lzw, failing)?;
     assert_ended(&rt, &ran, 7, "", "");
     assert_files(&rt, &ran, 0, &[])
 }
 
-// A crop that ends outside its image, and a mask of another length.
+// A crop that ends outside its image, and a mask of other sides than its image.
 #[test]
 fn refuses_a_layer(rt: HostRuntime) -> Result<(), Fail> {
     let alloc = rt.alloc();
     let cases = [
         (
             r#""crop":[2,0,3,1]"#,
+            4,
+            1,
             "plateroom: file a.tif: tag 256: crop\n",
         ),
         (
+            r#""crop":[0,0,1,2]"#,
+            4,
+            1,
+            "plateroom: file a.tif: tag 257: crop\n",
+        ),
+        (
             r#""mask":"b.tif""#,
+            3,
+            1,
+            "plateroom: file b.tif: tag 256: mask size\n",
+        ),
+        (
+            r#""mask":"b.tif""#,
+            4,
+            2,
             "plateroom: file b.tif: tag 257: mask size\n",
         ),
     ];
-    let mask = bilevel(alloc, 4, 2, 4, &[0xF0, 0xF0])?;
-    for (key, line) in cases {
+    for (key, width, length, line) in cases {
+        let mask = bilevel(alloc, width, length, 4, &[0xF0, 0xF0])?;
         let front =
             r#"{"plan":1,"edition":"E1","dpi":1200,"page":[8,2],"pages":[{"name":"w","inks":"K",
 "layers":[{"kind":"contone","file":"a.tif","#;
         let back = r#"}]}],"sections":[{"name":"A","pages":["w","w"]}],"sites":[{"name":"OSLO"}]}"#;
         let plan = format!(in alloc; "{front}{key}{back}")?;
-        let ran = run_plan(alloc, plan.as_str(), &four_by_one(alloc)?, &mask, CALM)?;
+        let ran = run_plan(&rt, alloc, plan.as_str(), &four_by_one(alloc)?, &mask, CALM)?;
         assert_ended(&rt, &ran, 4, "", line);
     }
     Ok(())
@@ -335,7 +397,7 @@ fn refuses_a_plan(rt: HostRuntime) -> Result<(), Fail> {
         (String::from_str(alloc, "[]")?, "plateroom: plan : kind\n"),
     ];
     for (plan, line) in &plans {
-        let ran = run_plan(alloc, plan.as_str(), &[], &[], CALM)?;
+        let ran = run_plan(&rt, alloc, plan.as_str(), &[], &[], CALM)?;
         assert_ended(&rt, &ran, 3, "", line);
     }
     Ok(())
@@ -345,7 +407,7 @@ fn refuses_a_plan(rt: HostRuntime) -> Result<(), Fail> {
 #[test]
 fn runs_zones(rt: HostRuntime) -> Result<(), Fail> {
     let alloc = rt.alloc();
-    let ran = run_plan(alloc, ZONED, &four_by_one(alloc)?, &[], CALM)?;
+    let ran = run_plan(&rt, alloc, ZONED, &four_by_one(alloc)?, &[], CALM)?;
     assert_ended(
         &rt,
         &ran,
@@ -373,15 +435,15 @@ fn runs_zones(rt: HostRuntime) -> Result<(), Fail> {
             ("OUT/BERGEN/E1-A-002-K.tif", &zoned),
         ],
     )?;
-    assert_taken(&rt, &ran, 0, &[0, 1, 2, 3])?;
-    assert_taken(&rt, &ran, 1, &[0, 1, 4, 5])
+    assert_taken(&rt, &ran, 0, 2, &[0, 1, 2, 3])?;
+    assert_taken(&rt, &ran, 1, 2, &[0, 1, 4, 5])
 }
 
 #[test]
 fn runs_a_spot(rt: HostRuntime) -> Result<(), Fail> {
     let alloc = rt.alloc();
     let line = bilevel(alloc, 8, 2, 0, &[0xF0, 0x0F])?;
-    let ran = run_plan(alloc, SPOT, &line, &[], CALM)?;
+    let ran = run_plan(&rt, alloc, SPOT, &line, &[], CALM)?;
     assert_ended(
         &rt,
         &ran,
@@ -405,7 +467,14 @@ fn runs_a_spot(rt: HostRuntime) -> Result<(), Fail> {
 #[test]
 fn runs_a_diffused_screen(rt: HostRuntime) -> Result<(), Fail> {
     let alloc = rt.alloc();
-    let ran = run_plan(alloc, DIFFUSED, &input(alloc, 1, 1, &[128])?, &[], CALM)?;
+    let ran = run_plan(
+        &rt,
+        alloc,
+        DIFFUSED,
+        &input(alloc, 1, 1, &[128])?,
+        &[],
+        CALM,
+    )?;
     assert_eq!(rt; ran.status, 0);
     let mut plate = PLATE[..8].to_vec(alloc)?;
     plate.extend_from_slice(&[0, 0xA0, 0, 0x50])?;
@@ -419,8 +488,8 @@ fn runs_a_diffused_screen(rt: HostRuntime) -> Result<(), Fail> {
     assert_files(&rt, &ran, 0, &[("OUT/OSLO/E1-A-001-K.tif", &plate)])
 }
 
-// Each call of the second rack failing in turn: how many plates it has then, at which row it left, in which call and
-// for which plate.
+// Each call of the second rack failing in turn: how many plates it has then, at which row it left, in which
+// call and for which plate.
 #[test]
 fn a_site_leaves(rt: HostRuntime) -> Result<(), Fail> {
     let alloc = rt.alloc();
@@ -437,10 +506,11 @@ fn a_site_leaves(rt: HostRuntime) -> Result<(), Fail> {
     for (call, plates, row, name, plate) in calls {
         let mut failing = CALM;
         failing.racks = [None, Some(call)];
-        let ran = run_plan(alloc, EMPTY, &[], &[], failing)?;
+        let ran = run_plan(&rt, alloc, EMPTY, &[], &[], failing)?;
         let first = "site OSLO finished plates 2 rows 4";
         let report = format!(in alloc;
-            "{first}\nsite BERGEN left plates {plates} row {row} call {name} file OUT/BERGEN/E1-A-{plate}-K.tif\ntotal rows 4 sites 2\n"
+            "{first}\nsite BERGEN left plates {plates} row {row} call {name} \
+            file OUT/BERGEN/E1-A-{plate}-K.tif\ntotal rows 4 sites 2\n"
         )?;
         assert_ended(&rt, &ran, 1, report.as_str(), "");
     }
@@ -452,7 +522,7 @@ fn both_sites_leave(rt: HostRuntime) -> Result<(), Fail> {
     let alloc = rt.alloc();
     let mut failing = CALM;
     failing.racks = [Some(0), Some(0)];
-    let ran = run_plan(alloc, EMPTY, &[], &[], failing)?;
+    let ran = run_plan(&rt, alloc, EMPTY, &[], &[], failing)?;
     let oslo = "site OSLO left plates 0 row 0 call begin file OUT/OSLO/E1-A-001-K.tif";
     let bergen = "site BERGEN left plates 0 row 0 call begin file OUT/BERGEN/E1-A-001-K.tif";
     let report = format!(in alloc; "{oslo}\n{bergen}\ntotal rows 4 sites 2\n")?;
@@ -477,7 +547,7 @@ fn tells_what_failed_in_a_run(rt: HostRuntime) -> Result<(), Fail> {
         (out, 7, "", 1),
     ];
     for (failing, status, line, plates) in cases {
-        let ran = run_plan(alloc, PLAN, &four_by_one(alloc)?, &[], failing)?;
+        let ran = run_plan(&rt, alloc, PLAN, &four_by_one(alloc)?, &[], failing)?;
         assert_ended(&rt, &ran, status, "", line);
         let rack = ran.racks.first().ok_or("no rack")?;
         assert_eq!(rt; rack.files().len(), plates);

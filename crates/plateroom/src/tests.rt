@@ -9,9 +9,10 @@ use pr_rack::{MemRack, Rack};
 use std::alloc::{AllocError, Global};
 use std::process::Abort;
 use std::test::Fail;
+use std::thread::Threads;
 
-// The bytes before the samples of a CMYK file of one strip, with nine entries. Width, length, rows a strip and
-// bytes of the strip are filled in.
+// The bytes before the samples of a CMYK file of one strip, with nine entries. Width, length, rows a strip
+// and bytes of the strip are filled in.
 const INPUT_HEAD: [u8; 130] = [
     0x49, 0x49, 42, 0, 8, 0, 0, 0, 9, 0, //
     0x00, 1, 4, 0, 1, 0, 0, 0, 0, 0, 0, 0, //
@@ -167,7 +168,8 @@ struct Left {
 }
 
 // A run of these words over a.tif. The shelf, the output and the note fail at the calls with these numbers.
-fn run_words(
+fn run_words<R: Threads + Sync>(
+    rt: &R,
     alloc: Global,
     words: &[&str],
     file: Vec<u8>,
@@ -183,6 +185,7 @@ fn run_words(
     let mut note = MemSink::new(alloc, numbers(alloc, note)?);
     let mut racks = idle_racks(alloc, &[])?;
     let status = plate_main(
+        rt,
         alloc,
         all.as_slice(),
         &mut shelf,
@@ -206,20 +209,21 @@ const ONE: [&str; 2] = ["one", "a.tif"];
 const CALM: [Option<u64>; 3] = [None, None, None];
 
 // Over this file `one` prints this plate, and tells nothing.
-pub(crate) fn assert_prints(
-    rt: &impl Abort,
+pub(crate) fn assert_prints<R: Abort + Threads + Sync>(
+    rt: &R,
     alloc: Global,
     file: Vec<u8>,
     plate: &[u8],
 ) -> Result<(), Fail> {
-    let left = run_words(alloc, &ONE, file, CALM)?;
+    let left = run_words(rt, alloc, &ONE, file, CALM)?;
     assert_eq!(rt; left.status, 0);
     assert_eq!(rt; left.out.bytes(), plate);
     assert_eq!(rt; left.note.bytes(), b"".as_slice());
     Ok(())
 }
 
-// A plate with these packed rows, behind them the directory and the resolutions of `PLATE`, and behind these a table.
+// A plate with these packed rows, behind them the directory and the resolutions of `PLATE`, and behind
+// these a table.
 pub(crate) fn plate_of(alloc: Global, rows: &[u8], table: &[u8]) -> Result<Vec<u8>, AllocError> {
     let mut plate = PLATE[..8].to_vec(alloc)?;
     plate.extend_from_slice(rows)?;
@@ -376,7 +380,7 @@ pub(crate) fn refuses_by_name(rt: HostRuntime) -> Result<(), Fail> {
         (&["one", "a.tif"], 0, ""),
     ];
     for (words, status, line) in words {
-        let left = run_words(alloc, words, four_by_one(alloc)?, CALM)?;
+        let left = run_words(&rt, alloc, words, four_by_one(alloc)?, CALM)?;
         assert_eq!(rt; left.status, status);
         assert_eq!(rt; left.note.bytes(), line.as_bytes());
         assert_eq!(rt; left.out.bytes().is_empty(), status != 0);
@@ -385,13 +389,13 @@ pub(crate) fn refuses_by_name(rt: HostRuntime) -> Result<(), Fail> {
 }
 
 // Over this file `one` prints nothing, and tells this line.
-pub(crate) fn assert_refuses(
-    rt: &impl Abort,
+pub(crate) fn assert_refuses<R: Abort + Threads + Sync>(
+    rt: &R,
     alloc: Global,
     file: Vec<u8>,
     line: &str,
 ) -> Result<(), Fail> {
-    let left = run_words(alloc, &ONE, file, CALM)?;
+    let left = run_words(rt, alloc, &ONE, file, CALM)?;
     assert_eq!(rt; left.status, 4);
     assert_eq!(rt; left.out.bytes(), b"".as_slice());
     assert_eq!(rt; left.note.bytes(), line.as_bytes());
@@ -435,14 +439,14 @@ pub(crate) fn tells_what_failed(rt: HostRuntime) -> Result<(), Fail> {
         ([Some(0), None, None], 5, "plateroom: shelf: a.tif\n"),
     ];
     for (failing, status, line) in cases {
-        let left = run_words(alloc, &ONE, four_by_one(alloc)?, failing)?;
+        let left = run_words(&rt, alloc, &ONE, four_by_one(alloc)?, failing)?;
         assert_eq!(rt; left.status, status);
         assert_eq!(rt; left.out.bytes(), b"".as_slice());
         assert_eq!(rt; left.note.bytes(), line.as_bytes());
     }
 
     // The note, at a refusal.
-    let left = run_words(alloc, &[], four_by_one(alloc)?, [None, None, Some(0)])?;
+    let left = run_words(&rt, alloc, &[], four_by_one(alloc)?, [None, None, Some(0)])?;
     assert_eq!(rt; left.status, 7);
     assert_eq!(rt; left.note.bytes(), b"".as_slice());
     Ok(())
@@ -500,6 +504,7 @@ pub(crate) fn refuses_a_file_that_is_too_long(rt: HostRuntime) -> Result<(), Fai
     let mut note = MemSink::new(alloc, Vec::new(alloc));
     let mut racks = idle_racks(alloc, &[])?;
     let status = plate_main(
+        &rt,
         alloc,
         words.as_slice(),
         &mut shelf,
@@ -522,6 +527,7 @@ pub(crate) fn tells_of_an_output_without_memory(rt: HostRuntime) -> Result<(), F
     let mut note = MemSink::new(alloc, Vec::new(alloc));
     let mut racks = idle_racks(alloc, &[])?;
     let status = plate_main(
+        &rt,
         alloc,
         words.as_slice(),
         &mut shelf,

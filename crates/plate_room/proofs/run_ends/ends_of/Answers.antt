@@ -1,29 +1,33 @@
-use Rattle.std.proofs.Common.{◌≡◌, ◌+◌, ◌∙◌, ◌++◌, ◌∷◌, [], length, ap, sym, arith}
-use Rattle.std.proofs.lemmas.List.{append_assoc, length-append}
+use Rattle.std.proofs.Common.{◌≡◌, ◌+◌, ◌∙◌, ◌++◌, ◌∷◌, [], Some, length, map, ap, sym, arith}
+use Rattle.std.proofs.lemmas.List.{append_assoc, length-append, length-map, map-append}
 use Rattle.plate_room.specs.Served.{end_of, ends_in}
 use Rattle.plate_room.proofs.Running.{ends_more, length-ends_in}
 use Rattle.plate_room.proofs.run_ends.ends_of.Goals as goal
 
-pub end_at-end-requires-clause-index : goal.end_at-end-requires-clause-index
-end_at-end-requires-clause-index c =
-    let len : length c.loop-site.ends.items ≡ length c.loop-site.yielded = ap length c.loop-site.invariant.0 ∙ length-ends_in c.args.plan.now c.loop-site.yielded in
-    let all : length c.loop-site.yielded + length c.loop-site.site-iterator.rest.items ≡ length c.args.sites.items = sym (length-append c.loop-site.yielded c.loop-site.site-iterator.rest.items) ∙ ap length c.loop-site.invariant.1 in
-    let some : length c.loop-site.site-iterator.rest.items ≡ length (c.in-Some.site ∷ c.next.new.self.rest.items) = ap length c.in-Some.ensures.steps.0 in
+pub end_at-requires-clause-index : goal.end_at-requires-clause-index
+end_at-requires-clause-index g c =
+    let ends : length c.loop-seat.ends.items ≡ length c.loop-seat.yielded = sym (length-map c.loop-seat.ends.items Some) ∙ ap length c.loop-seat.invariant.0 ∙ length-ends_in c.args.plan.now c.loop-seat.yielded in
+    let all : length c.loop-seat.yielded + length c.loop-seat.seat-iterator.rest.items ≡ length c.args.seats.items = sym (length-append c.loop-seat.yielded c.loop-seat.seat-iterator.rest.items) ∙ ap length c.loop-seat.invariant.1 in
+    let some : length c.loop-seat.seat-iterator.rest.items ≡ length (c.in-Some.seat ∷ c.next.new.self.rest.items) = ap length c.in-Some.ensures.steps.0 in
     let is = c.len.ensures in
-    let ok = c.loop-site.ends.ok.0 in
-    let count = c.requires.sites in
-    omega (arith, len, all, some, is, ok, count)
+    let ok = c.loop-seat.ends.ok.0 in
+    let count = c.requires.seats in
+    omega (arith, ends, all, some, is, ok, count)
 
-pub loop-site-preserved : goal.loop-site-preserved
-loop-site-preserved c =
-    let len : length c.loop-site.ends.items ≡ length c.loop-site.yielded = ap length c.loop-site.invariant.0 ∙ length-ends_in c.args.plan.now c.loop-site.yielded in
+pub loop-seat-preserved : goal.loop-seat-preserved
+loop-seat-preserved g c =
+    let plan = c.args.plan.now in
+    let done = c.loop-seat.yielded in
+    let ends : length c.loop-seat.ends.items ≡ length done = sym (length-map c.loop-seat.ends.items Some) ∙ ap length c.loop-seat.invariant.0 ∙ length-ends_in plan done in
     let is = c.len.ensures in
-    let ok = c.loop-site.ends.ok.0 in
-    let index : c.len.result ≡ length c.loop-site.yielded = omega (arith, len, is, ok) in (
-      c.in_ok-push.ensures.items
-          ∙ ap (λ list. list ++ c.end_at-end.result ∷ []) c.loop-site.invariant.0
-          ∙ ap (λ end. ends_in c.args.plan.now c.loop-site.yielded ++ end ∷ []) (c.end_at-end.ensures ∙ ap (λ n. end_of c.args.plan.now (n, c.in-Some.site)) index)
-          ∙ sym (ends_more c.args.plan.now c.loop-site.yielded c.in-Some.site),
-      append_assoc c.loop-site.yielded (c.in-Some.site ∷ []) c.next.new.self.rest.items
-          ∙ ap (λ list. c.loop-site.yielded ++ list) (sym c.in-Some.ensures.steps.0) ∙ c.loop-site.invariant.1,
+    let ok = c.loop-seat.ends.ok.0 in
+    let index : c.len.result ≡ length done = omega (arith, ends, is, ok) in
+    let end : Some c.in_ok-end.end ≡ end_of plan (length done) c.in-Some.seat.site =
+    sym c.in_ok-end.ensures.ok_part ∙ c.end_at.ensures ∙ ap (λ n. end_of plan n c.into_site.result) index ∙ ap (λ site. end_of plan (length done) site) c.into_site.ensures in (
+      ap (λ list. map Some list) c.in_ok-push.ensures.items
+          ∙ map-append Some c.loop-seat.ends.items (c.in_ok-end.end ∷ [])
+          ∙ ap (λ list. list ++ Some c.in_ok-end.end ∷ []) c.loop-seat.invariant.0
+          ∙ ap (λ e. ends_in plan done ++ e ∷ []) end
+          ∙ sym (ends_more plan done c.in-Some.seat),
+      append_assoc done (c.in-Some.seat ∷ []) c.next.new.self.rest.items ∙ ap (λ list. done ++ list) (sym c.in-Some.ensures.steps.0) ∙ c.loop-seat.invariant.1,
     )

@@ -1,0 +1,62 @@
+// A shelf in memory that fails only where it holds nothing.
+ghost use Rattle.std.specs.Prelude.{◌≡◌, [], None, Some, map, nat_eq};
+ghost use Rattle.std.specs.Cmp.Lexicographic.{pointwise};
+ghost use Rattle.std.specs.List.{IsDistinct};
+ghost use Rattle.std.specs.Option.{ForSome};
+ghost use Rattle.pr_ports.specs.Mem.{files_of};
+ghost use Rattle.pr_ports.specs.Shelf.{held_at};
+
+use pr_base::PathText;
+use pr_ports::{LoadFault, MemShelf, Shelf};
+use std::alloc::Global;
+use std::marker::Model;
+
+/// A shelf in memory of which no load fails but that of a path that isn't held.
+#[derive(Debug, Drop)]
+pub struct SureShelf {
+    shelf: MemShelf,
+}
+
+impl Model for SureShelf {
+    ghost use Rattle.pr_ports.specs.Mem.{ShelfState};
+    ghost use Rattle.drill_room.specs.Sure.{IsSureShelf};
+
+    ghost Value = { ShelfState };
+
+    ghost view = { λ s. s.shelf };
+
+    ghost invariant = { λ s. IsSureShelf s.shelf };
+}
+
+impl SureShelf {
+    /// A shelf of these files.
+    pub fn new(alloc: Global, files: Vec<(PathText, Vec<u8>)>) -> SureShelf
+        requires { IsDistinct (pointwise nat_eq) (map (λ file. file.0) (files_of files.items)) }
+        ensures files { result.files ≡ files_of files.items }
+    {
+        SureShelf {
+            shelf: MemShelf::new(alloc, files, Vec::new(alloc)),
+        }
+    }
+
+    /// What the last failed load asked for isn't held.
+    pub fn lacks_what_it_missed(&self)
+        ensures { ForSome self.now.missed (λ path. held_at self.now.files path ≡ None) }
+    {
+        let _shelf = &self.shelf;
+    }
+}
+
+impl Shelf for SureShelf {
+    ghost held = { λ s. Some s.files };
+
+    ghost missed = { λ s. Some s.missed };
+
+    ghost faults = { λ s. s.faults };
+
+    ghost longs = { λ s. s.longs };
+
+    fn load(&mut self, path: &str, limit: u64) -> Result<Vec<u8>, LoadFault> {
+        self.shelf.load(path, limit)
+    }
+}
