@@ -1,0 +1,81 @@
+"""Makes two images, runs both programs in turn for each screen, compares their plates, and prints what each took."""
+import filecmp
+import json
+import os
+import shutil
+import struct
+import subprocess
+import sys
+
+WIDTH, LENGTH, SCALE, RUNS = 4000, 6000, 4, 3
+SCREENS = ("bayer8", "diffuse")
+
+
+def make(path, phase):
+    """A CMYK file of one strip with a running pattern."""
+    def entry(tag, kind, count, value):
+        return struct.pack("<HHII", tag, kind, count, value)
+
+    head = struct.pack("<2sHIH", b"II", 42, 8, 9)
+    head += entry(256, 4, 1, WIDTH) + entry(257, 4, 1, LENGTH) + entry(258, 3, 4, 122)
+    head += entry(259, 3, 1, 1) + entry(262, 3, 1, 5) + entry(273, 4, 1, 130)
+    head += entry(277, 3, 1, 4) + entry(278, 4, 1, LENGTH) + entry(279, 4, 1, 4 * WIDTH * LENGTH)
+    head += struct.pack("<I4H", 0, 8, 8, 8, 8)
+    pattern = bytes((x * x // 977 + x * phase + (x >> 4)) % 256 for x in range(8 * WIDTH))
+    with open(path, "wb") as file:
+        file.write(head)
+        for y in range(LENGTH):
+            at = 977 * y % (4 * WIDTH)
+            file.write(pattern[at:at + 4 * WIDTH])
+
+
+def plan(screen):
+    pages = [
+        {"name": name, "inks": "CMYK", "layers": [{"kind": "contone", "file": f"{name}.tif", "scale": SCALE}]}
+        for name in ("right", "left")
+    ]
+    return {
+        "plan": 1, "edition": "E1", "dpi": 1200, "page": [SCALE * WIDTH, SCALE * LENGTH],
+        "screens": {ink: screen for ink in "CMYK"}, "pages": pages,
+        "sections": [{"name": "A", "pages": ["right", "left"]}], "sites": [{"name": "OSLO"}],
+    }
+
+
+def run(command):
+    """Seconds of processor time in the program's own code and in the system's, and the peak of memory in KiB."""
+    process = subprocess.Popen(command, stdout=subprocess.DEVNULL)
+    _, status, usage = os.wait4(process.pid, 0)
+    if status != 0:
+        sys.exit(f"{command[0]} ended with status {status}")
+    return usage.ru_utime, usage.ru_stime, usage.ru_maxrss
+
+
+def main():
+    plateroom, plain, folder = sys.argv[1:4]
+    files = os.path.join(folder, "files")
+    os.makedirs(files, exist_ok=True)
+    for name, phase in (("left", 3), ("right", 5)):
+        make(os.path.join(files, f"{name}.tif"), phase)
+    pixels = 2 * 4 * SCALE * WIDTH * SCALE * LENGTH
+    for screen in SCREENS:
+        text, out, plates = (os.path.join(folder, name) for name in (f"{screen}.json", "out", "plain"))
+        with open(text, "w") as file:
+            json.dump(plan(screen), file)
+        images = [os.path.join(files, f"{name}.tif") for name in ("left", "right")]
+        best = [(float("inf"), 0, 0)] * 2
+        for _ in range(RUNS):
+            shutil.rmtree(out, ignore_errors=True)
+            best[0] = min(best[0], run([plateroom, "run", text, files, out]))
+            best[1] = min(best[1], run([plain, *images, screen, plates]))
+        for ink in "CMYK":
+            if not filecmp.cmp(f"{out}/OSLO/E1-A-001-{ink}.tif", f"{plates}-{ink}.tif", shallow=False):
+                sys.exit(f"the {screen} plates of {ink} differ")
+        for name, (own, system, memory) in zip(("plateroom", "plain C"), best):
+            print(f"{screen} {name}: {own:.2f} s of its own and {system:.2f} s of the system's, "
+                  f"{pixels / own / 1e6:.0f} million pixels a second of its own, {memory} KiB")
+    size = sum(os.path.getsize(os.path.join(files, name)) for name in os.listdir(files)) // 1024
+    print(f"the files have {size} KiB together; the plates of both programs are the same bytes")
+
+
+if __name__ == "__main__":
+    main()

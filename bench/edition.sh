@@ -1,0 +1,11 @@
+#!/usr/bin/env bash
+# Measures `plateroom run` beside a plain C program on one pair of pages of 16,000 by 24,000 pixels in four inks, under
+# Bayer's tile of side 8 and diffused, and compares their plates.
+# Build the program first: cd crates/plateroom && rt run -- one ../../examples/ramp.tif > /dev/null
+# usage: bench/edition.sh [FOLDER for the files and the plates, some 1.5 GB]
+set -eu
+here=$(cd "$(dirname "$0")" && pwd)
+folder=${1:-$(mktemp -d)}
+mkdir -p "$folder"
+cc -O3 -march=x86-64-v2 -o "$folder/edition" "$here/edition.c"
+exec python3 "$here/edition.py" "$here/../crates/plateroom/out/plateroom" "$folder/edition" "$folder"
