@@ -5,8 +5,7 @@ ghost use Rattle.plate_room.specs.Feeding.{Grows, HasRows, IfWaiting, IsFed, IsK
 
 use crate::side_by_side::TurnWith;
 use pr_base::{Deal, RowFeed};
-use ring_lanes::{Full, Writer};
-use std::thread;
+use ring_lanes::{Full, Writer, give_way};
 
 /// How a turn of the writer ended.
 #[derive(Clone, Copy, Debug, PartialEq, Eq)]
@@ -49,15 +48,18 @@ pub fn feed_turn<D: Deal, F: RowFeed>(
     let mut buffer = [0; MOST_ROW];
     let row = &mut buffer[..writer.row_len()];
     let mut waits = 0;
+    let mut misses = 0;
     while writer.head() < writer.total() && writer.joined() > 0 {
         let Err(Full { site, at }) = publish_next(writer, feed, row) else {
+            misses = 0;
             continue;
         };
         waits += 1;
         if waits == patience {
             return FeedEnd::Waiting { site, at };
         }
-        thread::yield_now();
+        give_way(misses);
+        misses = misses.saturating_add(1);
     }
     FeedEnd::Done
 }

@@ -13,6 +13,7 @@ mod numbers;
 mod reader;
 mod ring;
 mod source;
+mod waiting;
 mod writer;
 
 pub use answer::{Full, NotYet, Pass};
@@ -22,6 +23,7 @@ pub use note::{CursorNote, HeadNote};
 pub use reader::Reader;
 pub use ring::{Ends, Ring, open_ring};
 pub use source::Source;
+pub use waiting::give_way;
 pub use writer::Writer;
 
 #[cfg(test)]

@@ -12,8 +12,7 @@ ghost use Rattle.site_agent.specs.Turn.{AreRowsFor, GoesOnTo, IfLeft, IfWaiting,
 use crate::{Kept, Site, TurnEnd};
 use pr_base::Deal;
 use pr_rack::Rack;
-use ring_lanes::{NotYet, Reader};
-use std::thread;
+use ring_lanes::{NotYet, Reader, give_way};
 
 impl Site {
     /// Takes the rows at the reader's cursor, keeps each and gives it back, until all are dealt with, or a
@@ -92,9 +91,10 @@ impl Site {
         ensures faults_stay { R.faults rack.old ≤ R.faults rack.new }
     {
         let mut waits = 0;
+        let mut misses = 0;
         while reader.cursor() < reader.total() {
             match self.draw(reader, rack) {
-                Ok(Kept::Done) => {}
+                Ok(Kept::Done) => misses = 0,
                 Ok(Kept::Left(cause)) => {
                     reader.leave();
                     return TurnEnd::Left(cause);
@@ -108,7 +108,8 @@ impl Site {
                     if waits == patience {
                         return TurnEnd::Waiting { head };
                     }
-                    thread::yield_now();
+                    give_way(misses);
+                    misses = misses.saturating_add(1);
                 }
             }
         }
