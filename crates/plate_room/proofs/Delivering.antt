@@ -7,10 +7,10 @@ use Rattle.pr_rack.specs.Rack.{none_begun}
 use Rattle.pr_rack.specs.declared.rack.Rack.{Ghosts}
 use Rattle.plate_room.specs.Done.{telling, tellings}
 use Rattle.plate_room.specs.End.{IsDoneStatus}
-use Rattle.plate_room.specs.Fits.{RackTells, AreIdle as SitesIdle}
+use Rattle.ring_run.specs.Fits.{RackTells, AreIdle as SitesIdle}
 use Rattle.plate_room.specs.Report.{is_finished, status_of_ends}
 use Rattle.plate_room.specs.Seen.{AreIdle}
-use Rattle.plate_room.specs.declared.site_end.SiteEnd.{SiteEnd}
+use Rattle.ring_run.specs.declared.site_end.SiteEnd.{SiteEnd}
 
 -- racks of which no slot is begun tell so
 pub idle_told : {R : Type 0} (g : Ghosts R) (racks : List R) (count : ℕ) → AreIdle g racks → SitesIdle count (tellings g racks)

@@ -31,7 +31,7 @@ use Rattle.plan_rows.proofs.Places.{IsRowAt, groups_count, row_placed}
 use Rattle.press_feed.specs.Rows.{plate_rows}
 use Rattle.drill_room.specs.Dots.{HasSides, all_dots, bytes_of}
 use Rattle.plate_room.specs.Drill.{dots_line, dots_lines, finished_end, finished_ends, site_dots}
-use Rattle.plate_room.proofs.JobRows.{rows-long}
+use Rattle.ring_run.proofs.JobRows.{rows-long}
 
 -- ---- how many plates a site has
 

@@ -11,9 +11,9 @@ use Rattle.ring_lanes.specs.declared.source.Source.{Source}
 use Rattle.plan_rows.specs.Plates.{site_plates}
 use Rattle.press_feed.specs.Job.{JobData}
 use Rattle.plate_room.specs.Drill.{HaveFiles, finished_end, finished_ends, rows_in}
-use Rattle.plate_room.specs.Fits.{AreIdle, Delivery, FitsEnd, RackTells, RunFits, files_for, rack_told}
-use Rattle.plate_room.specs.declared.site_end.SiteEnd.{SiteEnd}
-use Rattle.plate_room.specs.declared.site_end.SiteEnd.TheVariants.{Finished, Left}
+use Rattle.ring_run.specs.Fits.{AreIdle, Delivery, FitsEnd, RackTells, RunFits, files_for, rack_told}
+use Rattle.ring_run.specs.declared.site_end.SiteEnd.{SiteEnd}
+use Rattle.ring_run.specs.declared.site_end.SiteEnd.TheVariants.{Finished, Left}
 use Rattle.plate_room.proofs.Verdicts.{there}
 
 -- what a rack that doesn't fail tells

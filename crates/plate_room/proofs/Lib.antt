@@ -1,17 +1,10 @@
 pub mod Grow
-pub mod Results
 pub mod Verdicts
 pub mod Told
 pub mod Clauses
 pub mod Pack
 pub mod Numbers
 pub mod Delivering
-pub mod Serving
-pub mod Kept
-pub mod Running
-pub mod JobRows
-pub mod Feeds
-pub mod Rounds
 pub mod DrillVerdict
 pub mod DrillDots
 pub mod Drilled

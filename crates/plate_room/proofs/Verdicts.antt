@@ -14,10 +14,10 @@ use Rattle.press_feed.specs.Job.{JobData}
 use Rattle.press_feed.specs.Verdict.{verdict_on_files}
 use Rattle.press_feed.specs.declared.refusal.Refusal.TheVariants as refused
 use Rattle.site_agent.specs.declared.kept.LeftCause.{LeftCause}
-use Rattle.plate_room.specs.Fits.{FitsCause}
+use Rattle.ring_run.specs.Fits.{FitsCause}
 use Rattle.plate_room.specs.Report.{is_finished, status_of_ends}
-use Rattle.plate_room.specs.declared.site_end.SiteEnd.{SiteEnd}
-use Rattle.plate_room.specs.declared.site_end.SiteEnd.TheVariants.{Finished, Left}
+use Rattle.ring_run.specs.declared.site_end.SiteEnd.{SiteEnd}
+use Rattle.ring_run.specs.declared.site_end.SiteEnd.TheVariants.{Finished, Left}
 use Rattle.plate_room.specs.Command.{Command, Drill, Edition, IsDrill, One, Run, command_of}
 use Rattle.plate_room.specs.Refusal.{Refusal, NoCommand, LongPlan, BadPlan, Faulty, NotLoaded, status_of}
 use Rattle.plate_room.specs.Verdict.{verdict_of, verdict_for, verdict_on, verdict_on_run, verdict_on_plan, files_refusal, judged, named, file_limit, plan_limit, too_long}

@@ -14,9 +14,9 @@ use Rattle.plate_room.specs.Drill.{drill_text}
 use Rattle.plate_room.specs.Verdict.{file_limit}
 use Rattle.plate_room.specs.Met.{IsLoaded, IsPlanned}
 use Rattle.plate_room.specs.Seen.{Files, SinkSeen}
-use Rattle.plate_room.specs.Fits.{Delivery, RackTells, RunFits, RunPart, by_ring, rack_told, racks_told}
+use Rattle.ring_run.specs.Fits.{Delivery, RackTells, RunFits, RunPart, by_ring, rack_told, racks_told}
 use Rattle.plate_room.specs.Report.{report_of, status_of_ends}
-use Rattle.plate_room.specs.declared.site_end.SiteEnd.{SiteEnd}
+use Rattle.ring_run.specs.declared.site_end.SiteEnd.{SiteEnd}
 
 -- ---- `one`
 

@@ -13,10 +13,10 @@ use Rattle.press_feed.specs.Verdict.{files_in, verdict_on_files}
 use Rattle.job_gen.specs.Images.{files_of}
 use Rattle.job_gen.specs.Plan.{job_plan}
 use Rattle.drill_room.specs.Dots.{all_dots}
-use Rattle.plate_room.specs.Fits.{kept_rows}
+use Rattle.ring_run.specs.Fits.{kept_rows}
 use Rattle.plate_room.specs.Report.{report_of}
-use Rattle.plate_room.specs.declared.site_end.SiteEnd.{SiteEnd}
-use Rattle.plate_room.specs.declared.site_end.SiteEnd.TheVariants.{Finished}
+use Rattle.ring_run.specs.declared.site_end.SiteEnd.{SiteEnd}
+use Rattle.ring_run.specs.declared.site_end.SiteEnd.TheVariants.{Finished}
 
 -- ---- the report
 

@@ -6,7 +6,6 @@ pub mod Refusal
 pub mod Seen
 pub mod Verdict
 pub mod Met
-pub mod Fits
 pub mod Report
 pub mod Drill
 pub mod Done
@@ -14,8 +13,3 @@ pub mod End
 pub mod Answer
 pub mod Room
 pub mod Ending
-pub mod Served
-pub mod Seat
-pub mod Feeding
-pub mod Round
-pub mod Pairs

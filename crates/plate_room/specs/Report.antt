@@ -6,8 +6,8 @@ use Rattle.pr_rack.specs.declared.rack.RackCall.{RackCall}
 use Rattle.pr_rack.specs.declared.rack.RackCall.TheVariants.{Begin, Row, Finish}
 use Rattle.plan_json.specs.Data.{PlanData, SiteData}
 use Rattle.plan_rows.specs.Rows.{row_places}
-use Rattle.plate_room.specs.declared.site_end.SiteEnd.{SiteEnd}
-use Rattle.plate_room.specs.declared.site_end.SiteEnd.TheVariants.{Finished, Left}
+use Rattle.ring_run.specs.declared.site_end.SiteEnd.{SiteEnd}
+use Rattle.ring_run.specs.declared.site_end.SiteEnd.TheVariants.{Finished, Left}
 
 abbrev pub call_word : RackCall → List ℕ
 call_word Begin = codes "begin"

@@ -3,7 +3,7 @@ ghost use Rattle.std.specs.Prelude.{◌≡◌, ◌≤◌, IfErr, IfOk, OnOk, len
 ghost use Rattle.plan_json.specs.Plan.{IsPlan, IsWithin};
 ghost use Rattle.plate_room.specs.Answer.{Delivered, PlanRefused, PrepareRefused, RunAnswered, edition_told};
 ghost use Rattle.plate_room.specs.Done.{IsPrepared, tellings};
-ghost use Rattle.plate_room.specs.Fits.{AreIdle as SitesIdle};
+ghost use Rattle.ring_run.specs.Fits.{AreIdle as SitesIdle};
 ghost use Rattle.plate_room.specs.Met.{IsPlanned};
 ghost use Rattle.plate_room.specs.Report.{is_finished as is_finished_lem, status_of_ends};
 ghost use Rattle.plate_room.specs.Seen.{AreIdle, shelf_seen, sink_seen};

@@ -1,6 +1,6 @@
 use Rattle.std.proofs.Common.{◌≡◌, ◌∙◌, sym, ap, append_assoc, string_bytes}
 use Rattle.plate_room.specs.Answer.{own_line}
-use Rattle.plate_room.proofs.Results.{if_ok}
+use Rattle.ring_run.proofs.Results.{if_ok}
 use Rattle.plate_room.proofs.note.line.Goals as goal
 
 pub returns-in-File : goal.returns-in-File

@@ -1,6 +1,6 @@
 use Rattle.std.proofs.Common.{◌≡◌, ◌∙◌, append_assoc, string_bytes}
 use Rattle.plate_room.specs.Line.{plan_line_at}
-use Rattle.plate_room.proofs.Results.{if_ok}
+use Rattle.ring_run.proofs.Results.{if_ok}
 use Rattle.plate_room.proofs.note.plan_line_at.Goals as goal
 
 pub returns : goal.returns

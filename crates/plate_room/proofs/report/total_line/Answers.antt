@@ -1,6 +1,6 @@
 use Rattle.std.proofs.Common.{◌≡◌, ◌∙◌, append_assoc, string_bytes}
 use Rattle.plate_room.specs.Report.{total_line}
-use Rattle.plate_room.proofs.Results.{if_ok}
+use Rattle.ring_run.proofs.Results.{if_ok}
 use Rattle.plate_room.proofs.report.total_line.Goals as goal
 
 pub returns : goal.returns

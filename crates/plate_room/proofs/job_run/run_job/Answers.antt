@@ -1,6 +1,0 @@
-use Rattle.plate_room.proofs.Results.{on_err}
-use Rattle.plate_room.proofs.Running.{none_part}
-use Rattle.plate_room.proofs.job_run.run_job.Goals as goal
-
-pub returns-in_err-feed-clause-part : goal.returns-in_err-feed-clause-part
-returns-in_err-feed-clause-part g c = on_err c.from_residual.result _ (none_part _ _)

@@ -1,6 +1,0 @@
-use Rattle.std.proofs.Common.{◌≡◌}
-use Rattle.plate_room.proofs.Rounds.{ToldUpTo}
-use Rattle.plate_room.proofs.round.tell_readers.Given as goal
-
-abbrev pub invariant-loop-i : goal.invariant-loop-i
-invariant-loop-i g l = (l.writer ≡ l.initial.writer) × ToldUpTo l.initial.writer l.initial.seats l.seats l.i

@@ -1,6 +1,0 @@
-use Rattle.std.proofs.Common.{◌≡◌, ◌++◌, Some, map}
-use Rattle.plate_room.specs.Served.{ends_in}
-use Rattle.plate_room.proofs.run_ends.ends_of.Given as goal
-
-abbrev pub invariant-loop-seat : goal.invariant-loop-seat
-invariant-loop-seat g l = (map Some l.ends.items ≡ ends_in l.plan l.yielded) × (l.yielded ++ l.seat-iterator.rest.items ≡ l.fn.seats.items)

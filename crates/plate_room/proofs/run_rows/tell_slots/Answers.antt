@@ -1,8 +1,0 @@
-use Rattle.plate_room.specs.Fits.{RackTells, TellsSlots, rack_told}
-use Rattle.plate_room.proofs.Running.{all_tell}
-use Rattle.plate_room.proofs.run_rows.tell_slots.Goals as goal
-
-pub returns : goal.returns
-returns g c =
-    let tell : g.row.R.Denot → RackTells = rack_told g.R.Rack.finished g.R.Rack.working g.R.Rack.begun g.R.Rack.taken g.R.Rack.missed g.R.Rack.faults in
-    λ site told there. all_tell tell TellsSlots c.args.racks.now site told (λ rack. g.met.R.Rack.begun_told rack) there

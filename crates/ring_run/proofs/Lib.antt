@@ -1,0 +1,7 @@
+pub mod Results
+mod Serving
+mod Kept
+mod Running
+pub mod JobRows
+mod Feeds
+mod Rounds

@@ -1,0 +1,392 @@
+-- A run from its first round to its last.
+use Rattle.std.proofs.Common.{◌≡◌, ℕ, zero, suc, ◌+◌, ◌-◌, ◌<◌, ◌≤◌, ◌⊎◌, Bool, true, false, not, ◌&&◌, ◌||◌, List, [], ◌∷◌, ◌++◌, length, map, get_or, Option, Some, None, IfSome, refl, sym, ap, subst, ◌∙◌, inl, inr, ⊎_elim, zero-add, append-nil, arith}
+use Rattle.std.specs.Prelude.{is_some, nat_lt, slice_get}
+use Rattle.std.specs.List.{enumerate_from, list_any}
+use Rattle.std.specs.Option.{option_map}
+use Rattle.std.proofs.lemmas.Bool.{cases_lt, ltb-false}
+use Rattle.std.proofs.lemmas.List.{get_or-append_right, get_or_append_left, get_or-map, length-map, map-append}
+use Rattle.std.proofs.lemmas.List.FromFn.{get_or-enumerate_from, length-enumerate_from}
+use Rattle.std.proofs.lemmas.Option.{get_or_from_slice_get, same_Some, slice_get-get_or, slice_get-map, slice_get_within}
+use Rattle.atomic_table.specs.Seated.{TableId}
+use Rattle.ring_rule.specs.declared.view.RingNumbers.{RingNumbers}
+use Rattle.ring_rule.specs.Views.{up_to}
+use Rattle.ring_rule.proofs.Numbers.{length_up}
+use Rattle.ring_lanes.specs.Reader.{ReaderState, new_reader_state}
+use Rattle.ring_lanes.specs.Writer.{WriterState, new_writer_state}
+use Rattle.pr_rack.specs.declared.rack.RackCall.TheVariants.{Begin}
+use Rattle.pr_rack.specs.Rack.{Plate, Slots, none_begun}
+use Rattle.plan_json.specs.Data.{PlanData}
+use Rattle.plan_rows.specs.Plates.{site_plates}
+use Rattle.plan_rows.specs.Rows.{row_places}
+use Rattle.site_agent.specs.Plan.{fresh_site}
+use Rattle.site_agent.specs.Stands.{grown}
+use Rattle.site_agent.proofs.Going.{going_at_start}
+use Rattle.site_agent.proofs.Runs.{IsIdle}
+use Rattle.ring_run.specs.declared.site.RunSite.{RunSite}
+use Rattle.ring_run.specs.declared.site.RunSite.TheVariants.{Going, Left, Stopped}
+use Rattle.ring_run.specs.declared.site_end.SiteEnd.{SiteEnd}
+use Rattle.ring_run.specs.declared.site_end.SiteEnd.TheVariants.{Finished}
+use Rattle.ring_run.specs.declared.site_end.SiteEnd.TheVariants as Ended
+use Rattle.ring_run.specs.Fits.{AreIdle, Delivery, FitsEnd, FitsPart, KeepCounts, RackTells, RunFits, RunPart, TellsSlots, AllTellSlots, kept_rows}
+use Rattle.ring_run.specs.Round.{AreEndsOf, StaySeated}
+use Rattle.ring_run.specs.Seat.{SeatData, are_going, is_going, is_stopped}
+use Rattle.ring_run.specs.Served.{AreSeated, AreSomeSeated, AreStopped, Carries, GoesOnAt, HasStopped, IsSeated, IsServed, end_of, ends_in, fresh_seat, fresh_seats, is_out}
+use Rattle.ring_run.proofs.Rounds.{none_at}
+use Rattle.ring_run.proofs.Serving.{finishes, going_part, total_is}
+
+-- ---- the start
+
+pub all_tell : {X : Type 0} (tell : X → RackTells) (P : RackTells → Type 0) (racks : List X) (site : ℕ) (told : RackTells) → ((rack : X) → P (tell rack)) → slice_get (map tell racks) site ≡ Some told → P told
+all_tell tell P [] site told each there = absurd (none there) where
+  none : None ≡ Some told → ⊥
+  none e = cc
+all_tell tell P (rack ∷ racks) zero told each there = subst P (same_Some (tell rack) told there) (each rack)
+all_tell tell P (rack ∷ racks) (suc site) told each there = all_tell tell P racks site told each there
+
+no-slot : (slot : ℕ) → slot < 5 → slice_get none_begun slot ≡ Some false
+no-slot zero less = refl
+no-slot (suc zero) less = refl
+no-slot (suc (suc zero)) less = refl
+no-slot (suc (suc (suc zero))) less = refl
+no-slot (suc (suc (suc (suc zero)))) less = refl
+no-slot (suc (suc (suc (suc (suc slot))))) less = absurd (omega arith)
+
+empty-slot : (slot : Option (Option Plate)) → option_map is_some slot ≡ Some false → slot ≡ Some None
+empty-slot None is = absurd (none is) where
+  none : None ≡ Some false → ⊥
+  none e = cc
+empty-slot (Some None) is = refl
+empty-slot (Some (Some plate)) is = absurd (one (same_Some true false is)) where
+  one : true ≡ false → ⊥
+  one e = cc
+
+idle_is : (told : RackTells) → TellsSlots told → told.tells.begun ≡ none_begun → IsIdle told.tells
+idle_is told slots idle = record {
+  begun = λ slot less. ap (λ begun. slice_get begun slot) idle ∙ no-slot slot less;
+  working = by_told told.tells.working slots;
+} where
+  by_told : (working : Option Slots) → IfSome working (λ slots. told.tells.begun ≡ map is_some slots) → IfSome working (λ slots. (slot : ℕ) → slot < 5 → slice_get slots slot ≡ Some None)
+  by_told None are = tt
+  by_told (Some held) are = λ slot less.
+      empty-slot (slice_get held slot) (sym (slice_get-map is_some held slot) ∙ ap (λ begun. slice_get begun slot) (sym are ∙ idle) ∙ no-slot slot less)
+
+get_or-up_to : (n i : ℕ) → i < n → get_or (up_to n) i 0 ≡ i
+get_or-up_to zero i less = absurd (omega (arith, less))
+get_or-up_to (suc n) i less =
+    ⊎_elim
+    (λ (before : i < n). get_or_append_left (up_to n) (n ∷ []) 0 i (omega (arith, before, length_up n)) ∙ get_or-up_to n i before)
+    (λ (from : n ≤ i).
+    let same : i ≡ length (up_to n) = omega (arith, from, less, length_up n) in
+    ap (λ k. get_or (up_to n ++ n ∷ []) k 0) same ∙ get_or-append_right (up_to n) (n ∷ []) (length (up_to n)) (length (up_to n)) 0 refl (let e : length (up_to n) ≤ length (up_to n) = omega arith in e)
+    ∙ ap (λ k. get_or (n ∷ []) k 0) (let e : length (up_to n) - length (up_to n) ≡ 0 = omega arith in e) ∙ (let e : n ≡ i = omega (arith, from, less) in e))
+    (cases_lt i n)
+
+-- there is a seat for each reader
+pub length-fresh_seats : (plan : PlanData) (out : List ℕ) (readers : List ReaderState) → length (fresh_seats plan out readers) ≡ length readers
+length-fresh_seats plan out readers = length-map (enumerate_from 0 readers) (fresh_seat plan out) ∙ length-enumerate_from 0 readers
+
+-- the seat at an index
+pub fresh-at : (plan : PlanData) (out : List ℕ) (table : TableId) (ring : RingNumbers) (i : ℕ) (seat : SeatData) → slice_get (fresh_seats plan out (map (new_reader_state table ring) (up_to ring.readers))) i ≡ Some seat
+    → seat ≡ record { reader = new_reader_state table ring i; site = Going (fresh_site plan out i) }
+fresh-at plan out table ring i seat there =
+    let readers : List ReaderState = map (new_reader_state table ring) (up_to ring.readers) in
+    let count = length-fresh_seats plan out readers in
+    let less : i < length readers = omega (arith, slice_get_within (fresh_seats plan out readers) i seat there, count) in
+    let numbers : length readers ≡ ring.readers = length-map (up_to ring.readers) (new_reader_state table ring) ∙ length_up ring.readers in
+    sym (get_or_from_slice_get (fresh_seats plan out readers) i seat seat there)
+    ∙ get_or-map (fresh_seat plan out) (enumerate_from 0 readers) i (0, seat.reader) seat (omega (arith, less, length-enumerate_from 0 readers))
+    ∙ ap (fresh_seat plan out) (get_or-enumerate_from 0 readers i (0, seat.reader) less ∙ ap (λ k. (k, get_or readers i seat.reader)) (zero-add i))
+    ∙ ap (λ (x : ReaderState). record { reader = x; site = Going (fresh_site plan out i) })
+    (get_or-map (new_reader_state table ring) (up_to ring.readers) i 0 seat.reader (omega (arith, less, numbers, length_up ring.readers))
+    ∙ ap (new_reader_state table ring) (get_or-up_to ring.readers i (omega (arith, less, numbers))))
+
+-- the seats are at the ends of the ring
+pub fresh_ends : (plan : PlanData) (out : List ℕ) (table : TableId) (ring : RingNumbers) (writer : WriterState) → writer ≡ new_writer_state table ring
+    → AreEndsOf writer (fresh_seats plan out (map (new_reader_state table ring) (up_to ring.readers)))
+fresh_ends plan out table ring writer is = record {
+  count = length-fresh_seats plan out (map (new_reader_state table ring) (up_to ring.readers)) ∙ length-map (up_to ring.readers) (new_reader_state table ring) ∙ length_up ring.readers
+      ∙ ap (λ (w : WriterState). w.ring.readers) (sym is);
+  each = λ i seat there.
+      let fresh = fresh-at plan out table ring i seat there in
+      record {
+        table = ap (λ (s : SeatData). s.reader.table) fresh ∙ ap (λ (w : WriterState). w.table) (sym is);
+        ring = ap (λ (s : SeatData). s.reader.ring) fresh ∙ ap (λ (w : WriterState). w.ring) (sym is);
+        number = ap (λ (s : SeatData). s.reader.number) fresh;
+      };
+}
+
+-- no row is dealt with
+pub run_begins : (delivery : Delivery) (table : TableId) (ring : RingNumbers) (before : List RackTells) → Carries delivery ring → ring.readers ≡ length delivery.plan.sites → AreIdle (length delivery.plan.sites) before
+    → ((site : ℕ) (told : RackTells) → slice_get before site ≡ Some told → TellsSlots told) → AreSeated delivery before before (fresh_seats delivery.plan delivery.out (map (new_reader_state table ring) (up_to ring.readers)))
+run_begins delivery table ring before carries sites idle slots = record {
+  count = count ∙ sites;
+  each = λ site old new seat b r s.
+      let inside : site < length delivery.plan.sites = omega (arith, slice_get_within seats site seat s, count, sites) in
+      let fresh = fresh-at delivery.plan delivery.out table ring site seat s in
+      let same : old ≡ new = same_Some old new (sym b ∙ r) in
+      subst (λ (x : SeatData). IsSeated delivery site old new x) (sym fresh)
+      (subst (λ (now : RackTells). IsSeated delivery site old now (record { reader = new_reader_state table ring site; site = Going (fresh_site delivery.plan delivery.out site) })) same
+      (record {
+        home = refl;
+        within = (let e : 0 ≤ ring.total = omega arith in e);
+        left = refl;
+        is = record {
+          job_is = refl;
+          next_is = refl;
+          is = going_at_start delivery.plan delivery.rows delivery.out site (delivery.source site) old.tells carries.plan_is (idle_is old (slots site old b) (idle.each site old inside b)) carries.count carries.are.each;
+          faults = (let e : old.faults ≤ old.faults = omega arith in e);
+        };
+      }));
+} where
+  seats : List SeatData
+  seats = fresh_seats delivery.plan delivery.out (map (new_reader_state table ring) (up_to ring.readers))
+
+  count : length seats ≡ ring.readers
+  count = length-fresh_seats delivery.plan delivery.out (map (new_reader_state table ring) (up_to ring.readers)) ∙ length-map (up_to ring.readers) (new_reader_state table ring) ∙ length_up ring.readers
+
+-- so each site may take its turn
+pub begin_some : (delivery : Delivery) (writer : WriterState) (ring : RingNumbers) (before : List RackTells) (seats : List SeatData) → Carries delivery ring → writer.ring ≡ ring → AreEndsOf writer seats → AreSeated delivery before before seats
+    → AreSomeSeated before seats
+begin_some delivery writer ring before seats carries is ends are i told seat at there =
+    let end = ends.each i seat there in
+    record {
+      delivery = delivery;
+      before = told;
+      carries = subst (λ (r : RingNumbers). Carries delivery r) (sym (end.ring ∙ is)) carries;
+      is = subst (λ (n : ℕ). IsSeated delivery n told told seat) (sym end.number) (are.each i told told seat at at there);
+    }
+
+-- behind the last round each site is seated, as it was at first
+pub end_seated : (delivery : Delivery) (writer : WriterState) (ring : RingNumbers) (before now : List RackTells) (were are : List SeatData) → Carries delivery ring → writer.ring ≡ ring → AreEndsOf writer were → length were ≡ length are
+    → length before ≡ length were → AreSeated delivery before before were → StaySeated before now were are → AreSeated delivery before now are
+end_seated delivery writer ring before now were are carries is ends same racks seated stay = record {
+  count = sym same ∙ seated.count;
+  each = λ site old new seat b r s.
+      let within = slice_get_within are site seat s in
+      let was : SeatData = get_or were site seat in
+      let was-at : slice_get were site ≡ Some was = slice_get-get_or were site seat (omega (arith, within, same)) in
+      stay delivery site old old new was seat (subst (λ (x : RingNumbers). Carries delivery x) (sym ((ends.each site was was-at).ring ∙ is)) carries) b r was-at s (seated.each site old old was b b was-at);
+}
+
+-- ---- the end
+
+-- an end that is told is that of a site that wasn't stopped
+told_end : (plan : PlanData) (site : ℕ) (state : RunSite) (end : SiteEnd) → Some end ≡ end_of plan site state → is_stopped state ≡ false
+told_end plan site (Going going) end is = refl
+told_end plan site (Left cause) end is = refl
+told_end plan site Stopped end is = absurd (none is) where
+  none : Some end ≡ None → ⊥
+  none e = cc
+
+end_fits : (delivery : Delivery) (ring : RingNumbers) (site n : ℕ) (before now : RackTells) (state : RunSite) (end : SiteEnd) → Carries delivery ring → is_out state ≡ true ⊎ (n ≡ length (row_places delivery.plan))
+    → IsServed delivery site n before now state → Some end ≡ end_of delivery.plan site state → FitsEnd delivery site before now end
+end_fits delivery ring site n before now (Going going) end carries (inl out) at is = absurd (let e : false ≡ true = out in cc)
+end_fits delivery ring site n before now (Going going) end carries (inr all) at is =
+    subst (λ (e : SiteEnd). FitsEnd delivery site before now e) (sym (same_Some end (Finished (length (site_plates delivery.plan site)) (kept_rows delivery.plan site)) is))
+    (finishes delivery ring site before now going carries (subst (λ (m : ℕ). GoesOnAt delivery site m before now going) all at))
+end_fits delivery ring site n before now (Left cause) end carries over left is =
+    subst (λ (e : SiteEnd). FitsEnd delivery site before now e) (sym (same_Some end (Ended.Left cause) is)) left.fits
+end_fits delivery ring site n before now Stopped end carries over stopped is = absurd (none is) where
+  none : Some end ≡ None → ⊥
+  none e = cc
+
+-- a joined reader that doesn't go on is at the last row's end
+over_at : (seat : SeatData) → is_going seat ≡ false → seat.reader.cursor ≤ seat.reader.ring.total → seat.reader.left ≡ is_out seat.site → is_out seat.site ≡ true ⊎ (seat.reader.cursor ≡ seat.reader.ring.total)
+over_at seat none within left = by seat.reader.left (nat_lt seat.reader.cursor seat.reader.ring.total) refl left none where
+  by : (out more : Bool) → more ≡ nat_lt seat.reader.cursor seat.reader.ring.total → out ≡ is_out seat.site → (not out && more) ≡ false → is_out seat.site ≡ true ⊎ (seat.reader.cursor ≡ seat.reader.ring.total)
+  by true more m o e = inl (sym o)
+  by false true m o e = absurd (let f : true ≡ false = e in cc)
+  by false false m o e = inr (let low : seat.reader.ring.total ≤ seat.reader.cursor = ltb-false seat.reader.cursor seat.reader.ring.total (sym m) in omega (arith, low, within))
+
+none_all : (seats : List SeatData) → ((i : ℕ) (seat : SeatData) → slice_get seats i ≡ Some seat → is_stopped seat.site ≡ false) → list_any (λ seat. is_stopped seat.site) seats ≡ false
+none_all [] each = refl
+none_all (seat ∷ seats) each = ap (λ b. b || list_any (λ s. is_stopped s.site) seats) (each 0 seat refl) ∙ none_all seats (λ i s. each (suc i) s)
+
+-- each site's end fits
+pub run_fits : (delivery : Delivery) (writer : WriterState) (ring : RingNumbers) (before now : List RackTells) (seats : List SeatData) (ends : List SiteEnd) → Carries delivery ring → writer.ring ≡ ring → AreEndsOf writer seats
+    → are_going seats ≡ false → AreSeated delivery before now seats → map Some ends ≡ ends_in delivery.plan seats → RunFits delivery before now ends
+run_fits delivery writer ring before now seats ends carries ring-is at over are ends-are = record {
+  count = count ∙ are.count;
+  each = λ site old new end b r e.
+      let inside : site < length seats = omega (arith, slice_get_within ends site end e, count) in
+      let seat : SeatData = get_or seats site any in
+      let there : slice_get seats site ≡ Some seat = slice_get-get_or seats site any inside in
+      let seated = are.each site old new seat b r there in
+      let here = at.each site seat there in
+      let total : seat.reader.ring.total ≡ length (row_places delivery.plan) = ap (λ (x : RingNumbers). x.total) (here.ring ∙ ring-is) ∙ total_is delivery ring carries in
+      end_fits delivery ring site seat.reader.cursor old new seat.site end carries
+      (⊎_elim (λ (out : is_out seat.site ≡ true). inl out) (λ (all : seat.reader.cursor ≡ seat.reader.ring.total). inr (all ∙ total))
+      (over_at seat (none_at is_going seats site seat none-going there) seated.within seated.left))
+      seated.is (told site end seat e there);
+} where
+  any : SeatData
+  any = record {
+    reader = new_reader_state writer.table writer.ring 0;
+    site = Stopped;
+  }
+
+  count : length ends ≡ length seats
+  count = sym (length-map ends Some) ∙ ap length ends-are ∙ length-map (enumerate_from 0 seats) _ ∙ length-enumerate_from 0 seats
+
+  told : (site : ℕ) (end : SiteEnd) (seat : SeatData) → slice_get ends site ≡ Some end → slice_get seats site ≡ Some seat → Some end ≡ end_of delivery.plan site seat.site
+  told site end seat e there =
+      let inside : site < length seats = slice_get_within seats site seat there in
+      sym (get_or-map Some ends site end None (omega (arith, inside, count)) ∙ ap Some (get_or_from_slice_get ends site end end e))
+      ∙ ap (λ list. get_or list site None) ends-are
+      ∙ get_or-map (λ pair. end_of delivery.plan pair.0 pair.1.site) (enumerate_from 0 seats) site (0, seat) None (omega (arith, inside, length-enumerate_from 0 seats))
+      ∙ ap (λ (pair : ℕ × SeatData). end_of delivery.plan pair.0 pair.1.site)
+      (get_or-enumerate_from 0 seats site (0, seat) inside ∙ ap (λ k. (k, get_or seats site seat)) (zero-add site) ∙ ap (λ (x : SeatData). (site, x)) (get_or_from_slice_get seats site seat seat there))
+
+  none-stopped : list_any (λ (s : SeatData). is_stopped s.site) seats ≡ false
+  none-stopped = none_all seats (λ i seat there.
+      let inside : i < length ends = omega (arith, slice_get_within seats i seat there, count) in
+      let d : SiteEnd = Ended.Left (record { plates = 0; row = 0; call = Begin; path = [] }) in
+      told_end delivery.plan i seat.site (get_or ends i d) (told i (get_or ends i d) seat (slice_get-get_or ends i d inside) there))
+
+  none-going : list_any is_going seats ≡ false
+  none-going = by (list_any is_going seats) (ap (λ b. list_any is_going seats && not b) (sym none-stopped) ∙ over) where
+    by : (b : Bool) → (b && not false) ≡ false → b ≡ false
+    by false e = refl
+    by true e = absurd (let f : true ≡ false = e in cc)
+
+-- ---- where memory was wanted
+
+-- what a site leaves at any time is a part
+stopped : (delivery : Delivery) (ring : RingNumbers) (site n : ℕ) (before now : RackTells) (state : RunSite) → Carries delivery ring → n ≤ length (row_places delivery.plan) → IsServed delivery site n before now state
+    → HasStopped delivery site before now
+stopped delivery ring site n before now (Going going) carries within at = record {
+  part = going_part delivery ring site n before now going carries within at;
+  faults = at.faults;
+}
+stopped delivery ring site n before now (Left cause) carries within left = record { part = left.part; faults = left.faults }
+stopped delivery ring site n before now Stopped carries within left = left
+
+pub are_stopped : (delivery : Delivery) (writer : WriterState) (ring : RingNumbers) (before now : List RackTells) (seats : List SeatData) → Carries delivery ring → writer.ring ≡ ring → AreEndsOf writer seats → AreSeated delivery before now seats
+    → AreStopped delivery before now
+are_stopped delivery writer ring before now seats carries is ends are = record {
+  each = λ site old new less b r.
+      let any : SeatData = record {
+        reader = new_reader_state writer.table writer.ring 0;
+        site = Stopped;
+      } in
+      let seat : SeatData = get_or seats site any in
+      let there : slice_get seats site ≡ Some seat = slice_get-get_or seats site any (let count = are.count in omega (arith, less, count)) in
+      let seated = are.each site old new seat b r there in
+      let total : seat.reader.ring.total ≡ length (row_places delivery.plan) = ap (λ (x : RingNumbers). x.total) ((ends.each site seat there).ring ∙ is) ∙ total_is delivery ring carries in
+      let within = seated.within in
+      stopped delivery ring site seat.reader.cursor old new seat.site carries (omega (arith, within, total)) seated.is;
+}
+
+pub all_part : (delivery : Delivery) (before now : List RackTells) → AreStopped delivery before now → RunPart delivery before now
+all_part delivery before now are = record { each = λ site old new less b r. (are.each site old new less b r).part }
+
+grown-nothing : {X : Type 0} (list : Option (List X)) → list ≡ grown [] list
+grown-nothing None = refl
+grown-nothing (Some list) = ap Some (sym (append-nil list))
+
+-- nothing is a part
+pub none_part : (delivery : Delivery) (before : List RackTells) → RunPart delivery before before
+none_part delivery before = record {
+  each = λ site old new less b r.
+      subst (λ (now : RackTells). FitsPart delivery site old now) (same_Some old new (sym b ∙ r))
+      (record { files = 0; rows' = 0; finished = grown-nothing old.tells.finished; taken = grown-nothing old.tells.taken });
+}
+
+-- ---- counts
+
+pub counts_stay : (before : List RackTells) → KeepCounts before before
+counts_stay before = record {
+  each = λ site old new b r. subst (λ (now : RackTells). old.faults ≤ now.faults) (same_Some old new (sym b ∙ r)) (let e : old.faults ≤ old.faults = omega arith in e);
+}
+
+-- those of the sites by what is said of each
+pub counts_keep : (delivery : Delivery) (before now : List RackTells) → AreStopped delivery before now → length now ≤ length delivery.plan.sites → KeepCounts before now
+counts_keep delivery before now are few = record {
+  each = λ site old new b r. (are.each site old new (omega (arith, slice_get_within now site new r, few)) b r).faults;
+}
+
+-- ---- racks and others behind them
+
+slice_get-front : {X : Type 0} (xs ys : List X) (i : ℕ) → i < length xs → slice_get (xs ++ ys) i ≡ slice_get xs i
+slice_get-front [] ys i less = absurd (omega (arith, less))
+slice_get-front (x ∷ xs) ys zero less = refl
+slice_get-front (x ∷ xs) ys (suc i) less = slice_get-front xs ys i (omega (arith, less))
+
+slice_get-behind : {X : Type 0} (xs ys : List X) (i : ℕ) → length xs ≤ i → slice_get (xs ++ ys) i ≡ slice_get ys (i - length xs)
+slice_get-behind [] ys i more = ap (slice_get ys) (let e : i ≡ i - 0 = omega arith in e)
+slice_get-behind (x ∷ xs) ys zero more = absurd (omega (arith, more))
+slice_get-behind (x ∷ xs) ys (suc i) more = slice_get-behind xs ys i (omega (arith, more)) ∙ ap (slice_get ys) (let e : i - length xs ≡ suc i - suc (length xs) = omega arith in e)
+
+-- what holds of the sites' racks holds where others stand behind them
+pub fits_wide : (delivery : Delivery) (before now rest : List RackTells) (ends : List SiteEnd) → length before ≡ length delivery.plan.sites → length now ≡ length delivery.plan.sites → RunFits delivery before now ends
+    → RunFits delivery (before ++ rest) (now ++ rest) ends
+fits_wide delivery before now rest ends olds news fits = record {
+  count = fits.count;
+  each = λ site old new end b r e.
+      let count = fits.count in
+      let inside : site < length delivery.plan.sites = omega (arith, slice_get_within ends site end e, count) in
+      fits.each site old new end (sym (slice_get-front before rest site (omega (arith, inside, olds))) ∙ b) (sym (slice_get-front now rest site (omega (arith, inside, news))) ∙ r) e;
+}
+
+pub part_wide : (delivery : Delivery) (before now rest : List RackTells) → length before ≡ length delivery.plan.sites → length now ≡ length delivery.plan.sites → RunPart delivery before now → RunPart delivery (before ++ rest) (now ++ rest)
+part_wide delivery before now rest olds news part = record {
+  each = λ site old new less b r.
+      part.each site old new less (sym (slice_get-front before rest site (omega (arith, less, olds))) ∙ b) (sym (slice_get-front now rest site (omega (arith, less, news))) ∙ r);
+}
+
+pub counts_wide : (before now rest : List RackTells) → length now ≡ length before → KeepCounts before now → KeepCounts (before ++ rest) (now ++ rest)
+counts_wide before now rest same keep = record {
+  each = λ site old new b r.
+      ⊎_elim
+      (λ (less : site < length before). keep.each site old new (sym (slice_get-front before rest site less) ∙ b) (sym (slice_get-front now rest site (omega (arith, less, same))) ∙ r))
+      (λ (more : length before ≤ site).
+      let is : old ≡ new = same_Some old new
+      (sym b ∙ slice_get-behind before rest site more ∙ ap (λ k. slice_get rest (site - k)) (sym same) ∙ sym (slice_get-behind now rest site (omega (arith, more, same))) ∙ r) in
+      subst (λ (n : RackTells). old.faults ≤ n.faults) is (let e : old.faults ≤ old.faults = omega arith in e))
+      (cases_lt site (length before));
+}
+
+pub idle_front : (count : ℕ) (front rest : List RackTells) → length front ≡ count → AreIdle count (front ++ rest) → AreIdle count front
+idle_front count front rest long idle = record {
+  each = λ site told less there. idle.each site told less (slice_get-front front rest site (omega (arith, less, long)) ∙ there);
+}
+
+-- ---- ends
+
+enumerate-more : {X : Type 0} (xs : List X) (x : X) (k : ℕ) → enumerate_from k (xs ++ x ∷ []) ≡ enumerate_from k xs ++ (k + length xs, x) ∷ []
+enumerate-more [] x k = ap (λ n. (n, x) ∷ []) (let e : k ≡ k + 0 = omega arith in e)
+enumerate-more (y ∷ xs) x k =
+    ap (λ list. (k, y) ∷ list) (enumerate-more xs x (k + 1))
+    ∙ ap (λ n. (k, y) ∷ (enumerate_from (k + 1) xs ++ (n, x) ∷ [])) (let e : (k + 1) + length xs ≡ k + suc (length xs) = omega arith in e)
+
+-- the end of a site more
+pub ends_more : (plan : PlanData) (seats : List SeatData) (seat : SeatData) → ends_in plan (seats ++ seat ∷ []) ≡ ends_in plan seats ++ end_of plan (length seats) seat.site ∷ []
+ends_more plan seats seat =
+    ap (map (λ pair. end_of plan pair.0 pair.1.site)) (enumerate-more seats seat 0)
+    ∙ map-append (λ pair. end_of plan pair.0 pair.1.site) (enumerate_from 0 seats) ((0 + length seats, seat) ∷ [])
+    ∙ ap (λ n. ends_in plan seats ++ end_of plan n seat.site ∷ []) (zero-add (length seats))
+
+pub length-ends_in : (plan : PlanData) (seats : List SeatData) → length (ends_in plan seats) ≡ length seats
+length-ends_in plan seats = length-map (enumerate_from 0 seats) _ ∙ length-enumerate_from 0 seats
+
+-- a seat more
+pub seats_more : (plan : PlanData) (out : List ℕ) (readers : List ReaderState) (reader : ReaderState) → fresh_seats plan out (readers ++ reader ∷ []) ≡ fresh_seats plan out readers ++ fresh_seat plan out (length readers, reader) ∷ []
+seats_more plan out readers reader =
+    ap (map (fresh_seat plan out)) (enumerate-more readers reader 0)
+    ∙ map-append (fresh_seat plan out) (enumerate_from 0 readers) ((0 + length readers, reader) ∷ [])
+    ∙ ap (λ n. fresh_seats plan out readers ++ fresh_seat plan out (n, reader) ∷ []) (zero-add (length readers))
+
+-- ---- the first seats, where racks of any type tell
+
+-- a run begins at the ends of a ring that was opened
+pub run_opens : {X : Type 0} (tell : X → RackTells) (delivery : Delivery) (table : TableId) (ring : RingNumbers) (writer : WriterState) (readers : List ReaderState) (seats : List SeatData) (racks : List X) → writer ≡ new_writer_state table ring
+    → readers ≡ map (new_reader_state table ring) (up_to ring.readers) → seats ≡ fresh_seats delivery.plan delivery.out readers → ring.readers ≡ length delivery.plan.sites → Carries delivery ring
+    → AreIdle (length delivery.plan.sites) (map tell racks) → AllTellSlots (map tell racks)
+    → AreEndsOf writer seats × AreSeated delivery (map tell racks) (map tell racks) seats × AreSomeSeated (map tell racks) seats
+run_opens tell delivery table ring writer readers seats racks writer-is readers-is seats-is sites carries idle slots =
+    let fresh : seats ≡ fresh_seats delivery.plan delivery.out (map (new_reader_state table ring) (up_to ring.readers)) = seats-is ∙ ap (fresh_seats delivery.plan delivery.out) readers-is in
+    let ends : AreEndsOf writer seats = subst (λ (s : List SeatData). AreEndsOf writer s) (sym fresh) (fresh_ends delivery.plan delivery.out table ring writer writer-is) in
+    let seated : AreSeated delivery (map tell racks) (map tell racks) seats =
+    subst (λ (s : List SeatData). AreSeated delivery (map tell racks) (map tell racks) s) (sym fresh)
+    (run_begins delivery table ring (map tell racks) carries sites idle slots) in
+    (ends, seated, begin_some delivery writer ring (map tell racks) seats carries (ap (λ (w : WriterState). w.ring) writer-is) ends seated)

@@ -1,0 +1,18 @@
+use Rattle.std.proofs.Common.{◌≡◌}
+use Rattle.ring_run.specs.Feeding.{MayFeed}
+use Rattle.ring_run.specs.Fits.{racks_told}
+use Rattle.ring_run.specs.Round.{AreEndsOf, StaySeated, to_do}
+use Rattle.ring_run.specs.Served.{AreSomeSeated}
+use Rattle.ring_run.proofs.rows.run_rounds.Given as goal
+
+abbrev pub invariant-loop-writer : goal.invariant-loop-writer
+invariant-loop-writer g l =
+    MayFeed (g.F.RowFeed.left l.feed) l.writer
+    × (l.writer.ring ≡ l.initial.writer.ring)
+    × AreEndsOf l.writer l.seats
+    × AreSomeSeated (racks_told g.R.Rack.finished g.R.Rack.working g.R.Rack.begun g.R.Rack.taken g.R.Rack.missed g.R.Rack.faults l.racks) l.seats
+    × StaySeated (racks_told g.R.Rack.finished g.R.Rack.working g.R.Rack.begun g.R.Rack.taken g.R.Rack.missed g.R.Rack.faults l.initial.racks)
+    (racks_told g.R.Rack.finished g.R.Rack.working g.R.Rack.begun g.R.Rack.taken g.R.Rack.missed g.R.Rack.faults l.racks) l.initial.seats l.seats
+
+abbrev pub decreases-loop-writer : goal.decreases-loop-writer
+decreases-loop-writer g l = to_do l.writer l.seats

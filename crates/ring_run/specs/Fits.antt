@@ -1,0 +1,146 @@
+-- What a run leaves on the racks of its sites, by what each of them told before and tells now.
+use Rattle.std.specs.Prelude.{◌≡◌, ℕ, ◌<◌, ◌≤◌, Bool, false, List, length, map, take, count_by, Option, Some, IfSome, is_some, slice_get}
+use Rattle.std.specs.List.{range_with_len}
+use Rattle.pr_base.specs.Count.{Rose}
+use Rattle.ring_lanes.specs.declared.source.Source.{Source}
+use Rattle.ring_lanes.specs.declared.source.Source.TheVariants.{Ring}
+use Rattle.pr_rack.specs.Rack.{Plate, Slots, none_begun}
+use Rattle.plan_json.specs.Data.{PlanData}
+use Rattle.plan_rows.specs.Plates.{site_plates, site_files}
+use Rattle.plan_rows.specs.Rows.{row_places, keeps_row}
+use Rattle.site_agent.specs.declared.kept.LeftCause.{LeftCause}
+use Rattle.site_agent.specs.Plan.{drawn_rows, rows_up_to, FitsLeft}
+use Rattle.site_agent.specs.Refused.{Missed}
+use Rattle.site_agent.specs.Stands.{grown}
+use Rattle.site_agent.specs.Tells.{Tells, tells}
+use Rattle.ring_run.specs.declared.site_end.SiteEnd.{SiteEnd}
+use Rattle.ring_run.specs.declared.site_end.SiteEnd.TheVariants.{Finished, Left}
+
+-- ---- racks
+
+-- what a rack tells of its plates and of its last failed call, and how many calls failed
+pub record RackTells : Type 0 where
+  pub tells : Tells
+  pub missed : Missed
+  pub faults : ℕ
+
+-- what a rack tells, by the members of its type
+abbrev pub rack_told : {R : Type 0} → (R → Option (List Plate)) → (R → Option Slots) → (R → List Bool)
+    → (R → Option (List (ℕ × Source))) → (R → Missed) → (R → ℕ) → R → RackTells
+rack_told finished working begun taken missed faults rack = record {
+  tells = tells (finished rack) (working rack) (begun rack) (taken rack);
+  missed = missed rack;
+  faults = faults rack;
+}
+
+-- what each of the racks tells
+abbrev pub racks_told : {R : Type 0} → (R → Option (List Plate)) → (R → Option Slots) → (R → List Bool)
+    → (R → Option (List (ℕ × Source))) → (R → Missed) → (R → ℕ) → List R → List RackTells
+racks_told finished working begun taken missed faults racks =
+    map (rack_told finished working begun taken missed faults) racks
+
+-- ---- a run
+
+-- what a run is to deliver: all rows of a plan, to sites that take them from these sources, as plates with
+-- paths below the folder `out`
+pub record Delivery : Type 0 where
+  pub plan : PlanData
+  pub rows : List (List ℕ)
+  pub out : List ℕ
+  pub source : ℕ → Source
+
+-- the same by a ring of so many places, which has a reader for each site, with its number
+abbrev pub by_ring : PlanData → List (List ℕ) → List ℕ → ℕ → Delivery
+by_ring plan rows out ring = record {
+  plan = plan;
+  rows = rows;
+  out = out;
+  source = λ site. Ring site (length plan.sites) ring;
+}
+
+-- the files of a site in order
+abbrev pub files_for : Delivery → ℕ → List Plate
+files_for delivery site = site_files delivery.plan delivery.rows delivery.out site
+
+-- the rows that a site keeps, upward and each once, with its source
+abbrev pub drawn_for : Delivery → ℕ → List (ℕ × Source)
+drawn_for delivery site = drawn_rows delivery.plan site (delivery.source site)
+
+-- the number of the rows that a site keeps
+abbrev pub kept_rows : PlanData → ℕ → ℕ
+kept_rows plan site = count_by (keeps_row plan site) (range_with_len 0 (length (row_places plan)))
+
+-- ---- the end of a site
+
+-- a site that finished with so many plates and rows: its rack has all its files and all its rows more, and
+-- no slot of it is begun
+pub record FitsFinished (delivery : Delivery) (site : ℕ) (before now : RackTells) (plates rows' : ℕ)
+    : Type 0 where
+  pub plates_are : plates ≡ length (site_plates delivery.plan site)
+  pub rows_are : rows' ≡ kept_rows delivery.plan site
+  pub finished : now.tells.finished ≡ grown (files_for delivery site) before.tells.finished
+  pub taken : now.tells.taken ≡ grown (drawn_for delivery site) before.tells.taken
+  pub begun : (slot : ℕ) → slot < 5 → slice_get now.tells.begun slot ≡ Some false
+
+-- the files of a site that were finished where it left
+abbrev pub files_by : Delivery → ℕ → LeftCause → List Plate
+files_by delivery site cause = take cause.plates (files_for delivery site)
+
+-- the rows of a site up to the one that it left at
+abbrev pub drawn_by : Delivery → ℕ → LeftCause → List (ℕ × Source)
+drawn_by delivery site cause = rows_up_to cause.row cause.call (drawn_for delivery site)
+
+-- a site that left: its rack has the files more that were finished by then, and the rows up to the one that
+-- it left at; and it left since a call failed, which is the last that failed
+pub record FitsCause (delivery : Delivery) (site : ℕ) (before now : RackTells) (cause : LeftCause)
+    : Type 0 where
+  pub cause_fits : FitsLeft delivery.plan delivery.rows delivery.out site cause (files_by delivery site cause)
+  pub finished : now.tells.finished ≡ grown (files_by delivery site cause) before.tells.finished
+  pub taken : now.tells.taken ≡ grown (drawn_by delivery site cause) before.tells.taken
+  pub counted : Rose before.faults now.faults
+  pub missed : IfSome now.missed (λ last. last ≡ Some (cause.call, cause.path))
+
+-- a site's end fits what its rack has more than before
+abbrev pub FitsEnd : Delivery → ℕ → RackTells → RackTells → SiteEnd → Type 0
+FitsEnd delivery site before now (Finished plates rows') =
+    FitsFinished delivery site before now plates rows'
+FitsEnd delivery site before now (Left cause) = FitsCause delivery site before now cause
+
+-- a site of a run that want of memory ended: its rack has the first of its files more, and the first of its
+-- rows
+pub record FitsPart (delivery : Delivery) (site : ℕ) (before now : RackTells) : Type 0 where
+  pub files : ℕ
+  pub rows' : ℕ
+  pub finished : now.tells.finished ≡ grown (take files (files_for delivery site)) before.tells.finished
+  pub taken : now.tells.taken ≡ grown (take rows' (drawn_for delivery site)) before.tells.taken
+
+-- ---- all sites
+
+-- each site has an end, which fits what its rack has more than before
+pub record RunFits (delivery : Delivery) (before now : List RackTells) (ends : List SiteEnd) : Type 0 where
+  pub count : length ends ≡ length delivery.plan.sites
+  pub each : (site : ℕ) (old new : RackTells) (end : SiteEnd) → slice_get before site ≡ Some old
+      → slice_get now site ≡ Some new → slice_get ends site ≡ Some end → FitsEnd delivery site old new end
+
+-- want of memory ended the run
+pub record RunPart (delivery : Delivery) (before now : List RackTells) : Type 0 where
+  pub each : (site : ℕ) (old new : RackTells) → site < length delivery.plan.sites
+      → slice_get before site ≡ Some old → slice_get now site ≡ Some new → FitsPart delivery site old new
+
+-- the counts of failures never fall
+pub record KeepCounts (before now : List RackTells) : Type 0 where
+  pub each : (site : ℕ) (old new : RackTells) → slice_get before site ≡ Some old
+      → slice_get now site ≡ Some new → old.faults ≤ new.faults
+
+-- no slot of so many racks is begun
+pub record AreIdle (count : ℕ) (racks : List RackTells) : Type 0 where
+  pub each : (site : ℕ) (told : RackTells) → site < count → slice_get racks site ≡ Some told
+      → told.tells.begun ≡ none_begun
+
+-- a rack tells of its slots what it tells of the begun ones
+abbrev pub TellsSlots : RackTells → Type 0
+TellsSlots told = IfSome told.tells.working (λ slots. told.tells.begun ≡ map is_some slots)
+
+-- each of the racks does
+abbrev pub AllTellSlots : List RackTells → Type 0
+AllTellSlots racks = (site : ℕ) (told : RackTells) → slice_get racks site ≡ Some told → TellsSlots told

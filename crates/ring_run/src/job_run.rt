@@ -1,0 +1,98 @@
+// A run: all plates of a job, on the racks of its sites.
+ghost use Rattle.std.specs.Prelude.{◌≡◌, ◌<◌, ◌≤◌, IfOk, OnErr, drop, length};
+ghost use Rattle.plan_json.specs.Plan.{IsWithin};
+ghost use Rattle.press_feed.specs.Rows.{plate_frames, plate_rows};
+ghost use Rattle.ring_run.specs.Fits.{AreIdle, KeepCounts, RunFits, RunPart, by_ring, racks_told};
+
+use crate::Outcome;
+use crate::rows::run_rows;
+use pr_base::{NoMemory, RowFeed};
+use pr_rack::Rack;
+use press_feed::{Feed, Job};
+use std::alloc::Global;
+use std::thread::Threads;
+
+/// Delivers the plates of a job, each site's to the rack of its number, with paths below the folder `out`.
+/// A site whose rack fails leaves, and the others go on. The rows pass from one writer to the sites through a
+/// ring of `ring` places; all work side by side, in rounds, and in its turn of a round each looks `patience`
+/// times in vain for a row or a place.
+pub fn run_job<T: Threads + Sync, R: Rack + Send>(
+    rt: &T,
+    alloc: Global,
+    job: &Job,
+    racks: &mut [R],
+    out: &str,
+    ring: u32,
+    patience: u32,
+) -> Result<Outcome, NoMemory>
+    requires racks { length job.now.plan.sites ≤ length racks.old }
+    requires idle { AreIdle (length job.now.plan.sites)
+        (racks_told R.finished R.working R.begun R.taken R.missed R.faults racks.old) }
+    requires ring { IsWithin 1 1024 ring }
+    requires patience { IsWithin 1 65536 patience }
+    // Each site's end fits what its rack has more than before.
+    ensures fits { IfOk result (λ outcome. RunFits
+        (by_ring job.now.plan (plate_rows job.now.plan job.now.files) out.now ring)
+        (racks_told R.finished R.working R.begun R.taken R.missed R.faults racks.old)
+        (racks_told R.finished R.working R.begun R.taken R.missed R.faults racks.new) outcome.sites.items) }
+    // Want of memory: each rack has the first of its site's files more, and the first of its rows.
+    ensures part { OnErr result (RunPart
+        (by_ring job.now.plan (plate_rows job.now.plan job.now.files) out.now ring)
+        (racks_told R.finished R.working R.begun R.taken R.missed R.faults racks.old)
+        (racks_told R.finished R.working R.begun R.taken R.missed R.faults racks.new)) }
+    // What stands of the racks, whatever the answer.
+    ensures counts { KeepCounts
+        (racks_told R.finished R.working R.begun R.taken R.missed R.faults racks.old)
+        (racks_told R.finished R.working R.begun R.taken R.missed R.faults racks.new) }
+    ensures others { drop (length job.now.plan.sites) racks.new ≡ drop (length job.now.plan.sites) racks.old }
+{
+    let mut feed = Feed::open(alloc, job)?;
+    run_fed(rt, alloc, job, &mut feed, racks, out, ring, patience)
+}
+
+/// The same with a feed that has all rows of the job to come.
+fn run_fed<T: Threads + Sync, F: RowFeed + Send, R: Rack + Send>(
+    rt: &T,
+    alloc: Global,
+    job: &Job,
+    feed: &mut F,
+    racks: &mut [R],
+    out: &str,
+    ring: u32,
+    patience: u32,
+) -> Result<Outcome, NoMemory>
+    requires feed { F.left feed.old ≡ plate_frames job.now.plan job.now.files }
+    requires racks { length job.now.plan.sites ≤ length racks.old }
+    requires idle { AreIdle (length job.now.plan.sites)
+        (racks_told R.finished R.working R.begun R.taken R.missed R.faults racks.old) }
+    requires ring { IsWithin 1 1024 ring }
+    requires patience { 0 < patience }
+    ensures fits { IfOk result (λ outcome. RunFits
+        (by_ring job.now.plan (plate_rows job.now.plan job.now.files) out.now ring)
+        (racks_told R.finished R.working R.begun R.taken R.missed R.faults racks.old)
+        (racks_told R.finished R.working R.begun R.taken R.missed R.faults racks.new) outcome.sites.items) }
+    ensures part { OnErr result (RunPart
+        (by_ring job.now.plan (plate_rows job.now.plan job.now.files) out.now ring)
+        (racks_told R.finished R.working R.begun R.taken R.missed R.faults racks.old)
+        (racks_told R.finished R.working R.begun R.taken R.missed R.faults racks.new)) }
+    ensures counts { KeepCounts
+        (racks_told R.finished R.working R.begun R.taken R.missed R.faults racks.old)
+        (racks_told R.finished R.working R.begun R.taken R.missed R.faults racks.new) }
+    ensures others { drop (length job.now.plan.sites) racks.new ≡ drop (length job.now.plan.sites) racks.old }
+{
+    let plan = job.plan();
+    let (racks, _others) = racks.split_at_mut(plan.sites.len());
+    let sites = run_rows(
+        rt,
+        alloc,
+        plan,
+        job.rows(),
+        job,
+        feed,
+        racks,
+        out,
+        ring,
+        patience,
+    )?;
+    Ok(Outcome { sites })
+}

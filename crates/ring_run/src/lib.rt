@@ -1,0 +1,18 @@
+// The run of a job: one writer and every site, side by side over a ring, round after round. `run_job` delivers the
+// plates of a job to the racks of its sites, and answers how each site ended.
+#![tactic(auto)]
+
+mod ends;
+mod feeding;
+mod job_run;
+mod round;
+mod rows;
+mod seat;
+mod seats;
+mod side_by_side;
+mod site;
+mod site_end;
+
+pub use feeding::{FeedEnd, feed_turn};
+pub use job_run::run_job;
+pub use site_end::{Outcome, SiteEnd};

@@ -1,0 +1,136 @@
+// Turns that are taken side by side.
+ghost use Rattle.std.specs.Prelude.{◌≡◌, ◌<◌, ℕ, length};
+ghost use Rattle.std.specs.Thread.{IsSync};
+ghost use Rattle.ring_run.specs.Pairs.{AreTurned, MayAllTurn};
+
+use std::thread::{Threads, join_mut};
+
+/// What takes turns, each with a value of its own.
+///
+/// Implementers define `may`, when a turn may be taken, and `turned`, what it leaves.
+pub(crate) trait TurnWith<Y> {
+    ghost may: { Self → Y → Type 0 };
+
+    ghost turned: { Self → Y → Self → Y → Type 0 };
+
+    /// Takes a turn, in which it waits in vain at most so often.
+    fn turn(&mut self, other: &mut Y, patience: u32)
+        requires may { may self.old other.old }
+        requires patience { 0 < patience }
+        ensures { turned self.old other.old self.new other.new };
+}
+
+/// The turn of each with the other at its index, side by side: they are halved until one is left.
+#[cycle(halves)]
+pub(crate) fn turns<T: Threads + Sync, X: TurnWith<Y> + Send, Y: Send>(
+    rt: &T,
+    patience: u32,
+    others: &mut [Y],
+    all: &mut [X],
+)
+    requires count { length all.old ≡ length others.old }
+    requires may { MayAllTurn X.may all.old others.old }
+    requires patience { 0 < patience }
+    ensures turned { AreTurned X.turned all.old others.old all.new others.new }
+{
+    if all.len() < 2 {
+        if all.len() == 1 {
+            all[0].turn(&mut others[0], patience);
+        }
+        return;
+    }
+    let half = all.len() / 2;
+    let (a, b) = all.split_at_mut(half);
+    let (c, d) = others.split_at_mut(half);
+    both_halves(rt, patience, a, b, c, d);
+}
+
+/// The turns of both halves.
+#[cycle(halves)]
+fn both_halves<T: Threads + Sync, X: TurnWith<Y> + Send, Y: Send>(
+    rt: &T,
+    patience: u32,
+    a: &mut [X],
+    b: &mut [X],
+    c: &mut [Y],
+    d: &mut [Y],
+)
+    requires some_first { 0 < length a.old }
+    requires some_last { 0 < length b.old }
+    requires first { length a.old ≡ length c.old }
+    requires last { length b.old ≡ length d.old }
+    requires may_first { MayAllTurn X.may a.old c.old }
+    requires may_last { MayAllTurn X.may b.old d.old }
+    requires patience { 0 < patience }
+    ensures first { AreTurned X.turned a.old c.old a.new c.new }
+    ensures last { AreTurned X.turned b.old d.old b.new d.new }
+{
+    join_mut(
+        rt,
+        &mut ||
+            requires sync { IsSync T.row }
+            requires count { length a.now ≡ length c.now }
+            requires may { MayAllTurn X.may a.now c.now }
+            requires patience { 0 < patience }
+            ensures { AreTurned X.turned a.entry.now c.entry.now a.exit.now c.exit.now }
+        {
+            let patience = patience;
+            turns(rt, patience, c, a)
+        },
+        &mut ||
+            requires sync { IsSync T.row }
+            requires count { length b.now ≡ length d.now }
+            requires may { MayAllTurn X.may b.now d.now }
+            requires patience { 0 < patience }
+            ensures { AreTurned X.turned b.entry.now d.entry.now b.exit.now d.exit.now }
+        {
+            let patience = patience;
+            turns(rt, patience, d, b)
+        },
+    );
+}
+
+/// A turn of one, and beside it those of all others.
+pub(crate) fn turn_beside<T, W, F, X, Y>(
+    rt: &T,
+    patience: u32,
+    its: &mut F,
+    one: &mut W,
+    others: &mut [Y],
+    all: &mut [X],
+)
+where
+    T: Threads + Sync,
+    W: TurnWith<F> + Send,
+    F: Send,
+    X: TurnWith<Y> + Send,
+    Y: Send,
+    requires may_one { W.may one.old its.old }
+    requires count { length all.old ≡ length others.old }
+    requires may { MayAllTurn X.may all.old others.old }
+    requires patience { 0 < patience }
+    ensures one { W.turned one.old its.old one.new its.new }
+    ensures turned { AreTurned X.turned all.old others.old all.new others.new }
+{
+    join_mut(
+        rt,
+        &mut ||
+            requires may { W.may one.now its.now }
+            requires patience { 0 < patience }
+            ensures { W.turned one.entry.now its.entry.now one.exit.now its.exit.now }
+        {
+            let patience = patience;
+            one.turn(its, patience)
+        },
+        &mut ||
+            requires sync { IsSync T.row }
+            requires count { length all.now ≡ length others.now }
+            requires may { MayAllTurn X.may all.now others.now }
+            requires patience { 0 < patience }
+            ensures { AreTurned X.turned all.entry.now others.entry.now all.exit.now others.exit.now }
+        {
+            let patience = patience;
+            turns(rt, patience, others, all)
+        },
+    );
+}

@@ -1,0 +1,58 @@
+// A site of a run, and its turn at its reader's end of the ring.
+ghost use Rattle.std.specs.Prelude.{◌≡◌, ◌<◌};
+ghost use Rattle.ring_run.specs.Fits.{rack_told};
+ghost use Rattle.ring_run.specs.Seat.{is_stopped as is_stopped_lem};
+ghost use Rattle.ring_run.specs.Served.{SomeSeated, Turned};
+
+use pr_base::Deal;
+use pr_rack::Rack;
+use ring_lanes::Reader;
+use site_agent::{LeftCause, Site, TurnEnd};
+
+/// A site of a run: it goes on, it has left, or want of memory stopped it.
+#[derive(Debug, Drop)]
+pub(crate) enum RunSite {
+    Going(Site),
+    Left(LeftCause),
+    Stopped,
+}
+
+impl RunSite {
+    /// Takes rows at the reader's end and keeps them, if the site goes on and rows are still to come.
+    pub(crate) fn turn<D: Deal, R: Rack>(
+        &mut self,
+        reader: &mut Reader<'_, D>,
+        rack: &mut R,
+        patience: u32,
+    )
+        requires some { SomeSeated
+            (rack_told R.finished R.working R.begun R.taken R.missed R.faults rack.old)
+            (record { reader = reader.old; site = self.old }) }
+        requires patience { 0 < patience }
+        ensures turned { Turned
+            (rack_told R.finished R.working R.begun R.taken R.missed R.faults rack.old)
+            (rack_told R.finished R.working R.begun R.taken R.missed R.faults rack.new)
+            (record { reader = reader.old; site = self.old })
+            (record { reader = reader.new; site = self.new }) }
+    {
+        let RunSite::Going(site) = self else {
+            return;
+        };
+        if reader.cursor() == reader.total() {
+            return;
+        }
+        match site.turn(reader, rack, patience) {
+            TurnEnd::Waiting { head: _ } => {}
+            TurnEnd::Finished => {}
+            TurnEnd::Left(cause) => *self = RunSite::Left(cause),
+            TurnEnd::Memory => *self = RunSite::Stopped,
+        }
+    }
+
+    /// Whether want of memory stopped it.
+    pub(crate) fn is_stopped(&self) -> bool
+        ensures { result ≡ is_stopped_lem self.now }
+    {
+        matches!(self, RunSite::Stopped)
+    }
+}
