@@ -1,5 +1,5 @@
-// The run of a job: one writer and every site, side by side over a ring, round after round. `run_job` delivers the
-// plates of a job to the racks of its sites, and answers how each site ended.
+// The run of a job: one writer and every site, side by side over a ring, round after round. `run_job`
+// delivers the plates of a job to the racks of its sites, and answers how each site ended.
 #![tactic(auto)]
 
 mod ends;
