@@ -1,16 +1,16 @@
 // Runs of one pair of pages of 2 by 1 pixels, in one ink or four: what curves, limit and paint leave of each.
 use crate::run_tests::{CALM, run_plan};
-use crate::tests::{PLATE, input, patch};
+use crate::tests::{PIXEL, PLATE, patch};
+use pr_base::NoMemory;
 use std::alloc::{AllocError, Global};
 use std::process::Abort;
 use std::test::Fail;
 use std::thread::Threads;
+use tif_make::make_image;
 
 // A file of one pixel.
-fn pixel(alloc: Global, inks: [u8; 4]) -> Result<Vec<u8>, AllocError> {
-    let mut file = input(alloc, 1, 1, &[])?;
-    file.extend_from_slice(&inks)?;
-    Ok(file)
+fn pixel(alloc: Global, inks: [u8; 4]) -> Result<Vec<u8>, NoMemory> {
+    make_image(alloc, &PIXEL, &inks)
 }
 
 // A plan of these keys for one site. The left page has these inks, a.tif, and these layers above it.

@@ -1,5 +1,5 @@
 // Whole runs of editions by `plate_main`, over a shelf, racks and sinks in memory.
-use crate::tests::{PLATE, bilevel, four_by_one, idle_racks, input, numbers, patch};
+use crate::tests::{FORM, PIXEL, PLATE, four_by_one, idle_racks, numbers, patch};
 use plate_room::plate_main;
 use pr_base::PathText;
 use pr_ports::{MemShelf, MemSink};
@@ -9,6 +9,7 @@ use std::alloc::{AllocError, Global};
 use std::process::Abort;
 use std::test::Fail;
 use std::thread::Threads;
+use tif_make::{ImageForm, Kind, make_image};
 
 // Two pages, the second with one image at scale 2, for one site.
 const PLAN: &str = r#"{"plan":1,"edition":"E1","dpi":1200,"page":[8,2],"screens":{"K":"bayer4"},
@@ -314,47 +315,52 @@ fn refuses_a_later_file(rt: HostRuntime) -> Result<(), Fail> {
     assert_files(&rt, &ran, 0, &[])
 }
 
-// A crop that ends outside its image, and a mask of other sides than its image.
-#[test]
-fn refuses_a_layer(rt: HostRuntime) -> Result<(), Fail> {
-    let alloc = rt.alloc();
-    let cases = [
-        (
-            r#""crop":[2,0,3,1]"#,
-            4,
-            1,
-            "plateroom: file a.tif: tag 256: crop\n",
-        ),
-        (
-            r#""crop":[0,0,1,2]"#,
-            4,
-            1,
-            "plateroom: file a.tif: tag 257: crop\n",
-        ),
-        (
-            r#""mask":"b.tif""#,
-            3,
-            1,
-            "plateroom: file b.tif: tag 256: mask size\n",
-        ),
-        (
-            r#""mask":"b.tif""#,
-            4,
-            2,
-            "plateroom: file b.tif: tag 257: mask size\n",
-        ),
-    ];
-    for (key, width, length, line) in cases {
-        let mask = bilevel(alloc, width, length, 4, &[0xF0, 0xF0])?;
-        let front =
-            r#"{"plan":1,"edition":"E1","dpi":1200,"page":[8,2],"pages":[{"name":"w","inks":"K",
+// A plan whose page is a.tif under this key ends with this line. Beside it lies a mask.
+fn assert_refuses_layer<R: Abort + Threads + Sync>(
+    rt: &R,
+    alloc: Global,
+    key: &str,
+    mask: &[u8],
+    line: &str,
+) -> Result<(), Fail> {
+    let front = r#"{"plan":1,"edition":"E1","dpi":1200,"page":[8,2],"pages":[{"name":"w","inks":"K",
 "layers":[{"kind":"contone","file":"a.tif","#;
-        let back = r#"}]}],"sections":[{"name":"A","pages":["w","w"]}],"sites":[{"name":"OSLO"}]}"#;
-        let plan = format!(in alloc; "{front}{key}{back}")?;
-        let ran = run_plan(&rt, alloc, plan.as_str(), &four_by_one(alloc)?, &mask, CALM)?;
-        assert_ended(&rt, &ran, 4, "", line);
-    }
+    let back = r#"}]}],"sections":[{"name":"A","pages":["w","w"]}],"sites":[{"name":"OSLO"}]}"#;
+    let plan = format!(in alloc; "{front}{key}{back}")?;
+    let ran = run_plan(rt, alloc, plan.as_str(), &four_by_one(alloc)?, mask, CALM)?;
+    assert_ended(rt, &ran, 4, "", line);
     Ok(())
+}
+
+#[test]
+fn refuses_a_crop_that_ends_outside_its_image(rt: HostRuntime) -> Result<(), Fail> {
+    let alloc = rt.alloc();
+    let across = "plateroom: file a.tif: tag 256: crop\n";
+    assert_refuses_layer(&rt, alloc, r#""crop":[2,0,3,1]"#, &[], across)?;
+    let down = "plateroom: file a.tif: tag 257: crop\n";
+    assert_refuses_layer(&rt, alloc, r#""crop":[0,0,1,2]"#, &[], down)
+}
+
+#[test]
+fn refuses_a_mask_of_other_sides_than_its_image(rt: HostRuntime) -> Result<(), Fail> {
+    let alloc = rt.alloc();
+    let key = r#""mask":"b.tif""#;
+    let narrow = ImageForm {
+        kind: Kind::Mask,
+        width: 3,
+        ..FORM
+    };
+    let mask = make_image(alloc, &narrow, &[0xE0])?;
+    let line = "plateroom: file b.tif: tag 256: mask size\n";
+    assert_refuses_layer(&rt, alloc, key, &mask, line)?;
+    let long = ImageForm {
+        kind: Kind::Mask,
+        length: 2,
+        ..FORM
+    };
+    let mask = make_image(alloc, &long, &[0xF0, 0xF0])?;
+    let line = "plateroom: file b.tif: tag 257: mask size\n";
+    assert_refuses_layer(&rt, alloc, key, &mask, line)
 }
 
 #[test]
@@ -442,7 +448,14 @@ fn runs_zones(rt: HostRuntime) -> Result<(), Fail> {
 #[test]
 fn runs_a_spot(rt: HostRuntime) -> Result<(), Fail> {
     let alloc = rt.alloc();
-    let line = bilevel(alloc, 8, 2, 0, &[0xF0, 0x0F])?;
+    let form = ImageForm {
+        kind: Kind::Line,
+        width: 8,
+        length: 2,
+        rows_per_strip: 2,
+        ..FORM
+    };
+    let line = make_image(alloc, &form, &[0xF0, 0x0F])?;
     let ran = run_plan(&rt, alloc, SPOT, &line, &[], CALM)?;
     assert_ended(
         &rt,
@@ -467,14 +480,8 @@ fn runs_a_spot(rt: HostRuntime) -> Result<(), Fail> {
 #[test]
 fn runs_a_diffused_screen(rt: HostRuntime) -> Result<(), Fail> {
     let alloc = rt.alloc();
-    let ran = run_plan(
-        &rt,
-        alloc,
-        DIFFUSED,
-        &input(alloc, 1, 1, &[128])?,
-        &[],
-        CALM,
-    )?;
+    let file = make_image(alloc, &PIXEL, &[0, 0, 0, 128])?;
+    let ran = run_plan(&rt, alloc, DIFFUSED, &file, &[], CALM)?;
     assert_eq!(rt; ran.status, 0);
     let mut plate = PLATE[..8].to_vec(alloc)?;
     plate.extend_from_slice(&[0, 0xA0, 0, 0x50])?;

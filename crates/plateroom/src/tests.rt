@@ -1,48 +1,33 @@
 // Whole runs of `plate_main` over a shelf and sinks in memory.
-ghost use Rattle.std.specs.Prelude.{◌≡◌, None, IfOk, length};
+ghost use Rattle.std.specs.Prelude.{◌≡◌, ◌*◌, None, IfOk, length};
 ghost use Rattle.plate_room.specs.Seen.{AreIdle};
 
 use plate_room::plate_main;
-use pr_base::PathText;
+use pr_base::{NoMemory, PathText};
 use pr_ports::{LoadFault, MemShelf, MemSink, Shelf, Sink, SinkFault};
 use pr_rack::{MemRack, Rack};
 use std::alloc::{AllocError, Global};
 use std::process::Abort;
 use std::test::Fail;
 use std::thread::Threads;
+use tif_make::{Compression, ImageForm, Kind, Order, Planar, make_image};
 
-// The bytes before the samples of a CMYK file of one strip, with nine entries. Width, length, rows a strip
-// and bytes of the strip are filled in.
-const INPUT_HEAD: [u8; 130] = [
-    0x49, 0x49, 42, 0, 8, 0, 0, 0, 9, 0, //
-    0x00, 1, 4, 0, 1, 0, 0, 0, 0, 0, 0, 0, //
-    0x01, 1, 4, 0, 1, 0, 0, 0, 0, 0, 0, 0, //
-    0x02, 1, 3, 0, 4, 0, 0, 0, 122, 0, 0, 0, //
-    0x03, 1, 3, 0, 1, 0, 0, 0, 1, 0, 0, 0, //
-    0x06, 1, 3, 0, 1, 0, 0, 0, 5, 0, 0, 0, //
-    0x11, 1, 4, 0, 1, 0, 0, 0, 130, 0, 0, 0, //
-    0x15, 1, 3, 0, 1, 0, 0, 0, 4, 0, 0, 0, //
-    0x16, 1, 4, 0, 1, 0, 0, 0, 0, 0, 0, 0, //
-    0x17, 1, 4, 0, 1, 0, 0, 0, 0, 0, 0, 0, //
-    0, 0, 0, 0, //
-    8, 0, 8, 0, 8, 0, 8, 0, //
-];
+// How an image is laid into its file where a test says nothing else: 4 by 1 pixels in one strip.
+pub(crate) const FORM: ImageForm = ImageForm {
+    kind: Kind::Contone,
+    width: 4,
+    length: 1,
+    order: Order::Little,
+    planar: Planar::Chunky,
+    compression: Compression::Uncompressed,
+    rows_per_strip: 1,
+};
 
-// The same file with the most significant byte first, 4 by 1 pixels.
-const BIG_HEAD: [u8; 130] = [
-    0x4D, 0x4D, 0, 42, 0, 0, 0, 8, 0, 9, //
-    1, 0x00, 0, 4, 0, 0, 0, 1, 0, 0, 0, 4, //
-    1, 0x01, 0, 4, 0, 0, 0, 1, 0, 0, 0, 1, //
-    1, 0x02, 0, 3, 0, 0, 0, 4, 0, 0, 0, 122, //
-    1, 0x03, 0, 3, 0, 0, 0, 1, 0, 1, 0, 0, //
-    1, 0x06, 0, 3, 0, 0, 0, 1, 0, 5, 0, 0, //
-    1, 0x11, 0, 4, 0, 0, 0, 1, 0, 0, 0, 130, //
-    1, 0x15, 0, 3, 0, 0, 0, 1, 0, 4, 0, 0, //
-    1, 0x16, 0, 4, 0, 0, 0, 1, 0, 0, 0, 1, //
-    1, 0x17, 0, 4, 0, 0, 0, 1, 0, 0, 0, 16, //
-    0, 0, 0, 0, //
-    0, 8, 0, 8, 0, 8, 0, 8, //
-];
+// The same of one pixel.
+pub(crate) const PIXEL: ImageForm = ImageForm { width: 1, ..FORM };
+
+// The samples of the four pixels: black is 1, 127, 31 and 255.
+const SAMPLES: [u8; 16] = [0, 0, 0, 1, 0, 0, 0, 127, 0, 0, 0, 31, 0, 0, 0, 255];
 
 // The plate of 4 by 1 pixels with black 1, 127, 31, 255: thresholds 0, 127, 31, 159.
 pub(crate) const PLATE: [u8; 176] = [
@@ -73,64 +58,19 @@ pub(crate) fn patch(bytes: &mut [u8], at: usize, with: &[u8]) {
     }
 }
 
-// A CMYK file of one strip with these black samples and no other ink.
-pub(crate) fn input(
-    alloc: Global,
-    width: u32,
-    length: u32,
-    black: &[u8],
-) -> Result<Vec<u8>, AllocError> {
-    let mut file = INPUT_HEAD.to_vec(alloc)?;
-    patch(&mut file, 18, &width.to_le_bytes());
-    patch(&mut file, 30, &length.to_le_bytes());
-    patch(&mut file, 102, &length.to_le_bytes());
-    patch(
-        &mut file,
-        114,
-        &width.wrapping_mul(length).wrapping_mul(4).to_le_bytes(),
-    );
-    for sample in black {
-        file.extend_from_slice(&[0, 0, 0, *sample])?;
+pub(crate) fn four_by_one(alloc: Global) -> Result<Vec<u8>, NoMemory> {
+    make_image(alloc, &FORM, &SAMPLES)
+}
+
+// The samples of so many pixels that are alike, in black alone.
+fn blacks(alloc: Global, pixels: u32, black: u8) -> Result<Vec<u8>, AllocError>
+    ensures { IfOk result (λ samples. length samples.items ≡ 4 * pixels) }
+{
+    let mut samples = Vec::new(alloc);
+    for _pixel in 0..pixels {
+        samples.extend_from_slice(&[0, 0, 0, black])?;
     }
-    Ok(file)
-}
-
-// The same where all black samples are alike.
-pub(crate) fn flat(
-    alloc: Global,
-    width: u32,
-    length: u32,
-    sample: u8,
-) -> Result<Vec<u8>, AllocError> {
-    let mut file = input(alloc, width, length, &[])?;
-    for _pixel in 0..width.wrapping_mul(length) {
-        file.extend_from_slice(&[0, 0, 0, sample])?;
-    }
-    Ok(file)
-}
-
-pub(crate) fn four_by_one(alloc: Global) -> Result<Vec<u8>, AllocError> {
-    input(alloc, 4, 1, &[1, 127, 31, 255])
-}
-
-// A bilevel file of one strip with two rows of a byte, with PhotometricInterpretation as told.
-pub(crate) fn bilevel(
-    alloc: Global,
-    width: u32,
-    length: u32,
-    photometric: u8,
-    rows: &[u8; 2],
-) -> Result<Vec<u8>, AllocError> {
-    let mut file = INPUT_HEAD.to_vec(alloc)?;
-    patch(&mut file, 18, &width.to_le_bytes());
-    patch(&mut file, 30, &length.to_le_bytes());
-    patch(&mut file, 38, &[1, 0, 0, 0, 1]);
-    patch(&mut file, 66, &[photometric]);
-    patch(&mut file, 90, &[1]);
-    patch(&mut file, 102, &length.to_le_bytes());
-    patch(&mut file, 114, &[2]);
-    file.extend_from_slice(rows)?;
-    Ok(file)
+    Ok(samples)
 }
 
 // A shelf with the file a.tif alone.
@@ -260,7 +200,9 @@ pub(crate) fn prints_a_padded_row(rt: HostRuntime) -> Result<(), Fail> {
     patch(&mut plate, 118, &[3]);
     patch(&mut plate, 130, &[0xA2]);
     patch(&mut plate, 142, &[0xAA]);
-    assert_prints(&rt, alloc, input(alloc, 9, 1, &[255; 9])?, &plate)
+    let form = ImageForm { width: 9, ..FORM };
+    let file = make_image(alloc, &form, &blacks(alloc, 9, 255)?)?;
+    assert_prints(&rt, alloc, file, &plate)
 }
 
 // 32,768 by 3 pixels without ink: rows of 4,096 bytes, packed to 64, in two strips.
@@ -278,7 +220,13 @@ pub(crate) fn prints_white_in_two_strips(rt: HostRuntime) -> Result<(), Fail> {
     patch(&mut plate, 302, &[2, 0, 0, 0, 0x76, 1]);
     patch(&mut plate, 318, &[0x5E, 1]);
     patch(&mut plate, 330, &[0x66, 1]);
-    assert_prints(&rt, alloc, flat(alloc, 32_768, 3, 0)?, &plate)
+    let form = ImageForm {
+        width: 32_768,
+        length: 3,
+        ..FORM
+    };
+    let file = make_image(alloc, &form, &blacks(alloc, 3 * 32_768, 0)?)?;
+    assert_prints(&rt, alloc, file, &plate)
 }
 
 // 65,535 by 2 pixels, all black: a strip for each row of 8,192 bytes, packed to 130.
@@ -298,47 +246,43 @@ pub(crate) fn prints_the_widest_plate(rt: HostRuntime) -> Result<(), Fail> {
     patch(&mut plate, 370, &[2, 0, 0, 0, 0xBA, 1]);
     patch(&mut plate, 386, &[0xA2, 1]);
     patch(&mut plate, 398, &[0xAA, 1]);
-    assert_prints(&rt, alloc, flat(alloc, 65_535, 2, 255)?, &plate)
+    let form = ImageForm {
+        width: 65_535,
+        length: 2,
+        ..FORM
+    };
+    let file = make_image(alloc, &form, &blacks(alloc, 2 * 65_535, 255)?)?;
+    assert_prints(&rt, alloc, file, &plate)
 }
 
-// Compression 32773, and the samples as one literal.
 #[test]
 pub(crate) fn reads_a_packed_image(rt: HostRuntime) -> Result<(), Fail> {
     let alloc = rt.alloc();
-    let mut file = INPUT_HEAD.to_vec(alloc)?;
-    patch(&mut file, 18, &[4]);
-    patch(&mut file, 30, &[1]);
-    patch(&mut file, 54, &[5, 0x80]);
-    patch(&mut file, 102, &[1]);
-    patch(&mut file, 114, &[17]);
-    file.extend_from_slice(&[15, 0, 0, 0, 1, 0, 0, 0, 127, 0, 0, 0, 31, 0, 0, 0, 255])?;
-    assert_prints(&rt, alloc, file, &PLATE)
+    let form = ImageForm {
+        compression: Compression::PackBits,
+        ..FORM
+    };
+    assert_prints(&rt, alloc, make_image(alloc, &form, &SAMPLES)?, &PLATE)
 }
 
-// PlanarConfiguration 2 in place of Compression, whose default is 1, and four strips, one for each ink.
 #[test]
 pub(crate) fn reads_a_planar_image(rt: HostRuntime) -> Result<(), Fail> {
     let alloc = rt.alloc();
-    let mut file = INPUT_HEAD.to_vec(alloc)?;
-    patch(&mut file, 18, &[4]);
-    patch(&mut file, 30, &[1]);
-    patch(&mut file, 46, &[0x1C, 1, 3, 0, 1, 0, 0, 0, 2]);
-    patch(&mut file, 74, &[4, 0, 0, 0, 146]);
-    patch(&mut file, 102, &[1]);
-    patch(&mut file, 110, &[4, 0, 0, 0, 162]);
-    file.extend_from_slice(&[0, 0, 0, 0, 0, 0, 0, 0, 0, 0, 0, 0, 1, 127, 31, 255])?;
-    file.extend_from_slice(&[130, 0, 0, 0, 134, 0, 0, 0, 138, 0, 0, 0, 142, 0, 0, 0])?;
-    file.extend_from_slice(&[4, 0, 0, 0, 4, 0, 0, 0, 4, 0, 0, 0, 4, 0, 0, 0])?;
-    assert_prints(&rt, alloc, file, &PLATE)
+    let form = ImageForm {
+        planar: Planar::Separate,
+        ..FORM
+    };
+    assert_prints(&rt, alloc, make_image(alloc, &form, &SAMPLES)?, &PLATE)
 }
 
-// The most significant byte first.
 #[test]
 pub(crate) fn reads_the_other_order(rt: HostRuntime) -> Result<(), Fail> {
     let alloc = rt.alloc();
-    let mut file = BIG_HEAD.to_vec(alloc)?;
-    file.extend_from_slice(&[0, 0, 0, 1, 0, 0, 0, 127, 0, 0, 0, 31, 0, 0, 0, 255])?;
-    assert_prints(&rt, alloc, file, &PLATE)
+    let form = ImageForm {
+        order: Order::Big,
+        ..FORM
+    };
+    assert_prints(&rt, alloc, make_image(alloc, &form, &SAMPLES)?, &PLATE)
 }
 
 // The nine entries from the last to the first.
