@@ -10,7 +10,7 @@ folder=${1:-$(mktemp -d)}
 program=$folder/crates/bench_plan
 mkdir -p "$program/src"
 cp "$here/../HANDLES" "$folder"
-for crate in pr_base tif_dir tif_packbits tif_plate plan_json plan_pages plan_rows; do
+for crate in pr_base tif_dir tif_packbits tif_plate plan_words plan_parts plan_json plan_pages plan_rows; do
     rm -rf "$folder/crates/$crate"
     mkdir "$folder/crates/$crate"
     (cd "$here/../crates/$crate" && tar cf - --exclude=out .) | tar xf - -C "$folder/crates/$crate"
@@ -20,9 +20,11 @@ pr_base: byteorder thiserror
 tif_dir: pr_base byteorder
 tif_packbits: byteorder thiserror
 tif_plate: pr_base tif_dir tif_packbits byteorder
-plan_json: pr_base serde_json indexmap thiserror
-plan_pages: plan_json pr_base
-plan_rows: plan_pages plan_json tif_plate tif_packbits pr_base
+plan_words: pr_base serde_json thiserror
+plan_parts: plan_words pr_base serde_json
+plan_json: plan_parts plan_words pr_base serde_json indexmap
+plan_pages: plan_json plan_parts plan_words pr_base
+plan_rows: plan_pages plan_json plan_parts plan_words tif_plate tif_packbits pr_base
 bench_plan: plan_rows plan_json pr_base anyhow
 LIST
 cat > "$program/src/main.rt" <<'CODE'

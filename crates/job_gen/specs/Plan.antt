@@ -1,11 +1,12 @@
 -- The plan of a generated job.
 use Rattle.std.specs.Prelude.{ℕ, ◌+◌, ◌*◌, ◌/◌, ◌%◌, ◌-◌, ◌==◌, ◌||◌, Bool, true, false, not, if◌then◌else◌, List, [], ◌∷◌, ◌++◌, map, Some, None, codes, decimal}
 use Rattle.std.specs.List.{range_with_len}
-use Rattle.plan_json.specs.declared.printing.Screen.{Screen}
-use Rattle.plan_json.specs.declared.printing.Screen.TheVariants.{Bayer, Diffuse}
-use Rattle.plan_json.specs.Data.{LayerData, MarkData, PageData, PlanData, SectionData, SiteData, ZoneData}
-use Rattle.plan_json.specs.Pages.{black}
-use Rattle.plan_json.specs.Printing.{identities}
+use Rattle.plan_parts.specs.declared.printing.Screen.{Screen}
+use Rattle.plan_parts.specs.declared.printing.Screen.TheVariants.{Bayer, Diffuse}
+use Rattle.plan_parts.specs.Data.{LayerData, MarkData, PageData}
+use Rattle.plan_json.specs.Data.{PlanData, SectionData, SiteData, ZoneData}
+use Rattle.plan_parts.specs.Pages.{black}
+use Rattle.plan_parts.specs.Printing.{identities}
 use Rattle.job_gen.specs.Numbers.{page_count, site_count, size_of}
 
 -- ---- names

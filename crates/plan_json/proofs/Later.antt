@@ -6,16 +6,18 @@ use Rattle.std.proofs.lemmas.Grind.{common_steps}
 use Rattle.std.proofs.lemmas.Bool.Decides.{nat_tests}
 use Rattle.serde_json.specs.Data.{Data, Items, no_items, item, Members, no_members, member}
 use Rattle.serde_json.specs.Find.{get}
-use Rattle.plan_json.specs.declared.named.NamedLayer.{NamedLayer}
-use Rattle.plan_json.specs.declared.named.Painting.{Painting}
-use Rattle.plan_json.specs.declared.printing.Screen.{Screen}
-use Rattle.plan_json.specs.Data.{TileData, CurveData, MarkData, PlanData}
+use Rattle.plan_parts.specs.declared.named.NamedLayer.{NamedLayer}
+use Rattle.plan_parts.specs.declared.named.Painting.{Painting}
+use Rattle.plan_parts.specs.declared.printing.Screen.{Screen}
+use Rattle.plan_parts.specs.Data.{TileData, CurveData, MarkData}
+use Rattle.plan_json.specs.Data.{PlanData}
 use Rattle.plan_json.specs.Printed.{Inks, Layout}
-use Rattle.plan_json.specs.Reading.{Read, Reader, ◌>>=◌, ◌>>◌, must, at_key, at_item, is_among, first_unknown, object_with, all_known, required_in, required, optional_in, optional, items_within, count_of, each_after, list_of}
-use Rattle.plan_json.specs.Printing.{ink_keys, screens, curves, may_have, mark_inks, mark, marks}
-use Rattle.plan_json.specs.Pages.{PageText, ink, painting, layer, layers, inks_named, page_inks, page, pages}
+use Rattle.plan_words.specs.Reading.{Read, Reader, ◌>>=◌, ◌>>◌, must, at_key, at_item, is_among, first_unknown, object_with, all_known, required_in, required, optional_in, optional, items_within, count_of, each_after, list_of}
+use Rattle.plan_words.specs.Reading.{ink_keys}
+use Rattle.plan_parts.specs.Printing.{screens, curves, may_have, mark_inks, mark, marks}
+use Rattle.plan_parts.specs.Pages.{PageText, ink, painting, layer, layers, inks_named, page_inks, page, pages}
 use Rattle.plan_json.specs.PlanOf.{inks, layout, plan_by}
-use Rattle.plan_json.proofs.Sound.{bind_ok}
+use Rattle.plan_words.proofs.Sound.{bind_ok}
 
 -- ---- words
 

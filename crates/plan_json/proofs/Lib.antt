@@ -1,9 +1,4 @@
-pub mod Texts
-pub mod Places
-pub mod Items
-pub mod Sound
-pub mod SoundPrinting
-pub mod SoundPages
+pub mod SoundZoning
 pub mod Mentions
 pub mod SoundFiles
 pub mod SoundPlan

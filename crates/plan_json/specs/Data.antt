@@ -1,19 +1,10 @@
 -- What a plan says, as plain data. Texts are their bytes; lists of five stand in the order C, M, Y, K, S.
 use Rattle.std.specs.Prelude.{ℕ, ◌+◌, ◌*◌, List, ◌∷◌, Bool, slice_index, option_to_list}
 use Rattle.std.specs.List.{flat_map}
-use Rattle.plan_json.specs.declared.printing.Mark.{Mark}
-use Rattle.plan_json.specs.declared.printing.Screen.{Screen}
-use Rattle.plan_json.specs.declared.layer.PlanLayer.{PlanLayer}
+use Rattle.plan_parts.specs.declared.printing.Screen.{Screen}
+use Rattle.plan_parts.specs.Data.{CurveData, LayerData, MarkData, PageData, TileData}
 use Rattle.plan_json.specs.declared.zoning.Replace.{Replace}
 use Rattle.plan_json.specs.declared.zoning.PlanSite.{PlanSite}
-
--- a mark: its inks, its place and its sides
-abbrev pub MarkData : Type 0
-MarkData = Mark
-
--- a layer of a page; `file` and `mask` are indexes of the plan's files
-abbrev pub LayerData : Type 0
-LayerData = PlanLayer
 
 -- a page that a zone puts in the place of a section's own
 abbrev pub ReplaceData : Type 0
@@ -22,24 +13,6 @@ ReplaceData = Replace
 -- a print site and the index of its zone
 abbrev pub SiteData : Type 0
 SiteData = PlanSite
-
--- the points of a curve: an ink value and what it becomes
-abbrev pub CurveData : Type 0
-CurveData = List (ℕ × ℕ)
-
--- a threshold tile: its numbers row after row
-pub record TileData : Type 0 where
-  pub name : List ℕ
-  pub width : ℕ
-  pub height : ℕ
-  pub at : List ℕ
-
--- a page; the first layer lies at the bottom
-pub record PageData : Type 0 where
-  pub name : List ℕ
-  pub colour : Bool
-  pub spot : Bool
-  pub layers : List LayerData
 
 -- a section and the indexes of its pages
 pub record SectionData : Type 0 where

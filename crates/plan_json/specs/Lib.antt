@@ -1,12 +1,6 @@
 pub mod Data
-pub mod Forms
 pub mod Plan
 pub mod Shown
-pub mod Reading
-pub mod Gives
-pub mod Place
-pub mod Printing
-pub mod Pages
 pub mod Zoning
 pub mod Files
 pub mod Printed

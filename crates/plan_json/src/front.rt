@@ -1,15 +1,12 @@
 // The first keys of a plan: its edition, its resolution, and the sides of pages and plates.
 ghost use Rattle.std.specs.Prelude.{◌≡◌, ◌≤◌, IfOk, codes};
 ghost use Rattle.plan_json.specs.Data.{width_over, height_over};
-ghost use Rattle.plan_json.specs.Gives.{Gives};
+ghost use Rattle.plan_words.specs.Gives.{Gives};
 ghost use Rattle.plan_json.specs.PlanOf as spec;
-ghost use Rattle.plan_json.specs.Reading.{name as spec_name, optional, required};
+ghost use Rattle.plan_words.specs.Reading.{name as spec_name, optional, required};
 ghost use Rattle.serde_json.specs.View.{view};
 
-use crate::PlanFault;
-use crate::list::{items_within, nth};
-use crate::names::name;
-use crate::object::Object;
+use plan_words::{Object, PlanFault, items_within, name, nth};
 use pr_base::PathText;
 use serde_json::Value;
 use std::alloc::Global;
@@ -48,7 +45,7 @@ fn margins(alloc: Global, path: &str, value: &Value) -> Result<[u32; 4], PlanFau
     Ok([left as u32, top as u32, right as u32, bottom as u32])
 }
 
-#[tactic(auto, unfolding(crate::specs::Reading::optional))]
+#[tactic(auto, unfolding(plan_words::specs::Reading::optional))]
 fn margins_in(o: &Object<'_>) -> Result<[u32; 4], PlanFault>
     ensures { Gives (λ m. m) result
         (optional (codes "margins") spec.no_margins spec.margins o.now.path.now (view o.now.value.now)) }
@@ -79,7 +76,7 @@ fn fits_plate(margins: &[u32; 4], page_width: u32, page_height: u32, gutter: u32
     sum_width(margins, page_width, gutter) <= 65535 && sum_height(margins, page_height) <= 65535
 }
 
-#[tactic(auto, unfolding(crate::specs::Reading::required))]
+#[tactic(auto, unfolding(plan_words::specs::Reading::required))]
 fn edition_in(o: &Object<'_>) -> Result<PathText, PlanFault>
     ensures { Gives (λ s. s) result
         (required (codes "edition") spec_name o.now.path.now (view o.now.value.now)) }
@@ -88,7 +85,7 @@ fn edition_in(o: &Object<'_>) -> Result<PathText, PlanFault>
     Ok(PathText::of(o.alloc, s)?)
 }
 
-#[tactic(auto, unfolding(crate::specs::Reading::required))]
+#[tactic(auto, unfolding(plan_words::specs::Reading::required))]
 fn page_in(o: &Object<'_>) -> Result<(u32, u32), PlanFault>
     ensures { Gives (λ p. p) result
         (required (codes "page") spec.page_size o.now.path.now (view o.now.value.now)) }

@@ -4,36 +4,20 @@
 // fields, and `Plan` keeps `IsPlan`.
 #![tactic(auto)]
 
-mod fault;
 mod files;
-mod forms;
 mod front;
 mod laws;
-mod layer;
-mod list;
-mod named;
-mod names;
-mod object;
-mod place;
 mod plan;
-mod printing;
-mod read_curves;
-mod read_layers;
-mod read_marks;
-mod read_pages;
 mod read_sections;
 mod read_sites;
-mod read_tiles;
 mod read_zones;
 mod reading;
-mod words;
 mod zoning;
 
-pub use fault::PlanFault;
 pub use laws::plan_one_is_plan_two;
-pub use layer::{Page, PlanLayer};
 pub use plan::Plan;
-pub use printing::{Mark, PlanCurve, PlanTile, Screen};
+pub use plan_parts::{Mark, Page, PlanCurve, PlanLayer, PlanTile, Screen};
+pub use plan_words::PlanFault;
 pub use reading::read_plan;
 pub use zoning::{PlanSite, Replace, Section, Zone};
 

@@ -1,6 +1,7 @@
 // The plan of an edition.
 
-use crate::{Mark, Page, PlanCurve, PlanSite, PlanTile, Screen, Section, Zone};
+use crate::{PlanSite, Section, Zone};
+use plan_parts::{Mark, Page, PlanCurve, PlanTile, Screen};
 use pr_base::PathText;
 use std::marker::Model;
 

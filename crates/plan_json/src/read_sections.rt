@@ -1,22 +1,23 @@
 // Reading the sections of a plan.
 ghost use Rattle.std.specs.Prelude.{◌≤◌, IfOk, length, codes};
-ghost use Rattle.plan_json.specs.Gives.{Gives};
-ghost use Rattle.plan_json.specs.Pages.{page_names};
-ghost use Rattle.plan_json.specs.Reading.{required};
+ghost use Rattle.plan_words.specs.Gives.{Gives};
+ghost use Rattle.plan_parts.specs.Pages.{page_names};
+ghost use Rattle.plan_words.specs.Reading.{required};
 ghost use Rattle.plan_json.specs.Zoning as spec;
 ghost use Rattle.serde_json.specs.View.{view};
 
-use crate::list::items_within;
-use crate::named::NamedPage;
-use crate::names::{defined, new_name};
-use crate::object::Object;
-use crate::place::Place;
-use crate::{PlanFault, Section};
+use crate::Section;
+use plan_parts::NamedPage;
+use plan_words::{Object, Place, PlanFault, defined, items_within, new_name};
 use pr_base::PathText;
 use serde_json::Value;
 use std::alloc::Global;
 
-#[tactic(auto, using(crate::proofs::Items::count_of_view), unfolding(crate::specs::Zoning::section_pages))]
+#[tactic(
+    auto,
+    using(plan_words::proofs::Items::count_of_view),
+    unfolding(crate::specs::Zoning::section_pages)
+)]
 fn section_pages(
     alloc: Global,
     pages: &[NamedPage],
@@ -39,7 +40,7 @@ fn section_pages(
     Ok(all)
 }
 
-#[tactic(auto, unfolding(crate::specs::Zoning::section, crate::specs::Reading::required))]
+#[tactic(auto, unfolding(crate::specs::Zoning::section, plan_words::specs::Reading::required))]
 fn section(
     alloc: Global,
     pages: &[NamedPage],
@@ -81,7 +82,7 @@ fn sections(
 }
 
 /// The sections of a plan.
-#[tactic(auto, unfolding(crate::specs::Reading::required))]
+#[tactic(auto, unfolding(plan_words::specs::Reading::required))]
 pub(crate) fn sections_in(o: &Object<'_>, pages: &[NamedPage]) -> Result<Vec<Section>, PlanFault>
     ensures { Gives (λ v. v.items) result
         (required (codes "sections") (spec.sections (page_names pages.now))

@@ -1,16 +1,13 @@
 // Reading the print sites of a plan.
 ghost use Rattle.std.specs.Prelude.{None, codes};
-ghost use Rattle.plan_json.specs.Gives.{Gives};
-ghost use Rattle.plan_json.specs.Place.{path_of};
-ghost use Rattle.plan_json.specs.Reading.{optional, required};
+ghost use Rattle.plan_words.specs.Gives.{Gives};
+ghost use Rattle.plan_words.specs.Place.{path_of};
+ghost use Rattle.plan_words.specs.Reading.{optional, required};
 ghost use Rattle.plan_json.specs.Zoning as spec;
 ghost use Rattle.serde_json.specs.View.{view};
 
-use crate::list::items_within;
-use crate::names::{defined, new_name};
-use crate::object::Object;
-use crate::place::Place;
-use crate::{PlanFault, PlanSite, Zone};
+use crate::{PlanSite, Zone};
+use plan_words::{Object, Place, PlanFault, defined, items_within, new_name};
 use serde_json::Value;
 use std::alloc::Global;
 
@@ -28,7 +25,7 @@ fn site_zone(
     Ok(Some(zone))
 }
 
-#[tactic(auto, unfolding(crate::specs::Reading::optional))]
+#[tactic(auto, unfolding(plan_words::specs::Reading::optional))]
 fn zone_of(o: &Object<'_>, zones: &[Zone]) -> Result<Option<usize>, PlanFault>
     ensures { Gives (λ z. z) result
         (optional (codes "zone") None (spec.site_zone (spec.zone_names zones.now))
@@ -40,7 +37,7 @@ fn zone_of(o: &Object<'_>, zones: &[Zone]) -> Result<Option<usize>, PlanFault>
     }
 }
 
-#[tactic(auto, unfolding(crate::specs::Zoning::site, crate::specs::Reading::required))]
+#[tactic(auto, unfolding(crate::specs::Zoning::site, plan_words::specs::Reading::required))]
 fn site(
     alloc: Global,
     zones: &[Zone],
@@ -77,7 +74,7 @@ fn sites(
 }
 
 /// The sites of a plan.
-#[tactic(auto, unfolding(crate::specs::Reading::required))]
+#[tactic(auto, unfolding(plan_words::specs::Reading::required))]
 pub(crate) fn sites_in(o: &Object<'_>, zones: &[Zone]) -> Result<Vec<PlanSite>, PlanFault>
     ensures { Gives (λ v. v.items) result
         (required (codes "sites") (spec.sites (spec.zone_names zones.now))

@@ -1,20 +1,16 @@
 // Reading the zones of a plan.
 ghost use Rattle.std.specs.Prelude.{◌≡◌, ◌≤◌, ◌<◌, IfOk, [], length, codes};
 ghost use Rattle.std.specs.List.{list_any};
-ghost use Rattle.plan_json.specs.Gives.{Gives};
-ghost use Rattle.plan_json.specs.Place.{path_of};
-ghost use Rattle.plan_json.specs.Pages.{page_names};
-ghost use Rattle.plan_json.specs.Reading.{optional, required};
+ghost use Rattle.plan_words.specs.Gives.{Gives};
+ghost use Rattle.plan_words.specs.Place.{path_of};
+ghost use Rattle.plan_parts.specs.Pages.{page_names};
+ghost use Rattle.plan_words.specs.Reading.{optional, required};
 ghost use Rattle.plan_json.specs.Zoning as spec;
 ghost use Rattle.serde_json.specs.View.{view};
 
-use crate::list::items_within;
-use crate::named::NamedPage;
-use crate::names::{defined, new_name};
-use crate::object::Object;
-use crate::place::Place;
-use crate::words::number;
-use crate::{PlanFault, Replace, Section, Zone};
+use crate::{Replace, Section, Zone};
+use plan_parts::NamedPage;
+use plan_words::{Object, Place, PlanFault, defined, items_within, new_name, number};
 use serde_json::Value;
 use std::alloc::Global;
 
@@ -54,7 +50,7 @@ fn page_count(sections: &[Section], section: usize) -> usize
     section.pages.len()
 }
 
-#[tactic(auto, unfolding(crate::specs::Zoning::replace, crate::specs::Reading::required))]
+#[tactic(auto, unfolding(crate::specs::Zoning::replace, plan_words::specs::Reading::required))]
 fn replace(
     alloc: Global,
     pages: &[NamedPage],
@@ -106,7 +102,7 @@ fn replaced(
     Ok(all)
 }
 
-#[tactic(auto, unfolding(crate::specs::Zoning::zone, crate::specs::Reading::required))]
+#[tactic(auto, unfolding(crate::specs::Zoning::zone, plan_words::specs::Reading::required))]
 fn zone(
     alloc: Global,
     pages: &[NamedPage],
@@ -152,7 +148,7 @@ fn zones(
 }
 
 /// The zones of a plan.
-#[tactic(auto, unfolding(crate::specs::Reading::optional))]
+#[tactic(auto, unfolding(plan_words::specs::Reading::optional))]
 pub(crate) fn zones_in(
     o: &Object<'_>,
     pages: &[NamedPage],

@@ -1,6 +1,6 @@
 // Which pages make which sections, and which site prints which pages.
 
-use crate::names::Named;
+use plan_words::Named;
 use pr_base::PathText;
 use std::marker::Model;
 

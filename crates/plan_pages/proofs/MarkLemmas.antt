@@ -6,8 +6,10 @@ use Rattle.std.proofs.lemmas.List.{take_all}
 use Rattle.std.proofs.lemmas.List.Elements.{All-weaker}
 use Rattle.std.proofs.lemmas.List.Folds.{list_any_more, list_any_none}
 use Rattle.pr_base.specs.declared.ink.Ink.{Ink}
-use Rattle.plan_json.specs.Data.{PlanData, MarkData, plate_width, plate_height}
-use Rattle.plan_json.specs.Plan.{IsPlan, IsMark}
+use Rattle.plan_parts.specs.Data.{MarkData}
+use Rattle.plan_json.specs.Data.{PlanData, plate_width, plate_height}
+use Rattle.plan_parts.specs.Parts.{IsMark}
+use Rattle.plan_json.specs.Plan.{IsPlan}
 use Rattle.plan_pages.specs.Plate.{has_ink, covers, is_marked_at}
 use Rattle.plan_pages.specs.Span.{AddsBits}
 use Rattle.plan_pages.proofs.SpanLemmas.{adds_join}

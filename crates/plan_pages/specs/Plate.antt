@@ -2,7 +2,8 @@
 use Rattle.std.specs.Prelude.{ℕ, ◌+◌, Bool, false, ◌&&◌, nat_le, nat_lt, slice_index, slice_index_or}
 use Rattle.std.specs.List.{list_any}
 use Rattle.pr_base.specs.declared.ink.Ink.{Ink}
-use Rattle.plan_json.specs.Data.{PlanData, MarkData, plate_width, plate_height}
+use Rattle.plan_parts.specs.Data.{MarkData}
+use Rattle.plan_json.specs.Data.{PlanData, plate_width, plate_height}
 use Rattle.plan_pages.specs.declared.shape.PlateShape.{PlateShape}
 use Rattle.plan_pages.specs.Ink.{slot_of}
 

@@ -13,7 +13,8 @@ use Rattle.std.proofs.Math.Nat.{mul-le-mul_right, div-add-mod, mul_comm}
 use Rattle.pr_base.specs.declared.ink.Ink.{Ink}
 use Rattle.pr_base.specs.declared.ink.Ink.TheVariants.{K}
 use Rattle.plan_json.specs.Data.{PlanData, plate_height}
-use Rattle.plan_json.specs.Plan.{IsPlan, IsWithin}
+use Rattle.plan_words.specs.Words.{IsWithin}
+use Rattle.plan_json.specs.Plan.{IsPlan}
 use Rattle.plan_pages.specs.Ink.{slot_of}
 use Rattle.plan_pages.specs.Pages.{page_count}
 use Rattle.plan_rows.specs.declared.group.Group.{Group}

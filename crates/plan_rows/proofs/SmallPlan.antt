@@ -3,7 +3,8 @@ use Rattle.std.proofs.Common.{◌≡◌, ℕ, false, List, [], ◌∷◌, map, f
 use Rattle.std.specs.Prelude.{codes}
 use Rattle.std.specs.List.{range_with_len}
 use Rattle.pr_base.specs.declared.ink.Ink.TheVariants.{K}
-use Rattle.plan_json.specs.Data.{PlanData, PageData}
+use Rattle.plan_parts.specs.Data.{PageData}
+use Rattle.plan_json.specs.Data.{PlanData}
 use Rattle.plan_pages.specs.Pages.{chosen_page}
 use Rattle.plan_rows.specs.declared.group.Group.{Group}
 use Rattle.plan_rows.specs.Groups.{group_of, site_pages, pair_groups, section_groups, groups_of}

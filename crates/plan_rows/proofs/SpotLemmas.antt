@@ -4,7 +4,8 @@ use Rattle.std.specs.Prelude.{slice_get, filter}
 use Rattle.std.specs.List.{flat_map, range_with_len}
 use Rattle.std.specs.Option.{option_map, option_map_or}
 use Rattle.std.proofs.lemmas.Option.{slice_get-map}
-use Rattle.plan_json.specs.Data.{PlanData, PageData, plate_height}
+use Rattle.plan_parts.specs.Data.{PageData}
+use Rattle.plan_json.specs.Data.{PlanData, plate_height}
 use Rattle.plan_pages.specs.Pages.{chosen_page, page_count}
 use Rattle.plan_rows.specs.declared.group.Group.{Group}
 use Rattle.plan_rows.specs.Inks.{has_site}

@@ -1,7 +1,8 @@
 -- A plan without what it says of the spot ink.
 use Rattle.std.specs.Prelude.{◌≡◌, false, [], ◌∷◌, ◌++◌, map, take}
-use Rattle.plan_json.specs.declared.printing.Screen.TheVariants.{Bayer}
-use Rattle.plan_json.specs.Data.{PlanData, PageData, LayerData, MarkData, CurveData}
+use Rattle.plan_parts.specs.declared.printing.Screen.TheVariants.{Bayer}
+use Rattle.plan_parts.specs.Data.{PageData, LayerData, MarkData, CurveData}
+use Rattle.plan_json.specs.Data.{PlanData}
 
 -- a mark that is not printed with S
 abbrev pub spotless_mark : MarkData → MarkData

@@ -37,7 +37,7 @@ impl Model for RowPlan {
 impl RowPlan {
     ghost use Rattle.pr_base.specs.declared.ink.Ink.{Ink};
     ghost use Rattle.plan_pages.specs.Ink.{slot_of};
-    ghost use Rattle.plan_json.specs.Plan.{IsWithin};
+    ghost use Rattle.plan_words.specs.Words.{IsWithin};
     ghost use Rattle.plan_pages.specs.Pages.{page_count};
     ghost use Rattle.plan_rows.specs.Groups.{pair_groups, section_groups};
     ghost use Rattle.plan_rows.specs.Rows.{IsGroupAt, added, keeps_in, places_in, rows_of};

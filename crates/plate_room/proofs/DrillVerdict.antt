@@ -14,7 +14,8 @@ use Rattle.pr_base.specs.declared.fault.FaultKind.TheVariants.{MaskSize, TooLong
 use Rattle.pr_ports.specs.Shelf.{held_at}
 use Rattle.tif_image.specs.declared.usage.BilevelUse.TheVariants.{Line, Mask}
 use Rattle.tif_image.specs.Image.{bilevel_shape, contone_shape}
-use Rattle.plan_json.specs.Data.{PageData, PlanData}
+use Rattle.plan_parts.specs.Data.{PageData}
+use Rattle.plan_json.specs.Data.{PlanData}
 use Rattle.press_feed.specs.declared.refusal.Refusal.TheVariants.{File}
 use Rattle.press_feed.specs.First.{first_some}
 use Rattle.press_feed.specs.Layers.{bytes_at}

@@ -4,7 +4,7 @@ use Rattle.pr_ports.specs.Sink.{Grew, GrewByPrefix}
 use Rattle.pr_rack.specs.declared.rack.Rack.{Ghosts}
 use Rattle.tif_strips.specs.declared.shape.Shape.{Shape}
 use Rattle.tif_image.specs.Image.{contone_shape}
-use Rattle.plan_json.specs.Plan.{IsWithin}
+use Rattle.plan_words.specs.Words.{IsWithin}
 use Rattle.plate_room.specs.Command as line
 use Rattle.plate_room.specs.Line.{memory_line}
 use Rattle.plate_room.specs.Refusal as meant

@@ -1,7 +1,7 @@
 -- Why a command is refused, with the status and the line of each refusal.
 use Rattle.std.specs.Prelude.{ℕ, List}
 use Rattle.pr_base.specs.declared.fault.FileFault.{FileFault}
-use Rattle.plan_json.specs.declared.fault.PlanFault.{PlanFault}
+use Rattle.plan_words.specs.declared.fault.PlanFault.{PlanFault}
 use Rattle.plate_room.specs.Line.{words_line, long_plan_line, plan_line, file_line, shelf_line}
 
 pub data Refusal : Type 0 where

@@ -6,7 +6,7 @@ use Rattle.pr_base.specs.declared.fault.FaultKind.TheVariants.{TooLong}
 use Rattle.pr_ports.specs.Shelf.{held_at}
 use Rattle.tif_strips.specs.declared.shape.Shape.{Shape}
 use Rattle.tif_image.specs.Image.{contone_shape}
-use Rattle.plan_json.specs.declared.fault.PlanFault.{PlanFault}
+use Rattle.plan_words.specs.declared.fault.PlanFault.{PlanFault}
 use Rattle.plan_json.specs.Data.{PlanData}
 use Rattle.plan_json.specs.PlanOf.{plan_of}
 use Rattle.press_feed.specs.declared.refusal.Refusal as filed

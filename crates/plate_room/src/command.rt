@@ -1,6 +1,6 @@
 // The words of a command line.
 ghost use Rattle.std.specs.Prelude.{◌≡◌, IfSome};
-ghost use Rattle.plan_json.specs.Plan.{IsWithin};
+ghost use Rattle.plan_words.specs.Words.{IsWithin};
 ghost use Rattle.plate_room.specs.Command.{command_of as meant, drill_of as drill_meant, edition_of as edition_meant, numbers_of as numbers_meant, one_of as one_meant, words_of};
 ghost use Rattle.plate_room.specs.Answer.{HasNumbers, HasTurns, IfRun, IsCommand, IsDrill, IsEdition};
 

@@ -4,7 +4,7 @@ ghost use Rattle.std.specs.Cmp.Lexicographic.{pointwise};
 ghost use Rattle.std.specs.List.{IsDistinct};
 ghost use Rattle.pr_ports.specs.Mem.{files_of};
 ghost use Rattle.pr_rack.specs.Mem.{empty_slots};
-ghost use Rattle.plan_json.specs.Plan.{IsWithin};
+ghost use Rattle.plan_words.specs.Words.{IsWithin};
 ghost use Rattle.plan_json.specs.PlanOf.{plan_of};
 ghost use Rattle.press_feed.specs.Verdict.{files_in, verdict_on_files};
 ghost use Rattle.plate_room.specs.Answer.{DrillAnswered};

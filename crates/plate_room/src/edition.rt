@@ -1,6 +1,7 @@
 // The command `run`: the plates of all sites of an edition.
 ghost use Rattle.std.specs.Prelude.{◌≡◌, ◌≤◌, IfErr, IfOk, OnOk, length};
-ghost use Rattle.plan_json.specs.Plan.{IsPlan, IsWithin};
+ghost use Rattle.plan_words.specs.Words.{IsWithin};
+ghost use Rattle.plan_json.specs.Plan.{IsPlan};
 ghost use Rattle.plate_room.specs.Answer.{Delivered, PlanRefused, PrepareRefused, RunAnswered, edition_told};
 ghost use Rattle.plate_room.specs.Done.{IsPrepared, tellings};
 ghost use Rattle.ring_run.specs.Fits.{AreIdle as SitesIdle};

@@ -16,8 +16,10 @@ use Rattle.tif_strips.specs.declared.shape.Shape.{Shape}
 use Rattle.tif_strips.specs.Strips.{fault_of_field, fault_of_strip, first_fault, needed_length, samples_in, stored_bytes, strip_count, strip_fault, strip_offset, strip_size}
 use Rattle.tif_image.specs.Fields.{◌>>=◌, ◌>>◌, bits_each, first_bits, full_dot_range, full_range, must, no_fault, no_tile, no_tiles, number_among, number_within}
 use Rattle.tif_image.specs.Image.{bilevel_shape, contone_shape, image_fields, ink_fields, shape_of}
-use Rattle.plan_json.specs.Data.{LayerData, PlanData}
-use Rattle.plan_json.specs.Plan.{IsLayer, IsPage, IsPlan}
+use Rattle.plan_parts.specs.Data.{LayerData}
+use Rattle.plan_json.specs.Data.{PlanData}
+use Rattle.plan_parts.specs.Parts.{IsLayer, IsPage}
+use Rattle.plan_json.specs.Plan.{IsPlan}
 use Rattle.press_feed.specs.declared.fit.Misfit.{Misfit}
 use Rattle.press_feed.specs.declared.usage.FileUse.{FileUse}
 use Rattle.press_feed.specs.declared.usage.FileUse.TheVariants.{Contone, Bilevel}

@@ -20,9 +20,11 @@ use Rattle.tif_image.specs.Usage.{depth_of, photometrics_of, samples_of}
 use Rattle.tif_image.specs.Image.{BilevelImage, image_fields, ink_fields, shape_of}
 use Rattle.page_layers.specs.Layer.{IsLayer}
 use Rattle.page_layers.specs.Layer as laid
-use Rattle.plan_json.specs.Data.{LayerData, PageData, PlanData}
-use Rattle.plan_json.specs.Plan.{IsCrop, IsPage, IsWithin}
-use Rattle.plan_json.specs.Plan as planned
+use Rattle.plan_parts.specs.Data.{LayerData, PageData}
+use Rattle.plan_json.specs.Data.{PlanData}
+use Rattle.plan_words.specs.Words.{IsWithin}
+use Rattle.plan_parts.specs.Parts.{IsCrop, IsPage}
+use Rattle.plan_parts.specs.Parts as planned
 use Rattle.press_feed.specs.declared.usage.FileUse.TheVariants.{Bilevel}
 use Rattle.press_feed.specs.First.{first_some}
 use Rattle.press_feed.specs.Fit.{ArePlanned, PassesTests}

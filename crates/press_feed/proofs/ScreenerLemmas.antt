@@ -10,8 +10,8 @@ use Rattle.scr_tile.specs.Tile.{tile_bit}
 use Rattle.scr_tile.specs.AnyTile.{threshold_of}
 use Rattle.scr_diffuse.specs.Diffusion.{diffused_bit, prints}
 use Rattle.scr_diffuse.proofs.DiffusionLemmas.{v_at-same}
-use Rattle.plan_json.specs.declared.printing.Screen.{Screen}
-use Rattle.plan_json.specs.declared.printing.Screen.TheVariants.{Bayer, Diffuse, Own}
+use Rattle.plan_parts.specs.declared.printing.Screen.{Screen}
+use Rattle.plan_parts.specs.declared.printing.Screen.TheVariants.{Bayer, Diffuse, Own}
 use Rattle.plan_json.specs.Data.{PlanData}
 use Rattle.plan_pages.specs.Ink.{slot_of}
 use Rattle.press_feed.specs.declared.screener.Screener.{Screener}

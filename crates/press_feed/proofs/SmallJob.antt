@@ -9,9 +9,10 @@ use Rattle.tif_image.specs.Fields.{bits_each, full_dot_range, no_tiles, number_a
 use Rattle.tif_image.specs.Image.{image_fields, shape_of}
 use Rattle.page_layers.specs.Layer.{ink_at}
 use Rattle.scr_tile.specs.Tile.{index_in}
-use Rattle.plan_json.specs.declared.printing.Screen.TheVariants.{Bayer}
-use Rattle.plan_json.specs.declared.layer.PlanLayer.{PlanLayer}
-use Rattle.plan_json.specs.Data.{PlanData, CurveData}
+use Rattle.plan_parts.specs.declared.printing.Screen.TheVariants.{Bayer}
+use Rattle.plan_parts.specs.declared.layer.PlanLayer.{PlanLayer}
+use Rattle.plan_parts.specs.Data.{CurveData}
+use Rattle.plan_json.specs.Data.{PlanData}
 use Rattle.plan_pages.specs.Pages.{chosen_page}
 use Rattle.plan_pages.specs.Plate.{is_marked_at}
 use Rattle.plan_rows.specs.Groups.{group_of, site_pages, pair_groups, section_groups, groups_of}

@@ -16,9 +16,10 @@ use Rattle.page_layers.specs.Layer.{admits, column_at, covers_column, covers_row
 use Rattle.page_tone.specs.Curve.{curve_value}
 use Rattle.scr_tile.specs.Tile.{threshold_at, tile_bit}
 use Rattle.scr_diffuse.specs.Diffusion.{diffused_bit}
-use Rattle.plan_json.specs.declared.printing.Screen.{Screen}
-use Rattle.plan_json.specs.declared.printing.Screen.TheVariants.{Bayer, Diffuse, Own}
-use Rattle.plan_json.specs.Data.{CurveData, LayerData, MarkData, PageData, PlanData, plate_height, plate_width}
+use Rattle.plan_parts.specs.declared.printing.Screen.{Screen}
+use Rattle.plan_parts.specs.declared.printing.Screen.TheVariants.{Bayer, Diffuse, Own}
+use Rattle.plan_parts.specs.Data.{CurveData, LayerData, MarkData, PageData}
+use Rattle.plan_json.specs.Data.{PlanData, plate_height, plate_width}
 use Rattle.plan_pages.specs.Ink.{slot_of}
 use Rattle.plan_pages.specs.Pages.{page_count}
 use Rattle.plan_pages.specs.Plate.{covers, has_ink, is_marked_at, shape_of_plate}

@@ -2,8 +2,11 @@
 use Rattle.std.specs.Prelude.{◌≡◌, List, ℕ, length, None}
 use Rattle.std.specs.Option.{ForSome}
 use Rattle.tif_image.specs.declared.usage.BilevelUse.TheVariants.{Mask}
-use Rattle.plan_json.specs.Data.{PlanData, LayerData}
-use Rattle.plan_json.specs.Plan.{IsCrop, IsPlan, IsWithin}
+use Rattle.plan_parts.specs.Data.{LayerData}
+use Rattle.plan_json.specs.Data.{PlanData}
+use Rattle.plan_words.specs.Words.{IsWithin}
+use Rattle.plan_parts.specs.Parts.{IsCrop}
+use Rattle.plan_json.specs.Plan.{IsPlan}
 use Rattle.press_feed.specs.declared.usage.FileUse.TheVariants.{Bilevel}
 use Rattle.press_feed.specs.Layers.{bytes_at}
 use Rattle.press_feed.specs.Tests.{ArePassed, fault_for, fault_of_layers, fit_fault, use_of}

@@ -12,7 +12,8 @@ use Rattle.page_layers.specs.declared.layer.Art.TheVariants.{Contone, Line}
 use Rattle.page_layers.specs.declared.layer.Crop.{Crop}
 use Rattle.page_layers.specs.declared.layer.Layer.{Layer}
 use Rattle.page_layers.specs.Layer.{shape_of}
-use Rattle.plan_json.specs.Data.{PlanData, LayerData}
+use Rattle.plan_parts.specs.Data.{LayerData}
+use Rattle.plan_json.specs.Data.{PlanData}
 
 -- the bytes of the file with this index
 abbrev pub bytes_at : List (List ℕ) → ℕ → List ℕ

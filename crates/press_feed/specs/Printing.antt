@@ -11,8 +11,8 @@ use Rattle.scr_tile.specs.Tile.{threshold_at, tile_bit}
 use Rattle.scr_tile.specs.AnyTile.{threshold_of}
 use Rattle.scr_tile.specs.declared.any_tile.AnyTile.TheVariants as tile_kinds
 use Rattle.scr_diffuse.specs.Diffusion.{diffused_bit}
-use Rattle.plan_json.specs.declared.printing.Screen.{Screen}
-use Rattle.plan_json.specs.declared.printing.Screen.TheVariants.{Bayer, Diffuse, Own}
+use Rattle.plan_parts.specs.declared.printing.Screen.{Screen}
+use Rattle.plan_parts.specs.declared.printing.Screen.TheVariants.{Bayer, Diffuse, Own}
 use Rattle.plan_json.specs.Data.{PlanData}
 use Rattle.plan_pages.specs.Ink.{slot_of}
 use Rattle.plan_rows.specs.Groups.{page_colour, page_spot}

@@ -5,8 +5,8 @@ use Rattle.scr_tile.specs.Tile.{threshold_at, tile_bit}
 use Rattle.scr_tile.specs.AnyTile.{threshold_of}
 use Rattle.scr_diffuse.specs.Diffusion.{diffused_bit}
 use Rattle.scr_diffuse.specs.Diffuser.{PageFront}
-use Rattle.plan_json.specs.declared.printing.Screen.{Screen}
-use Rattle.plan_json.specs.declared.printing.Screen.TheVariants.{Bayer, Diffuse, Own}
+use Rattle.plan_parts.specs.declared.printing.Screen.{Screen}
+use Rattle.plan_parts.specs.declared.printing.Screen.TheVariants.{Bayer, Diffuse, Own}
 use Rattle.plan_json.specs.Data.{PlanData}
 use Rattle.press_feed.specs.declared.screener.Screener.{Screener}
 use Rattle.press_feed.specs.declared.screener.Screener.TheVariants.{Tile, Diffusion}

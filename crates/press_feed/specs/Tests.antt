@@ -9,7 +9,8 @@ use Rattle.tif_dir.specs.Directory.{number_at}
 use Rattle.tif_dir.specs.Names.{image_width, image_length}
 use Rattle.tif_image.specs.declared.usage.BilevelUse.TheVariants.{Line, Mask}
 use Rattle.tif_image.specs.Image.{contone_shape, bilevel_shape}
-use Rattle.plan_json.specs.Data.{PlanData, PageData, LayerData}
+use Rattle.plan_parts.specs.Data.{PageData, LayerData}
+use Rattle.plan_json.specs.Data.{PlanData}
 use Rattle.press_feed.specs.declared.fit.Misfit.{Misfit}
 use Rattle.press_feed.specs.declared.usage.FileUse.{FileUse}
 use Rattle.press_feed.specs.declared.usage.FileUse.TheVariants.{Contone, Bilevel}

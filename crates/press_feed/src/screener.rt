@@ -1,6 +1,6 @@
 // How an ink of a page is screened, row by row: by a tile, or by error diffusion.
 ghost use Rattle.std.specs.Prelude.{◌≡◌, ℕ, ◌+◌, ◌*◌, ◌<◌, ◌≤◌, IfOk, IsTrue, length, true};
-ghost use Rattle.plan_json.specs.Plan.{is_bayer};
+ghost use Rattle.plan_parts.specs.Parts.{is_bayer};
 ghost use Rattle.scr_tile.specs.AnyTile.{threshold_of};
 ghost use Rattle.scr_tile.specs.Tile.{threshold_at};
 ghost use Rattle.press_feed.specs.Printing.{own_threshold};

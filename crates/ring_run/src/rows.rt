@@ -1,7 +1,8 @@
 // The rounds of a run.
 ghost use Rattle.std.specs.Prelude.{◌≡◌, ◌<◌, ◌≤◌, length, map, false, true, OnErr, IfOk};
 ghost use Rattle.tif_packbits.specs.Frame.{framed_row};
-ghost use Rattle.plan_json.specs.Plan.{IsPlan, IsWithin};
+ghost use Rattle.plan_words.specs.Words.{IsWithin};
+ghost use Rattle.plan_json.specs.Plan.{IsPlan};
 ghost use Rattle.plan_rows.specs.Rows.{rows_of};
 ghost use Rattle.ring_rule.specs.Views.{ring_of};
 ghost use Rattle.ring_run.specs.Feeding.{HasRows, MayFeed};

@@ -10,7 +10,8 @@ use Rattle.std.proofs.lemmas.List.Sums.{sum_by-cons}
 use Rattle.pr_base.specs.declared.ink.Ink.{Ink}
 use Rattle.pr_base.specs.declared.ink.Ink.TheVariants.{C, M, Y, K, S}
 use Rattle.plan_json.specs.Data.{PlanData, plate_height}
-use Rattle.plan_json.specs.Plan.{IsPlan, IsWithin}
+use Rattle.plan_words.specs.Words.{IsWithin}
+use Rattle.plan_json.specs.Plan.{IsPlan}
 use Rattle.plan_pages.specs.Ink.{slot_of}
 use Rattle.plan_rows.specs.declared.group.Group.{Group}
 use Rattle.plan_rows.specs.Inks.{inks_of, ink_count, ink_place, has_site}

@@ -1,9 +1,9 @@
 use Rattle.std.proofs.Common.{◌≡◌, length, rules}
 use Rattle.std.proofs.lemmas.Result.{err_from_is_err_and}
 use Rattle.serde_json.specs.View.{view}
-use Rattle.plan_json.specs.Pages.{page_names}
-use Rattle.plan_json.proofs.SoundPages.{section_pages_sound}
-use Rattle.plan_json.proofs.Items.{each-more, each-fails, each-done}
+use Rattle.plan_parts.specs.Pages.{page_names}
+use Rattle.plan_json.proofs.SoundZoning.{section_pages_sound}
+use Rattle.plan_words.proofs.Items.{each-more, each-fails, each-done}
 use Rattle.plan_json.proofs.read_sections.section_pages.Goals as goal
 
 pub returns-in_err-one : goal.returns-in_err-one

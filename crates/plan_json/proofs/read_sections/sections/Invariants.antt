@@ -1,6 +1,6 @@
 use Rattle.plan_json.specs.Zoning as spec
-use Rattle.plan_json.specs.Pages.{page_names}
-use Rattle.plan_json.proofs.Items.{Reads}
+use Rattle.plan_parts.specs.Pages.{page_names}
+use Rattle.plan_words.proofs.Items.{Reads}
 use Rattle.serde_json.specs.View.{view}
 use Rattle.plan_json.proofs.read_sections.sections.Given as goal
 

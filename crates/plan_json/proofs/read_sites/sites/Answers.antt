@@ -1,7 +1,7 @@
 use Rattle.std.proofs.Common.{◌≡◌, length, rules}
 use Rattle.std.proofs.lemmas.Result.{err_from_is_err_and}
-use Rattle.plan_json.specs.Reading.{at_item}
-use Rattle.plan_json.proofs.Items.{each-more, each-fails, each-done}
+use Rattle.plan_words.specs.Reading.{at_item}
+use Rattle.plan_words.proofs.Items.{each-more, each-fails, each-done}
 use Rattle.plan_json.proofs.read_sites.sites.Goals as goal
 
 pub returns-in_err-one : goal.returns-in_err-one

@@ -1,5 +1,5 @@
 use Rattle.plan_json.specs.Zoning as spec
-use Rattle.plan_json.proofs.Items.{Reads}
+use Rattle.plan_words.proofs.Items.{Reads}
 use Rattle.serde_json.specs.View.{view}
 use Rattle.plan_json.proofs.read_sites.sites.Given as goal
 

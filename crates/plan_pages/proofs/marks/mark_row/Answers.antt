@@ -1,5 +1,6 @@
 use Rattle.std.proofs.Common.{◌≡◌, ◌∙◌, List, ap, subst}
-use Rattle.plan_json.specs.Data.{PlanData, MarkData}
+use Rattle.plan_parts.specs.Data.{MarkData}
+use Rattle.plan_json.specs.Data.{PlanData}
 use Rattle.plan_json.specs.Plan.{IsPlan}
 use Rattle.plan_pages.specs.Plate.{is_marked_at}
 use Rattle.plan_pages.specs.Span.{AddsBits}

@@ -3,7 +3,8 @@ use Rattle.std.proofs.lemmas.List.{map_more, take_all}
 use Rattle.std.proofs.lemmas.List.Elements.{All-push, All-same}
 use Rattle.page_layers.specs.declared.layer.Layer.{Layer}
 use Rattle.page_layers.specs.Layer.{IsLayer}
-use Rattle.plan_json.specs.Data.{PlanData, LayerData}
+use Rattle.plan_parts.specs.Data.{LayerData}
+use Rattle.plan_json.specs.Data.{PlanData}
 use Rattle.press_feed.specs.Layers.{layer_of, layers_of, planned_layers}
 use Rattle.press_feed.proofs.FitLemmas.{layer_fits, planned_pass}
 use Rattle.press_feed.proofs.layers.open_layers.Goals as goal

@@ -1,0 +1,2 @@
+pub mod SoundPrinting
+pub mod SoundPages

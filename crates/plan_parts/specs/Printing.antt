@@ -1,0 +1,158 @@
+-- Reading tiles, screens, curves and marks, each by its table.
+use Rattle.std.specs.Prelude.{ℕ, ◌+◌, ◌-◌, ◌*◌, ◌==◌, ◌&&◌, ◌||◌, Bool, true, false, not, if◌then◌else◌, nat_le, nat_lt, nat_eq, List, [], ◌∷◌, ◌++◌, length, map, drop, Option, Some, None, Ok, Err, option_map, replicate, slice_index_or, codes}
+use Rattle.std.specs.List.{list_any, starts_with}
+use Rattle.std.specs.Str.{bytes_eq}
+use Rattle.serde_json.specs.Data.{Items}
+use Rattle.plan_words.specs.declared.fault.PlanFault.TheVariants.{Range, Unknown}
+use Rattle.plan_parts.specs.declared.printing.Mark.{Mark}
+use Rattle.plan_parts.specs.declared.printing.Screen.{Screen}
+use Rattle.plan_parts.specs.declared.printing.Screen.TheVariants.{Bayer, Diffuse, Own}
+use Rattle.plan_parts.specs.Data.{TileData, CurveData, MarkData}
+use Rattle.plan_parts.specs.Parts.{place}
+use Rattle.plan_words.specs.Reading.{Read, Reader, ◌>>=◌, ◌>>◌, must, some_or, object_with, required, optional, number, text, new_name, index_in, items_within, list_of, nth}
+
+-- ---- tiles
+
+abbrev pub tile_keys : List (List ℕ)
+tile_keys = codes "name" ∷ codes "width" ∷ codes "height" ∷ codes "at" ∷ []
+
+abbrev pub tile_names : List TileData → List (List ℕ)
+tile_names tiles = map (λ tile. tile.name) tiles
+
+-- so many numbers of 0 to 255
+unfoldable pub bytes_of : ℕ → Reader (List ℕ)
+bytes_of count = list_of count count (λ _. number 0 255)
+
+unfoldable pub tile : List TileData → Reader TileData
+tile earlier path d = do
+  o ← object_with tile_keys path d
+  name ← required (codes "name") (new_name (tile_names earlier)) path o
+  width ← required (codes "width") (number 1 64) path o
+  height ← required (codes "height") (number 1 64) path o
+  at ← required (codes "at") (bytes_of (width * height)) path o
+  Ok (record { name = name; width = width; height = height; at = at })
+
+unfoldable pub tiles : Reader (List TileData)
+tiles = list_of 0 16 tile
+
+-- ---- screens
+
+-- where no screen is told
+abbrev pub bayer_screens : List Screen
+bayer_screens = Bayer 8 ∷ Bayer 8 ∷ Bayer 8 ∷ Bayer 8 ∷ Bayer 8 ∷ []
+
+-- the tile that is named behind `tile:`
+abbrev pub own_screen : List (List ℕ) → List ℕ → List ℕ → Read Screen
+own_screen names path s = some_or (Unknown path) (option_map Own (index_in names s))
+
+unfoldable pub screen_named : List (List ℕ) → List ℕ → List ℕ → Read Screen
+screen_named names path s =
+    if bytes_eq s (codes "bayer2") then Ok (Bayer 2) else
+    (if bytes_eq s (codes "bayer4") then Ok (Bayer 4) else
+    (if bytes_eq s (codes "bayer8") then Ok (Bayer 8) else
+    (if bytes_eq s (codes "bayer16") then Ok (Bayer 16) else
+    (if bytes_eq s (codes "diffuse") then Ok Diffuse else
+    (if starts_with nat_eq s (codes "tile:") then own_screen names path (drop 5 s) else Err (Range path))))))
+
+unfoldable pub screen : List (List ℕ) → Reader Screen
+screen names path d = text path d >>= screen_named names path
+
+unfoldable pub screens : Bool → List TileData → Reader (List Screen)
+screens spot tiles path d = do
+  o ← object_with (ink_keys spot) path d
+  c ← optional (codes "C") (Bayer 8) (screen (tile_names tiles)) path o
+  m ← optional (codes "M") (Bayer 8) (screen (tile_names tiles)) path o
+  y ← optional (codes "Y") (Bayer 8) (screen (tile_names tiles)) path o
+  k ← optional (codes "K") (Bayer 8) (screen (tile_names tiles)) path o
+  s ← optional (codes "S") (Bayer 8) (screen (tile_names tiles)) path o
+  Ok (c ∷ m ∷ y ∷ k ∷ s ∷ [])
+
+-- ---- curves
+
+-- the curve that changes nothing
+abbrev pub identity : CurveData
+identity = (0, 0) ∷ (255, 255) ∷ []
+
+-- where no curve is told
+abbrev pub identities : List CurveData
+identities = identity ∷ identity ∷ identity ∷ identity ∷ identity ∷ []
+
+-- each point stands to the right of the one before
+abbrev pub is_rising : CurveData → Bool
+is_rising [] = true
+is_rising (p ∷ []) = true
+is_rising (p ∷ q ∷ points) = nat_lt p.0 q.0 && is_rising (q ∷ points)
+
+-- the points begin at 0, end at 255 and rise
+unfoldable pub spans : CurveData → Bool
+spans points = place points 0 == 0 && place points (length points - 1) == 255 && is_rising points
+
+-- two numbers of 0 to 255
+unfoldable pub point : Reader (ℕ × ℕ)
+point path d = do
+  items ← items_within 2 2 path d
+  x ← nth 0 (number 0 255) path items
+  y ← nth 1 (number 0 255) path items
+  Ok (x, y)
+
+unfoldable pub points : Reader CurveData
+points = list_of 2 32 (λ _. point)
+
+unfoldable pub curve : Reader CurveData
+curve path d = do
+  all ← points path d
+  must (spans all) (Range path)
+  Ok all
+
+unfoldable pub curves : Bool → Reader (List CurveData)
+curves spot path d = do
+  o ← object_with (ink_keys spot) path d
+  c ← optional (codes "C") identity curve path o
+  m ← optional (codes "M") identity curve path o
+  y ← optional (codes "Y") identity curve path o
+  k ← optional (codes "K") identity curve path o
+  s ← optional (codes "S") identity curve path o
+  Ok (c ∷ m ∷ y ∷ k ∷ s ∷ [])
+
+-- ---- marks
+
+-- whether a text begins with a letter, and what stands behind it
+abbrev pub taken : ℕ → List ℕ → Bool × List ℕ
+taken letter [] = (false, [])
+taken letter (b ∷ s) = if b == letter then (true, s) else (false, b ∷ s)
+
+-- which of these letters a text has, where it has them in this order and nothing else
+abbrev pub flags_in : List ℕ → List ℕ → Option (List Bool)
+flags_in [] [] = Some []
+flags_in [] (b ∷ s) = None
+flags_in (letter ∷ letters) s =
+    option_map (λ flags. (taken letter s).0 ∷ flags) (flags_in letters (taken letter s).1)
+
+-- some ink, and S only in plan 2
+abbrev pub may_have : Bool → List Bool → Bool
+may_have spot inks = list_any (λ ink. ink) inks && (spot || not (slice_index_or inks 4 false))
+
+unfoldable pub mark_inks : Bool → Reader (List Bool)
+mark_inks spot path d = do
+  s ← text path d
+  inks ← some_or (Range path) (flags_in (codes "CMYKS") s)
+  must (may_have spot inks) (Range path)
+  Ok inks
+
+abbrev pub mark_keys : List (List ℕ)
+mark_keys = codes "inks" ∷ codes "x" ∷ codes "y" ∷ codes "w" ∷ codes "h" ∷ []
+
+-- a mark that lies in a plate of this width and height
+unfoldable pub mark : Bool → ℕ → ℕ → Reader MarkData
+mark spot width height path d = do
+  o ← object_with mark_keys path d
+  inks ← required (codes "inks") (mark_inks spot) path o
+  x ← required (codes "x") (number 0 65535) path o
+  y ← required (codes "y") (number 0 65535) path o
+  w ← required (codes "w") (number 1 65535) path o
+  h ← required (codes "h") (number 1 65535) path o
+  must (nat_le (x + w) width && nat_le (y + h) height) (Range path)
+  Ok (record { inks = inks; x = x; y = y; w = w; h = h })
+
+unfoldable pub marks : Bool → ℕ → ℕ → Reader (List MarkData)
+marks spot width height = list_of 0 64 (λ _. mark spot width height)

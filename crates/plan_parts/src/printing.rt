@@ -1,0 +1,68 @@
+// How inks are printed: threshold tiles, screens, tone curves and the marks on the plate.
+
+use plan_words::Named;
+use pr_base::PathText;
+use std::marker::Model;
+
+/// A threshold tile of the plan's own: `width * height` numbers, row after row.
+#[derive(Debug, Drop)]
+pub struct PlanTile {
+    pub name: PathText,
+    /// 1 to 64 pixels.
+    pub width: u32,
+    /// 1 to 64 pixels.
+    pub height: u32,
+    pub at: Vec<u8>,
+}
+
+impl Model for PlanTile {
+    ghost use Rattle.plan_parts.specs.Data.{TileData};
+
+    ghost Value = { TileData };
+
+    ghost view = { λ t. record { name = t.name; width = t.width; height = t.height; at = t.at.items } };
+}
+
+impl Named for PlanTile {
+    ghost named = { λ t. t.name };
+
+    fn name(&self) -> &str {
+        self.name.as_str()
+    }
+}
+
+/// How an ink is screened.
+#[derive(Clone, Copy, Debug, PartialEq, Eq)]
+pub enum Screen {
+    /// By the Bayer tile of this side: 2, 4, 8 or 16.
+    Bayer(u8),
+    /// By error diffusion.
+    Diffuse,
+    /// By the plan's tile of this index.
+    Own(usize),
+}
+
+/// A tone curve by its points: an ink value, and the value that it becomes.
+#[derive(Debug, Drop)]
+pub struct PlanCurve {
+    pub points: Vec<(u8, u8)>,
+}
+
+impl Model for PlanCurve {
+    ghost use Rattle.plan_parts.specs.Data.{CurveData};
+
+    ghost Value = { CurveData };
+
+    ghost view = { λ c. c.points.items };
+}
+
+/// A filled rectangle that is printed on each plate of its inks, in pixels of the plate.
+#[derive(Clone, Copy, Debug, PartialEq, Eq)]
+pub struct Mark {
+    /// Whether it has each of the inks C, M, Y, K, S.
+    pub inks: [bool; 5],
+    pub x: u32,
+    pub y: u32,
+    pub w: u32,
+    pub h: u32,
+}

@@ -1,0 +1,5 @@
+pub mod Words
+pub mod Forms
+pub mod Reading
+pub mod Gives
+pub mod Place
