@@ -1,11 +1,8 @@
 -- What is read of pages meets what a plan keeps.
-use Rattle.std.proofs.Common.{◌≡◌, ◌≢◌, ℕ, zero, suc, ◌+◌, ◌-◌, ◌*◌, ◌%◌, ◌<◌, ◌≤◌, ◌==◌, ◌&&◌, Bool, true, false, cond, IsTrue, List, [], ◌∷◌, ◌++◌, length, map, get_or, Option, Some, None, Ok, Err, refl, sym, ap, subst, ◌∙◌, arith, rules}
-use Rattle.std.specs.Prelude.{All, AllPairs, IfSome, not, slice_index_or, codes, if◌then◌else◌}
-use Rattle.std.specs.List.{list_any}
+use Rattle.std.proofs.Common.{◌≡◌, ℕ, ◌≤◌, Bool, true, false, List, [], ◌∷◌, ◌++◌, length, Option, Some, None, Ok, refl, subst, arith}
+use Rattle.std.specs.Prelude.{All, IfSome, codes, if◌then◌else◌}
 use Rattle.std.proofs.lemmas.Grind.{common_steps}
-use Rattle.std.proofs.lemmas.Bool.Decides.{nat_tests}
-use Rattle.std.proofs.lemmas.List.Elements.{All-nil, All-cons, All-push}
-use Rattle.std.proofs.lemmas.List.Quantifiers.{all_pairs_push}
+use Rattle.std.proofs.lemmas.List.Elements.{All-nil, All-push}
 use Rattle.serde_json.specs.Data.{Data, Items}
 use Rattle.serde_json.specs.Find.{get_item}
 use Rattle.plan_parts.specs.declared.named.NamedLayer.{NamedLayer}
@@ -14,7 +11,7 @@ use Rattle.plan_parts.specs.declared.named.Placing.{Placing}
 use Rattle.plan_words.specs.Forms.{is_name, is_file_name}
 use Rattle.plan_words.specs.Words.{IsWithin, AreDistinct}
 use Rattle.plan_parts.specs.Parts.{IsCrop}
-use Rattle.plan_words.specs.Reading.{◌>>=◌, ◌>>◌, at_item, optional_in, object_with, new_name, file_name, number, index_in, items_within, required, optional, nth}
+use Rattle.plan_words.specs.Reading.{◌>>=◌, at_item, optional_in, object_with, new_name, file_name, number, index_in, items_within, required, optional, nth}
 use Rattle.plan_parts.specs.Pages.{PageText, layer_keys, page_keys, kind, paint, crop, mask, ink, black, placing, painting, layer, layers, page_inks, page, pages, page_names, fifth}
 use Rattle.plan_words.proofs.Sound.{ok_is, required_gives, optional_gives, number_optional, new_name_required, file_required, nth_sound, bind_ok, number_sound, file_name_sound, distinct-push, map-push, list_keeps}
 use Rattle.plan_parts.proofs.SoundPrinting.{five}

@@ -1,8 +1,8 @@
 -- What is read of tiles, screens, curves and marks meets what a plan keeps.
-use Rattle.std.proofs.Common.{◌≡◌, ◌≢◌, ℕ, zero, suc, ◌+◌, ◌-◌, ◌*◌, ◌<◌, ◌≤◌, ◌==◌, ◌&&◌, Bool, true, false, cond, IsTrue, List, [], ◌∷◌, ◌++◌, length, map, get_or, Option, Some, None, Ok, Err, refl, sym, ap, subst, ◌∙◌, arith, rules, add-one}
+use Rattle.std.proofs.Common.{◌≡◌, ℕ, zero, suc, ◌+◌, ◌-◌, ◌*◌, ◌<◌, ◌≤◌, ◌&&◌, Bool, true, false, cond, IsTrue, List, [], ◌∷◌, ◌++◌, length, map, Option, Some, None, Ok, Err, refl, ap, subst, arith, add-one}
 use borrow.Author.Tests.{ltb-true}
 use Rattle.std.proofs.lemmas.Bool.{leb-true}
-use Rattle.std.specs.Prelude.{All, AllPairs, IfSome, nat_lt, slice_index_or, option_map, codes}
+use Rattle.std.specs.Prelude.{All, nat_lt, option_map, codes}
 use Rattle.std.specs.Prelude.{drop, nat_eq, nat_le, if◌then◌else◌}
 use Rattle.std.specs.List.{list_any, starts_with}
 use Rattle.std.specs.Str.{bytes_eq}
@@ -16,10 +16,10 @@ use Rattle.plan_parts.specs.declared.printing.Screen.TheVariants.{Bayer, Diffuse
 use Rattle.plan_parts.specs.Data.{TileData, CurveData, MarkData}
 use Rattle.plan_words.specs.Words.{IsWithin, AreDistinct}
 use Rattle.plan_parts.specs.Parts.{IsTile, IsScreen, IsCurve, IsMark, place}
-use Rattle.plan_words.specs.Reading.{Read, ◌>>=◌, ◌>>◌, must, some_or, text, new_name, object_with, number, index_in, required, optional, nth}
+use Rattle.plan_words.specs.Reading.{Read, ◌>>=◌, ◌>>◌, must, some_or, text, new_name, object_with, number, index_in, required, optional}
 use Rattle.plan_words.specs.Reading.{ink_keys}
-use Rattle.plan_parts.specs.Printing.{tile_keys, mark_keys, bytes_of, tile, tiles, tile_names, screen_named, own_screen, screen, screens, bayer_screens, identity, identities, is_rising, spans, point, points, curve, curves, taken, flags_in, may_have, mark_inks, mark, marks}
-use Rattle.plan_words.proofs.Sound.{ok_is, then_ok, must_ok, required_gives, optional_gives, number_required, new_name_required, nth_sound, bind_ok, number_sound, name_sound, new_name_sound, index_below, items_within_sound, distinct-push, map-push, list_keeps}
+use Rattle.plan_parts.specs.Printing.{tile_keys, mark_keys, bytes_of, tile, tiles, tile_names, screen_named, own_screen, screen, screens, bayer_screens, identity, identities, is_rising, spans, point, points, curve, curves, taken, flags_in, mark_inks, mark, marks}
+use Rattle.plan_words.proofs.Sound.{ok_is, then_ok, must_ok, required_gives, optional_gives, number_required, new_name_required, nth_sound, bind_ok, number_sound, index_below, distinct-push, map-push, list_keeps}
 
 -- ---- tiles
 

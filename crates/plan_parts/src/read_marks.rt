@@ -111,12 +111,7 @@ fn marks(
 /// top object has, or none where the key is absent. The first fault is refused, as that a mark lies
 /// outside the plate.
 #[tactic(auto, unfolding(plan_words::specs::Reading::optional))]
-pub fn marks_in(
-    o: &Object<'_>,
-    spot: bool,
-    width: u32,
-    height: u32,
-) -> Result<Vec<Mark>, PlanFault>
+pub fn marks_in(o: &Object<'_>, spot: bool, width: u32, height: u32) -> Result<Vec<Mark>, PlanFault>
     ensures { Gives (λ v. v.items) result
         (optional (codes "marks") [] (spec.marks spot width height) o.now.path.now (view o.now.value.now)) }
 {

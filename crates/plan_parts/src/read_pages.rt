@@ -7,6 +7,7 @@ ghost use Rattle.plan_words.specs.Reading.{required};
 ghost use Rattle.serde_json.specs.View.{view};
 
 use crate::named::NamedPage;
+use crate::read_layers::layers;
 use plan_words::{Object, Place, PlanFault, items_within, new_name, text};
 use serde_json::Value;
 use std::alloc::Global;

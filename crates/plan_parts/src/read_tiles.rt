@@ -173,11 +173,7 @@ fn screens(
 /// has, or the Bayer tile of side 8 where there is none. A screen of S stands only where there is a spot
 /// ink. The first fault is refused.
 #[tactic(auto, unfolding(plan_words::specs::Reading::optional))]
-pub fn screens_in(
-    o: &Object<'_>,
-    spot: bool,
-    tiles: &[PlanTile],
-) -> Result<[Screen; 5], PlanFault>
+pub fn screens_in(o: &Object<'_>, spot: bool, tiles: &[PlanTile]) -> Result<[Screen; 5], PlanFault>
     ensures { Gives (λ s. s) result
         (optional (codes "screens") spec.bayer_screens (spec.screens spot tiles.now)
         o.now.path.now (view o.now.value.now)) }

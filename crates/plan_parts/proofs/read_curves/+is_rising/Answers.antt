@@ -1,4 +1,4 @@
-use Rattle.std.proofs.Common.{◌≡◌, ◌<◌, ℕ, true, List, [], ◌∷◌, length, refl, sym, arith}
+use Rattle.std.proofs.Common.{◌≡◌, ◌<◌, ℕ, true, List, [], ◌∷◌, length, refl, arith}
 use Rattle.plan_parts.specs.Printing as spec
 use Rattle.plan_parts.proofs.read_curves.+is_rising.Goals as goal
 
