@@ -1,7 +1,6 @@
 -- What is read without a spot ink is read with one, and is the same.
-use Rattle.std.proofs.Common.{◌≡◌, ℕ, ◌≤◌, ◌<◌, ◌&&◌, ◌||◌, Bool, true, false, cond, List, [], ◌∷◌, ◌++◌, length, Option, Some, None, Ok, Err, refl, sym, ap, subst, ◌∙◌, arith, rules}
-use Rattle.std.specs.Prelude.{codes, not, slice_index_or}
-use Rattle.std.specs.List.{list_any}
+use Rattle.std.proofs.Common.{◌≡◌, ℕ, Bool, true, false, cond, List, [], ◌∷◌, ◌++◌, length, Option, Some, None, Ok, refl, arith}
+use Rattle.std.specs.Prelude.{codes}
 use Rattle.std.proofs.lemmas.Grind.{common_steps}
 use Rattle.std.proofs.lemmas.Bool.Decides.{nat_tests}
 use Rattle.serde_json.specs.Data.{Data, Items, no_items, item, Members, no_members, member}
@@ -12,9 +11,9 @@ use Rattle.plan_parts.specs.declared.printing.Screen.{Screen}
 use Rattle.plan_parts.specs.Data.{TileData, CurveData, MarkData}
 use Rattle.plan_json.specs.Data.{PlanData}
 use Rattle.plan_json.specs.Printed.{Inks, Layout}
-use Rattle.plan_words.specs.Reading.{Read, Reader, ◌>>=◌, ◌>>◌, must, at_key, at_item, is_among, first_unknown, object_with, all_known, required_in, required, optional_in, optional, items_within, count_of, each_after, list_of}
+use Rattle.plan_words.specs.Reading.{Reader, at_key, at_item, is_among, first_unknown, object_with, required_in, required, optional_in, optional, items_within, each_after, list_of}
 use Rattle.plan_words.specs.Reading.{ink_keys}
-use Rattle.plan_parts.specs.Printing.{screens, curves, may_have, mark_inks, mark, marks}
+use Rattle.plan_parts.specs.Printing.{screens, curves, mark_inks, mark, marks}
 use Rattle.plan_parts.specs.Pages.{PageText, ink, painting, layer, layers, inks_named, page_inks, page, pages}
 use Rattle.plan_json.specs.PlanOf.{inks, layout, plan_by}
 use Rattle.plan_words.proofs.Sound.{bind_ok}

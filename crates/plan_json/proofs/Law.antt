@@ -1,5 +1,5 @@
 -- The law: what is a plan 1 is the same plan under the number 2.
-use Rattle.std.proofs.Common.{◌≡◌, ℕ, ◌==◌, Bool, true, false, cond, List, [], ◌∷◌, Option, Some, None, Ok, Err, Ordering, Less, Equal, Greater, refl, sym, ap, subst, ◌∙◌}
+use Rattle.std.proofs.Common.{◌≡◌, ℕ, ◌==◌, Bool, true, false, cond, List, [], Option, Some, None, Ok, Ordering, Less, Equal, Greater, refl, ap, ◌∙◌}
 use Rattle.std.specs.Prelude.{codes}
 use Rattle.std.specs.Ordering.{nat_cmp, match_ordering}
 use Rattle.std.specs.Cmp.Lexicographic.{slice_cmp}
@@ -8,13 +8,12 @@ use Rattle.std.proofs.lemmas.Slice.Eq.{bytes_eq-Decides}
 use Rattle.serde_json.specs.Data.{Data, object, unsigned, number as number_data, Members, no_members, member, put}
 use Rattle.serde_json.specs.Find.{get, get_member}
 use Rattle.serde_json.proofs.Views.{get_member-put, get_member-put_other}
-use Rattle.plan_words.specs.declared.fault.PlanFault.{PlanFault}
 use Rattle.plan_parts.specs.declared.printing.Screen.{Screen}
 use Rattle.plan_parts.specs.Data.{TileData, CurveData, MarkData}
 use Rattle.plan_json.specs.Data.{PlanData, SectionData, ZoneData, SiteData}
 use Rattle.plan_json.specs.Laws.{PlanOneIsPlanTwo}
 use Rattle.plan_parts.specs.Pages.{PageText}
-use Rattle.plan_words.specs.Reading.{Read, Reader, ◌>>=◌, at_key, is_among, first_unknown, all_known, object_with, required_in, required, optional_in, optional, number}
+use Rattle.plan_words.specs.Reading.{Reader, ◌>>=◌, at_key, is_among, first_unknown, all_known, object_with, required_in, required, optional_in, optional, number}
 use Rattle.plan_json.specs.PlanOf.{front, inks, layout, top_keys, plan_by, plan_in}
 use Rattle.plan_json.proofs.Later.{plan_by_later}
 use Rattle.plan_words.proofs.Sound.{bind_ok}

@@ -1,10 +1,9 @@
 -- Pages whose layers tell their files by index, and the files, meet what a plan keeps.
-use Rattle.std.proofs.Common.{◌≡◌, ◌≢◌, ℕ, zero, suc, ◌+◌, ◌-◌, ◌<◌, ◌≤◌, ◌==◌, ◌||◌, Bool, true, false, cond, ◌⊎◌, inl, inr, IsTrue, List, [], ◌∷◌, ◌++◌, length, map, get_or, Option, Some, None, option_map, nat_eq, ne_eqb, zero-add, refl, sym, ap, subst, ◌∙◌, arith, rules}
-use Rattle.std.specs.Prelude.{All, AllPairs, IfSome, option_to_list}
+use Rattle.std.proofs.Common.{◌≡◌, ◌≢◌, ℕ, zero, suc, ◌+◌, ◌<◌, ◌≤◌, ◌||◌, Bool, true, false, cond, List, [], ◌∷◌, ◌++◌, length, map, get_or, Option, Some, None, option_map, nat_eq, ne_eqb, zero-add, refl, sym, ap, ◌∙◌, arith}
+use Rattle.std.specs.Prelude.{All, IfSome, option_to_list}
 use Rattle.std.specs.List.{flat_map, list_any, AllByRecursion, range_with_len}
 use Rattle.std.specs.Str.{bytes_eq}
 use Rattle.std.proofs.lemmas.Bool.{eq-eqb}
-use Rattle.std.proofs.lemmas.List.{append-nil}
 use Rattle.std.proofs.lemmas.List.Elements.{All-nil, All-push, All-from_recursion, recursion_from_All}
 use Rattle.std.proofs.lemmas.List.Quantifiers.{all_pairs_push}
 use Rattle.std.proofs.lemmas.List.Folds.{list_any_at}
@@ -13,9 +12,8 @@ use Rattle.std.proofs.lemmas.Slice.Eq.{bytes_eq-Decides}
 use Rattle.indexmap.specs.IndexSet.{insert_key, insert_all}
 use Rattle.plan_parts.specs.declared.named.NamedLayer.{NamedLayer}
 use Rattle.plan_words.specs.Forms.{is_file_name}
-use Rattle.plan_parts.specs.Data.{LayerData, PageData}
 use Rattle.plan_json.specs.Data.{layer_files, mentioned}
-use Rattle.plan_words.specs.Words.{IsWithin, AreDistinct}
+use Rattle.plan_words.specs.Words.{AreDistinct}
 use Rattle.plan_parts.specs.Parts.{IsLayer, IsPage}
 use Rattle.plan_parts.specs.Pages.{PageText}
 use Rattle.plan_json.specs.Files.{named_by, named_on, files_of, index_of, layer_of, page_of, pages_of}

@@ -1,9 +1,7 @@
 -- What is read is a plan: the reading of each key, put together.
-use Rattle.std.proofs.Common.{◌≡◌, ◌≢◌, ℕ, ◌+◌, ◌<◌, ◌≤◌, ◌==◌, Bool, true, false, IsTrue, List, [], ◌∷◌, length, map, Option, Some, None, Ok, Err, refl, sym, ap, subst, ◌∙◌, arith, rules}
+use Rattle.std.proofs.Common.{◌≡◌, ℕ, ◌≤◌, ◌==◌, Bool, true, List, [], length, Ok, refl, sym, ap, subst, ◌∙◌, arith}
 use Rattle.std.specs.Prelude.{All, codes}
 use Rattle.std.proofs.lemmas.Grind.{common_steps}
-use Rattle.std.proofs.lemmas.Bool.Decides.{nat_tests}
-use Rattle.std.proofs.lemmas.List.Elements.{All-nil}
 use Rattle.serde_json.specs.Data.{Data}
 use Rattle.plan_words.specs.declared.fault.PlanFault.{PlanFault}
 use Rattle.plan_words.specs.declared.fault.PlanFault.TheVariants.{Range}
@@ -11,15 +9,15 @@ use Rattle.plan_words.specs.Gives.{Fails}
 use Rattle.plan_words.proofs.Items.{fails_then}
 use Rattle.plan_json.specs.declared.front.Front.{Front}
 use Rattle.plan_parts.specs.declared.printing.Screen.{Screen}
-use Rattle.plan_words.specs.Forms.{is_name, is_file_name}
+use Rattle.plan_words.specs.Forms.{is_name}
 use Rattle.plan_parts.specs.Data.{PageData, TileData, CurveData, MarkData}
 use Rattle.plan_json.specs.Data.{PlanData, SectionData, ZoneData, SiteData, width_over, height_over}
-use Rattle.plan_words.specs.Words.{IsWithin, AreDistinct}
+use Rattle.plan_words.specs.Words.{IsWithin}
 use Rattle.plan_parts.specs.Parts.{IsMark}
-use Rattle.plan_json.specs.Plan.{IsSite, IsPlan}
+use Rattle.plan_json.specs.Plan.{IsPlan}
 use Rattle.plan_json.specs.Printed.{Inks, Layout}
-use Rattle.plan_words.specs.Reading.{Read, ◌>>=◌, ◌>>◌, must, at_key, object_with, required, optional, number, name, nth}
-use Rattle.plan_parts.specs.Printing.{tiles, tile_names, screens, bayer_screens, curves, identities, marks}
+use Rattle.plan_words.specs.Reading.{◌>>=◌, ◌>>◌, must, at_key, object_with, required, optional, number, name}
+use Rattle.plan_parts.specs.Printing.{tiles, screens, bayer_screens, curves, identities, marks}
 use Rattle.plan_parts.specs.Pages.{PageText, pages, page_names}
 use Rattle.plan_json.specs.Files.{files_of, pages_of}
 use Rattle.plan_json.specs.Zoning.{sections, zones, zone_names, sites}

@@ -1,20 +1,19 @@
 -- What is read of sections, zones and sites meets what a plan keeps.
-use Rattle.std.proofs.Common.{◌≡◌, ◌≢◌, ℕ, zero, suc, ◌+◌, ◌-◌, ◌*◌, ◌%◌, ◌<◌, ◌≤◌, ◌==◌, ◌&&◌, Bool, true, false, cond, IsTrue, List, [], ◌∷◌, ◌++◌, length, map, get_or, Option, Some, None, Ok, Err, refl, sym, ap, subst, ◌∙◌, arith, rules}
-use Rattle.std.specs.Prelude.{All, AllPairs, IfSome, not, slice_index_or, codes, if◌then◌else◌}
+use Rattle.std.proofs.Common.{◌≡◌, ℕ, zero, suc, ◌%◌, ◌<◌, ◌≤◌, ◌==◌, false, List, [], ◌∷◌, ◌++◌, length, map, get_or, Option, None, Ok, refl, ap, subst, arith}
+use Rattle.std.specs.Prelude.{All, AllPairs, IfSome, slice_index_or, codes}
 use Rattle.std.specs.List.{list_any}
 use Rattle.std.proofs.lemmas.Grind.{common_steps}
 use Rattle.std.proofs.lemmas.Bool.Decides.{nat_tests}
-use Rattle.std.proofs.lemmas.List.Elements.{All-nil, All-cons, All-push}
+use Rattle.std.proofs.lemmas.List.Elements.{All-nil, All-push}
 use Rattle.std.proofs.lemmas.List.Quantifiers.{all_pairs_push}
-use Rattle.serde_json.specs.Data.{Data, Items}
-use Rattle.serde_json.specs.Find.{get_item}
+use Rattle.serde_json.specs.Data.{Data}
 use Rattle.plan_words.specs.declared.fault.PlanFault.{PlanFault}
 use Rattle.plan_words.specs.declared.fault.PlanFault.TheVariants.{Range}
 use Rattle.plan_json.specs.Data.{SectionData, ZoneData, ReplaceData, SiteData}
 use Rattle.plan_words.specs.Words.{IsWithin, AreDistinct}
 use Rattle.plan_json.specs.Plan.{IsSection, IsReplace, ReplaceApart, IsZone, IsSite}
 use Rattle.plan_words.specs.Reading.{Read, ◌>>=◌, ◌>>◌, must, object_with, new_name, index_in, defined, count_of, items_within, each_after, required, optional}
-use Rattle.plan_parts.specs.Pages.{page, pages}
+use Rattle.plan_parts.specs.Pages.{page}
 use Rattle.plan_json.specs.Zoning.{section_keys, replace_keys, zone_keys, site_keys, section_pages, section, sections, section_names, page_count, replaces, new_page, replace, replaced, zone, zones, zone_names, site_zone, site, sites, site_names}
 use Rattle.plan_words.proofs.Sound.{ok_is, required_gives, optional_gives, new_name_required, defined_required, bind_ok, number_sound, defined_sound, items_within_sound, distinct-push, map-push, each_keeps, list_keeps}
 

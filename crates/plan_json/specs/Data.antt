@@ -1,5 +1,5 @@
 -- What a plan says, as plain data. Texts are their bytes; lists of five stand in the order C, M, Y, K, S.
-use Rattle.std.specs.Prelude.{ℕ, ◌+◌, ◌*◌, List, ◌∷◌, Bool, slice_index, option_to_list}
+use Rattle.std.specs.Prelude.{ℕ, ◌+◌, ◌*◌, List, ◌∷◌, slice_index, option_to_list}
 use Rattle.std.specs.List.{flat_map}
 use Rattle.plan_parts.specs.declared.printing.Screen.{Screen}
 use Rattle.plan_parts.specs.Data.{CurveData, LayerData, MarkData, PageData, TileData}

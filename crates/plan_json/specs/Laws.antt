@@ -1,5 +1,5 @@
 -- Laws of reading plans.
-use Rattle.std.specs.Prelude.{◌≡◌, ℕ, Some, Ok, codes}
+use Rattle.std.specs.Prelude.{◌≡◌, Some, Ok, codes}
 use Rattle.serde_json.specs.Data.{Members, object, number, unsigned, put}
 use Rattle.serde_json.specs.Find.{get_member}
 use Rattle.plan_json.specs.Data.{PlanData}

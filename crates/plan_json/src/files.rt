@@ -6,8 +6,8 @@ ghost use Rattle.std.specs.Str.{bytes_eq};
 ghost use Rattle.indexmap.specs.IndexSet.{insert_all, insert_key};
 ghost use Rattle.plan_json.specs.Files as spec;
 
-use plan_parts::{NamedLayer, NamedPage, Page, PlanLayer};
 use indexmap::IndexSet;
+use plan_parts::{NamedLayer, NamedPage, Page, PlanLayer};
 use pr_base::{NoMemory, PathText};
 use std::alloc::Global;
 

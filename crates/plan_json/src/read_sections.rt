@@ -13,11 +13,7 @@ use pr_base::PathText;
 use serde_json::Value;
 use std::alloc::Global;
 
-#[tactic(
-    auto,
-    using(plan_words::proofs::Items::count_of_view),
-    unfolding(crate::specs::Zoning::section_pages)
-)]
+#[tactic(auto, using(plan_words::proofs::Items::count_view), unfolding(crate::specs::Zoning::section_pages))]
 fn section_pages(
     alloc: Global,
     pages: &[NamedPage],

@@ -12,7 +12,10 @@ use crate::read_sections::sections_in;
 use crate::read_sites::sites_in;
 use crate::read_zones::zones_in;
 use crate::{Plan, PlanSite, Section, Zone};
-use plan_parts::{Mark, NamedPage, PlanCurve, PlanTile, Screen, curves_in, marks_in, pages_in, screens_in, tiles_in};
+use plan_parts::{
+    Mark, NamedPage, PlanCurve, PlanTile, Screen, curves_in, marks_in, pages_in, screens_in,
+    tiles_in,
+};
 use plan_words::{Object, PlanFault};
 use serde_json::Value;
 use std::alloc::Global;

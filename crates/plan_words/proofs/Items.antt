@@ -8,9 +8,9 @@ use Rattle.plan_words.specs.declared.fault.PlanFault.TheVariants.{Missing, Kind,
 use Rattle.plan_words.specs.Gives.{Fails}
 use Rattle.plan_words.specs.Reading.{Read, Reader, ◌>>=◌, at_item, count_of, each_after}
 
-pub count_of_view : (vs : List Value) → count_of (items_view vs) ≡ length vs
-count_of_view [] = refl
-count_of_view (v ∷ vs) = ap suc (count_of_view vs)
+pub count_view : (vs : List Value) → count_of (items_view vs) ≡ length vs
+count_view [] = refl
+count_view (v ∷ vs) = ap suc (count_view vs)
 
 -- where a step fails, so does what follows from it
 pub fails_then : {A B : Type 0} (fault : PlanFault) (read : Read A) (rest : A → Read B) → Fails fault read → Fails fault (read >>= rest)

@@ -29,7 +29,7 @@ pub(crate) fn items_in<'v>(
 
 /// The items of the list at a path, which has from `low` to `high` of them. Another value is refused by
 /// its kind, a list of another length as out of its range.
-#[tactic(auto, using(crate::proofs::Items::count_of_view), unfolding(crate::specs::Reading::items_within))]
+#[tactic(auto, using(crate::proofs::Items::count_view), unfolding(crate::specs::Reading::items_within))]
 pub fn items_within<'v>(
     alloc: Global,
     low: usize,
