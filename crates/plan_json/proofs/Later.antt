@@ -11,8 +11,7 @@ use Rattle.plan_parts.specs.declared.printing.Screen.{Screen}
 use Rattle.plan_parts.specs.Data.{TileData, CurveData, MarkData}
 use Rattle.plan_json.specs.Data.{PlanData}
 use Rattle.plan_json.specs.Printed.{Inks, Layout}
-use Rattle.plan_words.specs.Reading.{Reader, at_key, at_item, is_among, first_unknown, object_with, required_in, required, optional_in, optional, items_within, each_after, list_of}
-use Rattle.plan_words.specs.Reading.{ink_keys}
+use Rattle.plan_words.specs.Reading.{Reader, at_key, at_item, is_among, first_unknown, object_with, ink_keys, required_in, required, optional_in, optional, items_within, each_after, list_of}
 use Rattle.plan_parts.specs.Printing.{screens, curves, mark_inks, mark, marks}
 use Rattle.plan_parts.specs.Pages.{PageText, ink, painting, layer, layers, inks_named, page_inks, page, pages}
 use Rattle.plan_json.specs.PlanOf.{inks, layout, plan_by}

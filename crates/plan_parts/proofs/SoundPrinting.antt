@@ -16,8 +16,7 @@ use Rattle.plan_parts.specs.declared.printing.Screen.TheVariants.{Bayer, Diffuse
 use Rattle.plan_parts.specs.Data.{TileData, CurveData, MarkData}
 use Rattle.plan_words.specs.Words.{IsWithin, AreDistinct}
 use Rattle.plan_parts.specs.Parts.{IsTile, IsScreen, IsCurve, IsMark, place}
-use Rattle.plan_words.specs.Reading.{Read, ◌>>=◌, ◌>>◌, must, some_or, text, new_name, object_with, number, index_in, required, optional}
-use Rattle.plan_words.specs.Reading.{ink_keys}
+use Rattle.plan_words.specs.Reading.{Read, ◌>>=◌, ◌>>◌, must, some_or, text, new_name, object_with, ink_keys, number, index_in, required, optional}
 use Rattle.plan_parts.specs.Printing.{tile_keys, mark_keys, bytes_of, tile, tiles, tile_names, screen_named, own_screen, screen, screens, bayer_screens, identity, identities, is_rising, spans, point, points, curve, curves, taken, flags_in, mark_inks, mark, marks}
 use Rattle.plan_words.proofs.Sound.{ok_is, then_ok, must_ok, required_gives, optional_gives, number_required, new_name_required, nth_sound, bind_ok, number_sound, index_below, distinct-push, map-push, list_keeps}
 
