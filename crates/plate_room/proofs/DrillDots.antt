@@ -28,7 +28,7 @@ use Rattle.plan_rows.specs.Paths.{site_name}
 use Rattle.plan_rows.specs.Plates.{PlateOf, file_of, group_plates, plate_rows as rows_of_plate, site_files, site_plates}
 use Rattle.plan_rows.specs.Rows.{row_number, row_places}
 use Rattle.plan_rows.proofs.Places.{IsRowAt, groups_count, row_placed}
-use Rattle.press_feed.specs.Rows.{plate_rows}
+use Rattle.press_job.specs.Rows.{plate_rows}
 use Rattle.drill_room.specs.Dots.{HasSides, all_dots, bytes_of}
 use Rattle.plate_room.specs.Drill.{dots_line, dots_lines, finished_end, finished_ends, site_dots}
 use Rattle.ring_run.proofs.JobRows.{rows-long}

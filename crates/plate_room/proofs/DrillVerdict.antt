@@ -16,12 +16,12 @@ use Rattle.tif_image.specs.declared.usage.BilevelUse.TheVariants.{Line, Mask}
 use Rattle.tif_image.specs.Image.{bilevel_shape, contone_shape}
 use Rattle.plan_parts.specs.Data.{PageData}
 use Rattle.plan_json.specs.Data.{PlanData}
-use Rattle.press_feed.specs.declared.refusal.Refusal.TheVariants.{File}
-use Rattle.press_feed.specs.First.{first_some}
-use Rattle.press_feed.specs.Layers.{bytes_at}
-use Rattle.press_feed.specs.Tests.{fault_for, fault_of_file, fault_of_layers, fault_where, fit_fault, layer_fault, length_of, mention_fault, mentions_of, page_fault, page_fit_fault, use_of, width_of}
-use Rattle.press_feed.specs.Verdict.{IsMissing, files_in, first_files, held_bytes, limit_behind, misfit_refusal, named_fault, path_of, refusal_of, verdict_at, verdict_before, verdict_on, verdict_on_files}
-use Rattle.press_feed.proofs.FitLemmas.{shape_sides}
+use Rattle.press_job.specs.declared.refusal.Refusal.TheVariants.{File}
+use Rattle.press_job.specs.First.{first_some}
+use Rattle.press_job.specs.Layers.{bytes_at}
+use Rattle.press_job.specs.Tests.{fault_for, fault_of_file, fault_of_layers, fault_where, fit_fault, layer_fault, length_of, mention_fault, mentions_of, page_fault, page_fit_fault, use_of, width_of}
+use Rattle.press_job.specs.Verdict.{IsMissing, files_in, first_files, held_bytes, limit_behind, misfit_refusal, named_fault, path_of, refusal_of, verdict_at, verdict_before, verdict_on, verdict_on_files}
+use Rattle.press_job.proofs.FitLemmas.{shape_sides}
 use Rattle.job_gen.specs.Images.{contone_bytes, files_of, files_with, line_bytes, mask_bytes}
 use Rattle.job_gen.specs.Numbers.{site_count, size_of}
 use Rattle.job_gen.specs.Passes.{ArePassing, most_bytes}

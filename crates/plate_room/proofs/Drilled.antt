@@ -9,7 +9,7 @@ use Rattle.pr_base.specs.Count.{Rose}
 use Rattle.pr_rack.specs.Mem.{MemState, empty_slots}
 use Rattle.ring_lanes.specs.declared.source.Source.{Source}
 use Rattle.plan_rows.specs.Plates.{site_plates}
-use Rattle.press_feed.specs.Job.{JobData}
+use Rattle.press_job.specs.Job.{JobData}
 use Rattle.plate_room.specs.Drill.{HaveFiles, finished_end, finished_ends, rows_in}
 use Rattle.ring_run.specs.Fits.{AreIdle, Delivery, FitsEnd, RackTells, RunFits, files_for, rack_told}
 use Rattle.ring_run.specs.declared.site_end.SiteEnd.{SiteEnd}

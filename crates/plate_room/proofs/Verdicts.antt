@@ -10,9 +10,9 @@ use Rattle.pr_rack.specs.declared.rack.Rack.{Ghosts}
 use Rattle.tif_image.specs.Image.{contone_shape}
 use Rattle.plan_json.specs.Data.{PlanData}
 use Rattle.plan_json.specs.PlanOf.{plan_of}
-use Rattle.press_feed.specs.Job.{JobData}
-use Rattle.press_feed.specs.Verdict.{verdict_on_files}
-use Rattle.press_feed.specs.declared.refusal.Refusal.TheVariants as refused
+use Rattle.press_job.specs.Job.{JobData}
+use Rattle.press_job.specs.Verdict.{verdict_on_files}
+use Rattle.press_job.specs.declared.refusal.Refusal.TheVariants as refused
 use Rattle.site_agent.specs.declared.kept.LeftCause.{LeftCause}
 use Rattle.ring_run.specs.Fits.{FitsCause}
 use Rattle.plate_room.specs.Report.{is_finished, status_of_ends}

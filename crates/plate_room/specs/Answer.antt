@@ -13,7 +13,7 @@ use Rattle.plate_room.specs.Drill.{drill_text}
 use Rattle.plate_room.specs.End.{GrewByTwo, IsDoneStatus}
 use Rattle.plate_room.specs.Verdict.{file_limit}
 use Rattle.plate_room.specs.Met.{HasMissed, IsLoaded, OneMeets, RunMeets}
-use Rattle.press_feed.specs.Job.{JobData}
+use Rattle.press_job.specs.Job.{JobData}
 use Rattle.plate_room.specs.Done.{ReportsJob, Runs, RunsFront, RunsPart}
 use Rattle.plate_room.specs.Ending.{IsStopped, IsFinished, IsBroken, IsSilent}
 use Rattle.plate_room.specs.Seen.{Seen, ShelfSeen, SinkSeen, PutFailed}

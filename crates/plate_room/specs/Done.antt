@@ -5,9 +5,9 @@ use Rattle.pr_ports.specs.Sink.{Grew, GrewByPrefix}
 use Rattle.pr_rack.specs.declared.rack.Rack.{Ghosts}
 use Rattle.tif_strips.specs.declared.shape.Shape.{Shape}
 use Rattle.tif_image.specs.Image.{contone_shape}
-use Rattle.press_feed.specs.Job.{JobData}
-use Rattle.press_feed.specs.Rows.{plate_rows}
-use Rattle.press_feed.specs.Verdict.{files_in, verdict_on_files}
+use Rattle.press_job.specs.Job.{JobData}
+use Rattle.press_job.specs.Rows.{plate_rows}
+use Rattle.press_job.specs.Verdict.{files_in, verdict_on_files}
 use Rattle.plate_room.specs.Command.{Command, Drill, Edition, One, Run, command_of}
 use Rattle.plate_room.specs.One.{black_plate}
 use Rattle.plate_room.specs.Drill.{drill_text}

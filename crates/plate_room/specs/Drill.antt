@@ -7,9 +7,9 @@ use Rattle.pr_rack.specs.Mem.{MemState}
 use Rattle.plan_json.specs.Data.{PlanData}
 use Rattle.plan_rows.specs.Paths.{site_name}
 use Rattle.plan_rows.specs.Plates.{plate_rows as rows_of_plate, site_files, site_plates}
-use Rattle.press_feed.specs.Job.{JobData}
-use Rattle.press_feed.specs.Rows.{plate_rows}
-use Rattle.press_feed.specs.Verdict.{files_in, verdict_on_files}
+use Rattle.press_job.specs.Job.{JobData}
+use Rattle.press_job.specs.Rows.{plate_rows}
+use Rattle.press_job.specs.Verdict.{files_in, verdict_on_files}
 use Rattle.job_gen.specs.Images.{files_of}
 use Rattle.job_gen.specs.Plan.{job_plan}
 use Rattle.drill_room.specs.Dots.{all_dots}

@@ -8,8 +8,8 @@ use Rattle.pr_ports.specs.Shelf.{IsHeldAt, IsLongerAt}
 use Rattle.tif_image.specs.Image.{contone_shape}
 use Rattle.plan_json.specs.Data.{PlanData}
 use Rattle.plan_json.specs.PlanOf.{plan_of}
-use Rattle.press_feed.specs.declared.refusal.Refusal.TheVariants as refused
-use Rattle.press_feed.specs.Verdict.{verdict_on_files, IsMissing}
+use Rattle.press_job.specs.declared.refusal.Refusal.TheVariants as refused
+use Rattle.press_job.specs.Verdict.{verdict_on_files, IsMissing}
 use Rattle.plate_room.specs.Command.{Command, Drill, Edition, One, Run, command_of}
 use Rattle.plate_room.specs.Refusal.{Refusal, NoCommand, LongPlan, BadPlan, Faulty, NotLoaded}
 use Rattle.plate_room.specs.Verdict.{file_limit, named, plan_limit, too_long}

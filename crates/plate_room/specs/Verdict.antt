@@ -9,9 +9,9 @@ use Rattle.tif_image.specs.Image.{contone_shape}
 use Rattle.plan_words.specs.declared.fault.PlanFault.{PlanFault}
 use Rattle.plan_json.specs.Data.{PlanData}
 use Rattle.plan_json.specs.PlanOf.{plan_of}
-use Rattle.press_feed.specs.declared.refusal.Refusal as filed
-use Rattle.press_feed.specs.declared.refusal.Refusal.TheVariants as refused
-use Rattle.press_feed.specs.Verdict.{verdict_on_files}
+use Rattle.press_job.specs.declared.refusal.Refusal as filed
+use Rattle.press_job.specs.declared.refusal.Refusal.TheVariants as refused
+use Rattle.press_job.specs.Verdict.{verdict_on_files}
 use Rattle.plate_room.specs.Command.{Command, Drill, Edition, One, Run, command_of}
 use Rattle.plate_room.specs.Refusal.{Refusal, NoCommand, LongPlan, BadPlan, Faulty, NotLoaded}
 use Rattle.plate_room.specs.Seen.{Files}

@@ -6,7 +6,7 @@ ghost use Rattle.pr_ports.specs.Mem.{files_of};
 ghost use Rattle.pr_rack.specs.Mem.{empty_slots};
 ghost use Rattle.plan_words.specs.Words.{IsWithin};
 ghost use Rattle.plan_json.specs.PlanOf.{plan_of};
-ghost use Rattle.press_feed.specs.Verdict.{files_in, verdict_on_files};
+ghost use Rattle.press_job.specs.Verdict.{files_in, verdict_on_files};
 ghost use Rattle.plate_room.specs.Answer.{DrillAnswered};
 ghost use Rattle.plate_room.specs.Drill.{drill_job, drill_text as text_for, told_of};
 ghost use Rattle.plate_room.specs.Seen.{sink_seen};

@@ -26,14 +26,14 @@ use Rattle.plan_rows.proofs.Held.{below_next}
 use Rattle.press_feed.specs.declared.side.Side.{Side}
 use Rattle.press_feed.specs.declared.side.Side.TheVariants.{Left, Right}
 use Rattle.press_feed.specs.Feed.{IsFeed, IsOf, StandsAt, StandsBefore, one_if, rows_above}
-use Rattle.press_feed.specs.Job.{JobData}
+use Rattle.press_job.specs.Job.{JobData}
 use Rattle.press_feed.specs.Plates.{CanDraw, page_row, row_after}
-use Rattle.press_feed.specs.Rows.{plate_frames, plate_row, plate_rows, row_at_place}
+use Rattle.press_job.specs.Rows.{plate_frames, plate_row, plate_rows, row_at_place}
 use Rattle.press_feed.specs.Screener.{is_diffused}
 use Rattle.press_feed.specs.SidePages.{opened_side}
 use Rattle.press_feed.specs.Sides.{SideData, at_top, behind_row, entered, page_on, screened_after, stands_in}
-use Rattle.press_feed.proofs.GroupLemmas.{group_stands}
-use Rattle.press_feed.proofs.FrameLemmas.{each-plate_frames, length-plate_frames}
+use Rattle.press_feed.proofs.StandLemmas.{group_stands}
+use Rattle.press_job.proofs.FrameLemmas.{each-plate_frames, length-plate_frames}
 use Rattle.press_feed.proofs.ScreenerLemmas.{slot_below, slots_apart}
 
 -- ---- the row before a row

@@ -10,9 +10,9 @@ use Rattle.page_layers.specs.Layer.{ink_at}
 use Rattle.page_tone.specs.Limit.{limited}
 use Rattle.plan_json.specs.Data.{PlanData}
 use Rattle.press_feed.specs.Planes.{AreLimited, IsToned, ShowsInks}
-use Rattle.press_feed.specs.Printing.{limited_inks, printed_ink, toned_ink}
+use Rattle.press_job.specs.Printing.{limited_inks, printed_ink, toned_ink}
 use Rattle.press_feed.specs.Tones.{limits}
-use Rattle.press_feed.proofs.ValueLemmas.{limited-same}
+use Rattle.press_job.proofs.LimitLemmas.{limited-same}
 
 -- values that add up to no more than the limit stay
 limited-free : (c m y k limit : ℕ) → c + m + y + k ≤ limit → limited c m y k limit ≡ c ∷ m ∷ y ∷ k ∷ []

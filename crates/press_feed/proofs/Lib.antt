@@ -1,14 +1,7 @@
-pub mod FaultLemmas
 pub mod FeedLemmas
-pub mod Firsts
-pub mod FitLemmas
-pub mod FrameLemmas
-pub mod GroupLemmas
 pub mod InkLemmas
-pub mod LoadLemmas
 pub mod PlateLemmas
 pub mod ScreenerLemmas
 pub mod SideLemmas
-pub mod SmallJob
-pub mod SpotlessLemmas
+pub mod StandLemmas
 pub mod ValueLemmas

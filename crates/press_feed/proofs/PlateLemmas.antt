@@ -13,8 +13,8 @@ use Rattle.plan_pages.specs.Span.{in_span}
 use Rattle.press_feed.specs.declared.side.Side.{Side}
 use Rattle.press_feed.specs.declared.side.Side.TheVariants.{Left, Right}
 use Rattle.press_feed.specs.Plates.{CanDraw, ShowsPages, page_row}
-use Rattle.press_feed.specs.Printing.{page_bit}
-use Rattle.press_feed.specs.Rows.{placed_bit, plate_bit, plate_row}
+use Rattle.press_job.specs.Printing.{page_bit}
+use Rattle.press_job.specs.Rows.{placed_bit, plate_bit, plate_row}
 use Rattle.press_feed.specs.Sides.{SideData, left_edge}
 
 -- no pixel of bytes that are 0 is set

@@ -16,7 +16,7 @@ use Rattle.plan_json.specs.Data.{PlanData}
 use Rattle.plan_pages.specs.Ink.{slot_of}
 use Rattle.press_feed.specs.declared.screener.Screener.{Screener}
 use Rattle.press_feed.specs.declared.screener.Screener.TheVariants.{Tile, Diffusion}
-use Rattle.press_feed.specs.Printing.{bit_under, page_bit, page_values, printed_at, printed_row, screen_of}
+use Rattle.press_job.specs.Printing.{bit_under, page_bit, page_values, printed_at, printed_row, screen_of}
 use Rattle.press_feed.specs.Screener.{HasScreened, IsScreener, behind_values, diffuses, from_top, front_of, is_diffused, is_diffusion, rows_in, screened_bit, threshold_in, threshold_under}
 use Rattle.press_feed.specs.SidePages.{AreScreeners}
 use Rattle.press_feed.specs.Sides.{screened_after}

@@ -19,10 +19,10 @@ use Rattle.plan_rows.specs.Groups.{groups_of, page_colour, page_spot}
 use Rattle.press_feed.specs.declared.screener.Screener.{Screener}
 use Rattle.press_feed.specs.declared.screener.Screener.TheVariants.{Diffusion}
 use Rattle.press_feed.specs.declared.side.Side.{Side}
-use Rattle.press_feed.specs.Job.{JobData}
-use Rattle.press_feed.specs.Layers.{layers_of}
+use Rattle.press_job.specs.Job.{JobData}
+use Rattle.press_job.specs.Layers.{layers_of}
 use Rattle.press_feed.specs.Planes.{ShowsInks}
-use Rattle.press_feed.specs.Printing.{page_bit, page_values, printed_at, printed_row}
+use Rattle.press_job.specs.Printing.{page_bit, page_values, printed_at, printed_row}
 use Rattle.press_feed.specs.Screener.{HasScreened, IsScreener, behind_values, from_top, front_of, is_diffused, rows_in, screened_bit}
 use Rattle.press_feed.specs.SidePages.{AreOpen, AreOpened, AreScreeners, IsSide, at_first_row, behind_next}
 use Rattle.press_feed.specs.Sides.{next_of, page_before, screened_after, stands_in}

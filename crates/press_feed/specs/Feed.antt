@@ -13,8 +13,8 @@ use Rattle.plan_rows.specs.Inks.{inks_of, ink_place}
 use Rattle.plan_rows.specs.Rows.{row_places}
 use Rattle.press_feed.specs.declared.side.Side.{Side}
 use Rattle.press_feed.specs.declared.side.Side.TheVariants.{Left, Right}
-use Rattle.press_feed.specs.Job.{JobData}
-use Rattle.press_feed.specs.Rows.{plate_frames}
+use Rattle.press_job.specs.Job.{JobData}
+use Rattle.press_job.specs.Rows.{plate_frames}
 use Rattle.press_feed.specs.Screener.{is_diffused}
 use Rattle.press_feed.specs.Sides.{SideData, page_on}
 

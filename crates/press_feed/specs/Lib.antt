@@ -1,12 +1,3 @@
-pub mod First
-pub mod Layers
-pub mod Printing
-pub mod Rows
-pub mod Tests
-pub mod Verdict
-pub mod Fit
-pub mod Job
-pub mod Tested
 pub mod Tones
 pub mod Planes
 pub mod Screener
@@ -14,4 +5,3 @@ pub mod Sides
 pub mod SidePages
 pub mod Plates
 pub mod Feed
-pub mod Spotless

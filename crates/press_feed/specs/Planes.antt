@@ -7,7 +7,7 @@ use Rattle.page_layers.specs.Layer.{ink_at}
 use Rattle.page_tone.specs.Limit.{limited}
 use Rattle.plan_json.specs.Data.{PlanData}
 use Rattle.press_feed.specs.declared.plane.Plane.{Plane}
-use Rattle.press_feed.specs.Printing.{printed_ink, toned}
+use Rattle.press_job.specs.Printing.{printed_ink, toned}
 
 -- the values that a plane shows: its own, or those of the row that they were left in
 abbrev pub shown_in : List ℕ → Plane → List ℕ

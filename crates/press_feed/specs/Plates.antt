@@ -6,7 +6,7 @@ use Rattle.pr_base.specs.declared.ink.Ink.{Ink}
 use Rattle.plan_json.specs.Data.{PlanData}
 use Rattle.plan_pages.specs.Plate.{shape_of_plate}
 use Rattle.press_feed.specs.declared.side.Side.{Side}
-use Rattle.press_feed.specs.Rows.{placed_bit}
+use Rattle.press_job.specs.Rows.{placed_bit}
 use Rattle.press_feed.specs.Sides.{IsReady, SideData, behind_row}
 
 -- the row of its pages that row y of a plate shows, if it shows one

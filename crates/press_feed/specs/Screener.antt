@@ -10,7 +10,7 @@ use Rattle.plan_parts.specs.declared.printing.Screen.TheVariants.{Bayer, Diffuse
 use Rattle.plan_json.specs.Data.{PlanData}
 use Rattle.press_feed.specs.declared.screener.Screener.{Screener}
 use Rattle.press_feed.specs.declared.screener.Screener.TheVariants.{Tile, Diffusion}
-use Rattle.press_feed.specs.Printing.{own_threshold, page_values, screen_of}
+use Rattle.press_job.specs.Printing.{own_threshold, page_values, screen_of}
 
 -- ---- what the plan says
 

@@ -9,8 +9,8 @@ use Rattle.plan_pages.specs.Ink.{slot_of}
 use Rattle.plan_rows.specs.Groups.{groups_of}
 use Rattle.press_feed.specs.declared.screener.Screener.{Screener}
 use Rattle.press_feed.specs.declared.side.Side.{Side}
-use Rattle.press_feed.specs.Job.{JobData}
-use Rattle.press_feed.specs.Printing.{printed_row}
+use Rattle.press_job.specs.Job.{JobData}
+use Rattle.press_job.specs.Printing.{printed_row}
 use Rattle.press_feed.specs.Screener.{HasScreened, IsScreener}
 use Rattle.press_feed.specs.Sides.{SideData, next_of, page_before, stands_in}
 

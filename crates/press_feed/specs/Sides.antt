@@ -11,7 +11,7 @@ use Rattle.plan_rows.specs.declared.group.Group.{Group}
 use Rattle.plan_rows.specs.Groups.{groups_of}
 use Rattle.press_feed.specs.declared.side.Side.{Side}
 use Rattle.press_feed.specs.declared.side.Side.TheVariants.{Left, Right}
-use Rattle.press_feed.specs.Layers.{layers_of}
+use Rattle.press_job.specs.Layers.{layers_of}
 use Rattle.press_feed.specs.Screener.{is_diffused}
 
 -- the page of a group on a side

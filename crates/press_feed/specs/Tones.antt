@@ -6,7 +6,7 @@ use Rattle.plan_parts.specs.Data.{CurveData}
 use Rattle.plan_json.specs.Data.{PlanData}
 use Rattle.plan_json.specs.Plan.{IsPlan}
 use Rattle.plan_pages.specs.Ink.{slot_of}
-use Rattle.press_feed.specs.Printing.{toned}
+use Rattle.press_job.specs.Printing.{toned}
 
 -- tables of the curves of a plan
 pub record AreCurves (plan : PlanData) (curves : List (List ℕ)) : Type 0 where

@@ -3,17 +3,17 @@ ghost use Rattle.std.specs.Prelude.{◌≡◌, ◌<◌, IfOk, Some, length, repl
 ghost use Rattle.pr_base.specs.Row.{row_size};
 ghost use Rattle.plan_json.specs.Data.{plate_height, plate_width};
 ghost use Rattle.plan_json.specs.Plan.{IsPlan};
-ghost use Rattle.press_feed.specs.Rows.{plate_row};
+ghost use Rattle.press_job.specs.Rows.{plate_row};
 ghost use Rattle.press_feed.specs.Plates.{CanDraw, ShowsPages, page_row as row_of_pages, row_after};
 ghost use Rattle.press_feed.specs.declared.side.Side.TheVariants.{Left, Right};
 
-use crate::Job;
 use crate::side::Side;
 use crate::side_pages::SidePages;
 use plan_json::Plan;
 use plan_pages::{mark_row, plate_shape};
 use plan_rows::{Group, RowPlace, RowPlan};
 use pr_base::{NoMemory, RowFeed, row_bytes};
+use press_job::Job;
 use std::alloc::Global;
 use std::marker::Model;
 use tif_packbits::frame_row;

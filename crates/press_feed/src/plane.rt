@@ -1,6 +1,6 @@
 // A row of one ink of a page behind its curve.
 ghost use Rattle.std.specs.Prelude.{◌≡◌, ◌≤◌, ◌<◌, ℕ, IfOk, if◌then◌else◌, length, slice_index, true, false};
-ghost use Rattle.press_feed.specs.Printing.{toned};
+ghost use Rattle.press_job.specs.Printing.{toned};
 
 use crate::tones::Tones;
 use page_tone::Curve;

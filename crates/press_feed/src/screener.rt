@@ -3,7 +3,7 @@ ghost use Rattle.std.specs.Prelude.{◌≡◌, ℕ, ◌+◌, ◌*◌, ◌<◌, �
 ghost use Rattle.plan_parts.specs.Parts.{is_bayer};
 ghost use Rattle.scr_tile.specs.AnyTile.{threshold_of};
 ghost use Rattle.scr_tile.specs.Tile.{threshold_at};
-ghost use Rattle.press_feed.specs.Printing.{own_threshold};
+ghost use Rattle.press_job.specs.Printing.{own_threshold};
 ghost use Rattle.pr_base.specs.Bits.{SetsBits};
 
 use plan_json::{Plan, Screen};

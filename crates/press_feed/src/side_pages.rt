@@ -7,13 +7,11 @@ ghost use Rattle.plan_pages.specs.Ink.{slot_of};
 ghost use Rattle.plan_rows.specs.Groups.{groups_of, page_colour, page_spot};
 ghost use Rattle.press_feed.specs.declared.screener.Screener.{Screener as ScreenerData};
 ghost use Rattle.press_feed.specs.Planes.{ShowsInks};
-ghost use Rattle.press_feed.specs.Printing.{page_bit};
+ghost use Rattle.press_job.specs.Printing.{page_bit};
 ghost use Rattle.press_feed.specs.Screener.{behind_values, diffuses, from_top, front_of, rows_in, screened_bit};
 ghost use Rattle.press_feed.specs.SidePages.{AreOpened, AreScreeners, at_first_row, behind_next};
 ghost use Rattle.press_feed.specs.Sides.{left_edge, page_before, page_on, stands_in};
 
-use crate::Job;
-use crate::layers::open_layers;
 use crate::printed_row::PrintedRow;
 use crate::screener::Screener;
 use crate::side::Side;
@@ -22,6 +20,7 @@ use page_layers::PageRows;
 use plan_json::Plan;
 use plan_rows::Group;
 use pr_base::{Ink, NoMemory};
+use press_job::{Job, open_layers};
 use std::alloc::Global;
 use std::marker::Model;
 

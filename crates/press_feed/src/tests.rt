@@ -1,11 +1,12 @@
 // The first row of the largest pages, and what may cross threads.
 ghost use Rattle.std.specs.Prelude.{◌<◌, length};
-ghost use Rattle.press_feed.specs.Rows.{plate_frames};
+ghost use Rattle.press_job.specs.Rows.{plate_frames};
 
-use crate::{Feed, Job, Refusal, prepare};
+use crate::Feed;
 use plan_json::read_plan;
 use pr_base::{Deal, NoMemory, RowFeed};
 use pr_ports::MemShelf;
+use press_job::{Job, Refusal, prepare};
 use std::alloc::Global;
 use std::test::Fail;
 

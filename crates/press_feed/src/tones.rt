@@ -32,7 +32,7 @@ impl<'j> Model for Tones<'j> {
 }
 
 impl<'j> Tones<'j> {
-    ghost use Rattle.press_feed.specs.Printing.{toned};
+    ghost use Rattle.press_job.specs.Printing.{toned};
     ghost use Rattle.press_feed.specs.Tones.{limits};
 
     /// The tone of a plan.

@@ -12,8 +12,8 @@ use Rattle.plan_json.specs.Plan.{IsPlan}
 use Rattle.plan_rows.specs.declared.place.RowPlace.{RowPlace}
 use Rattle.plan_rows.specs.Groups.{groups_of}
 use Rattle.plan_rows.specs.Rows.{row_places}
-use Rattle.press_feed.specs.Rows.{left_of, plate_bit, plate_frames, plate_rows, right_of, row_at_place}
-use Rattle.press_feed.proofs.FrameLemmas.{length-plate_frames}
+use Rattle.press_job.specs.Rows.{left_of, plate_bit, plate_frames, plate_rows, right_of, row_at_place}
+use Rattle.press_job.proofs.FrameLemmas.{length-plate_frames}
 use Rattle.ring_rule.specs.Views.{ring_of}
 use Rattle.ring_run.specs.declared.site_end.SiteEnd.{SiteEnd}
 use Rattle.ring_run.specs.Fits.{AreIdle, Delivery, KeepCounts, RackTells, RunFits, RunPart, by_ring}

@@ -1,7 +1,7 @@
 // A run: all plates of a job, on the racks of its sites.
 ghost use Rattle.std.specs.Prelude.{◌≡◌, ◌<◌, ◌≤◌, IfOk, OnErr, drop, length};
 ghost use Rattle.plan_words.specs.Words.{IsWithin};
-ghost use Rattle.press_feed.specs.Rows.{plate_frames, plate_rows};
+ghost use Rattle.press_job.specs.Rows.{plate_frames, plate_rows};
 ghost use Rattle.ring_run.specs.Fits.{AreIdle, KeepCounts, RunFits, RunPart, by_ring, racks_told};
 
 use crate::Outcome;

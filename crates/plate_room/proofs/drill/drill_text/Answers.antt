@@ -1,5 +1,5 @@
 use Rattle.std.proofs.Common.{◌≡◌, IfOk, string_bytes, subst}
-use Rattle.press_feed.specs.Job.{JobData}
+use Rattle.press_job.specs.Job.{JobData}
 use Rattle.plate_room.specs.Drill.{drill_text, told_of}
 use Rattle.plate_room.proofs.drill.drill_text.Goals as goal
 

@@ -2,7 +2,7 @@ use Rattle.std.proofs.Common.{◌≡◌, codes, sym, ap, ◌∙◌}
 use Rattle.pr_ports.specs.Mem.{files_of}
 use Rattle.plan_json.specs.Data.{PlanData}
 use Rattle.plan_json.specs.PlanOf.{plan_of}
-use Rattle.press_feed.specs.Verdict.{verdict_on_files}
+use Rattle.press_job.specs.Verdict.{verdict_on_files}
 use Rattle.job_gen.specs.Plan.{job_plan}
 use Rattle.plate_room.proofs.DrillVerdict.{job_passes}
 use Rattle.plate_room.proofs.drill.job_of.Goals as goal

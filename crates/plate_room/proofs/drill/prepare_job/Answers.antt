@@ -2,7 +2,7 @@ use Rattle.std.proofs.Common.{◌≡◌, List, ℕ, Some, codes, sym, ap, subst,
 use Rattle.std.proofs.lemmas.Option.{same_Some}
 use Rattle.pr_ports.specs.Mem.{files_of}
 use Rattle.pr_ports.specs.Shelf.{held_at}
-use Rattle.press_feed.specs.Verdict.{IsMissing}
+use Rattle.press_job.specs.Verdict.{IsMissing}
 use Rattle.plate_room.proofs.DrillVerdict.{never_missing}
 use Rattle.plate_room.proofs.drill.prepare_job.Goals as goal
 

@@ -1,6 +1,7 @@
 use Rattle.std.proofs.Common.{◌≡◌, ℕ, List, get_or, ap, ◌∙◌, arith}
 use Rattle.page_tone.specs.Limit.{limited}
-use Rattle.press_feed.proofs.ValueLemmas.{value_more, value_ahead, limited-same}
+use Rattle.press_job.proofs.LimitLemmas.{limited-same}
+use Rattle.press_feed.proofs.ValueLemmas.{value_more, value_ahead}
 use Rattle.press_feed.proofs.printed_row.limit_values.Goals as goal
 
 pub loop-x-preserved : goal.loop-x-preserved

@@ -2,7 +2,7 @@ use Rattle.std.proofs.Common.{◌<◌, length, sym, subst, arith}
 use Rattle.plan_json.specs.Data.{PlanData}
 use Rattle.plan_rows.specs.Groups.{groups_of}
 use Rattle.press_feed.specs.Sides.{page_before, stands_in}
-use Rattle.press_feed.proofs.GroupLemmas.{stands_within}
+use Rattle.press_feed.proofs.StandLemmas.{stands_within}
 use Rattle.press_feed.proofs.SideLemmas.{opened_more}
 use Rattle.press_feed.proofs.side_pages.open_pages.Goals as goal
 

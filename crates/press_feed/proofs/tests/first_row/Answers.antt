@@ -1,7 +1,7 @@
 use Rattle.std.proofs.Common.{◌≡◌, ap, sym, subst, List, ℕ, length, drop, arith}
 use Rattle.pr_base.specs.Row.{FitsNext}
 use Rattle.press_feed.specs.Feed.{FeedData, rows_left}
-use Rattle.press_feed.specs.Rows.{plate_frames}
+use Rattle.press_job.specs.Rows.{plate_frames}
 use Rattle.press_feed.proofs.FeedLemmas.{fits_at}
 use Rattle.press_feed.proofs.tests.first_row.Goals as goal
 

@@ -4,7 +4,7 @@ use Rattle.pr_base.specs.Row.{row_size}
 use Rattle.plan_json.specs.Data.{PlanData, plate_width}
 use Rattle.plan_json.specs.Plan.{IsPlan}
 use Rattle.plan_rows.specs.Rows.{rows_of}
-use Rattle.press_feed.specs.Rows.{plate_frames}
+use Rattle.press_job.specs.Rows.{plate_frames}
 use Rattle.ring_rule.specs.Views.{ring_of}
 use Rattle.ring_run.specs.Fits.{AreIdle, RackTells, by_ring, rack_told}
 use Rattle.ring_run.specs.Served.{Carries}

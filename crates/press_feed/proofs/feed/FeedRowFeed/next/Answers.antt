@@ -7,7 +7,7 @@ use Rattle.tif_packbits.specs.Frame.{frame_of, frame_size}
 use Rattle.press_feed.specs.declared.side.Side.TheVariants.{Left, Right}
 use Rattle.press_feed.specs.Feed.{FeedData, rows_left}
 use Rattle.press_feed.specs.Plates.{CanDraw, row_after}
-use Rattle.press_feed.specs.Rows.{plate_frames, plate_row}
+use Rattle.press_job.specs.Rows.{plate_frames, plate_row}
 use Rattle.press_feed.specs.Sides.{SideData}
 use Rattle.press_feed.proofs.FeedLemmas.{IsFeed-next, frame_fits, frame_is, next_row_is, next_small, place_within}
 use Rattle.press_feed.proofs.feed.FeedRowFeed.next.Goals as goal

@@ -1,8 +1,0 @@
-use Rattle.std.proofs.Common.{sym}
-use Rattle.press_feed.proofs.FrameLemmas.{length-plate_frames}
-use Rattle.press_feed.proofs.job.JobDeal.total.Goals as goal
-
-pub returns : goal.returns
-returns c =
-    rw (← c.self.view_is, c.total.ensures.total, c.self.invariant.rows_are)
-    (sym (length-plate_frames c.self.inside.plan c.self.inside.files))

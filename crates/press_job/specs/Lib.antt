@@ -1,0 +1,10 @@
+pub mod First
+pub mod Layers
+pub mod Printing
+pub mod Rows
+pub mod Tests
+pub mod Verdict
+pub mod Fit
+pub mod Job
+pub mod Tested
+pub mod Spotless

@@ -1,0 +1,20 @@
+// A job: a plan and its files, tested before any row is made. After `prepare` nothing can be refused but for
+// want of memory. What the rows of its plates are is defined here, and the crates above make them.
+#![tactic(auto)]
+
+mod file_test;
+mod files;
+mod fit;
+mod job;
+mod laws;
+mod layers;
+mod loading;
+mod preparing;
+mod refusal;
+mod usage;
+
+pub use job::Job;
+pub use laws::spotless_law;
+pub use layers::open_layers;
+pub use preparing::prepare;
+pub use refusal::Refusal;

@@ -1,0 +1,166 @@
+// Loading the files of a plan, each tested as soon as it is loaded.
+ghost use Rattle.std.specs.Prelude.{◌≡◌, ◌+◌, ◌<◌, ◌≤◌, Contains, Some, None, IfOk, IfSome, IsErrOf, OnOk, length, sum_by};
+ghost use Rattle.plan_json.specs.Plan.{IsPlan};
+ghost use Rattle.pr_base.specs.declared.fault.FaultKind.{FaultKind};
+ghost use Rattle.pr_base.specs.Count.{Rose};
+ghost use Rattle.pr_ports.specs.Shelf.{IsHeldAt, held_at};
+ghost use Rattle.press_job.specs.Tests.{ArePassed, fault_of_file};
+ghost use Rattle.press_job.specs.Verdict.{AreFirst, IfFile, IfShelf, IsMissing, limit_behind as limit_after, name_of, named_fault, path_of, verdict_before, verdict_on};
+
+use crate::Refusal;
+use crate::file_test::test_file;
+use crate::files::Files;
+use plan_json::Plan;
+use pr_base::{FaultKind, FileFault, NoMemory, PathText};
+use pr_ports::{LoadFault, Shelf};
+use std::alloc::Global;
+
+/// The bytes that one file may have.
+const FILE_LIMIT: u64 = 536_870_912;
+
+/// The bytes that all files of a plan may have together.
+const ALL_LIMIT: u64 = 3_221_225_472;
+
+/// The bytes that a file may have behind files of so many bytes.
+fn limit_behind(loaded: u64) -> u64
+    requires { loaded ≤ 3221225472 }
+    ensures limit { result ≡ limit_after loaded }
+    ensures within { loaded + result ≤ 3221225472 }
+{
+    FILE_LIMIT.min(ALL_LIMIT - loaded)
+}
+
+/// The name of a file of the plan.
+fn name_at(plan: &Plan, file: usize) -> &str
+    requires { file < length plan.now.files }
+    ensures { result.now ≡ name_of plan.now file }
+{
+    let files = plan.files();
+    files[file].as_str()
+}
+
+/// The fault of a file of the plan, with its name.
+pub(crate) fn fault_of(
+    alloc: Global,
+    plan: &Plan,
+    file: usize,
+    tag: u16,
+    kind: FaultKind,
+) -> Result<FileFault, NoMemory>
+    requires { file < length plan.now.files }
+    ensures { IfOk result (λ fault. fault ≡ named_fault plan.now file tag kind) }
+{
+    Ok(FileFault {
+        file: PathText::of(alloc, name_at(plan, file))?,
+        tag,
+        kind,
+    })
+}
+
+/// Where a file of the plan lies in a folder.
+fn file_path(alloc: Global, plan: &Plan, folder: &str, file: usize) -> Result<PathText, NoMemory>
+    requires { file < length plan.now.files }
+    ensures { IfOk result (λ path. path ≡ path_of plan.now folder.now file) }
+{
+    let name = name_at(plan, file);
+    PathText::of(alloc, format!(in alloc; "{folder}/{name}")?.as_str())
+}
+
+/// Loads a file of the plan and tests it for its uses.
+fn load_file<H: Shelf>(
+    alloc: Global,
+    plan: &Plan,
+    folder: &str,
+    limit: u64,
+    file: usize,
+    shelf: &mut H,
+) -> Result<Vec<u8>, Refusal>
+    requires { file < length plan.now.files }
+    ensures within { IfOk result (λ bytes. length bytes.items ≤ limit) }
+    ensures bytes { IfOk result (λ bytes. IsHeldAt (H.held shelf.old)
+        (path_of plan.now folder.now file) bytes.items) }
+    ensures passed { IfOk result (λ bytes. fault_of_file plan.now file bytes.items ≡ None) }
+    ensures refused { IfFile result (λ fault. IfSome (H.held shelf.old) (λ held.
+        verdict_on plan.now folder.now limit file (held_at held (path_of plan.now folder.now file))
+        ≡ Some (Refusal.File fault))) }
+    ensures named { IfFile result (λ fault. Contains plan.now.files fault.file) }
+    ensures too_long { IfFile result
+        (λ fault. fault.kind ≡ FaultKind.TooLong → Rose (H.longs shelf.old) (H.longs shelf.new)) }
+    ensures path { IfShelf result (λ path. path ≡ path_of plan.now folder.now file) }
+    ensures counted { IfShelf result (λ _. Rose (H.faults shelf.old) (H.faults shelf.new)) }
+    ensures missed { IfShelf result (λ path. IfSome (H.missed shelf.new) (λ last. last ≡ Some path)) }
+    ensures done_missed { OnOk result (H.missed shelf.new ≡ H.missed shelf.old) }
+    ensures file_missed { IfFile result (λ _. H.missed shelf.new ≡ H.missed shelf.old) }
+    ensures memory_missed { IsErrOf result Refusal.Memory → H.missed shelf.new ≡ H.missed shelf.old }
+    ensures held { H.held shelf.new ≡ H.held shelf.old }
+    ensures faults_stay { H.faults shelf.old ≤ H.faults shelf.new }
+    ensures longs_stay { H.longs shelf.old ≤ H.longs shelf.new }
+{
+    let Ok(path) = file_path(alloc, plan, folder, file) else {
+        return Err(Refusal::Memory);
+    };
+    let bytes = match shelf.load(path.as_str(), limit) {
+        Ok(bytes) => bytes,
+        Err(LoadFault::Failed) => return Err(Refusal::Shelf(path)),
+        Err(LoadFault::TooLong { .. }) => {
+            let Ok(fault) = fault_of(alloc, plan, file, 0, FaultKind::TooLong) else {
+                return Err(Refusal::Memory);
+            };
+            return Err(Refusal::File(fault));
+        }
+        Err(LoadFault::Memory) => return Err(Refusal::Memory),
+    };
+    if let Err(fault) = test_file(plan, file, bytes.as_slice()) {
+        let Ok(fault) = fault_of(alloc, plan, file, fault.tag, fault.kind) else {
+            return Err(Refusal::Memory);
+        };
+        return Err(Refusal::File(fault));
+    }
+    Ok(bytes)
+}
+
+/// Loads all files of a plan in order, each tested before the next one is loaded.
+pub(crate) fn load_files<H: Shelf>(
+    alloc: Global,
+    plan: &Plan,
+    folder: &str,
+    shelf: &mut H,
+) -> Result<Files, Refusal>
+    ensures plan { OnOk result (IsPlan plan.now) }
+    ensures count { IfOk result (λ files. length files ≡ length plan.now.files) }
+    ensures passed { IfOk result (ArePassed plan.now) }
+    ensures room { IfOk result (λ files. sum_by length files ≤ 3221225472) }
+    ensures first { IfOk result (λ files. IfSome (H.held shelf.old)
+        (λ held. AreFirst plan.now folder.now held files)) }
+    ensures refused { IfFile result (λ fault. IfSome (H.held shelf.old)
+        (λ held. verdict_before plan.now folder.now held (length plan.now.files)
+        ≡ Some (Refusal.File fault))) }
+    ensures named { IfFile result (λ fault. Contains plan.now.files fault.file) }
+    ensures too_long { IfFile result
+        (λ fault. fault.kind ≡ FaultKind.TooLong → Rose (H.longs shelf.old) (H.longs shelf.new)) }
+    ensures path { IfShelf result (IsMissing plan.now folder.now (H.held shelf.old)) }
+    ensures counted { IfShelf result (λ _. Rose (H.faults shelf.old) (H.faults shelf.new)) }
+    ensures missed { IfShelf result (λ path. IfSome (H.missed shelf.new) (λ last. last ≡ Some path)) }
+    ensures done_missed { OnOk result (H.missed shelf.new ≡ H.missed shelf.old) }
+    ensures file_missed { IfFile result (λ _. H.missed shelf.new ≡ H.missed shelf.old) }
+    ensures memory_missed { IsErrOf result Refusal.Memory → H.missed shelf.new ≡ H.missed shelf.old }
+    ensures held { H.held shelf.new ≡ H.held shelf.old }
+    ensures faults_stay { H.faults shelf.old ≤ H.faults shelf.new }
+    ensures longs_stay { H.longs shelf.old ≤ H.longs shelf.new }
+{
+    let count = plan.files().len();
+    let mut files = Files::new(alloc);
+    let mut loaded = 0;
+    for file in 0..count {
+        let limit = limit_behind(loaded);
+        let bytes = match load_file(alloc, plan, folder, limit, file, shelf) {
+            Ok(bytes) => bytes,
+            Err(refusal) => return Err(refusal),
+        };
+        loaded += bytes.len() as u64;
+        let Ok(()) = files.push(bytes) else {
+            return Err(Refusal::Memory);
+        };
+    }
+    Ok(files)
+}

@@ -1,0 +1,63 @@
+// From a plan and a shelf to a job.
+ghost use Rattle.std.specs.Prelude.{◌≡◌, ◌≤◌, Contains, IfOk, IfSome, IsErrOf, None, OnOk, Some, length, sum_by};
+ghost use Rattle.pr_base.specs.Count.{Rose};
+ghost use Rattle.pr_base.specs.declared.fault.FaultKind.{FaultKind};
+ghost use Rattle.press_job.specs.Verdict.{IfFile, IfShelf, IsMissing, files_in, verdict_on_files};
+
+use crate::fit::test_fit;
+use crate::loading::{fault_of, load_files};
+use crate::{Job, Refusal};
+use plan_json::Plan;
+use plan_pages::plate_shape;
+use plan_rows::RowPlan;
+use pr_ports::Shelf;
+use std::alloc::Global;
+
+/// Makes a job of a plan and its files in the folder `files`. It loads each file once, in the order in which
+/// the plan mentions them, and tests it for each of its uses; then it tests the crop and the mask of each
+/// layer. The first refusal of this order is the answer.
+pub fn prepare<H: Shelf>(
+    alloc: Global,
+    plan: Plan,
+    files: &str,
+    shelf: &mut H,
+) -> Result<Job, Refusal>
+    ensures plan { IfOk result (λ job. job.plan ≡ plan) }
+    ensures files { IfOk result (λ job. IfSome (H.held shelf.old)
+        (λ held. job.files ≡ files_in plan files.now held)) }
+    ensures room { IfOk result (λ job. sum_by length job.files ≤ 3221225472) }
+
+    // Where the shelf tells its files: nothing is wrong with them, or the answer is the first thing that is.
+    ensures passed { OnOk result (IfSome (H.held shelf.old)
+        (λ held. verdict_on_files plan files.now held ≡ None)) }
+    ensures refused { IfFile result (λ fault. IfSome (H.held shelf.old)
+        (λ held. verdict_on_files plan files.now held ≡ Some (Refusal.File fault))) }
+
+    // A file is told too long, or a path told as failed, only where the shelf counted that in this call.
+    ensures named { IfFile result (λ fault. Contains plan.files fault.file) }
+    ensures too_long { IfFile result
+        (λ fault. fault.kind ≡ FaultKind.TooLong → Rose (H.longs shelf.old) (H.longs shelf.new)) }
+    ensures path { IfShelf result (IsMissing plan files.now (H.held shelf.old)) }
+    ensures counted { IfShelf result (λ _. Rose (H.faults shelf.old) (H.faults shelf.new)) }
+    ensures missed { IfShelf result (λ path. IfSome (H.missed shelf.new) (λ last. last ≡ Some path)) }
+    ensures done_missed { OnOk result (H.missed shelf.new ≡ H.missed shelf.old) }
+    ensures file_missed { IfFile result (λ _. H.missed shelf.new ≡ H.missed shelf.old) }
+    ensures memory_missed { IsErrOf result Refusal.Memory → H.missed shelf.new ≡ H.missed shelf.old }
+
+    ensures held { H.held shelf.new ≡ H.held shelf.old }
+    ensures faults_stay { H.faults shelf.old ≤ H.faults shelf.new }
+    ensures longs_stay { H.longs shelf.old ≤ H.longs shelf.new }
+{
+    let loaded = load_files(alloc, &plan, files, shelf)?;
+    if let Err(misfit) = test_fit(&plan, &loaded) {
+        let Ok(fault) = fault_of(alloc, &plan, misfit.file, misfit.tag, misfit.kind) else {
+            return Err(Refusal::Memory);
+        };
+        return Err(Refusal::File(fault));
+    }
+    let Ok(rows) = RowPlan::of(alloc, &plan) else {
+        return Err(Refusal::Memory);
+    };
+    let shape = plate_shape(&plan);
+    Ok(Job::of(plan, rows, shape, loaded))
+}
