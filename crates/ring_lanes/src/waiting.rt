@@ -1,19 +1,21 @@
 // How a thread waits at its end of a ring.
-use std::thread;
+use std::{hint, thread};
 
-/// The looks in vain, one after the other, after each of which a thread gives way `TIMES` times.
+/// The looks in vain, one after the other, behind each of which a thread pauses.
 const LOOKS: u32 = 16;
 
-/// About the time in which the other end of the ring deals with a row, so that a turn doesn't spend its
-/// looks while that end is at work.
-const TIMES: u32 = 32;
+/// The pauses of the processor that take about the time in which the other end of the ring deals with a
+/// row, so that a turn doesn't spend its looks while that end is at work.
+const PAUSES: u32 = 400;
 
-/// Gives way to other threads after a look that found nothing, where so many looks before it found nothing
-/// either. After many of them the other end of the ring has likely ended its turn, and the looks that are
-/// left are spent quickly.
+/// Pauses after a look that found nothing, where so many looks before it found nothing either, and then
+/// gives way to other threads once: each time may cost a slice of theirs. After many such looks the other
+/// end of the ring has likely ended its turn, and the looks that are left are spent quickly.
 pub fn give_way(misses: u32) {
-    let times = if misses < LOOKS { TIMES } else { 1 };
-    for _ in 0..times {
-        thread::yield_now();
+    if misses < LOOKS {
+        for _ in 0..PAUSES {
+            hint::spin_loop();
+        }
     }
+    thread::yield_now();
 }
