@@ -2,7 +2,7 @@
 use Rattle.std.proofs.Common.{◌≡◌, ◌≢◌, ◌⊎◌, ℕ, List, [], Option, Some, None, IfSome, refl, sym, subst, ◌∙◌, inl, inr, arith}
 use Rattle.pr_ports.specs.Sink.{Grew}
 use Rattle.pr_rack.specs.declared.rack.Rack.{Ghosts}
-use Rattle.plate_room.specs.Command.{Command, IsDrill, command_of}
+use Rattle.plate_room.specs.Command.{AsksDrill, Command, command_of}
 use Rattle.plate_room.specs.Line.{memory_line}
 use Rattle.plate_room.specs.Refusal.{Refusal, NoCommand, LongPlan, BadPlan, Faulty, NotLoaded, status_of, line_of}
 use Rattle.plate_room.specs.Verdict.{verdict_of}
@@ -266,14 +266,14 @@ module _ {R : Type 0} (g : Ghosts R) (seen : Seen R) (note : SinkSeen) (status :
   -- ---- a drill
 
   -- a drill meets no refusal
-  drill_calm : IsDrill (command_of seen.words) → (refusal : Refusal) → Meets seen.words seen.shelf refusal → ⊥
-  drill_calm drill refusal (inl (none, is, same)) = subst IsDrill none drill
-  drill_calm drill refusal (inr (command, asked, met)) = drill_unmet seen.shelf command refusal (subst IsDrill asked drill) met
+  drill_calm : AsksDrill (command_of seen.words) → (refusal : Refusal) → Meets seen.words seen.shelf refusal → ⊥
+  drill_calm drill refusal (inl (none, is, same)) = subst AsksDrill none drill
+  drill_calm drill refusal (inr (command, asked, met)) = drill_unmet seen.shelf command refusal (subst AsksDrill asked drill) met
 
-  pub drill_status : Ending g seen note status → IsDrill (command_of seen.words) → (status ≡ 0) ⊎ IsCutShort status
+  pub drill_status : Ending g seen note status → AsksDrill (command_of seen.words) → (status ≡ 0) ⊎ IsCutShort status
   drill_status (Done f s) drill =
       inl (drill_zero g f.made.command seen.shelf.held seen.racks seen.racks' seen.out status
-      (subst IsDrill f.made.asked drill) f.made.made)
+      (subst AsksDrill f.made.asked drill) f.made.made)
   drill_status (Refused r is stopped line) drill = absurd (drill_calm drill r stopped.met)
   drill_status (Untold r is stopped two) drill = inr (inl is)
   drill_status (NotNoted r is stopped rose front) drill = inr (inr is)

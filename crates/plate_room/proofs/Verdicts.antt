@@ -18,7 +18,7 @@ use Rattle.ring_run.specs.Fits.{FitsCause}
 use Rattle.plate_room.specs.Report.{is_finished, status_of_ends}
 use Rattle.ring_run.specs.declared.site_end.SiteEnd.{SiteEnd}
 use Rattle.ring_run.specs.declared.site_end.SiteEnd.TheVariants.{Finished, Left}
-use Rattle.plate_room.specs.Command.{Command, Drill, Edition, IsDrill, One, Run, command_of}
+use Rattle.plate_room.specs.Command.{AsksDrill, Command, Drill, Edition, One, Run, command_of}
 use Rattle.plate_room.specs.Refusal.{Refusal, NoCommand, LongPlan, BadPlan, Faulty, NotLoaded, status_of}
 use Rattle.plate_room.specs.Verdict.{verdict_of, verdict_for, verdict_on, verdict_on_run, verdict_on_plan, files_refusal, judged, named, file_limit, plan_limit, too_long}
 use Rattle.plate_room.specs.Met.{IsLoaded, IsPlanned, HasFault, OneMeets, RunMeets, CommandMeets, Meets}
@@ -175,7 +175,7 @@ command_known shelf (Run edition) refusal met is = run_known shelf edition refus
 command_known shelf (Drill number ring patience) refusal met is = met
 
 -- a drill isn't refused
-pub drill_unmet : (shelf : ShelfSeen) (command : Command) (refusal : Refusal) → IsDrill (Some command)
+pub drill_unmet : (shelf : ShelfSeen) (command : Command) (refusal : Refusal) → AsksDrill (Some command)
     → CommandMeets command shelf refusal → ⊥
 drill_unmet shelf (One file) refusal drill met = drill
 drill_unmet shelf (Run edition) refusal drill met = drill
@@ -219,7 +219,7 @@ module _ {R : Type 0} (g : Ghosts R) where
 
   -- a drill that is done has status 0
   pub drill_zero : (command : Command) (held : Option Files) (racks racks' : List R) (out : SinkSeen) (status : ℕ)
-      → IsDrill (Some command) → Makes g command held racks racks' out status → status ≡ 0
+      → AsksDrill (Some command) → Makes g command held racks racks' out status → status ≡ 0
   drill_zero (One file) held racks racks' out status drill made = absurd drill
   drill_zero (Run edition) held racks racks' out status drill made = absurd drill
   drill_zero (Drill number ring patience) held racks racks' out status drill made = made.zero

@@ -72,12 +72,12 @@ command_of (name ∷ words) =
     else if pointwise nat_eq name (codes "drill") then drill_of words
     else None
 
--- a command is a drill
-abbrev pub IsDrill : Option Command → Type 0
-IsDrill None = ⊥
-IsDrill (Some (One file)) = ⊥
-IsDrill (Some (Run edition)) = ⊥
-IsDrill (Some (Drill number ring patience)) = Unit {0}
+-- the words ask for a drill
+abbrev pub AsksDrill : Option Command → Type 0
+AsksDrill None = ⊥
+AsksDrill (Some (One file)) = ⊥
+AsksDrill (Some (Run edition)) = ⊥
+AsksDrill (Some (Drill number ring patience)) = Unit {0}
 
 -- the bytes of each word
 abbrev pub words_of : {Z : Type 0} → List (String Z) → List (List ℕ)

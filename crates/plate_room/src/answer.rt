@@ -1,5 +1,5 @@
 // Doing a command.
-ghost use Rattle.plate_room.specs.Command.{IsDrill, command_of as meant, words_of};
+ghost use Rattle.plate_room.specs.Command.{AsksDrill, command_of as meant, words_of};
 ghost use Rattle.plate_room.specs.Answer.{Answered};
 ghost use Rattle.plate_room.specs.Seen.{AreIdle, shelf_seen, sink_seen};
 ghost use Rattle.std.specs.Prelude.{◌≡◌, ◌≤◌, length};
@@ -33,8 +33,8 @@ pub(crate) fn answer<T: Threads + Sync, H: Shelf, R: Rack + Send, S: Sink>(
       out = sink_seen S.Sink out.old out.new;
     }) result }
     ensures held { H.held shelf.new ≡ H.held shelf.old }
-    ensures drill_shelf { IsDrill (meant (words_of words.now)) → shelf.new ≡ shelf.old }
-    ensures drill_racks { IsDrill (meant (words_of words.now)) → racks.new ≡ racks.old }
+    ensures drill_shelf { AsksDrill (meant (words_of words.now)) → shelf.new ≡ shelf.old }
+    ensures drill_racks { AsksDrill (meant (words_of words.now)) → racks.new ≡ racks.old }
 {
     match command_of(words) {
         Some(Command::One { file }) => print_one(alloc, file, shelf, out),

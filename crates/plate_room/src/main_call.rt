@@ -1,7 +1,7 @@
 // The top call.
 ghost use Rattle.std.specs.Prelude.{◌≡◌, ◌≤◌, ◌⊎◌, ◌<◌, ◌≢◌, ℕ, None, Some, IfSome, length, slice_index};
 ghost use Rattle.pr_rack.specs.Rack.{none_begun};
-ghost use Rattle.plate_room.specs.Command.{IsDrill, command_of, words_of};
+ghost use Rattle.plate_room.specs.Command.{AsksDrill, command_of, words_of};
 ghost use Rattle.plate_room.specs.Done.{IsCut, IsDone};
 ghost use Rattle.plate_room.specs.End.{IsCutShort, IsDoneStatus, IsRefusal, IsStatus, Tells, TellsOfMemory, TellsPart, TellsVerdict};
 ghost use Rattle.plate_room.specs.Ending.{Ending};
@@ -105,9 +105,9 @@ pub fn plate_main<T: Threads + Sync, H: Shelf, R: Rack + Send, S: Sink, E: Sink>
     ensures refused_out_faults { IsRefusal result → S.faults out.new ≡ S.faults out.old }
 
     // A drill is done, or cut short by want of memory or by a sink. It leaves shelf and racks alone.
-    ensures drill { IsDrill (command_of (words_of words.now)) → (result ≡ 0) ⊎ IsCutShort result }
-    ensures drill_shelf { IsDrill (command_of (words_of words.now)) → shelf.new ≡ shelf.old }
-    ensures drill_racks { IsDrill (command_of (words_of words.now)) → racks.new ≡ racks.old }
+    ensures drill { AsksDrill (command_of (words_of words.now)) → (result ≡ 0) ⊎ IsCutShort result }
+    ensures drill_shelf { AsksDrill (command_of (words_of words.now)) → shelf.new ≡ shelf.old }
+    ensures drill_racks { AsksDrill (command_of (words_of words.now)) → racks.new ≡ racks.old }
 
     // Where nothing is wrong and nothing fails, the command is done or memory was wanted.
     ensures complete { (files : Files) → H.held shelf.old ≡ Some files
@@ -141,8 +141,8 @@ fn run<T: Threads + Sync, H: Shelf, R: Rack + Send, S: Sink, E: Sink>(
       out = sink_seen S.Sink out.old out.new;
     }) (sink_seen E.Sink note.old note.new) result }
     ensures held { H.held shelf.new ≡ H.held shelf.old }
-    ensures drill_shelf { IsDrill (command_of (words_of words.now)) → shelf.new ≡ shelf.old }
-    ensures drill_racks { IsDrill (command_of (words_of words.now)) → racks.new ≡ racks.old }
+    ensures drill_shelf { AsksDrill (command_of (words_of words.now)) → shelf.new ≡ shelf.old }
+    ensures drill_racks { AsksDrill (command_of (words_of words.now)) → racks.new ≡ racks.old }
 {
     match answer(rt, alloc, words, shelf, racks, out) {
         Ok(status) => status,
