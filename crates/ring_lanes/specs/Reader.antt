@@ -81,6 +81,13 @@ pub record IsNotYet (before after : ReaderState) (answer : NotYet) : Type 0 wher
   pub head : answer.head ≡ before.cursor
   pub stays : after ≡ record before { seen = answer.head; loads = before.loads + 1 }
 
+-- the row at the reader's cursor was looked for at least so often, and the last load found this head there
+pub record Waits (old new : ReaderState) (patience head : ℕ) : Type 0 where
+  pub at : head ≡ new.cursor
+  pub within : head < old.ring.total
+  pub last : new.seen ≡ head
+  pub counted : old.loads + patience ≤ new.loads
+
 -- what a reader's end keeps between its calls, over its copies of the numbers
 pub record IsReader (m : ReaderMark) (n : Numbers) (number cursor seen : ℕ) (joined : Bool) : Type 0 where
   pub numbers : HasNumbers m.view.ring n

@@ -23,7 +23,7 @@ pub use note::{CursorNote, HeadNote};
 pub use reader::Reader;
 pub use ring::{Ends, Ring, open_ring};
 pub use source::Source;
-pub use waiting::give_way;
+pub use waiting::pause;
 pub use writer::Writer;
 
 #[cfg(test)]

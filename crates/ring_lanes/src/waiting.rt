@@ -1,21 +1,14 @@
 // How a thread waits at its end of a ring.
-use std::{hint, thread};
+use std::hint;
 
-/// The looks in vain, one after the other, behind each of which a thread pauses.
-const LOOKS: u32 = 16;
+/// The pauses of the processor between two looks: some hundred nanoseconds in all.
+const PAUSES: u32 = 4;
 
-/// The pauses of the processor that take about the time in which the other end of the ring deals with a
-/// row, so that a turn doesn't spend its looks while that end is at work.
-const PAUSES: u32 = 400;
-
-/// Pauses after a look that found nothing, where so many looks before it found nothing either, and then
-/// gives way to other threads once: each time may cost a slice of theirs. After many such looks the other
-/// end of the ring has likely ended its turn, and the looks that are left are spent quickly.
-pub fn give_way(misses: u32) {
-    if misses < LOOKS {
-        for _ in 0..PAUSES {
-            hint::spin_loop();
-        }
+/// Pauses between two looks at a ring, for far less time than a row takes. A turn that looks in vain until
+/// its patience is spent ends soon, and the join behind it blocks: that is how a run waits. Nothing here
+/// yields, since each time would give a whole slice to whoever else is at work.
+pub fn pause() {
+    for _ in 0..PAUSES {
+        hint::spin_loop();
     }
-    thread::yield_now();
 }

@@ -5,7 +5,7 @@ ghost use Rattle.ring_run.specs.Feeding.{Grows, HasRows, IfWaiting, IsFed, IsKno
 
 use crate::side_by_side::TurnWith;
 use pr_base::{Deal, RowFeed};
-use ring_lanes::{Full, Writer, give_way};
+use ring_lanes::{Full, Writer, pause};
 
 /// How a turn of the writer ended.
 #[derive(Clone, Copy, Debug, PartialEq, Eq)]
@@ -48,18 +48,15 @@ pub fn feed_turn<D: Deal, F: RowFeed>(
     let mut buffer = [0; MOST_ROW];
     let row = &mut buffer[..writer.row_len()];
     let mut waits = 0;
-    let mut misses = 0;
     while writer.head() < writer.total() && writer.joined() > 0 {
         let Err(Full { site, at }) = publish_next(writer, feed, row) else {
-            misses = 0;
             continue;
         };
         waits += 1;
         if waits == patience {
             return FeedEnd::Waiting { site, at };
         }
-        give_way(misses);
-        misses = misses.saturating_add(1);
+        pause();
     }
     FeedEnd::Done
 }

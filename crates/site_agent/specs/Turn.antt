@@ -1,5 +1,5 @@
 -- What an answer of a turn says, and the rows that a site takes from a ring.
-use Rattle.std.specs.Prelude.{◌≡◌, ℕ, ◌+◌, ◌<◌, ◌≤◌, true, false, List, length, map}
+use Rattle.std.specs.Prelude.{◌≡◌, ℕ, true, false, List, length, map}
 use Rattle.ring_rule.specs.declared.view.RingNumbers.{RingNumbers}
 use Rattle.ring_lanes.specs.declared.source.Source.{Source}
 use Rattle.ring_lanes.specs.Reader.{ReaderState, source_of}
@@ -75,13 +75,6 @@ pub record GoesOnTo (old new : SiteData) (cursor : ℕ) : Type 0 where
   pub job : new.job ≡ old.job
   pub next : new.next ≡ cursor
   pub going : new.ended ≡ false
-
--- the row at the reader's cursor was looked for at least so often, and the last load found this head there
-pub record Waits (old new : ReaderState) (patience head : ℕ) : Type 0 where
-  pub at : head ≡ new.cursor
-  pub within : head < old.ring.total
-  pub last : new.seen ≡ head
-  pub counted : old.loads + patience ≤ new.loads
 
 -- a site left for this cause, and its rack, which told one thing before, tells another now: the plates whose
 -- last row is below the cause's row are finished, and the site's rows below it were taken, and that row

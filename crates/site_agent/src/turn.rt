@@ -2,17 +2,17 @@
 ghost use Rattle.std.specs.Prelude.{◌≡◌, ◌+◌, ◌<◌, ◌≤◌, ℕ, Some, false, true, IfSome, map};
 ghost use Rattle.pr_base.specs.Count.{Rose};
 ghost use Rattle.tif_packbits.specs.Frame.{framed_row};
-ghost use Rattle.ring_lanes.specs.Reader.{source_of};
+ghost use Rattle.ring_lanes.specs.Reader.{Waits, source_of};
 ghost use Rattle.site_agent.specs.Draw.{Draws, IsReady, stage};
 ghost use Rattle.site_agent.specs.Kept.{IsCauseAt};
 ghost use Rattle.site_agent.specs.Stands.{AreAsLong, AreBegun};
 ghost use Rattle.site_agent.specs.Tells.{Tells, tells};
-ghost use Rattle.site_agent.specs.Turn.{AreRowsFor, GoesOnTo, IfLeft, IfWaiting, IsGoingBy, LeavesAt, OnEnd, OnFinished, OnGoing, OnMemory, StopsAt, Waits};
+ghost use Rattle.site_agent.specs.Turn.{AreRowsFor, GoesOnTo, IfLeft, IfWaiting, IsGoingBy, LeavesAt, OnEnd, OnFinished, OnGoing, OnMemory, StopsAt};
 
 use crate::{Kept, Site, TurnEnd};
 use pr_base::Deal;
 use pr_rack::Rack;
-use ring_lanes::{NotYet, Reader, give_way};
+use ring_lanes::{NotYet, Reader, pause};
 
 impl Site {
     /// Takes the rows at the reader's cursor, keeps each and gives it back, until all are dealt with, or a
@@ -91,10 +91,9 @@ impl Site {
         ensures faults_stay { R.faults rack.old ≤ R.faults rack.new }
     {
         let mut waits = 0;
-        let mut misses = 0;
         while reader.cursor() < reader.total() {
             match self.draw(reader, rack) {
-                Ok(Kept::Done) => misses = 0,
+                Ok(Kept::Done) => {}
                 Ok(Kept::Left(cause)) => {
                     reader.leave();
                     return TurnEnd::Left(cause);
@@ -108,8 +107,7 @@ impl Site {
                     if waits == patience {
                         return TurnEnd::Waiting { head };
                     }
-                    give_way(misses);
-                    misses = misses.saturating_add(1);
+                    pause();
                 }
             }
         }
