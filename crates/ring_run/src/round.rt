@@ -51,7 +51,8 @@ fn tell_reader<D: Deal>(writer: &mut Writer<'_, D>, seat: &mut Seat<'_, D>)
     }
 }
 
-/// A round: afterwards fewer rows are yet to be published or to be taken, where a site goes on.
+/// A round, in so many threads beside the writer's: afterwards fewer rows are yet to be published or to be
+/// taken, where a site goes on.
 pub(crate) fn round<T: Threads + Sync, D: Deal + Sync, F: RowFeed + Send, R: Rack + Send>(
     rt: &T,
     writer: &mut Writer<'_, D>,
@@ -59,6 +60,7 @@ pub(crate) fn round<T: Threads + Sync, D: Deal + Sync, F: RowFeed + Send, R: Rac
     seats: &mut [Seat<'_, D>],
     racks: &mut [R],
     patience: u32,
+    threads: usize,
 )
     requires feed { MayFeed (F.left feed.old) writer.old }
     requires places { 0 < writer.old.ring.places }
@@ -79,5 +81,5 @@ pub(crate) fn round<T: Threads + Sync, D: Deal + Sync, F: RowFeed + Send, R: Rac
 {
     tell_writer(writer, seats);
     tell_readers(writer, seats);
-    turn_beside(rt, patience, feed, writer, racks, seats);
+    turn_beside(rt, patience, threads, feed, writer, racks, seats);
 }

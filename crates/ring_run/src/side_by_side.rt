@@ -1,9 +1,19 @@
-// Turns that are taken side by side.
+// Turns that are taken side by side, in as many threads as there are processors for them.
 ghost use Rattle.std.specs.Prelude.{◌≡◌, ◌<◌, ℕ, length};
 ghost use Rattle.std.specs.Thread.{IsSync};
 ghost use Rattle.ring_run.specs.Pairs.{AreTurned, MayAllTurn};
 
-use std::thread::{Threads, join_mut};
+use std::thread::{Threads, available_parallelism, join_mut};
+
+/// In how many threads all but one of the ends of a ring take their turns: one for each processor but that of
+/// the writer, and at least two, since a rack may wait for what another one does. Where the processors can't
+/// be counted each turn has a thread of its own.
+pub(crate) fn threads_beside_one<T: Threads>(rt: &T) -> usize {
+    match available_parallelism(rt) {
+        Ok(processors) => processors.get().saturating_sub(1).max(2),
+        Err(_) => usize::MAX,
+    }
+}
 
 /// What takes turns, each with a value of its own.
 ///
@@ -20,11 +30,13 @@ pub(crate) trait TurnWith<Y> {
         ensures { turned self.old other.old self.new other.new };
 }
 
-/// The turn of each with the other at its index, side by side: they are halved until one is left.
+/// The turn of each with the other at its index, in so many threads: they are halved until one is left, or
+/// one thread, which takes those that are left one after the other.
 #[cycle(halves)]
 pub(crate) fn turns<T: Threads + Sync, X: TurnWith<Y> + Send, Y: Send>(
     rt: &T,
     patience: u32,
+    threads: usize,
     others: &mut [Y],
     all: &mut [X],
 )
@@ -42,14 +54,15 @@ pub(crate) fn turns<T: Threads + Sync, X: TurnWith<Y> + Send, Y: Send>(
     let half = all.len() / 2;
     let (a, b) = all.split_at_mut(half);
     let (c, d) = others.split_at_mut(half);
-    both_halves(rt, patience, a, b, c, d);
+    both_halves(rt, patience, threads, a, b, c, d);
 }
 
-/// The turns of both halves.
+/// The turns of both halves, side by side where there are threads for both.
 #[cycle(halves)]
 fn both_halves<T: Threads + Sync, X: TurnWith<Y> + Send, Y: Send>(
     rt: &T,
     patience: u32,
+    threads: usize,
     a: &mut [X],
     b: &mut [X],
     c: &mut [Y],
@@ -65,6 +78,13 @@ fn both_halves<T: Threads + Sync, X: TurnWith<Y> + Send, Y: Send>(
     ensures first { AreTurned X.turned a.old c.old a.new c.new }
     ensures last { AreTurned X.turned b.old d.old b.new d.new }
 {
+    if threads < 2 {
+        turns(rt, patience, threads, c, a);
+        turns(rt, patience, threads, d, b);
+        return;
+    }
+    let first = threads / 2;
+    let last = threads - first;
     join_mut(
         rt,
         &mut ||
@@ -74,8 +94,8 @@ fn both_halves<T: Threads + Sync, X: TurnWith<Y> + Send, Y: Send>(
             requires patience { 0 < patience }
             ensures { AreTurned X.turned a.entry.now c.entry.now a.exit.now c.exit.now }
         {
-            let patience = patience;
-            turns(rt, patience, c, a)
+            let (patience, first) = (patience, first);
+            turns(rt, patience, first, c, a)
         },
         &mut ||
             requires sync { IsSync T.row }
@@ -84,16 +104,17 @@ fn both_halves<T: Threads + Sync, X: TurnWith<Y> + Send, Y: Send>(
             requires patience { 0 < patience }
             ensures { AreTurned X.turned b.entry.now d.entry.now b.exit.now d.exit.now }
         {
-            let patience = patience;
-            turns(rt, patience, d, b)
+            let (patience, last) = (patience, last);
+            turns(rt, patience, last, d, b)
         },
     );
 }
 
-/// A turn of one, and beside it those of all others.
+/// A turn of one, and beside it those of all others, in so many threads.
 pub(crate) fn turn_beside<T, W, F, X, Y>(
     rt: &T,
     patience: u32,
+    threads: usize,
     its: &mut F,
     one: &mut W,
     others: &mut [Y],
@@ -129,8 +150,8 @@ where
             requires patience { 0 < patience }
             ensures { AreTurned X.turned all.entry.now others.entry.now all.exit.now others.exit.now }
         {
-            let patience = patience;
-            turns(rt, patience, others, all)
+            let (patience, threads) = (patience, threads);
+            turns(rt, patience, threads, others, all)
         },
     );
 }
