@@ -5,3 +5,4 @@ mod Running
 pub mod JobRows
 mod Feeds
 mod Rounds
+mod Halves

@@ -9,7 +9,7 @@ ghost use Rattle.ring_run.specs.Seat.{is_going};
 ghost use Rattle.ring_run.specs.Served.{AreSomeSeated};
 
 use crate::seat::Seat;
-use crate::side_by_side::turn_beside;
+use crate::side_by_side::{Pace, turn_beside};
 use pr_base::{Deal, RowFeed};
 use pr_rack::Rack;
 use ring_lanes::Writer;
@@ -51,16 +51,14 @@ fn tell_reader<D: Deal>(writer: &mut Writer<'_, D>, seat: &mut Seat<'_, D>)
     }
 }
 
-/// A round, in so many threads beside the writer's: afterwards fewer rows are yet to be published or to be
-/// taken, where a site goes on.
+/// A round: afterwards fewer rows are yet to be published or to be taken, where a site goes on.
 pub(crate) fn round<T: Threads + Sync, D: Deal + Sync, F: RowFeed + Send, R: Rack + Send>(
     rt: &T,
     writer: &mut Writer<'_, D>,
     feed: &mut F,
     seats: &mut [Seat<'_, D>],
     racks: &mut [R],
-    patience: u32,
-    threads: usize,
+    pace: Pace,
 )
     requires feed { MayFeed (F.left feed.old) writer.old }
     requires places { 0 < writer.old.ring.places }
@@ -68,7 +66,7 @@ pub(crate) fn round<T: Threads + Sync, D: Deal + Sync, F: RowFeed + Send, R: Rac
     requires count { length seats.old ≡ length racks.old }
     requires some { AreSomeSeated
         (racks_told R.finished R.working R.begun R.taken R.missed R.faults racks.old) seats.old }
-    requires patience { 0 < patience }
+    requires patience { 0 < pace.patience }
     ensures feed { MayFeed (F.left feed.new) writer.new }
     ensures ring { writer.new.ring ≡ writer.old.ring }
     ensures ends { AreEndsOf writer.new seats.new }
@@ -81,5 +79,5 @@ pub(crate) fn round<T: Threads + Sync, D: Deal + Sync, F: RowFeed + Send, R: Rac
 {
     tell_writer(writer, seats);
     tell_readers(writer, seats);
-    turn_beside(rt, patience, threads, feed, writer, racks, seats);
+    turn_beside(rt, pace, feed, writer, racks, seats);
 }

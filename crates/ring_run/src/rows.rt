@@ -16,7 +16,7 @@ use crate::ends::{ends_of, seats_of};
 use crate::round::round;
 use crate::seat::Seat;
 use crate::seats::are_going;
-use crate::side_by_side::threads_beside_one;
+use crate::side_by_side::Pace;
 use plan_json::Plan;
 use plan_rows::RowPlan;
 use pr_base::{Deal, NoMemory, RowFeed};
@@ -49,9 +49,9 @@ fn run_rounds<T: Threads + Sync, D: Deal + Sync, F: RowFeed + Send, R: Rack + Se
         (racks_told R.finished R.working R.begun R.taken R.missed R.faults racks.new)
         seats.old seats.new }
 {
-    let threads = threads_beside_one(rt);
+    let pace = Pace::of(rt, patience);
     while are_going(seats) {
-        round(rt, writer, feed, seats, racks, patience, threads);
+        round(rt, writer, feed, seats, racks, pace);
     }
 }
 

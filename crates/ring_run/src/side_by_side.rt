@@ -5,13 +5,35 @@ ghost use Rattle.ring_run.specs.Pairs.{AreTurned, MayAllTurn};
 
 use std::thread::{Threads, available_parallelism, join_mut};
 
-/// In how many threads all but one of the ends of a ring take their turns: one for each processor but that of
-/// the writer, and at least two, since a rack may wait for what another one does. Where the processors can't
-/// be counted each turn has a thread of its own.
-pub(crate) fn threads_beside_one<T: Threads>(rt: &T) -> usize {
-    match available_parallelism(rt) {
-        Ok(processors) => processors.get().saturating_sub(1).max(2),
-        Err(_) => usize::MAX,
+/// How the turns of a round are taken: how often each may wait in vain, and in how many threads those of all
+/// ends but one are.
+#[derive(Clone, Copy)]
+pub(crate) struct Pace {
+    pub(crate) patience: u32,
+    pub(crate) threads: usize,
+}
+
+impl Pace {
+    /// One thread for each processor but that of the one end, and at least two, since a rack may wait for what
+    /// another one does. Where the processors can't be counted each turn has a thread of its own.
+    pub(crate) fn of<T: Threads>(rt: &T, patience: u32) -> Pace
+        ensures { result.patience ≡ patience }
+    {
+        let threads = match available_parallelism(rt) {
+            Ok(processors) => processors.get().saturating_sub(1).max(2),
+            Err(_) => usize::MAX,
+        };
+        Pace { patience, threads }
+    }
+
+    /// The same in so many threads.
+    fn in_threads(self, threads: usize) -> Pace
+        ensures { result.patience ≡ self.patience }
+    {
+        Pace {
+            patience: self.patience,
+            threads,
+        }
     }
 }
 
@@ -35,34 +57,32 @@ pub(crate) trait TurnWith<Y> {
 #[cycle(halves)]
 pub(crate) fn turns<T: Threads + Sync, X: TurnWith<Y> + Send, Y: Send>(
     rt: &T,
-    patience: u32,
-    threads: usize,
+    pace: Pace,
     others: &mut [Y],
     all: &mut [X],
 )
     requires count { length all.old ≡ length others.old }
     requires may { MayAllTurn X.may all.old others.old }
-    requires patience { 0 < patience }
+    requires patience { 0 < pace.patience }
     ensures turned { AreTurned X.turned all.old others.old all.new others.new }
 {
     if all.len() < 2 {
         if all.len() == 1 {
-            all[0].turn(&mut others[0], patience);
+            all[0].turn(&mut others[0], pace.patience);
         }
         return;
     }
     let half = all.len() / 2;
     let (a, b) = all.split_at_mut(half);
     let (c, d) = others.split_at_mut(half);
-    both_halves(rt, patience, threads, a, b, c, d);
+    both_halves(rt, pace, a, b, c, d);
 }
 
-/// The turns of both halves, side by side where there are threads for both.
+/// The turns of both halves: side by side where there are threads for both, else one half after the other.
 #[cycle(halves)]
 fn both_halves<T: Threads + Sync, X: TurnWith<Y> + Send, Y: Send>(
     rt: &T,
-    patience: u32,
-    threads: usize,
+    pace: Pace,
     a: &mut [X],
     b: &mut [X],
     c: &mut [Y],
@@ -74,38 +94,93 @@ fn both_halves<T: Threads + Sync, X: TurnWith<Y> + Send, Y: Send>(
     requires last { length b.old ≡ length d.old }
     requires may_first { MayAllTurn X.may a.old c.old }
     requires may_last { MayAllTurn X.may b.old d.old }
-    requires patience { 0 < patience }
+    requires patience { 0 < pace.patience }
     ensures first { AreTurned X.turned a.old c.old a.new c.new }
     ensures last { AreTurned X.turned b.old d.old b.new d.new }
 {
-    if threads < 2 {
-        turns(rt, patience, threads, c, a);
-        turns(rt, patience, threads, d, b);
-        return;
+    if pace.threads < 2 {
+        return halves_in_turn(rt, pace, a, b, c, d);
     }
-    let first = threads / 2;
-    let last = threads - first;
+    let first = pace.threads / 2;
+    let last = pace.threads - first;
+    join_halves(
+        rt,
+        pace.in_threads(first),
+        pace.in_threads(last),
+        a,
+        b,
+        c,
+        d,
+    )
+}
+
+/// The turns of both halves, one half after the other.
+#[cycle(halves)]
+fn halves_in_turn<T: Threads + Sync, X: TurnWith<Y> + Send, Y: Send>(
+    rt: &T,
+    pace: Pace,
+    a: &mut [X],
+    b: &mut [X],
+    c: &mut [Y],
+    d: &mut [Y],
+)
+    requires some_first { 0 < length a.old }
+    requires some_last { 0 < length b.old }
+    requires first { length a.old ≡ length c.old }
+    requires last { length b.old ≡ length d.old }
+    requires may_first { MayAllTurn X.may a.old c.old }
+    requires may_last { MayAllTurn X.may b.old d.old }
+    requires patience { 0 < pace.patience }
+    ensures first { AreTurned X.turned a.old c.old a.new c.new }
+    ensures last { AreTurned X.turned b.old d.old b.new d.new }
+{
+    turns(rt, pace, c, a);
+    turns(rt, pace, d, b);
+}
+
+/// The turns of both halves, side by side, each in so many threads.
+#[cycle(halves)]
+fn join_halves<T: Threads + Sync, X: TurnWith<Y> + Send, Y: Send>(
+    rt: &T,
+    first: Pace,
+    last: Pace,
+    a: &mut [X],
+    b: &mut [X],
+    c: &mut [Y],
+    d: &mut [Y],
+)
+    requires some_first { 0 < length a.old }
+    requires some_last { 0 < length b.old }
+    requires first { length a.old ≡ length c.old }
+    requires last { length b.old ≡ length d.old }
+    requires may_first { MayAllTurn X.may a.old c.old }
+    requires may_last { MayAllTurn X.may b.old d.old }
+    requires patience_first { 0 < first.patience }
+    requires patience_last { 0 < last.patience }
+    ensures first { AreTurned X.turned a.old c.old a.new c.new }
+    ensures last { AreTurned X.turned b.old d.old b.new d.new }
+{
     join_mut(
         rt,
         &mut ||
             requires sync { IsSync T.row }
             requires count { length a.now ≡ length c.now }
             requires may { MayAllTurn X.may a.now c.now }
-            requires patience { 0 < patience }
+            requires patience { 0 < first.patience }
             ensures { AreTurned X.turned a.entry.now c.entry.now a.exit.now c.exit.now }
         {
-            let (patience, first) = (patience, first);
-            turns(rt, patience, first, c, a)
+            let first = first;
+            turns(rt, first, c, a)
         },
         &mut ||
             requires sync { IsSync T.row }
             requires count { length b.now ≡ length d.now }
             requires may { MayAllTurn X.may b.now d.now }
-            requires patience { 0 < patience }
+            requires patience { 0 < last.patience }
             ensures { AreTurned X.turned b.entry.now d.entry.now b.exit.now d.exit.now }
         {
-            let (patience, last) = (patience, last);
-            turns(rt, patience, last, d, b)
+            let last = last;
+            turns(rt, last, d, b)
         },
     );
 }
@@ -113,8 +188,7 @@ fn both_halves<T: Threads + Sync, X: TurnWith<Y> + Send, Y: Send>(
 /// A turn of one, and beside it those of all others, in so many threads.
 pub(crate) fn turn_beside<T, W, F, X, Y>(
     rt: &T,
-    patience: u32,
-    threads: usize,
+    pace: Pace,
     its: &mut F,
     one: &mut W,
     others: &mut [Y],
@@ -129,7 +203,7 @@ where
     requires may_one { W.may one.old its.old }
     requires count { length all.old ≡ length others.old }
     requires may { MayAllTurn X.may all.old others.old }
-    requires patience { 0 < patience }
+    requires patience { 0 < pace.patience }
     ensures one { W.turned one.old its.old one.new its.new }
     ensures turned { AreTurned X.turned all.old others.old all.new others.new }
 {
@@ -137,21 +211,21 @@ where
         rt,
         &mut ||
             requires may { W.may one.now its.now }
-            requires patience { 0 < patience }
+            requires patience { 0 < pace.patience }
             ensures { W.turned one.entry.now its.entry.now one.exit.now its.exit.now }
         {
-            let patience = patience;
-            one.turn(its, patience)
+            let pace = pace;
+            one.turn(its, pace.patience)
         },
         &mut ||
             requires sync { IsSync T.row }
             requires count { length all.now ≡ length others.now }
             requires may { MayAllTurn X.may all.now others.now }
-            requires patience { 0 < patience }
+            requires patience { 0 < pace.patience }
             ensures { AreTurned X.turned all.entry.now others.entry.now all.exit.now others.exit.now }
         {
-            let (patience, threads) = (patience, threads);
-            turns(rt, patience, threads, others, all)
+            let pace = pace;
+            turns(rt, pace, others, all)
         },
     );
 }

@@ -5,8 +5,8 @@ use Rattle.ring_run.specs.Round.{AreEndsOf, StaySeated, to_do}
 use Rattle.ring_run.specs.Served.{AreSomeSeated}
 use Rattle.ring_run.proofs.rows.run_rounds.Given as goal
 
-abbrev pub invariant-loop-writer : goal.invariant-loop-writer
-invariant-loop-writer g l =
+abbrev pub invariant-loop-pace : goal.invariant-loop-pace
+invariant-loop-pace g l =
     MayFeed (g.F.RowFeed.left l.feed) l.writer
     × (l.writer.ring ≡ l.initial.writer.ring)
     × AreEndsOf l.writer l.seats
@@ -14,5 +14,5 @@ invariant-loop-writer g l =
     × StaySeated (racks_told g.R.Rack.finished g.R.Rack.working g.R.Rack.begun g.R.Rack.taken g.R.Rack.missed g.R.Rack.faults l.initial.racks)
     (racks_told g.R.Rack.finished g.R.Rack.working g.R.Rack.begun g.R.Rack.taken g.R.Rack.missed g.R.Rack.faults l.racks) l.initial.seats l.seats
 
-abbrev pub decreases-loop-writer : goal.decreases-loop-writer
-decreases-loop-writer g l = to_do l.writer l.seats
+abbrev pub decreases-loop-pace : goal.decreases-loop-pace
+decreases-loop-pace g l = to_do l.writer l.seats

@@ -7,8 +7,14 @@ decreases-turns g l = 4 * length l.all.now
 abbrev pub decreases-both_halves : goal.decreases-both_halves
 decreases-both_halves g l = 4 * (length l.a.now + length l.b.now) - 1
 
-abbrev pub decreases-both_halves-join_mut+arg2 : goal.decreases-both_halves-join_mut+arg2
-decreases-both_halves-join_mut+arg2 g l = 4 * length l.a.now + 1
+abbrev pub decreases-halves_in_turn : goal.decreases-halves_in_turn
+decreases-halves_in_turn g l = 4 * (length l.a.now + length l.b.now) - 2
 
-abbrev pub decreases-both_halves-join_mut+arg3 : goal.decreases-both_halves-join_mut+arg3
-decreases-both_halves-join_mut+arg3 g l = 4 * length l.b.now + 1
+abbrev pub decreases-join_halves : goal.decreases-join_halves
+decreases-join_halves g l = 4 * (length l.a.now + length l.b.now) - 2
+
+abbrev pub decreases-join_halves-join_mut+arg2 : goal.decreases-join_halves-join_mut+arg2
+decreases-join_halves-join_mut+arg2 g l = 4 * length l.a.now + 1
+
+abbrev pub decreases-join_halves-join_mut+arg3 : goal.decreases-join_halves-join_mut+arg3
+decreases-join_halves-join_mut+arg3 g l = 4 * length l.b.now + 1
