@@ -91,9 +91,10 @@ impl Site {
         ensures faults_stay { R.faults rack.old ≤ R.faults rack.new }
     {
         let mut waits = 0;
+        let mut misses = 0;
         while reader.cursor() < reader.total() {
             match self.draw(reader, rack) {
-                Ok(Kept::Done) => {}
+                Ok(Kept::Done) => misses = 0,
                 Ok(Kept::Left(cause)) => {
                     reader.leave();
                     return TurnEnd::Left(cause);
@@ -107,7 +108,8 @@ impl Site {
                     if waits == patience {
                         return TurnEnd::Waiting { head };
                     }
-                    pause();
+                    pause(misses);
+                    misses = misses.saturating_add(1);
                 }
             }
         }
