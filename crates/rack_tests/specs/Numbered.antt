@@ -1,0 +1,42 @@
+-- Rows by which tests tell plates apart.
+use Rattle.std.specs.Prelude.{◌≡◌, ℕ, ◌+◌, ◌<◌, List, [], ◌∷◌, map, Some, is_some}
+use Rattle.std.specs.List.{range_with_len}
+use Rattle.tif_packbits.specs.Frame.{frame_of, framed_row}
+use Rattle.ring_lanes.specs.declared.source.Source.TheVariants.{Deck}
+use Rattle.ring_rule.specs.Views.{ring_of}
+use Rattle.ring_lanes.specs.Reader.{ReaderState}
+use Rattle.ring_lanes.specs.Writer.{WriterState}
+use Rattle.pr_rack.specs.Mem.{MemState, empty_slots}
+use Rattle.pr_rack.specs.Rack.{none_begun}
+use Rattle.site_agent.specs.Draw.{IsReady, stage}
+use Rattle.site_agent.specs.Going.{IsGoing}
+use Rattle.site_agent.specs.Site.{SiteData}
+use Rattle.site_agent.specs.Tells.{Tells, tells}
+
+-- so many frames of rows of two bytes: row n is n + 1 and 0
+unfoldable pub numbered : ℕ → List (List ℕ)
+numbered count = map (λ n. frame_of ((n + 1) ∷ 0 ∷ [])) (range_with_len 0 count)
+
+-- what a rack in memory tells
+abbrev pub told_by : MemState → Tells
+told_by rack = tells (Some rack.files) (Some rack.slots) (map is_some rack.slots) (Some rack.taken)
+
+-- what it tells at first
+abbrev pub told_first : Tells
+told_first = tells (Some []) (Some empty_slots) none_begun (Some [])
+
+-- a site goes on with rows of these frames, taken from a deck
+abbrev pub Takes : List (List ℕ) → MemState → SiteData → Type 0
+Takes frames rack site = IsGoing (map framed_row frames) Deck told_first (told_by rack) site
+
+-- ---- at a ring of two places and one reader
+
+-- the writer published so many of these frames
+pub record IsFeeding (count head : ℕ) (writer : WriterState) : Type 0 where
+  pub ring : writer.ring ≡ ring_of 2 1 (numbered count) 5
+  pub at : writer.head ≡ head
+
+-- a site may take the row at the reader's cursor
+pub record IsTurning (reader : ReaderState) (rack : MemState) (site : SiteData) : Type 0 where
+  pub ready : IsReady (stage site reader (told_by rack) (Some rack.misses.missed) rack.misses.faults)
+  pub row : reader.cursor < reader.ring.total
