@@ -72,9 +72,6 @@ pub record IsSame (w v : WriterView) : Type 0 where
 pub served_same : (cursor r : ℕ) (w : WriterView) → IsSame w (served cursor r w)
 served_same cursor r w = served_parts cursor r w (IsSame w) (λ left. record { ring = refl; head = refl; known = refl; count = refl }) (λ joined. record { ring = refl; head = refl; known = refl; count = length-set w.filled r true })
 
-pub served_unfilled : (cursor r q : ℕ) (w : WriterView) → q ≢ r → get_or w.filled q false ≡ false → get_or (served cursor r w).filled q false ≡ false
-served_unfilled cursor r q w other e = served_parts cursor r w (λ v. get_or v.filled q false ≡ false) (λ left. e) (λ joined. get_or-set_other w.filled r q true false other ∙ e)
-
 -- all are served, so the row may be published, and nothing is filled then
 pub all_served : (places readers total head : ℕ) (w : WriterView) → w.ring ≡ ring_of places readers (numbered_rows total) 2 → w.head ≡ head → head < total → ((r : ℕ) → r < readers → IsServed w r) → MayPublish w
 all_served places readers total head w ring at row each = record {
@@ -94,25 +91,10 @@ idle_after places readers total head w ring at known filled = record {
 pub idle_looked : (places readers total head r n : ℕ) (w : WriterView) → IsIdleWriter places readers total head w → IsIdleWriter places readers total head (looked_at r n w)
 idle_looked places readers total head r n w i = record { ring = i.ring; at = i.at; known = length-set w.known r n ∙ i.known; filled = i.filled; empty = i.empty }
 
-pub idle_offered : (places readers total head r cursor : ℕ) (w : WriterView) → IsIdleWriter places readers total head w → r < readers → head < total → get_or w.known r 0 ≡ cursor → (cursor ≢ left_word → head < cursor + places) → IsOffered places readers total head r cursor w
-idle_offered places readers total head r cursor w i l row known room = record { ring = i.ring; at = i.at; in_range = l; row = row; known = known; room = room; unfilled = i.empty r l }
-
 -- from a look to a publish: what the writer may do, and what it knows then
 pub record IsDone (places readers total head : ℕ) (w : WriterView) : Type 0 where
   pub may : MayPublish w
   pub idle : IsIdleWriter places readers total (head + 1) (published w)
-
-pub one_done : (places total head cursor : ℕ) (w : WriterView) → IsIdleWriter places 1 total head w → head < total → IsDone places 1 total head (served cursor 0 (looked_at 0 cursor w))
-one_done places total head cursor w i row =
-    let v = looked_at 0 cursor w in
-    let j = idle_looked places 1 total head 0 cursor w i in
-    let s = served_same cursor 0 v in
-    let known : get_or v.known 0 0 ≡ cursor = get_or-set_same w.known 0 cursor 0 (let k = i.known in omega arith) in
-    let here = served_here cursor 0 v (let k = i.filled in omega arith) known in
-    record {
-      may = all_served places 1 total head (served cursor 0 v) (s.ring ∙ j.ring) (s.head ∙ j.at) row (λ r l. let zero' : 0 ≡ r = omega arith in subst (IsServed (served cursor 0 v)) zero' here);
-      idle = idle_after places 1 total head (served cursor 0 v) (s.ring ∙ j.ring) (s.head ∙ j.at) (ap length s.known ∙ j.known) (s.count ∙ j.filled);
-    }
 
 pub two_done : (places total head a b : ℕ) (w : WriterView) → IsIdleWriter places 2 total head w → head < total → IsDone places 2 total head (served b 1 (served a 0 (looked_at 1 b (looked_at 0 a w))))
 two_done places total head a b w i row =
