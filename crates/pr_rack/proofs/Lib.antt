@@ -1,2 +1,1 @@
-pub mod OneFrame
 pub mod OneSlot

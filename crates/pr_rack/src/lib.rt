@@ -13,6 +13,3 @@ mod slots;
 pub use host_rack::HostRack;
 pub use mem_rack::MemRack;
 pub use rack::{Rack, RackCall, RackFault};
-
-#[cfg(test)]
-mod tests;

@@ -11,6 +11,3 @@ mod step;
 pub use event::{Event, Stage};
 pub use laws::{every_event_keeps, every_run_is_sound, fills_only_closed_rows, plain_is_sound};
 pub use state::Core;
-
-#[cfg(test)]
-mod tests;

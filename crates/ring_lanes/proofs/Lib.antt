@@ -3,4 +3,3 @@ pub mod Fills
 pub mod Keeps
 pub mod Looks
 pub mod Rooms
-pub mod Trial

@@ -4,4 +4,3 @@ pub mod Numbers
 pub mod Writer
 pub mod Reader
 pub mod Note
-pub mod Numbered

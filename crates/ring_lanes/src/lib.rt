@@ -25,6 +25,3 @@ pub use ring::{Ends, Ring, open_ring};
 pub use source::Source;
 pub use waiting::pause;
 pub use writer::Writer;
-
-#[cfg(test)]
-mod tests;

@@ -14,4 +14,3 @@ pub mod First
 pub mod WriterCalls
 pub mod ReaderCalls
 pub mod Seated
-pub mod Trial

@@ -7,5 +7,4 @@ pub mod Marks
 pub mod Key
 pub mod Seats
 pub mod Empty
-pub mod Numbered
 pub mod Laws

@@ -31,6 +31,3 @@ use rule::{RingSeat, RingShared};
 pub use table::{RingTable, Seats};
 pub use view::{CursorNoteView, HeadNoteView, ReaderView, RingNumbers, View, WriterView};
 pub use writer::WriterSeat;
-
-#[cfg(test)]
-mod tests;

@@ -19,4 +19,3 @@ pub mod Taken
 pub mod Going
 pub mod Drawing
 pub mod Turning
-mod Numbered

@@ -9,4 +9,3 @@ pub mod Plan
 pub mod Going
 pub mod Turn
 pub mod Draw
-pub mod Numbered

@@ -10,12 +10,8 @@ mod plates;
 mod site;
 mod slot;
 mod tails;
-#[cfg(test)]
-mod tests;
 mod turn;
 mod turn_end;
-#[cfg(test)]
-mod turn_tests;
 
 pub use kept::{Kept, LeftCause};
 pub use site::Site;

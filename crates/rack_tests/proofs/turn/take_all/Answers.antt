@@ -1,0 +1,16 @@
+use Rattle.std.proofs.Common.{ℕ, map, rules, subst, arith}
+use Rattle.ring_lanes.specs.declared.source.Source.TheVariants.{Deck}
+use Rattle.tif_packbits.specs.Frame.{framed_row}
+use Rattle.site_agent.specs.Going.{IsGoing}
+use Rattle.rack_tests.specs.Numbered.{numbered, told_first}
+use Rattle.rack_tests.proofs.Numbered.{length-numbered, turning-first}
+use Rattle.rack_tests.proofs.turn.take_all.Goals as goal
+
+pub open_ring-requires-clause-total : goal.open_ring-requires-clause-total
+open_ring-requires-clause-total c = omega (arith, length-numbered 4)
+
+pub take_turns-requires-clause-turning : goal.take_turns-requires-clause-turning
+take_turns-requires-clause-turning c =
+    turning-first 4 Deck c.in_ok-reader.reader c.new-rack.result c.in_ok-site.site (omega arith)
+    (subst (λ (count : ℕ). IsGoing (map framed_row (numbered count)) Deck told_first told_first c.in_ok-site.site) c.requires.total c.in_ok-site.ensures.takes)
+    c.in_ok-site.ensures.next (search rules) (search rules) (search rules) (search rules) (search rules)

@@ -1,0 +1,136 @@
+// A site that takes its rows by turns from a ring of two places.
+ghost use Rattle.std.specs.Prelude.{◌≡◌, ◌+◌, ◌<◌, OnOk, length};
+ghost use Rattle.pr_base.specs.Row.{row_size};
+ghost use Rattle.plan_json.specs.Data.{plate_width};
+ghost use Rattle.plan_rows.specs.Rows.{row_places, rows_of};
+ghost use Rattle.site_agent.specs.Turn.{IfWaiting};
+ghost use Rattle.rack_tests.specs.Numbered.{IsFeeding, IsTurning};
+
+use crate::rows::{Numbered, compare, frame};
+use crate::site::site_of;
+use plan_json::{Plan, read_plan};
+use plan_pages::plate_shape;
+use plan_rows::RowPlan;
+use pr_rack::MemRack;
+use ring_lanes::{Ends, Full, Reader, Source, Writer, open_ring};
+use site_agent::{Site, TurnEnd};
+use std::alloc::Global;
+use std::test::Fail;
+
+// Publishes row `n`, where there is room for it.
+fn publish(writer: &mut Writer<'_, Numbered>, count: u8, n: u8) -> Result<(), Full>
+    requires feeding { IsFeeding count n writer.old }
+    requires row { n < count }
+    requires few { count < 255 }
+    ensures { OnOk result (IsFeeding count (n + 1) writer.new) }
+{
+    let pass = writer.room()?;
+    writer.publish(pass, &frame(n));
+    Ok(())
+}
+
+// The next turn of a site whose last one ended so. One that doesn't wait has no further turn.
+fn go(
+    last: TurnEnd,
+    site: &mut Site,
+    reader: &mut Reader<'_, Numbered>,
+    rack: &mut MemRack,
+    patience: u32,
+) -> TurnEnd
+    requires ready { IfWaiting last (λ _. IsTurning reader.old rack.old site.old) }
+    requires patience { 0 < patience }
+    ensures ready { IfWaiting result (λ _. IsTurning reader.new rack.new site.new) }
+{
+    match last {
+        TurnEnd::Waiting { .. } => site.turn(reader, rack, patience),
+        ended => ended,
+    }
+}
+
+// The head at which a site waits.
+fn head_of(end: &TurnEnd) -> Option<u64> {
+    match end {
+        TurnEnd::Waiting { head } => Some(*head),
+        _ => None,
+    }
+}
+
+// Three turns of a site, the first before a row is published and each other behind two rows more. Gives
+// where the first two waited, and how the last one ended.
+fn take_turns(
+    writer: &mut Writer<'_, Numbered>,
+    site: &mut Site,
+    reader: &mut Reader<'_, Numbered>,
+    rack: &mut MemRack,
+) -> Result<([Option<u64>; 2], TurnEnd), Full>
+    requires feeding { IsFeeding 4 0 writer.old }
+    requires turning { IsTurning reader.old rack.old site.old }
+{
+    let first = site.turn(reader, rack, 1);
+    let first_head = head_of(&first);
+    publish(writer, 4, 0)?;
+    publish(writer, 4, 1)?;
+    let second = go(first, site, reader, rack, 2);
+    let second_head = head_of(&second);
+    publish(writer, 4, 2)?;
+    publish(writer, 4, 3)?;
+    let last = go(second, site, reader, rack, 1);
+    Ok(([first_head, second_head], last))
+}
+
+// What the site with this index makes of all rows of a ring by three turns: where it waited, its last answer,
+// and its rack.
+fn take_all(
+    alloc: Global,
+    plan: &Plan,
+    rows: &RowPlan,
+    index: usize,
+) -> Result<([Option<u64>; 2], TurnEnd, MemRack), Fail>
+    requires rows { rows.now ≡ rows_of plan.now }
+    requires site { index < length plan.now.sites }
+    requires sides { row_size (plate_width plan.now) ≡ 2 }
+    requires total { length (row_places plan.now) ≡ 4 }
+{
+    let deal = Numbered { count: 4 };
+    let mut ring = open_ring(alloc, &deal, 2, 1)?;
+    let Ends {
+        mut writer,
+        mut readers,
+    } = ring.ends(alloc)?;
+    let mut reader = readers.pop().ok_or("no reader")?;
+    let mut site = site_of(alloc, plan, rows, index)?;
+    let mut rack = MemRack::new(alloc, Vec::new(alloc));
+    let (heads, last) = take_turns(&mut writer, &mut site, &mut reader, &mut rack)?;
+    Ok((heads, last, rack))
+}
+
+const TWO_PAIRS: &[u8] = br#"{"plan": 1, "edition": "E1", "dpi": 1200, "page": [8, 2],
+    "pages": [{"name": "p", "inks": "K", "layers": []}],
+    "sections": [{"name": "A", "pages": ["p", "p", "p", "p"]}],
+    "sites": [{"name": "OSLO"}, {"name": "BERGEN"}]}"#;
+
+const BERGEN: [(&str, u8, u8); 2] = [
+    ("OUT/BERGEN/E1-A-001-K.tif", 0, 1),
+    ("OUT/BERGEN/E1-A-002-K.tif", 2, 3),
+];
+
+const RING: Source = Source::Ring {
+    reader: 0,
+    readers: 1,
+    places: 2,
+};
+
+#[test]
+fn a_turn_waits_for_rows_and_finishes(rt: HostRuntime) -> Result<(), Fail> {
+    let plan = read_plan(rt.alloc(), TWO_PAIRS)?;
+    let rows = RowPlan::of(rt.alloc(), &plan)?;
+    let sites = plan.sites.len();
+    assert!(rt; sites == 2);
+    assert!(rt; plate_shape(&plan).width == 16);
+    assert!(rt; rows.total() == 4);
+    let (heads, last, rack) = take_all(rt.alloc(), &plan, &rows, 1)?;
+    assert_eq!(rt; heads, [Some(0), Some(2)]);
+    assert_eq!(rt; last, TurnEnd::Finished);
+    compare(&rt, &rack, RING, &BERGEN, 4);
+    Ok(())
+}

@@ -1,0 +1,61 @@
+-- Rows of two bytes that tell their number, which the tests pass through a ring, and what a test knows of a
+-- seat between its calls.
+use Rattle.std.specs.Prelude.{◌≡◌, ◌≢◌, ℕ, ◌+◌, ◌/◌, ◌%◌, ◌<◌, false, nat_eq, if◌then◌else◌, List, [], ◌∷◌, length, map, slice_index, slice_index_or}
+use Rattle.std.specs.List.{range_with_len}
+use Rattle.ring_rule.specs.declared.view.WriterView.{WriterView}
+use Rattle.ring_rule.specs.declared.view.ReaderView.{ReaderView}
+use Rattle.ring_rule.specs.Views.{left_word, ring_of}
+use Rattle.ring_rule.specs.Plays.{filled_lane}
+use Rattle.ring_lanes.specs.Writer.{WriterState}
+use Rattle.ring_lanes.specs.Reader.{ReaderState}
+
+-- the bytes of row n
+abbrev pub numbered_row : ℕ → List ℕ
+numbered_row n = n % 256 ∷ n / 256 % 256 ∷ []
+
+-- rows 0, 1, 2 and so on, below total
+unfoldable pub numbered_rows : ℕ → List (List ℕ)
+numbered_rows total = map numbered_row (range_with_len 0 total)
+
+-- the writer published head rows, and filled no lane with the next
+pub record IsIdleWriter (places readers total head : ℕ) (w : WriterView) : Type 0 where
+  pub ring : w.ring ≡ ring_of places readers (numbered_rows total) 2
+  pub at : w.head ≡ head
+  pub known : length w.known ≡ readers
+  pub filled : length w.filled ≡ readers
+  pub empty : (r : ℕ) → r < readers → slice_index_or w.filled r false ≡ false
+
+-- the reader is joined, took this many rows, and has nothing out
+pub record IsIdleReader (total taken : ℕ) (x : ReaderView) : Type 0 where
+  pub rows : x.ring.rows ≡ numbered_rows total
+  pub left : x.left ≡ false
+  pub out : x.out ≡ false
+  pub count : x.taken ≡ taken
+
+-- the writer looked at a reader whose cursor word is this, which it saw leave or which leaves room for row
+-- head
+pub record IsOffered (places readers total head : ℕ) (r cursor : ℕ) (w : WriterView) : Type 0 where
+  pub ring : w.ring ≡ ring_of places readers (numbered_rows total) 2
+  pub at : w.head ≡ head
+  pub in_range : r < readers
+  pub row : head < total
+  pub known : slice_index w.known r ≡ cursor
+  pub room : cursor ≢ left_word → head < cursor + places
+  pub unfilled : slice_index_or w.filled r false ≡ false
+
+-- its lane is filled, unless it left
+abbrev pub served : ℕ → ℕ → WriterView → WriterView
+served cursor r w = if nat_eq cursor left_word then w else filled_lane r w
+
+-- the writer published this many rows
+pub record IsFeeding (total head : ℕ) (w : WriterState) : Type 0 where
+  pub rows : w.ring.rows ≡ numbered_rows total
+  pub count : w.ring.total ≡ length w.ring.rows
+  pub at : w.head ≡ head
+
+-- the reader is joined, took and gave back this many rows, and has none out
+pub record IsDrawing (total cursor : ℕ) (x : ReaderState) : Type 0 where
+  pub rows : x.ring.rows ≡ numbered_rows total
+  pub left : x.left ≡ false
+  pub held : x.held ≡ false
+  pub at : x.cursor ≡ cursor

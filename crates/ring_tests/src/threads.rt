@@ -1,0 +1,173 @@
+// A ring whose ends are in threads.
+ghost use Rattle.std.specs.Prelude.{◌+◌, ◌<◌, ◌≤◌};
+ghost use Rattle.ring_tests.specs.Numbered.{IsDrawing, IsFeeding};
+
+use crate::deal::Numbered;
+use crate::ring::{draw_next, publish_next};
+use ring_lanes::{Ends, Reader, Writer, open_ring};
+use std::process::Abort;
+use std::test::Fail;
+use std::thread;
+use std::thread::Threads;
+
+// Publishes the next row where there is room, and gives how many are out then.
+fn feed_once(writer: &mut Writer<'_, Numbered>, total: u64, head: u64) -> u64
+    requires feeding { IsFeeding total head writer.old }
+    requires row { head < total }
+    ensures feeding { IsFeeding total result writer.new }
+    ensures within { result ≤ total }
+{
+    if let Ok(()) = publish_next(writer, total, head) {
+        return head + 1;
+    }
+    thread::yield_now();
+    head
+}
+
+// Publishes rows until all are out, and gives how many are.
+fn feed_rows(mut writer: Writer<'_, Numbered>, total: u64, turns: u64) -> u64
+    requires { IsFeeding total 0 writer }
+{
+    let mut head = 0;
+    for _turn in 0..turns {
+        if head == total {
+            break;
+        }
+        head = feed_once(&mut writer, total, head);
+    }
+    head
+}
+
+// Lets other threads run this often.
+fn pause(times: u64) {
+    for _time in 0..times {
+        thread::yield_now();
+    }
+}
+
+// Takes the next row where it is published, and gives how many are taken then.
+fn draw_once(
+    rt: &impl Abort,
+    reader: &mut Reader<'_, Numbered>,
+    total: u64,
+    cursor: u64,
+    times: u64,
+) -> u64
+    requires drawing { IsDrawing total cursor reader.old }
+    requires row { cursor < total }
+    ensures drawing { IsDrawing total result reader.new }
+    ensures more { result ≤ cursor + 1 }
+{
+    if let Ok(()) = draw_next(rt, reader, total, cursor) {
+        pause(times);
+        return cursor + 1;
+    }
+    thread::yield_now();
+    cursor
+}
+
+// Takes rows until this many are taken, with a pause after each, then leaves, and gives how many were taken.
+fn draw_rows(
+    rt: &impl Abort,
+    mut reader: Reader<'_, Numbered>,
+    total: u64,
+    stop: u64,
+    times: u64,
+    turns: u64,
+) -> u64
+    requires drawing { IsDrawing total 0 reader }
+    requires within { stop ≤ total }
+{
+    let mut cursor = 0;
+    for _turn in 0..turns {
+        if cursor == stop {
+            break;
+        }
+        cursor = draw_once(rt, &mut reader, total, cursor, times);
+    }
+    reader.leave();
+    reader.cursor()
+}
+
+// The writer and a reader in a thread each.
+fn feed_and_draw<R: Threads + Abort + Sync>(
+    rt: &R,
+    writer: Writer<'_, Numbered>,
+    reader: Reader<'_, Numbered>,
+    total: u64,
+    turns: u64,
+) -> (u64, u64)
+    requires feeding { IsFeeding total 0 writer }
+    requires drawing { IsDrawing total 0 reader }
+{
+    thread::join(
+        rt,
+        || feed_rows(writer, total, turns),
+        || draw_rows(rt, reader, total, total, 0, turns),
+    )
+}
+
+// Two more readers in a thread each: a slow one, and one that leaves in the middle.
+fn draw_both<R: Threads + Abort + Sync>(
+    rt: &R,
+    slow: Reader<'_, Numbered>,
+    leaving: Reader<'_, Numbered>,
+    total: u64,
+    turns: u64,
+) -> (u64, u64)
+    requires slow { IsDrawing total 0 slow }
+    requires leaving { IsDrawing total 0 leaving }
+{
+    thread::join(
+        rt,
+        || draw_rows(rt, slow, total, total, 3, turns),
+        || draw_rows(rt, leaving, total, total / 2, 1, turns),
+    )
+}
+
+// The writer and three readers in a thread each, over three places. One reader leaves in the middle.
+#[test]
+fn rows_pass_to_readers_at_their_own_pace(rt: HostRuntime) -> Result<(), Fail> {
+    let deal = Numbered { total: 2000 };
+    let mut ring = open_ring(rt.alloc(), &deal, 3, 3)?;
+    let Ends {
+        writer,
+        mut readers,
+    } = ring.ends(rt.alloc())?;
+    let third = readers.pop().ok_or("no reader")?;
+    let second = readers.pop().ok_or("no reader")?;
+    let first = readers.pop().ok_or("no reader")?;
+    pass_rows(&rt, writer, first, second, third, 2000, 1 << 32);
+    Ok(())
+}
+
+fn pass_rows<R: Threads + Abort + Sync>(
+    rt: &R,
+    writer: Writer<'_, Numbered>,
+    first: Reader<'_, Numbered>,
+    second: Reader<'_, Numbered>,
+    third: Reader<'_, Numbered>,
+    total: u64,
+    turns: u64,
+)
+    requires feeding { IsFeeding total 0 writer }
+    requires swift { IsDrawing total 0 first }
+    requires slow { IsDrawing total 0 second }
+    requires leaving { IsDrawing total 0 third }
+{
+    let ((head, swift), (slow, gone)) = thread::join(
+        rt,
+        ||
+            requires feeding { IsFeeding total 0 writer }
+            requires drawing { IsDrawing total 0 first }
+        { feed_and_draw(rt, writer, first, total, turns) },
+        ||
+            requires slow { IsDrawing total 0 second }
+            requires leaving { IsDrawing total 0 third }
+        { draw_both(rt, second, third, total, turns) },
+    );
+    assert_eq!(rt; head, total);
+    assert_eq!(rt; swift, total);
+    assert_eq!(rt; slow, total);
+    assert_eq!(rt; gone, total / 2);
+}
