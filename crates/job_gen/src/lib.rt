@@ -11,6 +11,3 @@ mod numbers;
 mod text;
 
 pub use job::{GenJob, make_job};
-
-#[cfg(test)]
-mod tests;

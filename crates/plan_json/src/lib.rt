@@ -20,6 +20,3 @@ pub use plan_parts::{Mark, Page, PlanCurve, PlanLayer, PlanTile, Screen};
 pub use plan_words::PlanFault;
 pub use reading::read_plan;
 pub use zoning::{PlanSite, Replace, Section, Zone};
-
-#[cfg(test)]
-mod tests;

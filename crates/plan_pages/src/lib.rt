@@ -12,6 +12,3 @@ pub use marks::mark_row;
 pub use pairs::pair;
 pub use shape::{PlateShape, plate_shape};
 pub use zones::chosen;
-
-#[cfg(test)]
-mod tests;

@@ -25,7 +25,7 @@ pub fn chosen(plan: &Plan, site: usize, section: usize, page: u32) -> usize
 }
 
 /// The pages of a section.
-pub(crate) fn own_pages(plan: &Plan, section: usize) -> &[usize]
+fn own_pages(plan: &Plan, section: usize) -> &[usize]
     requires { section < length plan.now.sections }
     ensures { result.now ≡ section_pages plan.now section }
 {

@@ -15,6 +15,3 @@ pub use laws::spot_law;
 pub use path::plate_path;
 pub use place::RowPlace;
 pub use row_plan::RowPlan;
-
-#[cfg(test)]
-mod tests;

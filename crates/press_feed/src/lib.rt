@@ -8,8 +8,6 @@ mod printed_row;
 mod screener;
 mod side;
 mod side_pages;
-#[cfg(test)]
-mod tests;
 mod tones;
 
 pub use feed::Feed;

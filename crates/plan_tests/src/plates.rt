@@ -1,9 +1,11 @@
 // Pages and marks of a plan that is read from a text.
+ghost use Rattle.std.specs.Prelude.{◌≡◌, ◌<◌, length};
+ghost use Rattle.plan_pages.specs.Pages.{section_pages};
 
-use crate::zones::own_pages;
-use crate::{PlateShape, chosen, mark_row, plate_shape};
-use plan_json::read_plan;
+use plan_json::{Plan, read_plan};
+use plan_pages::{PlateShape, chosen, mark_row, plate_shape};
 use pr_base::Ink;
+use std::process::Abort;
 use std::test::Fail;
 
 const PLAN: &[u8] =
@@ -14,6 +16,14 @@ const PLAN: &[u8] =
     "sections": [{"name": "A", "pages": ["a", "b"]}, {"name": "B", "pages": ["b", "a"]}],
     "zones": [{"name": "Z", "replace": [{"section": "B", "page": 2, "with": "z"}]}],
     "sites": [{"name": "OSLO"}, {"name": "BERGEN", "zone": "Z"}]}"#;
+
+const SHAPE: PlateShape = PlateShape {
+    width: 28,
+    height: 5,
+    left_x: 4,
+    right_x: 15,
+    top_y: 2,
+};
 
 // Ink, row of the plate, and the row after the marks: it had the first pixel and a padding bit set.
 const ROWS: [(Ink, u32, [u8; 4]); 6] = [
@@ -36,32 +46,41 @@ const CHOSEN: [(usize, usize, u32, usize); 4] = [
 #[test]
 fn marks_are_set_and_all_else_stays(rt: HostRuntime) -> Result<(), Fail> {
     let plan = read_plan(rt.alloc(), PLAN)?;
-    let shape = plate_shape(&plan);
-    let wanted = PlateShape {
-        width: 28,
-        height: 5,
-        left_x: 4,
-        right_x: 15,
-        top_y: 2,
-    };
-    assert_eq!(rt; shape, wanted);
-    assert!(rt; shape.width == 28 && shape.height == 5);
     for (ink, y, row) in ROWS {
-        assert!(rt; y < 5);
-        let mut bits = [0x80, 0x00, 0x00, 0x01];
-        mark_row(&plan, ink, y, &mut bits);
-        assert_eq!(rt; bits.as_slice(), row.as_slice(), "row {y} of {ink:?}");
+        expect_row(&rt, &plan, ink, y, row);
     }
     Ok(())
+}
+
+fn expect_row(rt: &impl Abort, plan: &Plan, ink: Ink, y: u32, wanted: [u8; 4]) {
+    let shape = plate_shape(plan);
+    assert_eq!(rt; shape, SHAPE);
+    assert!(rt; y < 5);
+    let mut row = [0x80, 0x00, 0x00, 0x01];
+    mark_row(plan, ink, y, &mut row);
+    assert_eq!(rt; row, wanted, "row {y} of {ink:?}");
 }
 
 #[test]
 fn a_zone_replaces_a_page_of_its_section(rt: HostRuntime) -> Result<(), Fail> {
     let plan = read_plan(rt.alloc(), PLAN)?;
     for (site, section, page, wanted) in CHOSEN {
-        assert!(rt; site < plan.sites.len() && section < plan.sections.len());
-        assert!(rt; 1 <= page && page as usize <= own_pages(&plan, section).len());
-        assert_eq!(rt; chosen(&plan, site, section, page), wanted);
+        expect_chosen(&rt, &plan, [site, section], page, wanted);
     }
     Ok(())
+}
+
+fn expect_chosen(rt: &impl Abort, plan: &Plan, at: [usize; 2], page: u32, wanted: usize) {
+    let [site, section] = at;
+    assert!(rt; site < plan.sites.len() && section < plan.sections.len());
+    assert!(rt; 1 <= page && page as usize <= own_pages(plan, section).len());
+    assert_eq!(rt; chosen(plan, site, section, page), wanted);
+}
+
+// The pages of a section.
+fn own_pages(plan: &Plan, section: usize) -> &[usize]
+    requires { section < length plan.now.sections }
+    ensures { result.now ≡ section_pages plan.now section }
+{
+    &plan.sections[section].pages
 }

@@ -1,7 +1,6 @@
 // Row plans of plans that are read from texts.
-
-use crate::{Group, RowPlace, RowPlan, plate_path};
 use plan_json::{Plan, read_plan};
+use plan_rows::{Group, RowPlace, RowPlan, plate_path};
 use pr_base::{Ink, NoMemory};
 use std::alloc::Global;
 use std::process::Abort;
@@ -39,48 +38,58 @@ const PLACES: [(u64, usize, u32, Ink, usize); 16] = [
 
 #[test]
 fn two_sites_share_a_pair(rt: HostRuntime) -> Result<(), Fail> {
-    let plan = read_plan(rt.alloc(), TWO_SITES)?;
-    let rows = RowPlan::of(rt.alloc(), &plan)?;
+    let rows = row_plan(rt.alloc(), TWO_SITES)?;
+    expect_groups(
+        &rt,
+        &rows,
+        &[
+            black(1, 3, 0, 3, 0),
+            black(2, 1, 2, 1, 2),
+            black(2, 1, 4, 2, 4),
+        ],
+    );
     assert_eq!(rt; rows.total(), 6);
-    let groups = [
-        black(1, 3, 0, 3, 0),
-        black(2, 1, 2, 1, 2),
-        black(2, 1, 4, 2, 4),
-    ];
-    assert_eq!(rt; rows.groups(), groups.as_slice());
     for n in 0..6 {
-        assert_eq!(rt; rows.keeps(0, n), n < 4);
-        assert_eq!(rt; rows.keeps(1, n), n < 2 || n >= 4);
+        expect_kept(&rt, &rows, 0, n, n < 4);
+        expect_kept(&rt, &rows, 1, n, n < 2 || n >= 4);
     }
     Ok(())
 }
 
+// The row plan of a plan's text.
+fn row_plan(alloc: Global, text: &[u8]) -> Result<RowPlan, Fail> {
+    let plan = read_plan(alloc, text)?;
+    Ok(RowPlan::of(alloc, &plan)?)
+}
+
+fn expect_groups(rt: &impl Abort, rows: &RowPlan, groups: &[Group]) {
+    assert_eq!(rt; rows.groups(), groups);
+}
+
+fn expect_kept(rt: &impl Abort, rows: &RowPlan, site: usize, n: u64, kept: bool) {
+    assert!(rt; site < 16 && n < rows.total());
+    assert_eq!(rt; rows.keeps(site, n), kept);
+}
+
 // A group of section 0 in black alone.
 fn black(pair: u32, left: usize, right: usize, sites: u16, first: u64) -> Group {
-    Group {
-        section: 0,
-        pair,
-        left,
-        right,
-        sites,
-        colour: false,
-        spot: false,
-        first,
-    }
+    group(0, pair, [left, right], sites, [false, false], first)
 }
 
 #[test]
 fn three_sites_are_parted_by_their_pages(rt: HostRuntime) -> Result<(), Fail> {
-    let plan = read_plan(rt.alloc(), THREE_SITES)?;
-    let rows = RowPlan::of(rt.alloc(), &plan)?;
-    let groups = [
-        group(0, 1, [1, 0], 1, [true, false], 0),
-        group(0, 1, [1, 4], 6, [true, false], 8),
-        group(1, 1, [2, 2], 7, [false, false], 16),
-        group(1, 2, [2, 3], 3, [false, true], 18),
-        group(1, 2, [4, 3], 4, [false, true], 22),
-    ];
-    assert_eq!(rt; rows.groups(), groups.as_slice());
+    let rows = row_plan(rt.alloc(), THREE_SITES)?;
+    expect_groups(
+        &rt,
+        &rows,
+        &[
+            group(0, 1, [1, 0], 1, [true, false], 0),
+            group(0, 1, [1, 4], 6, [true, false], 8),
+            group(1, 1, [2, 2], 7, [false, false], 16),
+            group(1, 2, [2, 3], 3, [false, true], 18),
+            group(1, 2, [4, 3], 4, [false, true], 22),
+        ],
+    );
     shared(&rows);
     Ok(())
 }
@@ -111,21 +120,16 @@ fn group(
 
 #[test]
 fn rows_stand_at_their_places(rt: HostRuntime) -> Result<(), Fail> {
-    let plan = read_plan(rt.alloc(), THREE_SITES)?;
-    let rows = RowPlan::of(rt.alloc(), &plan)?;
+    let rows = row_plan(rt.alloc(), THREE_SITES)?;
     assert_eq!(rt; rows.total(), 26);
     for (n, group, y, ink, slot) in PLACES {
-        expect_place(
-            &rt,
-            &rows,
-            n,
-            RowPlace {
-                group,
-                y,
-                ink,
-                slot,
-            },
-        );
+        let place = RowPlace {
+            group,
+            y,
+            ink,
+            slot,
+        };
+        expect_place(&rt, &rows, n, place);
     }
     Ok(())
 }

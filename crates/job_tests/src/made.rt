@@ -1,0 +1,70 @@
+// Jobs of some numbers beside what the definition of a generated job says of them, worked by hand.
+use job_gen::{GenJob, make_job};
+use plan_json::{Plan, read_plan};
+use std::alloc::Global;
+use std::process::Abort;
+use std::test::Fail;
+
+// The number, its sites and pages, the sides of a page, and how many files there are.
+const JOBS: [(u32, [usize; 2], [u32; 2], usize); 4] = [
+    (0, [1, 5], [64, 48], 7),
+    (7, [4, 9], [64, 48], 11),
+    (127, [4, 9], [1024, 768], 11),
+    (4294967295, [4, 9], [1024, 768], 11),
+];
+
+// Bytes of job 7: the file, the place in it, and the byte.
+const BYTES: [(usize, usize, u8); 10] = [
+    // Yellow at column 3 of row 2 of p1.tif, whose strips stand from 154 on: 7 + 29 + 2 * 61 + 3 * 3 + 7 * 2.
+    (0, 154 + 4 * (2 * 16 + 3) + 2, 181),
+    // Black at column 1 of row 1 of z1.tif, whose planes stand from 238 on: 7 + 3 * 61 + 3 + 7.
+    (8, 238 + 3 * 192 + 17, 200),
+    // The first two packed rows of line.tif.
+    (9, 146, 1),
+    (9, 147, 0x88),
+    (9, 148, 0x88),
+    (9, 149, 1),
+    (9, 150, 0x11),
+    (9, 151, 0x11),
+    // A row of mask.tif.
+    (10, 122, 0xFF),
+    (10, 123, 0),
+];
+
+#[test]
+fn plans_are_read(rt: HostRuntime) -> Result<(), Fail> {
+    for (n, lists, sides, files) in JOBS {
+        let job = job_of(rt.alloc(), n)?;
+        check_plan(
+            &rt,
+            &read_plan(rt.alloc(), job.plan.as_slice())?,
+            lists,
+            sides,
+        );
+        assert_eq!(rt; job.files.len(), files);
+    }
+    Ok(())
+}
+
+// The job of a number.
+fn job_of(alloc: Global, n: u32) -> Result<GenJob, Fail> {
+    Ok(make_job(alloc, n)?)
+}
+
+fn check_plan(rt: &impl Abort, plan: &Plan, lists: [usize; 2], sides: [u32; 2]) {
+    assert_eq!(rt; [plan.sites.len(), plan.pages.len()], lists);
+    assert_eq!(rt; [plan.page_width, plan.page_height], sides);
+}
+
+#[test]
+fn files_hold_their_pixels(rt: HostRuntime) -> Result<(), Fail> {
+    let job = job_of(rt.alloc(), 7)?;
+    for (file, place, byte) in BYTES {
+        assert_eq!(rt; byte_of(&job, file, place), Some(byte));
+    }
+    Ok(())
+}
+
+fn byte_of(job: &GenJob, file: usize, place: usize) -> Option<u8> {
+    job.files.get(file)?.1.get(place).copied()
+}

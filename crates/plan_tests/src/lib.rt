@@ -1,0 +1,13 @@
+// Tests of the plan.
+#![tactic(auto)]
+
+#[cfg(test)]
+mod changes;
+#[cfg(test)]
+mod faults;
+#[cfg(test)]
+mod plates;
+#[cfg(test)]
+mod rows;
+#[cfg(test)]
+mod small;
