@@ -1,7 +1,6 @@
 -- Which columns a key has.
-use Rattle.std.proofs.Common.{◌≡◌, ℕ, zero, suc, ◌+◌, ◌-◌, ◌*◌, ◌/◌, ◌<◌, ◌≤◌, Bool, true, false, cond, ◌&&◌, nat_eq, List, refl, ap, sym, ◌∙◌, arith, inl, inr}
-use Rattle.std.specs.Prelude.{◌↔◌, ◌==◌, count_by}
-use Rattle.std.specs.List.{range_with_len}
+use Rattle.std.proofs.Common.{◌≡◌, ℕ, ◌+◌, ◌*◌, ◌<◌, ◌≤◌, Bool, true, false, cond, ◌&&◌, List, refl, arith, inl, inr}
+use Rattle.std.specs.Prelude.{◌↔◌, ◌==◌}
 use Rattle.std.proofs.Math.Nat.{le-div_iff_mul-le, mul-le-mul_right}
 use Rattle.std.proofs.lemmas.Grind.{div_ceil_times}
 use Rattle.std.proofs.lemmas.Bool.{cases_lt}
@@ -12,6 +11,7 @@ use Rattle.ink_keys.proofs.Ranges.{sum-within}
 
 -- a column is at or behind the first one of key k exactly where its key is at least k
 pub reached : (width keys k x : ℕ) → 0 < width → 0 < keys → (first_column width keys k ≤ x) ↔ (k ≤ key_of width keys x)
+unfolding first_column
 reached width keys k x wide some =
     let ceil = div_ceil_times (k * width) keys some in
     let down = le-div_iff_mul-le {k = width} {x = k} {y = x * keys} wide in
@@ -39,6 +39,7 @@ has_columns width keys k x wide some =
 
 -- first columns ascend, and the one behind the last key is the width
 pub first-within : (width keys k : ℕ) → 0 < keys → k ≤ keys → first_column width keys k ≤ width
+unfolding first_column
 first-within width keys k some within =
     let ceil = div_ceil_times (k * width) keys some in
     elim (cases_lt width (first_column width keys k)) [
@@ -50,6 +51,7 @@ first-within width keys k some within =
     ]
 
 pub first-grows : (width keys k : ℕ) → 0 < keys → first_column width keys k ≤ first_column width keys (k + 1)
+unfolding first_column
 first-grows width keys k some =
     let own = div_ceil_times (k * width) keys some in
     let after = div_ceil_times ((k + 1) * width) keys some in

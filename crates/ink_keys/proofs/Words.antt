@@ -1,6 +1,6 @@
 -- The pixels of eight bytes that are read as one number, the first pixel in the highest bit.
-use Rattle.std.proofs.Common.{◌≡◌, ℕ, zero, suc, ◌+◌, ◌-◌, ◌*◌, ◌/◌, ◌%◌, ◌^◌, ◌<◌, ◌≤◌, Bool, true, false, cond, List, ◌++◌, [], ◌∷◌, length, take, drop, count_ones, nat_eq, eqb, get_or, refl, ap, sym, ◌∙◌, arith, w64, inl, inr}
-use Rattle.std.specs.Int.{byte_at, bytes_high_first, from_be_bytes, to_be_bytes}
+use Rattle.std.proofs.Common.{◌≡◌, ℕ, zero, suc, ◌+◌, ◌-◌, ◌*◌, ◌/◌, ◌%◌, ◌^◌, ◌<◌, ◌≤◌, Bool, true, false, cond, List, [], length, take, drop, count_ones, eqb, get_or, refl, ap, sym, ◌∙◌, arith, w64, inl, inr}
+use Rattle.std.specs.Int.{byte_at, bytes_high_first, from_be_bytes}
 use Rattle.std.specs.Prelude.{sum_by, count_by}
 use Rattle.std.specs.List.{range_with_len}
 use Rattle.std.specs.Simd.{first_chunks}

@@ -22,7 +22,7 @@ key_count plan rows group ink keys k =
     sum_by (λ row. key_dots (plate_width plan) keys row k) (plate_rows plan rows (group, ink))
 
 -- the first column of key k, k * width / keys rounded up
-abbrev pub first_column : ℕ → ℕ → ℕ → ℕ
+unfoldable pub first_column : ℕ → ℕ → ℕ → ℕ
 first_column width keys k = div_ceil (k * width) keys
 
 -- the pixels of a row that are 1 from one column on to below another

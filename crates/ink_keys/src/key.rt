@@ -15,6 +15,7 @@ pub fn key_of(width: u32, keys: u32, x: u32) -> u32
 }
 
 /// The first column of key `k`: `k * width / keys` rounded up. That of the key behind the last is the width.
+#[tactic(auto, unfolding(crate::specs::Keys::first_column))]
 pub(crate) fn first_of(width: u32, keys: u32, k: u32) -> u32
     requires width { width ≤ 65535 }
     requires least { 1 ≤ keys }

@@ -2,7 +2,13 @@
 // of its readers.
 #![tactic(auto)]
 
+mod counts;
 mod dots;
 mod key;
+mod key_end;
+mod key_reader;
 
-pub use key::key_of;
+pub use counts::Counts;
+pub use key::{columns_law, key_of};
+pub use key_end::KeyEnd;
+pub use key_reader::KeyReader;

@@ -1,4 +1,4 @@
-use Rattle.std.proofs.Common.{rules, ◌/◌, length, arith}
+use Rattle.std.proofs.Common.{◌/◌, length, arith}
 use Rattle.ink_keys.proofs.Words.{counted-between, dots-most}
 use Rattle.ink_keys.proofs.dots.dots_in.Goals as goal
 

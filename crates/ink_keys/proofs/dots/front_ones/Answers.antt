@@ -1,4 +1,4 @@
-use Rattle.std.proofs.Common.{rules, arith}
+use Rattle.std.proofs.Common.{rules}
 use Rattle.ink_keys.proofs.Words.{word-front}
 use Rattle.ink_keys.proofs.dots.front_ones.Goals as goal
 

@@ -1,4 +1,4 @@
-use Rattle.std.proofs.Common.{rules, arith}
+use Rattle.std.proofs.Common.{rules}
 use Rattle.ink_keys.proofs.Words.{word-ones}
 use Rattle.ink_keys.proofs.dots.ones_of.Goals as goal
 
