@@ -121,10 +121,10 @@ adds-row counts group ink row room room' firsts numbers is front adds =
     let dots : (k : ℕ) → k < keys → get_or numbers (start + k) 0 ≡ get_or counts.numbers (start + k) 0 + key_dots width keys row k =
     λ k less. adds.here k (omega arith)
     ∙ ap (λ n. get_or counts.numbers (start + k) 0 + n)
-    ( ap (λ n. dots_between room' n (get_or firsts (k + 1) 0)) (first-at width keys firsts k is.firsts_are (omega arith))
-      ∙ ap (λ n. dots_between room' (first_column width keys k) n) (first-at width keys firsts (k + 1) is.firsts_are (omega arith))
-      ∙ front (first_column width keys k) (first_column width keys (k + 1)) (first-within width keys (k + 1) some (omega arith))
-      ∙ sym (key-dots-between width keys k row wide some less)) in
+    (ap (λ n. dots_between room' n (get_or firsts (k + 1) 0)) (first-at width keys firsts k is.firsts_are (omega arith))
+    ∙ ap (λ n. dots_between room' (first_column width keys k) n) (first-at width keys firsts (k + 1) is.firsts_are (omega arith))
+    ∙ front (first_column width keys k) (first_column width keys (k + 1)) (first-within width keys (k + 1) some (omega arith))
+    ∙ sym (key-dots-between width keys k row wide some less)) in
     record {
       same = refl;
       each = λ g i k less.
@@ -135,33 +135,33 @@ adds-row counts group ink row room room' firsts numbers is front adds =
                 let stays = adds.below (q * keys + k) (omega arith) in
                 omega arith
             | inr rest ↦ elim (cases_lt p q) [
-                | inl higher ↦ let scaled : (p + 1) * keys ≤ q * keys = mul-le-mul_right keys (let next : p + 1 ≤ q = omega arith in next) in
-                    let none = adds-none width keys group ink row g i k (λ e. absurd (omega arith)) in
-                    let stays = adds.above (q * keys + k) (omega arith) in
-                    omega arith
-                | inr other ↦ let equal : p ≡ q = omega arith in
-                    let one = slot-small ink in
-                    let two = slot-small i in
-                    let own = adds-own width keys group ink row g i k (omega arith) (omega arith) in
-                    let place : q * keys + k ≡ start + k = ap (λ n. n * keys + k) (sym equal) in
-                    ap (λ n. get_or numbers n 0) place ∙ dots k less ∙ ap (λ n. get_or counts.numbers n 0 + key_dots width keys row k) (sym place)
-                    ∙ ap (λ n. get_or counts.numbers (q * keys + k) 0 + n) (sym own)
-              ]
+              | inl higher ↦ let scaled : (p + 1) * keys ≤ q * keys = mul-le-mul_right keys (let next : p + 1 ≤ q = omega arith in next) in
+                  let none = adds-none width keys group ink row g i k (λ e. absurd (omega arith)) in
+                  let stays = adds.above (q * keys + k) (omega arith) in
+                  omega arith
+              | inr other ↦ let equal : p ≡ q = omega arith in
+                  let one = slot-small ink in
+                  let two = slot-small i in
+                  let own = adds-own width keys group ink row g i k (omega arith) (omega arith) in
+                  let place : q * keys + k ≡ start + k = ap (λ n. n * keys + k) (sym equal) in
+                  ap (λ n. get_or numbers n 0) place ∙ dots k less ∙ ap (λ n. get_or counts.numbers n 0 + key_dots width keys row k) (sym place)
+                  ∙ ap (λ n. get_or counts.numbers (q * keys + k) 0 + n) (sym own)
+            ]
           ];
       most = λ place.
           elim (cases_lt place start) [
             | inl before ↦ omega (arith, adds.below place before)
             | inr from ↦ elim (cases_lt place (start + keys)) [
-                | inl within ↦ let k = place - start in
-                    let there : start + k ≡ place = omega arith in
-                    let added = adds.here k (omega arith) in
-                    let few = dots-most room' (get_or firsts k 0) (get_or firsts (k + 1) 0) in
-                    let high = first-most width keys firsts (k + 1) is.firsts_are some in
-                    let new = ap (λ n. get_or numbers n 0) there in
-                    let old = ap (λ n. get_or counts.numbers n 0) there in
-                    omega arith
-                | inr behind ↦ omega (arith, adds.above place (omega arith))
-              ]
+              | inl within ↦ let k = place - start in
+                  let there : start + k ≡ place = omega arith in
+                  let added = adds.here k (omega arith) in
+                  let few = dots-most room' (get_or firsts k 0) (get_or firsts (k + 1) 0) in
+                  let high = first-most width keys firsts (k + 1) is.firsts_are some in
+                  let new = ap (λ n. get_or numbers n 0) there in
+                  let old = ap (λ n. get_or counts.numbers n 0) there in
+                  omega arith
+              | inr behind ↦ omega (arith, adds.above place (omega arith))
+            ]
           ];
     }
 

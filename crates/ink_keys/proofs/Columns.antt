@@ -14,28 +14,33 @@ pub reached : (width keys k x : ℕ) → 0 < width → 0 < keys → (first_colum
 unfolding first_column
 reached width keys k x wide some =
     let ceil = div_ceil_times (k * width) keys some in
-    let down = le-div_iff_mul-le {k = width} {x = k} {y = x * keys} wide in
-    ( λ from. down.1 (let scaled : first_column width keys k * keys ≤ x * keys = mul-le-mul_right keys from in let low = ceil.0 in omega arith)
-    , λ key. elim (cases_lt x (first_column width keys k)) [
+    let down = le-div_iff_mul-le {k = width} {x = k} {y = x * keys} wide in (
+      λ from. down.1 (let scaled : first_column width keys k * keys ≤ x * keys = mul-le-mul_right keys from in let low = ceil.0 in omega arith),
+      λ key. elim (cases_lt x (first_column width keys k)) [
         | inl above ↦ absurd (let next : x + 1 ≤ first_column width keys k = omega arith in
             let scaled : (x + 1) * keys ≤ first_column width keys k * keys = mul-le-mul_right keys next in
             let least : k * width ≤ x * keys = down.0 key in
             let high = ceil.1 in omega arith)
         | inr from ↦ from
-      ])
+      ],
+    )
 
 pub has_columns : (width keys k x : ℕ) → 0 < width → 0 < keys → KeyHasColumns width keys k x
 has_columns width keys k x wide some =
     let low = reached width keys k x wide some in
-    let high = reached width keys (k + 1) x wide some in
-    ( λ is. (low.1 (omega arith), elim (cases_lt x (first_column width keys (k + 1))) [
-        | inl below ↦ below
-        | inr from ↦ absurd (let least = high.0 from in omega arith)
-      ])
-    , λ (from, below). elim (cases_lt (key_of width keys x) (k + 1)) [
+    let high = reached width keys (k + 1) x wide some in (
+      λ is. (
+        low.1 (omega arith),
+        elim (cases_lt x (first_column width keys (k + 1))) [
+          | inl below ↦ below
+          | inr from ↦ absurd (let least = high.0 from in omega arith)
+        ],
+      ),
+      λ (from, below). elim (cases_lt (key_of width keys x) (k + 1)) [
         | inl most ↦ let least = low.0 from in omega arith
         | inr least ↦ absurd (let other = high.1 least in omega arith)
-      ])
+      ],
+    )
 
 -- first columns ascend, and the one behind the last key is the width
 pub first-within : (width keys k : ℕ) → 0 < keys → k ≤ keys → first_column width keys k ≤ width
@@ -80,6 +85,7 @@ key-dots-between width keys k row wide some within =
     none : (bit : Bool) (key k : ℕ) → (key ≡ k → ⊥) → number (bit && (key == k)) ≡ 0
     none true key k other = grind (arith, nat_tests)
     none false key k other = refl
+
     one : (bit : Bool) (key k : ℕ) → key ≡ k → number (bit && (key == k)) ≡ number bit
     one true key k same = grind (arith, nat_tests)
     one false key k same = refl

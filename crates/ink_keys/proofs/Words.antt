@@ -158,7 +158,7 @@ whole-words (suc n) row (suc i) (suc m) within =
 -- pixels between
 counted : (n : ℕ) (row : List ℕ) (from to : ℕ) (d e : List ℕ) → from ≤ to → to / 64 < n
     → sum_by (λ word. dots_between word 0 64) (take (to / 64 - from / 64) (drop (from / 64) (first_chunks 8 n row)))
-      + dots_between (get_or (first_chunks 8 n row) (to / 64) d) 0 (to % 64)
+    + dots_between (get_or (first_chunks 8 n row) (to / 64) d) 0 (to % 64)
     ≡ dots_between (get_or (first_chunks 8 n row) (from / 64) e) 0 (from % 64) + count_by (bit_at row) (range_with_len from (to - from))
 counted n row from to d e order within =
     let bit = λ (x : ℕ). number (bit_at row x) in

@@ -14,7 +14,8 @@ key_of width keys x = x * keys / width
 
 -- the pixels of a row that are 1 at columns of a key
 unfoldable pub key_dots : ℕ → ℕ → List ℕ → ℕ → ℕ
-key_dots width keys row k = count_by (λ x. bit_at row x && (key_of width keys x == k)) (range_with_len 0 width)
+key_dots width keys row k =
+    count_by (λ x. bit_at row x && (key_of width keys x == k)) (range_with_len 0 width)
 
 -- the pixels of a plate that are 1 at columns of a key, out of all rows in order
 abbrev pub key_count : PlanData → List (List ℕ) → Group → Ink → ℕ → ℕ → ℕ

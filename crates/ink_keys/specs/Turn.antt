@@ -37,14 +37,16 @@ pub record AreRowsOf (width : ℕ) (ring : RingNumbers) : Type 0 where
 unfoldable pub row_part : RowPlanData → RingNumbers → ℕ → ℕ → ℕ → Ink → ℕ → ℕ → ℕ
 row_part rows ring width keys g i k n =
     let row = framed_row (slice_index_or ring.rows n []) in
-    option_map_or (λ place. row_adds width keys place.group place.ink row g i k) (slice_get (places_in rows) n) 0
+    let place = slice_get (places_in rows) n in
+    option_map_or (λ at. row_adds width keys at.group at.ink row g i k) place 0
 
 -- each count grew by what the rows from one number on to below another add to it, each row once
 pub record CountsRows (rows : RowPlanData) (ring : RingNumbers) (from to : ℕ) (old new : CountsData)
     : Type 0 where
   pub same : new ≡ record old { numbers = new.numbers }
   pub each : (g : ℕ) (i : Ink) (k : ℕ) → k < old.keys → number_at new g i k
-      ≡ number_at old g i k + sum_by (row_part rows ring old.width old.keys g i k) (range_with_len from (to - from))
+      ≡ number_at old g i k
+      + sum_by (row_part rows ring old.width old.keys g i k) (range_with_len from (to - from))
 
 -- ---- row by row
 

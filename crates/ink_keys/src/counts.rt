@@ -50,12 +50,7 @@ impl Model for Counts {
 
 impl Counts {
     /// Zeros for each group and ink of a row plan, whose rows have `width` pixels and `keys` keys.
-    pub fn new(
-        alloc: Global,
-        rows: &RowPlan,
-        width: u32,
-        keys: u32,
-    ) -> Result<Counts, NoMemory>
+    pub fn new(alloc: Global, rows: &RowPlan, width: u32, keys: u32) -> Result<Counts, NoMemory>
         requires wide { 1 ≤ width }
         requires narrow { width ≤ 65535 }
         requires some_key { 1 ≤ keys }

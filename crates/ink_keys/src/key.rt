@@ -34,5 +34,4 @@ pub fn columns_law(width: u32, keys: u32, k: u32, x: u32)
     requires most { keys ≤ 64 }
     requires column { x < width }
     ensures { KeyHasColumns width keys k x }
-{
-}
+{}

@@ -49,10 +49,10 @@ returns c =
     let numbers : List ℕ = (with_items c.self.inside.numbers c.add_dots.new.numbers).items in
     subst (λ (v : CountsData). AddsRow c.args.place.group c.args.place.ink (framed_row c.args.held.now.bytes) v (record counts { numbers = numbers })) c.self.view_is
     (adds-whole counts c.args.place.group c.args.place.ink (framed_row c.args.held.now.bytes) c.self.inside.row.items c.deref.result.now c.self.inside.firsts.items c.deref-2.result.now c.deref_mut-2.result.now c.add_dots.new.numbers numbers c.start-start.result
-      c.self.invariant
-      (λ from to within. ap (λ (r : List ℕ). dots_between r from to) room ∙ c.unpack_front.ensures.dots from to within ∙ ap (λ (bytes : List ℕ). dots_between (framed_row bytes) from to) c.bytes.ensures)
-      c.deref-2.ensures.value
-      c.deref_mut-2.ensures.value
-      (sym (with_items_is c.self.inside.numbers c.add_dots.new.numbers numbers_fit))
-      (subst (λ (v : CountsData). c.start-start.result ≡ keys_before v.keys c.args.place.group c.args.place.ink) (sym c.self.view_is) c.start-start.ensures.start)
-      (record { here = c.add_dots.ensures.here; below = c.add_dots.ensures.below; above = c.add_dots.ensures.above }))
+    c.self.invariant
+    (λ from to within. ap (λ (r : List ℕ). dots_between r from to) room ∙ c.unpack_front.ensures.dots from to within ∙ ap (λ (bytes : List ℕ). dots_between (framed_row bytes) from to) c.bytes.ensures)
+    c.deref-2.ensures.value
+    c.deref_mut-2.ensures.value
+    (sym (with_items_is c.self.inside.numbers c.add_dots.new.numbers numbers_fit))
+    (subst (λ (v : CountsData). c.start-start.result ≡ keys_before v.keys c.args.place.group c.args.place.ink) (sym c.self.view_is) c.start-start.ensures.start)
+    (record { here = c.add_dots.ensures.here; below = c.add_dots.ensures.below; above = c.add_dots.ensures.above }))
