@@ -1,0 +1,5 @@
+pub mod Adding
+pub mod Columns
+pub mod Ranges
+pub mod Turning
+pub mod Words

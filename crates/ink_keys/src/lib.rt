@@ -1,0 +1,14 @@
+// The ink keys of plates: how many pixels of each key column print, counted from rows of a ring as one more
+// of its readers.
+#![tactic(auto)]
+
+mod counts;
+mod dots;
+mod key;
+mod key_end;
+mod key_reader;
+
+pub use counts::Counts;
+pub use key::{columns_law, key_of};
+pub use key_end::KeyEnd;
+pub use key_reader::KeyReader;
