@@ -38,18 +38,16 @@ plateroom ($version-1) unstable; urgency=medium
  -- $maintainer  $(date -u -R -d "$day")
 END
 
-# What git keeps of these, each with its mode; a picture for README stands beside it.
+# What git keeps of these.
 copy() { # FOLDER FILES..
   local to=$1
   shift
-  git ls-files -z -- "$@" | tar --null -T - -c | tar -x -C "$to" --no-same-owner
+  git ls-files -z -- "$@" ':!:**/.gitignore' | tar --null -T - -c | tar -x -C "$to" --no-same-owner
 }
 copy "$docs" examples
 copy "$root/usr/share/plateroom" tools
-copy "$docs" docs/plan.schema.json 'docs/*.png'
-if [ -d "$docs/docs" ]; then
-  mv "$docs"/docs/* "$docs"
-  rmdir "$docs/docs"
+if [ -f docs/plan.schema.json ]; then
+  install -m 644 docs/plan.schema.json "$docs"
 fi
 find "$root" -type d -exec chmod 755 {} +
 find "$root/usr/share" -type f -exec chmod 644 {} +
