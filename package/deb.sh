@@ -46,9 +46,7 @@ copy() { # FOLDER FILES..
 }
 copy "$docs" examples
 copy "$root/usr/share/plateroom" tools
-if [ -f docs/plan.schema.json ]; then
-  install -m 644 docs/plan.schema.json "$docs"
-fi
+install -m 644 docs/EDITORS.md docs/plan.schema.json "$docs"
 find "$root" -type d -exec chmod 755 {} +
 find "$root/usr/share" -type f -exec chmod 644 {} +
 find "$root/usr/share" -type f \( -name '*.py' -o -name '*.sh' \) -exec sh -c \
