@@ -48,18 +48,15 @@ pub fn feed_turn<D: Deal, F: RowFeed>(
     let mut buffer = [0; MOST_ROW];
     let row = &mut buffer[..writer.row_len()];
     let mut waits = 0;
-    let mut misses = 0;
     while writer.head() < writer.total() && writer.joined() > 0 {
         let Err(Full { site, at }) = publish_next(writer, feed, row) else {
-            misses = 0;
             continue;
         };
         waits += 1;
         if waits == patience {
             return FeedEnd::Waiting { site, at };
         }
-        pause(misses);
-        misses = misses.saturating_add(1);
+        pause();
     }
     FeedEnd::Done
 }

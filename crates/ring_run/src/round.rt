@@ -66,8 +66,7 @@ pub(crate) fn round<T: Threads + Sync, D: Deal + Sync, F: RowFeed + Send, R: Rac
     requires count { length seats.old ≡ length racks.old }
     requires some { AreSomeSeated
         (racks_told R.finished R.working R.begun R.taken R.missed R.faults racks.old) seats.old }
-    requires patience_one { 0 < pace.one }
-    requires patience_others { 0 < pace.others }
+    requires patience { 0 < pace.patience }
     ensures feed { MayFeed (F.left feed.new) writer.new }
     ensures ring { writer.new.ring ≡ writer.old.ring }
     ensures ends { AreEndsOf writer.new seats.new }

@@ -49,7 +49,7 @@ fn run_rounds<T: Threads + Sync, D: Deal + Sync, F: RowFeed + Send, R: Rack + Se
         (racks_told R.finished R.working R.begun R.taken R.missed R.faults racks.new)
         seats.old seats.new }
 {
-    let pace = Pace::of(rt, patience, seats.len());
+    let pace = Pace::of(rt, patience);
     while are_going(seats) {
         round(rt, writer, feed, seats, racks, pace);
     }

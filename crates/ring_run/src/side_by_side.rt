@@ -5,53 +5,33 @@ ghost use Rattle.ring_run.specs.Pairs.{AreTurned, MayAllTurn};
 
 use std::thread::{Threads, available_parallelism, join_mut};
 
-/// How the turns of a round are taken: how often the one end and each of the others may wait in vain, and in
-/// how many threads the others take theirs.
+/// How the turns of a round are taken: how often each may wait in vain, and in how many threads those of all
+/// ends but one are.
 #[derive(Clone, Copy)]
 pub(crate) struct Pace {
-    pub(crate) one: u32,
-    pub(crate) others: u32,
+    pub(crate) patience: u32,
     pub(crate) threads: usize,
 }
 
-/// How often the one end looks in vain where the others take turns one after the other.
-const FEW: u32 = 4;
-
 impl Pace {
-    /// How so many others take their turns beside the one end. Where each has a processor, each has a thread
-    /// and waits for rows there. Where they are more, a thread takes the turns of several, one after the
-    /// other, and none of them waits while the next could work. Two others always have a thread each, since
-    /// a rack may wait for what another one does.
-    pub(crate) fn of<T: Threads>(rt: &T, patience: u32, others: usize) -> Pace
-        requires { 0 < patience }
-        ensures one { 0 < result.one }
-        ensures others { 0 < result.others }
+    /// One thread for each processor but that of the one end, and at least two, since a rack may wait for what
+    /// another one does. Where the processors can't be counted each turn has a thread of its own.
+    pub(crate) fn of<T: Threads>(rt: &T, patience: u32) -> Pace
+        ensures { result.patience ≡ patience }
     {
-        let processors = match available_parallelism(rt) {
-            Ok(processors) => processors.get(),
+        let threads = match available_parallelism(rt) {
+            Ok(processors) => processors.get().saturating_sub(1).max(2),
             Err(_) => usize::MAX,
         };
-        if others < processors.max(3) {
-            return Pace {
-                one: patience,
-                others: patience,
-                threads: others,
-            };
-        }
-        Pace {
-            one: patience.min(FEW),
-            others: 1,
-            threads: processors.max(2),
-        }
+        Pace { patience, threads }
     }
 
     /// The same in so many threads.
     fn in_threads(self, threads: usize) -> Pace
-        ensures { result.others ≡ self.others }
+        ensures { result.patience ≡ self.patience }
     {
         Pace {
-            one: self.one,
-            others: self.others,
+            patience: self.patience,
             threads,
         }
     }
@@ -83,12 +63,12 @@ pub(crate) fn turns<T: Threads + Sync, X: TurnWith<Y> + Send, Y: Send>(
 )
     requires count { length all.old ≡ length others.old }
     requires may { MayAllTurn X.may all.old others.old }
-    requires patience { 0 < pace.others }
+    requires patience { 0 < pace.patience }
     ensures turned { AreTurned X.turned all.old others.old all.new others.new }
 {
     if all.len() < 2 {
         if all.len() == 1 {
-            all[0].turn(&mut others[0], pace.others);
+            all[0].turn(&mut others[0], pace.patience);
         }
         return;
     }
@@ -114,7 +94,7 @@ fn both_halves<T: Threads + Sync, X: TurnWith<Y> + Send, Y: Send>(
     requires last { length b.old ≡ length d.old }
     requires may_first { MayAllTurn X.may a.old c.old }
     requires may_last { MayAllTurn X.may b.old d.old }
-    requires patience { 0 < pace.others }
+    requires patience { 0 < pace.patience }
     ensures first { AreTurned X.turned a.old c.old a.new c.new }
     ensures last { AreTurned X.turned b.old d.old b.new d.new }
 {
@@ -150,7 +130,7 @@ fn halves_in_turn<T: Threads + Sync, X: TurnWith<Y> + Send, Y: Send>(
     requires last { length b.old ≡ length d.old }
     requires may_first { MayAllTurn X.may a.old c.old }
     requires may_last { MayAllTurn X.may b.old d.old }
-    requires patience { 0 < pace.others }
+    requires patience { 0 < pace.patience }
     ensures first { AreTurned X.turned a.old c.old a.new c.new }
     ensures last { AreTurned X.turned b.old d.old b.new d.new }
 {
@@ -175,8 +155,8 @@ fn join_halves<T: Threads + Sync, X: TurnWith<Y> + Send, Y: Send>(
     requires last { length b.old ≡ length d.old }
     requires may_first { MayAllTurn X.may a.old c.old }
     requires may_last { MayAllTurn X.may b.old d.old }
-    requires patience_first { 0 < first.others }
-    requires patience_last { 0 < last.others }
+    requires patience_first { 0 < first.patience }
+    requires patience_last { 0 < last.patience }
     ensures first { AreTurned X.turned a.old c.old a.new c.new }
     ensures last { AreTurned X.turned b.old d.old b.new d.new }
 {
@@ -186,7 +166,7 @@ fn join_halves<T: Threads + Sync, X: TurnWith<Y> + Send, Y: Send>(
             requires sync { IsSync T.row }
             requires count { length a.now ≡ length c.now }
             requires may { MayAllTurn X.may a.now c.now }
-            requires patience { 0 < first.others }
+            requires patience { 0 < first.patience }
             ensures { AreTurned X.turned a.entry.now c.entry.now a.exit.now c.exit.now }
         {
             let first = first;
@@ -196,7 +176,7 @@ fn join_halves<T: Threads + Sync, X: TurnWith<Y> + Send, Y: Send>(
             requires sync { IsSync T.row }
             requires count { length b.now ≡ length d.now }
             requires may { MayAllTurn X.may b.now d.now }
-            requires patience { 0 < last.others }
+            requires patience { 0 < last.patience }
             ensures { AreTurned X.turned b.entry.now d.entry.now b.exit.now d.exit.now }
         {
             let last = last;
@@ -223,8 +203,7 @@ where
     requires may_one { W.may one.old its.old }
     requires count { length all.old ≡ length others.old }
     requires may { MayAllTurn X.may all.old others.old }
-    requires patience_one { 0 < pace.one }
-    requires patience_others { 0 < pace.others }
+    requires patience { 0 < pace.patience }
     ensures one { W.turned one.old its.old one.new its.new }
     ensures turned { AreTurned X.turned all.old others.old all.new others.new }
 {
@@ -235,7 +214,7 @@ where
             requires sync { IsSync T.row }
             requires count { length all.now ≡ length others.now }
             requires may { MayAllTurn X.may all.now others.now }
-            requires patience { 0 < pace.others }
+            requires patience { 0 < pace.patience }
             ensures { AreTurned X.turned all.entry.now others.entry.now all.exit.now others.exit.now }
         {
             let pace = pace;
@@ -243,11 +222,11 @@ where
         },
         &mut ||
             requires may { W.may one.now its.now }
-            requires patience { 0 < pace.one }
+            requires patience { 0 < pace.patience }
             ensures { W.turned one.entry.now its.entry.now one.exit.now its.exit.now }
         {
             let pace = pace;
-            one.turn(its, pace.one)
+            one.turn(its, pace.patience)
         },
     );
 }

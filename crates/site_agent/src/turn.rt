@@ -91,10 +91,9 @@ impl Site {
         ensures faults_stay { R.faults rack.old ≤ R.faults rack.new }
     {
         let mut waits = 0;
-        let mut misses = 0;
         while reader.cursor() < reader.total() {
             match self.draw(reader, rack) {
-                Ok(Kept::Done) => misses = 0,
+                Ok(Kept::Done) => {}
                 Ok(Kept::Left(cause)) => {
                     reader.leave();
                     return TurnEnd::Left(cause);
@@ -108,8 +107,7 @@ impl Site {
                     if waits == patience {
                         return TurnEnd::Waiting { head };
                     }
-                    pause(misses);
-                    misses = misses.saturating_add(1);
+                    pause();
                 }
             }
         }
