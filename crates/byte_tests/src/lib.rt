@@ -1,16 +1,8 @@
-// Tests of what reads and writes bytes: faults, shelves and sinks, PackBits, and TIFF files both ways.
+// Tests of what reads and writes bytes: faults, shelves and sinks, PackBits, plates' tails, and made files.
 #![tactic(auto)]
 
 #[cfg(test)]
-mod bilevel;
-#[cfg(test)]
-mod contone;
-#[cfg(test)]
-mod directory;
-#[cfg(test)]
 mod faults;
-#[cfg(test)]
-mod files;
 #[cfg(test)]
 mod making;
 #[cfg(test)]
@@ -19,5 +11,3 @@ mod packing;
 mod plates;
 #[cfg(test)]
 mod ports;
-#[cfg(test)]
-mod strips;

@@ -1,5 +1,5 @@
 use Rattle.std.proofs.Common.{◌≡◌, ◌+◌}
-use Rattle.byte_tests.proofs.strips.assert_blank.Given as goal
+use Rattle.image_tests.proofs.strips.assert_blank.Given as goal
 
 abbrev pub invariant-loop-y : goal.invariant-loop-y
 invariant-loop-y g l = record {
