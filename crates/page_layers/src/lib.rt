@@ -13,8 +13,6 @@ mod page_rows;
 mod room;
 mod row_reader;
 mod stretch;
-#[cfg(test)]
-mod tests;
 
 pub use ink_row::InkRow;
 pub use layer::{Art, Crop, Layer};

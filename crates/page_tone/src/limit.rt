@@ -28,15 +28,3 @@ pub fn limit_inks(inks: [u8; 4], limit: u16) -> [u8; 4]
         black as u8,
     ]
 }
-
-#[cfg(test)]
-mod tests {
-    use super::*;
-
-    #[test]
-    fn rows_under_a_limit(rt: HostRuntime) {
-        assert_eq!(rt; limit_inks([255, 255, 255, 255], 612), [119, 119, 119, 255]);
-        assert_eq!(rt; limit_inks([0, 0, 0, 200], 100), [0, 0, 0, 100]);
-        assert_eq!(rt; limit_inks([1, 2, 3, 4], 10), [1, 2, 3, 4]);
-    }
-}

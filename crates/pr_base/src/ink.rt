@@ -10,21 +10,3 @@ pub enum Ink {
     K,
     S,
 }
-
-#[cfg(test)]
-mod tests {
-    use super::*;
-    use std::test::Fail;
-
-    #[test]
-    fn stand_in_the_order_of_the_samples(rt: HostRuntime) -> Result<(), Fail> {
-        let inks = [Ink::C, Ink::M, Ink::Y, Ink::K, Ink::S];
-        for i in 0..5 {
-            for j in 0..5 {
-                assert_eq!(rt; inks[i] < inks[j], i < j);
-                assert_eq!(rt; inks[i] == inks[j], i == j);
-            }
-        }
-        Ok(())
-    }
-}

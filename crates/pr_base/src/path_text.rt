@@ -62,16 +62,3 @@ impl fmt::Display for PathText {
         f.write_str(self.text.as_str())
     }
 }
-
-#[cfg(test)]
-mod tests {
-    use super::*;
-    use std::test::Fail;
-
-    #[test]
-    fn keeps_its_text(rt: HostRuntime) -> Result<(), Fail> {
-        let path = PathText::of(rt.alloc(), "in/a.tif")?;
-        assert_eq!(rt; path.as_str(), "in/a.tif");
-        Ok(())
-    }
-}

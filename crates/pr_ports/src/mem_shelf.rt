@@ -139,26 +139,3 @@ impl Shelf for MemShelf {
         }
     }
 }
-
-#[cfg(test)]
-mod tests {
-    use super::*;
-    use std::test::Fail;
-
-    #[test]
-    fn loads_what_it_holds(rt: HostRuntime) -> Result<(), Fail> {
-        let alloc = rt.alloc();
-        let mut files = Vec::new(alloc);
-        let bytes = b"plate".to_vec(alloc)?;
-        files.push((PathText::of(alloc, "in/a.tif")?, bytes))?;
-        let mut shelf = MemShelf::new(alloc, files, vec![in alloc; 3]?);
-        assert_eq!(rt; shelf.load("in/a.tif", 5)?.as_slice(), b"plate".as_slice());
-        assert_eq!(rt;
-            shelf.load("in/a.tif", 4).err(),
-            Some(LoadFault::TooLong { limit: 4 })
-        );
-        assert_eq!(rt; shelf.load("in/b.tif", 5).err(), Some(LoadFault::Failed));
-        assert_eq!(rt; shelf.load("in/a.tif", 5).err(), Some(LoadFault::Failed));
-        Ok(())
-    }
-}

@@ -74,19 +74,3 @@ impl Sink for MemSink {
         }
     }
 }
-
-#[cfg(test)]
-mod tests {
-    use super::*;
-    use std::test::Fail;
-
-    #[test]
-    fn fails_where_told(rt: HostRuntime) -> Result<(), Fail> {
-        let mut sink = MemSink::new(rt.alloc(), vec![in rt.alloc(); 1]?);
-        sink.put(b"ab")?;
-        assert_eq!(rt; sink.put(b"cd"), Err(SinkFault::Failed));
-        sink.put(b"e")?;
-        assert_eq!(rt; sink.bytes(), b"abe".as_slice());
-        Ok(())
-    }
-}

@@ -11,6 +11,3 @@ mod row;
 
 pub use diffuser::Diffuser;
 pub use laws::{error_law, row_law};
-
-#[cfg(test)]
-mod tests;

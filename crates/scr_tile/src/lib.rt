@@ -16,6 +16,3 @@ pub use laws::dot_law;
 pub use own_tile::OwnTile;
 pub use screen::screen_row;
 pub use tile::Tile;
-
-#[cfg(test)]
-mod tests;

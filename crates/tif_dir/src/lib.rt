@@ -7,8 +7,6 @@ mod field;
 mod order;
 mod table;
 pub mod tag;
-#[cfg(test)]
-mod tests;
 mod value_type;
 
 pub use dir::{Dir, read_dir};

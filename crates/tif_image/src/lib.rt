@@ -6,8 +6,6 @@ mod bilevel;
 mod check;
 mod contone;
 mod fields;
-#[cfg(test)]
-mod tests;
 mod usage;
 
 pub use bilevel::Bilevel;

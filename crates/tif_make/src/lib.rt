@@ -15,6 +15,3 @@ mod tag;
 pub use form::{Compression, ImageForm, Kind, Planar};
 pub use image::make_image;
 pub use order::Order;
-
-#[cfg(test)]
-mod tests;

@@ -13,6 +13,3 @@ pub use frame::{frame_len, frame_row, framed};
 pub use laws::{frame_tells_its_row, packing_expands_to_its_row, packing_stays_within_bound};
 pub use pack::{pack_bound, pack_row};
 pub use unpacker::{Short, Unpacker};
-
-#[cfg(test)]
-mod tests;

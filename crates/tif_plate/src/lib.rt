@@ -12,6 +12,3 @@ mod tail;
 pub use front::plate_front;
 pub use shape::{rows_per_strip, strips};
 pub use tail::{Tail, plate_tail};
-
-#[cfg(test)]
-mod tests;

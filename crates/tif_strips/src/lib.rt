@@ -10,8 +10,6 @@ mod shape;
 mod strip;
 mod strip_table;
 mod strips;
-#[cfg(test)]
-mod tests;
 
 pub use row_cursor::RowCursor;
 pub use shape::Shape;

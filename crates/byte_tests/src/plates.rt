@@ -1,0 +1,76 @@
+// The tails of the smallest plate, of one whose rows end at an odd place, and of one of two strips. The bytes
+// are those of hex dumps.
+ghost use Rattle.std.specs.Prelude.{◌≡◌, ◌≤◌, length};
+ghost use Rattle.tif_plate.specs.Plate.{IsSide, strip_count};
+ghost use Rattle.tif_plate.specs.Tail.{IsPlaceable, tail_room};
+
+use std::process::Abort;
+use tif_plate::{Tail, plate_front, plate_tail, rows_per_strip, strips};
+
+// Behind the packed row 00 90 of a plate of 4 by 1 pixels at 1200 dpi.
+const FOUR_BY_ONE: [u8; 166] = [
+    0x0C, 0, //
+    0x00, 1, 4, 0, 1, 0, 0, 0, 4, 0, 0, 0, //
+    0x01, 1, 4, 0, 1, 0, 0, 0, 1, 0, 0, 0, //
+    0x02, 1, 3, 0, 1, 0, 0, 0, 1, 0, 0, 0, //
+    0x03, 1, 3, 0, 1, 0, 0, 0, 5, 0x80, 0, 0, //
+    0x06, 1, 3, 0, 1, 0, 0, 0, 0, 0, 0, 0, //
+    0x11, 1, 4, 0, 1, 0, 0, 0, 8, 0, 0, 0, //
+    0x15, 1, 3, 0, 1, 0, 0, 0, 1, 0, 0, 0, //
+    0x16, 1, 4, 0, 1, 0, 0, 0, 0, 0x20, 0, 0, //
+    0x17, 1, 4, 0, 1, 0, 0, 0, 2, 0, 0, 0, //
+    0x1A, 1, 5, 0, 1, 0, 0, 0, 0xA0, 0, 0, 0, //
+    0x1B, 1, 5, 0, 1, 0, 0, 0, 0xA8, 0, 0, 0, //
+    0x28, 1, 3, 0, 1, 0, 0, 0, 2, 0, 0, 0, //
+    0, 0, 0, 0, //
+    0xB0, 4, 0, 0, 1, 0, 0, 0, //
+    0xB0, 4, 0, 0, 1, 0, 0, 0, //
+];
+
+// The tail of a plate of 1200 dpi is so long, and its directory stands at this place of the plate. Gives its
+// bytes, and behind them nothing was written.
+fn tail_of(rt: &impl Abort, width: u32, height: u32, counts: &[u32], want: Tail) -> [u8; 183]
+    requires width { IsSide width }
+    requires height { IsSide height }
+    requires counts { length counts.now ≡ strip_count width height }
+    requires sum { IsPlaceable counts.now }
+    requires room { tail_room width height ≤ 183 }
+{
+    let mut into = [0xEE; 183];
+    assert!(rt; plate_tail(width, height, 1200, counts, &mut into) == want);
+    assert!(rt; want.len <= 183);
+    assert!(rt; into[want.len..].iter().all(|byte| *byte == 0xEE));
+    into
+}
+
+#[test]
+fn begins_with_the_mark_of_its_byte_order(rt: HostRuntime) {
+    assert_eq!(&rt; plate_front(), [0x49, 0x49, 0x2A, 0, 0, 0, 0, 0]);
+}
+
+#[test]
+fn cuts_rows_into_strips(rt: HostRuntime) {
+    assert_eq!(&rt; strips(4, 1), 1);
+    assert_eq!(&rt; strips(32768, 3), 2);
+    assert_eq!(&rt; rows_per_strip(9), 4096);
+    assert_eq!(&rt; rows_per_strip(32768), 2);
+}
+
+#[test]
+fn writes_the_tail_of_one_strip(rt: HostRuntime) {
+    let tail = tail_of(&rt, 4, 1, &[2], Tail { len: 166, at: 10 });
+    assert!(&rt; tail.starts_with(&FOUR_BY_ONE));
+}
+
+#[test]
+fn begins_at_an_even_place(rt: HostRuntime) {
+    let tail = tail_of(&rt, 9, 1, &[3], Tail { len: 167, at: 12 });
+    assert!(&rt; tail.starts_with(&[0, 0x0C, 0, 0x00, 1]));
+}
+
+#[test]
+fn writes_the_table_of_two_strips(rt: HostRuntime) {
+    let tail = tail_of(&rt, 32768, 3, &[128, 64], Tail { len: 182, at: 200 });
+    assert!(&rt; tail[62..].starts_with(&[0x11, 1, 4, 0, 2, 0, 0, 0, 0x6E, 1, 0, 0]));
+    assert!(&rt; tail[166..] == [8, 0, 0, 0, 136, 0, 0, 0, 128, 0, 0, 0, 64, 0, 0, 0, 0xEE]);
+}

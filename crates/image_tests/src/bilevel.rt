@@ -1,0 +1,154 @@
+// A bilevel image of 8 by 2 pixels as linework and as a mask, and what its tests answer once a byte is another.
+ghost use Rattle.std.specs.Prelude.{◌≡◌};
+ghost use Rattle.tif_strips.specs.Strips.{row_length};
+
+use crate::files::{LINE, changed};
+use crate::strips::assert_rows;
+use pr_base::{FaultKind, TagFault};
+use std::process::Abort;
+use std::test::Fail;
+use tif_image::{Bilevel, BilevelUse};
+use tif_strips::Shape;
+
+// What the tests of a file answer.
+fn answer(bytes: &[u8], usage: BilevelUse) -> Result<Shape, TagFault> {
+    Ok(Bilevel::check(bytes, usage)?.shape())
+}
+
+// The file with these changes is refused with this fault.
+fn assert_refused(
+    rt: &impl Abort,
+    changes: &[(usize, u8)],
+    usage: BilevelUse,
+    tag: u16,
+    kind: FaultKind,
+) {
+    let bytes = changed(LINE, changes);
+    assert!(rt;
+        answer(&bytes, usage) == Err(TagFault { tag, kind }),
+        "tag {tag}: {changes:?}"
+    );
+}
+
+// The marked pixels of a row, the first in the highest bit.
+fn marks(image: &Bilevel<'_>, row: [u8; 1]) -> u8
+    requires width { image.now.shape.width ≡ 8 }
+    requires row { row_length image.now.shape ≡ 1 }
+{
+    let mut marks = 0;
+    for x in 0..8 {
+        marks = marks << 1 | u8::from(image.marked(&row, x));
+    }
+    marks
+}
+
+// The file with these changes has two rows AA, of which these pixels are marked.
+fn assert_image(
+    rt: &impl Abort,
+    changes: &[(usize, u8)],
+    usage: BilevelUse,
+    marked: u8,
+) -> Result<(), TagFault> {
+    let bytes = changed(LINE, changes);
+    let image = Bilevel::check(&bytes, usage)?;
+    assert!(rt; image.width() == 8 && image.length() == 2);
+    assert_rows(rt, image.rows(), &[[0xaa], [0xaa]]);
+    assert!(rt; marks(&image, [0xaa]) == marked, "{changes:?}");
+    Ok(())
+}
+
+#[test]
+fn gives_rows_and_marks(rt: HostRuntime) -> Result<(), Fail> {
+    // PhotometricInterpretation 0, 1 and 4.
+    for (photometric, usage, marked) in [
+        (0, BilevelUse::Line, 0xaa),
+        (1, BilevelUse::Line, 0x55),
+        (0, BilevelUse::Mask, 0xaa),
+        (1, BilevelUse::Mask, 0x55),
+        (4, BilevelUse::Mask, 0xaa),
+    ] {
+        assert_image(&rt, &[(66, photometric)], usage, marked)?;
+    }
+    Ok(())
+}
+
+#[test]
+fn keeps_its_shape(rt: HostRuntime) {
+    let shape = Shape {
+        width: 8,
+        length: 2,
+        samples: 1,
+        bits: 1,
+        planar: 1,
+        packed: true,
+        rows_per_strip: 2,
+    };
+    for usage in [BilevelUse::Line, BilevelUse::Mask] {
+        assert_eq!(rt; answer(&LINE, usage), Ok(shape));
+    }
+}
+
+#[test]
+fn names_the_first_test_that_fails(rt: HostRuntime) {
+    use FaultKind::*;
+
+    const CASES: [(&[(usize, u8)], u16, FaultKind); 18] = [
+        (&[(2, 43)], 0, Header),
+        (&[(8, 0)], 0, Directory),
+        // The entry of 279 becomes one of a tile.
+        (&[(106, 0x42), (18, 0)], 322, Tiled),
+        (&[(18, 0), (30, 0)], 256, Width),
+        (&[(30, 0), (90, 4)], 257, Length),
+        (&[(90, 4), (42, 8)], 277, Samples),
+        (&[(42, 8), (54, 4)], 258, Bits),
+        (&[(54, 4), (66, 5)], 259, Compression),
+        (&[(66, 5)], 262, Photometric),
+        (&[(66, 2)], 262, Photometric),
+        // The entry of 258 becomes one of a field that the file leaves out: one bit a sample.
+        (&[(34, 0x0a), (42, 2)], 266, FillOrder),
+        (&[(34, 0x12), (42, 2)], 274, Orientation),
+        (&[(34, 0x1c), (42, 3)], 284, Planar),
+        (&[(102, 0), (70, 0x10)], 278, RowsPerStrip),
+        (&[(70, 0x10)], 273, Missing),
+        (&[(106, 0x18)], 279, Missing),
+        (&[(78, 123)], 273, StripPlace),
+        (&[(122, 0)], 273, Short),
+    ];
+    for (changes, tag, kind) in CASES {
+        assert_refused(&rt, changes, BilevelUse::Line, tag, kind);
+        assert_refused(&rt, changes, BilevelUse::Mask, tag, kind);
+    }
+    // A mask by its photometric interpretation is no linework.
+    assert_refused(&rt, &[(66, 4)], BilevelUse::Line, 262, Photometric);
+}
+
+#[test]
+fn passes_over_other_fields(rt: HostRuntime) {
+    let cases: [&[(usize, u8)]; 4] = [
+        // InkSet 2, one that can't be read, and DotRange of one value.
+        &[(34, 0x4c), (42, 2)],
+        &[(34, 0x4c), (36, 5)],
+        &[(34, 0x50)],
+        // One bit a sample where the file leaves the field out.
+        &[(34, 0xff)],
+    ];
+    for changes in cases {
+        assert_as_whole(&rt, changes, BilevelUse::Line);
+        assert_as_whole(&rt, changes, BilevelUse::Mask);
+    }
+}
+
+fn assert_as_whole(rt: &impl Abort, changes: &[(usize, u8)], usage: BilevelUse) {
+    let bytes = changed(LINE, changes);
+    assert!(rt;
+        answer(&bytes, usage) == answer(&LINE, usage),
+        "{changes:?}"
+    );
+}
+
+#[test]
+fn takes_one_sample_in_a_plane(rt: HostRuntime) -> Result<(), Fail> {
+    // PlanarConfiguration 2 with one sample: one plane.
+    assert_image(&rt, &[(34, 0x1c), (42, 2)], BilevelUse::Line, 0xaa)?;
+    Ok(())
+}

@@ -1,0 +1,13 @@
+// Tests of how images are read: directories, strips, and what contone images, linework and masks have to be.
+#![tactic(auto)]
+
+#[cfg(test)]
+mod bilevel;
+#[cfg(test)]
+mod contone;
+#[cfg(test)]
+mod directory;
+#[cfg(test)]
+mod files;
+#[cfg(test)]
+mod strips;

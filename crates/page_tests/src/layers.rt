@@ -1,0 +1,248 @@
+// Small files, layers of them, and the pages that these make.
+ghost use Rattle.std.specs.Prelude.{◌≡◌, ◌-◌, ◌<◌, ◌≤◌, All, IfOk};
+ghost use Rattle.page_layers.specs.Inks.{HasWidth};
+ghost use Rattle.page_layers.specs.Layer.{IsLayer, shape_of};
+
+use page_layers::{Art, Crop, InkRow, Layer, PageRows};
+use pr_base::{Ink, NoMemory, TagFault};
+use std::alloc::Global;
+use std::process::Abort;
+use std::test::Fail;
+use tif_image::{Bilevel, BilevelUse, Contone};
+use tif_make::{Compression, ImageForm, Kind, Order, Planar, make_image};
+
+// How the two images are laid into their files: 4 by 2 pixels, in one strip.
+const FORM: ImageForm = ImageForm {
+    kind: Kind::Contone,
+    width: 4,
+    length: 2,
+    order: Order::Little,
+    planar: Planar::Chunky,
+    compression: Compression::Uncompressed,
+    rows_per_strip: 2,
+};
+
+// A file of four inks: sample i of pixel x of row y is 10 y + x + 40 i + 1.
+fn contone(alloc: Global) -> Result<Vec<u8>, NoMemory> {
+    let rows = [
+        1, 41, 81, 121, 2, 42, 82, 122, 3, 43, 83, 123, 4, 44, 84, 124, //
+        11, 51, 91, 131, 12, 52, 92, 132, 13, 53, 93, 133, 14, 54, 94, 134, //
+    ];
+    make_image(alloc, &FORM, &rows)
+}
+
+// A file of one bit a pixel: marked are the pixels 0 and 2 of row 0, and 1 to 3 of row 1.
+fn bilevel(alloc: Global) -> Result<Vec<u8>, NoMemory> {
+    let form = ImageForm {
+        kind: Kind::Line,
+        ..FORM
+    };
+    make_image(alloc, &form, &[0xA0, 0x70])
+}
+
+/// What a layer shows: the file of four inks, or that of one bit a pixel in these inks.
+#[derive(Clone, Copy)]
+pub enum Shown {
+    Contone,
+    Line([u8; 5]),
+}
+
+/// A layer in plain values. Its mask is the file of one bit a pixel.
+#[derive(Clone, Copy)]
+pub struct Laid {
+    pub shown: Shown,
+    pub masked: bool,
+    pub x: u32,
+    pub y: u32,
+    pub scale: u32,
+    pub crop: Crop,
+    pub overprint: bool,
+}
+
+/// A whole image in knockout, without a mask, in the page's corner at scale 1.
+pub fn whole(shown: Shown) -> Laid {
+    Laid {
+        shown,
+        masked: false,
+        x: 0,
+        y: 0,
+        scale: 1,
+        crop: Crop {
+            x: 0,
+            y: 0,
+            width: 4,
+            height: 2,
+        },
+        overprint: false,
+    }
+}
+
+/// Whether a row repeats the one above it, and its cyan, magenta, yellow, black and spot. A row of which the
+/// values aren't given is passed.
+pub type Row<const W: usize> = (bool, Option<[[u8; W]; 5]>);
+
+/// The page of these layers, the first at the bottom, gives these rows. After each turn it starts again.
+pub fn assert_page<const W: usize, R: Abort + AllocGlobal>(
+    rt: &R,
+    layers: &[Laid],
+    height: u32,
+    turns: &[&[Row<W>]],
+) -> Result<(), Fail> {
+    let image = contone(rt.alloc())?;
+    let line = bilevel(rt.alloc())?;
+    assert_turns(
+        rt,
+        layers_of(rt, image.as_slice(), line.as_slice(), layers)?,
+        height,
+        turns,
+    )
+}
+
+fn assert_turns<const W: usize, R: Abort + AllocGlobal>(
+    rt: &R,
+    layers: Vec<Layer<'_>>,
+    height: u32,
+    turns: &[&[Row<W>]],
+) -> Result<(), Fail>
+    requires { All IsLayer layers.items }
+{
+    assert!(rt; W >= 1 && W <= 65_535 && height >= 1 && height <= 65_535);
+    let mut page = PageRows::open(rt.alloc(), layers, W as u32, height)?;
+    let mut room = InkRow::new(rt.alloc(), W as u32)?;
+    for rows in turns {
+        assert_rows(rt, &mut page, &mut room, height, rows);
+        page.restart();
+    }
+    Ok(())
+}
+
+fn assert_rows<const W: usize>(
+    rt: &impl Abort,
+    page: &mut PageRows<'_>,
+    room: &mut InkRow,
+    height: u32,
+    rows: &[Row<W>],
+)
+    requires { HasWidth room.old page.old.width }
+    ensures { HasWidth room.new page.new.width }
+{
+    let mut left = height;
+    for (repeats, row) in rows {
+        assert!(rt; left > 0);
+        assert_stands(rt, page, left, *repeats);
+        assert_next(rt, page, room, row);
+        left -= 1;
+    }
+    assert_eq!(rt; page.left(), left);
+}
+
+fn assert_stands(rt: &impl Abort, page: &PageRows<'_>, left: u32, repeats: bool)
+    ensures { page.now.height - page.now.next ≡ left }
+{
+    assert!(rt; page.left() == left);
+    assert!(rt; page.repeats() == repeats);
+}
+
+fn assert_next<const W: usize>(
+    rt: &impl Abort,
+    page: &mut PageRows<'_>,
+    room: &mut InkRow,
+    row: &Option<[[u8; W]; 5]>,
+)
+    requires left { page.old.next < page.old.height }
+    requires width { HasWidth room.old page.old.width }
+    ensures { HasWidth room.new page.new.width }
+{
+    let Some([cyan, magenta, yellow, black, spot]) = row else {
+        page.pass();
+        return;
+    };
+    page.next(room);
+    assert_plane(rt, room, Ink::C, cyan);
+    assert_plane(rt, room, Ink::M, magenta);
+    assert_plane(rt, room, Ink::Y, yellow);
+    assert_plane(rt, room, Ink::K, black);
+    assert_plane(rt, room, Ink::S, spot);
+}
+
+fn assert_plane(rt: &impl Abort, room: &InkRow, ink: Ink, values: &[u8]) {
+    assert!(rt; room.plane(ink) == values);
+}
+
+// The layers over these files.
+fn layers_of<'a, R: Abort + AllocGlobal>(
+    rt: &R,
+    image: &'a [u8],
+    line: &'a [u8],
+    laid: &[Laid],
+) -> Result<Vec<Layer<'a>>, Fail>
+    ensures { IfOk result (λ layers. All IsLayer layers.items) }
+{
+    let mut layers = Vec::new(rt.alloc());
+    for laid in laid {
+        put(rt, &mut layers, layer(image, line, laid)?)?;
+    }
+    Ok(layers)
+}
+
+// Puts a layer on the others, once it is one that a page takes.
+fn put<'a, R: Abort>(rt: &R, layers: &mut Vec<Layer<'a>>, layer: Layer<'a>) -> Result<(), Fail>
+    requires { All IsLayer layers.old.items }
+    ensures { IfOk result (λ done. All IsLayer layers.new.items) }
+{
+    assert_layer(rt, &layer);
+    layers.push(layer)?;
+    Ok(())
+}
+
+fn layer<'a>(image: &'a [u8], line: &'a [u8], laid: &Laid) -> Result<Layer<'a>, TagFault> {
+    Ok(Layer {
+        art: art(image, line, laid.shown)?,
+        mask: mask(line, laid.masked)?,
+        x: laid.x,
+        y: laid.y,
+        scale: laid.scale,
+        crop: laid.crop,
+        overprint: laid.overprint,
+    })
+}
+
+fn art<'a>(image: &'a [u8], line: &'a [u8], shown: Shown) -> Result<Art<'a>, TagFault> {
+    match shown {
+        Shown::Contone => Ok(Art::Contone(Contone::check(image)?)),
+        Shown::Line(inks) => Ok(Art::Line(Bilevel::check(line, BilevelUse::Line)?, inks)),
+    }
+}
+
+fn mask(line: &[u8], masked: bool) -> Result<Option<Bilevel<'_>>, TagFault> {
+    if !masked {
+        return Ok(None);
+    }
+    Ok(Some(Bilevel::check(line, BilevelUse::Mask)?))
+}
+
+fn assert_layer(rt: &impl Abort, layer: &Layer<'_>)
+    ensures { IsLayer layer.now }
+{
+    let (width, length) = sides(&layer.art);
+    let crop = layer.crop;
+    assert!(rt; crop.width > 0 && crop.height > 0);
+    assert!(rt; crop.x <= width && crop.width <= width - crop.x);
+    assert!(rt; crop.y <= length && crop.height <= length - crop.y);
+    assert!(rt; layer.scale > 0 && layer.scale <= 64);
+    let Some(mask) = &layer.mask else {
+        return;
+    };
+    assert!(rt; mask.width() == width);
+    assert!(rt; mask.length() == length);
+}
+
+fn sides(art: &Art<'_>) -> (u32, u32)
+    ensures width { result.0 ≡ (shape_of art.now).width }
+    ensures length { result.1 ≡ (shape_of art.now).length }
+{
+    match art {
+        Art::Contone(image) => (image.width(), image.length()),
+        Art::Line(image, _) => (image.width(), image.length()),
+    }
+}

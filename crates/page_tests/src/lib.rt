@@ -1,0 +1,13 @@
+// Tests of what makes a page's bits: curves and limits, screens, and layers.
+#![tactic(auto)]
+
+#[cfg(test)]
+mod diffusion;
+#[cfg(test)]
+mod layers;
+#[cfg(test)]
+mod pages;
+#[cfg(test)]
+mod tiles;
+#[cfg(test)]
+mod tones;

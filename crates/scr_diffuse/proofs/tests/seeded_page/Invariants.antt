@@ -1,6 +1,0 @@
-use Rattle.std.proofs.Common.{◌≡◌}
-use Rattle.scr_diffuse.proofs.tests.seeded_page.Given as goal
-
--- the diffuser keeps its width
-abbrev pub invariant-loop-expected : goal.invariant-loop-expected
-invariant-loop-expected g l = l.diffuser.width ≡ 61

@@ -1,8 +1,0 @@
-use Rattle.std.proofs.Common.{◌≡◌, ◌+◌}
-use Rattle.tif_strips.proofs.tests.assert_blank.Given as goal
-
-abbrev pub invariant-loop-y : goal.invariant-loop-y
-invariant-loop-y g l = record {
-  shape : l.cursor.shape ≡ l.fn.cursor.shape;
-  next : l.cursor.next ≡ l.fn.cursor.next + l._y;
-}
