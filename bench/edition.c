@@ -1,12 +1,12 @@
 /* The four plates of one pair of pages, each page one uncompressed CMYK file of one strip at scale 4, by straightforward
  * loops: what `plateroom run` is measured against. It reads ImageWidth, ImageLength and StripOffsets and tests nothing.
- * usage: edition LEFT RIGHT bayer8|diffuse PLATES; the plate of ink I becomes PLATES-I.tif */
+ * usage: edition LEFT RIGHT bayer8|diffuse PLATES..; the plate of ink I becomes PLATES-I.tif, for each PLATES */
 #include <stdint.h>
 #include <stdio.h>
 #include <stdlib.h>
 #include <string.h>
 
-enum { SCALE = 4, INKS = 4, DPI = 1200 };
+enum { SCALE = 4, INKS = 4, DPI = 1200, SITES = 16 };
 
 /* An image, and the row of the page that is made of it. */
 struct page {
@@ -149,6 +149,20 @@ static void entry(unsigned tag, unsigned kind, uint32_t count, uint32_t value) {
     put32(value);
 }
 
+/* Makes the file of a plate and writes its front. */
+static int begin(struct plate *plate, const char *name, int ink, uint32_t strips) {
+    char path[4096];
+    snprintf(path, sizeof path, "%s-%c.tif", name, "CMYK"[ink]);
+    plate->file = fopen(path, "wb");
+    plate->counts = calloc(strips, sizeof(uint32_t));
+    plate->end = 8;
+    if (!plate->file)
+        return 7;
+    setvbuf(plate->file, NULL, _IOFBF, 1 << 18);
+    fwrite("II\x2a\0\0\0\0\0", 1, 8, plate->file);
+    return 0;
+}
+
 /* Writes directory, resolutions and strip table, and the directory's place into the header. */
 static int finish(struct plate *plate, uint32_t width, uint32_t length, uint32_t each) {
     uint32_t end = plate->end, strips = (length + each - 1) / each;
@@ -188,8 +202,9 @@ static int finish(struct plate *plate, uint32_t width, uint32_t length, uint32_t
 
 int main(int argc, char **argv) {
     struct page pages[2];
-    struct plate plates[INKS];
-    if (argc != 5)
+    static struct plate plates[SITES][INKS];
+    int sites = argc - 4;
+    if (sites < 1 || sites > SITES)
         return 2;
     for (int side = 0; side < 2; side++)
         if (read_page(argv[1 + side], &pages[side]))
@@ -199,17 +214,10 @@ int main(int argc, char **argv) {
     uint32_t wide = SCALE * pages[0].width, length = SCALE * pages[0].length;
     uint32_t row = 2 * wide / 8, each = 8192 / row ? 8192 / row : 1;
     uint8_t *bits = malloc(row), *packed = malloc(row + (row + 127) / 128);
-    for (int ink = 0; ink < INKS; ink++) {
-        char path[4096];
-        snprintf(path, sizeof path, "%s-%c.tif", argv[4], "CMYK"[ink]);
-        plates[ink].file = fopen(path, "wb");
-        plates[ink].counts = calloc((length + each - 1) / each, sizeof(uint32_t));
-        plates[ink].end = 8;
-        if (!plates[ink].file)
-            return 7;
-        setvbuf(plates[ink].file, NULL, _IOFBF, 1 << 18);
-        fwrite("II\x2a\0\0\0\0\0", 1, 8, plates[ink].file);
-    }
+    for (int site = 0; site < sites; site++)
+        for (int ink = 0; ink < INKS; ink++)
+            if (begin(&plates[site][ink], argv[4 + site], ink, (length + each - 1) / each))
+                return 7;
     for (uint32_t y = 0; y < length; y++) {
         if (y % SCALE == 0)
             for (int side = 0; side < 2; side++)
@@ -224,13 +232,17 @@ int main(int argc, char **argv) {
                     tile_row(page->values[ink], wide, thresholds[y % 8], half);
             }
             size_t count = pack(bits, row, packed);
-            fwrite(packed, 1, count, plates[ink].file);
-            plates[ink].counts[y / each] += count;
-            plates[ink].end += count;
+            for (int site = 0; site < sites; site++) {
+                struct plate *plate = &plates[site][ink];
+                fwrite(packed, 1, count, plate->file);
+                plate->counts[y / each] += count;
+                plate->end += count;
+            }
         }
     }
-    for (int ink = 0; ink < INKS; ink++)
-        if (finish(&plates[ink], 2 * wide, length, each))
-            return 7;
+    for (int site = 0; site < sites; site++)
+        for (int ink = 0; ink < INKS; ink++)
+            if (finish(&plates[site][ink], 2 * wide, length, each))
+                return 7;
     return 0;
 }

@@ -2,40 +2,77 @@
 """Makes an edition's plates by the definitions alone, pixel by pixel, and compares them with those of the program.
 
     plateroom run PLAN FILES OUT
-    python3 bench/plates.py PLAN FILES OUT
+    python3 check/plates.py PLAN FILES OUT
 
-It shares no code with plateroom and is slow: it is for small editions. Images are read by libtiff's tiffcp.
+It shares no code with plateroom, looks at nothing that plateroom wrote but to compare it, and is slow: it is for
+small editions.
 """
 import json
 import os
 import struct
-import subprocess
 import sys
-import tempfile
 
 INKS = "CMYKS"
 
 
+def first_directory(data, order):
+    """The values of each field of a file's first directory that are BYTE, SHORT or LONG. The first entry counts."""
+    place, fields = struct.unpack_from(order + "I", data, 4)[0], {}
+    for entry in range(struct.unpack_from(order + "H", data, place)[0]):
+        at = place + 2 + 12 * entry
+        tag, kind, count = struct.unpack_from(order + "HHI", data, at)
+        if kind in (1, 3, 4) and tag not in fields:
+            size, letter = {1: (1, "B"), 3: (2, "H"), 4: (4, "I")}[kind]
+            start = at + 8 if size * count <= 4 else struct.unpack_from(order + "I", data, at + 8)[0]
+            fields[tag] = struct.unpack_from(order + letter * count, data, start)
+    return fields
+
+
+def unpacked(strip):
+    """The bytes that PackBits packets stand for."""
+    out, at = bytearray(), 0
+    while at < len(strip):
+        head = strip[at]
+        if head < 128:
+            out += strip[at + 1:at + 2 + head]
+            at += 2 + head
+        elif head == 128:
+            at += 1
+        else:
+            out += strip[at + 1:at + 2] * (257 - head)
+            at += 2
+    return bytes(out)
+
+
 class Image:
-    """The uncompressed samples of a TIFF file, as tiffcp gives them in one strip."""
+    """The samples of the first image of a TIFF file, pixel after pixel, uncompressed."""
 
     def __init__(self, path):
-        with tempfile.NamedTemporaryFile(suffix=".tif") as plain:
-            words = ["tiffcp", "-c", "none", "-p", "contig", "-r", "65535", path, plain.name]
-            subprocess.run(words, check=True, stderr=subprocess.DEVNULL)
-            data = open(plain.name, "rb").read()
+        with open(path, "rb") as file:
+            data = file.read()
         order = "<" if data[:2] == b"II" else ">"
-        place = struct.unpack(order + "I", data[4:8])[0]
-        fields = {}
-        for entry in range(struct.unpack(order + "H", data[place:place + 2])[0]):
-            at = place + 2 + 12 * entry
-            tag, kind, count = struct.unpack(order + "HHI", data[at:at + 8])
-            if kind in (3, 4):
-                size, letter = {3: (2, "H"), 4: (4, "I")}[kind]
-                start = at + 8 if size * count <= 4 else struct.unpack(order + "I", data[at + 8:at + 12])[0]
-                fields[tag] = struct.unpack(order + letter * count, data[start:start + size * count])
-        self.width, self.length, self.photometric = fields[256][0], fields[257][0], fields[262][0]
-        self.samples = b"".join(data[o:o + n] for o, n in zip(fields[273], fields[279]))
+        fields = first_directory(data, order)
+        self.width, self.length, self.photometric = (fields[tag][0] for tag in (256, 257, 262))
+        count, deep = fields.get(277, (1,))[0], fields.get(258, (1,))[0]
+        each = min(self.length, fields.get(278, (self.length,))[0])
+        planes = count if fields.get(284, (1,))[0] == 2 else 1
+        across = (self.width * (count // planes) * deep + 7) // 8
+        strips, plane = -(-self.length // each), []
+        for number, (at, size) in enumerate(zip(fields[273], fields[279])):
+            if number % strips == 0:
+                plane.append(bytearray())
+            rows = min(each, self.length - number % strips * each)
+            strip = data[at:at + size]
+            if fields.get(259, (1,))[0] == 32773:
+                strip = unpacked(strip)
+            if len(strip) < rows * across:
+                raise ValueError(f"{path}: a strip is short")
+            plane[-1] += strip[:rows * across]
+        self.samples = plane[0]
+        if planes > 1:
+            self.samples = bytearray(planes * len(plane[0]))
+            for number in range(planes):
+                self.samples[number::planes] = plane[number]
 
     def contone(self, x, y):
         at = 4 * (y * self.width + x)
@@ -246,4 +283,5 @@ def main():
     return 1 if different or found - wanted else 0
 
 
-sys.exit(main())
+if __name__ == "__main__":
+    sys.exit(main())
