@@ -9,78 +9,11 @@ small editions.
 """
 import json
 import os
-import struct
 import sys
 
+from tiff import Image, plate_file
+
 INKS = "CMYKS"
-
-
-def first_directory(data, order):
-    """The values of each field of a file's first directory that are BYTE, SHORT or LONG. The first entry counts."""
-    place, fields = struct.unpack_from(order + "I", data, 4)[0], {}
-    for entry in range(struct.unpack_from(order + "H", data, place)[0]):
-        at = place + 2 + 12 * entry
-        tag, kind, count = struct.unpack_from(order + "HHI", data, at)
-        if kind in (1, 3, 4) and tag not in fields:
-            size, letter = {1: (1, "B"), 3: (2, "H"), 4: (4, "I")}[kind]
-            start = at + 8 if size * count <= 4 else struct.unpack_from(order + "I", data, at + 8)[0]
-            fields[tag] = struct.unpack_from(order + letter * count, data, start)
-    return fields
-
-
-def unpacked(strip):
-    """The bytes that PackBits packets stand for."""
-    out, at = bytearray(), 0
-    while at < len(strip):
-        head = strip[at]
-        if head < 128:
-            out += strip[at + 1:at + 2 + head]
-            at += 2 + head
-        elif head == 128:
-            at += 1
-        else:
-            out += strip[at + 1:at + 2] * (257 - head)
-            at += 2
-    return bytes(out)
-
-
-class Image:
-    """The samples of the first image of a TIFF file, pixel after pixel, uncompressed."""
-
-    def __init__(self, path):
-        with open(path, "rb") as file:
-            data = file.read()
-        order = "<" if data[:2] == b"II" else ">"
-        fields = first_directory(data, order)
-        self.width, self.length, self.photometric = (fields[tag][0] for tag in (256, 257, 262))
-        count, deep = fields.get(277, (1,))[0], fields.get(258, (1,))[0]
-        each = min(self.length, fields.get(278, (self.length,))[0])
-        planes = count if fields.get(284, (1,))[0] == 2 else 1
-        across = (self.width * (count // planes) * deep + 7) // 8
-        strips, plane = -(-self.length // each), []
-        for number, (at, size) in enumerate(zip(fields[273], fields[279])):
-            if number % strips == 0:
-                plane.append(bytearray())
-            rows = min(each, self.length - number % strips * each)
-            strip = data[at:at + size]
-            if fields.get(259, (1,))[0] == 32773:
-                strip = unpacked(strip)
-            if len(strip) < rows * across:
-                raise ValueError(f"{path}: a strip is short")
-            plane[-1] += strip[:rows * across]
-        self.samples = plane[0]
-        if planes > 1:
-            self.samples = bytearray(planes * len(plane[0]))
-            for number in range(planes):
-                self.samples[number::planes] = plane[number]
-
-    def contone(self, x, y):
-        at = 4 * (y * self.width + x)
-        return list(self.samples[at:at + 4]) + [0]
-
-    def marked(self, x, y):
-        byte = self.samples[y * ((self.width + 7) // 8) + x // 8]
-        return (byte >> (7 - x % 8) & 1) == (0 if self.photometric == 1 else 1)
 
 
 def bayer(side):
@@ -114,7 +47,8 @@ def limited(inks, limit):
 
 class Edition:
     def __init__(self, plan, folder):
-        self.plan, self.folder, self.images, self.values, self.screens = plan, folder, {}, {}, {}
+        self.plan, self.folder = plan, folder
+        self.images, self.values, self.screens, self.made = {}, {}, {}, {}
         self.width, self.height = plan["page"]
         self.left, self.top, self.right, self.bottom = plan.get("margins", [0] * 4)
         self.gutter, self.limit = plan.get("gutter", 0), plan.get("limit", 1020)
@@ -198,6 +132,9 @@ class Edition:
                 return item["with"]
         return section["pages"][number - 1]
 
+    def plate_height(self):
+        return self.top + self.height + self.bottom
+
     def plate_row(self, left, right, ink, y):
         """The bytes of a row of a plate."""
         width = self.left + 2 * self.width + self.gutter + self.right
@@ -208,79 +145,114 @@ class Edition:
         for mark in self.plan.get("marks", []):
             if ink in mark["inks"] and mark["y"] <= y < mark["y"] + mark["h"]:
                 bits[mark["x"]:mark["x"] + mark["w"]] = [1] * mark["w"]
-        return bytes(int("".join(map(str, bits[i:i + 8])), 2) for i in range(0, len(bits), 8)), width
+        return row_of(bits), width
+
+    def groups(self):
+        """The groups of rows in order: the front of a plate's name, the two pages, their inks, and the sites."""
+        for section in self.plan["sections"]:
+            count = len(section["pages"])
+            for pair in range(1, count // 2 + 1):
+                even, odd = sorted((pair, count + 1 - pair), key=lambda n: n % 2)
+                parts = {}
+                for site in self.plan["sites"]:
+                    pages = tuple(self.chosen(site, section, n) for n in (even, odd))
+                    parts.setdefault(pages, []).append(site["name"])
+                for (left, right), sites in parts.items():
+                    both = self.pages[left]["inks"] + self.pages[right]["inks"]
+                    inks = ("CMYK" if "C" in both else "K") + ("S" if "S" in both else "")
+                    yield f"{self.plan['edition']}-{section['name']}-{pair:03}", left, right, inks, sites
+
+    def plate(self, left, right, ink):
+        """A plate's width and its rows."""
+        if (left, right, ink) not in self.made:
+            rows = [self.plate_row(left, right, ink, y) for y in range(self.plate_height())]
+            self.made[left, right, ink] = rows[0][1], [row for row, _ in rows]
+        return self.made[left, right, ink]
 
     def plates(self):
         """Each site's plates: path below the folder of plates, and bytes."""
-        height, made = self.top + self.height + self.bottom, {}
-        for site in self.plan["sites"]:
-            for section in self.plan["sections"]:
-                count = len(section["pages"])
-                for pair in range(1, count // 2 + 1):
-                    even, odd = sorted((pair, count + 1 - pair), key=lambda n: n % 2)
-                    left, right = (self.chosen(site, section, n) for n in (even, odd))
-                    both = self.pages[left]["inks"] + self.pages[right]["inks"]
-                    for ink in ("CMYK" if "C" in both else "K") + ("S" if "S" in both else ""):
-                        if (left, right, ink) not in made:
-                            rows = [self.plate_row(left, right, ink, y) for y in range(height)]
-                            made[left, right, ink] = plate_file(rows[0][1], self.plan["dpi"], [r for r, _ in rows])
-                        name = f"{self.plan['edition']}-{section['name']}-{pair:03}-{ink}.tif"
-                        yield os.path.join(site["name"], name), made[left, right, ink]
+        for name, left, right, inks, sites in self.groups():
+            for ink in inks:
+                file = plate_file(*self.plate(left, right, ink), self.plan["dpi"])
+                for site in sites:
+                    yield os.path.join(site, f"{name}-{ink}.tif"), file
+
+    def spans(self):
+        """Each site's plates in order, as path and the numbers of the first and the last row, and all rows."""
+        spans, begin = {site["name"]: [] for site in self.plan["sites"]}, 0
+        for name, _, _, inks, sites in self.groups():
+            end = begin + self.plate_height() * len(inks)
+            for number, ink in enumerate(inks):
+                for site in sites:
+                    path = os.path.join(site, f"{name}-{ink}.tif")
+                    spans[site].append((path, begin + number, end - len(inks) + number))
+            begin = end
+        return spans, begin
+
+    def end(self, site, broken):
+        """A site's finished plates, and the row and the plate at which it left, where one in `broken` can't be made."""
+        plates = self.spans()[0][site]
+        left = min(((first, path) for path, first, _ in plates if path in broken), default=None)
+        return [path for path, _, last in plates if not left or last < left[0]], left
+
+    def report(self, out, broken=()):
+        """The report of a run to the folder `out`."""
+        lines, (spans, total) = [], self.spans()
+        for site in spans:
+            plates, left = self.end(site, broken)
+            if left:
+                lines.append(f"site {site} left plates {len(plates)} row {left[0]} call begin file {out}/{left[1]}")
+            else:
+                rows = len(plates) * self.plate_height()
+                lines.append(f"site {site} finished plates {len(plates)} rows {rows}")
+        lines.append(f"total rows {total} sites {len(spans)}")
+        return "".join(line + "\n" for line in lines)
 
 
-def packed(row):
-    """A row in PackBits."""
-    out, at = bytearray(), 0
-    while at < len(row):
-        same = 1
-        while same < 128 and at + same < len(row) and row[at + same] == row[at]:
-            same += 1
-        if same >= 3:
-            out += bytes([257 - same, row[at]])
-            at += same
+def black_plate(path):
+    """The plate of one file: its black under Bayer's tile of side 4, at 1200 pixels an inch."""
+    image, tile, rows = Image(path), bayer(4), []
+    for y in range(image.length):
+        bits = [int(image.contone(x, y)[3] > tile[y % 4][x % 4]) for x in range(image.width)]
+        rows.append(row_of(bits + [0] * (-image.width % 8)))
+    return plate_file(image.width, rows, 1200)
+
+
+def row_of(bits):
+    """The bytes of so many whole bytes of bits, the first the highest."""
+    return bytes(int("".join(map(str, bits[i:i + 8])), 2) for i in range(0, len(bits), 8))
+
+
+def compared(wanted, out, parts=None):
+    """How a folder of plates differs from those that are wanted, or nothing. Of `parts` a front may be there."""
+    faults, parts = [], parts or {}
+    found = {os.path.relpath(os.path.join(at, name), out) for at, _, names in os.walk(out) for name in names}
+    for path in sorted(found | set(wanted)):
+        if path not in found:
+            faults.append(f"{path} is not there")
             continue
-        end = at
-        while end < len(row) and end - at < 128 and row[end:end + 3] != row[end:end + 1] * 3:
-            end += 1
-        out += bytes([end - at - 1]) + row[at:end]
-        at = end
-    return bytes(out)
+        with open(os.path.join(out, path), "rb") as file:
+            plate = file.read()
+        if path in wanted and plate != wanted[path]:
+            same = os.path.commonprefix([plate, wanted[path]])
+            faults.append(f"{path} differs at byte {len(same)}")
+        elif path not in wanted and not (path in parts and is_begun(plate, parts[path])):
+            faults.append(f"{path} should not be there")
+    return "; ".join(faults[:3] + [f"and {len(faults) - 3} more"] * (len(faults) > 3))
 
 
-def plate_file(width, dpi, rows):
-    """A plate: front, packed rows, directory, resolutions, strip table."""
-    each = max(1, 8192 // ((width + 7) // 8))
-    strips = [b"".join(map(packed, rows[i:i + each])) for i in range(0, len(rows), each)]
-    body = b"".join(strips)
-    end = 8 + len(body)
-    at, s = end + end % 2, len(strips)
-    offsets = [8 + sum(map(len, strips[:i])) for i in range(s)]
-    entries = [
-        (256, 4, 1, width), (257, 4, 1, len(rows)), (258, 3, 1, 1), (259, 3, 1, 32773), (262, 3, 1, 0),
-        (273, 4, s, 8 if s == 1 else at + 166), (277, 3, 1, 1), (278, 4, 1, each),
-        (279, 4, s, end - 8 if s == 1 else at + 166 + 4 * s),
-        (282, 5, 1, at + 150), (283, 5, 1, at + 158), (296, 3, 1, 2),
-    ]
-    out = b"II" + struct.pack("<HI", 42, at) + body + bytes(end % 2) + struct.pack("<H", len(entries))
-    out += b"".join(struct.pack("<HHII", *entry) for entry in entries)
-    out += struct.pack("<I4I", 0, dpi, 1, dpi, 1)
-    if s > 1:
-        out += struct.pack(f"<{2 * s}I", *offsets, *map(len, strips))
-    return out
+def is_begun(part, plate):
+    """Whether a file is the front of a plate that isn't finished: its directory's place is 0, and it has no directory."""
+    return part == (plate[:4] + bytes(4) + plate[8:])[:len(part)] and len(part) < len(plate)
 
 
 def main():
     plan, folder, out = sys.argv[1:]
-    different, wanted = 0, set()
-    for path, plate in Edition(json.load(open(plan)), folder).plates():
-        wanted.add(path)
-        full = os.path.join(out, path)
-        if not os.path.exists(full) or open(full, "rb").read() != plate:
-            different += 1
-            print("differs:", full)
-    found = {os.path.relpath(os.path.join(at, name), out) for at, _, names in os.walk(out) for name in names}
-    print(f"{len(wanted)} plates, {different} differ, {len(found - wanted)} more files")
-    return 1 if different or found - wanted else 0
+    with open(plan, encoding="utf-8") as file:
+        wanted = dict(Edition(json.load(file), folder).plates())
+    fault = compared(wanted, out)
+    print(fault or f"{len(wanted)} plates are the same, and there are no more files")
+    return 1 if fault else 0
 
 
 if __name__ == "__main__":
