@@ -5,7 +5,7 @@ usage: bench/busy.py PROGRAM [--jobs NAMES] [--loops N] [--nice N] [--processors
                      [--runs N] [--limit SECONDS] [--folder FOLDER] [--no-plain]
 
 Prints for each job the seconds by the clock and of processor time, the best of three runs, and beside them those
-of plain code on one thread: C (bench/edition.c) for the large pair, the rows of check/plates.py for the 432 rows.
+of plain code on one thread: C (bench/run.c) for the large pair, the rows of check/plates.py for the 432 rows.
 The loops run at niceness 0, both programs at N. With --processors all of them share so many processors.
 Images and plates go to a new folder below FOLDER (/dev/shm), which is deleted at the end.
 """
@@ -19,16 +19,21 @@ import sys
 import tempfile
 import time
 
+sys.dont_write_bytecode = True
 HERE = os.path.dirname(os.path.abspath(__file__))
 sys.path.insert(0, HERE)
 sys.path.insert(0, os.path.join(HERE, "..", "check"))
 
-import edition
+import editions
+import plates
+import run
 import sites
+import trial
 
 PAGE = [16550, 26500]
 PHOTO = 4137, 6625
 INSET = 2000, 2000
+ROWS = "--rows"
 
 
 def make_line(path, width, length, photometric, row):
@@ -77,15 +82,11 @@ def disc_rows(width, length):
 
 def make_newspaper(files):
     """The images of four broadsheet pages: a photo, an inset with its mask, and a page of text for each."""
-    keep = edition.WIDTH, edition.LENGTH
     for number in range(4):
-        edition.WIDTH, edition.LENGTH = PHOTO
-        edition.make(os.path.join(files, f"photo{number}.tif"), 3 + 2 * number)
+        run.make(os.path.join(files, f"photo{number}.tif"), 3 + 2 * number, *PHOTO)
         make_line(os.path.join(files, f"text{number}.tif"), *PAGE, 0, text_rows(PAGE[0], number))
-    edition.WIDTH, edition.LENGTH = INSET
-    edition.make(os.path.join(files, "inset.tif"), 11)
+    run.make(os.path.join(files, "inset.tif"), 11, *INSET)
     make_line(os.path.join(files, "mask.tif"), *INSET, 0, disc_rows(*INSET))
-    edition.WIDTH, edition.LENGTH = keep
 
 
 def newspaper():
@@ -105,32 +106,12 @@ def newspaper():
 
 def make_pair(files):
     for name, phase in (("left", 3), ("right", 5)):
-        edition.make(os.path.join(files, f"{name}.tif"), phase)
-
-
-def make_rows(files):
-    keep = edition.WIDTH, edition.LENGTH
-    edition.WIDTH, edition.LENGTH = 9, 11
-    edition.make(os.path.join(files, "small.tif"), 3)
-    edition.WIDTH, edition.LENGTH = keep
-
-
-def rows():
-    """An edition of 432 rows: six pairs in four inks, and plates of 18 rows."""
-    pages = [
-        {"name": f"p{number}", "inks": "CMYK",
-         "layers": [{"kind": "contone", "file": "small.tif", "scale": 2, "x": number, "y": number % 3}]}
-        for number in range(12)
-    ]
-    return {
-        "plan": 1, "edition": "ROWS", "dpi": 1200, "page": [18, 11], "margins": [2, 3, 2, 4], "pages": pages,
-        "sections": [{"name": "A", "pages": [page["name"] for page in pages]}], "sites": sites.sites(4),
-    }
+        run.make(os.path.join(files, f"{name}.tif"), phase)
 
 
 # name: what it is, what makes its images, its plan, the ring where it isn't the program's own
 JOBS = {
-    "rows": ("the 432 rows, 4 sites", make_rows, rows, None),
+    "rows": ("the 432 rows, 4 sites", editions.write_images, editions.rows, None),
     "small": ("8 pages of 400 by 600, 3 sites", make_pair, sites.small, None),
     "large1": ("large pair, 1 site", make_pair, lambda: sites.large("bayer8", 1), None),
     "large4": ("large pair, 4 sites", make_pair, lambda: sites.large("bayer8", 4), None),
@@ -141,9 +122,11 @@ JOBS = {
 
 
 def took(command, nice, limit):
-    """Seconds by the clock and of the processor, or None where the command isn't done within the limit."""
+    """Seconds by the clock and of the processor, or None where the command isn't done within the limit. Of plain rows
+    what they print counts, which leaves out the start of Python."""
     start = time.monotonic()
-    process = subprocess.Popen(command, stdout=subprocess.DEVNULL, preexec_fn=lambda: os.nice(nice))
+    out = subprocess.PIPE if ROWS in command else subprocess.DEVNULL
+    process = subprocess.Popen(command, stdout=out, preexec_fn=lambda: os.nice(nice))
     while True:
         done, status, usage = os.wait4(process.pid, os.WNOHANG)
         now = time.monotonic() - start
@@ -156,6 +139,9 @@ def took(command, nice, limit):
         time.sleep(0.001 if now < 0.2 else 0.02)
     if status != 0:
         sys.exit(f"{command[0]} ended with status {os.waitstatus_to_exitcode(status)}")
+    if out == subprocess.PIPE:
+        with process.stdout as said:
+            return tuple(map(float, said.read().split()))
     return now, usage.ru_utime + usage.ru_stime
 
 
@@ -165,16 +151,16 @@ def best(command, out, options):
     for _ in range(options.runs):
         shutil.rmtree(out, ignore_errors=True)
         os.makedirs(out)
-        run = took(command, options.nice, options.limit)
-        if run is None:
+        one = took(command, options.nice, options.limit)
+        if one is None:
             break
-        least = min(least or run, run)
+        least = min(least or one, one)
     shutil.rmtree(out, ignore_errors=True)
     return least
 
 
-def said(run, options):
-    return f"{run[0]:8.3f} s ({run[1]:.3f})" if run else f"not done in {options.limit} s"
+def said(seconds, options):
+    return f"{seconds[0]:8.3f} s ({seconds[1]:.3f})" if seconds else f"not done in {options.limit} s"
 
 
 def plain(name, plan, text, files, out, folder):
@@ -182,19 +168,18 @@ def plain(name, plan, text, files, out, folder):
     if name.startswith("large"):
         program = os.path.join(folder, "plain")
         if not os.path.exists(program):
-            source = os.path.join(HERE, "edition.c")
+            source = os.path.join(HERE, "run.c")
             subprocess.run(["cc", "-O3", "-march=x86-64-v2", "-o", program, source], check=True)
         images = [os.path.join(files, f"{side}.tif") for side in ("left", "right")]
         return [program, *images, "bayer8", *(os.path.join(out, site["name"]) for site in plan["sites"])]
     if name == "rows":
-        return [sys.executable, os.path.join(HERE, "busy.py"), "--rows", text, files, out]
+        return [sys.executable, os.path.join(HERE, "busy.py"), ROWS, text, files, out]
     return None
 
 
 def plain_rows(text, files, out):
-    """Makes and writes the plates of an edition by the rows of check/plates.py."""
-    import plates
-
+    """Makes and writes the plates of an edition by the rows of check/plates.py. Prints the seconds that took."""
+    clock, processor = time.monotonic(), time.process_time()
     with open(text) as file:
         plan = json.load(file)
     for path, plate in plates.Edition(plan, files).plates():
@@ -202,6 +187,7 @@ def plain_rows(text, files, out):
         os.makedirs(os.path.dirname(full), exist_ok=True)
         with open(full, "wb") as file:
             file.write(plate)
+    print(time.monotonic() - clock, time.process_time() - processor)
 
 
 def measure(options, folder):
@@ -221,7 +207,7 @@ def measure(options, folder):
         with open(text, "w") as file:
             json.dump(plan(), file)
         command = [options.program, "run", text, files, out, str(ring or options.ring), str(options.patience)]
-        loops = [subprocess.Popen([sys.executable, "-c", "while True: pass"]) for _ in range(options.loops)]
+        loops = trial.busy(options.loops)
         try:
             time.sleep(0.3 if loops else 0)
             ours = best(command, out, options)
@@ -233,15 +219,12 @@ def measure(options, folder):
                 if ours and theirs:
                     line += f"   {ours[0] / theirs[0]:.2f} times"
         finally:
-            for loop in loops:
-                loop.kill()
-            for loop in loops:
-                loop.wait()
+            trial.stop(loops)
         print(line, flush=True)
 
 
 def main():
-    if sys.argv[1:2] == ["--rows"]:
+    if sys.argv[1:2] == [ROWS]:
         return plain_rows(*sys.argv[2:])
     words = argparse.ArgumentParser(description=__doc__, formatter_class=argparse.RawDescriptionHelpFormatter)
     words.add_argument("program")

@@ -1,6 +1,6 @@
 /* The four plates of one pair of pages, each page one uncompressed CMYK file of one strip at scale 4, by straightforward
  * loops: what `plateroom run` is measured against. It reads ImageWidth, ImageLength and StripOffsets and tests nothing.
- * usage: edition LEFT RIGHT bayer8|diffuse PLATES..; the plate of ink I becomes PLATES-I.tif, for each PLATES */
+ * usage: run LEFT RIGHT bayer8|diffuse PLATES..; the plate of ink I becomes PLATES-I.tif, for each PLATES */
 #include <stdint.h>
 #include <stdio.h>
 #include <stdlib.h>
