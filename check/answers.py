@@ -1,4 +1,4 @@
-"""What the program answers: each status with its line, and on which stream, from files and folders of the machine."""
+"""What the program answers: each status with its line, and on which stream, from real files and folders."""
 import json
 import os
 import re
@@ -18,7 +18,11 @@ PLAN = {"plan": 1, "edition": "E1", "dpi": 1200, "page": [40, 30], "pages": PAGE
 
 def layer(**keys):
     """A plan whose one layer has these keys."""
-    return dict(PLAN, pages=[PAGES[0], {"name": "p", "inks": "K", "layers": [dict({"kind": "contone"}, **keys)]}])
+    return layers(dict({"kind": "contone"}, **keys))
+
+
+def layers(*parts):
+    return dict(PLAN, pages=[PAGES[0], {"name": "p", "inks": "K", "layers": parts}])
 
 
 def without(key):
@@ -33,24 +37,24 @@ def sparse(path, size):
 # Words that are no command. The files that they name are there, and so are those that would be read where a word
 # that isn't UTF-8 were left out, cut or mended.
 WORDS = [
-    [], [""], ["one"], ["one", ""], ["one", "a.tif", "a.tif"], ["two", "a.tif"], ["One", "a.tif"], ["one "], ["--help"],
-    ["--version"], ["a.tif"], ["run"], ["run", "plan.json", "in"], ["run", "plan.json", "in", ""],
-    ["run", "", "in", "OUT"], ["run", "plan.json", "", "OUT"], ["run", "plan.json", "in", "OUT", "0"],
-    ["run", "plan.json", "in", "OUT", "1025"], ["run", "plan.json", "in", "OUT", "064"],
-    ["run", "plan.json", "in", "OUT", "+1"], ["run", "plan.json", "in", "OUT", ""],
-    ["run", "plan.json", "in", "OUT", "64", "0"], ["run", "plan.json", "in", "OUT", "64", "65537"],
-    ["run", "plan.json", "in", "OUT", "64", "1024", "1"], ["drill"], ["drill", ""], ["drill", "-1"], ["drill", "07"],
-    ["drill", "7 "], ["drill", "4294967296"], ["drill", "18446744073709551616"], ["drill", "7", "1025"],
-    ["drill", "7", "64", "1024", "7"],
-    [b"\xff"], [b"one", b"a\xff.tif"], [b"one", b"a.tif", b"\xff"], [b"\xff", b"one", b"a.tif"], [b"one", b"a.tif\xff"],
-    [b"one", b"\xed\xa0\x80.tif"], [b"one", b"a.tif\xc3"], [b"drill", b"7", b"\xff"], [b"drill", b"7\xff"],
-    [b"dr\xffill", b"7"], [b"run", b"plan.json", b"in", b"OUT\xff"], [b"run", b"plan.json", b"in", b"OUT", b"\xfe\xff"],
-    [b"run", b"pl\xffan.json", b"in", b"OUT"],
+    [], [""], ["one"], ["one", ""], ["one", "a.tif", "a.tif"], ["two", "a.tif"], ["One", "a.tif"], ["one "],
+    ["a.tif"], ["--help"], ["--version"], ["run"], ["run", "plan.json", "in"], ["run", "plan.json", "in", ""],
+    ["run", "", "in", "OUT"], ["run", "plan.json", "", "OUT"], ["drill"], ["drill", ""], ["drill", "-1"],
+    ["drill", "07"], ["drill", "7 "], ["drill", "4294967296"], ["drill", "18446744073709551616"],
+    ["drill", "7", "1025"], ["drill", "7", "64", "1024", "7"],
+    *(["run", "plan.json", "in", "OUT", ring] for ring in ("0", "1025", "064", "+1", "")),
+    *(["run", "plan.json", "in", "OUT", "64", patience] for patience in ("0", "65537", "01")),
+    ["run", "plan.json", "in", "OUT", "64", "1024", "1"],
+    [b"\xff"], [b"one", b"a\xff.tif"], [b"one", b"a.tif", b"\xff"], [b"\xff", b"one", b"a.tif"],
+    [b"one", b"a.tif\xff"], [b"one", b"\xed\xa0\x80.tif"], [b"one", b"a.tif\xc3"], [b"drill", b"7", b"\xff"],
+    [b"drill", b"7\xff"], [b"dr\xffill", b"7"], [b"run", b"plan.json", b"in", b"OUT\xff"],
+    [b"run", b"plan.json", b"in", b"OUT", b"\xfe\xff"], [b"run", b"pl\xffan.json", b"in", b"OUT"],
 ]
 
 # Texts of plans, and what is wrong with them.
 PLANS = [
-    (b"", ": not JSON"), (b"{", ": not JSON"), (b'{"plan": "\xff"}', ": not JSON"), (b"\xef\xbb\xbf{}", ": not JSON"),
+    (b"", ": not JSON"), (b"{", ": not JSON"), (b'{"plan": "\xff"}', ": not JSON"),
+    (b"\xef\xbb\xbf{}", ": not JSON"),
     (b"[]", " : kind"), (b"{}", " /plan: missing"),
     (dict(PLAN, plan=3), " /plan: range"), (dict(PLAN, zzz=1, yyy=2), " /yyy: unknown"),
     (without("sites"), " /sites: missing"), (dict(PLAN, page=["8", 1]), " /page/0: kind"),
@@ -63,10 +67,14 @@ PLANS = [
 
 # What is asked of an image, its name, and what is wrong with it.
 IMAGES = [
-    (dict(file="lzw.tif"), "lzw.tif", "tag 259: compression"), (dict(file="empty.tif"), "empty.tif", "tag 0: header"),
-    (dict(file="big.tif"), "big.tif", "tag 0: header"), (dict(file="front.tif"), "front.tif", "tag 0: directory"),
-    (dict(file="cut.tif"), "cut.tif", "tag 273: strip place"), (dict(file="short.tif"), "short.tif", "tag 273: short"),
-    (dict(file="bits.tif"), "bits.tif", "tag 277: samples"), (dict(file="rgb.tif"), "rgb.tif", "tag 262: photometric"),
+    (dict(file="lzw.tif"), "lzw.tif", "tag 259: compression"),
+    (dict(file="empty.tif"), "empty.tif", "tag 0: header"),
+    (dict(file="big.tif"), "big.tif", "tag 0: header"),
+    (dict(file="front.tif"), "front.tif", "tag 0: directory"),
+    (dict(file="cut.tif"), "cut.tif", "tag 273: strip place"),
+    (dict(file="short.tif"), "short.tif", "tag 273: short"),
+    (dict(file="bits.tif"), "bits.tif", "tag 277: samples"),
+    (dict(file="rgb.tif"), "rgb.tif", "tag 262: photometric"),
     (dict(file="a.tif", kind="line"), "a.tif", "tag 277: samples"),
     (dict(file="bits.tif", kind="line", mask="a.tif"), "a.tif", "tag 277: samples"),
     (dict(file="a.tif", crop=[1, 0, 20, 1]), "a.tif", "tag 256: crop"),
@@ -136,13 +144,11 @@ def refusals(trial, folder):
     for name in ("folder.tif", "none.tif", "Æ.tif"):
         editions.write_plan(os.path.join(folder, "try.json"), layer(file=name))
         refused(trial, folder, run, 5, f"plateroom: shelf: in/{name}\n")
-    two = [{"kind": "contone", "file": name} for name in ("none.tif", "lzw.tif", "a.tif")]
-    for files, status, line in (
-        (two, 5, "shelf: in/none.tif"), (two[::-1], 4, "file lzw.tif: tag 259: compression"),
-    ):
-        editions.write_plan(os.path.join(folder, "try.json"), dict(
-            PLAN, pages=[PAGES[0], {"name": "p", "inks": "K", "layers": files}]))
-        refused(trial, folder, run, status, f"plateroom: {line}\n")
+    files = [{"kind": "contone", "file": name} for name in ("none.tif", "lzw.tif", "a.tif")]
+    editions.write_plan(os.path.join(folder, "try.json"), layers(*files))
+    refused(trial, folder, run, 5, "plateroom: shelf: in/none.tif\n")
+    editions.write_plan(os.path.join(folder, "try.json"), layers(*files[::-1]))
+    refused(trial, folder, run, 4, "plateroom: file lzw.tif: tag 259: compression\n")
     trial.part("files that aren't there")
 
 
@@ -171,24 +177,24 @@ def streams_that_fail(trial, folder):
         trial.answers(words, 7, b"", b"", folder=folder, streams=(stream, ""))
         trial.holds(f"plates of {' '.join(words)} > {stream}", compared(plates, os.path.join(folder, "OUT")))
         shutil.rmtree(os.path.join(folder, "OUT"), ignore_errors=True)
-        for refusal in (["one"], ["one", "none.tif"], ["one", "in/lzw.tif"], ["run", "none.json", "in", "OUT"]):
-            trial.answers(refusal, 7, b"", b"", folder=folder, streams=("", stream))
+        for refused_words in (["one"], ["one", "none.tif"], ["one", "in/lzw.tif"], ["run", "in", "in", "OUT"]):
+            trial.answers(refused_words, 7, b"", b"", folder=folder, streams=("", stream))
     kept, wanted = os.path.join(folder, "front"), black_plate(os.path.join(folder, "a.tif"))
     for most in (0, 1, 9, len(wanted) - 1):
-        trial.answers(["one", "a.tif"], 7, b"", b"", folder=folder, streams=(kept, ""), limits=[(FILES, most)])
+        limits = [(FILES, most)]
+        trial.answers(["one", "a.tif"], 7, b"", b"", folder=folder, streams=(kept, ""), limits=limits)
         with open(kept, "rb") as file:
-            trial.holds(f"front of {most} bytes", "" if file.read() == wanted[:most] else "it is none of the plate")
+            fault = "" if file.read() == wanted[:most] else "it is none of the plate"
+        trial.holds(f"front of {most} bytes", fault)
         os.remove(kept)
     trial.answers(["one", "a.tif"], 0, wanted, b"", folder=folder)
     trial.part("streams that fail")
 
 
-def racks_that_fail(trial, folder):
+def racks_that_fail(trial, folder, edition):
     """Status 1: a site whose folder or plate can't be made leaves, and the others have their plates."""
-    plan, files, out = editions.five(), os.path.join(folder, "images"), os.path.join(folder, "OUT")
-    editions.write_images(files)
-    editions.write_plan(os.path.join(folder, "five.json"), plan)
-    edition, words = Edition(plan, files), ["run", "five.json", "images", "OUT"]
+    out, words = os.path.join(folder, "OUT"), ["run", "five.json", "images", "OUT"]
+    editions.write_plan(os.path.join(folder, "five.json"), edition.plan)
     plates, spans = dict(edition.plates()), edition.spans()[0]
     for site, number in (("OSLO", None), ("BERGEN", 0), ("TOWN", 7), ("last", 14)):
         if number is None:
@@ -210,8 +216,8 @@ def racks_that_fail(trial, folder):
         trial.answers([*words[:3], name], 1, edition.report(name, every).encode(), b"", folder=folder)
     os.remove(out)
     status, report, note = trial.run(words, folder=folder, limits=[(FILES, 100)])
-    sites = "".join(rf"site {site} left plates 0 row \d+ call row file OUT/{site}/FIVE_5-A-001-[CMYKS].tif\n" for site in spans)
-    form = sites + r"total rows \d+ sites 5\n"
+    line = r"site {0} left plates 0 row \d+ call row file OUT/{0}/FIVE_5-A-001-[CMYKS].tif\n"
+    form = "".join(map(line.format, spans)) + r"total rows \d+ sites 5\n"
     is_told = status == 1 and note == b"" and re.fullmatch(form, report.decode())
     trial.holds("files that can't grow", "" if is_told else f"{status}, {shown(report)}, {shown(note)}")
     shutil.rmtree(out)

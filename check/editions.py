@@ -29,18 +29,18 @@ def loosely_packed(data, rng):
     return bytes(out)
 
 
-def tiff(width, length, planes, *, depth=8, order="<", packed=False, rows=None, photometric=5, extra=0, seed=0):
-    """A file of one plane of rows, or of four, each in strips of so many rows, with so many bytes more than needed."""
+def tiff(width, length, planes, depth=8, order="<", packed=False, rows=None, photometric=5, extra=0, seed=0):
+    """A file of one plane of rows, or of four, in strips of so many rows with so many bytes more than needed."""
     rng, each = random.Random(seed), rows or length
-    across = len(planes[0]) // length
-    strips = [plane[y * across:min(y + each, length) * across] for plane in planes for y in range(0, length, each)]
+    across, begins = len(planes[0]) // length, range(0, length, each)
+    strips = [plane[y * across:min(y + each, length) * across] for plane in planes for y in begins]
     if packed:
         strips = [loosely_packed(strip, rng) for strip in strips]
     strips = [strip[:len(strip) + min(0, extra)] + bytes(max(0, extra)) for strip in strips]
     samples = 4 if depth == 8 else 1
     fields = {
-        256: (width,), 257: (length,), 258: (depth,) * samples, 259: (32773 if packed else 1,), 262: (photometric,),
-        273: None, 277: (samples,), 278: (each,), 279: tuple(map(len, strips)),
+        256: (width,), 257: (length,), 258: (depth,) * samples, 259: (32773 if packed else 1,),
+        262: (photometric,), 273: None, 277: (samples,), 278: (each,), 279: tuple(map(len, strips)),
         284: (2 if len(planes) > 1 else 1,), 332: (1,), 65000: (7,),
     }
     begin = 8
@@ -87,8 +87,9 @@ def line(width, length, seed, photometric, **form):
     for y in range(length):
         bits = 0
         for x in range(8 * across):
-            inside = (x // 5 + y // 3 + seed) % 3 == 0 or (x - width // 2) ** 2 + (y - length // 2) ** 2 < width * 4
-            bits = 2 * bits + (inside != (rng.random() < 0.06) if x < width else rng.random() < 0.5)
+            in_bar, in_disc = (x // 5 + y // 3 + seed) % 3 == 0, (x - width // 2) ** 2 + y ** 2 < width * 9
+            is_marked = (in_bar or in_disc) != (rng.random() < 0.06)
+            bits = 2 * bits + (is_marked if x < width else rng.random() < 0.5)
         rows += bits.to_bytes(across, "big")
     return tiff(width, length, [bytes(rows)], depth=1, photometric=photometric, seed=seed, **form)
 
@@ -146,7 +147,8 @@ def five_pages():
             dict(bars, mask="mask83.tif", x=1, y=3, ink=[0, 0, 255, 0, 255], paint="overprint"),
             dict(photo, x=80, y=388)]},
         {"name": "black", "inks": "K", "layers": [
-            dict(photo, y=1, scale=7, crop=[70, 20, 12, 21]), dict(bars, x=82), dict(bars, x=65535, y=65535)]},
+            dict(photo, y=1, scale=7, crop=[70, 20, 12, 21]), dict(bars, x=82),
+            dict(bars, x=65535, y=65535)]},
         {"name": "spot", "inks": "CMYKS", "layers": [
             dict(bars, ink=[0, 0, 0, 0, 140], scale=2, y=31),
             {"kind": "contone", "file": "planar.tif", "x": 7, "y": 90, "scale": 2, "mask": "mask31.tif"}]},
@@ -164,7 +166,8 @@ def five():
         "plan": 2, "edition": "FIVE_5", "dpi": 1270, "page": [83, 390], "margins": [5, 7, 6, 8], "gutter": 11,
         "limit": 520, "tiles": own_tiles(), "curves": CURVES,
         "screens": {"C": "bayer16", "M": "tile:T", "Y": "bayer2", "K": "diffuse", "S": "tile:ring_2"},
-        "marks": [{"inks": "CMYKS", "x": 0, "y": 0, "w": 4, "h": 4}, {"inks": "MS", "x": 91, "y": 2, "w": 7, "h": 399},
+        "marks": [{"inks": "CMYKS", "x": 0, "y": 0, "w": 4, "h": 4},
+                  {"inks": "MS", "x": 91, "y": 2, "w": 7, "h": 399},
                   {"inks": "K", "x": 60, "y": 404, "w": 128, "h": 1}],
         "pages": five_pages(),
         "sections": [{"name": "A", "pages": ["front", "blank", "colour", "advert", "black", "spot"]},
@@ -184,11 +187,12 @@ def wide():
     pages = [dict(page, layers=[dict(layer, scale=layer.get("scale", 1) * 9, y=layer.get("y", 0) // 40)
                                 for layer in page["layers"]]) for page in five_pages()]
     return dict(
-        five(), edition="WIDE", page=[2999, 30], margins=[3, 2, 4, 1], gutter=5, marks=[], curves={}, pages=pages,
+        five(), edition="WIDE", page=[2999, 30], margins=[3, 2, 4, 1], gutter=5, marks=[], curves={},
+        pages=pages,
         screens={"C": "diffuse", "M": "bayer8", "Y": "tile:ring_2", "K": "bayer4", "S": "diffuse"},
         sections=[{"name": "A", "pages": ["front", "blank", "black", "colour"]}],
         zones=[{"name": "west", "replace": [{"section": "A", "page": 2, "with": "local"}]}],
-        sites=[dict({"name": f"S{number}"}, **({"zone": "west"} if number % 3 == 1 else {})) for number in range(16)],
+        sites=[dict(name=f"S{number}", **({"zone": "west"} if number % 3 == 1 else {})) for number in range(16)],
     )
 
 
@@ -201,6 +205,72 @@ def rows():
         "plan": 1, "edition": "ROWS", "dpi": 1200, "page": [18, 11], "margins": [2, 3, 2, 4], "pages": pages,
         "sections": [{"name": "A", "pages": [page["name"] for page in pages]}],
         "sites": [{"name": f"S{number}"} for number in range(4)],
+    }
+
+
+# The images above by kind, with their widths and lengths, and masks of the same sides.
+CONTONE = {"chunky.tif": (24, 98), "planar.tif": (31, 50), "photos/packed.tif": (90, 41), "photos/apart.tif": (20, 96)}
+LINE = {"bars.tif": (83, 120), "white.tif": (45, 60), "mask83.tif": (83, 120), "mask90.tif": (90, 41)}
+MASKS = {(31, 50): "mask31.tif", (90, 41): "mask90.tif", (83, 120): "mask83.tif", (45, 60): "white.tif"}
+
+
+def layer_by_chance(rng, inks):
+    kind = rng.choice(("contone", "line"))
+    images = CONTONE if kind == "contone" else LINE
+    name = rng.choice(sorted(images))
+    width, length = images[name]
+    layer = {"kind": kind, "file": name, "x": rng.choice((0, rng.randint(0, 70))), "y": rng.randint(0, 12),
+             "scale": rng.choice((1, 1, 2, 3, 4, 5, 8, 64)), "paint": rng.choice(("knockout", "overprint")),
+             "ink": [rng.choice((0, 255, rng.randint(0, 255))) for _ in range(rng.choice((4, inks)))]}
+    if rng.random() < 0.5:
+        x, y = rng.randint(0, width - 1), rng.randint(0, length - 1)
+        layer["crop"] = [x, y, rng.randint(1, width - x), rng.randint(1, length - y)]
+    if rng.random() < 0.5 and (width, length) in MASKS:
+        layer["mask"] = MASKS[width, length]
+    return {key: value for key, value in layer.items() if key in ("kind", "file") or rng.random() < 0.9}
+
+
+def curve_by_chance(rng):
+    inner = sorted({rng.randint(1, 254) for _ in range(rng.randint(0, 4))})
+    return [[x, rng.choice((x, rng.randint(0, 255)))] for x in [0, *inner, 255]]
+
+
+def by_chance(seed):
+    """A small edition in which everything is by chance."""
+    rng = random.Random(seed)
+    number = rng.choice((1, 2, 2))
+    letters = "CMYKS"[:3 + number]
+    width, height = rng.randint(1, 60), rng.randint(1, 24)
+    margins, gutter = [rng.choice((0, rng.randint(0, 19))) for _ in range(4)], rng.choice((0, rng.randint(0, 9)))
+    across, down = margins[0] + 2 * width + gutter + margins[2], margins[1] + height + margins[3]
+    tiles = []
+    for tile in range(rng.randint(0, 3)):
+        sides = rng.randint(1, 9), rng.randint(1, 9)
+        tiles.append({"name": f"t_{tile}", "width": sides[0], "height": sides[1],
+                      "at": [rng.randint(0, 255) for _ in range(sides[0] * sides[1])]})
+    screens = ["bayer2", "bayer4", "bayer8", "bayer16", "diffuse", *(f"tile:{tile['name']}" for tile in tiles)]
+    marks = []
+    for _ in range(rng.randint(0, 3)):
+        x, y = rng.randint(0, across - 1), rng.randint(0, down - 1)
+        inks = "".join(ink for ink in letters if rng.random() < 0.5) or "K"
+        marks.append({"inks": inks, "x": x, "y": y, "w": rng.randint(1, across - x), "h": rng.randint(1, down - y)})
+    names = [f"p{page}" for page in range(rng.randint(2, 5))]
+    sections = [{"name": f"S{section}", "pages": [rng.choice(names) for _ in range(rng.choice((2, 4, 6)))]}
+                for section in range(rng.randint(1, 2))]
+    places = [(section["name"], page + 1) for section in sections for page in range(len(section["pages"]))]
+    zones = [{"name": f"Z{zone}", "replace": [
+        {"section": section, "page": page, "with": rng.choice(names)}
+        for section, page in places if rng.random() < 0.3]} for zone in range(rng.randint(0, 2))]
+    return {
+        "plan": number, "edition": f"E{seed}", "dpi": rng.randint(1, 10000), "page": [width, height],
+        "margins": margins, "gutter": gutter, "limit": rng.choice((0, 200, 400, 612, 1020, rng.randint(0, 1020))),
+        "tiles": tiles, "screens": {ink: rng.choice(screens) for ink in letters if rng.random() < 0.8},
+        "curves": {ink: curve_by_chance(rng) for ink in letters if rng.random() < 0.5}, "marks": marks,
+        "pages": [{"name": name, "inks": rng.choice(("K", "CMYK", "KS", "CMYKS")[:2 * number]), "layers": [
+            layer_by_chance(rng, len(letters)) for _ in range(rng.randint(0, 4))]} for name in names],
+        "sections": sections, "zones": zones,
+        "sites": [dict(name=f"O{site}", **({"zone": rng.choice(zones)["name"]} if zones and site else {}))
+                  for site in range(rng.randint(1, 4))],
     }
 
 

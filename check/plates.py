@@ -1,5 +1,5 @@
 #!/usr/bin/env python3
-"""Makes an edition's plates by the definitions alone, pixel by pixel, and compares them with those of the program.
+"""Makes an edition's plates by the definitions alone, pixel by pixel, and compares them with plateroom's.
 
     plateroom run PLAN FILES OUT
     python3 check/plates.py PLAN FILES OUT
@@ -102,7 +102,8 @@ class Edition:
         if (name, ink) not in self.screens:
             values = [[pixel[INKS.index(ink)] for pixel in row] for row in self.printed(name)]
             screen = self.plan.get("screens", {}).get(ink, "bayer8")
-            self.screens[name, ink] = self.diffused(values) if screen == "diffuse" else self.tiled(values, screen)
+            is_diffused = screen == "diffuse"
+            self.screens[name, ink] = self.diffused(values) if is_diffused else self.tiled(values, screen)
         return self.screens[name, ink]
 
     def tiled(self, values, screen):
@@ -148,7 +149,7 @@ class Edition:
         return row_of(bits), width
 
     def groups(self):
-        """The groups of rows in order: the front of a plate's name, the two pages, their inks, and the sites."""
+        """The groups of rows in order: a plate's name up to its ink, the two pages, their inks, and the sites."""
         for section in self.plan["sections"]:
             count = len(section["pages"])
             for pair in range(1, count // 2 + 1):
@@ -178,7 +179,7 @@ class Edition:
                     yield os.path.join(site, f"{name}-{ink}.tif"), file
 
     def spans(self):
-        """Each site's plates in order, as path and the numbers of the first and the last row, and all rows."""
+        """Each site's plates in order, as path and numbers of the first and last row, and the count of rows."""
         spans, begin = {site["name"]: [] for site in self.plan["sites"]}, 0
         for name, _, _, inks, sites in self.groups():
             end = begin + self.plate_height() * len(inks)
@@ -190,7 +191,7 @@ class Edition:
         return spans, begin
 
     def end(self, site, broken):
-        """A site's finished plates, and the row and the plate at which it left, where one in `broken` can't be made."""
+        """A site's finished plates, and the row and the plate at which it left. Those in `broken` can't be made."""
         plates = self.spans()[0][site]
         left = min(((first, path) for path, first, _ in plates if path in broken), default=None)
         return [path for path, _, last in plates if not left or last < left[0]], left
@@ -201,7 +202,8 @@ class Edition:
         for site in spans:
             plates, left = self.end(site, broken)
             if left:
-                lines.append(f"site {site} left plates {len(plates)} row {left[0]} call begin file {out}/{left[1]}")
+                row, path = left
+                lines.append(f"site {site} left plates {len(plates)} row {row} call begin file {out}/{path}")
             else:
                 rows = len(plates) * self.plate_height()
                 lines.append(f"site {site} finished plates {len(plates)} rows {rows}")
@@ -224,7 +226,7 @@ def row_of(bits):
 
 
 def compared(wanted, out, parts=None):
-    """How a folder of plates differs from those that are wanted, or nothing. Of `parts` a front may be there."""
+    """How a folder of plates differs from those that are wanted, if it does. Of `parts` a front may be there."""
     faults, parts = [], parts or {}
     found = {os.path.relpath(os.path.join(at, name), out) for at, _, names in os.walk(out) for name in names}
     for path in sorted(found | set(wanted)):
@@ -242,7 +244,7 @@ def compared(wanted, out, parts=None):
 
 
 def is_begun(part, plate):
-    """Whether a file is the front of a plate that isn't finished: its directory's place is 0, and it has no directory."""
+    """Whether a file is the front of a plate that isn't finished: the place of its directory is 0."""
     return part == (plate[:4] + bytes(4) + plate[8:])[:len(part)] and len(part) < len(plate)
 
 

@@ -1,9 +1,9 @@
-"""TIFF files by the definitions: what an image holds, and what a plate's file is. It shares no code with plateroom."""
+"""TIFF files by the definitions: what an image holds, and what a plate's file is."""
 import struct
 
 
 def first_directory(data, order):
-    """The values of each field of a file's first directory that are BYTE, SHORT or LONG. The first entry counts."""
+    """The values of each BYTE, SHORT or LONG field of a file's first directory. The first entry of a tag counts."""
     place, fields = struct.unpack_from(order + "I", data, 4)[0], {}
     for entry in range(struct.unpack_from(order + "H", data, place)[0]):
         at = place + 2 + 12 * entry

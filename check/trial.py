@@ -6,7 +6,11 @@ import subprocess
 import sys
 import time
 
-MOST_SECONDS = 30
+MOST_SECONDS, MOST_HANGS = 20, 3
+
+
+class Hangs(Exception):
+    """So many runs weren't done in time that no more are made."""
 
 
 class Trial:
@@ -14,7 +18,7 @@ class Trial:
 
     def __init__(self, program):
         self.program, self.passed, self.failed = os.path.abspath(program), 0, 0
-        self.begun, self.before = time.monotonic(), (0, 0)
+        self.begun, self.before, self.hangs = time.monotonic(), (0, 0), 0
 
     def holds(self, what, fault):
         """Counts one thing that was tried. A fault is what is wrong, or nothing."""
@@ -35,13 +39,14 @@ class Trial:
         """The program ends with this status and writes exactly this to its two streams."""
         got = self.run(words, **how)
         faults = []
-        for name, wanted, given in zip(("status", "standard output", "standard error"), (status, out, note), got):
+        names = "status", "standard output", "standard error"
+        for name, wanted, given in zip(names, (status, out, note), got):
             if given != wanted and wanted is not None:
                 faults.append(f"{name} is {shown(given)} and not {shown(wanted)}")
         self.holds(told(words, how), "; ".join(faults))
 
     def run(self, words, folder=None, streams=("", ""), limits=(), seconds=MOST_SECONDS):
-        """Status and what was written to the two streams. A stream is a path, `closed`, `unread` or kept here."""
+        """Status and what was written to both streams. A stream is a path, `closed`, `unread` or kept here."""
         kept, closing, opened = [subprocess.PIPE] * 2, [], []
         for number, stream in enumerate(streams):
             if stream == "closed":
@@ -62,8 +67,9 @@ class Trial:
             if any(kind == resource.RLIMIT_FSIZE for kind, _ in limits):
                 signal.signal(signal.SIGXFSZ, signal.SIG_IGN)
 
-        process = subprocess.Popen([self.program, *words], cwd=folder, stdin=subprocess.DEVNULL, stdout=kept[0],
-                                   stderr=kept[1], preexec_fn=begin)
+        out, note = kept
+        process = subprocess.Popen([self.program, *words], cwd=folder, stdin=subprocess.DEVNULL, stdout=out,
+                                   stderr=note, preexec_fn=begin)
         for stream in opened:
             os.close(stream)
         try:
@@ -71,13 +77,16 @@ class Trial:
         except subprocess.TimeoutExpired:
             process.kill()
             process.communicate()
+            self.hangs += 1
+            if self.hangs > MOST_HANGS:
+                raise Hangs
             return f"not done in {seconds} s", None, None
         return process.returncode, out or b"", note or b""
 
 
 def told(words, how):
     """The command line, and what is peculiar to the run."""
-    line = " ".join(repr(word) if isinstance(word, bytes) or not word else word for word in words) or "no words"
+    line = " ".join(word if isinstance(word, str) and word else repr(word) for word in words) or "no words"
     for name, stream in zip((">", "2>"), how.get("streams", ())):
         line += f" {name} {stream}" if stream else ""
     for kind, most in how.get("limits", ()):
