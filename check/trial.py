@@ -56,7 +56,8 @@ class Trial:
                 os.close(reading)
                 opened.append(kept[number])
             elif stream:
-                kept[number] = os.open(stream, os.O_WRONLY | os.O_CREAT, 0o644)
+                making = 0 if stream.startswith("/dev/") else os.O_CREAT
+                kept[number] = os.open(stream, os.O_WRONLY | making, 0o644)
                 opened.append(kept[number])
 
         def begin():
