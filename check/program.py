@@ -50,6 +50,7 @@ def runs(tried, folder, name, edition, rings):
 def runs_by_chance(tried, folder, files, seeds):
     """Small editions in which everything is by chance, the ring and the patience too."""
     path, out = os.path.join(folder, "edition.json"), os.path.join(folder, "OUT")
+    shutil.rmtree(out, ignore_errors=True)
     for seed in seeds:
         edition = Edition(editions.by_chance(seed), files)
         editions.write_plan(path, edition.plan)

@@ -56,7 +56,7 @@ class Trial:
                 os.close(reading)
                 opened.append(kept[number])
             elif stream:
-                making = 0 if stream.startswith("/dev/") else os.O_CREAT
+                making = 0 if os.path.dirname(stream) == "/dev" else os.O_CREAT
                 kept[number] = os.open(stream, os.O_WRONLY | making, 0o644)
                 opened.append(kept[number])
 
