@@ -43,7 +43,7 @@ def runs(tried, folder, name, edition, rings):
     editions.write_plan(path, edition.plan)
     for ring in rings:
         tried.answers(["run", path, edition.folder, "OUT", *ring], 0, report, b"", folder=folder)
-        tried.holds(f"{len(plates)} plates of {name} {' '.join(ring)}", compared(plates, out))
+        tried.holds(f"{len(plates)} plates of the edition {name} {' '.join(ring)}", compared(plates, out))
     tried.part(f"the edition {name}, {edition.spans()[1]} rows")
 
 
@@ -126,7 +126,7 @@ def trials(tried, folder):
         runs(tried, folder, "of examples/", Edition(json.load(file), EXAMPLES), [[]])
     runs(tried, folder, "of sixteen sites", Edition(editions.wide(), files), [[], ["1", "1"]])
     runs_by_chance(tried, folder, files, range(1, 31))
-    runs(tried, folder, "of five inks", five, [[], ["1"], ["2", "1"], ["3", "65536"], ["1024", "7"]])
+    runs(tried, folder, "of five inks", five, [[], ["1"], ["2", "1"], ["3", "7"], ["1024", "65536"]])
     read_by_others(tried, five, os.path.join(folder, "OUT"))
     beside_others(tried, folder, files)
 
