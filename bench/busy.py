@@ -6,7 +6,8 @@ usage: bench/busy.py PROGRAM [--jobs NAMES] [--loops N] [--nice N] [--processors
 
 Prints for each job the seconds by the clock and of processor time, the best of three runs, and beside them those
 of plain code on one thread: C (bench/run.c) for the large pair, the rows of check/plates.py for the 432 rows.
-The loops run at niceness 0, both programs at N. With --processors all of them share so many processors.
+The jobs are rows, small, large1, large4, large16, ring1 and newspaper; NAMES stand between commas. The loops run at
+niceness 0, both programs at N. With --processors all of them share so many processors.
 Images and plates go to a new folder below FOLDER (/dev/shm), which is deleted at the end.
 """
 import argparse
