@@ -5,7 +5,7 @@ usage: bench/busy.py PROGRAM [--jobs NAMES] [--loops N] [--nice N] [--processors
                      [--runs N] [--limit SECONDS] [--folder FOLDER] [--no-plain]
 
 Prints for each job the seconds by the clock and of processor time, the best of three runs, and beside them those
-of plain code on one thread: C (bench/run.c) for the large pair, the rows of check/plates.py for the 432 rows.
+of plain C on one thread that makes the same plates: bench/run.c for the large pair, bench/small.c for small pages.
 The jobs are rows, small, large1, large4, large16, ring1 and newspaper; NAMES stand between commas. The loops run at
 niceness 0, both programs at N. With --processors all of them share so many processors.
 Images and plates go to a new folder below FOLDER (/dev/shm), which is deleted at the end.
@@ -26,7 +26,6 @@ sys.path.insert(0, HERE)
 sys.path.insert(0, os.path.join(HERE, "..", "check"))
 
 import editions
-import plates
 import run
 import sites
 import trial
@@ -34,7 +33,6 @@ import trial
 PAGE = [16550, 26500]
 PHOTO = 4137, 6625
 INSET = 2000, 2000
-ROWS = "--rows"
 
 
 def make_line(path, width, length, photometric, row):
@@ -123,11 +121,9 @@ JOBS = {
 
 
 def took(command, nice, limit):
-    """Seconds by the clock and of the processor, or None where the command isn't done within the limit. Of plain rows
-    what they print counts, which leaves out the start of Python."""
+    """Seconds by the clock and of the processor, or None where the command isn't done within the limit."""
     start = time.monotonic()
-    out = subprocess.PIPE if ROWS in command else subprocess.DEVNULL
-    process = subprocess.Popen(command, stdout=out, preexec_fn=lambda: os.nice(nice))
+    process = subprocess.Popen(command, stdout=subprocess.DEVNULL, preexec_fn=lambda: os.nice(nice))
     while True:
         done, status, usage = os.wait4(process.pid, os.WNOHANG)
         now = time.monotonic() - start
@@ -140,9 +136,6 @@ def took(command, nice, limit):
         time.sleep(0.001 if now < 0.2 else 0.02)
     if status != 0:
         sys.exit(f"{command[0]} ended with status {os.waitstatus_to_exitcode(status)}")
-    if out == subprocess.PIPE:
-        with process.stdout as said:
-            return tuple(map(float, said.read().split()))
     return now, usage.ru_utime + usage.ru_stime
 
 
@@ -164,31 +157,21 @@ def said(seconds, options):
     return f"{seconds[0]:8.3f} s ({seconds[1]:.3f})" if seconds else f"not done in {options.limit} s"
 
 
-def plain(name, plan, text, files, out, folder):
-    """The command of plain code that makes the plates of a job, where there is one."""
-    if name.startswith("large"):
-        program = os.path.join(folder, "plain")
-        if not os.path.exists(program):
-            source = os.path.join(HERE, "run.c")
-            subprocess.run(["cc", "-O3", "-march=x86-64-v2", "-o", program, source], check=True)
-        images = [os.path.join(files, f"{side}.tif") for side in ("left", "right")]
-        return [program, *images, "bayer8", *(os.path.join(out, site["name"]) for site in plan["sites"])]
-    if name == "rows":
-        return [sys.executable, os.path.join(HERE, "busy.py"), ROWS, text, files, out]
-    return None
-
-
-def plain_rows(text, files, out):
-    """Makes and writes the plates of an edition by the rows of check/plates.py. Prints the seconds that took."""
-    clock, processor = time.monotonic(), time.process_time()
-    with open(text) as file:
-        plan = json.load(file)
-    for path, plate in plates.Edition(plan, files).plates():
-        full = os.path.join(out, path)
-        os.makedirs(os.path.dirname(full), exist_ok=True)
-        with open(full, "wb") as file:
-            file.write(plate)
-    print(time.monotonic() - clock, time.process_time() - processor)
+def plain(name, plan, files, out, folder):
+    """The command of plain C that makes the plates of a job, where there is one."""
+    if name == "newspaper":
+        return None
+    source = "run" if name in ("large1", "large4", "large16", "ring1") else "small"
+    program = os.path.join(folder, source)
+    if not os.path.exists(program):
+        code = os.path.join(HERE, f"{source}.c")
+        subprocess.run(["cc", "-O3", "-march=x86-64-v2", "-o", program, code], check=True)
+    places = [os.path.join(out, site["name"]) for site in plan["sites"]]
+    if source == "run":
+        return [program, *(os.path.join(files, f"{side}.tif") for side in ("left", "right")), "bayer8", *places]
+    image = os.path.join(files, plan["pages"][0]["layers"][0]["file"])
+    sides = [*plan["page"], len(plan["pages"]), *plan.get("margins", [0] * 4)]
+    return [program, image, *map(str, sides), plan["edition"], *places]
 
 
 def measure(options, folder):
@@ -213,7 +196,7 @@ def measure(options, folder):
             time.sleep(0.3 if loops else 0)
             ours = best(command, out, options)
             line = f"{title:40} plateroom {said(ours, options)}"
-            other = None if options.no_plain else plain(name, plan(), text, files, out, folder)
+            other = None if options.no_plain else plain(name, plan(), files, out, folder)
             if other:
                 theirs = best(other, out, options)
                 line += f"   plain {said(theirs, options)}"
@@ -225,8 +208,6 @@ def measure(options, folder):
 
 
 def main():
-    if sys.argv[1:2] == [ROWS]:
-        return plain_rows(*sys.argv[2:])
     words = argparse.ArgumentParser(description=__doc__, formatter_class=argparse.RawDescriptionHelpFormatter)
     words.add_argument("program")
     words.add_argument("--jobs", default="rows,small,large1,large4,large16,ring1,newspaper")

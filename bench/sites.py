@@ -29,7 +29,7 @@ def large(screen, count):
 def small():
     pages = [
         {"name": f"p{number}", "inks": "CMYK",
-         "layers": [{"kind": "contone", "file": "left.tif", "crop": [number, 0, 400, 600]}]}
+         "layers": [{"kind": "contone", "file": "left.tif", "crop": [number % 6, number, 400, 600]}]}
         for number in range(8)
     ]
     return run.plan("bayer8") | {

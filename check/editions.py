@@ -199,7 +199,7 @@ def wide():
 def rows():
     """432 rows for four sites: six pairs in four inks, 18 rows a plate. By plan 1."""
     pages = [{"name": f"p{number}", "inks": "CMYK", "layers": [
-        {"kind": "contone", "file": "chunky.tif", "x": number, "y": number % 3, "crop": [number, 0, 9, 11]}]}
+        {"kind": "contone", "file": "chunky.tif", "crop": [number % 6, number, 18, 11]}]}
         for number in range(12)]
     return {
         "plan": 1, "edition": "ROWS", "dpi": 1200, "page": [18, 11], "margins": [2, 3, 2, 4], "pages": pages,
