@@ -127,7 +127,7 @@ def trials(tried, folder):
     runs(tried, folder, "of sixteen sites", Edition(editions.wide(), files), [[], ["1", "1"]])
     runs_by_chance(tried, folder, files, range(1, 31))
     runs(tried, folder, "of six pairs", Edition(editions.rows(), files), [["1"], ["2", "65536"]])
-    runs(tried, folder, "of five inks", five, [[], ["2", "1"], ["3", "7"], ["1024", "7"]])
+    runs(tried, folder, "of five inks", five, [[], ["16", "7"], ["1024", "7"]])
     read_by_others(tried, five, os.path.join(folder, "OUT"))
     beside_others(tried, folder, files)
 

@@ -6,7 +6,7 @@ import subprocess
 import sys
 import time
 
-MOST_SECONDS, MOST_HANGS = 20, 3
+MOST_SECONDS, MOST_HANGS = 60, 2
 
 
 class Hangs(Exception):
