@@ -1,10 +1,11 @@
 #!/usr/bin/env bash
-# Measures `plateroom one` beside a plain C program on one large CMYK file: 12,000 by 9,000 pixels, 432 MB.
+# Measures `plateroom run` beside a plain C program on one pair of pages of 16,000 by 24,000 pixels in four inks, under
+# Bayer's tile of side 8 and diffused, and compares their plates.
 # Build the program first: cd crates/plateroom && rt run -- one ../../examples/ramp.tif > /dev/null
-# usage: bench/run.sh [FOLDER for the file and the plates]
+# usage: bench/run.sh [FOLDER for the files and the plates, some 1.5 GB]
 set -eu
 here=$(cd "$(dirname "$0")" && pwd)
 folder=${1:-$(mktemp -d)}
 mkdir -p "$folder"
-cc -O3 -march=x86-64-v2 -o "$folder/one" "$here/one.c"
-exec python3 "$here/measure.py" "$here/../crates/plateroom/out/plateroom" "$folder/one" "$folder"
+cc -O3 -march=x86-64-v2 -o "$folder/run" "$here/run.c"
+exec python3 "$here/run.py" "$here/../crates/plateroom/out/plateroom" "$folder/run" "$folder"

@@ -13,7 +13,7 @@ import subprocess
 import sys
 import time
 
-import edition
+import run
 
 RUNS = 3
 
@@ -23,16 +23,16 @@ def sites(count):
 
 
 def large(screen, count):
-    return edition.plan(screen) | {"sites": sites(count)}
+    return run.plan(screen) | {"sites": sites(count)}
 
 
 def small():
     pages = [
         {"name": f"p{number}", "inks": "CMYK",
-         "layers": [{"kind": "contone", "file": "left.tif", "crop": [number, 0, 400, 600]}]}
+         "layers": [{"kind": "contone", "file": "left.tif", "crop": [number % 6, number, 400, 600]}]}
         for number in range(8)
     ]
-    return edition.plan("bayer8") | {
+    return run.plan("bayer8") | {
         "page": [400, 600], "pages": pages, "sites": sites(3),
         "sections": [{"name": "A", "pages": [page["name"] for page in pages]}],
     }
@@ -61,8 +61,8 @@ def main():
     files = os.path.join(folder, "files")
     os.makedirs(files, exist_ok=True)
     for name, phase in (("left", 3), ("right", 5)):
-        edition.make(os.path.join(files, f"{name}.tif"), phase)
-    jobs = [(f"{count} sites, {screen}", large(screen, count)) for screen in edition.SCREENS for count in (1, 4, 16)]
+        run.make(os.path.join(files, f"{name}.tif"), phase)
+    jobs = [(f"{count} sites, {screen}", large(screen, count)) for screen in run.SCREENS for count in (1, 4, 16)]
     jobs.append(("small edition", small()))
     for name, plan in jobs:
         text = os.path.join(folder, "plan.json")

@@ -1,7 +1,7 @@
 #!/usr/bin/env python3
 """Prints the report and the dots of the drill of a number by the definitions alone, pixel by pixel.
 
-    python3 bench/drill.py N
+    python3 check/drill.py N
     plateroom drill N
 
 Both print the same. It shares no code with plateroom: the job's images are functions of the number, and no

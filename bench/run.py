@@ -11,22 +11,22 @@ WIDTH, LENGTH, SCALE, RUNS = 4000, 6000, 4, 3
 SCREENS = ("bayer8", "diffuse")
 
 
-def make(path, phase):
+def make(path, phase, width=WIDTH, length=LENGTH):
     """A CMYK file of one strip with a running pattern."""
     def entry(tag, kind, count, value):
         return struct.pack("<HHII", tag, kind, count, value)
 
     head = struct.pack("<2sHIH", b"II", 42, 8, 9)
-    head += entry(256, 4, 1, WIDTH) + entry(257, 4, 1, LENGTH) + entry(258, 3, 4, 122)
+    head += entry(256, 4, 1, width) + entry(257, 4, 1, length) + entry(258, 3, 4, 122)
     head += entry(259, 3, 1, 1) + entry(262, 3, 1, 5) + entry(273, 4, 1, 130)
-    head += entry(277, 3, 1, 4) + entry(278, 4, 1, LENGTH) + entry(279, 4, 1, 4 * WIDTH * LENGTH)
+    head += entry(277, 3, 1, 4) + entry(278, 4, 1, length) + entry(279, 4, 1, 4 * width * length)
     head += struct.pack("<I4H", 0, 8, 8, 8, 8)
-    pattern = bytes((x * x // 977 + x * phase + (x >> 4)) % 256 for x in range(8 * WIDTH))
+    pattern = bytes((x * x // 977 + x * phase + (x >> 4)) % 256 for x in range(8 * width))
     with open(path, "wb") as file:
         file.write(head)
-        for y in range(LENGTH):
-            at = 977 * y % (4 * WIDTH)
-            file.write(pattern[at:at + 4 * WIDTH])
+        for y in range(length):
+            at = 977 * y % (4 * width)
+            file.write(pattern[at:at + 4 * width])
 
 
 def plan(screen):

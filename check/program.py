@@ -1,0 +1,150 @@
+#!/usr/bin/env python3
+"""Tries the built program, as a user starts it, and compares what it makes with the definitions.
+
+usage: check/program.py PROGRAM
+
+Its last line is `N passed, M failed`; it ends with status 1 where something failed. It proves nothing: what it
+shows is that the program hands its words, the machine's files and the streams on as it should, on this machine.
+"""
+import json
+import os
+import shutil
+import subprocess
+import sys
+import tempfile
+import time
+
+sys.dont_write_bytecode = True
+
+import answers
+import drill
+import editions
+import trial
+from plates import Edition, black_plate, compared
+from tiff import Image
+
+EXAMPLES = os.path.join(os.path.dirname(os.path.abspath(__file__)), "..", "examples")
+RINGS = ("1", "2", "64", "1024")
+
+
+def images(tried):
+    """The black plates of images in all their forms."""
+    for name in ("ramp", "chunky", "strips", "packed", "planar"):
+        path = os.path.join(EXAMPLES, f"{name}.tif")
+        tried.answers(["one", path], 0, black_plate(path), b"")
+    tried.part("plates of one image")
+
+
+def runs(tried, folder, name, edition, rings):
+    """The plates and the report of an edition, over each ring. A run replaces the plates of the one before."""
+    plates, report = dict(edition.plates()), edition.report("OUT").encode()
+    path, out = os.path.join(folder, "edition.json"), os.path.join(folder, "OUT")
+    shutil.rmtree(out, ignore_errors=True)
+    editions.write_plan(path, edition.plan)
+    for ring in rings:
+        tried.answers(["run", path, edition.folder, "OUT", *ring], 0, report, b"", folder=folder)
+        tried.holds(f"{len(plates)} plates of the edition {name} {' '.join(ring)}", compared(plates, out))
+    tried.part(f"the edition {name}, {edition.spans()[1]} rows")
+
+
+def runs_by_chance(tried, folder, files, seeds):
+    """Small editions in which everything is by chance, the ring and the patience too."""
+    path, out = os.path.join(folder, "edition.json"), os.path.join(folder, "OUT")
+    shutil.rmtree(out, ignore_errors=True)
+    for seed in seeds:
+        edition = Edition(editions.by_chance(seed), files)
+        editions.write_plan(path, edition.plan)
+        words = ["run", path, files, "OUT", str(1 + seed * seed % 1024), str(1 + seed ** 5 % 65536)]
+        tried.answers(words, 0, edition.report("OUT").encode(), b"", folder=folder)
+        tried.holds(f"plates of the edition by chance {seed}", compared(dict(edition.plates()), out))
+        shutil.rmtree(out, ignore_errors=True)
+    tried.part(f"{len(seeds)} editions by chance")
+
+
+def read_by_others(tried, edition, out):
+    """libtiff reads the plates without a word, and finds what the definitions say."""
+    if not shutil.which("tiffinfo") or not shutil.which("tiffcp"):
+        print("skipped: tiffinfo and tiffcp are not installed")
+        return
+    plain = os.path.join(out, "..", "plain.tif")
+    for name, left, right, inks, sites in edition.groups():
+        for ink in inks:
+            path = os.path.join(out, sites[0], f"{name}-{ink}.tif")
+            width, rows = edition.plate(left, right, ink)
+            info = subprocess.run(["tiffinfo", path], capture_output=True, text=True)
+            dots = edition.plan["dpi"]
+            lines = [f"Image Width: {width} Image Length: {len(rows)}", "Bits/Sample: 1", "Scheme: PackBits",
+                     f"Resolution: {dots}, {dots} pixels/inch", "min-is-white", "Samples/Pixel: 1"]
+            lacking = [line for line in lines if line not in info.stdout]
+            tried.holds(f"tiffinfo {name}-{ink}", info.stderr or ", ".join(lacking))
+            copy = subprocess.run(["tiffcp", "-c", "none", path, plain], capture_output=True, text=True)
+            fault = copy.stderr or ("" if Image(plain).samples == b"".join(rows) else "other pixels")
+            tried.holds(f"tiffcp {name}-{ink}", fault)
+    tried.part("plates read by libtiff")
+
+
+def drills(tried):
+    """Drills, over rings of any size."""
+    for number, rings in ((7, RINGS), (0, ("1", "64")), (4, ("3",))):
+        text = drill.Job(number).text().encode()
+        for ring in rings:
+            tried.answers(["drill", str(number), ring], 0, text, b"")
+        tried.answers(["drill", str(number)], 0, text, b"")
+    tried.part("drills")
+
+
+def beside_others(tried, folder, files):
+    """432 rows for four sites take less than two seconds beside eight busy loops, at least one time of three."""
+    path, took = os.path.join(folder, "rows.json"), []
+    editions.write_plan(path, editions.rows())
+    loops = trial.busy(8)
+    try:
+        time.sleep(0.2)
+        while len(took) < 3 and not any(seconds < 2 for seconds in took):
+            begun = time.monotonic()
+            status, _, _ = tried.run(["run", path, files, "BUSY", "64", "1024"], folder=folder, seconds=4)
+            took.append(time.monotonic() - begun if status == 0 else 4)
+    finally:
+        trial.stop(loops)
+    said = ", ".join(f"{seconds:.2f}" for seconds in took)
+    tried.holds("432 rows beside eight loops", "" if min(took) < 2 else f"{said} s")
+    tried.part(f"beside other work, {said} s")
+
+
+def trials(tried, folder):
+    files = os.path.join(folder, "images")
+    editions.write_images(files)
+    five = Edition(editions.five(), files)
+    answers.write_files(folder, EXAMPLES)
+    answers.refusals(tried, folder)
+    answers.wants_of_memory(tried, folder)
+    answers.streams_that_fail(tried, folder)
+    answers.racks_that_fail(tried, folder, five)
+    images(tried)
+    drills(tried)
+    with open(os.path.join(EXAMPLES, "edition.json"), encoding="utf-8") as file:
+        runs(tried, folder, "of examples/", Edition(json.load(file), EXAMPLES), [[]])
+    runs(tried, folder, "of sixteen sites", Edition(editions.wide(), files), [[], ["1", "1"]])
+    runs_by_chance(tried, folder, files, range(1, 31))
+    runs(tried, folder, "of six pairs", Edition(editions.rows(), files), [["1"], ["2", "65536"]])
+    runs(tried, folder, "of five inks", five, [[], ["16", "7"], ["1024", "7"]])
+    read_by_others(tried, five, os.path.join(folder, "OUT"))
+    beside_others(tried, folder, files)
+
+
+def main():
+    if len(sys.argv) != 2:
+        sys.exit(__doc__)
+    tried = trial.Trial(sys.argv[1])
+    room = "/dev/shm" if os.access("/dev/shm", os.W_OK) else None
+    with tempfile.TemporaryDirectory(prefix="check-", dir=room) as folder:
+        try:
+            trials(tried, folder)
+        except trial.Hangs:
+            tried.holds("the trials end", "too many runs weren't done in time")
+    print(f"{tried.passed} passed, {tried.failed} failed")
+    return 1 if tried.failed else 0
+
+
+if __name__ == "__main__":
+    sys.exit(main())

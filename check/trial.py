@@ -1,0 +1,112 @@
+"""Runs the program and counts what held."""
+import os
+import resource
+import signal
+import subprocess
+import sys
+import time
+
+MOST_SECONDS, MOST_HANGS = 60, 2
+
+
+class Hangs(Exception):
+    """So many runs weren't done in time that no more are made."""
+
+
+class Trial:
+    """The program that is tried, and how much held."""
+
+    def __init__(self, program):
+        self.program, self.passed, self.failed = os.path.abspath(program), 0, 0
+        self.begun, self.before, self.hangs = time.monotonic(), (0, 0), 0
+
+    def holds(self, what, fault):
+        """Counts one thing that was tried. A fault is what is wrong, or nothing."""
+        if fault:
+            self.failed += 1
+            print(f"FAILED: {what}: {fault}", flush=True)
+        else:
+            self.passed += 1
+
+    def part(self, name):
+        """Says how many of the things of a part held."""
+        passed, failed = self.passed - self.before[0], self.failed - self.before[1]
+        seconds = time.monotonic() - self.begun
+        print(f"{name}: {passed} of {passed + failed}, {seconds:.1f} s since the beginning", flush=True)
+        self.before = self.passed, self.failed
+
+    def answers(self, words, status, out, note, **how):
+        """The program ends with this status and writes exactly this to its two streams."""
+        got = self.run(words, **how)
+        faults = []
+        names = "status", "standard output", "standard error"
+        for name, wanted, given in zip(names, (status, out, note), got):
+            if given != wanted and wanted is not None:
+                faults.append(f"{name} is {shown(given)} and not {shown(wanted)}")
+        self.holds(told(words, how), "; ".join(faults))
+
+    def run(self, words, folder=None, streams=("", ""), limits=(), seconds=MOST_SECONDS):
+        """Status and what was written to both streams. A stream is a path, `closed`, `unread` or kept here."""
+        kept, closing, opened = [subprocess.PIPE] * 2, [], []
+        for number, stream in enumerate(streams):
+            if stream == "closed":
+                closing.append(number + 1)
+            elif stream == "unread":
+                reading, kept[number] = os.pipe()
+                os.close(reading)
+                opened.append(kept[number])
+            elif stream:
+                making = 0 if os.path.dirname(stream) == "/dev" else os.O_CREAT
+                kept[number] = os.open(stream, os.O_WRONLY | making, 0o644)
+                opened.append(kept[number])
+
+        def begin():
+            for stream in closing:
+                os.close(stream)
+            for kind, most in limits:
+                resource.setrlimit(kind, (most, most))
+            if any(kind == resource.RLIMIT_FSIZE for kind, _ in limits):
+                signal.signal(signal.SIGXFSZ, signal.SIG_IGN)
+
+        out, note = kept
+        process = subprocess.Popen([self.program, *words], cwd=folder, stdin=subprocess.DEVNULL, stdout=out,
+                                   stderr=note, preexec_fn=begin)
+        for stream in opened:
+            os.close(stream)
+        try:
+            out, note = process.communicate(timeout=seconds)
+        except subprocess.TimeoutExpired:
+            process.kill()
+            process.communicate()
+            self.hangs += 1
+            if self.hangs > MOST_HANGS:
+                raise Hangs
+            return f"not done in {seconds} s", None, None
+        return process.returncode, out or b"", note or b""
+
+
+def told(words, how):
+    """The command line, and what is peculiar to the run."""
+    line = " ".join(word if isinstance(word, str) and word else repr(word) for word in words) or "no words"
+    for name, stream in zip((">", "2>"), how.get("streams", ())):
+        line += f" {name} {stream}" if stream else ""
+    for kind, most in how.get("limits", ()):
+        line += f" with {'files' if kind == resource.RLIMIT_FSIZE else 'memory'} of {most} bytes"
+    return line
+
+
+def shown(given):
+    return repr(given[:300]) + ("" if len(given) <= 300 else "..") if isinstance(given, bytes) else given
+
+
+def busy(count):
+    """Loops that compute all the time, until this process ends or stops them."""
+    loop = f"import os\nwhile os.getppid() == {os.getpid()}:\n    for _ in range(10 ** 6):\n        pass"
+    return [subprocess.Popen([sys.executable, "-S", "-c", loop]) for _ in range(count)]
+
+
+def stop(loops):
+    for loop in loops:
+        loop.kill()
+    for loop in loops:
+        loop.wait()
