@@ -53,12 +53,15 @@ class Bar:
             self.bar.update(rows)
 
 
-def expanded(data, size):
-    """The bytes of a strip. Pillow expands PackBits faster than Python can; what it refuses is too short."""
+def rows_of(plate, strip):
+    """The rows of a strip as an array of bytes. Pillow expands PackBits faster than Python can."""
+    data, rows = plate.stored(strip), plate.rows_of(strip)
     try:
-        return Image.frombytes("L", (size, 1), data, "packbits", "L").tobytes()
+        if plate.packed:
+            data = Image.frombytes("L", (plate.row_bytes, rows), data, "packbits", "L").tobytes()
+        return numpy.frombuffer(data, numpy.uint8, rows * plate.row_bytes).reshape(rows, -1)
     except ValueError:
-        return b""
+        raise plate.too_short(strip) from None
 
 
 class Pair:
@@ -66,7 +69,7 @@ class Pair:
 
     def __init__(self, name, paths):
         self.name = name
-        self.plates = {ink: Tiff(paths[ink], expanded) for ink in COLOURS if ink in paths}
+        self.plates = {ink: Tiff(paths[ink]) for ink in COLOURS if ink in paths}
         first = next(iter(self.plates.values()))
         self.width, self.length = first.width, first.length
         for plate in self.plates.values():
@@ -123,7 +126,7 @@ def shares_of(plate, factor):
     columns = numpy.diff(numpy.append(starts, plate.width))
     sums, rows = numpy.zeros(plate.width, numpy.uint32), 0
     for strip in range(plate.strips):
-        data = numpy.frombuffer(plate.strip(strip), numpy.uint8).reshape(-1, plate.row_bytes)
+        data = rows_of(plate, strip)
         while len(data):
             piece, data = data[: factor - rows], data[factor - rows :]
             sums += numpy.unpackbits(piece, axis=1, count=plate.width).sum(axis=0, dtype=numpy.uint32)
@@ -139,7 +142,7 @@ class Png:
     """A PNG file that is written row by row."""
 
     def __init__(self, file, width, height):
-        self.file, self.packer = file, zlib.compressobj(9)
+        self.file, self.packer = file, zlib.compressobj(6)
         self.last = numpy.zeros((width, 3), numpy.uint8)
         file.write(b"\x89PNG\r\n\x1a\n")
         self.chunk(b"IHDR", struct.pack(">IIBBBBB", width, height, 8, 2, 0, 0, 0))

@@ -17,30 +17,29 @@ class Broken(Exception):
 
 
 def unpacked(data, size):
-    """The first `size` bytes of what PackBits data give."""
+    """Row after row of so many bytes, as PackBits data give them; the last may be too short."""
     out, at = bytearray(), 0
-    while at < len(data) and len(out) < size:
+    while at < len(data):
         head = data[at]
         if head < 128:
             out += data[at + 1 : at + 2 + head]
             at += 2 + head
+        elif head > 128:
+            out += data[at + 1 : at + 2] * (257 - head)
+            at += 2
         else:
-            if head > 128:
-                out += data[at + 1 : at + 2] * (257 - head)
-                at += 2
-            else:
-                at += 1
-    return bytes(out[:size])
+            at += 1
+        while len(out) >= size:
+            yield bytes(out[:size])
+            del out[:size]
+    yield bytes(out)
 
 
 class Tiff:
-    """An image: its sides in pixels, its form, and its strips.
+    """An image: its sides in pixels, its form, and its strips."""
 
-    `unpack` is what expands PackBits; a caller may hand in a faster one of the same meaning.
-    """
-
-    def __init__(self, path, unpack=unpacked):
-        self.path, self.unpack, self.file = path, unpack, None
+    def __init__(self, path):
+        self.path, self.file = path, None
         try:
             self.read_fields()
         except Broken:
@@ -117,20 +116,28 @@ class Tiff:
         """How many rows a strip of a plane has."""
         return min(self.each, self.length - strip * self.each)
 
-    def strip(self, strip, plane=0):
-        """The bytes of a strip's rows."""
+    def stored(self, strip, plane=0):
+        """The bytes of a strip as they stand in the file."""
         i = plane * self.strips + strip
-        size = self.rows_of(strip) * self.row_bytes
-        data = self.at(self.offsets[i], self.counts[i])
-        data = self.unpack(data, size) if self.packed else data[:size]
-        if len(data) < size:
-            raise Broken(f"{self.path}: strip {i} is too short")
-        return data
+        return self.at(self.offsets[i], self.counts[i])
+
+    def too_short(self, strip):
+        return Broken(f"{self.path}: strip {strip} is too short")
 
     def rows(self, first=0, last=None, plane=0):
         """The rows from `first` up to `last`, each as bytes."""
         last = self.length if last is None else min(last, self.length)
         for strip in range(first // self.each, (last + self.each - 1) // self.each):
-            data, top = self.strip(strip, plane), strip * self.each
-            for y in range(max(first, top), min(last, top + self.rows_of(strip))):
-                yield data[(y - top) * self.row_bytes : (y - top + 1) * self.row_bytes]
+            top = strip * self.each
+            if self.packed:
+                rows = unpacked(self.stored(strip, plane), self.row_bytes)
+            else:
+                place = self.offsets[plane * self.strips + strip]
+                rows = (
+                    self.at(place + y * self.row_bytes, self.row_bytes) for y in range(self.rows_of(strip))
+                )
+            for y, row in zip(range(top, min(last, top + self.rows_of(strip))), rows):
+                if len(row) < self.row_bytes:
+                    raise self.too_short(strip)
+                if y >= first:
+                    yield row

@@ -44,8 +44,8 @@ class Grid:
 
     def line(self, dpi):
         return (
-            f"side {self.side}, steps {self.a},{self.b}: {self.angle:.1f} degrees, {dpi / self.cell:.1f} lines "
-            f"an inch at {dpi} dpi, {self.count} dots, {min(256, self.side ** 2 + 1)} tones"
+            f"side {self.side}, steps {self.a},{self.b}: {self.angle:.1f} degrees, {dpi / self.cell:.1f} "
+            f"lines an inch at {dpi} dpi, {self.count} dots, {min(256, self.side ** 2 + 1)} tones"
         )
 
     def dot_of(self, x, y):
