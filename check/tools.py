@@ -251,7 +251,7 @@ def see_schema(results, program, folder):
             plan = json.load(file)
         if taken and "plan" in plan:
             results.see(taken(plan), f"the schema refuses {path}")
-    # Each key of the reference stands in the schema, with a word on what it means.
+    # An editor shows what each key means.
     for name, part in [("plan", schema), *schema["definitions"].items()]:
         for key, form in part.get("properties", {}).items():
             results.see("description" in form, f"the schema says nothing of {key} in {name}")
@@ -802,13 +802,16 @@ def see_tiles(results, program, folder):
 
 def see_help(results):
     """Each companion tells its words, a line or two for each, and its statuses."""
-    for name in ("check.py", "proof.py", "tile.py"):
+    for name, first in (("check.py", "PLAN FILES"), ("proof.py", "PLATES OUT"), ("tile.py", "NAME")):
         status, out, _ = tool(name, "--help")
-        if status == 2 and name == "proof.py":
-            print("skipped: proof.py --help (a library isn't installed)")
-            continue
-        words = re.findall(r"^  (\S+|-\w, --\w+|--\w+ \S+)  ", out, re.MULTILINE)
-        results.see(status == 0 and "status: 0 " in out and len(words) >= 4, f"{name} --help: {out}")
+        usage, *parts = out.split("\n\n")
+        results.see(
+            status == 0 and any(part.startswith("status: 0 ") for part in parts), f"{name} --help: {out}"
+        )
+        results.see(usage.endswith(first), f"{name} --help: {usage}")
+        for word in first.split() + re.findall(r"--[a-z]+", usage):
+            told = re.search(rf"^  {word}( \S+)?\s+[a-z]", "\n\n".join(parts), re.MULTILINE)
+            results.see(told, f"{name} --help says nothing of {word}")
 
 
 def main():

@@ -22,8 +22,9 @@ try:
     import numpy
     from PIL import Image, ImageDraw, ImageFont
 except ImportError as error:
-    print(f"proof.py: {error.name} isn't installed; Pillow and numpy are needed", file=sys.stderr)
-    sys.exit(2)
+    MISSING = error.name
+else:
+    MISSING = None
 
 COLOURS = {"C": (0, 255, 255), "M": (255, 0, 255), "Y": (255, 255, 0), "K": (0, 0, 0), "S": (255, 100, 0)}
 PLATE = re.compile(r"(\w{1,16}-\w{1,16}-\d{3})-([CMYKS])\.tif", re.ASCII)
@@ -309,7 +310,7 @@ def make(words, part):
     if side == SHEET_SIDE:
         sheet = sheet_of(list(pictures), words.columns)
         if words.palette:
-            sheet = sheet.quantize(words.palette, dither=Image.Dither.NONE)
+            sheet = sheet.quantize(words.palette, Image.Quantize.MAXCOVERAGE, dither=Image.Dither.NONE)
         sheet.save(part, "PNG", optimize=True)
     else:
         for number, picture in enumerate(pictures):
@@ -340,6 +341,8 @@ def make_one(words, pair, colours, part):
 
 def main():
     words = read_words()
+    if MISSING:
+        leave(2, f"{MISSING} isn't installed; Pillow and numpy are needed")
     part = words.out + ".part"
     try:
         make(words, part)
