@@ -317,7 +317,7 @@ def see_check(results, program, folder):
 
     def checked(plan, *words, files=folder):
         path = os.path.join(folder, "plan.json")
-        with open(path, "w", encoding="utf-8") as file:
+        with open(path, "w", encoding="utf-8", errors="surrogateescape") as file:
             file.write(plan if isinstance(plan, str) else json.dumps(plan))
         return tool("check.py", path, files, "--program", program, *words)
 
@@ -376,6 +376,15 @@ def see_check(results, program, folder):
     )
     status, out, _ = checked('{"plan": 2,\n "edition": }')
     results.see(status == 3 and "not JSON\n" in out and "line 2 column 13" in out, f"not JSON: {out}")
+    for text, said in (("\ufeff{}", "BOM"), ('{"plan": NaN}', "NaN"), ('{"edition": "\udce4"}', "utf-8")):
+        status, out, _ = checked(text)
+        results.see(
+            status == 3 and out.startswith("plateroom: plan: not JSON\n  ") and said in out, f"{said}: {out}"
+        )
+    for text, said in (("\ufeff{}", "BOM"), ('{"plan": NaN}', "NaN"), ('{"edition": "\udce4"}', "utf-8")):
+        status, out, _ = checked(text)
+        right = status == 3 and out.startswith("plateroom: plan: not JSON\n  ") and said in out
+        results.see(right, f"{said}: {status}, {out}")
     for words, status, said in (
         (("away.json", folder), 2, "away.json: No such file"),
         ((), 2, "required: PLAN, FILES"),
@@ -554,7 +563,7 @@ def see_proof(results, program, folder):
         with Image.open(out) as picture:
             results.see(picture.size == size, f"a pair has {picture.size}, not {size}")
             wrong = 0
-            for y in range(0, size[1], 1 if factor == 8 else 31):
+            for y in range(size[1]):
                 for x in range(size[0]):
                     box = x * factor, y * factor, min(factor, 832 - x * factor), min(factor, 280 - y * factor)
                     wanted = colour({ink: plate.share(*box) for ink, plate in read.items()})
@@ -629,7 +638,7 @@ def see_bad_proofs(results, folder, plates, site, read):
         (entry(6, value=4), "no plate: it has 4 samples of 1 bits"),
         (entry(0, value=831), "831 by 280 pixels"),
         (entry(5, value=len(good)), "cut off"),
-        (entry(5, count=1), "fewer places than strips"),
+        (entry(5, count=1), "tag 273 has fewer values than there are strips"),
         (good[:counts] + struct.pack("<I", 3) + good[counts + 4 :], "strip 0 is too short"),
         (GOOD, "no plate: it has 4 samples of 8 bits"),
     ]

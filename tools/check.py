@@ -23,6 +23,8 @@ from tiff import Broken, Tiff
 HERE = os.path.dirname(os.path.abspath(__file__))
 INKS = "CMYKS"
 PLACES_SHOWN = 3
+# What Python reads as JSON and the program doesn't.
+NOT_JSON = "NaN, Infinity, half a surrogate pair, or more than 127 levels stand in it"
 
 
 def bar(items, words):
@@ -138,13 +140,12 @@ def where(plan, path):
 def refuse_plan(line, text):
     """Prints the program's line on the plan, and where to look, and leaves."""
     print(line)
+    path = re.fullmatch(r"plateroom: plan (.*): \w+", line)
     try:
-        plan = json.loads(text)
+        plan = json.loads(text.decode("utf-8"))
+        place = where(plan, path[1]) if path else NOT_JSON if line.endswith("not JSON") else ""
     except ValueError as error:
         place = str(error)
-    else:
-        path = re.fullmatch(r"plateroom: plan (.*): \w+", line)
-        place = where(plan, path[1]) if path else ""
     if place:
         print(f"  {place}")
     print("what to do: docs/FORMATS.md, 'Faults of a plan'")

@@ -39,7 +39,7 @@ class Tiff:
     """An image: its sides in pixels, its form, and its strips."""
 
     def __init__(self, path):
-        self.path, self.file = path, None
+        self.path, self.file, self.places = path, None, None
         try:
             self.read_fields()
         except Broken:
@@ -47,10 +47,10 @@ class Tiff:
             raise
 
     def close(self):
-        """Gives the file back. It is opened anew where more of it is read."""
+        """Gives the file and the places of its strips back. They are read anew where more is asked for."""
         if self.file:
             self.file.close()
-            self.file = None
+        self.file = self.places = None
 
     def at(self, place, size):
         """These bytes of the file."""
@@ -85,13 +85,15 @@ class Tiff:
         self.packed, self.photometric = self.number(259) == PACKBITS, self.number(262)
         self.planar = self.number(284)
         self.each = max(1, min(self.number(278), self.length))
-        self.offsets, self.counts = self.values(273), self.values(279)
         # Where the four inks stand apart, a row of a plane has one of them.
         self.row_bytes = (self.width * self.bits * (1 if self.planar == 2 else self.samples) + 7) // 8
         self.strips = (self.length + self.each - 1) // self.each
         planes = self.samples if self.planar == 2 else 1
-        if min(len(self.offsets), len(self.counts)) < self.strips * planes:
-            raise Broken(f"{self.path}: fewer places than strips")
+        for tag in (273, 279):
+            if tag not in self.fields:
+                raise Broken(f"{self.path}: tag {tag} isn't there")
+            if self.fields[tag][1] < self.strips * planes:
+                raise Broken(f"{self.path}: tag {tag} has fewer values than there are strips")
 
     def values(self, tag):
         """All values of a field."""
@@ -116,10 +118,15 @@ class Tiff:
         """How many rows a strip of a plane has."""
         return min(self.each, self.length - strip * self.each)
 
+    def place(self, strip, plane=0):
+        """Where a strip begins in the file, and how many bytes it has there."""
+        if self.places is None:
+            self.places = self.values(273), self.values(279)
+        return [values[plane * self.strips + strip] for values in self.places]
+
     def stored(self, strip, plane=0):
         """The bytes of a strip as they stand in the file."""
-        i = plane * self.strips + strip
-        return self.at(self.offsets[i], self.counts[i])
+        return self.at(*self.place(strip, plane))
 
     def too_short(self, strip):
         return Broken(f"{self.path}: strip {strip} is too short")
@@ -132,7 +139,7 @@ class Tiff:
             if self.packed:
                 rows = unpacked(self.stored(strip, plane), self.row_bytes)
             else:
-                place = self.offsets[plane * self.strips + strip]
+                place, _ = self.place(strip, plane)
                 rows = (
                     self.at(place + y * self.row_bytes, self.row_bytes) for y in range(self.rows_of(strip))
                 )
