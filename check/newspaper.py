@@ -233,7 +233,7 @@ def see_sites(results, edition):
 
 def see_tools(results, program, edition, folder):
     """The companions on this edition."""
-    words = [sys.executable, os.path.join(TOP, "tools", "check.py"), "--strict", "--program", program]
+    words = [sys.executable, "-B", os.path.join(TOP, "tools", "check.py"), "--strict", "--program", program]
     answer = subprocess.run(
         words + [os.path.join(folder, "plan.json"), os.path.join(folder, "art")],
         capture_output=True,
@@ -251,6 +251,7 @@ def see_tools(results, program, edition, folder):
     proof = os.path.join(folder, "proof.png")
     words = [
         sys.executable,
+        "-B",
         os.path.join(TOP, "tools", "proof.py"),
         os.path.join(edition.plates, "OSLO"),
         proof,
@@ -279,7 +280,8 @@ def main():
     with tempfile.TemporaryDirectory(prefix="plateroom-newspaper-") as folder:
         art, text, plates = (os.path.join(folder, name) for name in ("art", "plan.json", "plates"))
         subprocess.run(
-            [sys.executable, os.path.join(NEWSPAPER, "make.py"), "--art", art, "--plan", text], check=True
+            [sys.executable, "-B", os.path.join(NEWSPAPER, "make.py"), "--art", art, "--plan", text],
+            check=True,
         )
         with open(text, encoding="utf-8") as made, open(
             os.path.join(NEWSPAPER, "plan.json"), encoding="utf-8"

@@ -19,6 +19,7 @@ import subprocess
 import sys
 import tempfile
 
+sys.dont_write_bytecode = True
 from newspaper import Plate, Results, missing
 
 TOP = os.path.join(os.path.dirname(os.path.abspath(__file__)), "..")
@@ -28,7 +29,7 @@ EXAMPLES, TOOLS = os.path.join(TOP, "examples"), os.path.join(TOP, "tools")
 def tool(name, *words):
     """Runs a companion: its status, what it printed, and its complaint."""
     answer = subprocess.run(
-        [sys.executable, os.path.join(TOOLS, name), *map(str, words)], capture_output=True, text=True
+        [sys.executable, "-B", os.path.join(TOOLS, name), *map(str, words)], capture_output=True, text=True
     )
     return answer.returncode, answer.stdout, answer.stderr
 
@@ -682,7 +683,17 @@ def see_memory(results, folder):
     os.makedirs(site)
     with open(os.path.join(site, "E1-A-001-K.tif"), "wb") as file:
         file.write(solid_plate(60000, 40000, 0x55))
-    words = [sys.executable, os.path.join(TOOLS, "proof.py"), site, out, "--pair", "A-001", "--factor", "40"]
+    words = [
+        sys.executable,
+        "-B",
+        os.path.join(TOOLS, "proof.py"),
+        site,
+        out,
+        "--pair",
+        "A-001",
+        "--factor",
+        "40",
+    ]
     process = subprocess.Popen(words)
     _, status, usage = os.wait4(process.pid, 0)
     process.returncode = status
