@@ -313,6 +313,14 @@ DAMAGED = {
 }
 
 
+STUB = """#!/bin/sh
+case "$3" in /dev/null) echo "plateroom: shelf: /dev/null/a.tif" >&2; exit 5;; esac
+if grep -q '"edition": "check"' "$2"; then exit 1; fi
+echo "plateroom: file b.tif: tag 0: too long" >&2
+exit 4
+"""
+
+
 def see_check(results, program, folder):
     """Every fault of files at once, what is lost without a word, and the words of the program itself."""
 
@@ -329,6 +337,15 @@ def see_check(results, program, folder):
         (status, error) == (0, "") and out.endswith("3 files in 3 uses: 0 faults, 0 notes\n"),
         f"examples: {out}{error}",
     )
+
+    # Each file is taken by itself, and all together are refused: this program says so, as one does of 4 GB.
+    stub = os.path.join(folder, "stub")
+    with open(stub, "w", encoding="utf-8") as file:
+        file.write(STUB)
+    os.chmod(stub, 0o755)
+    status, out, _ = tool("check.py", os.path.join(EXAMPLES, "edition.json"), EXAMPLES, "--program", stub)
+    line = "fault: file b.tif: tag 0: too long, with all files together\n"
+    results.see(status == 4 and out.startswith(line), f"all files together: {status}, {out}")
 
     layers = []
     for name, (data, kind, _) in DAMAGED.items():
