@@ -1,0 +1,150 @@
+"""Reads TIFF files of the kinds that plateroom takes and makes: their fields, and their strips one at a time.
+
+A file is never held whole. Fields are read by the rules of docs/FORMATS.md, without their tests: a file that
+isn't of those kinds is for the program to name. What makes reading impossible is a Broken.
+"""
+import struct
+from array import array
+
+PACKBITS = 32773
+DEFAULTS = {258: (1,), 259: (1,), 277: (1,), 278: (4294967295,), 284: (1,)}
+# What values of a field's type take: BYTE, SHORT and LONG.
+TYPES = {1: (1, "B"), 3: (2, "H"), 4: (4, "I")}
+
+
+class Broken(Exception):
+    """A file that can't be read; its text says why."""
+
+
+def unpacked(data, size):
+    """Row after row of so many bytes, as PackBits data give them; the last may be too short."""
+    out, at = bytearray(), 0
+    while at < len(data):
+        head = data[at]
+        if head < 128:
+            out += data[at + 1 : at + 2 + head]
+            at += 2 + head
+        elif head > 128:
+            out += data[at + 1 : at + 2] * (257 - head)
+            at += 2
+        else:
+            at += 1
+        while len(out) >= size:
+            yield bytes(out[:size])
+            del out[:size]
+    yield bytes(out)
+
+
+class Tiff:
+    """An image: its sides in pixels, its form, and its strips."""
+
+    def __init__(self, path):
+        self.path, self.file, self.places = path, None, None
+        try:
+            self.read_fields()
+        except Broken:
+            self.close()
+            raise
+
+    def close(self):
+        """Gives the file and the places of its strips back. They are read anew where more is asked for."""
+        if self.file:
+            self.file.close()
+        self.file = self.places = None
+
+    def at(self, place, size):
+        """These bytes of the file."""
+        try:
+            if self.file is None:
+                self.file = open(self.path, "rb")
+            self.file.seek(place)
+            data = self.file.read(size)
+        except OSError as error:
+            raise Broken(f"{self.path}: {error.strerror}") from None
+        if len(data) < size:
+            raise Broken(f"{self.path}: cut off: no {size} bytes at {place}")
+        return data
+
+    def read_fields(self):
+        head = self.at(0, 8)
+        self.order = {b"II": "<", b"MM": ">"}.get(head[:2])
+        if self.order is None or struct.unpack(self.order + "H", head[2:4])[0] != 42:
+            raise Broken(f"{self.path}: no TIFF file")
+        place = struct.unpack(self.order + "I", head[4:])[0]
+        if place == 0:
+            raise Broken(f"{self.path}: begun and not finished: it has no directory")
+        count = struct.unpack(self.order + "H", self.at(place, 2))[0]
+        self.fields = {}
+        entries = self.at(place + 2, 12 * count)
+        for i in range(0, len(entries), 12):
+            tag, kind, number = struct.unpack(self.order + "HHI", entries[i : i + 8])
+            if tag not in self.fields and kind in TYPES:
+                self.fields[tag] = kind, number, entries[i + 8 : i + 12]
+        self.width, self.length = self.number(256), self.number(257)
+        self.bits, self.samples = self.number(258), self.number(277)
+        self.packed, self.photometric = self.number(259) == PACKBITS, self.number(262)
+        self.planar = self.number(284)
+        self.each = max(1, min(self.number(278), self.length))
+        # Where the four inks stand apart, a row of a plane has one of them.
+        self.row_bytes = (self.width * self.bits * (1 if self.planar == 2 else self.samples) + 7) // 8
+        self.strips = (self.length + self.each - 1) // self.each
+        planes = self.samples if self.planar == 2 else 1
+        for tag in (273, 279):
+            if tag not in self.fields:
+                raise Broken(f"{self.path}: tag {tag} isn't there")
+            if self.fields[tag][1] < self.strips * planes:
+                raise Broken(f"{self.path}: tag {tag} has fewer values than there are strips")
+
+    def values(self, tag):
+        """All values of a field."""
+        if tag not in self.fields:
+            if tag not in DEFAULTS:
+                raise Broken(f"{self.path}: tag {tag} isn't there")
+            return DEFAULTS[tag]
+        kind, number, held = self.fields[tag]
+        size, letter = TYPES[kind]
+        data = (
+            held if size * number <= 4 else self.at(struct.unpack(self.order + "I", held)[0], size * number)
+        )
+        return array("I", struct.unpack_from(f"{self.order}{number}{letter}", data))
+
+    def number(self, tag):
+        values = self.values(tag)
+        if not values:
+            raise Broken(f"{self.path}: tag {tag} has no value")
+        return values[0]
+
+    def rows_of(self, strip):
+        """How many rows a strip of a plane has."""
+        return min(self.each, self.length - strip * self.each)
+
+    def place(self, strip, plane=0):
+        """Where a strip begins in the file, and how many bytes it has there."""
+        if self.places is None:
+            self.places = self.values(273), self.values(279)
+        return [values[plane * self.strips + strip] for values in self.places]
+
+    def stored(self, strip, plane=0):
+        """The bytes of a strip as they stand in the file."""
+        return self.at(*self.place(strip, plane))
+
+    def too_short(self, strip):
+        return Broken(f"{self.path}: strip {strip} is too short")
+
+    def rows(self, first=0, last=None, plane=0):
+        """The rows from `first` up to `last`, each as bytes."""
+        last = self.length if last is None else min(last, self.length)
+        for strip in range(first // self.each, (last + self.each - 1) // self.each):
+            top = strip * self.each
+            if self.packed:
+                rows = unpacked(self.stored(strip, plane), self.row_bytes)
+            else:
+                place, _ = self.place(strip, plane)
+                rows = (
+                    self.at(place + y * self.row_bytes, self.row_bytes) for y in range(self.rows_of(strip))
+                )
+            for y, row in zip(range(top, min(last, top + self.rows_of(strip))), rows):
+                if len(row) < self.row_bytes:
+                    raise self.too_short(strip)
+                if y >= first:
+                    yield row
