@@ -1,0 +1,3 @@
+pub mod Difference
+pub mod Order
+pub mod Wrong

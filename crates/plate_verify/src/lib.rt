@@ -1,0 +1,9 @@
+// Whether the plates that a shelf holds are those of an edition, and where the first of them that isn't begins
+// to differ.
+#![tactic(auto)]
+
+mod checked;
+mod difference;
+
+pub use checked::{Checked, VerifyFault};
+pub use difference::first_difference;
