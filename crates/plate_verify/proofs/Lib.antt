@@ -1,2 +1,5 @@
 pub mod Differences
 pub mod Worked
+pub mod Bounds
+pub mod Each
+pub mod Rights

@@ -1,9 +1,9 @@
 -- What is wrong with the plates that are held.
-use Rattle.std.specs.Prelude.{ℕ, nat_lt, if◌then◌else◌, List, length, slice_get, Option, Some, None, option_map, unwrap_or}
+use Rattle.std.specs.Prelude.{◌≡◌, ℕ, ◌<◌, nat_lt, if◌then◌else◌, List, All, length, slice_get, Option, Some, None, option_map, unwrap_or}
 use Rattle.std.specs.List.{filter_map}
 use Rattle.pr_ports.specs.Shelf.{held_at}
 use Rattle.plan_json.specs.Data.{PlanData}
-use Rattle.plan_rows.specs.Plates.{file_of, plate_rows}
+use Rattle.plan_rows.specs.Plates.{file_of, plate_rows, site_files}
 use Rattle.plate_bytes.specs.Places.{row_holding}
 use Rattle.plate_verify.specs.Difference.{difference_of}
 use Rattle.plate_verify.specs.Order.{SitePlate, plates_in_order}
@@ -45,3 +45,9 @@ wrongs plan rows out held = filter_map (wrong_at plan rows out held) (plates_in_
 unfoldable pub first_wrong : PlanData → List (List ℕ) → List ℕ → List (List ℕ × List ℕ) → Found
 first_wrong plan rows out held =
     unwrap_or (slice_get (wrongs plan rows out held) 0) (AllRight (length (plates_in_order plan)))
+
+-- each file of each site is held with its bytes
+abbrev pub AreHeld : PlanData → List (List ℕ) → List ℕ → List (List ℕ × List ℕ) → Type 0
+AreHeld plan rows out held =
+    (site : ℕ) → site < length plan.sites
+    → All (λ file. held_at held file.0 ≡ Some file.1) (site_files plan rows out site)

@@ -4,6 +4,8 @@
 
 mod checked;
 mod difference;
+mod laws;
 
 pub use checked::{Checked, VerifyFault};
 pub use difference::first_difference;
+pub use laws::same_is_a_yes;
