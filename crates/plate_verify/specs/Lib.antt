@@ -1,3 +1,4 @@
 pub mod Difference
+pub mod Looking
 pub mod Order
 pub mod Wrong

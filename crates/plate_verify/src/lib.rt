@@ -5,6 +5,7 @@
 mod checked;
 mod difference;
 mod laws;
+mod look;
 
 pub use checked::{Checked, VerifyFault};
 pub use difference::first_difference;
