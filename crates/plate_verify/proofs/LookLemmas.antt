@@ -50,7 +50,7 @@ pub made_ends : (plan : PlanData) (rows : List (List ℕ)) (plate : PlateOf) (ma
 unfolding whole
 made_ends plan rows plate made is = ap {A = PlateState} (λ p. p.ends) is
 
-if_held : (held : Option (List (List ℕ × List ℕ))) (P Q : List (List ℕ × List ℕ) → Type 0) → IfSome held P → ((files : List (List ℕ × List ℕ)) → P files → Q files) → IfSome held Q
+pub if_held : (held : Option (List (List ℕ × List ℕ))) (P Q : List (List ℕ × List ℕ) → Type 0) → IfSome held P → ((files : List (List ℕ × List ℕ)) → P files → Q files) → IfSome held Q
 if_held None P Q h gives = tt
 if_held (Some files) P Q h gives = gives files h
 

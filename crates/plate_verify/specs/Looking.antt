@@ -14,8 +14,8 @@ use Rattle.plate_verify.specs.declared.checked.Checked.{Checked}
 use Rattle.plate_verify.specs.declared.checked.Checked.TheVariants.{Same, Differs, Long}
 use Rattle.plate_verify.specs.declared.checked.VerifyFault.{VerifyFault}
 use Rattle.plate_verify.specs.declared.checked.VerifyFault.TheVariants.{Shelf, Memory}
-use Rattle.plate_verify.specs.Order.{SitePlate, plate_sites}
-use Rattle.plate_verify.specs.Wrong.{Found, AllRight, OtherAt, TooMany, wrong_at}
+use Rattle.plate_verify.specs.Order.{SitePlate, plate_sites, plates_in_order}
+use Rattle.plate_verify.specs.Wrong.{Found, AllRight, OtherAt, TooMany, wrong_at, first_wrong}
 
 -- what an answer tells
 abbrev pub told : Checked → Found
@@ -104,3 +104,14 @@ group_sites plan group = flat_map (λ ink. plate_sites plan (group, ink)) (inks_
 pub record AreMade (plan : PlanData) (rows : List (List ℕ)) (group : Group) (made : List PlateState) : Type 0 where
   pub each : (i : ℕ) (ink : Ink) (plate : PlateState) → slice_get (inks_of group) i ≡ Some ink
       → slice_get made i ≡ Some plate → IsMade plan rows (group, ink) plate
+
+-- what comes of looking at all plates
+pub record Verified (plan : PlanData) (rows : List (List ℕ)) (out : List ℕ) (old new : ShelfTold) (checked : Checked) : Type 0 where
+  pub quiet : IsQuiet old new
+  pub first : IfSome old.held (λ files. first_wrong plan rows out files ≡ told checked)
+  pub long : IfLong checked (Rose old.longs new.longs)
+
+abbrev pub AfterAll : PlanData → List (List ℕ) → List ℕ → ShelfTold → ShelfTold → Result Checked VerifyFault → Type 0
+AfterAll plan rows out old new (Ok checked) = Verified plan rows out old new checked
+AfterAll plan rows out old new (Err (Shelf path)) = FailsAt plan rows out (plates_in_order plan) old new path
+AfterAll plan rows out old new (Err Memory) = IsQuiet old new

@@ -3,10 +3,15 @@
 #![tactic(auto)]
 
 mod checked;
+mod count;
 mod difference;
+mod edition;
+mod group;
 mod laws;
 mod look;
+mod making;
 
 pub use checked::{Checked, VerifyFault};
 pub use difference::first_difference;
+pub use edition::verify;
 pub use laws::same_is_a_yes;

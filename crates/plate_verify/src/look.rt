@@ -63,7 +63,7 @@ fn look_at<H: Shelf>(
 }
 
 /// Whether a site prints the plates of a group.
-fn has(group: &Group, site: usize) -> bool
+pub(crate) fn has(group: &Group, site: usize) -> bool
     requires { site < 16 }
     ensures { result ≡ has_site group.now site }
 {
@@ -71,7 +71,7 @@ fn has(group: &Group, site: usize) -> bool
 }
 
 /// The number of sites.
-fn site_count(plan: &Plan) -> usize
+pub(crate) fn site_count(plan: &Plan) -> usize
     ensures count { result ≡ length plan.now.sites }
     ensures within { result ≤ 16 }
 {
@@ -154,8 +154,9 @@ pub(crate) fn look_at_group<H: Shelf>(
 }
 
 /// How many inks a group has.
-fn ink_number(group: &Group) -> usize
-    ensures { result ≡ ink_count group.now }
+pub(crate) fn ink_number(group: &Group) -> usize
+    ensures count { result ≡ ink_count group.now }
+    ensures within { result ≤ 5 }
 {
     group.inks().len()
 }

@@ -23,5 +23,5 @@ returns-in-Err g c = λ rows made.
 
 pub returns : goal.returns
 returns g c = λ rows made.
-    let past : length (inks_of c.args.group.now) ≤ c.loop-i.i = omega (arith, c.ink_number-i-end.ensures) in
+    let past : length (inks_of c.args.group.now) ≤ c.loop-i.i = omega (arith, c.ink_number-i-end.ensures.count) in
     inks_all c.args.plan.now rows c.args.out.now c.args.group.now c.loop-i.i (shelf_told g.H.Shelf c.args.shelf.now) (shelf_told g.H.Shelf c.loop-i.shelf) past (c.loop-i.invariant rows made)
