@@ -139,8 +139,8 @@ impl PlateBytes {
         &self.bytes
     }
 
-    /// The row whose packing holds the byte at a place. None is before byte 8 and none from the end of the rows
-    /// on, so the byte that makes the directory's place even and all behind it belong to no row.
+    /// The row whose packing holds the byte at a place. None is before byte 8 and none from the end of the
+    /// rows on, so the byte that makes the directory's place even and all behind it belong to no row.
     #[tactic(auto, using(crate::proofs::Seams::seams))]
     pub fn row_of(&self, at: u64) -> Option<u32>
         ensures { (rows : List (List ℕ)) → self.now.ends ≡ row_ends rows → result ≡ row_holding rows at }

@@ -14,7 +14,8 @@ pub record Sides : Type 0 where
 -- each of these plates has these sides
 pub record HaveSides (sides : Sides) (plates : List PlateState) : Type 0 where
   pub width : (i : ℕ) (d : PlateState) → i < length plates → (slice_index_or plates i d).width ≡ sides.width
-  pub height : (i : ℕ) (d : PlateState) → i < length plates → (slice_index_or plates i d).height ≡ sides.height
+  pub height : (i : ℕ) (d : PlateState) → i < length plates
+      → (slice_index_or plates i d).height ≡ sides.height
   pub dpi : (i : ℕ) (d : PlateState) → i < length plates → (slice_index_or plates i d).dpi ≡ sides.dpi
 
 -- plate i has these rows so far
@@ -28,7 +29,8 @@ pub record AreWhole (sides : Sides) (rows : ℕ → List (List ℕ)) (plates : L
       → slice_index_or plates i d ≡ whole sides.width sides.height sides.dpi (rows i)
 
 -- a plate has these rows, and the frame of its next row is the next of a feed
-pub record TakesNext (plate : PlateState) (left : List (List ℕ)) (len : ℕ) (rows : List (List ℕ)) (row : List ℕ) (rest : List (List ℕ)) : Type 0 where
+pub record TakesNext (plate : PlateState) (left : List (List ℕ)) (len : ℕ) (rows : List (List ℕ))
+    (row : List ℕ) (rest : List (List ℕ)) : Type 0 where
   pub has : HasRows plate rows
   pub more : length rows < plate.height
   pub size : length row ≡ row_size plate.width
@@ -43,7 +45,8 @@ pub record CanTakeNext (plate : PlateState) (left : List (List ℕ)) (len : ℕ)
   pub takes : TakesNext plate left len rows row rest
 
 -- plate i has these rows, and the frames of these next rows are the next of a feed
-pub record EachTakes (plates : List PlateState) (left : List (List ℕ)) (len : ℕ) (sides : Sides) (rows : ℕ → List (List ℕ)) (next : List (List ℕ)) : Type 0 where
+pub record EachTakes (plates : List PlateState) (left : List (List ℕ)) (len : ℕ) (sides : Sides)
+    (rows : ℕ → List (List ℕ)) (next : List (List ℕ)) : Type 0 where
   pub have : HaveRows sides rows plates
   pub feeds : left ≡ map frame_of next
   pub enough : length plates ≤ length next
@@ -64,7 +67,8 @@ abbrev pub turn_rows : ℕ → List (List ℕ) → ℕ → ℕ → List (List �
 turn_rows k next y i = map (λ z. slice_index_or next (z * k + i) []) (range_with_len 0 y)
 
 -- plates of these sides, and the frames of all their rows are the next of a feed
-pub record AreFed (plates : List PlateState) (left : List (List ℕ)) (len : ℕ) (sides : Sides) (next : List (List ℕ)) : Type 0 where
+pub record AreFed (plates : List PlateState) (left : List (List ℕ)) (len : ℕ) (sides : Sides)
+    (next : List (List ℕ)) : Type 0 where
   pub have : HaveSides sides plates
   pub feeds : left ≡ map frame_of next
   pub enough : sides.height * length plates ≤ length next

@@ -12,7 +12,8 @@ SitePlate = ℕ × PlateOf
 
 -- one plate at each site that has it, in the order of the sites
 abbrev pub plate_sites : PlanData → PlateOf → List SitePlate
-plate_sites plan plate = map (λ site. (site, plate)) (filter (has_site plate.0) (range_with_len 0 (length plan.sites)))
+plate_sites plan plate = map (λ site. (site, plate)) (filter (has_site plate.0) (range_with_len 0
+    (length plan.sites)))
 
 -- all plates of all sites: group by group, ink by ink, and site by site
 unfoldable pub plates_in_order : PlanData → List SitePlate

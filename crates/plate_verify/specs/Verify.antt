@@ -19,7 +19,8 @@ abbrev pub sides_of : PlanData → Sides
 sides_of plan = record { width = plate_width plan; height = plate_height plan; dpi = plan.dpi }
 
 -- plates in memory for the plates of a plan, and the frames of these rows from a number on are the next of a feed
-pub record FedFrom (plan : PlanData) (rows : List (List ℕ)) (number : ℕ) (plates : List PlateState) (left : List (List ℕ)) (len : ℕ) : Type 0 where
+pub record FedFrom (plan : PlanData) (rows : List (List ℕ)) (number : ℕ) (plates : List PlateState)
+    (left : List (List ℕ)) (len : ℕ) : Type 0 where
   pub have : HaveSides (sides_of plan) plates
   pub five : 5 ≤ length plates
   pub feeds : left ≡ map frame_of (drop number rows)
@@ -28,11 +29,13 @@ pub record FedFrom (plan : PlanData) (rows : List (List ℕ)) (number : ℕ) (pl
   pub frame : len ≡ frame_size (row_size (plate_width plan))
 
 -- the rows of a group are the next
-pub record FedGroup (plan : PlanData) (rows : List (List ℕ)) (group : Group) (plates : List PlateState) (left : List (List ℕ)) (len : ℕ) : Type 0 where
+pub record FedGroup (plan : PlanData) (rows : List (List ℕ)) (group : Group)
+    (plates : List PlateState) (left : List (List ℕ)) (len : ℕ) : Type 0 where
   pub fed : FedFrom plan rows group.first plates left len
   pub enough : group.first + plate_height plan * ink_count group ≤ length rows
 
-pub record CanMakeGroup (plan : PlanData) (group : Group) (plates : List PlateState) (left : List (List ℕ)) (len : ℕ) : Type 0 where
+pub record CanMakeGroup (plan : PlanData) (group : Group) (plates : List PlateState) (left : List
+    (List ℕ)) (len : ℕ) : Type 0 where
   pub rows : List (List ℕ)
   pub fed : FedGroup plan rows group plates left len
 
@@ -43,7 +46,8 @@ IfShelf (Err (Shelf path)) P = P path
 IfShelf (Err Memory) P = Unit {0}
 
 -- the frames of all rows of a plan are to come
-pub record CanBeLooked (plan : PlanData) (plates : List PlateState) (left : List (List ℕ)) (len : ℕ) : Type 0 where
+pub record CanBeLooked (plan : PlanData) (plates : List PlateState) (left : List (List ℕ))
+    (len : ℕ) : Type 0 where
   pub rows : List (List ℕ)
   pub fed : FedFrom plan rows 0 plates left len
   pub all : length rows ≡ row_total (rows_of plan)

@@ -32,7 +32,8 @@ wrong_with file rows (Some bytes) =
     else option_map (λ at. OtherAt file.0 at (row_holding rows at)) (difference_of file.1 bytes)
 
 -- what is wrong with a plate of a site, out of all rows in order and what is held
-unfoldable pub wrong_at : PlanData → List (List ℕ) → List ℕ → List (List ℕ × List ℕ) → SitePlate → Option Found
+unfoldable pub wrong_at : PlanData → List (List ℕ) → List ℕ → List (List ℕ × List ℕ) → SitePlate
+    → Option Found
 wrong_at plan rows out held (site, plate) =
     let file = file_of plan rows out site plate in
     wrong_with file (plate_rows plan rows plate) (held_at held file.0)

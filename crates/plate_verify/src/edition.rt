@@ -116,7 +116,8 @@ fn check_all<F: RowFeed, H: Shelf>(
     shelf: &mut H,
 ) -> Result<Checked, VerifyFault>
     requires rows { rows.now ≡ rows_of plan.now }
-    requires frames { AreFrames (row_size (plate_width plan.now)) (map framed_row (F.left feed.old)) (F.left feed.old) }
+    requires frames { AreFrames (row_size (plate_width plan.now)) (map framed_row (F.left feed.old))
+        (F.left feed.old) }
     requires total { length (F.left feed.old) ≡ row_total rows.now }
     ensures { AfterAll plan.now (map framed_row (F.left feed.old)) out.now
         (shelf_told H.Shelf shelf.old) (shelf_told H.Shelf shelf.new) result }
@@ -160,9 +161,10 @@ fn answer(
     }
 }
 
-/// Whether the plates that a shelf holds below the folder `out` are those of a plan, whose rows the feed gives.
-/// The plates are loaded in the order group, ink, site, each once, up to the first that isn't right. Those of a
-/// group are made in memory of the packed rows of the feed, and compared in place with what is loaded.
+/// Whether the plates that a shelf holds below the folder `out` are those of a plan, whose rows the feed
+/// gives. The plates are loaded in the order group, ink, site, each once, up to the first that isn't right.
+/// Those of a group are made in memory of the packed rows of the feed, and compared in place with what is
+/// loaded.
 pub fn verify<F: RowFeed, H: Shelf>(
     alloc: Global,
     plan: &Plan,
@@ -172,7 +174,8 @@ pub fn verify<F: RowFeed, H: Shelf>(
     shelf: &mut H,
 ) -> Result<Checked, VerifyFault>
     requires rows { rows.now ≡ rows_of plan.now }
-    requires frames { AreFrames (row_size (plate_width plan.now)) (map framed_row (F.left feed.old)) (F.left feed.old) }
+    requires frames { AreFrames (row_size (plate_width plan.now)) (map framed_row (F.left feed.old))
+        (F.left feed.old) }
     requires total { length (F.left feed.old) ≡ row_total rows.now }
     ensures found { IfOk result (λ checked. IfSome (H.held shelf.old) (λ held.
         first_wrong plan.now (map framed_row (F.left feed.old)) out.now held ≡ told checked)) }

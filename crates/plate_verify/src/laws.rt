@@ -7,9 +7,9 @@ ghost use Rattle.tif_plate.specs.Plate.{plate_file};
 ghost use Rattle.plate_verify.specs.Order.{plates_in_order};
 ghost use Rattle.plate_verify.specs.Wrong.{AllRight, AreHeld, first_wrong, most_bytes};
 
-/// That no plate is wrong is a yes: it is so exactly where each file of each site is held with its bytes. The
-/// number told is then that of the plates of all sites. Of rows of at most 8,192 bytes, as those of each plan,
-/// no plate is longer than what is loaded of one, so none that is right is told as too long.
+/// That no plate is wrong is a yes: it is so exactly where each file of each site is held with its bytes.
+/// The number told is then that of the plates of all sites. Of rows of at most 8,192 bytes, as those of each
+/// plan, no plate is longer than what is loaded of one, so none that is right is told as too long.
 pub fn same_is_a_yes()
     ensures held { (plan : PlanData) (rows : List (List ℕ)) (out : List ℕ)
         (held : List (List ℕ × List ℕ)) (n : ℕ) →

@@ -1,5 +1,5 @@
-// Whether the plates that a shelf holds are those of an edition, and where the first of them that isn't begins
-// to differ.
+// Whether the plates that a shelf holds are those of an edition, and where the first of them that isn't
+// begins to differ.
 #![tactic(auto)]
 
 mod checked;

@@ -66,7 +66,8 @@ fn take_all<F: RowFeed>(
     frame: &mut [u8],
 ) -> Result<(), NoMemory>
     requires { CanTakeAll plates.old (F.left feed.old) (length frame.old) height }
-    ensures plates { OnOk result ((sides : Sides) (next : List (List ℕ)) → HaveRows sides (λ i. []) plates.old →
+    ensures plates { OnOk result ((sides : Sides) (next : List (List ℕ)) →
+        HaveRows sides (λ i. []) plates.old →
         AreFed plates.old (F.left feed.old) (length frame.old) sides next → height ≡ sides.height →
         AreFull sides (turn_rows (length plates.old) next height) plates.new) }
     ensures feed { OnOk result ((sides : Sides) (next : List (List ℕ)) → HaveRows sides (λ i. []) plates.old →
@@ -91,8 +92,8 @@ fn finish_all(plates: &mut [PlateBytes]) -> Result<(), NoMemory>
     Ok(())
 }
 
-/// Makes plates out of the next rows of a feed, of which one of each comes in turn. The memory of the plates is
-/// used again.
+/// Makes plates out of the next rows of a feed, of which one of each comes in turn. The memory of the plates
+/// is used again.
 pub(crate) fn make_plates<F: RowFeed>(
     plates: &mut [PlateBytes],
     height: u32,
