@@ -6,3 +6,4 @@ pub mod PageLemmas
 pub mod PlateLemmas
 pub mod KeptLemmas
 pub mod PickLemmas
+mod SmallJobs

@@ -24,9 +24,10 @@ pub record IsGroupOf (groups : List Group) (section pair site index : ℕ) : Typ
   pub pair_is : (group_in groups index).pair ≡ pair
   pub of_site : IsTrue (has_site (group_in groups index) site)
 
--- a group of another plan at one of its sites prints what has, but for the edition, the paths of the plates of
--- this group at this site
-pub record StandsFor (plan : PlanData) (site : ℕ) (group : Group) (other : PlanData) (its index : ℕ) : Type 0 where
+-- a group of another plan at one of its sites: but for the edition, its plates there have the paths of the plates
+-- of this group at this site
+pub record StandsFor (plan : PlanData) (site : ℕ) (group : Group) (other : PlanData) (its index : ℕ)
+    : Type 0 where
   pub site_within : its < length other.sites
   pub site_named : site_name other its ≡ site_name plan site
   pub within : index < length (groups_of other)
@@ -54,7 +55,8 @@ pub record AreKept (before after : JobData) (group : Group) (sites : ℕ) (row :
 -- the same of each of the first new groups
 pub record AreAllKept (before after : JobData) (groups : ℕ) (kept : List (List Bool)) : Type 0 where
   pub rows : (index : ℕ) → index < groups
-      → AreKept before after (group_at after.plan index) (length after.plan.sites) (slice_index_or kept index [])
+      → AreKept before after (group_at after.plan index) (length after.plan.sites)
+      (slice_index_or kept index [])
 
 -- both plans have one edition and the same settings, and screen the ink in this slot alike
 pub record IsAlike (before after : PlanData) (slot : ℕ) : Type 0 where

@@ -63,7 +63,8 @@ fn kept_sites(
     requires group { IsOfPlan after.now.plan.now group.now }
     requires sites { sites ≡ length after.now.plan.now.sites }
     requires few { sites ≤ 16 }
-    ensures { AreKept (job_of before.now) (job_of after.now) group.now (length after.now.plan.now.sites) result }
+    ensures { AreKept (job_of before.now) (job_of after.now) group.now
+        (length after.now.plan.now.sites) result }
 {
     let mut row = [false; SITES];
     for site in 0..sites {

@@ -15,8 +15,8 @@ use std::marker::Model;
 /// The slots of inks.
 const SLOTS: usize = 5;
 
-/// Which plates of a new job must be made, beside those of an old one, and which old ones are dropped. Of each
-/// new group they take as many bytes as a plan may have sites.
+/// Which plates of a new job must be made, beside those of an old one, and which old ones are dropped. They
+/// take a byte for each site that a plan may have, group by group of the new plan.
 #[derive(Debug, Drop)]
 pub struct Picks {
     alike: [bool; SLOTS],
