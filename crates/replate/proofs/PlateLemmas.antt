@@ -1,6 +1,6 @@
 -- Which plates a plan has, and which of them has a path.
 use Rattle.std.proofs.Common.{◌≡◌, ◌≢◌, ℕ, zero, suc, ◌<◌, Bool, true, false, cond, eqb, List, [], ◌∷◌, length, get_or, refl, ap, sym, zero-add, ◌∙◌, inl, inr, arith}
-use Rattle.std.specs.Prelude.{◌||◌}
+use Rattle.std.specs.Prelude.{◌||◌, Contains}
 use Rattle.std.specs.List.{enumerate_from, flat_map, list_any, range_with_len}
 use Rattle.std.specs.Str.{bytes_eq}
 use Rattle.std.specs.Cmp.Lexicographic.{bytes_decides}
@@ -54,6 +54,11 @@ slots_apart a b same = sym (ink_in-slot a) ∙ ap ink_in (eqb-true (slot_of a) (
 pub has_ink-at : (group : Group) (i : ℕ) (ink : Ink) → i < length (inks_of group) → ink ≡ get_or (inks_of group) i K → has_ink group ink ≡ true
 has_ink-at group i ink within is =
     list_any_at (λ other. eqb (slot_of other) (slot_of ink)) (inks_of group) i K within (eq-eqb _ _ (ap slot_of (sym is)))
+
+pub has_ink-in : (group : Group) (ink : Ink) → has_ink group ink ≡ true → Contains (inks_of group) ink
+has_ink-in group ink of_ink =
+    let at = some_at (λ other. eqb (slot_of other) (slot_of ink)) (inks_of group) ink of_ink in
+    (at.0, at.1, slots_apart (get_or (inks_of group) at.0 ink) ink at.2)
 
 -- ---- plates
 
