@@ -100,48 +100,46 @@ pair_at plan index within =
     get_or-enumerate_from 0 (groups_of plan) index (0, group_in [] 0) within
     ∙ ap {A = ℕ} {B = ℕ × Group} (λ n. (n, group_at plan index)) (zero-add index)
 
--- a plate that passes is one of all
-pub any_plate : (plan : PlanData) (test : PlateAt → Bool) (plate : PlateAt) → IsPlateOf plan plate → test plate ≡ true → list_any test (all_plates plan) ≡ true
-unfolding all_plates plates_of
-any_plate plan test plate is passes =
-    let groups = groups_of plan in
-    let pairs = enumerate_from 0 groups in
-    let group = group_at plan plate.group in
-    let pair_is : get_or pairs plate.group (0, group) ≡ (plate.group, group) =
-    get_or-enumerate_from 0 groups plate.group (0, group) is.group
-    ∙ ap {A = ℕ} {B = ℕ × Group} (λ n. (n, get_or groups plate.group group)) (zero-add plate.group) ∙ ap {A = Group} {B = ℕ × Group} (λ g. (plate.group, g)) (get_or_default groups plate.group is.group) in
-    let here : list_any test (plates_in plate.site (get_or pairs plate.group (0, group))) ≡ true =
-    ap (λ p. list_any test (plates_in plate.site p)) pair_is ∙ of_group test plate.site plate.group group plate.ink is.of_site is.of_ink passes in
-    let site : list_any test (plates_of plan plate.site) ≡ true =
+-- a plate that passes is one of those of its site
+pub any_of_site : (plan : PlanData) (test : PlateAt → Bool) (plate : PlateAt) → IsPlateOf plan plate → test plate ≡ true → list_any test (plates_of plan plate.site) ≡ true
+unfolding plates_of
+any_of_site plan test plate is passes =
+    let pairs = enumerate_from 0 (groups_of plan) in
     any-flat_map test (plates_in plate.site) pairs
-    ∙ list_any_at (λ p. list_any test (plates_in plate.site p)) pairs plate.group (0, group) (let low = is.group in omega (arith, length-enumerate_from 0 groups)) here in
+    ∙ list_any_at (λ p. list_any test (plates_in plate.site p)) pairs plate.group (0, group_in [] 0) (let low = is.group in omega (arith, length-enumerate_from 0 (groups_of plan)))
+    (ap (λ p. list_any test (plates_in plate.site p)) (pair_at plan plate.group is.group)
+    ∙ of_group test plate.site plate.group (group_at plan plate.group) plate.ink is.of_site is.of_ink passes)
+
+-- and one of those that passes is a plate of the site
+pub some_of_site : (plan : PlanData) (site : ℕ) (test : PlateAt → Bool) → site < length plan.sites → list_any test (plates_of plan site) ≡ true
+    → (plate : PlateAt) × IsPlateOf plan plate × (plate.site ≡ site) × (test plate ≡ true)
+unfolding plates_of
+some_of_site plan site test low is =
+    let pairs = enumerate_from 0 (groups_of plan) in
+    let at = some_at (λ p. list_any test (plates_in site p)) pairs (0, group_in [] 0) (sym (any-flat_map test (plates_in site) pairs) ∙ is) in
+    let within : at.0 < length (groups_of plan) = (let less = at.1 in omega (arith, length-enumerate_from 0 (groups_of plan))) in
+    let one = some_of_group test site at.0 (group_at plan at.0) (sym (ap (λ p. list_any test (plates_in site p)) (pair_at plan at.0 within)) ∙ at.2) in
+    (record { site = site; group = at.0; ink = one.0 }, record { site = low; group = within; of_site = one.1; of_ink = one.2 }, refl, one.3)
+
+-- the same of all plates
+pub any_plate : (plan : PlanData) (test : PlateAt → Bool) (plate : PlateAt) → IsPlateOf plan plate → test plate ≡ true → list_any test (all_plates plan) ≡ true
+unfolding all_plates
+any_plate plan test plate is passes =
     let sites = range_with_len 0 (length plan.sites) in
     any-flat_map test (plates_of plan) sites
     ∙ list_any_at (λ s. list_any test (plates_of plan s)) sites plate.site 0 (let low = is.site in omega (arith, length-range_with_len 0 (length plan.sites)))
-    (ap (λ s. list_any test (plates_of plan s)) (get_or-range_with_len 0 (length plan.sites) plate.site 0 is.site ∙ zero-add plate.site) ∙ site)
-  where
-    get_or_default : (groups : List Group) (i : ℕ) → i < length groups → get_or groups i (group_at plan plate.group) ≡ group_in groups i
-    get_or_default [] i within = absurd (omega arith)
-    get_or_default (g ∷ gs) zero within = refl
-    get_or_default (g ∷ gs) (suc i) within = get_or_default gs i (omega arith)
+    (ap (λ s. list_any test (plates_of plan s)) (get_or-range_with_len 0 (length plan.sites) plate.site 0 is.site ∙ zero-add plate.site)
+    ∙ any_of_site plan test plate is passes)
 
--- and one of all that passes is a plate
 pub some_plate : (plan : PlanData) (test : PlateAt → Bool) → list_any test (all_plates plan) ≡ true → (plate : PlateAt) × IsPlateOf plan plate × (test plate ≡ true)
-unfolding all_plates plates_of
+unfolding all_plates
 some_plate plan test is =
-    let groups = groups_of plan in
-    let pairs = enumerate_from 0 groups in
     let sites = range_with_len 0 (length plan.sites) in
-    let none : Group = group_in [] 0 in
-    let first = some_at (λ s. list_any test (plates_of plan s)) sites 0 (sym (any-flat_map test (plates_of plan) sites) ∙ is) in
-    let low : first.0 < length plan.sites = (let less = first.1 in omega (arith, length-range_with_len 0 (length plan.sites))) in
-    let site : list_any test (plates_of plan first.0) ≡ true =
-    sym (ap (λ s. list_any test (plates_of plan s)) (get_or-range_with_len 0 (length plan.sites) first.0 0 low ∙ zero-add first.0)) ∙ first.2 in
-    let second = some_at (λ p. list_any test (plates_in first.0 p)) pairs (0, none) (sym (any-flat_map test (plates_in first.0) pairs) ∙ site) in
-    let within : second.0 < length groups = (let less = second.1 in omega (arith, length-enumerate_from 0 groups)) in
-    let third = some_of_group test first.0 second.0 (group_at plan second.0)
-    (sym (ap (λ p. list_any test (plates_in first.0 p)) (get_or-enumerate_from 0 groups second.0 (0, none) within ∙ ap {A = ℕ} {B = ℕ × Group} (λ n. (n, get_or groups second.0 none)) (zero-add second.0))) ∙ second.2) in
-    (record { site = first.0; group = second.0; ink = third.0 }, record { site = low; group = within; of_site = third.1; of_ink = third.2 }, third.3)
+    let at = some_at (λ s. list_any test (plates_of plan s)) sites 0 (sym (any-flat_map test (plates_of plan) sites) ∙ is) in
+    let low : at.0 < length plan.sites = (let less = at.1 in omega (arith, length-range_with_len 0 (length plan.sites))) in
+    let one = some_of_site plan at.0 test low
+    (sym (ap (λ s. list_any test (plates_of plan s)) (get_or-range_with_len 0 (length plan.sites) at.0 0 low ∙ zero-add at.0)) ∙ at.2) in
+    (one.0, one.1, one.3)
 
 -- ---- paths
 

@@ -24,7 +24,7 @@ held before after new is unmade =
     (any_plate before.plan (λ plate. bytes_eq (path_below before.plan plate) (path_below after.plan new)) old old_is ((bytes_decides (path_below before.plan old) (path_below after.plan new)).1 path))))
 
 -- plates of one path have one recipe and one ink
-one_recipe : (job : JobData) (a b : PlateAt) → IsPlan job.plan → IsPlateOf job.plan a → IsPlateOf job.plan b → path_below job.plan a ≡ path_below job.plan b
+pub one_recipe : (job : JobData) (a b : PlateAt) → IsPlan job.plan → IsPlateOf job.plan a → IsPlateOf job.plan b → path_below job.plan a ≡ path_below job.plan b
     → (recipe_at job a ≡ recipe_at job b) × (a.ink ≡ b.ink)
 one_recipe job a b is a_is b_is path =
     let plan = job.plan in
