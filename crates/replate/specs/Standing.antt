@@ -24,8 +24,8 @@ pub record IsGroupOf (groups : List Group) (section pair site index : ℕ) : Typ
   pub pair_is : (group_in groups index).pair ≡ pair
   pub of_site : IsTrue (has_site (group_in groups index) site)
 
--- a group of another plan at one of its sites: but for the edition, its plates there have the paths of the plates
--- of this group at this site
+-- a group of another plan at one of its sites: but for the edition, its plates there have the paths of the
+-- plates of this group at this site
 pub record StandsFor (plan : PlanData) (site : ℕ) (group : Group) (other : PlanData) (its index : ℕ)
     : Type 0 where
   pub site_within : its < length other.sites

@@ -41,8 +41,8 @@ abbrev pub is_dropped_path : JobData → JobData → List ℕ → List ℕ → B
 is_dropped_path before after out path =
     list_any (λ old. bytes_eq (entry_of before out old).0 path) (dropped_of before.plan after.plan)
 
--- what a rack holds at a path that held the files of an old site, with the picked ones put in and those of the
--- dropped paths taken out
+-- what a rack holds at a path that held the files of an old site, with the picked ones put in and those of
+-- the dropped paths taken out
 abbrev pub remade_at : JobData → JobData → List ℕ → ℕ → ℕ → (PlateAt → Bool) → List ℕ → Option (List ℕ)
 remade_at before after out old_site site made path =
     option_or (held_in (picked_files after out site made) path)

@@ -16,8 +16,8 @@ pub fn replate_law()
         → IsPlateOf before.plan old → IsPlateOf after.plan new
         → path_below before.plan old ≡ path_below after.plan new
         → ¬ (MustMake before after new) → bytes_of_plate before old ≡ bytes_of_plate after new }
-    // A rack that held the files of an old site holds those of the new site of its name, path by path, where the
-    // entries that must be made were put in and the dropped ones taken out.
+    // A rack that held the files of an old site holds those of the new site of its name, path by path, where
+    // the entries that must be made were put in and the dropped ones taken out.
     ensures remade { (before after : JobData) (out path : List ℕ) (old_site site : ℕ) (made : PlateAt → Bool)
         → IsPlan before.plan → IsPlan after.plan
         → old_site < length before.plan.sites → site < length after.plan.sites
