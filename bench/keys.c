@@ -19,7 +19,7 @@ static int64_t now(void) {
     return (int64_t)t.tv_sec * 1000000000 + t.tv_nsec;
 }
 
-// The threshold of a column in row 3 of the Bayer matrix of side 8, 0 to 63.
+// The threshold of a column in row 6 of the Bayer matrix of side 8, 0 to 63.
 static int threshold(int x) {
     static const int row[8] = {15, 47, 7, 39, 13, 45, 5, 37};
     return row[x % 8];

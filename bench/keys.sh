@@ -8,13 +8,14 @@ set -eu
 here=$(cd "$(dirname "$0")" && pwd)
 folder=${1:-$(mktemp -d)}
 program=$folder/crates/bench_keys
-mkdir -p "$program/src" "$program/proofs/repeat"
+mkdir -p "$program/src" "$program/proofs/repeat" "$program/proofs/measure"
 cp "$here/../HANDLES" "$folder"
 lower='pr_base tif_packbits tif_dir tif_plate plan_words plan_parts plan_json plan_pages plan_rows'
 lower="$lower ring_core ring_rule ring_lanes ink_keys"
 : > "$folder/crates.txt"
 for crate in $lower; do
-    mkdir -p "$folder/crates/$crate"
+    rm -rf "$folder/crates/$crate"
+    mkdir "$folder/crates/$crate"
     (cd "$here/../crates/$crate" && tar cf - --exclude=out .) | tar xf - -C "$folder/crates/$crate"
     grep "^$crate:" "$here/../crates.txt" >> "$folder/crates.txt"
 done
@@ -184,6 +185,18 @@ use Rattle.bench_keys.proofs.repeat.Given as goal
 
 abbrev pub invariant-loop-n : goal.invariant-loop-n
 invariant-loop-n l = record { bounded : IsBounded l.counts l.n; same : l.counts ≡ record l.fn.counts { numbers = l.counts.numbers } }
+PROOF
+cat > "$program/proofs/measure/Answers.antt" <<'PROOF'
+use Rattle.std.proofs.Common.{◌≡◌, ℕ, List, length, ap, rules, ◌∙◌, arith}
+use Rattle.tif_packbits.specs.Frame.{frame_of, framed_row}
+use Rattle.tif_packbits.proofs.Frames.{framed_row-frame_of}
+use Rattle.bench_keys.proofs.measure.Goals as goal
+
+pub least-requires-clause-size : goal.least-requires-clause-size
+least-requires-clause-size g c =
+    let is : c.take-held.result.bytes ≡ frame_of c.args.row.now = search rules in
+    ap (λ (bytes : List ℕ). length (framed_row bytes)) is
+    ∙ ap length (framed_row-frame_of c.args.row.now (omega arith)) ∙ c.requires.size
 PROOF
 (cd "$program" && rt run -- /dev/null > "$folder/log" 2>&1) || { cat "$folder/log"; exit 1; }
 cc -O3 -march=x86-64-v2 -o "$folder/plain" "$here/keys.c"

@@ -150,6 +150,7 @@ fn unpack_front(frame: &[u8], width: u32, room: &mut [u8])
 }
 
 /// Unpacks the row of a frame, which is as long as what it fills.
+#[tactic(auto, using(crate::proofs::Adding::unpacked))]
 fn unpack(frame: &[u8], row: &mut [u8])
     requires frame { IsFrame frame.now }
     requires size { length (framed_row frame.now) ≡ length row.old }

@@ -134,8 +134,9 @@ const SMALL: &[u8] = br#"{"plan": 1, "edition": "E1", "dpi": 1200, "page": [8, 2
     "sections": [{"name": "A", "pages": ["p", "p"]}],
     "sites": [{"name": "OSLO"}]}"#;
 
-// 171 and 19 are 10101011 and 00010011. Of four keys each has four columns: 2 and 1 dots in the first four, 3 and
-// 2 in the next. Of three the first has columns 0 to 5, the second 6 to 10: 3 and 1 dots there, 2 and 2 here.
+// 171 and 19 are 10101011 and 00010011. Of four keys each has four columns: 2 and 1 dots in the first four, 3
+// and 2 in the next. Of three the first has columns 0 to 5, the second 6 to 10: 3 and 1 dots there, 2 and 2
+// here.
 #[test]
 fn rows_are_counted(rt: HostRuntime) -> Result<(), Fail> {
     let plan = read_plan(rt.alloc(), SMALL)?;
@@ -215,8 +216,8 @@ const TWO_PAIRS: &[u8] = br#"{"plan": 1, "edition": "E1", "dpi": 1200, "page": [
     "sections": [{"name": "A", "pages": ["p", "p", "p", "p"]}],
     "sites": [{"name": "OSLO"}]}"#;
 
-// The first bytes of the rows are 1 to 4, with dots at columns 7, 6, 6 and 7, and 5; columns 0 to 5 are of key 0,
-// 6 to 10 of key 1. Two rows are of each pair.
+// The first bytes of the rows are 1 to 4, with dots at columns 7, 6, 6 and 7, and 5. Columns 0 to 5 are of key
+// 0, 6 to 10 of key 1. Two rows are of each pair.
 #[test]
 fn a_turn_counts_rows_of_a_ring(rt: HostRuntime) -> Result<(), Fail> {
     let plan = read_plan(rt.alloc(), TWO_PAIRS)?;
