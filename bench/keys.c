@@ -1,8 +1,8 @@
 // Counts the dots of a packed row of 33,100 pixels in 32 keys as bench/keys.sh's program does, by a plain loop over
 // packets and one over words of eight bytes with masks at the edges of each key.
 // usage: keys make FILE   writes the four rows that are measured
-//        keys count FILE  prints for each the nanoseconds of processor time of a row, the least of twenty runs, and a sum
-//                         over its counts
+//        keys count FILE  prints for each the nanoseconds of processor time of a row, the least of twenty runs, and a
+//                         sum over its counts
 #include <stdint.h>
 #include <stdio.h>
 #include <stdlib.h>

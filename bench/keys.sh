@@ -1,8 +1,8 @@
 #!/usr/bin/env bash
-# Measures ink_keys beside a plain C loop with the same masks: a packed row of 33,100 pixels is unpacked and its dots are
-# added to 32 keys. The rows are a ramp with grain and a flat value, both screened by the Bayer matrix of side 8, a blank
-# row and a full one. Each program prints a line for each row: its name, the nanoseconds of processor time that a call
-# takes, the least of twenty runs, and a sum over the counts, which has to be the same.
+# Measures ink_keys beside a plain C loop with the same masks: a packed row of 33,100 pixels is unpacked and its dots
+# are added to 32 keys. The rows are a ramp with grain and a flat value, both screened by the Bayer matrix of side 8,
+# a blank row and a full one. Each program prints a line for each row: its name, the nanoseconds of processor time that
+# a row takes, the least of twenty runs, and a sum over the counts, which has to be the same.
 # usage: bench/keys.sh [FOLDER for the two programs]
 set -eu
 here=$(cd "$(dirname "$0")" && pwd)
@@ -184,7 +184,10 @@ use Rattle.ink_keys.specs.Counts.{IsBounded}
 use Rattle.bench_keys.proofs.repeat.Given as goal
 
 abbrev pub invariant-loop-n : goal.invariant-loop-n
-invariant-loop-n l = record { bounded : IsBounded l.counts l.n; same : l.counts ≡ record l.fn.counts { numbers = l.counts.numbers } }
+invariant-loop-n l = record {
+  bounded : IsBounded l.counts l.n;
+  same : l.counts ≡ record l.fn.counts { numbers = l.counts.numbers };
+}
 PROOF
 cat > "$program/proofs/measure/Answers.antt" <<'PROOF'
 use Rattle.std.proofs.Common.{◌≡◌, ℕ, List, length, ap, rules, ◌∙◌, arith}

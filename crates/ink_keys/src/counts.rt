@@ -84,7 +84,8 @@ impl Counts {
         add_dots(&self.row, &self.firsts, &mut self.numbers, start);
     }
 
-    /// The numbers of a group in an ink, key by key. All are zero where the group doesn't print it.
+    /// The numbers of a group in an ink, key by key. There are as many for each of the five inks, also where
+    /// the group doesn't print it.
     pub fn of(&self, group: usize, ink: Ink) -> &[u64]
         requires { group < self.now.groups }
         ensures count { length result.now ≡ self.now.keys }
