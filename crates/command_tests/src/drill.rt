@@ -1,5 +1,5 @@
 // Drills. Their texts are those of check/drill.py, which works by the definitions alone.
-use crate::room::{CALM, assert_left, left_by};
+use crate::room::{CALM, Want, check, does};
 use std::process::Abort;
 use std::thread::Threads;
 
@@ -42,7 +42,11 @@ dots S2 10496538
 dots S3 10466308
 ";
 
-const WORDS: &str = "plateroom: words\n";
+const WORDS: Want<'static> = Want {
+    status: 2,
+    out: &[],
+    line: "plateroom: words\n",
+};
 
 // The drill of 7 over rings of 64, 1, 2, 64 and 1,024 places.
 const RINGS: [&[&str]; 5] = [
@@ -63,47 +67,41 @@ const NONE: [&[&str]; 6] = [
     &["drill", "7", "64", "1024", "7"],
 ];
 
-// A drill of these words leaves this status, this text and this line, and the racks take nothing.
-fn assert_drills<R: Abort + AllocGlobal + Threads + Sync>(
-    rt: &R,
-    words: &[&str],
-    status: u8,
-    text: &str,
-    line: &str,
-) {
-    let left = left_by(rt, words, &[], CALM);
-    assert_left(rt, &left, status, text.as_bytes(), line);
-    for rack in &left.racks {
-        assert!(rt; rack.files().is_empty());
-        assert!(rt; rack.taken().is_empty());
-    }
+// A drill of these words prints this text.
+fn prints<R: Abort + AllocGlobal + Threads + Sync>(rt: &R, words: &[&str], text: &str) -> bool {
+    let want = Want {
+        status: 0,
+        out: text.as_bytes(),
+        line: "",
+    };
+    does(rt, words, &[], CALM, &want)
 }
 
 #[test]
 fn prints_the_same_over_every_ring(rt: HostRuntime) {
-    for words in RINGS {
-        assert_drills(&rt, words, 0, SEVEN, "");
+    for (n, words) in RINGS.iter().enumerate() {
+        check(&rt, n, prints(&rt, words, SEVEN));
     }
 }
 
 #[test]
 fn drills_the_least(rt: HostRuntime) {
-    assert_drills(&rt, &["drill", "0"], 0, LEAST, "");
+    assert!(rt; prints(&rt, &["drill", "0"], LEAST));
 }
 
 #[test]
 fn drills_the_largest(rt: HostRuntime) {
-    assert_drills(&rt, &["drill", "127"], 0, LARGEST, "");
+    assert!(rt; prints(&rt, &["drill", "127"], LARGEST));
 }
 
 #[test]
 fn drills_the_last(rt: HostRuntime) {
-    assert_drills(&rt, &["drill", "4294967295"], 0, LAST, "");
+    assert!(rt; prints(&rt, &["drill", "4294967295"], LAST));
 }
 
 #[test]
 fn refuses_words_that_are_no_drill(rt: HostRuntime) {
-    for words in NONE {
-        assert_drills(&rt, words, 2, "", WORDS);
+    for (n, words) in NONE.iter().enumerate() {
+        check(&rt, n, does(&rt, words, &[], CALM, &WORDS));
     }
 }

@@ -2,46 +2,79 @@
 ghost use Rattle.std.specs.Prelude.{None};
 
 use crate::files::{PLATE, patch, plain};
-use crate::room::{CALM, ONE, assert_left, command, left_by, racks, shelf, sink};
+use crate::room::{CALM, ONE, Want, check, does, shelf, sink, tells};
 use pr_ports::{LoadFault, Shelf, Sink, SinkFault};
 use std::process::Abort;
 use std::thread::Threads;
 
-const WORDS: &str = "plateroom: words\n";
+// Words that are no command.
+const WORDS: Want<'static> = Want {
+    status: 2,
+    out: &[],
+    line: "plateroom: words\n",
+};
 
-// Words, the calls of shelf, output and note that fail, and what is left: the status, the output, which takes
-// a plate in one call, and the note.
-const CASES: [(&[&str], [Option<u64>; 3], u8, &[u8], &str); 11] = [
-    (&[], CALM, 2, &[], WORDS),
-    (&["one"], CALM, 2, &[], WORDS),
-    (&["one", ""], CALM, 2, &[], WORDS),
-    (&["one", "a.tif", "b.tif"], CALM, 2, &[], WORDS),
-    (&["two", "a.tif"], CALM, 2, &[], WORDS),
-    (&["One", "a.tif"], CALM, 2, &[], WORDS),
-    (&["one", "b.tif"], CALM, 5, &[], "plateroom: shelf: b.tif\n"),
-    (&["one", "a.tif"], CALM, 0, &PLATE, ""),
-    (
-        &["one", "a.tif"],
-        [Some(0), None, None],
-        5,
-        &[],
-        "plateroom: shelf: a.tif\n",
-    ),
-    (&["one", "a.tif"], [None, Some(0), None], 7, &[], ""),
-    (&[], [None, None, Some(0)], 7, &[], ""),
+// The output or the note failed.
+const FAILED: Want<'static> = Want {
+    status: 7,
+    out: &[],
+    line: "",
+};
+
+const PRINTED: Want<'static> = Want {
+    status: 0,
+    out: &PLATE,
+    line: "",
+};
+
+// The shelf lacks a file or failed at it.
+const NO_A: Want<'static> = Want {
+    status: 5,
+    out: &[],
+    line: "plateroom: shelf: a.tif\n",
+};
+
+const NO_B: Want<'static> = Want {
+    status: 5,
+    out: &[],
+    line: "plateroom: shelf: b.tif\n",
+};
+
+// Words, the calls of shelf, output and note that fail, and what is wanted. The output takes a plate in one
+// call.
+const CASES: [(&[&str], [Option<u64>; 3], Want<'static>); 11] = [
+    (&[], CALM, WORDS),
+    (&["one"], CALM, WORDS),
+    (&["one", ""], CALM, WORDS),
+    (&["one", "a.tif", "b.tif"], CALM, WORDS),
+    (&["two", "a.tif"], CALM, WORDS),
+    (&["One", "a.tif"], CALM, WORDS),
+    (&["one", "b.tif"], CALM, NO_B),
+    (&["one", "a.tif"], CALM, PRINTED),
+    (&["one", "a.tif"], [Some(0), None, None], NO_A),
+    (&["one", "a.tif"], [None, Some(0), None], FAILED),
+    (&[], [None, None, Some(0)], FAILED),
 ];
+
+fn check_cases<R: Abort + AllocGlobal + Threads + Sync>(rt: &R, file: &[u8]) {
+    for (n, case) in CASES.iter().enumerate() {
+        check(rt, n, does(rt, case.0, file, case.1, &case.2));
+    }
+}
 
 #[test]
 fn tells_what_is_wrong_and_what_failed(rt: HostRuntime) {
-    let file = plain(&rt);
-    for (words, failing, status, out, note) in CASES {
-        assert_left(&rt, &left_by(&rt, words, &file, failing), status, out, note);
-    }
+    check_cases(&rt, &plain(&rt));
 }
 
 // Over this file `one` prints nothing, and tells this line.
 fn assert_refuses<R: Abort + AllocGlobal + Threads + Sync>(rt: &R, file: &[u8], line: &str) {
-    assert_left(rt, &left_by(rt, &ONE, file, CALM), 4, &[], line);
+    let want = Want {
+        status: 4,
+        out: &[],
+        line,
+    };
+    assert!(rt; does(rt, &ONE, file, CALM, &want));
 }
 
 // The first 100 bytes hold no whole directory.
@@ -97,36 +130,16 @@ impl Sink for FullSink {
 
 #[test]
 fn refuses_a_file_that_is_too_long(rt: HostRuntime) {
-    let mut racks = racks(&rt);
+    let mut shelf = LongShelf { longs: 0 };
     let mut out = sink(&rt, None);
-    let mut note = sink(&rt, None);
-    let status = command(
-        &rt,
-        &ONE,
-        &mut LongShelf { longs: 0 },
-        racks.as_mut_slice(),
-        &mut out,
-        &mut note,
-    );
-    assert_eq!(rt; status, 4);
-    assert_eq!(rt; out.bytes(), b"".as_slice());
     let line = "plateroom: file a.tif: tag 0: too long\n";
-    assert_eq!(rt; note.bytes(), line.as_bytes());
+    assert!(rt; tells(&rt, &ONE, &mut shelf, &mut out, None, 4, line));
+    assert!(rt; out.bytes().is_empty());
 }
 
 #[test]
 fn tells_of_an_output_without_memory(rt: HostRuntime) {
     let mut shelf = shelf(&rt, &plain(&rt), None);
-    let mut racks = racks(&rt);
-    let mut note = sink(&rt, None);
-    let status = command(
-        &rt,
-        &ONE,
-        &mut shelf,
-        racks.as_mut_slice(),
-        &mut FullSink,
-        &mut note,
-    );
-    assert_eq!(rt; status, 6);
-    assert_eq!(rt; note.bytes(), b"plateroom: memory\n".as_slice());
+    let line = "plateroom: memory\n";
+    assert!(rt; tells(&rt, &ONE, &mut shelf, &mut FullSink, None, 6, line));
 }

@@ -1,13 +1,18 @@
 // The plates that `one` prints, byte for byte.
 use crate::files::{FORM, PLATE, append, blacks, four_by_one, image, patch, plain, plate_of};
-use crate::room::{CALM, ONE, assert_left, left_by};
+use crate::room::{CALM, ONE, Want, does};
 use std::process::Abort;
 use std::thread::Threads;
 use tif_make::{Compression, ImageForm, Order, Planar};
 
 // Over this file `one` prints this plate, and tells nothing.
 fn assert_prints<R: Abort + AllocGlobal + Threads + Sync>(rt: &R, file: &[u8], plate: &[u8]) {
-    assert_left(rt, &left_by(rt, &ONE, file, CALM), 0, plate, "");
+    let want = Want {
+        status: 0,
+        out: plate,
+        line: "",
+    };
+    assert!(rt; does(rt, &ONE, file, CALM, &want));
 }
 
 // The forms of a file: plain, packed, planar, and most significant byte first.

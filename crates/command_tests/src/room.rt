@@ -16,15 +16,6 @@ pub const ONE: [&str; 2] = ["one", "a.tif"];
 /// Which calls fail: of the shelf, of the output, and of the note. None does.
 pub const CALM: [Option<u64>; 3] = [None; 3];
 
-/// What a command leaves.
-#[derive(Drop)]
-pub struct Left {
-    pub status: u8,
-    pub out: MemSink,
-    pub note: MemSink,
-    pub racks: Vec<MemRack>,
-}
-
 // The number of a call, where there is one.
 fn calls<R: Abort + AllocGlobal>(rt: &R, call: Option<u64>) -> Vec<u64> {
     let mut calls = Vec::new(rt.alloc());
@@ -106,37 +97,61 @@ pub fn command<T: Abort + AllocGlobal + Threads + Sync, H: Shelf, S: Sink, E: Si
     answer(rt, rt.alloc(), words.as_slice(), shelf, racks, out, note)
 }
 
-/// What a command of these words leaves, with this file on the shelf.
-pub fn left_by<R: Abort + AllocGlobal + Threads + Sync>(
+/// No rack took a row or has a file.
+fn are_empty(racks: &[MemRack]) -> bool {
+    racks
+        .iter()
+        .all(|rack| rack.files().is_empty() && rack.taken().is_empty())
+}
+
+/// Whether a command of these words, with a note of which this call fails, ends with this status and this
+/// line, and leaves the racks alone.
+pub fn tells<R: Abort + AllocGlobal + Threads + Sync, H: Shelf, S: Sink>(
+    rt: &R,
+    words: &[&str],
+    shelf: &mut H,
+    out: &mut S,
+    failing: Option<u64>,
+    status: u8,
+    line: &str,
+) -> bool {
+    let mut racks = racks(rt);
+    let mut note = sink(rt, failing);
+    let ended = command(rt, words, shelf, racks.as_mut_slice(), out, &mut note);
+    ended == status && note.bytes() == line.as_bytes() && are_empty(racks.as_slice())
+}
+
+/// What is wanted of a command: its status, what it wrote, and its line.
+#[derive(Clone, Copy)]
+pub struct Want<'a> {
+    pub status: u8,
+    pub out: &'a [u8],
+    pub line: &'a str,
+}
+
+/// Whether a command of these words, with this file on the shelf, does what is wanted.
+pub fn does<R: Abort + AllocGlobal + Threads + Sync>(
     rt: &R,
     words: &[&str],
     file: &[u8],
     failing: [Option<u64>; 3],
-) -> Left {
+    want: &Want<'_>,
+) -> bool {
     let [shelf_call, out_call, note_call] = failing;
     let mut shelf = shelf(rt, file, shelf_call);
-    let mut racks = racks(rt);
     let mut out = sink(rt, out_call);
-    let mut note = sink(rt, note_call);
-    let status = command(
+    tells(
         rt,
         words,
         &mut shelf,
-        racks.as_mut_slice(),
         &mut out,
-        &mut note,
-    );
-    Left {
-        status,
-        out,
-        note,
-        racks,
-    }
+        note_call,
+        want.status,
+        want.line,
+    ) && out.bytes() == want.out
 }
 
-/// A command left this status, this output and this note.
-pub fn assert_left(rt: &impl Abort, left: &Left, status: u8, out: &[u8], note: &str) {
-    assert_eq!(rt; left.status, status);
-    assert_eq!(rt; left.out.bytes(), out);
-    assert_eq!(rt; left.note.bytes(), note.as_bytes());
+/// Row `n` of a table holds.
+pub fn check(rt: &impl Abort, n: usize, holds: bool) {
+    assert!(rt; holds, "row {n}");
 }

@@ -1,9 +1,7 @@
 // Small editions: their plates byte for byte, and the rows that the racks of their sites took.
-use crate::files::{FORM, assert_files, assert_taken, four_by_one, image, pair, pixel, plate_of};
-use crate::room::{CALM, RUN, assert_left, left_by};
+use crate::files::{FORM, PAIR, four_by_one, image, pixel};
+use crate::room::{CALM, Plate, RUN, Want, runs};
 use ring_lanes::Source;
-use std::process::Abort;
-use std::thread::Threads;
 use tif_make::{ImageForm, Kind};
 
 /// Two pages, the second with one image at scale 2, for one site.
@@ -37,66 +35,137 @@ const DIFFUSED: &str =
 {"name":"p","inks":"K","layers":[{"kind":"contone","file":"a.tif","scale":4}]}],
 "sections":[{"name":"A","pages":["w","p"]}],"sites":[{"name":"OSLO"}]}"#;
 
-// The two pages, by a ring of so many places, make one plate of two rows.
-fn assert_two_pages<R: Abort + AllocGlobal + Threads + Sync>(rt: &R, words: &[&str], places: u32) {
-    let left = left_by(rt, words, TWO_PAGES, [&four_by_one(rt), &[]], CALM);
-    assert_left(rt, &left, 0, ONE_SITE, "");
-    let plate = pair(rt, [1, 0xAB, 0, 1, 0x13, 0]);
-    assert_eq!(rt; plate.len(), 180);
-    assert_files(rt, &left, 0, &[("OUT/OSLO/E1-A-001-K.tif", &plate)]);
-    let source = Source::Ring {
-        reader: 0,
-        readers: 1,
-        places,
-    };
-    assert_taken(rt, &left, 0, source, &[0, 1]);
-}
+/// Its plate.
+pub const TWO_PAGES_PLATE: Plate<'static> = Plate {
+    path: "OUT/OSLO/E1-A-001-K.tif",
+    rows: &[1, 0xAB, 0, 1, 0x13, 0],
+    changes: &PAIR,
+};
+
+const AT_64: Want<'static> = Want {
+    status: 0,
+    report: ONE_SITE,
+    line: "",
+    plates: &[&[TWO_PAGES_PLATE]],
+    taken: &[(
+        Source::Ring {
+            reader: 0,
+            readers: 1,
+            places: 64,
+        },
+        &[0, 1],
+    )],
+};
 
 #[test]
 fn runs_an_edition(rt: HostRuntime) {
-    assert_two_pages(&rt, &RUN, 64);
+    let file = four_by_one(&rt);
+    assert!(rt; runs(&rt, &RUN, TWO_PAGES, [&file, &[]], CALM, &AT_64));
 }
+
+const AT_1: Want<'static> = Want {
+    status: 0,
+    report: ONE_SITE,
+    line: "",
+    plates: &[&[TWO_PAGES_PLATE]],
+    taken: &[(
+        Source::Ring {
+            reader: 0,
+            readers: 1,
+            places: 1,
+        },
+        &[0, 1],
+    )],
+};
 
 // A ring of one place, and a turn that looks once.
 #[test]
 fn runs_at_one_place(rt: HostRuntime) {
-    assert_two_pages(&rt, &["run", "plan.json", "FILES", "OUT", "1", "1"], 1);
+    let words = ["run", "plan.json", "FILES", "OUT", "1", "1"];
+    let file = four_by_one(&rt);
+    assert!(rt; runs(&rt, &words, TWO_PAGES, [&file, &[]], CALM, &AT_1));
 }
 
-const TWO_SITES: &str = "site OSLO finished plates 2 rows 4
+const EMPTY: [u8; 6] = [1, 0, 0, 1, 0, 0];
+
+const ZONES: Want<'static> = Want {
+    status: 0,
+    report: "site OSLO finished plates 2 rows 4
 site BERGEN finished plates 2 rows 4
 total rows 6 sites 2
-";
-
-// The source of a site's rows where two sites share a ring of 64 places.
-fn ring(reader: u32) -> Source {
-    Source::Ring {
-        reader,
-        readers: 2,
-        places: 64,
-    }
-}
+",
+    line: "",
+    plates: &[
+        &[
+            Plate {
+                path: "OUT/OSLO/E1-A-001-K.tif",
+                rows: &EMPTY,
+                changes: &PAIR,
+            },
+            Plate {
+                path: "OUT/OSLO/E1-A-002-K.tif",
+                rows: &EMPTY,
+                changes: &PAIR,
+            },
+        ],
+        &[
+            Plate {
+                path: "OUT/BERGEN/E1-A-001-K.tif",
+                rows: &EMPTY,
+                changes: &PAIR,
+            },
+            Plate {
+                path: "OUT/BERGEN/E1-A-002-K.tif",
+                rows: &[1, 0, 0xAB, 1, 0, 0x13],
+                changes: &PAIR,
+            },
+        ],
+    ],
+    taken: &[
+        (
+            Source::Ring {
+                reader: 0,
+                readers: 2,
+                places: 64,
+            },
+            &[0, 1, 2, 3],
+        ),
+        (
+            Source::Ring {
+                reader: 1,
+                readers: 2,
+                places: 64,
+            },
+            &[0, 1, 4, 5],
+        ),
+    ],
+};
 
 // Two sites share the first pair and have a second one each.
 #[test]
 fn runs_zones(rt: HostRuntime) {
-    let left = left_by(&rt, &RUN, ZONED, [&four_by_one(&rt), &[]], CALM);
-    assert_left(&rt, &left, 0, TWO_SITES, "");
-    let empty = pair(&rt, [1, 0, 0, 1, 0, 0]);
-    let zoned = pair(&rt, [1, 0, 0xAB, 1, 0, 0x13]);
-    let oslo: [(&str, &[u8]); 2] = [
-        ("OUT/OSLO/E1-A-001-K.tif", &empty),
-        ("OUT/OSLO/E1-A-002-K.tif", &empty),
-    ];
-    let bergen: [(&str, &[u8]); 2] = [
-        ("OUT/BERGEN/E1-A-001-K.tif", &empty),
-        ("OUT/BERGEN/E1-A-002-K.tif", &zoned),
-    ];
-    assert_files(&rt, &left, 0, &oslo);
-    assert_files(&rt, &left, 1, &bergen);
-    assert_taken(&rt, &left, 0, ring(0), &[0, 1, 2, 3]);
-    assert_taken(&rt, &left, 1, ring(1), &[0, 1, 4, 5]);
+    let file = four_by_one(&rt);
+    assert!(rt; runs(&rt, &RUN, ZONED, [&file, &[]], CALM, &ZONES));
 }
+
+const SPOT_PLATES: Want<'static> = Want {
+    status: 0,
+    report: "site OSLO finished plates 2 rows 4\ntotal rows 4 sites 1\n",
+    line: "",
+    plates: &[&[
+        Plate {
+            path: "OUT/OSLO/E1-A-001-K.tif",
+            rows: &EMPTY,
+            changes: &PAIR,
+        },
+        Plate {
+            path: "OUT/OSLO/E1-A-001-S.tif",
+            rows: &[1, 0xF0, 0, 1, 0x0F, 0],
+            changes: &PAIR,
+        },
+    ]],
+    taken: &[],
+};
 
 #[test]
 fn runs_a_spot(rt: HostRuntime) {
@@ -108,31 +177,30 @@ fn runs_a_spot(rt: HostRuntime) {
         ..FORM
     };
     let line = image(&rt, &form, &[0xF0, 0x0F]);
-    let left = left_by(&rt, &RUN, SPOT, [&line, &[]], CALM);
-    let report = "site OSLO finished plates 2 rows 4\ntotal rows 4 sites 1\n";
-    assert_left(&rt, &left, 0, report, "");
-    let black = pair(&rt, [1, 0, 0, 1, 0, 0]);
-    let spot = pair(&rt, [1, 0xF0, 0, 1, 0x0F, 0]);
-    let files: [(&str, &[u8]); 2] = [
-        ("OUT/OSLO/E1-A-001-K.tif", &black),
-        ("OUT/OSLO/E1-A-001-S.tif", &spot),
-    ];
-    assert_files(&rt, &left, 0, &files);
+    assert!(rt; runs(&rt, &RUN, SPOT, [&line, &[]], CALM, &SPOT_PLATES));
 }
+
+const DIFFUSED_PLATE: Want<'static> = Want {
+    status: 0,
+    report: ONE_SITE,
+    line: "",
+    plates: &[&[Plate {
+        path: "OUT/OSLO/E1-A-001-K.tif",
+        rows: &[0, 0xA0, 0, 0x50],
+        changes: &[
+            (4, 12),
+            (22, 8),
+            (34, 2),
+            (118, 4),
+            (130, 0xA2),
+            (142, 0xAA),
+        ],
+    }]],
+    taken: &[],
+};
 
 #[test]
 fn runs_a_diffused_screen(rt: HostRuntime) {
     let file = pixel(&rt, [0, 0, 0, 128]);
-    let left = left_by(&rt, &RUN, DIFFUSED, [&file, &[]], CALM);
-    assert_left(&rt, &left, 0, ONE_SITE, "");
-    let changes = [
-        (4, 12),
-        (22, 8),
-        (34, 2),
-        (118, 4),
-        (130, 0xA2),
-        (142, 0xAA),
-    ];
-    let plate = plate_of(&rt, &[0, 0xA0, 0, 0x50], &changes);
-    assert_files(&rt, &left, 0, &[("OUT/OSLO/E1-A-001-K.tif", &plate)]);
+    assert!(rt; runs(&rt, &RUN, DIFFUSED, [&file, &[]], CALM, &DIFFUSED_PLATE));
 }

@@ -2,7 +2,8 @@
 ghost use Rattle.tif_make.specs.Form.{IsForm};
 ghost use Rattle.tif_make.specs.Made.{HasRows};
 
-use crate::room::Left;
+use crate::room::Plate;
+use pr_rack::MemRack;
 use ring_lanes::Source;
 use std::process::Abort;
 use tif_make::{Compression, ImageForm, Kind, Order, Planar, make_image};
@@ -81,37 +82,66 @@ pub fn plate_of<R: Abort + AllocGlobal>(rt: &R, rows: &[u8], changes: &[(usize, 
     plate
 }
 
-/// The plate of 16 by 2 pixels with two packed rows of three bytes.
-pub fn pair<R: Abort + AllocGlobal>(rt: &R, rows: [u8; 6]) -> Vec<u8> {
-    let changes = [
-        (4, 14),
-        (24, 16),
-        (36, 2),
-        (108, 0),
-        (109, 16),
-        (120, 6),
-        (132, 0xA4),
-        (144, 0xAC),
-    ];
-    plate_of(rt, &rows, &changes)
+/// What differs in the directory of 16 by 2 pixels with two packed rows of three bytes.
+pub const PAIR: [(usize, u8); 8] = [
+    (4, 14),
+    (24, 16),
+    (36, 2),
+    (108, 0),
+    (109, 16),
+    (120, 6),
+    (132, 0xA4),
+    (144, 0xAC),
+];
+
+fn is_plate<R: Abort + AllocGlobal>(rt: &R, bytes: &[u8], plate: &Plate<'_>) -> bool {
+    plate_of(rt, plate.rows, plate.changes).as_slice() == bytes
 }
 
-/// The rack of a site has these files.
-pub fn assert_files(rt: &impl Abort, left: &Left, site: usize, files: &[(&str, &[u8])]) {
-    let rack = left.racks.get(site).expect(rt, "a rack");
-    assert_eq!(rt; rack.files().len(), files.len());
-    for (kept, file) in rack.files().iter().zip(files) {
-        assert_eq!(rt; kept.0.as_str(), file.0);
-        assert_eq!(rt; kept.1.as_slice(), file.1);
+fn has_plates<R: Abort + AllocGlobal>(rt: &R, rack: &MemRack, plates: &[Plate<'_>]) -> bool {
+    if rack.files().len() != plates.len() {
+        return false;
     }
+    for (file, plate) in rack.files().iter().zip(plates) {
+        if file.0.as_str() != plate.path || !is_plate(rt, &file.1, plate) {
+            return false;
+        }
+    }
+    true
 }
 
-/// The rack of a site took the rows with these numbers, in this order, from this source.
-pub fn assert_taken(rt: &impl Abort, left: &Left, site: usize, source: Source, rows: &[u64]) {
-    let rack = left.racks.get(site).expect(rt, "a rack");
-    assert_eq!(rt; rack.taken().len(), rows.len());
+/// Whether racks, from the first on, have these plates and no other.
+pub fn have_plates<R: Abort + AllocGlobal>(
+    rt: &R,
+    racks: &[MemRack],
+    plates: &[&[Plate<'_>]],
+) -> bool {
+    for (rack, plates) in racks.iter().zip(plates) {
+        if !has_plates(rt, rack, plates) {
+            return false;
+        }
+    }
+    true
+}
+
+fn took_rows(rack: &MemRack, source: Source, rows: &[u64]) -> bool {
+    if rack.taken().len() != rows.len() {
+        return false;
+    }
     for (taken, row) in rack.taken().iter().zip(rows) {
-        assert_eq!(rt; taken.0, *row);
-        assert_eq!(rt; taken.1, source);
+        if taken.0 != *row || taken.1 != source {
+            return false;
+        }
     }
+    true
+}
+
+/// Whether racks, from the first on, took the rows with these numbers in this order from these sources.
+pub fn took(racks: &[MemRack], rows: &[(Source, &[u64])]) -> bool {
+    for (rack, (source, rows)) in racks.iter().zip(rows) {
+        if !took_rows(rack, *source, rows) {
+            return false;
+        }
+    }
+    true
 }

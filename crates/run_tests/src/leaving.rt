@@ -1,6 +1,5 @@
 // Sites that leave, since their racks fail.
-use crate::files::assert_files;
-use crate::room::{CALM, Failing, Left, RUN, assert_left, left_by};
+use crate::room::{CALM, Failing, Plate, RUN, Want, check, runs};
 use std::process::Abort;
 use std::thread::Threads;
 
@@ -8,11 +7,6 @@ use std::thread::Threads;
 const EMPTY: &str = r#"{"plan":1,"edition":"E1","dpi":1200,"page":[8,2],
 "pages":[{"name":"w","inks":"K","layers":[]}],
 "sections":[{"name":"A","pages":["w","w","w","w"]}],"sites":[{"name":"OSLO"},{"name":"BERGEN"}]}"#;
-
-// What a run leaves where these calls of the two racks fail.
-fn left_where<R: Abort + AllocGlobal + Threads + Sync>(rt: &R, racks: [Option<u64>; 2]) -> Left {
-    left_by(rt, &RUN, EMPTY, [&[], &[]], Failing { racks, ..CALM })
-}
 
 // The call of the second rack that fails, and then how many plates it has, at which row it left, in which
 // call and for which plate.
@@ -27,17 +21,48 @@ const CALLS: [(u64, u64, u64, &str, &str); 8] = [
     (7, 1, 3, "finish", "002"),
 ];
 
+// Whether a run where these calls of the two racks fail ends with this report, and with these plates.
+fn ends<R: Abort + AllocGlobal + Threads + Sync>(
+    rt: &R,
+    racks: [Option<u64>; 2],
+    report: &str,
+    plates: &[&[Plate<'_>]],
+) -> bool {
+    let want = Want {
+        status: 1,
+        report,
+        line: "",
+        plates,
+        taken: &[],
+    };
+    runs(
+        rt,
+        &RUN,
+        EMPTY,
+        [&[], &[]],
+        Failing { racks, ..CALM },
+        &want,
+    )
+}
+
+fn leaves<R: Abort + AllocGlobal + Threads + Sync>(
+    rt: &R,
+    case: &(u64, u64, u64, &str, &str),
+) -> bool {
+    let (call, plates, row, name, plate) = *case;
+    let report = format!(in rt.alloc();
+        "site OSLO finished plates 2 rows 4\n\
+        site BERGEN left plates {plates} row {row} call {name} \
+        file OUT/BERGEN/E1-A-{plate}-K.tif\ntotal rows 4 sites 2\n"
+    )
+    .expect(rt, "memory");
+    ends(rt, [None, Some(call)], report.as_str(), &[])
+}
+
 #[test]
 fn a_site_leaves(rt: HostRuntime) {
-    for (call, plates, row, name, plate) in CALLS {
-        let left = left_where(&rt, [None, Some(call)]);
-        let report = format!(in rt.alloc();
-            "site OSLO finished plates 2 rows 4\n\
-            site BERGEN left plates {plates} row {row} call {name} \
-            file OUT/BERGEN/E1-A-{plate}-K.tif\ntotal rows 4 sites 2\n"
-        )
-        .expect(&rt, "memory");
-        assert_left(&rt, &left, 1, report.as_str(), "");
+    for (n, case) in CALLS.iter().enumerate() {
+        check(&rt, n, leaves(&rt, case));
     }
 }
 
@@ -48,8 +73,5 @@ total rows 4 sites 2
 
 #[test]
 fn both_sites_leave(rt: HostRuntime) {
-    let left = left_where(&rt, [Some(0), Some(0)]);
-    assert_left(&rt, &left, 1, BOTH, "");
-    assert_files(&rt, &left, 0, &[]);
-    assert_files(&rt, &left, 1, &[]);
+    assert!(rt; ends(&rt, [Some(0), Some(0)], BOTH, &[&[], &[]]));
 }

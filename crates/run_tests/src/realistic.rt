@@ -3,9 +3,10 @@
 ghost use Rattle.std.specs.Prelude.{◌≡◌, length};
 
 use crate::files::image;
-use crate::room::{CALM, RUN, assert_left, left_by};
+use crate::room::{CALM, RUN, Want, racks, reports, shelf};
 use pr_rack::MemRack;
 use std::process::Abort;
+use std::thread::Threads;
 use tif_make::{Compression, ImageForm, Kind, Order, Planar};
 
 const PLAN: &str = r#"{"plan":1,"edition":"E1","dpi":1200,"page":[800,1200],"margins":[32,24,32,24],
@@ -57,44 +58,64 @@ fn picture<R: Abort + AllocGlobal>(rt: &R, planar: Planar, first: u8) -> Vec<u8>
     image(rt, &form, &samples(rt, first))
 }
 
-// The number at a place of a plate.
-fn number_at(rt: &impl Abort, plate: &[u8], at: usize) -> usize {
+// The number at a place of a plate, or 0.
+fn number_at(plate: &[u8], at: usize) -> usize {
     match plate.get(at..at.wrapping_add(4)) {
         Some([a, b, c, d]) => u32::from_le_bytes([*a, *b, *c, *d]) as usize,
-        _ => panic!(rt; "no number"),
+        _ => 0,
     }
 }
 
 // A plate's width, length, rows a strip, strips, the place of its first strip, and the bytes behind the
 // table of strips.
-fn sides_of(rt: &impl Abort, plate: &[u8]) -> [usize; 6] {
-    let at = number_at(rt, plate, 4);
+fn sides_of(plate: &[u8]) -> [usize; 6] {
+    let at = number_at(plate, 4);
     [
-        number_at(rt, plate, at.wrapping_add(10)),
-        number_at(rt, plate, at.wrapping_add(22)),
-        number_at(rt, plate, at.wrapping_add(94)),
-        number_at(rt, plate, at.wrapping_add(66)),
-        number_at(rt, plate, at.wrapping_add(166)),
+        number_at(plate, at.wrapping_add(10)),
+        number_at(plate, at.wrapping_add(22)),
+        number_at(plate, at.wrapping_add(94)),
+        number_at(plate, at.wrapping_add(66)),
+        number_at(plate, at.wrapping_add(166)),
         plate.len().wrapping_sub(at.wrapping_add(166 + 8 * 34)),
     ]
 }
 
 // A rack took each row of its site and has its eight plates.
-fn assert_rack(rt: &impl Abort, rack: &MemRack) {
-    assert_eq!(rt; rack.taken().len(), 9984);
-    assert_eq!(rt; rack.files().len(), 8);
+fn is_whole(rack: &MemRack) -> bool {
     for file in rack.files() {
-        assert_eq!(rt; sides_of(rt, &file.1), [1728, 1248, 37, 34, 8, 0]);
+        if sides_of(&file.1) != [1728, 1248, 37, 34, 8, 0] {
+            return false;
+        }
     }
+    rack.files().len() == 8 && rack.taken().len() == 9984
+}
+
+fn are_whole(racks: &[MemRack]) -> bool {
+    for rack in racks.iter().take(3) {
+        if !is_whole(rack) {
+            return false;
+        }
+    }
+    true
+}
+
+// Whether the run of these files ends as it should, and three racks are whole.
+fn makes_all<R: Abort + AllocGlobal + Threads + Sync>(rt: &R, first: &[u8], second: &[u8]) -> bool {
+    let want = Want {
+        status: 0,
+        report: REPORT,
+        line: "",
+        plates: &[],
+        taken: &[],
+    };
+    let mut shelf = shelf(rt, PLAN, first, second, None);
+    let mut racks = racks(rt, CALM.racks);
+    reports(rt, &RUN, &mut shelf, racks.as_mut_slice(), CALM, &want) && are_whole(racks.as_slice())
 }
 
 #[test]
 fn runs_a_realistic_edition(rt: HostRuntime) {
     let first = picture(&rt, Planar::Chunky, 0);
     let second = picture(&rt, Planar::Separate, 128);
-    let left = left_by(&rt, &RUN, PLAN, [&first, &second], CALM);
-    assert_left(&rt, &left, 0, REPORT, "");
-    for rack in left.racks.iter().take(3) {
-        assert_rack(&rt, rack);
-    }
+    assert!(rt; makes_all(&rt, &first, &second));
 }

@@ -4,10 +4,12 @@ ghost use Rattle.pr_ports.specs.Mem.{files_of};
 ghost use Rattle.pr_rack.specs.Rack.{none_begun};
 ghost use Rattle.plate_room.specs.Seen.{AreIdle};
 
+use crate::files::{have_plates, took};
 use plate_room::plate_main;
 use pr_base::PathText;
 use pr_ports::{MemShelf, MemSink, Shelf, Sink};
 use pr_rack::{MemRack, Rack};
+use ring_lanes::Source;
 use std::alloc::Global;
 use std::process::Abort;
 use std::thread::Threads;
@@ -31,15 +33,6 @@ pub const CALM: Failing = Failing {
     out: None,
     note: None,
 };
-
-/// What a run leaves.
-#[derive(Drop)]
-pub struct Left {
-    pub status: u8,
-    pub out: MemSink,
-    pub note: MemSink,
-    pub racks: Vec<MemRack>,
-}
 
 // The number of a call, where there is one.
 fn calls<R: Abort + AllocGlobal>(rt: &R, call: Option<u64>) -> Vec<u64> {
@@ -102,7 +95,7 @@ fn rack<R: Abort + AllocGlobal>(rt: &R, site: usize, failing: [Option<u64>; 2]) 
 }
 
 /// Sixteen racks, of which these calls fail.
-fn racks<R: Abort + AllocGlobal>(rt: &R, failing: [Option<u64>; 2]) -> Vec<MemRack>
+pub fn racks<R: Abort + AllocGlobal>(rt: &R, failing: [Option<u64>; 2]) -> Vec<MemRack>
     ensures count { length result.items ≡ 16 }
     ensures idle { AreIdle ⟦<MemRack as Rack>⟧ result.items }
 {
@@ -155,38 +148,78 @@ pub fn command<T: Abort + AllocGlobal + Threads + Sync, R: Rack + Send>(
     answer(rt, rt.alloc(), words.as_slice(), shelf, racks, out, note)
 }
 
-/// What a run of these words leaves. The files that a plan may name are a.tif and b.tif.
-pub fn left_by<R: Abort + AllocGlobal + Threads + Sync>(
+/// A plate that is wanted of a rack: its path, its packed rows, and what differs in its directory.
+#[derive(Clone, Copy)]
+pub struct Plate<'a> {
+    pub path: &'a str,
+    pub rows: &'a [u8],
+    pub changes: &'a [(usize, u8)],
+}
+
+/// What is wanted of a run: its status, its report and its line, and of its racks, from the first on, the
+/// plates, and the sources and the numbers of the rows that they took.
+#[derive(Clone, Copy)]
+pub struct Want<'a> {
+    pub status: u8,
+    pub report: &'a str,
+    pub line: &'a str,
+    pub plates: &'a [&'a [Plate<'a>]],
+    pub taken: &'a [(Source, &'a [u64])],
+}
+
+// Whether a run of these words, with a note of which this call fails, ends with this status and this line.
+fn tells<R: Abort + AllocGlobal + Threads + Sync>(
+    rt: &R,
+    words: &[&str],
+    shelf: &mut MemShelf,
+    racks: &mut [MemRack],
+    out: &mut MemSink,
+    failing: Option<u64>,
+    want: &Want<'_>,
+) -> bool
+    requires racks { 16 ≤ length racks.old }
+    requires idle { AreIdle ⟦<MemRack as Rack>⟧ racks.old }
+{
+    let mut note = sink(rt, failing);
+    let status = command(rt, words, shelf, racks, out, &mut note);
+    status == want.status && note.bytes() == want.line.as_bytes()
+}
+
+/// Whether a run ends, reports and tells as it is wanted.
+pub fn reports<R: Abort + AllocGlobal + Threads + Sync>(
+    rt: &R,
+    words: &[&str],
+    shelf: &mut MemShelf,
+    racks: &mut [MemRack],
+    failing: Failing,
+    want: &Want<'_>,
+) -> bool
+    requires racks { 16 ≤ length racks.old }
+    requires idle { AreIdle ⟦<MemRack as Rack>⟧ racks.old }
+{
+    let mut out = sink(rt, failing.out);
+    tells(rt, words, shelf, racks, &mut out, failing.note, want)
+        && out.bytes() == want.report.as_bytes()
+}
+
+/// Whether a run of these words does what is wanted. The files that its plan may name are a.tif and b.tif.
+pub fn runs<R: Abort + AllocGlobal + Threads + Sync>(
     rt: &R,
     words: &[&str],
     plan: &str,
     files: [&[u8]; 2],
     failing: Failing,
-) -> Left {
+    want: &Want<'_>,
+) -> bool {
     let [first, second] = files;
     let mut shelf = shelf(rt, plan, first, second, failing.shelf);
     let mut racks = racks(rt, failing.racks);
-    let mut out = sink(rt, failing.out);
-    let mut note = sink(rt, failing.note);
-    let status = command(
-        rt,
-        words,
-        &mut shelf,
-        racks.as_mut_slice(),
-        &mut out,
-        &mut note,
-    );
-    Left {
-        status,
-        out,
-        note,
-        racks,
-    }
+    reports(rt, words, &mut shelf, racks.as_mut_slice(), failing, want)
+        && have_plates(rt, racks.as_slice(), want.plates)
+        && took(racks.as_slice(), want.taken)
 }
 
-/// A run left this status, this report and this note.
-pub fn assert_left(rt: &impl Abort, left: &Left, status: u8, report: &str, note: &str) {
-    assert_eq!(rt; left.status, status);
-    assert_eq!(rt; left.out.bytes(), report.as_bytes());
-    assert_eq!(rt; left.note.bytes(), note.as_bytes());
+/// Row `n` of a table holds.
+pub fn check(rt: &impl Abort, n: usize, holds: bool) {
+    assert!(rt; holds, "row {n}");
 }

@@ -1,6 +1,6 @@
 // Two sites of a run and its writer side by side, seen by racks that tell each other how many row calls each
 // has begun.
-ghost use Rattle.std.specs.Prelude.{refl, ◌≡◌, Some, is_some, length, map};
+ghost use Rattle.std.specs.Prelude.{refl, ◌≡◌, Some, ◌≤◌, is_some, length, map};
 ghost use Rattle.pr_rack.specs.Rack.{none_begun};
 ghost use Rattle.plate_room.specs.Seen.{AreIdle};
 
@@ -172,17 +172,36 @@ site BERGEN finished plates 2 rows 1024
 total rows 1024 sites 2
 ";
 
-/// The racks of both sites took all rows from the one ring of so many places.
-fn assert_took_all(rt: &impl Abort, racks: &[Watched<'_>], places: u32) {
+/// Whether the racks of both sites took all rows from the one ring of so many places.
+fn took_all(racks: &[Watched<'_>], places: u32) -> bool {
     for (site, rack) in racks.iter().enumerate().take(2) {
         let source = Source::Ring {
             reader: site as u32,
             readers: 2,
             places,
         };
-        assert_eq!(rt; rack.rack.taken().len(), 1024);
-        assert!(rt; rack.rack.taken().iter().all(|taken| taken.1 == source));
+        let taken = rack.rack.taken();
+        if taken.len() != 1024 || !taken.iter().all(|row| row.1 == source) {
+            return false;
+        }
     }
+    true
+}
+
+/// Whether the run over these racks ends well and reports.
+fn reports<'c, R: Abort + AllocGlobal + Threads + Sync>(
+    rt: &R,
+    words: &[&str],
+    racks: &mut [Watched<'c>],
+) -> bool
+    requires racks { 16 ≤ length racks.old }
+    requires idle { AreIdle ⟦<Watched<'c> as Rack>⟧ racks.old }
+{
+    let mut shelf = shelf(rt, PLAN, &[], &[], None);
+    let mut out = sink(rt, None);
+    let mut note = sink(rt, None);
+    let status = command(rt, words, &mut shelf, racks, &mut out, &mut note);
+    status == 0 && out.bytes() == REPORT.as_bytes()
 }
 
 /// Runs the plan at a ring of so many places.
@@ -192,23 +211,10 @@ fn run_watched<R: Abort + AllocGlobal + Threads + Sync>(
     places: u32,
     stops: [Stop; 2],
     counts: &Counts,
-) {
+) -> bool {
     let words = ["run", "plan.json", "FILES", "OUT", ring, "65536"];
-    let mut shelf = shelf(rt, PLAN, &[], &[], None);
     let mut racks = watched_racks(rt, stops, counts);
-    let mut out = sink(rt, None);
-    let mut note = sink(rt, None);
-    let status = command(
-        rt,
-        &words,
-        &mut shelf,
-        racks.as_mut_slice(),
-        &mut out,
-        &mut note,
-    );
-    assert_eq!(rt; status, 0);
-    assert_eq!(rt; out.bytes(), REPORT.as_bytes());
-    assert_took_all(rt, racks.as_slice(), places);
+    reports(rt, &words, racks.as_mut_slice()) && took_all(racks.as_slice(), places)
 }
 
 /// Runs the plan at a ring of so many places, and gives how often a rack was alone.
@@ -224,7 +230,7 @@ fn times_alone<R: Abort + AllocGlobal + Threads + Sync>(
         alone: AtomicU64::new(0),
         places: u64::from(places),
     };
-    run_watched(rt, ring, places, stops, &counts);
+    assert!(rt; run_watched(rt, ring, places, stops, &counts));
     counts.alone.load(Ordering::SeqCst)
 }
 
