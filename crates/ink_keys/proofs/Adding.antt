@@ -69,7 +69,7 @@ unpacked frame packed ahead old new (Err short) held all size filled front =
 
 -- ---- which keys a row adds to
 
-slot-small : (ink : Ink) → slot_of ink < 5
+pub slot-small : (ink : Ink) → slot_of ink < 5
 slot-small C = omega arith
 slot-small M = omega arith
 slot-small Y = omega arith
@@ -85,12 +85,12 @@ not-first a b c d x apart = grind (arith, nat_tests)
 not-second : (a b c d x : ℕ) → (c ≡ d → ⊥) → (if (a == b) && (c == d) then x else 0) ≡ 0
 not-second a b c d x apart = grind (arith, nat_tests)
 
-adds-own : (width keys group : ℕ) (ink : Ink) (row : List ℕ) (g : ℕ) (i : Ink) (k : ℕ) → group ≡ g → slot_of ink ≡ slot_of i
+pub adds-own : (width keys group : ℕ) (ink : Ink) (row : List ℕ) (g : ℕ) (i : Ink) (k : ℕ) → group ≡ g → slot_of ink ≡ slot_of i
     → row_adds width keys group ink row g i k ≡ key_dots width keys row k
 unfolding row_adds
 adds-own width keys group ink row g i k same slot = both group g (slot_of ink) (slot_of i) (key_dots width keys row k) same slot
 
-adds-none : (width keys group : ℕ) (ink : Ink) (row : List ℕ) (g : ℕ) (i : Ink) (k : ℕ) → group * 5 + slot_of ink ≢ g * 5 + slot_of i
+pub adds-none : (width keys group : ℕ) (ink : Ink) (row : List ℕ) (g : ℕ) (i : Ink) (k : ℕ) → group * 5 + slot_of ink ≢ g * 5 + slot_of i
     → row_adds width keys group ink row g i k ≡ 0
 unfolding row_adds
 adds-none width keys group ink row g i k apart =

@@ -18,7 +18,7 @@ use Rattle.ring_lanes.specs.Held.{HeldRow}
 use Rattle.ring_lanes.specs.Reader.{ReaderState, IsOpened, SeesOnce}
 use Rattle.ink_keys.specs.Counts.{CountsData, AddsRow, number_at, row_adds}
 use Rattle.ink_keys.specs.Turn.{KeyReaderData, AreRowsOf, CountsOne, CountsRows, Goes, IsReady, Stage, row_part, stage}
-use Rattle.ink_keys.proofs.Ranges.{sum-more}
+use Rattle.ink_keys.proofs.Ranges.{sum-parts}
 
 -- ---- a row
 
@@ -34,7 +34,7 @@ side-taken width ring n bytes are there =
     ∙ are.frames.each n (framed_row bytes) (slice_get_within (map framed_row ring.rows) n (framed_row bytes) here)
 
 -- what a row adds, by its place
-part-is : (rows : RowPlanData) (ring : RingNumbers) (width keys g : ℕ) (i : Ink) (k n : ℕ) (place : RowPlace) (bytes : List ℕ) → slice_get (places_in rows) n ≡ Some place
+pub part-is : (rows : RowPlanData) (ring : RingNumbers) (width keys g : ℕ) (i : Ink) (k n : ℕ) (place : RowPlace) (bytes : List ℕ) → slice_get (places_in rows) n ≡ Some place
     → slice_get ring.rows n ≡ Some bytes → row_part rows ring width keys g i k n ≡ row_adds width keys place.group place.ink (framed_row bytes) g i k
 unfolding row_part
 part-is rows ring width keys g i k n place bytes there held =
@@ -72,32 +72,33 @@ none-counted rows ring n counts = record {
 with-numbers : CountsData → List ℕ → CountsData
 with-numbers counts numbers = record counts { numbers = numbers }
 
-joined : (rows : RowPlanData) (ring : RingNumbers) (from to : ℕ) (old : CountsData) (now new : List ℕ) → from ≤ to
-    → CountsRows rows ring from to old (record old { numbers = now }) → CountsRows rows ring to (to + 1) (record old { numbers = now }) (record old { numbers = new })
-    → CountsRows rows ring from (to + 1) old (record old { numbers = new })
-joined rows ring from to old now new order first second = record {
+joined : (rows : RowPlanData) (ring : RingNumbers) (from mid to : ℕ) (old : CountsData) (now new : List ℕ) → from ≤ mid → mid ≤ to
+    → CountsRows rows ring from mid old (record old { numbers = now }) → CountsRows rows ring mid to (record old { numbers = now }) (record old { numbers = new })
+    → CountsRows rows ring from to old (record old { numbers = new })
+joined rows ring from mid to old now new order order' first second = record {
   same = refl;
   each = λ g i k less.
       let part = row_part rows ring old.width old.keys g i k in
       let before = first.each g i k less in
       let more = second.each g i k less in
-      let one = one-number part to in
-      let next : from + (to - from) ≡ to = omega arith in
-      let span : to - from + 1 ≡ to + 1 - from = omega arith in
-      let sums : sum_by part (range_with_len from (to + 1 - from)) ≡ sum_by part (range_with_len from (to - from)) + part to =
-      ap (λ n. sum_by part (range_with_len from n)) (sym span) ∙ sum-more part from (to - from) to next in
+      let next : from + (mid - from) ≡ mid = omega arith in
+      let span : mid - from + (to - mid) ≡ to - from = omega arith in
+      let sums : sum_by part (range_with_len from (to - from)) ≡ sum_by part (range_with_len from (mid - from)) + sum_by part (range_with_len mid (to - mid)) =
+      ap (λ n. sum_by part (range_with_len from n)) (sym span) ∙ sum-parts part from (mid - from) (to - mid)
+      ∙ ap (λ n. sum_by part (range_with_len from (mid - from)) + sum_by part (range_with_len n (to - mid))) next in
       omega arith;
 }
 
-pub counted-more : (rows : RowPlanData) (ring : RingNumbers) (from to : ℕ) (old now new : CountsData) → from ≤ to → CountsRows rows ring from to old now
-    → CountsRows rows ring to (to + 1) now new → CountsRows rows ring from (to + 1) old new
-counted-more rows ring from to old now new order first second =
+-- two turns of which one begins where the other ended
+pub counted-both : (rows : RowPlanData) (ring : RingNumbers) (from mid to : ℕ) (old now new : CountsData) → from ≤ mid → mid ≤ to → CountsRows rows ring from mid old now
+    → CountsRows rows ring mid to now new → CountsRows rows ring from to old new
+counted-both rows ring from mid to old now new order order' first second =
     let was : now ≡ record old { numbers = now.numbers } = first.same in
     let is : new ≡ record old { numbers = new.numbers } = second.same ∙ ap {A = CountsData} (λ c. record c { numbers = new.numbers }) was in
-    subst (λ (c : CountsData). CountsRows rows ring from (to + 1) old c) (sym is)
-    (joined rows ring from to old now.numbers new.numbers order (subst (λ (c : CountsData). CountsRows rows ring from to old c) was first)
-    (subst (λ (c : CountsData). CountsRows rows ring to (to + 1) c (record old { numbers = new.numbers })) was
-    (subst (λ (c : CountsData). CountsRows rows ring to (to + 1) now c) is second)))
+    subst (λ (c : CountsData). CountsRows rows ring from to old c) (sym is)
+    (joined rows ring from mid to old now.numbers new.numbers order order' (subst (λ (c : CountsData). CountsRows rows ring from mid old c) was first)
+    (subst (λ (c : CountsData). CountsRows rows ring mid to c (record old { numbers = new.numbers })) was
+    (subst (λ (c : CountsData). CountsRows rows ring mid to now c) is second)))
 
 -- ---- the reader
 
@@ -192,5 +193,5 @@ goes-on first now next waits less goes one =
       rows = one.rows ∙ goes.rows;
       counts =
           subst (λ (n : ℕ). CountsRows first.key.rows first.reader.ring first.reader.cursor n first.key.counts next.key.counts) (sym cursor)
-          (counted-more first.key.rows first.reader.ring first.reader.cursor now.reader.cursor first.key.counts now.key.counts next.key.counts low goes.counts last);
+          (counted-both first.key.rows first.reader.ring first.reader.cursor now.reader.cursor (now.reader.cursor + 1) first.key.counts now.key.counts next.key.counts low (omega arith) goes.counts last);
     }

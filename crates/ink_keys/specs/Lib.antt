@@ -1,3 +1,4 @@
 pub mod Counts
 pub mod Keys
+pub mod Plates
 pub mod Turn

@@ -84,7 +84,8 @@ impl Counts {
         add_dots(&self.row, &self.firsts, &mut self.numbers, start);
     }
 
-    /// The numbers of a group in an ink, key by key. All are zero where the group doesn't print it.
+    /// The numbers of a group in an ink, key by key. There are as many for each of the five inks, also where
+    /// the group doesn't print it.
     pub fn of(&self, group: usize, ink: Ink) -> &[u64]
         requires { group < self.now.groups }
         ensures count { length result.now ≡ self.now.keys }
@@ -150,6 +151,7 @@ fn unpack_front(frame: &[u8], width: u32, room: &mut [u8])
 }
 
 /// Unpacks the row of a frame, which is as long as what it fills.
+#[tactic(auto, using(crate::proofs::Adding::unpacked))]
 fn unpack(frame: &[u8], row: &mut [u8])
     requires frame { IsFrame frame.now }
     requires size { length (framed_row frame.now) ≡ length row.old }

@@ -92,7 +92,7 @@ impl<'p> KeyReader<'p> {
                     if waits == patience {
                         return KeyEnd::Waiting { head };
                     }
-                    pause();
+                    pause(waits);
                 }
             }
         }

@@ -8,19 +8,28 @@ use Rattle.std.proofs.lemmas.Option.{get_or_from_slice_get, same_Some, slice_get
 use Rattle.pr_base.specs.Count.{Rose}
 use Rattle.pr_rack.specs.Mem.{MemState, empty_slots}
 use Rattle.ring_lanes.specs.declared.source.Source.{Source}
+use Rattle.pr_rack.specs.Told.{RackTells}
 use Rattle.plan_rows.specs.Plates.{site_plates}
 use Rattle.press_job.specs.Job.{JobData}
+use Rattle.site_agent.specs.Racks.{AreIdle}
 use Rattle.plate_room.specs.Drill.{HaveFiles, finished_end, finished_ends, rows_in}
-use Rattle.ring_run.specs.Fits.{AreIdle, Delivery, FitsEnd, RackTells, RunFits, files_for, rack_told}
+use Rattle.ring_run.specs.Fits.{Delivery, FitsEnd, RunFits, files_for}
 use Rattle.ring_run.specs.declared.site_end.SiteEnd.{SiteEnd}
 use Rattle.ring_run.specs.declared.site_end.SiteEnd.TheVariants.{Finished, Left}
 use Rattle.plate_room.proofs.Verdicts.{there}
 
 -- what a rack that doesn't fail tells
 abbrev pub sure_told : MemState → RackTells
-sure_told rack =
-    rack_told (λ r. Some r.files) (λ r. Some r.slots) (λ r. map is_some r.slots) (λ r. Some r.taken) (λ r. Some r.misses.missed)
-    (λ r. 0) rack
+sure_told rack = record {
+  tells = record {
+    finished = Some rack.files;
+    working = Some rack.slots;
+    begun = map is_some rack.slots;
+    taken = Some rack.taken;
+  };
+  missed = Some rack.misses.missed;
+  faults = 0;
+}
 
 -- racks of empty slots have none that is begun
 pub idle : (racks : List MemState) (count : ℕ) → All (λ rack. rack.slots ≡ empty_slots) racks → AreIdle count (map sure_told racks)

@@ -15,6 +15,7 @@ use Rattle.press_job.specs.Verdict.{verdict_on_files}
 use Rattle.press_job.specs.declared.refusal.Refusal.TheVariants as refused
 use Rattle.site_agent.specs.declared.kept.LeftCause.{LeftCause}
 use Rattle.ring_run.specs.Fits.{FitsCause}
+use Rattle.pr_rack.specs.Told.{told}
 use Rattle.plate_room.specs.Report.{is_finished, status_of_ends}
 use Rattle.ring_run.specs.declared.site_end.SiteEnd.{SiteEnd}
 use Rattle.ring_run.specs.declared.site_end.SiteEnd.TheVariants.{Finished, Left}
@@ -22,7 +23,7 @@ use Rattle.plate_room.specs.Command.{AsksDrill, Command, Drill, Edition, One, Ru
 use Rattle.plate_room.specs.Refusal.{Refusal, NoCommand, LongPlan, BadPlan, Faulty, NotLoaded, status_of}
 use Rattle.plate_room.specs.Verdict.{verdict_of, verdict_for, verdict_on, verdict_on_run, verdict_on_plan, files_refusal, judged, named, file_limit, plan_limit, too_long}
 use Rattle.plate_room.specs.Met.{IsLoaded, IsPlanned, HasFault, OneMeets, RunMeets, CommandMeets, Meets}
-use Rattle.plate_room.specs.Done.{IsPrepared, Delivers, MakesPart, Makes, IsDone, IsPart, delivery_of, telling}
+use Rattle.plate_room.specs.Done.{IsPrepared, Delivers, MakesPart, Makes, IsDone, IsPart, delivery_of}
 use Rattle.plate_room.specs.Seen.{Files, ShelfSeen, SinkSeen, LoadFailed, RackFailed}
 
 -- ---- `one`
@@ -247,10 +248,10 @@ module _ {R : Type 0} (g : Ghosts R) where
       let kept : length racks' ≡ length racks = delivers.kept in
       let old = there racks site (omega arith) in
       let new = there racks' site (omega arith) in
-      let fits : FitsCause (delivery_of edition job) site (telling g old.0) (telling g new.0) cause =
-      delivers.fits.each site (telling g old.0) (telling g new.0) (Left cause)
-      (slice_get-map (telling g) racks site ∙ ap (option_map (telling g)) old.1)
-      (slice_get-map (telling g) racks' site ∙ ap (option_map (telling g)) new.1) at in
+      let fits : FitsCause (delivery_of edition job) site (told g old.0) (told g new.0) cause =
+      delivers.fits.each site (told g old.0) (told g new.0) (Left cause)
+      (slice_get-map (told g) racks site ∙ ap (option_map (told g)) old.1)
+      (slice_get-map (told g) racks' site ∙ ap (option_map (told g)) new.1) at in
       record { site = site; old = old.0; new = new.0; before = old.1; after = new.1; rose = fits.counted }
 
   run_failed : (edition : Edition) (job : JobData) (racks racks' : List R) (ends : List SiteEnd) (status : ℕ)

@@ -5,6 +5,7 @@ use Rattle.pr_ports.specs.Sink.{Grew, GrewByPrefix}
 use Rattle.pr_rack.specs.declared.rack.Rack.{Ghosts}
 use Rattle.tif_strips.specs.declared.shape.Shape.{Shape}
 use Rattle.tif_image.specs.Image.{contone_shape}
+use Rattle.pr_rack.specs.Told.{all_told}
 use Rattle.press_job.specs.Job.{JobData}
 use Rattle.press_job.specs.Rows.{plate_rows}
 use Rattle.press_job.specs.Verdict.{files_in, verdict_on_files}
@@ -14,7 +15,7 @@ use Rattle.plate_room.specs.Drill.{drill_text}
 use Rattle.plate_room.specs.Verdict.{file_limit}
 use Rattle.plate_room.specs.Met.{IsLoaded, IsPlanned}
 use Rattle.plate_room.specs.Seen.{Files, SinkSeen}
-use Rattle.ring_run.specs.Fits.{Delivery, RackTells, RunFits, RunPart, by_ring, rack_told, racks_told}
+use Rattle.ring_run.specs.Fits.{Delivery, RunFits, RunPart, by_ring}
 use Rattle.plate_room.specs.Report.{report_of, status_of_ends}
 use Rattle.ring_run.specs.declared.site_end.SiteEnd.{SiteEnd}
 
@@ -74,26 +75,18 @@ abbrev pub delivery_of : Edition → JobData → Delivery
 delivery_of edition job = by_ring job.plan (plate_rows job.plan job.files) edition.out edition.ring
 
 module _ {R : Type 0} (g : Ghosts R) where
-  -- what a rack tells
-  abbrev pub telling : R → RackTells
-  telling rack = rack_told g.finished g.working g.begun g.taken g.missed g.faults rack
-
-  -- what each of the racks tells
-  abbrev pub tellings : List R → List RackTells
-  tellings racks = racks_told g.finished g.working g.begun g.taken g.missed g.faults racks
-
   -- each site's end fits what its rack has more, and the racks past the last site are as they were
   pub record Delivers (edition : Edition) (job : JobData) (racks racks' : List R) (ends : List SiteEnd)
       : Type 0 where
     pub enough : length job.plan.sites ≤ length racks
     pub kept : length racks' ≡ length racks
-    pub fits : RunFits (delivery_of edition job) (tellings racks) (tellings racks') ends
+    pub fits : RunFits (delivery_of edition job) (all_told g racks) (all_told g racks') ends
     pub others : drop (length job.plan.sites) racks' ≡ drop (length job.plan.sites) racks
 
   -- memory was wanted: each rack has the first of its site's files and rows more, and the others are as
   -- they were
   pub record DeliversPart (edition : Edition) (job : JobData) (racks racks' : List R) : Type 0 where
-    pub part : RunPart (delivery_of edition job) (tellings racks) (tellings racks')
+    pub part : RunPart (delivery_of edition job) (all_told g racks) (all_told g racks')
     pub others : drop (length job.plan.sites) racks' ≡ drop (length job.plan.sites) racks
 
   -- the racks took what the sites' ends say, and the output the whole report of them; the status is 0 where

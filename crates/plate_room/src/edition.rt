@@ -2,9 +2,9 @@
 ghost use Rattle.std.specs.Prelude.{◌≡◌, ◌≤◌, IfErr, IfOk, OnOk, length};
 ghost use Rattle.plan_words.specs.Words.{IsWithin};
 ghost use Rattle.plan_json.specs.Plan.{IsPlan};
+ghost use Rattle.site_agent.specs.Racks.{AreIdle as SitesIdle};
 ghost use Rattle.plate_room.specs.Answer.{Delivered, PlanRefused, PrepareRefused, RunAnswered, edition_told};
-ghost use Rattle.plate_room.specs.Done.{IsPrepared, tellings};
-ghost use Rattle.ring_run.specs.Fits.{AreIdle as SitesIdle};
+ghost use Rattle.plate_room.specs.Done.{IsPrepared};
 ghost use Rattle.plate_room.specs.Met.{IsPlanned};
 ghost use Rattle.plate_room.specs.Report.{is_finished as is_finished_lem, status_of_ends};
 ghost use Rattle.plate_room.specs.Seen.{AreIdle, shelf_seen, sink_seen};

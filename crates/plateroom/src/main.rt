@@ -68,16 +68,3 @@ fn main(rt: HostRuntime) -> ExitCode {
     );
     ExitCode::from(status)
 }
-
-#[cfg(test)]
-mod drill_tests;
-#[cfg(test)]
-mod ink_tests;
-#[cfg(test)]
-mod realistic_tests;
-#[cfg(test)]
-mod run_tests;
-#[cfg(test)]
-mod tests;
-#[cfg(test)]
-mod thread_tests;

@@ -1,2 +1,3 @@
 pub mod Rack
 pub mod Mem
+pub mod Told

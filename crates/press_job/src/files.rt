@@ -1,5 +1,5 @@
 // The files of a plan in memory.
-ghost use Rattle.std.specs.Prelude.{◌≡◌, ◌++◌, ◌∷◌, [], OnOk, length};
+ghost use Rattle.std.specs.Prelude.{◌≡◌, ◌++◌, ◌∷◌, [], OnOk, length, map};
 ghost use Rattle.press_job.specs.Layers.{bytes_at};
 
 use pr_base::NoMemory;
@@ -36,6 +36,13 @@ impl Files {
     {
         self.files.push(bytes)?;
         Ok(())
+    }
+
+    /// The bytes of each, in their order.
+    pub(crate) fn each(&self) -> &[Vec<u8>]
+        ensures { map (λ file. file.items) result.now ≡ self.now }
+    {
+        self.files.as_slice()
     }
 
     /// The bytes of the file with this index, none where there is no such file.

@@ -1,5 +1,5 @@
 // A job: a plan and its files, all of whose tests have passed, and the order of its rows.
-ghost use Rattle.std.specs.Prelude.{◌≡◌};
+ghost use Rattle.std.specs.Prelude.{◌≡◌, map};
 
 use crate::files::Files;
 use plan_json::Plan;
@@ -51,11 +51,18 @@ impl Job {
     }
 
     /// Its files, which have passed all tests.
-    pub(crate) fn files(&self) -> &Files
+    pub(crate) fn tested_files(&self) -> &Files
         ensures files { result.now ≡ self.now.files }
         ensures planned { ArePlanned self.now.plan self.now.files }
     {
         &self.files
+    }
+
+    /// The bytes of its files, in the order of `Plan::files`.
+    pub fn files(&self) -> &[Vec<u8>]
+        ensures { map (λ file. file.items) result.now ≡ self.now.files }
+    {
+        self.files.each()
     }
 
     /// The plan.

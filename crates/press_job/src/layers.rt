@@ -24,7 +24,7 @@ pub fn open_layers<'j>(alloc: Global, job: &'j Job, page: usize) -> Result<Vec<L
     ensures layers { IfOk result (λ layers. layers.items ≡ layers_of job.now.plan job.now.files page) }
     ensures fit { IfOk result (λ layers. All IsLayer layers.items) }
 {
-    let files = job.files();
+    let files = job.tested_files();
     let planned = planned_on(job.plan(), page);
     let mut layers = Vec::with_capacity(alloc, planned.len())?;
     for layer in planned {

@@ -17,6 +17,7 @@ use Rattle.pr_rack.specs.Mem.{MemState, empty_slots}
 use Rattle.pr_rack.specs.Rack.{Slots}
 use Rattle.tif_packbits.specs.Frame.{AreFrames, IsFrame, frame_of, framed_row}
 use Rattle.tif_packbits.proofs.Frames.{AreFrames-frame, framed_row-frame_of, length-frame_of}
+use Rattle.pr_rack.specs.Told.{Tells}
 use Rattle.plan_json.specs.Data.{PlanData, plate_width}
 use Rattle.plan_json.specs.Plan.{IsPlan}
 use Rattle.plan_rows.specs.Rows.{row_places}
@@ -28,7 +29,6 @@ use Rattle.rack_tests.specs.Numbered.{IsFeeding, IsTurning, Takes, numbered, tol
 use Rattle.site_agent.specs.Plan.{fresh_site}
 use Rattle.site_agent.specs.Site.{SiteData}
 use Rattle.site_agent.specs.Stands.{AreAsLong, AreBegun, StandsAfter}
-use Rattle.site_agent.specs.Tells.{Tells}
 use Rattle.site_agent.specs.Turn.{AreRowsFor}
 use Rattle.site_agent.proofs.Going.{going_at_start, going_begun, going_further, going_working, idle_at_first}
 

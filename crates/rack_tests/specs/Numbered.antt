@@ -8,22 +8,36 @@ use Rattle.ring_lanes.specs.Reader.{ReaderState}
 use Rattle.ring_lanes.specs.Writer.{WriterState}
 use Rattle.pr_rack.specs.Mem.{MemState, empty_slots}
 use Rattle.pr_rack.specs.Rack.{none_begun}
+use Rattle.pr_rack.specs.Told.{RackTells, Tells}
 use Rattle.site_agent.specs.Draw.{IsReady, stage}
 use Rattle.site_agent.specs.Going.{IsGoing}
 use Rattle.site_agent.specs.Site.{SiteData}
-use Rattle.site_agent.specs.Tells.{Tells, tells}
 
 -- so many frames of rows of two bytes: row n is n + 1 and 0
 unfoldable pub numbered : ℕ → List (List ℕ)
 numbered count = map (λ n. frame_of ((n + 1) ∷ 0 ∷ [])) (range_with_len 0 count)
 
--- what a rack in memory tells
+-- what a rack in memory tells of its plates
 abbrev pub told_by : MemState → Tells
-told_by rack = tells (Some rack.files) (Some rack.slots) (map is_some rack.slots) (Some rack.taken)
+told_by rack = record {
+  finished = Some rack.files;
+  working = Some rack.slots;
+  begun = map is_some rack.slots;
+  taken = Some rack.taken;
+}
 
 -- what it tells at first
 abbrev pub told_first : Tells
-told_first = tells (Some []) (Some empty_slots) none_begun (Some [])
+told_first = record {
+  finished = Some [];
+  working = Some empty_slots;
+  begun = none_begun;
+  taken = Some [];
+}
+
+-- all that it tells
+abbrev pub all_by : MemState → RackTells
+all_by rack = record { tells = told_by rack; missed = Some rack.misses.missed; faults = rack.misses.faults }
 
 -- a site goes on with rows of these frames, taken from a deck
 abbrev pub Takes : List (List ℕ) → MemState → SiteData → Type 0
@@ -38,5 +52,5 @@ pub record IsFeeding (count head : ℕ) (writer : WriterState) : Type 0 where
 
 -- a site may take the row at the reader's cursor
 pub record IsTurning (reader : ReaderState) (rack : MemState) (site : SiteData) : Type 0 where
-  pub ready : IsReady (stage site reader (told_by rack) (Some rack.misses.missed) rack.misses.faults)
+  pub ready : IsReady (stage site reader (all_by rack))
   pub row : reader.cursor < reader.ring.total

@@ -1,6 +1,8 @@
-// Tests of the machine's rack and of a site. They use public names alone.
+// Tests of the machine's rack, of a site and of ink keys. They use public names alone.
 #![tactic(auto)]
 
+#[cfg(test)]
+mod keys;
 #[cfg(test)]
 mod machine;
 #[cfg(test)]

@@ -56,8 +56,8 @@ fn carry(alloc: Global, count: u8, site: &mut Site, rack: &mut MemRack) -> Resul
     Ok(last)
 }
 
-/// Threads take sites along.
-fn sent<T: Send>(_value: &T) {}
+/// Threads take sites and key readers along.
+pub fn sent<T: Send>(_value: &T) {}
 
 /// The site with this index of a plan whose plates have rows of two bytes.
 pub fn site_of(alloc: Global, plan: &Plan, rows: &RowPlan, index: usize) -> Result<Site, NoMemory>

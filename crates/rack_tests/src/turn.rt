@@ -17,8 +17,8 @@ use site_agent::{Site, TurnEnd};
 use std::alloc::Global;
 use std::test::Fail;
 
-// Publishes row `n`, where there is room for it.
-fn publish(writer: &mut Writer<'_, Numbered>, count: u8, n: u8) -> Result<(), Full>
+/// Publishes row `n`, where there is room for it.
+pub fn publish(writer: &mut Writer<'_, Numbered>, count: u8, n: u8) -> Result<(), Full>
     requires feeding { IsFeeding count n writer.old }
     requires row { n < count }
     requires few { count < 255 }

@@ -7,6 +7,7 @@ use Rattle.pr_base.specs.Row.{row_size}
 use Rattle.pr_base.proofs.Bits.{length-packed_row}
 use Rattle.tif_packbits.specs.Frame.{AreFrames, framed_row}
 use Rattle.tif_packbits.proofs.Frames.{AreFrames-rows}
+use Rattle.pr_rack.specs.Told.{RackTells}
 use Rattle.plan_json.specs.Data.{PlanData, plate_width}
 use Rattle.plan_json.specs.Plan.{IsPlan}
 use Rattle.plan_rows.specs.declared.place.RowPlace.{RowPlace}
@@ -15,10 +16,12 @@ use Rattle.plan_rows.specs.Rows.{row_places}
 use Rattle.press_job.specs.Rows.{left_of, plate_bit, plate_frames, plate_rows, right_of, row_at_place}
 use Rattle.press_job.proofs.FrameLemmas.{length-plate_frames}
 use Rattle.ring_rule.specs.Views.{ring_of}
+use Rattle.site_agent.specs.Racks.{AreIdle, KeepCounts}
+use Rattle.site_agent.proofs.Racks.{counts_wide, idle_front}
 use Rattle.ring_run.specs.declared.site_end.SiteEnd.{SiteEnd}
-use Rattle.ring_run.specs.Fits.{AreIdle, Delivery, KeepCounts, RackTells, RunFits, RunPart, by_ring}
+use Rattle.ring_run.specs.Fits.{Delivery, RunFits, RunPart, by_ring}
 use Rattle.ring_run.specs.Served.{Carries}
-use Rattle.ring_run.proofs.Running.{counts_wide, fits_wide, idle_front, part_wide}
+use Rattle.ring_run.proofs.Running.{fits_wide, part_wide}
 
 row-long : (plan : PlanData) (files : List (List ℕ)) (place : RowPlace) → length (row_at_place plan files (groups_of plan) place) ≡ row_size (plate_width plan)
 row-long plan files place =

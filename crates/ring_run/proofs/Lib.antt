@@ -6,3 +6,4 @@ pub mod JobRows
 mod Feeds
 mod Rounds
 mod Halves
+mod OneThread

@@ -11,9 +11,10 @@ use Rattle.ring_rule.specs.Views.{cursor_in}
 use Rattle.ring_lanes.specs.Note.{CursorNoteState, told_by_reader}
 use Rattle.ring_lanes.specs.Reader.{ReaderState}
 use Rattle.ring_lanes.specs.Writer.{HasRoom, OthersStand, WriterState, cursor_known}
+use Rattle.pr_rack.specs.Told.{RackTells}
 use Rattle.ring_run.specs.declared.site.RunSite.{RunSite}
 use Rattle.ring_run.specs.Feeding.{Fed}
-use Rattle.ring_run.specs.Fits.{Delivery, RackTells}
+use Rattle.ring_run.specs.Fits.{Delivery}
 use Rattle.ring_run.specs.Pairs.{AreTurned}
 use Rattle.ring_run.specs.Round.{AreEndsOf, AreTold, IsEndOf, IsTold, Knows, KnowsAll, StaySeated, all_to_take, to_do}
 use Rattle.ring_run.specs.Seat.{SeatData, are_going, is_going, is_stopped}
@@ -29,6 +30,14 @@ pub set-other : {X : Type 0} (xs : List X) (i j : ℕ) (x y : X) → j ≢ i →
 set-other xs i j x y other there =
     let less : j < length xs = omega (arith, slice_get_within (set xs i x) j y there, length-set xs i x) in
     slice_get-get_or xs j y less ∙ ap Some (sym (get_or-set_other xs i j x y other) ∙ get_or_from_slice_get (set xs i x) j y y there)
+
+-- what stands behind it stays
+set-stays : {X : Type 0} (xs : List X) (i j : ℕ) (x : X) → i < j → slice_get (set xs i x) j ≡ slice_get xs j
+set-stays [] i j x less = refl
+set-stays (y ∷ xs) zero zero x less = absurd (omega (arith, less))
+set-stays (y ∷ xs) zero (suc j) x less = refl
+set-stays (y ∷ xs) (suc i) zero x less = absurd (omega (arith, less))
+set-stays (y ∷ xs) (suc i) (suc j) x less = set-stays xs i j x (omega (arith, less))
 
 -- what stands in a mapped list
 pub mapped : {X Y : Type 0} (f : X → Y) (xs : List X) (i : ℕ) (y : Y) → slice_get (map f xs) i ≡ Some y → (x : X) × (slice_get xs i ≡ Some x) × (f x ≡ y)
@@ -116,13 +125,7 @@ told_more w were are i seat within upto told = record {
   rest = λ j from. stay j from;
 } where
   stay : (j : ℕ) → i + 1 ≤ j → slice_get (set are i seat) j ≡ slice_get were j
-  stay j from = set-stays are i j seat (omega (arith, from)) ∙ upto.rest j (omega (arith, from)) where
-    set-stays : {X : Type 0} (xs : List X) (i j : ℕ) (x : X) → i < j → slice_get (set xs i x) j ≡ slice_get xs j
-    set-stays [] i j x less = refl
-    set-stays (y ∷ xs) zero zero x less = absurd (omega (arith, less))
-    set-stays (y ∷ xs) zero (suc j) x less = refl
-    set-stays (y ∷ xs) (suc i) zero x less = absurd (omega (arith, less))
-    set-stays (y ∷ xs) (suc i) (suc j) x less = set-stays xs i j x (omega (arith, less))
+  stay j from = set-stays are i j seat (omega (arith, from)) ∙ upto.rest j (omega (arith, from))
 
 -- a site that doesn't go on isn't told
 pub told_same : (w : WriterState) (were are : List SeatData) (i : ℕ) → ToldUpTo w were are i → ((was : SeatData) → slice_get were i ≡ Some was → slice_get are i ≡ Some was → is_going was ≡ false) → ToldUpTo w were are (i + 1)

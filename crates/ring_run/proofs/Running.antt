@@ -15,6 +15,7 @@ use Rattle.ring_lanes.specs.Reader.{ReaderState, new_reader_state}
 use Rattle.ring_lanes.specs.Writer.{WriterState, new_writer_state}
 use Rattle.pr_rack.specs.declared.rack.RackCall.TheVariants.{Begin}
 use Rattle.pr_rack.specs.Rack.{Plate, Slots, none_begun}
+use Rattle.pr_rack.specs.Told.{RackTells}
 use Rattle.plan_json.specs.Data.{PlanData}
 use Rattle.plan_rows.specs.Plates.{site_plates}
 use Rattle.plan_rows.specs.Rows.{row_places}
@@ -22,12 +23,14 @@ use Rattle.site_agent.specs.Plan.{fresh_site}
 use Rattle.site_agent.specs.Stands.{grown}
 use Rattle.site_agent.proofs.Going.{going_at_start}
 use Rattle.site_agent.proofs.Runs.{IsIdle}
+use Rattle.site_agent.specs.Racks.{AreIdle, KeepCounts, TellsSlots, AllTellSlots}
+use Rattle.site_agent.proofs.Racks.{idle_is, slice_get-front}
 use Rattle.ring_run.specs.declared.site.RunSite.{RunSite}
 use Rattle.ring_run.specs.declared.site.RunSite.TheVariants.{Going, Left, Stopped}
 use Rattle.ring_run.specs.declared.site_end.SiteEnd.{SiteEnd}
 use Rattle.ring_run.specs.declared.site_end.SiteEnd.TheVariants.{Finished}
 use Rattle.ring_run.specs.declared.site_end.SiteEnd.TheVariants as Ended
-use Rattle.ring_run.specs.Fits.{AreIdle, Delivery, FitsEnd, FitsPart, KeepCounts, RackTells, RunFits, RunPart, TellsSlots, AllTellSlots, kept_rows}
+use Rattle.ring_run.specs.Fits.{Delivery, FitsEnd, FitsPart, RunFits, RunPart, kept_rows}
 use Rattle.ring_run.specs.Round.{AreEndsOf, StaySeated}
 use Rattle.ring_run.specs.Seat.{SeatData, are_going, is_going, is_stopped}
 use Rattle.ring_run.specs.Served.{AreSeated, AreSomeSeated, AreStopped, Carries, GoesOnAt, HasStopped, IsSeated, IsServed, end_of, ends_in, fresh_seat, fresh_seats, is_out}
@@ -35,40 +38,6 @@ use Rattle.ring_run.proofs.Rounds.{none_at}
 use Rattle.ring_run.proofs.Serving.{finishes, going_part, total_is}
 
 -- ---- the start
-
-pub all_tell : {X : Type 0} (tell : X → RackTells) (P : RackTells → Type 0) (racks : List X) (site : ℕ) (told : RackTells) → ((rack : X) → P (tell rack)) → slice_get (map tell racks) site ≡ Some told → P told
-all_tell tell P [] site told each there = absurd (none there) where
-  none : None ≡ Some told → ⊥
-  none e = cc
-all_tell tell P (rack ∷ racks) zero told each there = subst P (same_Some (tell rack) told there) (each rack)
-all_tell tell P (rack ∷ racks) (suc site) told each there = all_tell tell P racks site told each there
-
-no-slot : (slot : ℕ) → slot < 5 → slice_get none_begun slot ≡ Some false
-no-slot zero less = refl
-no-slot (suc zero) less = refl
-no-slot (suc (suc zero)) less = refl
-no-slot (suc (suc (suc zero))) less = refl
-no-slot (suc (suc (suc (suc zero)))) less = refl
-no-slot (suc (suc (suc (suc (suc slot))))) less = absurd (omega arith)
-
-empty-slot : (slot : Option (Option Plate)) → option_map is_some slot ≡ Some false → slot ≡ Some None
-empty-slot None is = absurd (none is) where
-  none : None ≡ Some false → ⊥
-  none e = cc
-empty-slot (Some None) is = refl
-empty-slot (Some (Some plate)) is = absurd (one (same_Some true false is)) where
-  one : true ≡ false → ⊥
-  one e = cc
-
-idle_is : (told : RackTells) → TellsSlots told → told.tells.begun ≡ none_begun → IsIdle told.tells
-idle_is told slots idle = record {
-  begun = λ slot less. ap (λ begun. slice_get begun slot) idle ∙ no-slot slot less;
-  working = by_told told.tells.working slots;
-} where
-  by_told : (working : Option Slots) → IfSome working (λ slots. told.tells.begun ≡ map is_some slots) → IfSome working (λ slots. (slot : ℕ) → slot < 5 → slice_get slots slot ≡ Some None)
-  by_told None are = tt
-  by_told (Some held) are = λ slot less.
-      empty-slot (slice_get held slot) (sym (slice_get-map is_some held slot) ∙ ap (λ begun. slice_get begun slot) (sym are ∙ idle) ∙ no-slot slot less)
 
 get_or-up_to : (n i : ℕ) → i < n → get_or (up_to n) i 0 ≡ i
 get_or-up_to zero i less = absurd (omega (arith, less))
@@ -294,11 +263,6 @@ none_part delivery before = record {
 
 -- ---- counts
 
-pub counts_stay : (before : List RackTells) → KeepCounts before before
-counts_stay before = record {
-  each = λ site old new b r. subst (λ (now : RackTells). old.faults ≤ now.faults) (same_Some old new (sym b ∙ r)) (let e : old.faults ≤ old.faults = omega arith in e);
-}
-
 -- those of the sites by what is said of each
 pub counts_keep : (delivery : Delivery) (before now : List RackTells) → AreStopped delivery before now → length now ≤ length delivery.plan.sites → KeepCounts before now
 counts_keep delivery before now are few = record {
@@ -306,16 +270,6 @@ counts_keep delivery before now are few = record {
 }
 
 -- ---- racks and others behind them
-
-pub slice_get-front : {X : Type 0} (xs ys : List X) (i : ℕ) → i < length xs → slice_get (xs ++ ys) i ≡ slice_get xs i
-slice_get-front [] ys i less = absurd (omega (arith, less))
-slice_get-front (x ∷ xs) ys zero less = refl
-slice_get-front (x ∷ xs) ys (suc i) less = slice_get-front xs ys i (omega (arith, less))
-
-pub slice_get-behind : {X : Type 0} (xs ys : List X) (i : ℕ) → length xs ≤ i → slice_get (xs ++ ys) i ≡ slice_get ys (i - length xs)
-slice_get-behind [] ys i more = ap (slice_get ys) (let e : i ≡ i - 0 = omega arith in e)
-slice_get-behind (x ∷ xs) ys zero more = absurd (omega (arith, more))
-slice_get-behind (x ∷ xs) ys (suc i) more = slice_get-behind xs ys i (omega (arith, more)) ∙ ap (slice_get ys) (let e : i - length xs ≡ suc i - suc (length xs) = omega arith in e)
 
 -- what holds of the sites' racks holds where others stand behind them
 pub fits_wide : (delivery : Delivery) (before now rest : List RackTells) (ends : List SiteEnd) → length before ≡ length delivery.plan.sites → length now ≡ length delivery.plan.sites → RunFits delivery before now ends
@@ -332,23 +286,6 @@ pub part_wide : (delivery : Delivery) (before now rest : List RackTells) → len
 part_wide delivery before now rest olds news part = record {
   each = λ site old new less b r.
       part.each site old new less (sym (slice_get-front before rest site (omega (arith, less, olds))) ∙ b) (sym (slice_get-front now rest site (omega (arith, less, news))) ∙ r);
-}
-
-pub counts_wide : (before now rest : List RackTells) → length now ≡ length before → KeepCounts before now → KeepCounts (before ++ rest) (now ++ rest)
-counts_wide before now rest same keep = record {
-  each = λ site old new b r.
-      ⊎_elim
-      (λ (less : site < length before). keep.each site old new (sym (slice_get-front before rest site less) ∙ b) (sym (slice_get-front now rest site (omega (arith, less, same))) ∙ r))
-      (λ (more : length before ≤ site).
-      let is : old ≡ new = same_Some old new
-      (sym b ∙ slice_get-behind before rest site more ∙ ap (λ k. slice_get rest (site - k)) (sym same) ∙ sym (slice_get-behind now rest site (omega (arith, more, same))) ∙ r) in
-      subst (λ (n : RackTells). old.faults ≤ n.faults) is (let e : old.faults ≤ old.faults = omega arith in e))
-      (cases_lt site (length before));
-}
-
-pub idle_front : (count : ℕ) (front rest : List RackTells) → length front ≡ count → AreIdle count (front ++ rest) → AreIdle count front
-idle_front count front rest long idle = record {
-  each = λ site told less there. idle.each site told less (slice_get-front front rest site (omega (arith, less, long)) ∙ there);
 }
 
 -- ---- ends

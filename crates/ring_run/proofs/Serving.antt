@@ -12,6 +12,7 @@ use Rattle.tif_packbits.proofs.Frames.{AreFrames-length, AreFrames-rows}
 use Rattle.pr_rack.specs.declared.rack.RackCall.{RackCall}
 use Rattle.pr_rack.specs.declared.rack.RackCall.TheVariants.{Begin, Row, Finish}
 use Rattle.pr_rack.specs.Rack.{Plate}
+use Rattle.pr_rack.specs.Told.{RackTells, Tells}
 use Rattle.plan_json.specs.Data.{plate_width}
 use Rattle.plan_rows.specs.Plates.{site_plates}
 use Rattle.plan_rows.specs.Rows.{row_places}
@@ -24,7 +25,6 @@ use Rattle.site_agent.specs.Plan.{job_of, FitsLeft}
 use Rattle.site_agent.specs.Refused.{taken_at}
 use Rattle.site_agent.specs.Site.{SiteData}
 use Rattle.site_agent.specs.Stands.{StandsAfter, files_below, grown, plate_below, taken_below}
-use Rattle.site_agent.specs.Tells.{Tells}
 use Rattle.site_agent.specs.Turn.{AreRowsFor, GoesOnTo, IsGoingBy, LeavesAt, StopsAt}
 use Rattle.site_agent.proofs.Counting.{any}
 use Rattle.site_agent.proofs.Givens.{given-all}
@@ -34,7 +34,7 @@ use Rattle.site_agent.proofs.Opens.{closed, closed-cases, plate_at}
 use Rattle.site_agent.proofs.Runs.{files_are, site_at_end}
 use Rattle.site_agent.proofs.Steps.{is_kept-row}
 use Rattle.site_agent.proofs.Taken.{taken_first, taken_in_part, taken_up_to}
-use Rattle.ring_run.specs.Fits.{Delivery, FitsFinished, FitsPart, RackTells, files_for, kept_rows}
+use Rattle.ring_run.specs.Fits.{Delivery, FitsFinished, FitsPart, files_for, kept_rows}
 use Rattle.ring_run.specs.declared.site.RunSite.TheVariants.{Going, Left, Stopped}
 use Rattle.ring_run.specs.Seat.{SeatData}
 use Rattle.ring_run.specs.Served.{Carries, GoesOnAt, HasLeft, HasStopped, IsSeated, SomeSeated, Turned, is_out, to_take}

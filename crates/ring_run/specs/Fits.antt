@@ -5,39 +5,15 @@ use Rattle.pr_base.specs.Count.{Rose}
 use Rattle.ring_lanes.specs.declared.source.Source.{Source}
 use Rattle.ring_lanes.specs.declared.source.Source.TheVariants.{Ring}
 use Rattle.pr_rack.specs.Rack.{Plate, Slots, none_begun}
+use Rattle.pr_rack.specs.Told.{RackTells}
 use Rattle.plan_json.specs.Data.{PlanData}
 use Rattle.plan_rows.specs.Plates.{site_plates, site_files}
 use Rattle.plan_rows.specs.Rows.{row_places, keeps_row}
 use Rattle.site_agent.specs.declared.kept.LeftCause.{LeftCause}
 use Rattle.site_agent.specs.Plan.{drawn_rows, rows_up_to, FitsLeft}
-use Rattle.site_agent.specs.Refused.{Missed}
 use Rattle.site_agent.specs.Stands.{grown}
-use Rattle.site_agent.specs.Tells.{Tells, tells}
 use Rattle.ring_run.specs.declared.site_end.SiteEnd.{SiteEnd}
 use Rattle.ring_run.specs.declared.site_end.SiteEnd.TheVariants.{Finished, Left}
-
--- ---- racks
-
--- what a rack tells of its plates and of its last failed call, and how many calls failed
-pub record RackTells : Type 0 where
-  pub tells : Tells
-  pub missed : Missed
-  pub faults : ℕ
-
--- what a rack tells, by the members of its type
-abbrev pub rack_told : {R : Type 0} → (R → Option (List Plate)) → (R → Option Slots) → (R → List Bool)
-    → (R → Option (List (ℕ × Source))) → (R → Missed) → (R → ℕ) → R → RackTells
-rack_told finished working begun taken missed faults rack = record {
-  tells = tells (finished rack) (working rack) (begun rack) (taken rack);
-  missed = missed rack;
-  faults = faults rack;
-}
-
--- what each of the racks tells
-abbrev pub racks_told : {R : Type 0} → (R → Option (List Plate)) → (R → Option Slots) → (R → List Bool)
-    → (R → Option (List (ℕ × Source))) → (R → Missed) → (R → ℕ) → List R → List RackTells
-racks_told finished working begun taken missed faults racks =
-    map (rack_told finished working begun taken missed faults) racks
 
 -- ---- a run
 
@@ -126,21 +102,3 @@ pub record RunFits (delivery : Delivery) (before now : List RackTells) (ends : L
 pub record RunPart (delivery : Delivery) (before now : List RackTells) : Type 0 where
   pub each : (site : ℕ) (old new : RackTells) → site < length delivery.plan.sites
       → slice_get before site ≡ Some old → slice_get now site ≡ Some new → FitsPart delivery site old new
-
--- the counts of failures never fall
-pub record KeepCounts (before now : List RackTells) : Type 0 where
-  pub each : (site : ℕ) (old new : RackTells) → slice_get before site ≡ Some old
-      → slice_get now site ≡ Some new → old.faults ≤ new.faults
-
--- no slot of so many racks is begun
-pub record AreIdle (count : ℕ) (racks : List RackTells) : Type 0 where
-  pub each : (site : ℕ) (told : RackTells) → site < count → slice_get racks site ≡ Some told
-      → told.tells.begun ≡ none_begun
-
--- a rack tells of its slots what it tells of the begun ones
-abbrev pub TellsSlots : RackTells → Type 0
-TellsSlots told = IfSome told.tells.working (λ slots. told.tells.begun ≡ map is_some slots)
-
--- each of the racks does
-abbrev pub AllTellSlots : List RackTells → Type 0
-AllTellSlots racks = (site : ℕ) (told : RackTells) → slice_get racks site ≡ Some told → TellsSlots told

@@ -4,3 +4,4 @@ pub mod Seat
 pub mod Feeding
 pub mod Round
 pub mod Pairs
+pub mod Again

@@ -3,7 +3,8 @@
 use Rattle.std.specs.Prelude.{◌≡◌, ℕ, ◌+◌, ◌-◌, ◌≤◌, true, List, [], ◌∷◌, length, slice_get, Some, None}
 use Rattle.ring_lanes.specs.Reader.{ReaderState}
 use Rattle.ring_lanes.specs.Writer.{WriterState, cursor_known}
-use Rattle.ring_run.specs.Fits.{Delivery, RackTells}
+use Rattle.pr_rack.specs.Told.{RackTells}
+use Rattle.ring_run.specs.Fits.{Delivery}
 use Rattle.ring_run.specs.Seat.{SeatData, is_going}
 use Rattle.ring_run.specs.Served.{Carries, IsSeated, to_take}
 

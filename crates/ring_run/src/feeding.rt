@@ -56,7 +56,7 @@ pub fn feed_turn<D: Deal, F: RowFeed>(
         if waits == patience {
             return FeedEnd::Waiting { site, at };
         }
-        pause();
+        pause(waits);
     }
     FeedEnd::Done
 }
@@ -91,6 +91,7 @@ fn publish_next<D: Deal, F: RowFeed>(
 
 impl<'r, D: Deal, F: RowFeed> TurnWith<F> for Writer<'r, D> {
     ghost use Rattle.ring_run.specs.Feeding.{Fed, MayFeed};
+    ghost use Rattle.ring_run.specs.Again.{fed_again, may_feed_again};
 
     ghost may = { λ writer feed. MayFeed (F.left feed) writer };
 
@@ -100,4 +101,8 @@ impl<'r, D: Deal, F: RowFeed> TurnWith<F> for Writer<'r, D> {
     fn turn(&mut self, feed: &mut F, patience: u32) {
         let _end = feed_turn(self, feed, patience);
     }
+
+    ghost may_again = { λ x x' y y'. may_feed_again (F.left y) (F.left y') x x' };
+
+    ghost turned_again = { λ x x' x'' y y' y''. fed_again (F.left y') (F.left y'') x x' x'' };
 }

@@ -1,11 +1,14 @@
 // A run: all plates of a job, on the racks of its sites.
 ghost use Rattle.std.specs.Prelude.{◌≡◌, ◌<◌, ◌≤◌, IfOk, OnErr, drop, length};
+ghost use Rattle.pr_rack.specs.Told.{all_told};
 ghost use Rattle.plan_words.specs.Words.{IsWithin};
 ghost use Rattle.press_job.specs.Rows.{plate_frames, plate_rows};
-ghost use Rattle.ring_run.specs.Fits.{AreIdle, KeepCounts, RunFits, RunPart, by_ring, racks_told};
+ghost use Rattle.site_agent.specs.Racks.{AreIdle, KeepCounts};
+ghost use Rattle.ring_run.specs.Fits.{RunFits, RunPart, by_ring};
+ghost use Rattle.ring_run.specs.Served.{IsRun};
 
 use crate::Outcome;
-use crate::rows::run_rows;
+use crate::rows::Run;
 use pr_base::{NoMemory, RowFeed};
 use pr_rack::Rack;
 use press_feed::{Feed, Job};
@@ -26,73 +29,57 @@ pub fn run_job<T: Threads + Sync, R: Rack + Send>(
     patience: u32,
 ) -> Result<Outcome, NoMemory>
     requires racks { length job.now.plan.sites ≤ length racks.old }
-    requires idle { AreIdle (length job.now.plan.sites)
-        (racks_told R.finished R.working R.begun R.taken R.missed R.faults racks.old) }
+    requires idle { AreIdle (length job.now.plan.sites) (all_told R.Rack racks.old) }
     requires ring { IsWithin 1 1024 ring }
     requires patience { IsWithin 1 65536 patience }
     // Each site's end fits what its rack has more than before.
     ensures fits { IfOk result (λ outcome. RunFits
         (by_ring job.now.plan (plate_rows job.now.plan job.now.files) out.now ring)
-        (racks_told R.finished R.working R.begun R.taken R.missed R.faults racks.old)
-        (racks_told R.finished R.working R.begun R.taken R.missed R.faults racks.new) outcome.sites.items) }
+        (all_told R.Rack racks.old) (all_told R.Rack racks.new) outcome.sites.items) }
     // Want of memory: each rack has the first of its site's files more, and the first of its rows.
     ensures part { OnErr result (RunPart
         (by_ring job.now.plan (plate_rows job.now.plan job.now.files) out.now ring)
-        (racks_told R.finished R.working R.begun R.taken R.missed R.faults racks.old)
-        (racks_told R.finished R.working R.begun R.taken R.missed R.faults racks.new)) }
+        (all_told R.Rack racks.old) (all_told R.Rack racks.new)) }
     // What stands of the racks, whatever the answer.
-    ensures counts { KeepCounts
-        (racks_told R.finished R.working R.begun R.taken R.missed R.faults racks.old)
-        (racks_told R.finished R.working R.begun R.taken R.missed R.faults racks.new) }
+    ensures counts { KeepCounts (all_told R.Rack racks.old) (all_told R.Rack racks.new) }
     ensures others { drop (length job.now.plan.sites) racks.new ≡ drop (length job.now.plan.sites) racks.old }
 {
     let mut feed = Feed::open(alloc, job)?;
-    run_fed(rt, alloc, job, &mut feed, racks, out, ring, patience)
+    let run = Run {
+        alloc,
+        plan: job.plan(),
+        rows: job.rows(),
+        out,
+        ring,
+        patience,
+    };
+    run_fed(rt, &run, job, &mut feed, racks)
 }
 
 /// The same with a feed that has all rows of the job to come.
 fn run_fed<T: Threads + Sync, F: RowFeed + Send, R: Rack + Send>(
     rt: &T,
-    alloc: Global,
+    run: &Run<'_>,
     job: &Job,
     feed: &mut F,
     racks: &mut [R],
-    out: &str,
-    ring: u32,
-    patience: u32,
 ) -> Result<Outcome, NoMemory>
+    requires run { IsRun run.now.plan.now run.now.rows.now run.now.ring run.now.patience }
+    requires plan { run.now.plan.now ≡ job.now.plan }
     requires feed { F.left feed.old ≡ plate_frames job.now.plan job.now.files }
     requires racks { length job.now.plan.sites ≤ length racks.old }
-    requires idle { AreIdle (length job.now.plan.sites)
-        (racks_told R.finished R.working R.begun R.taken R.missed R.faults racks.old) }
-    requires ring { IsWithin 1 1024 ring }
-    requires patience { 0 < patience }
+    requires idle { AreIdle (length job.now.plan.sites) (all_told R.Rack racks.old) }
     ensures fits { IfOk result (λ outcome. RunFits
-        (by_ring job.now.plan (plate_rows job.now.plan job.now.files) out.now ring)
-        (racks_told R.finished R.working R.begun R.taken R.missed R.faults racks.old)
-        (racks_told R.finished R.working R.begun R.taken R.missed R.faults racks.new) outcome.sites.items) }
+        (by_ring job.now.plan (plate_rows job.now.plan job.now.files) run.now.out.now run.now.ring)
+        (all_told R.Rack racks.old) (all_told R.Rack racks.new) outcome.sites.items) }
     ensures part { OnErr result (RunPart
-        (by_ring job.now.plan (plate_rows job.now.plan job.now.files) out.now ring)
-        (racks_told R.finished R.working R.begun R.taken R.missed R.faults racks.old)
-        (racks_told R.finished R.working R.begun R.taken R.missed R.faults racks.new)) }
-    ensures counts { KeepCounts
-        (racks_told R.finished R.working R.begun R.taken R.missed R.faults racks.old)
-        (racks_told R.finished R.working R.begun R.taken R.missed R.faults racks.new) }
+        (by_ring job.now.plan (plate_rows job.now.plan job.now.files) run.now.out.now run.now.ring)
+        (all_told R.Rack racks.old) (all_told R.Rack racks.new)) }
+    ensures counts { KeepCounts (all_told R.Rack racks.old) (all_told R.Rack racks.new) }
     ensures others { drop (length job.now.plan.sites) racks.new ≡ drop (length job.now.plan.sites) racks.old }
 {
-    let plan = job.plan();
+    let plan = run.plan;
     let (racks, _others) = racks.split_at_mut(plan.sites.len());
-    let sites = run_rows(
-        rt,
-        alloc,
-        plan,
-        job.rows(),
-        job,
-        feed,
-        racks,
-        out,
-        ring,
-        patience,
-    )?;
+    let sites = run.run_rows(rt, job, feed, racks)?;
     Ok(Outcome { sites })
 }

@@ -5,6 +5,7 @@
 mod ends;
 mod feeding;
 mod job_run;
+mod one_thread;
 mod round;
 mod rows;
 mod seat;

@@ -2,8 +2,8 @@
 // their turns, side by side.
 ghost use Rattle.std.specs.Prelude.{◌≡◌, ◌<◌, length, true};
 ghost use Rattle.std.specs.List.{list_any};
+ghost use Rattle.pr_rack.specs.Told.{all_told};
 ghost use Rattle.ring_run.specs.Feeding.{MayFeed};
-ghost use Rattle.ring_run.specs.Fits.{racks_told};
 ghost use Rattle.ring_run.specs.Round.{AreEndsOf, AreTold, IsTold, KnowsAll, StaySeated, to_do};
 ghost use Rattle.ring_run.specs.Seat.{is_going};
 ghost use Rattle.ring_run.specs.Served.{AreSomeSeated};
@@ -64,15 +64,12 @@ pub(crate) fn round<T: Threads + Sync, D: Deal + Sync, F: RowFeed + Send, R: Rac
     requires places { 0 < writer.old.ring.places }
     requires ends { AreEndsOf writer.old seats.old }
     requires count { length seats.old ≡ length racks.old }
-    requires some { AreSomeSeated
-        (racks_told R.finished R.working R.begun R.taken R.missed R.faults racks.old) seats.old }
+    requires some { AreSomeSeated (all_told R.Rack racks.old) seats.old }
     requires patience { 0 < pace.patience }
     ensures feed { MayFeed (F.left feed.new) writer.new }
     ensures ring { writer.new.ring ≡ writer.old.ring }
     ensures ends { AreEndsOf writer.new seats.new }
-    ensures seated { StaySeated
-        (racks_told R.finished R.working R.begun R.taken R.missed R.faults racks.old)
-        (racks_told R.finished R.working R.begun R.taken R.missed R.faults racks.new)
+    ensures seated { StaySeated (all_told R.Rack racks.old) (all_told R.Rack racks.new)
         seats.old seats.new }
     ensures falls { list_any is_going seats.old ≡ true →
         to_do writer.new seats.new < to_do writer.old seats.old }

@@ -2,6 +2,7 @@
 ghost use Rattle.std.specs.Prelude.{◌≡◌, ◌≤◌, ℕ, Some, false};
 ghost use Rattle.ring_lanes.specs.Note.{told_by_reader};
 ghost use Rattle.ring_lanes.specs.Writer.{cursor_known};
+ghost use Rattle.pr_rack.specs.Told.{told};
 ghost use Rattle.ring_run.specs.Seat.{SeatData, is_going as is_going_lem, is_stopped as is_stopped_lem};
 
 use crate::side_by_side::TurnWith;
@@ -78,18 +79,19 @@ impl<'r, D: Deal> Seat<'r, D> {
 }
 
 impl<'r, D: Deal, R: Rack> TurnWith<R> for Seat<'r, D> {
-    ghost use Rattle.ring_run.specs.Fits.{rack_told};
     ghost use Rattle.ring_run.specs.Served.{SomeSeated, Turned};
+    ghost use Rattle.ring_run.specs.Again.{may_turn_again, turned_again};
 
-    ghost may = { λ seat rack. SomeSeated
-        (rack_told R.finished R.working R.begun R.taken R.missed R.faults rack) seat };
+    ghost may = { λ seat rack. SomeSeated (told R.Rack rack) seat };
 
-    ghost turned = { λ was old is new. Turned
-        (rack_told R.finished R.working R.begun R.taken R.missed R.faults old)
-        (rack_told R.finished R.working R.begun R.taken R.missed R.faults new) was is };
+    ghost turned = { λ was old is new. Turned (told R.Rack old) (told R.Rack new) was is };
 
     /// The turn of its site, whose plates are kept on this rack.
     fn turn(&mut self, rack: &mut R, patience: u32) {
         self.site.turn(&mut self.reader, rack, patience);
     }
+
+    ghost may_again = { λ x x' y y'. may_turn_again _ _ x x' };
+
+    ghost turned_again = { λ x x' x'' y y' y''. turned_again _ _ _ x x' x'' };
 }

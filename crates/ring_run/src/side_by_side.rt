@@ -3,6 +3,7 @@ ghost use Rattle.std.specs.Prelude.{◌≡◌, ◌<◌, ℕ, length};
 ghost use Rattle.std.specs.Thread.{IsSync};
 ghost use Rattle.ring_run.specs.Pairs.{AreTurned, MayAllTurn};
 
+use crate::one_thread::turns_in_one_thread;
 use std::thread::{Threads, available_parallelism, join_mut};
 
 /// How the turns of a round are taken: how often each may wait in vain, and in how many threads those of all
@@ -14,8 +15,8 @@ pub(crate) struct Pace {
 }
 
 impl Pace {
-    /// One thread for each processor but that of the one end, and at least two, since a rack may wait for what
-    /// another one does. Where the processors can't be counted each turn has a thread of its own.
+    /// One thread for each processor but that of the one end, and at least two, since a rack may wait for
+    /// what another one does. Where the processors can't be counted each turn has a thread of its own.
     pub(crate) fn of<T: Threads>(rt: &T, patience: u32) -> Pace
         ensures { result.patience ≡ patience }
     {
@@ -50,10 +51,17 @@ pub(crate) trait TurnWith<Y> {
         requires may { may self.old other.old }
         requires patience { 0 < patience }
         ensures { turned self.old other.old self.new other.new };
+
+    /// Behind a turn another one may be taken.
+    ghost may_again: { (x x' : Self) (y y' : Y) → may x y → turned x y x' y' → may x' y' };
+
+    /// A turn behind a turn is one turn.
+    ghost turned_again: { (x x' x'' : Self) (y y' y'' : Y) → turned x y x' y' → turned x' y' x'' y''
+        → turned x y x'' y'' };
 }
 
 /// The turn of each with the other at its index, in so many threads: they are halved until one is left, or
-/// one thread, which takes those that are left one after the other.
+/// one thread, in which those that are left take turns over and over again.
 #[cycle(halves)]
 pub(crate) fn turns<T: Threads + Sync, X: TurnWith<Y> + Send, Y: Send>(
     rt: &T,
@@ -72,78 +80,20 @@ pub(crate) fn turns<T: Threads + Sync, X: TurnWith<Y> + Send, Y: Send>(
         }
         return;
     }
+    if pace.threads < 2 {
+        return turns_in_one_thread(others, all, pace.patience);
+    }
     let half = all.len() / 2;
     let (a, b) = all.split_at_mut(half);
     let (c, d) = others.split_at_mut(half);
-    both_halves(rt, pace, a, b, c, d);
-}
-
-/// The turns of both halves: side by side where there are threads for both, else one half after the other.
-#[cycle(halves)]
-fn both_halves<T: Threads + Sync, X: TurnWith<Y> + Send, Y: Send>(
-    rt: &T,
-    pace: Pace,
-    a: &mut [X],
-    b: &mut [X],
-    c: &mut [Y],
-    d: &mut [Y],
-)
-    requires some_first { 0 < length a.old }
-    requires some_last { 0 < length b.old }
-    requires first { length a.old ≡ length c.old }
-    requires last { length b.old ≡ length d.old }
-    requires may_first { MayAllTurn X.may a.old c.old }
-    requires may_last { MayAllTurn X.may b.old d.old }
-    requires patience { 0 < pace.patience }
-    ensures first { AreTurned X.turned a.old c.old a.new c.new }
-    ensures last { AreTurned X.turned b.old d.old b.new d.new }
-{
-    if pace.threads < 2 {
-        return halves_in_turn(rt, pace, a, b, c, d);
-    }
-    let first = pace.threads / 2;
-    let last = pace.threads - first;
-    join_halves(
-        rt,
-        pace.in_threads(first),
-        pace.in_threads(last),
-        a,
-        b,
-        c,
-        d,
-    )
-}
-
-/// The turns of both halves, one half after the other.
-#[cycle(halves)]
-fn halves_in_turn<T: Threads + Sync, X: TurnWith<Y> + Send, Y: Send>(
-    rt: &T,
-    pace: Pace,
-    a: &mut [X],
-    b: &mut [X],
-    c: &mut [Y],
-    d: &mut [Y],
-)
-    requires some_first { 0 < length a.old }
-    requires some_last { 0 < length b.old }
-    requires first { length a.old ≡ length c.old }
-    requires last { length b.old ≡ length d.old }
-    requires may_first { MayAllTurn X.may a.old c.old }
-    requires may_last { MayAllTurn X.may b.old d.old }
-    requires patience { 0 < pace.patience }
-    ensures first { AreTurned X.turned a.old c.old a.new c.new }
-    ensures last { AreTurned X.turned b.old d.old b.new d.new }
-{
-    turns(rt, pace, c, a);
-    turns(rt, pace, d, b);
+    join_halves(rt, pace, a, b, c, d);
 }
 
 /// The turns of both halves, side by side, each in so many threads.
 #[cycle(halves)]
 fn join_halves<T: Threads + Sync, X: TurnWith<Y> + Send, Y: Send>(
     rt: &T,
-    first: Pace,
-    last: Pace,
+    pace: Pace,
     a: &mut [X],
     b: &mut [X],
     c: &mut [Y],
@@ -155,11 +105,12 @@ fn join_halves<T: Threads + Sync, X: TurnWith<Y> + Send, Y: Send>(
     requires last { length b.old ≡ length d.old }
     requires may_first { MayAllTurn X.may a.old c.old }
     requires may_last { MayAllTurn X.may b.old d.old }
-    requires patience_first { 0 < first.patience }
-    requires patience_last { 0 < last.patience }
+    requires patience { 0 < pace.patience }
     ensures first { AreTurned X.turned a.old c.old a.new c.new }
     ensures last { AreTurned X.turned b.old d.old b.new d.new }
 {
+    let first = pace.in_threads(pace.threads / 2);
+    let last = pace.in_threads(pace.threads - pace.threads / 2);
     join_mut(
         rt,
         &mut ||

@@ -1,6 +1,6 @@
 // A site of a run, and its turn at its reader's end of the ring.
 ghost use Rattle.std.specs.Prelude.{◌≡◌, ◌<◌};
-ghost use Rattle.ring_run.specs.Fits.{rack_told};
+ghost use Rattle.pr_rack.specs.Told.{told};
 ghost use Rattle.ring_run.specs.Seat.{is_stopped as is_stopped_lem};
 ghost use Rattle.ring_run.specs.Served.{SomeSeated, Turned};
 
@@ -26,12 +26,12 @@ impl RunSite {
         patience: u32,
     )
         requires some { SomeSeated
-            (rack_told R.finished R.working R.begun R.taken R.missed R.faults rack.old)
+            (told R.Rack rack.old)
             (record { reader = reader.old; site = self.old }) }
         requires patience { 0 < patience }
         ensures turned { Turned
-            (rack_told R.finished R.working R.begun R.taken R.missed R.faults rack.old)
-            (rack_told R.finished R.working R.begun R.taken R.missed R.faults rack.new)
+            (told R.Rack rack.old)
+            (told R.Rack rack.new)
             (record { reader = reader.old; site = self.old })
             (record { reader = reader.new; site = self.new }) }
     {

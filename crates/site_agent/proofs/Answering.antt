@@ -9,9 +9,10 @@ use Rattle.pr_rack.specs.Rack.{Plate, Slots, with_more, with_plate}
 use Rattle.ring_lanes.specs.declared.source.Source.{Source}
 use Rattle.tif_packbits.specs.Frame.{packed_in}
 use Rattle.tif_plate.specs.Tail.{front_bytes, tail_bytes, tail_place}
+use Rattle.pr_rack.specs.Told.{Tells}
 use Rattle.site_agent.specs.declared.plate.SitePlate.{SitePlate}
 use Rattle.site_agent.specs.Job.{Shape}
-use Rattle.site_agent.specs.Tells.{Tells, begun_at, with_begin, with_taken, with_closed, with_finish, finished_at}
+use Rattle.site_agent.specs.Tells.{begun_at, with_begin, with_taken, with_closed, with_finish, finished_at}
 use Rattle.site_agent.specs.Stands.{path_and_length, IsAsLong}
 
 pub on_ok : {T E : Type 0} (r : Result T E) (P : Type 0) → P → OnOk r P

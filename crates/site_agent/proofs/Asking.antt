@@ -10,11 +10,12 @@ use Rattle.tif_packbits.specs.Frame.{packed_in}
 use Rattle.tif_plate.specs.Plate.{rows_each, strip_count}
 use Rattle.tif_plate.specs.Tail.{front_bytes}
 use Rattle.tif_plate.proofs.Growth.{strip-in_plate}
+use Rattle.pr_rack.specs.Told.{Tells}
 use Rattle.site_agent.specs.declared.plate.SitePlate.{SitePlate}
 use Rattle.site_agent.specs.Job.{Shape, SiteJob, shape_of, IsJob}
 use Rattle.site_agent.specs.Given.{open_in, IsRowOf, IsNoRow}
 use Rattle.site_agent.specs.Stands.{AreAsLong, AreBegun, IsAsLong, path_and_length}
-use Rattle.site_agent.specs.Tells.{Tells, after_row, begun_at, counted, with_begin, with_finish, with_taken}
+use Rattle.site_agent.specs.Tells.{after_row, begun_at, counted, with_begin, with_finish, with_taken}
 use Rattle.site_agent.proofs.Answering.{stands-begun, stands-taken}
 use Rattle.site_agent.proofs.Counting.{sum-counted}
 use Rattle.site_agent.proofs.Holding.{get-set_same, get-set_other}

@@ -13,6 +13,7 @@ use Rattle.ring_lanes.specs.Held.{HeldRow}
 use Rattle.ring_lanes.specs.Reader.{ReaderState, IsOpened, SeesOnce, source_of}
 use Rattle.tif_packbits.specs.Frame.{IsFrame, framed_row}
 use Rattle.tif_packbits.proofs.Frames.{AreFrames-frame}
+use Rattle.pr_rack.specs.Told.{RackTells, Tells}
 use Rattle.site_agent.specs.declared.kept.Kept.{Kept}
 use Rattle.site_agent.specs.declared.kept.Kept.TheVariants.{Done, Left, Memory}
 use Rattle.site_agent.specs.declared.kept.LeftCause.{LeftCause}
@@ -20,10 +21,9 @@ use Rattle.site_agent.specs.Draw.{Closes, Draws, IsReady, stage}
 use Rattle.site_agent.specs.Given.{is_kept}
 use Rattle.site_agent.specs.Job.{SiteJob}
 use Rattle.site_agent.specs.Kept.{GoesOn, IfLeft, IsCauseAt, OnDone, OnEnd, OnMemory, TakenOnce}
-use Rattle.site_agent.specs.Refused.{Missed, taken_at}
+use Rattle.site_agent.specs.Refused.{taken_at}
 use Rattle.site_agent.specs.Site.{SiteData}
 use Rattle.site_agent.specs.Stands.{AreAsLong, AreBegun, StandsAfter, files_below, grown, taken_below}
-use Rattle.site_agent.specs.Tells.{Tells}
 use Rattle.site_agent.specs.Turn.{AreRowsFor, IsGoingBy, LeavesAt, StopsAt}
 use Rattle.site_agent.proofs.Going.{going_further}
 
@@ -75,24 +75,24 @@ closes-row reader opened closed held home is sees given-back =
 -- ---- what keeping it makes of the site and its rack
 
 -- the clauses of Site::keep
-pub record Keeps (site site' : SiteData) (held : HeldRow) (old new : Tells) (was missed' : Missed) (before' now : ℕ) (kept : Kept) : Type 0 where
+pub record Keeps (site site' : SiteData) (held : HeldRow) (old new : RackTells) (kept : Kept) : Type 0 where
   pub keeps : OnDone kept
-      ((rows : List (List ℕ)) (before : Tells) → slice_get rows site.next ≡ Some (framed_row held.bytes) → StandsAfter site.job rows held.source site.next before old site.counts
-      → StandsAfter site.job rows held.source (site.next + 1) before new site'.counts)
+      ((rows : List (List ℕ)) (before : Tells) → slice_get rows site.next ≡ Some (framed_row held.bytes) → StandsAfter site.job rows held.source site.next before old.tells site.counts
+      → StandsAfter site.job rows held.source (site.next + 1) before new.tells site'.counts)
   pub goes_on : OnDone kept (GoesOn site site')
-  pub begun_on : OnDone kept (AreBegun site'.job site'.next new.begun)
-  pub working_on : OnDone kept (IfSome new.working (AreAsLong site'.job site'.next site'.counts))
-  pub done_missed : OnDone kept (missed' ≡ was)
+  pub begun_on : OnDone kept (AreBegun site'.job site'.next new.tells.begun)
+  pub working_on : OnDone kept (IfSome new.tells.working (AreAsLong site'.job site'.next site'.counts))
+  pub done_missed : OnDone kept (new.missed ≡ old.missed)
   pub passes : is_kept site.job site.next ≡ false → kept ≡ Done
   pub left : IfLeft kept (IsCauseAt site.job site.next)
-  pub left_counted : IfLeft kept (λ _. Rose before' now)
-  pub left_missed : IfLeft kept (λ cause. IfSome missed' (λ last. last ≡ Some (cause.call, cause.path)))
-  pub left_taken : IfLeft kept (λ cause. new.taken ≡ taken_at cause.call site.next held.source old.taken)
-  pub memory_missed : OnMemory kept (missed' ≡ was)
-  pub memory_taken : OnMemory kept (TakenOnce site.next held.source old.taken new.taken)
-  pub finished_stay : OnEnd kept (new.finished ≡ old.finished)
+  pub left_counted : IfLeft kept (λ _. Rose old.faults new.faults)
+  pub left_missed : IfLeft kept (λ cause. IfSome new.missed (λ last. last ≡ Some (cause.call, cause.path)))
+  pub left_taken : IfLeft kept (λ cause. new.tells.taken ≡ taken_at cause.call site.next held.source old.tells.taken)
+  pub memory_missed : OnMemory kept (new.missed ≡ old.missed)
+  pub memory_taken : OnMemory kept (TakenOnce site.next held.source old.tells.taken new.tells.taken)
+  pub finished_stay : OnEnd kept (new.tells.finished ≡ old.tells.finished)
   pub ended : OnEnd kept (site'.ended ≡ true)
-  pub faults_stay : before' ≤ now
+  pub faults_stay : old.faults ≤ new.faults
 
 going-on : (site site' : SiteData) (reader : ReaderState) (held : HeldRow) (old new before : Tells) → slice_get (map framed_row reader.ring.rows) site.next ≡ Some (framed_row held.bytes) → held.source ≡ source_of reader
     → ((rows : List (List ℕ)) (before' : Tells) → slice_get rows site.next ≡ Some (framed_row held.bytes) → StandsAfter site.job rows held.source site.next before' old site.counts
@@ -140,11 +140,11 @@ kept-there : (test : Bool) (kept : Kept) → (test ≡ false → kept ≡ Done) 
 kept-there true kept passes other = refl
 kept-there false kept passes other = absurd (other (passes refl))
 
-pub kept-draws : (site site' : SiteData) (reader opened closed : ReaderState) (held : HeldRow) (old new : Tells) (was missed' : Missed) (before' now : ℕ) (kept : Kept)
-    → IsReady (stage site reader old was before') → IsOpened reader opened held → SeesOnce reader opened
-    → closed ≡ record opened { cursor = opened.cursor + 1; held = false } → Keeps site site' held old new was missed' before' now kept
-    → Draws (stage site reader old was before') (stage site' closed new missed' now) (Ok kept)
-kept-draws site site' reader opened closed held old new was missed' before' now Done ready is sees given-back keeps =
+pub kept-draws : (site site' : SiteData) (reader opened closed : ReaderState) (held : HeldRow) (old new : RackTells) (kept : Kept)
+    → IsReady (stage site reader old) → IsOpened reader opened held → SeesOnce reader opened
+    → closed ≡ record opened { cursor = opened.cursor + 1; held = false } → Keeps site site' held old new kept
+    → Draws (stage site reader old) (stage site' closed new) (Ok kept)
+kept-draws site site' reader opened closed held old new Done ready is sees given-back keeps =
     let closes : Closes reader closed = closes-row reader opened closed held ready.home is sees given-back in
     let goes : GoesOn site site' = keeps.goes_on in
     let P : SiteJob → RingNumbers → Type 0 = λ job ring. AreRowsFor job ring in
@@ -160,24 +160,24 @@ kept-draws site site' reader opened closed held old new was missed' before' now 
         working = keeps.working_on;
       };
       job = goes.job;
-      stands = λ before going. going-on site site' reader held old new before (row-taken reader.ring.rows reader.cursor site.next held.bytes ready.next is.row.bytes) is.row.source keeps.keeps goes going;
+      stands = λ before going. going-on site site' reader held old.tells new.tells before (row-taken reader.ring.rows reader.cursor site.next held.bytes ready.next is.row.bytes) is.row.source keeps.keeps goes going;
       missed = keeps.done_missed;
       faults = keeps.faults_stay;
     }
-kept-draws site site' reader opened closed held old new was missed' before' now (Left cause) ready is sees given-back keeps =
+kept-draws site site' reader opened closed held old new (Left cause) ready is sees given-back keeps =
     let at : IsCauseAt site.job site.next cause = keeps.left in
     record {
       closes = closes-row reader opened closed held ready.home is sees given-back;
       is = subst (λ (n : ℕ). IsCauseAt site.job n cause) (sym ready.next) at;
-      stands = λ before going. leaving site reader held.source old new before cause is.row.source at.row keeps.finished_stay keeps.left_taken going;
+      stands = λ before going. leaving site reader held.source old.tells new.tells before cause is.row.source at.row keeps.finished_stay keeps.left_taken going;
       missed = keeps.left_missed;
       counted = keeps.left_counted;
       faults = keeps.faults_stay;
       ended = keeps.ended;
     }
-kept-draws site site' reader opened closed held old new was missed' before' now Memory ready is sees given-back keeps = record {
+kept-draws site site' reader opened closed held old new Memory ready is sees given-back keeps = record {
   closes = closes-row reader opened closed held ready.home is sees given-back;
-  stands = λ before going. stopping site reader held.source old new before (kept-there (is_kept site.job site.next) Memory keeps.passes (λ done. (cc))) is.row.source ready.next keeps.finished_stay keeps.memory_taken going;
+  stands = λ before going. stopping site reader held.source old.tells new.tells before (kept-there (is_kept site.job site.next) Memory keeps.passes (λ done. (cc))) is.row.source ready.next keeps.finished_stay keeps.memory_taken going;
   missed = keeps.memory_missed;
   faults = keeps.faults_stay;
   ended = keeps.ended;

@@ -7,6 +7,7 @@ use Rattle.std.proofs.lemmas.Option.{same_Some, slice_get-map, slice_get_within,
 use Rattle.pr_rack.specs.Rack.{Plate, Slots, none_begun}
 use Rattle.ring_lanes.specs.declared.source.Source.{Source}
 use Rattle.pr_base.specs.Row.{row_size}
+use Rattle.pr_rack.specs.Told.{Tells}
 use Rattle.plan_json.specs.Data.{PlanData, plate_width}
 use Rattle.plan_json.specs.Plan.{IsPlan}
 use Rattle.plan_rows.specs.Rows.{row_places}
@@ -17,7 +18,6 @@ use Rattle.site_agent.specs.Kept.{GoesOn}
 use Rattle.site_agent.specs.Plan.{job_of, fresh_site}
 use Rattle.site_agent.specs.Site.{SiteData}
 use Rattle.site_agent.specs.Stands.{AreAsLong, AreBegun, StandsAfter, grown}
-use Rattle.site_agent.specs.Tells.{Tells}
 use Rattle.site_agent.proofs.Jobs.{job_is}
 use Rattle.site_agent.proofs.Runs.{IsIdle, asks_begun, asks_working, site_at_end, stands_at_start}
 

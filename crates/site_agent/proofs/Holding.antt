@@ -7,8 +7,8 @@ use Rattle.std.proofs.lemmas.List.{append_assoc, length-set, get_or-set_same, ge
 use Rattle.std.proofs.lemmas.Option.{slice_get_within, slice_get-get_or, get_or_from_slice_get}
 use Rattle.ring_lanes.specs.declared.source.Source.{Source}
 use Rattle.pr_rack.specs.Rack.{Plate, Slots, plate_in, with_plate, with_more, with_row, finished_with, closed}
+use Rattle.pr_rack.specs.Told.{Tells}
 use Rattle.site_agent.specs.Stands.{grown, Holds}
-use Rattle.site_agent.specs.Tells.{Tells}
 
 -- ---- slots
 

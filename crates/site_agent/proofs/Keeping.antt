@@ -9,6 +9,7 @@ use Rattle.pr_rack.specs.declared.rack.RackCall.{RackCall}
 use Rattle.pr_rack.specs.declared.rack.RackCall.TheVariants.{Begin, Row, Finish}
 use Rattle.pr_rack.specs.declared.rack.RackFault.{RackFault}
 use Rattle.pr_rack.specs.declared.rack.RackFault.TheVariants.{Failed, Memory}
+use Rattle.pr_rack.specs.Told.{Tells}
 use Rattle.site_agent.specs.declared.plate.SitePlate.{SitePlate}
 use Rattle.site_agent.specs.declared.slot.Slot.{Slot}
 use Rattle.site_agent.specs.declared.kept.Kept.{Kept}
@@ -19,7 +20,7 @@ use Rattle.site_agent.specs.Kept.{OnDone, IfLeft, OnMemory, OnEnd, TakenOnce, ke
 use Rattle.site_agent.specs.Refused.{taken_at}
 use Rattle.site_agent.specs.Site.{IsCounting, counts_of}
 use Rattle.site_agent.specs.Stands.{StandsAfter}
-use Rattle.site_agent.specs.Tells.{Tells, counted, after_row}
+use Rattle.site_agent.specs.Tells.{counted, after_row}
 use Rattle.site_agent.proofs.Holding.{FinishedTold}
 use Rattle.site_agent.proofs.Opens.{plate_at}
 use Rattle.site_agent.proofs.Standing.{row_kept}

@@ -218,6 +218,7 @@ fits_left plan rows out site n cause is within at =
       keeps = ap (keeps_row plan site) at.row ∙ sym (kept_is plan out site n is within) ∙ is_kept-row job n at.index at.y none at.is;
       plate = plate;
       y = at.y;
+      below = at.is.below;
       of = (at.index, inside, get_or_default (site_plates plan site) at.index plate some inside);
       number = at.row ∙ sym (at.is.number none) ∙ ap (λ p. number_in p at.y) there ∙ number-is plan out site at.y plate;
       path = at.path none ∙ ap (λ p. p.path) there;

@@ -19,3 +19,4 @@ pub mod Taken
 pub mod Going
 pub mod Drawing
 pub mod Turning
+pub mod Racks

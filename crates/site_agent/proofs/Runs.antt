@@ -6,6 +6,7 @@ use Rattle.std.specs.List.{flat_map, range_with_len}
 use Rattle.std.specs.Option.{option_map}
 use Rattle.std.proofs.lemmas.List.{append-nil, length-append, length-map, take_all}
 use Rattle.ring_lanes.specs.declared.source.Source.{Source}
+use Rattle.pr_rack.specs.Told.{Tells}
 use Rattle.plan_json.specs.Data.{PlanData, plate_width, plate_height}
 use Rattle.plan_json.specs.Plan.{IsPlan}
 use Rattle.plan_rows.specs.Plates.{PlateOf, site_plates, site_files, plate_rows, file_of as plan_file_of}
@@ -21,7 +22,6 @@ use Rattle.site_agent.specs.Job.{SiteJob, IsJob, number_in}
 use Rattle.site_agent.specs.Given.{given, rows_of, open_in, finished_count, kept_below}
 use Rattle.site_agent.specs.Plan.{plate_of, job_of}
 use Rattle.site_agent.specs.Stands.{AreAsLong, AreBegun, path_and_length, grown, file_of, files_of, plate_below, rows_below, begun_plate, StandsAfter}
-use Rattle.site_agent.specs.Tells.{Tells}
 use Rattle.site_agent.proofs.Givens.{given-none, given-within}
 use Rattle.site_agent.proofs.Steps.{length-rows_of}
 use Rattle.site_agent.proofs.Opens.{plate_at, closed, closed-cases, finished-is}

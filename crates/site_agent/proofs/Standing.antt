@@ -16,10 +16,11 @@ use Rattle.tif_plate.specs.Tail.{front_bytes, tail_bytes, tail_place, counts_so_
 use Rattle.tif_plate.proofs.Finish.{finishes as plate-finishes}
 use Rattle.tif_plate.proofs.Growth.{counts_so_far-none, counts_so_far-more, counts_so_far-all}
 use Rattle.pr_rack.specs.Rack.{Plate, Slots, closed, plate_in, with_plate}
+use Rattle.pr_rack.specs.Told.{Tells}
 use Rattle.site_agent.specs.declared.plate.SitePlate.{SitePlate}
 use Rattle.site_agent.specs.Job.{SiteJob, shape_of, IsJob, number_in}
 use Rattle.site_agent.specs.Given.{given, rows_of, open_in, kept_below, IsRowOf, IsNoRow}
-use Rattle.site_agent.specs.Tells.{Tells, counted, with_begin, with_taken, with_finish, after_row}
+use Rattle.site_agent.specs.Tells.{counted, with_begin, with_taken, with_finish, after_row}
 use Rattle.site_agent.specs.Stands.{file_of, files_of, files_below, rows_below, begun_plate, plate_below, taken_below, Holds, AreCounts, StandsAfter}
 use Rattle.site_agent.proofs.Givens.{given-stays}
 use Rattle.site_agent.proofs.Opens.{plate_at, StandsAs, open_in-plate}

@@ -5,32 +5,23 @@ use Rattle.pr_base.specs.Count.{Rose}
 use Rattle.tif_packbits.specs.Frame.{framed_row}
 use Rattle.ring_lanes.specs.declared.answer.NotYet.{NotYet}
 use Rattle.ring_lanes.specs.Reader.{ReaderState, IsNotYet, source_of}
+use Rattle.pr_rack.specs.Told.{RackTells, Tells}
 use Rattle.site_agent.specs.declared.kept.Kept.{Kept}
 use Rattle.site_agent.specs.declared.kept.Kept.TheVariants.{Done, Left, Memory}
 use Rattle.site_agent.specs.declared.kept.LeftCause.{LeftCause}
 use Rattle.site_agent.specs.Kept.{IsCauseAt}
-use Rattle.site_agent.specs.Refused.{Missed}
 use Rattle.site_agent.specs.Site.{SiteData}
 use Rattle.site_agent.specs.Stands.{AreAsLong, AreBegun}
-use Rattle.site_agent.specs.Tells.{Tells}
 use Rattle.site_agent.specs.Turn.{AreRowsFor, IsGoingBy, LeavesAt, StopsAt}
 
 -- a site, its reader, and what its rack tells
 pub record Stage : Type 0 where
   pub site : SiteData
   pub reader : ReaderState
-  pub told : Tells
-  pub missed : Missed
-  pub faults : ℕ
+  pub told : RackTells
 
-abbrev pub stage : SiteData → ReaderState → Tells → Missed → ℕ → Stage
-stage site reader told missed faults = record {
-  site = site;
-  reader = reader;
-  told = told;
-  missed = missed;
-  faults = faults;
-}
+abbrev pub stage : SiteData → ReaderState → RackTells → Stage
+stage site reader told = record { site = site; reader = reader; told = told }
 
 -- the site may take the row at the reader's cursor
 pub record IsReady (s : Stage) : Type 0 where
@@ -39,8 +30,8 @@ pub record IsReady (s : Stage) : Type 0 where
   pub home : s.reader.held ≡ false
   pub next : s.reader.cursor ≡ s.site.next
   pub rows : AreRowsFor s.site.job s.reader.ring
-  pub begun : AreBegun s.site.job s.site.next s.told.begun
-  pub working : IfSome s.told.working (AreAsLong s.site.job s.site.next s.site.counts)
+  pub begun : AreBegun s.site.job s.site.next s.told.tells.begun
+  pub working : IfSome s.told.tells.working (AreAsLong s.site.job s.site.next s.site.counts)
 
 -- the reader took the row and gave it back, and loaded the head perhaps
 pub record Closes (old new : ReaderState) : Type 0 where
@@ -55,31 +46,31 @@ pub record DrawsOn (old new : Stage) : Type 0 where
   pub closes : Closes old.reader new.reader
   pub ready : IsReady new
   pub job : new.site.job ≡ old.site.job
-  pub stands : (before : Tells) → IsGoingBy old.reader before old.told old.site
-      → IsGoingBy old.reader before new.told new.site
-  pub missed : new.missed ≡ old.missed
-  pub faults : old.faults ≤ new.faults
+  pub stands : (before : Tells) → IsGoingBy old.reader before old.told.tells old.site
+      → IsGoingBy old.reader before new.told.tells new.site
+  pub missed : new.told.missed ≡ old.told.missed
+  pub faults : old.told.faults ≤ new.told.faults
 
 -- a call of the rack failed
 pub record DrawsLast (old new : Stage) (cause : LeftCause) : Type 0 where
   pub closes : Closes old.reader new.reader
   pub is : IsCauseAt old.site.job old.reader.cursor cause
-  pub stands : (before : Tells) → IsGoingBy old.reader before old.told old.site
-      → LeavesAt old.site.job (map framed_row old.reader.ring.rows) (source_of old.reader) before new.told
-      cause
-  pub missed : IfSome new.missed (λ last. last ≡ Some (cause.call, cause.path))
-  pub counted : Rose old.faults new.faults
-  pub faults : old.faults ≤ new.faults
+  pub stands : (before : Tells) → IsGoingBy old.reader before old.told.tells old.site
+      → LeavesAt old.site.job (map framed_row old.reader.ring.rows) (source_of old.reader) before
+      new.told.tells cause
+  pub missed : IfSome new.told.missed (λ last. last ≡ Some (cause.call, cause.path))
+  pub counted : Rose old.told.faults new.told.faults
+  pub faults : old.told.faults ≤ new.told.faults
   pub ended : new.site.ended ≡ true
 
 -- a call of the rack wanted memory
 pub record DrawsNone (old new : Stage) : Type 0 where
   pub closes : Closes old.reader new.reader
-  pub stands : (before : Tells) → IsGoingBy old.reader before old.told old.site
+  pub stands : (before : Tells) → IsGoingBy old.reader before old.told.tells old.site
       → StopsAt old.site.job (map framed_row old.reader.ring.rows) (source_of old.reader) old.reader.cursor
-      before new.told
-  pub missed : new.missed ≡ old.missed
-  pub faults : old.faults ≤ new.faults
+      before new.told.tells
+  pub missed : new.told.missed ≡ old.told.missed
+  pub faults : old.told.faults ≤ new.told.faults
   pub ended : new.site.ended ≡ true
 
 -- the row wasn't published yet
@@ -88,8 +79,6 @@ pub record Awaits (old new : Stage) (answer : NotYet) : Type 0 where
   pub behind : old.reader.seen ≤ old.reader.cursor
   pub site : new.site ≡ old.site
   pub told : new.told ≡ old.told
-  pub missed : new.missed ≡ old.missed
-  pub faults : new.faults ≡ old.faults
 
 -- one of these, by the answer
 abbrev pub Draws : Stage → Stage → Result Kept NotYet → Type 0
@@ -113,7 +102,7 @@ pub record Goes (first now : Stage) (waits : ℕ) : Type 0 where
   pub seen : first.reader.seen ≤ now.reader.seen
   pub counted : first.reader.loads + waits ≤ now.reader.loads
   pub job : now.site.job ≡ first.site.job
-  pub stands : (before : Tells) → IsGoingBy first.reader before first.told first.site
-      → IsGoingBy first.reader before now.told now.site
-  pub missed : now.missed ≡ first.missed
-  pub faults : first.faults ≤ now.faults
+  pub stands : (before : Tells) → IsGoingBy first.reader before first.told.tells first.site
+      → IsGoingBy first.reader before now.told.tells now.site
+  pub missed : now.told.missed ≡ first.told.missed
+  pub faults : first.told.faults ≤ now.told.faults

@@ -2,9 +2,9 @@
 use Rattle.std.specs.Prelude.{◌≡◌, ℕ, false, List, All, length}
 use Rattle.ring_lanes.specs.declared.source.Source.{Source}
 use Rattle.pr_base.specs.Row.{row_size}
+use Rattle.pr_rack.specs.Told.{Tells}
 use Rattle.site_agent.specs.Site.{SiteData}
 use Rattle.site_agent.specs.Stands.{StandsAfter}
-use Rattle.site_agent.specs.Tells.{Tells}
 
 -- of a run over these rows, taken from this source, the site has dealt with those below its next one, and
 -- its rack, which told one thing before, tells another now

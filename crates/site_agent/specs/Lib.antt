@@ -9,3 +9,4 @@ pub mod Plan
 pub mod Going
 pub mod Turn
 pub mod Draw
+pub mod Racks

@@ -1,5 +1,5 @@
 -- What a plan gives a site to make, and what its rack shows where the site is done or has left.
-use Rattle.std.specs.Prelude.{◌≡◌, ℕ, ◌+◌, Bool, true, false, nat_lt, ◌==◌, ◌&&◌, ◌||◌, List, length, map, filter, take, replicate, Contains}
+use Rattle.std.specs.Prelude.{◌≡◌, ℕ, ◌+◌, ◌<◌, Bool, true, false, nat_lt, ◌==◌, ◌&&◌, ◌||◌, List, length, map, filter, take, replicate, Contains}
 use Rattle.std.specs.List.{range_with_len}
 use Rattle.ring_lanes.specs.declared.source.Source.{Source}
 use Rattle.tif_plate.specs.Plate.{strip_count}
@@ -68,6 +68,7 @@ pub record FitsLeft (plan : PlanData) (rows : List (List ℕ)) (out : List ℕ) 
   pub plate : PlateOf
   pub y : ℕ
   pub of : Contains (site_plates plan site) plate
+  pub below : y < plate_height plan
   pub number : cause.row ≡ row_number plate.0 y plate.1
   pub path : cause.path ≡ path_of plan out site plate.0 plate.1
   pub begins : cause.call ≡ Begin → y ≡ 0

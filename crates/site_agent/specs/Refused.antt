@@ -6,23 +6,19 @@ use Rattle.pr_rack.specs.declared.rack.RackCall.TheVariants.{Begin, Row, Finish}
 use Rattle.pr_rack.specs.declared.rack.RackFault.TheVariants.{Failed, Memory}
 use Rattle.pr_base.specs.Count.{Rose}
 use Rattle.pr_rack.specs.Rack.{with_row}
+use Rattle.pr_rack.specs.Told.{RackTells}
 use Rattle.site_agent.specs.declared.calls.Refusal.{Refusal}
-use Rattle.site_agent.specs.Tells.{Tells}
-
--- the last failed call and its plate's path, where told
-abbrev pub Missed : Type 0
-Missed = Option (Option (RackCall × List ℕ))
 
 -- this call for the plate at this path was refused
-pub record IsRefused (call' : RackCall) (path : List ℕ) (old new : Tells) (was missed' : Missed)
-    (before now : ℕ) (refusal : Refusal) : Type 0 where
+pub record IsRefused (call' : RackCall) (path : List ℕ) (old new : RackTells) (refusal : Refusal)
+    : Type 0 where
   pub call : refusal.call ≡ call'
-  pub finished : new.finished ≡ old.finished
-  pub taken : new.taken ≡ old.taken
-  pub counted : refusal.fault ≡ Failed → Rose before now
-  pub missed : refusal.fault ≡ Failed → IfSome missed' (λ last. last ≡ Some (call', path))
+  pub finished : new.tells.finished ≡ old.tells.finished
+  pub taken : new.tells.taken ≡ old.tells.taken
+  pub counted : refusal.fault ≡ Failed → Rose old.faults new.faults
+  pub missed : refusal.fault ≡ Failed → IfSome new.missed (λ last. last ≡ Some (call', path))
   -- no call failed
-  pub unmissed : refusal.fault ≡ Memory → missed' ≡ was
+  pub unmissed : refusal.fault ≡ Memory → new.missed ≡ old.missed
 
 -- the rows that were taken, where this call for the row with this number was refused: with the row only
 -- where its plate was to be finished
@@ -32,12 +28,12 @@ taken_at Row number source taken = taken
 taken_at Finish number source taken = with_row number source taken
 
 -- row y of a plate, with this number, wasn't dealt with
-pub record IsStopped (height y number : ℕ) (source : Source) (path : List ℕ) (old new : Tells)
-    (was missed' : Missed) (before now : ℕ) (refusal : Refusal) : Type 0 where
+pub record IsStopped (height y number : ℕ) (source : Source) (path : List ℕ) (old new : RackTells)
+    (refusal : Refusal) : Type 0 where
   pub begins : refusal.call ≡ Begin → y ≡ 0
   pub ends : refusal.call ≡ Finish → y + 1 ≡ height
-  pub finished : new.finished ≡ old.finished
-  pub taken : new.taken ≡ taken_at refusal.call number source old.taken
-  pub counted : refusal.fault ≡ Failed → Rose before now
-  pub missed : refusal.fault ≡ Failed → IfSome missed' (λ last. last ≡ Some (refusal.call, path))
-  pub unmissed : refusal.fault ≡ Memory → missed' ≡ was
+  pub finished : new.tells.finished ≡ old.tells.finished
+  pub taken : new.tells.taken ≡ taken_at refusal.call number source old.tells.taken
+  pub counted : refusal.fault ≡ Failed → Rose old.faults new.faults
+  pub missed : refusal.fault ≡ Failed → IfSome new.missed (λ last. last ≡ Some (refusal.call, path))
+  pub unmissed : refusal.fault ≡ Memory → new.missed ≡ old.missed

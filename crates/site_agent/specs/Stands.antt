@@ -7,10 +7,10 @@ use Rattle.tif_packbits.specs.Packbits.{packing}
 use Rattle.tif_plate.specs.Plate.{plate_file}
 use Rattle.tif_plate.specs.Tail.{front_bytes, counts_so_far}
 use Rattle.pr_rack.specs.Rack.{Plate, Slots}
+use Rattle.pr_rack.specs.Told.{Tells}
 use Rattle.site_agent.specs.declared.plate.SitePlate.{SitePlate}
 use Rattle.site_agent.specs.Job.{SiteJob}
 use Rattle.site_agent.specs.Given.{given, rows_of, open_in, finished_count, kept_below}
-use Rattle.site_agent.specs.Tells.{Tells}
 
 -- a list with these behind it, where told
 abbrev pub grown : {X : Type 0} → List X → Option (List X) → Option (List X)

@@ -1,26 +1,12 @@
--- What a rack tells of its plates, and what the calls for one row make of it.
-use Rattle.std.specs.Prelude.{ℕ, ◌+◌, ◌==◌, Bool, true, false, if◌then◌else◌, List, Option, Some, None, length, replicate, slice_index, slice_set}
+-- What the calls for one row make of what a rack tells of its plates.
+use Rattle.std.specs.Prelude.{ℕ, ◌+◌, ◌==◌, true, false, if◌then◌else◌, List, Some, None, length, replicate, slice_index, slice_set}
 use Rattle.ring_lanes.specs.declared.source.Source.{Source}
 use Rattle.tif_packbits.specs.Frame.{packed_in}
 use Rattle.tif_plate.specs.Tail.{front_bytes, tail_bytes, tail_place}
-use Rattle.pr_rack.specs.Rack.{Plate, Slots, with_plate, with_more, with_row, finished_with}
+use Rattle.pr_rack.specs.Rack.{with_plate, with_more, with_row, finished_with}
+use Rattle.pr_rack.specs.Told.{Tells}
 use Rattle.site_agent.specs.declared.plate.SitePlate.{SitePlate}
 use Rattle.site_agent.specs.Job.{Shape}
-
--- the finished plates, what stands in the slots, which of them are begun, and the rows that were taken
-pub record Tells : Type 0 where
-  pub finished : Option (List Plate)
-  pub working : Option Slots
-  pub begun : List Bool
-  pub taken : Option (List (ℕ × Source))
-
-abbrev pub tells : Option (List Plate) → Option Slots → List Bool → Option (List (ℕ × Source)) → Tells
-tells finished working begun taken = record {
-  finished = finished;
-  working = working;
-  begun = begun;
-  taken = taken;
-}
 
 -- the byte counts of a plate's strips once its row y has gone to a strip: a plate begins with zeros
 abbrev pub counted : ℕ → ℕ → ℕ → List ℕ → List ℕ

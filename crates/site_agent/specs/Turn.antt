@@ -5,6 +5,7 @@ use Rattle.ring_lanes.specs.declared.source.Source.{Source}
 use Rattle.ring_lanes.specs.Reader.{ReaderState, source_of}
 use Rattle.pr_base.specs.Row.{row_size}
 use Rattle.tif_packbits.specs.Frame.{AreFrames, framed_row}
+use Rattle.pr_rack.specs.Told.{Tells}
 use Rattle.site_agent.specs.declared.kept.LeftCause.{LeftCause}
 use Rattle.site_agent.specs.declared.turn_end.TurnEnd.{TurnEnd}
 use Rattle.site_agent.specs.declared.turn_end.TurnEnd.TheVariants.{Waiting, Finished, Left, Memory}
@@ -15,7 +16,6 @@ use Rattle.site_agent.specs.Kept.{TakenOnce}
 use Rattle.site_agent.specs.Refused.{taken_at}
 use Rattle.site_agent.specs.Site.{SiteData}
 use Rattle.site_agent.specs.Stands.{files_below, grown, taken_below}
-use Rattle.site_agent.specs.Tells.{Tells}
 
 -- P where the site goes on
 abbrev pub OnGoing : TurnEnd → Type 0 → Type 0

@@ -5,9 +5,10 @@ ghost use Rattle.tif_packbits.specs.Frame.{IsFrame, packed_in};
 ghost use Rattle.tif_plate.specs.Plate.{strip_count};
 ghost use Rattle.tif_plate.specs.Tail.{IsPlaceable, strips_end};
 ghost use Rattle.pr_rack.specs.Rack.{IsBehind, path_in, plate_in};
+ghost use Rattle.pr_rack.specs.Told.{told};
 ghost use Rattle.site_agent.specs.Refused.{IsRefused, IsStopped};
 ghost use Rattle.site_agent.specs.Stands.{IsAsLong};
-ghost use Rattle.site_agent.specs.Tells.{after_row, begun_at, finished_at, tells, with_closed, with_taken};
+ghost use Rattle.site_agent.specs.Tells.{after_row, begun_at, finished_at, with_closed, with_taken};
 
 use crate::plate::SitePlate;
 use crate::tails::Tails;
@@ -26,15 +27,13 @@ pub(crate) struct Refusal {
 fn begin<R: Rack>(plate: &SitePlate, y: u32, rack: &mut R) -> Result<(), Refusal>
     requires { slice_get (R.begun rack.old) plate.now.slot ≡ Some (nat_lt 0 y) }
     ensures ok { OnOk result (
-        tells (R.finished rack.new) (R.working rack.new) (R.begun rack.new) (R.taken rack.new)
+        (told R.Rack rack.new).tells
         ≡ begun_at y plate.now
-        (tells (R.finished rack.old) (R.working rack.old) (R.begun rack.old) (R.taken rack.old))) }
+        (told R.Rack rack.old).tells) }
     ensures first { IfErr result (λ _. y ≡ 0) }
     ensures err { IfErr result (
         IsRefused RackCall.Begin plate.now.path
-        (tells (R.finished rack.old) (R.working rack.old) (R.begun rack.old) (R.taken rack.old))
-        (tells (R.finished rack.new) (R.working rack.new) (R.begun rack.new) (R.taken rack.new))
-        (R.missed rack.old) (R.missed rack.new) (R.faults rack.old) (R.faults rack.new)) }
+        (told R.Rack rack.old) (told R.Rack rack.new)) }
     ensures missed_stay { OnOk result (R.missed rack.new ≡ R.missed rack.old) }
     ensures faults_stay { R.faults rack.old ≤ R.faults rack.new }
 {
@@ -57,14 +56,12 @@ fn take<R: Rack>(plate: &SitePlate, held: &Held, rack: &mut R) -> Result<(), Ref
     requires path { IfSome (R.working rack.old) (λ slots.
         path_in (Some slots) plate.now.slot ≡ plate.now.path) }
     ensures ok { OnOk result (
-        tells (R.finished rack.new) (R.working rack.new) (R.begun rack.new) (R.taken rack.new)
+        (told R.Rack rack.new).tells
         ≡ with_taken plate.now.slot held.now.number held.now.bytes held.now.source
-        (tells (R.finished rack.old) (R.working rack.old) (R.begun rack.old) (R.taken rack.old))) }
+        (told R.Rack rack.old).tells) }
     ensures err { IfErr result (
         IsRefused RackCall.Row plate.now.path
-        (tells (R.finished rack.old) (R.working rack.old) (R.begun rack.old) (R.taken rack.old))
-        (tells (R.finished rack.new) (R.working rack.new) (R.begun rack.new) (R.taken rack.new))
-        (R.missed rack.old) (R.missed rack.new) (R.faults rack.old) (R.faults rack.new)) }
+        (told R.Rack rack.old) (told R.Rack rack.new)) }
     ensures missed_stay { OnOk result (R.missed rack.new ≡ R.missed rack.old) }
     ensures faults_stay { R.faults rack.old ≤ R.faults rack.new }
 {
@@ -85,14 +82,12 @@ fn finish<R: Rack>(plate: &SitePlate, tail: &[u8], at: u32, rack: &mut R) -> Res
     requires place { IfSome (plate_in (R.working rack.old) plate.now.slot) (λ held.
         IsBehind (length held.1) at) }
     ensures ok { OnOk result (
-        tells (R.finished rack.new) (R.working rack.new) (R.begun rack.new) (R.taken rack.new)
+        (told R.Rack rack.new).tells
         ≡ with_closed plate.now.slot tail.now at
-        (tells (R.finished rack.old) (R.working rack.old) (R.begun rack.old) (R.taken rack.old))) }
+        (told R.Rack rack.old).tells) }
     ensures err { IfErr result (
         IsRefused RackCall.Finish plate.now.path
-        (tells (R.finished rack.old) (R.working rack.old) (R.begun rack.old) (R.taken rack.old))
-        (tells (R.finished rack.new) (R.working rack.new) (R.begun rack.new) (R.taken rack.new))
-        (R.missed rack.old) (R.missed rack.new) (R.faults rack.old) (R.faults rack.new)) }
+        (told R.Rack rack.old) (told R.Rack rack.new)) }
     ensures missed_stay { OnOk result (R.missed rack.new ≡ R.missed rack.old) }
     ensures faults_stay { R.faults rack.old ≤ R.faults rack.new }
 {
@@ -119,15 +114,13 @@ fn end<R: Rack>(
     requires begun { slice_get (R.begun rack.old) plate.now.slot ≡ Some true }
     requires stands { IfSome (R.working rack.old) (IsAsLong plate.now (strips_end counts.now)) }
     ensures ok { OnOk result (
-        tells (R.finished rack.new) (R.working rack.new) (R.begun rack.new) (R.taken rack.new)
+        (told R.Rack rack.new).tells
         ≡ finished_at tails.old.shape y plate.now counts.now
-        (tells (R.finished rack.old) (R.working rack.old) (R.begun rack.old) (R.taken rack.old))) }
+        (told R.Rack rack.old).tells) }
     ensures last { IfErr result (λ _. y + 1 ≡ tails.old.shape.height) }
     ensures err { IfErr result (
         IsRefused RackCall.Finish plate.now.path
-        (tells (R.finished rack.old) (R.working rack.old) (R.begun rack.old) (R.taken rack.old))
-        (tells (R.finished rack.new) (R.working rack.new) (R.begun rack.new) (R.taken rack.new))
-        (R.missed rack.old) (R.missed rack.new) (R.faults rack.old) (R.faults rack.new)) }
+        (told R.Rack rack.old) (told R.Rack rack.new)) }
     ensures missed_stay { OnOk result (R.missed rack.new ≡ R.missed rack.old) }
     ensures faults_stay { R.faults rack.old ≤ R.faults rack.new }
     ensures shape { tails.new.shape ≡ tails.old.shape }
@@ -159,14 +152,12 @@ pub(crate) fn deliver<R: Rack>(
     requires stands { 0 < y → IfSome (R.working rack.old)
         (IsAsLong plate.now (strips_end counts.now - length (packed_in held.now.bytes))) }
     ensures ok { OnOk result (
-        tells (R.finished rack.new) (R.working rack.new) (R.begun rack.new) (R.taken rack.new)
+        (told R.Rack rack.new).tells
         ≡ after_row tails.old.shape plate.now y held.now.number held.now.bytes held.now.source counts.now
-        (tells (R.finished rack.old) (R.working rack.old) (R.begun rack.old) (R.taken rack.old))) }
+        (told R.Rack rack.old).tells) }
     ensures err { IfErr result (
         IsStopped tails.old.shape.height y held.now.number held.now.source plate.now.path
-        (tells (R.finished rack.old) (R.working rack.old) (R.begun rack.old) (R.taken rack.old))
-        (tells (R.finished rack.new) (R.working rack.new) (R.begun rack.new) (R.taken rack.new))
-        (R.missed rack.old) (R.missed rack.new) (R.faults rack.old) (R.faults rack.new)) }
+        (told R.Rack rack.old) (told R.Rack rack.new)) }
     ensures missed_stay { OnOk result (R.missed rack.new ≡ R.missed rack.old) }
     ensures faults_stay { R.faults rack.old ≤ R.faults rack.new }
     ensures shape { tails.new.shape ≡ tails.old.shape }

@@ -4,6 +4,7 @@ ghost use Rattle.pr_base.specs.Row.{row_size};
 ghost use Rattle.tif_packbits.specs.Frame.{IsFrame, framed_row, packed_in};
 ghost use Rattle.tif_plate.specs.Plate.{rows_each};
 ghost use Rattle.pr_base.specs.Count.{Rose};
+ghost use Rattle.pr_rack.specs.Told.{Tells, told};
 ghost use Rattle.site_agent.specs.declared.plate.SitePlate.{SitePlate as SitePlateData};
 ghost use Rattle.site_agent.specs.Job.{shape_of};
 ghost use Rattle.site_agent.specs.Given.{IsNoRow, is_kept};
@@ -13,7 +14,7 @@ ghost use Rattle.site_agent.specs.Plan.{fresh_site};
 ghost use Rattle.site_agent.specs.Refused.{IsStopped, taken_at};
 ghost use Rattle.site_agent.specs.Site.{IsPlaceOf};
 ghost use Rattle.site_agent.specs.Stands.{AreAsLong, AreBegun, StandsAfter};
-ghost use Rattle.site_agent.specs.Tells.{Tells, after_row, counted, tells};
+ghost use Rattle.site_agent.specs.Tells.{after_row, counted};
 
 use crate::calls::{Refusal, deliver};
 use crate::place::Place;
@@ -128,10 +129,10 @@ impl Site {
         requires working { IfSome (R.working rack.old)
             (AreAsLong self.old.job self.old.next self.old.counts) }
         ensures rack { OnOk result ((d : SitePlateData) →
-            tells (R.finished rack.new) (R.working rack.new) (R.begun rack.new) (R.taken rack.new)
+            (told R.Rack rack.new).tells
             ≡ after_row (shape_of self.old.job) (slice_index_or self.old.job.plates place.plate d) place.y
             held.now.number held.now.bytes held.now.source (slice_index_or self.new.counts place.slot [])
-            (tells (R.finished rack.old) (R.working rack.old) (R.begun rack.old) (R.taken rack.old))) }
+            (told R.Rack rack.old).tells) }
         ensures own { OnOk result (
             slice_index_or self.new.counts place.slot []
             ≡ counted place.y (place.y / rows_each self.old.job.width) (length (packed_in held.now.bytes))
@@ -143,9 +144,7 @@ impl Site {
         ensures stopped { IfErr result (λ refusal. (d : SitePlateData) →
             IsStopped self.old.job.height place.y held.now.number held.now.source
             (slice_index_or self.old.job.plates place.plate d).path
-            (tells (R.finished rack.old) (R.working rack.old) (R.begun rack.old) (R.taken rack.old))
-            (tells (R.finished rack.new) (R.working rack.new) (R.begun rack.new) (R.taken rack.new))
-            (R.missed rack.old) (R.missed rack.new) (R.faults rack.old) (R.faults rack.new) refusal) }
+            (told R.Rack rack.old) (told R.Rack rack.new) refusal) }
         ensures ended { OnErr result (self.new.ended ≡ true) }
         ensures job { self.new.job ≡ self.old.job }
         ensures faults_stay { R.faults rack.old ≤ R.faults rack.new }
@@ -215,10 +214,10 @@ impl Site {
             (rows : List (List ℕ)) (before : Tells)
             → slice_get rows self.old.next ≡ Some (framed_row held.now.bytes)
             → StandsAfter self.old.job rows held.now.source self.old.next before
-            (tells (R.finished rack.old) (R.working rack.old) (R.begun rack.old) (R.taken rack.old))
+            (told R.Rack rack.old).tells
             self.old.counts
             → StandsAfter self.old.job rows held.now.source (self.old.next + 1) before
-            (tells (R.finished rack.new) (R.working rack.new) (R.begun rack.new) (R.taken rack.new))
+            (told R.Rack rack.new).tells
             self.new.counts) }
         ensures goes_on { OnDone result (GoesOn self.old self.new) }
         ensures begun_on { OnDone result (AreBegun self.new.job self.new.next (R.begun rack.new)) }

@@ -3,10 +3,10 @@ ghost use Rattle.std.specs.Prelude.{◌≡◌, ◌+◌, ◌<◌, ◌≤◌, ℕ,
 ghost use Rattle.pr_base.specs.Count.{Rose};
 ghost use Rattle.tif_packbits.specs.Frame.{framed_row};
 ghost use Rattle.ring_lanes.specs.Reader.{Waits, source_of};
+ghost use Rattle.pr_rack.specs.Told.{Tells, told};
 ghost use Rattle.site_agent.specs.Draw.{Draws, IsReady, stage};
 ghost use Rattle.site_agent.specs.Kept.{IsCauseAt};
 ghost use Rattle.site_agent.specs.Stands.{AreAsLong, AreBegun};
-ghost use Rattle.site_agent.specs.Tells.{Tells, tells};
 ghost use Rattle.site_agent.specs.Turn.{AreRowsFor, GoesOnTo, IfLeft, IfWaiting, IsGoingBy, LeavesAt, OnEnd, OnFinished, OnGoing, OnMemory, StopsAt};
 
 use crate::{Kept, Site, TurnEnd};
@@ -54,9 +54,9 @@ impl Site {
         // Waiting and Finished: the rows below the cursor are dealt with.
         ensures stands { OnGoing result ((before : Tells) →
             IsGoingBy reader.old before
-            (tells (R.finished rack.old) (R.working rack.old) (R.begun rack.old) (R.taken rack.old)) self.old
+            (told R.Rack rack.old).tells self.old
             → IsGoingBy reader.old before
-            (tells (R.finished rack.new) (R.working rack.new) (R.begun rack.new) (R.taken rack.new))
+            (told R.Rack rack.new).tells
             self.new) }
         ensures goes_on { OnGoing result (GoesOnTo self.old self.new reader.new.cursor) }
         ensures begun_on { OnGoing result (AreBegun self.new.job self.new.next (R.begun rack.new)) }
@@ -74,18 +74,18 @@ impl Site {
             IfSome (R.missed rack.new) (λ last. last ≡ Some (cause.call, cause.path))) }
         ensures left_stands { IfLeft result (λ cause. (before : Tells) →
             IsGoingBy reader.old before
-            (tells (R.finished rack.old) (R.working rack.old) (R.begun rack.old) (R.taken rack.old)) self.old
+            (told R.Rack rack.old).tells self.old
             → LeavesAt self.old.job (map framed_row reader.old.ring.rows) (source_of reader.old) before
-            (tells (R.finished rack.new) (R.working rack.new) (R.begun rack.new) (R.taken rack.new))
+            (told R.Rack rack.new).tells
             cause) }
 
         // Memory: a call of the rack wanted it, for that row, and none failed.
         ensures memory_missed { OnMemory result (R.missed rack.new ≡ R.missed rack.old) }
         ensures memory_stands { OnMemory result ((before : Tells) (n : ℕ) → n + 1 ≡ reader.new.cursor →
             IsGoingBy reader.old before
-            (tells (R.finished rack.old) (R.working rack.old) (R.begun rack.old) (R.taken rack.old)) self.old
+            (told R.Rack rack.old).tells self.old
             → StopsAt self.old.job (map framed_row reader.old.ring.rows) (source_of reader.old) n before
-            (tells (R.finished rack.new) (R.working rack.new) (R.begun rack.new) (R.taken rack.new))) }
+            (told R.Rack rack.new).tells) }
 
         ensures ended { OnEnd result (self.new.ended ≡ true) }
         ensures faults_stay { R.faults rack.old ≤ R.faults rack.new }
@@ -107,7 +107,7 @@ impl Site {
                     if waits == patience {
                         return TurnEnd::Waiting { head };
                     }
-                    pause();
+                    pause(waits);
                 }
             }
         }
@@ -121,16 +121,13 @@ impl Site {
         rack: &mut R,
     ) -> Result<Kept, NotYet>
         requires ready { IsReady (stage self.old reader.old
-            (tells (R.finished rack.old) (R.working rack.old) (R.begun rack.old) (R.taken rack.old))
-            (R.missed rack.old) (R.faults rack.old)) }
+            (told R.Rack rack.old)) }
         requires some_row { reader.old.cursor < reader.old.ring.total }
         ensures { Draws
             (stage self.old reader.old
-            (tells (R.finished rack.old) (R.working rack.old) (R.begun rack.old) (R.taken rack.old))
-            (R.missed rack.old) (R.faults rack.old))
+            (told R.Rack rack.old))
             (stage self.new reader.new
-            (tells (R.finished rack.new) (R.working rack.new) (R.begun rack.new) (R.taken rack.new))
-            (R.missed rack.new) (R.faults rack.new)) result }
+            (told R.Rack rack.new)) result }
     {
         let held = reader.open()?;
         let kept = self.keep(&held, rack);

@@ -11,7 +11,7 @@ use Rattle.press_job.proofs.layers.open_layers.Goals as goal
 
 pub open_layer-requires : goal.open_layer-requires
 open_layer-requires c =
-    planned_pass c.args.job.now.plan c.plan.result.now c.args.job.now.files c.files-files.result.now c.args.page c.loop-layer.layer-index c.planned_on-planned.result.now _ c.files-files.ensures.planned c.files-files.ensures.files
+    planned_pass c.args.job.now.plan c.plan.result.now c.args.job.now.files c.tested_files-files.result.now c.args.page c.loop-layer.layer-index c.planned_on-planned.result.now _ c.tested_files-files.ensures.planned c.tested_files-files.ensures.files
     c.plan.ensures.plan c.planned_on-planned.ensures (omega arith)
 
 pub loop-layer-preserved : goal.loop-layer-preserved
@@ -23,12 +23,12 @@ loop-layer-preserved c =
     let none : LayerData = record { line = false; file = 0; x = 0; y = 0; scale = 0; crop = None; mask = None; overprint = false; ink = [] } in
     let item : LayerData = get_or planned i none in
     let passes =
-    planned_pass c.args.job.now.plan c.plan.result.now c.args.job.now.files c.files-files.result.now c.args.page i planned none c.files-files.ensures.planned c.files-files.ensures.files c.plan.ensures.plan c.planned_on-planned.ensures (omega arith) in
+    planned_pass c.args.job.now.plan c.plan.result.now c.args.job.now.files c.tested_files-files.result.now c.args.page i planned none c.tested_files-files.ensures.planned c.tested_files-files.ensures.files c.plan.ensures.plan c.planned_on-planned.ensures (omega arith) in
     record {
       layers = items ∙ ap {A = List Layer} (λ ls. ls ++ c.open_layer.result ∷ []) c.loop-layer.invariant.layers
-          ∙ ap {A = Layer} (λ l. map (layer_of c.args.job.now.files) (take i planned) ++ l ∷ []) (c.open_layer.ensures ∙ ap {A = List (List ℕ)} (λ fs. layer_of fs item) c.files-files.ensures.files)
+          ∙ ap {A = Layer} (λ l. map (layer_of c.args.job.now.files) (take i planned) ++ l ∷ []) (c.open_layer.ensures ∙ ap {A = List (List ℕ)} (λ fs. layer_of fs item) c.tested_files-files.ensures.files)
           ∙ sym (map_more (layer_of c.args.job.now.files) planned i none (omega arith));
-      fit = All-same IsLayer c.push.new.self.items _ items (All-push IsLayer old c.open_layer.result c.loop-layer.invariant.fit (subst {A = Layer} IsLayer (sym c.open_layer.ensures) (layer_fits c.files-files.result.now item passes)));
+      fit = All-same IsLayer c.push.new.self.items _ items (All-push IsLayer old c.open_layer.result c.loop-layer.invariant.fit (subst {A = Layer} IsLayer (sym c.open_layer.ensures) (layer_fits c.tested_files-files.result.now item passes)));
     }
 
 pub returns-clause-layers : goal.returns-clause-layers

@@ -1,21 +1,21 @@
 use Rattle.std.proofs.Common.{◌≡◌, map, ap, subst, ◌∙◌, arith}
 use Rattle.std.proofs.lemmas.List.{length-map}
 use Rattle.ring_lanes.specs.Writer.{WriterState}
+use Rattle.pr_rack.specs.Told.{RackTells, told}
 use Rattle.ring_run.specs.Feeding.{Fed}
-use Rattle.ring_run.specs.Fits.{RackTells, rack_told}
 use Rattle.ring_run.specs.Round.{AreTold, KnowsAll}
 use Rattle.ring_run.proofs.Rounds.{ends_stay, ends_told, falls, may_turn, rounded, stay_seated}
 use Rattle.ring_run.proofs.round.round.Goals as goal
 
 pub turn_beside-requires-clause-may : goal.turn_beside-requires-clause-may
 turn_beside-requires-clause-may g c κs within =
-    let tell : g.row.R.Denot → RackTells = rack_told g.R.Rack.finished g.R.Rack.working g.R.Rack.begun g.R.Rack.taken g.R.Rack.missed g.R.Rack.faults in
+    let tell : g.row.R.Denot → RackTells = told g.R.Rack in
     may_turn tell c.tell_writer.new.writer c.args.seats.now c.tell_readers.new.seats c.args.racks.now (c.tell_readers.auto.seats ∙ c.tell_writer.auto.seats)
     (subst (λ (s : _). AreTold c.tell_writer.new.writer s c.tell_readers.new.seats) c.tell_writer.ensures.seats c.tell_readers.ensures.told) c.requires.some
 
 pub returns-clause-ends : goal.returns-clause-ends
 returns-clause-ends g c =
-    let tell : g.row.R.Denot → RackTells = rack_told g.R.Rack.finished g.R.Rack.working g.R.Rack.begun g.R.Rack.taken g.R.Rack.missed g.R.Rack.faults in
+    let tell : g.row.R.Denot → RackTells = told g.R.Rack in
     let told : AreTold c.tell_writer.new.writer c.args.seats.now c.tell_readers.new.seats = subst (λ (s : _). AreTold c.tell_writer.new.writer s c.tell_readers.new.seats) c.tell_writer.ensures.seats c.tell_readers.ensures.told in
     let same = c.tell_readers.auto.seats ∙ c.tell_writer.auto.seats in
     let all = c.turn_beside.auto.all ∙ same in
@@ -31,7 +31,7 @@ returns-clause-ends g c =
 
 pub returns-clause-seated : goal.returns-clause-seated
 returns-clause-seated g c =
-    let tell : g.row.R.Denot → RackTells = rack_told g.R.Rack.finished g.R.Rack.working g.R.Rack.begun g.R.Rack.taken g.R.Rack.missed g.R.Rack.faults in
+    let tell : g.row.R.Denot → RackTells = told g.R.Rack in
     let told : AreTold c.tell_writer.new.writer c.args.seats.now c.tell_readers.new.seats = subst (λ (s : _). AreTold c.tell_writer.new.writer s c.tell_readers.new.seats) c.tell_writer.ensures.seats c.tell_readers.ensures.told in
     let same = c.tell_readers.auto.seats ∙ c.tell_writer.auto.seats in
     let all-rounded = rounded tell c.tell_writer.new.writer c.args.seats.now c.tell_readers.new.seats c.turn_beside.new.all c.args.racks.now c.turn_beside.new.others same told c.turn_beside.ensures.turned in
@@ -39,7 +39,7 @@ returns-clause-seated g c =
 
 pub returns-clause-falls : goal.returns-clause-falls
 returns-clause-falls g c =
-    let tell : g.row.R.Denot → RackTells = rack_told g.R.Rack.finished g.R.Rack.working g.R.Rack.begun g.R.Rack.taken g.R.Rack.missed g.R.Rack.faults in
+    let tell : g.row.R.Denot → RackTells = told g.R.Rack in
     let told : AreTold c.tell_writer.new.writer c.args.seats.now c.tell_readers.new.seats = subst (λ (s : _). AreTold c.tell_writer.new.writer s c.tell_readers.new.seats) c.tell_writer.ensures.seats c.tell_readers.ensures.told in
     let same = c.tell_readers.auto.seats ∙ c.tell_writer.auto.seats in
     let all = c.turn_beside.auto.all ∙ same in

@@ -1,12 +1,12 @@
 use Rattle.std.proofs.Common.{map, ◌∙◌, arith}
 use Rattle.std.proofs.lemmas.List.{length-map}
-use Rattle.ring_run.specs.Fits.{RackTells, rack_told}
+use Rattle.pr_rack.specs.Told.{RackTells, told}
 use Rattle.ring_run.proofs.Rounds.{some_on, stay_then}
 use Rattle.ring_run.proofs.rows.run_rounds.Goals as goal
 
 pub loop-pace-preserved : goal.loop-pace-preserved
 loop-pace-preserved g c =
-    let tell : g.row.R.Denot → RackTells = rack_told g.R.Rack.finished g.R.Rack.working g.R.Rack.begun g.R.Rack.taken g.R.Rack.missed g.R.Rack.faults in
+    let tell : g.row.R.Denot → RackTells = told g.R.Rack in
     let seats = c.loop-pace.auto.seats in
     let racks = c.loop-pace.auto.racks in
     let seats' = c.round.auto.seats in

@@ -4,14 +4,8 @@ use Rattle.ring_run.proofs.side_by_side.+halves.Given as goal
 abbrev pub decreases-turns : goal.decreases-turns
 decreases-turns g l = 4 * length l.all.now
 
-abbrev pub decreases-both_halves : goal.decreases-both_halves
-decreases-both_halves g l = 4 * (length l.a.now + length l.b.now) - 1
-
-abbrev pub decreases-halves_in_turn : goal.decreases-halves_in_turn
-decreases-halves_in_turn g l = 4 * (length l.a.now + length l.b.now) - 2
-
 abbrev pub decreases-join_halves : goal.decreases-join_halves
-decreases-join_halves g l = 4 * (length l.a.now + length l.b.now) - 2
+decreases-join_halves g l = 4 * (length l.a.now + length l.b.now) - 1
 
 abbrev pub decreases-join_halves-join_mut+arg2 : goal.decreases-join_halves-join_mut+arg2
 decreases-join_halves-join_mut+arg2 g l = 4 * length l.a.now + 1

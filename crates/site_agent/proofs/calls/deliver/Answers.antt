@@ -1,8 +1,8 @@
 use Rattle.std.proofs.Common.{◌≡◌, ◌+◌, ◌-◌, ℕ, length, IfSome, subst, arith}
 use Rattle.tif_packbits.specs.Frame.{packed_in}
 use Rattle.tif_plate.specs.Tail.{strips_end}
+use Rattle.pr_rack.specs.Told.{Tells, told}
 use Rattle.site_agent.specs.Stands.{IsAsLong}
-use Rattle.site_agent.specs.Tells.{Tells, tells}
 use Rattle.site_agent.proofs.Answering.{stands-begun, stands-taken}
 use Rattle.site_agent.proofs.calls.deliver.Goals as goal
 
@@ -10,9 +10,9 @@ pub end-requires-clause-stands : goal.end-requires-clause-stands
 end-requires-clause-stands g c =
     let packed : ℕ = length (packed_in c.args.held.now.bytes) in
     let len : ℕ = strips_end c.args.counts.now - packed in
-    let old : Tells = tells (g.R.Rack.finished c.args.rack.now) (g.R.Rack.working c.args.rack.now) (g.R.Rack.begun c.args.rack.now) (g.R.Rack.taken c.args.rack.now) in
-    let begun : Tells = tells (g.R.Rack.finished c.begin.new.rack) (g.R.Rack.working c.begin.new.rack) (g.R.Rack.begun c.begin.new.rack) (g.R.Rack.taken c.begin.new.rack) in
-    let taken : Tells = tells (g.R.Rack.finished c.take.new.rack) (g.R.Rack.working c.take.new.rack) (g.R.Rack.begun c.take.new.rack) (g.R.Rack.taken c.take.new.rack) in
+    let old : Tells = (told g.R.Rack c.args.rack.now).tells in
+    let begun : Tells = (told g.R.Rack c.begin.new.rack).tells in
+    let taken : Tells = (told g.R.Rack c.take.new.rack).tells in
     let P : ℕ → Type 0 = λ n. IfSome (g.R.Rack.working c.take.new.rack) (IsAsLong c.args.plate.now n) in
     let fits = c.requires.fits in
     let whole : len + packed ≡ strips_end c.args.counts.now = omega (arith, fits) in

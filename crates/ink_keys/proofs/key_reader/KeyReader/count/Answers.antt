@@ -1,4 +1,4 @@
-use Rattle.std.proofs.Common.{◌≡◌, ap, subst, sym, ◌∙◌, Some}
+use Rattle.std.proofs.Common.{◌≡◌, ap, subst, sym, ◌∙◌, Some, rules}
 use Rattle.std.specs.Prelude.{slice_get}
 use Rattle.pr_base.specs.Row.{row_size}
 use Rattle.plan_rows.specs.Rows.{places_in}
@@ -22,6 +22,6 @@ returns g c =
     counted-one c.args.self.now (record { rows = c.self.inside.rows.now; counts = c.add.new.self }) c.args.reader.now c.open.new.self c.close.new.self c.in_ok-held.held c.row_at-place.result
     c.requires.ready c.in_ok-held.ensures.row c.open.ensures.looks c.close.ensures
     (subst (λ (k : KeyReaderData). slice_get (places_in k.rows) c.in_ok-held.held.number ≡ Some c.row_at-place.result) c.self.view_is
-    (ap (λ n. slice_get (places_in c.self.inside.rows.now) n) (sym c.number.ensures) ∙ c.row_at-place.ensures.place))
+    (search rules))
     (subst (λ (k : KeyReaderData). AddsRow c.row_at-place.result.group c.row_at-place.result.ink (framed_row c.in_ok-held.held.bytes) k.counts c.add.new.self) c.self.view_is c.add.ensures)
     (ap (λ (k : KeyReaderData). k.rows) c.self.view_is)

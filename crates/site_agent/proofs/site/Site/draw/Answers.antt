@@ -1,4 +1,4 @@
-use Rattle.site_agent.specs.Tells.{tells}
+use Rattle.pr_rack.specs.Told.{told}
 use Rattle.site_agent.proofs.Drawing.{frame-taken, kept-draws, side-taken}
 use Rattle.site_agent.proofs.site.Site.draw.Goals as goal
 
@@ -12,7 +12,7 @@ keep-kept-requires-clause-row g c =
 
 pub returns : goal.returns
 returns g c =
-    kept-draws c.args.self.now c.keep-kept.new.self c.args.reader.now c.open.new.self c.close.new.self c.in_ok-held.held (tells (g.R.Rack.finished c.args.rack.now) (g.R.Rack.working c.args.rack.now) (g.R.Rack.begun c.args.rack.now) (g.R.Rack.taken c.args.rack.now)) (tells (g.R.Rack.finished c.keep-kept.new.rack) (g.R.Rack.working c.keep-kept.new.rack) (g.R.Rack.begun c.keep-kept.new.rack) (g.R.Rack.taken c.keep-kept.new.rack)) (g.R.Rack.missed c.args.rack.now) (g.R.Rack.missed c.keep-kept.new.rack) (g.R.Rack.faults c.args.rack.now) (g.R.Rack.faults c.keep-kept.new.rack) c.keep-kept.result
+    kept-draws c.args.self.now c.keep-kept.new.self c.args.reader.now c.open.new.self c.close.new.self c.in_ok-held.held (told g.R.Rack c.args.rack.now) (told g.R.Rack c.keep-kept.new.rack) c.keep-kept.result
     c.requires.ready c.in_ok-held.ensures.row c.open.ensures.looks c.close.ensures
     (record {
       keeps = c.keep-kept.ensures.keeps;

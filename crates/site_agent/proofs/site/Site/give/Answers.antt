@@ -3,12 +3,13 @@ use Rattle.std.specs.Prelude.{◌==◌, slice_get, slice_index, slice_index_or, 
 use Rattle.tif_packbits.specs.Frame.{packed_in}
 use Rattle.tif_plate.specs.Tail.{IsPlaceable, strips_end}
 use Rattle.tif_plate.specs.Plate.{rows_each}
+use Rattle.pr_rack.specs.Told.{Tells, told}
 use Rattle.site_agent.specs.declared.plate.SitePlate.{SitePlate}
 use Rattle.site_agent.specs.declared.slot.Slot.{Slot}
 use Rattle.site_agent.specs.Job.{Shape, SiteJob, shape_of}
 use Rattle.site_agent.specs.Site.{SiteData, IsCounting, IsPlaceOf, counts_of, job_with}
 use Rattle.site_agent.specs.Stands.{AreAsLong, AreBegun, IsAsLong}
-use Rattle.site_agent.specs.Tells.{Tells, tells, after_row, counted, finished_after, rows_after}
+use Rattle.site_agent.specs.Tells.{after_row, counted, finished_after, rows_after}
 use Rattle.site_agent.proofs.Steps.{same-plate}
 use Rattle.site_agent.proofs.Counting.{Turn, any, begun-there, count-fits, counts-at, counts-on, counts-other, counts-own, finished-less, first-alone, in-rack, packed-few, placeable, placing, slot-within, stands-there, strip-within, strip_of, turning, with_row}
 use Rattle.site_agent.proofs.site.Site.give.Goals as goal
@@ -175,7 +176,7 @@ returns-clause-rack g c =
     let now : c.as_slice.result.now ≡ with_row job c.args.place frame slot = c.as_slice.ensures.value ∙ counts in
     let plate : SitePlate = c.index-plate.result.now in
     let sides : Shape = c.self.inside.tails.shape in
-    let old : Tells = tells (g.R.Rack.finished c.args.rack.now) (g.R.Rack.working c.args.rack.now) (g.R.Rack.begun c.args.rack.now) (g.R.Rack.taken c.args.rack.now) in
+    let old : Tells = (told g.R.Rack c.args.rack.now).tells in
     let within : c.args.place.slot < length slots = slot-within job n finished slots c.args.place counting there any in
     let own : slice_index_or (counts_of (slice_set slots c.args.place.slot c.count.new.self)) c.args.place.slot [] ≡ c.count.new.self.counts.items = counts-own slots c.args.place.slot c.count.new.self within in
     λ d. c.in_ok-deliver.ensures.ok

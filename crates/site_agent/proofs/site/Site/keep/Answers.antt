@@ -2,6 +2,7 @@ use Rattle.std.proofs.Common.{◌≡◌, ℕ, ◌+◌, ◌<◌, true, false, Lis
 use Rattle.std.specs.Prelude.{slice_index_or}
 use Rattle.std.proofs.lemmas.Bool.{both_ways}
 use Rattle.tif_plate.specs.Plate.{strip_count}
+use Rattle.pr_rack.specs.Told.{told}
 use Rattle.site_agent.specs.declared.calls.Refusal.{Refusal}
 use Rattle.site_agent.specs.declared.kept.LeftCause.{LeftCause}
 use Rattle.site_agent.specs.declared.place.Place.{Place}
@@ -11,7 +12,7 @@ use Rattle.site_agent.specs.Kept.{IsCauseAt, kept_of}
 use Rattle.site_agent.specs.Refused.{taken_at}
 use Rattle.site_agent.specs.Site.{SiteData, IsCounting, IsPlaceOf, job_with}
 use Rattle.site_agent.specs.Stands.{AreAsLong, AreBegun, StandsAfter}
-use Rattle.site_agent.specs.Tells.{tells, after_row}
+use Rattle.site_agent.specs.Tells.{after_row}
 use Rattle.site_agent.proofs.Asking.{Asks, asks-kept, asks-passed}
 use Rattle.site_agent.proofs.Counting.{any, counts-past}
 use Rattle.site_agent.proofs.Keeping.{done-refused, end-refused, left-refused, memory-only, memory-refused, row_kept-slot, strips-of, taken-once}
@@ -33,8 +34,8 @@ returns-in_default-clause-keeps g c =
     let counting : IsCounting (job_with c.self.inside.plates.items c.self.inside.tails.shape c.self.inside.total) c.self.inside.next c.self.inside.finished c.self.inside.slots.items = c.self.invariant going in
     let is : IsJob job = subst (λ (s : SiteData). IsJob s.job) c.self.view_is counting.is in
     λ rows before here stands.
-    subst (λ (s : SiteData). StandsAfter job rows c.args.held.now.source (n + 1) before (tells (g.R.Rack.finished c.args.rack.now) (g.R.Rack.working c.args.rack.now) (g.R.Rack.begun c.args.rack.now) (g.R.Rack.taken c.args.rack.now)) s.counts) (sym c.self.view_is)
-    (row_passed job rows c.args.held.now.source n before (tells (g.R.Rack.finished c.args.rack.now) (g.R.Rack.working c.args.rack.now) (g.R.Rack.begun c.args.rack.now) (g.R.Rack.taken c.args.rack.now)) c.args.self.now.counts is c.in_default.ensures.none stands)
+    subst (λ (s : SiteData). StandsAfter job rows c.args.held.now.source (n + 1) before (told g.R.Rack c.args.rack.now).tells s.counts) (sym c.self.view_is)
+    (row_passed job rows c.args.held.now.source n before (told g.R.Rack c.args.rack.now).tells c.args.self.now.counts is c.in_default.ensures.none stands)
 
 pub returns-in-Ok-clause-keeps : goal.returns-in-Ok-clause-keeps
 returns-in-Ok-clause-keeps g c =
@@ -51,10 +52,10 @@ returns-in-Ok-clause-keeps g c =
     subst (λ (s : SiteData). length (slice_index_or s.counts place.slot []) ≡ strip_count s.job.width s.job.height) c.self.view_is
     (strips-of (job_with c.self.inside.plates.items c.self.inside.tails.shape c.self.inside.total) c.self.inside.next c.self.inside.finished c.self.inside.slots.items place.slot counting inside (omega arith)) in
     λ rows before here stands.
-    row_kept-slot job rows c.args.held.now.source n place.plate place.y place.slot before (tells (g.R.Rack.finished c.args.rack.now) (g.R.Rack.working c.args.rack.now) (g.R.Rack.begun c.args.rack.now) (g.R.Rack.taken c.args.rack.now)) (tells (g.R.Rack.finished c.give.new.rack) (g.R.Rack.working c.give.new.rack) (g.R.Rack.begun c.give.new.rack) (g.R.Rack.taken c.give.new.rack)) c.args.self.now.counts c.give.new.self.counts any c.args.held.now.bytes is there.row (there.slot any) stands
+    row_kept-slot job rows c.args.held.now.source n place.plate place.y place.slot before (told g.R.Rack c.args.rack.now).tells (told g.R.Rack c.give.new.rack).tells c.args.self.now.counts c.give.new.self.counts any c.args.held.now.bytes is there.row (there.slot any) stands
     (g.met.R.Rack.finished_told c.args.rack.now) c.requires.frame here size c.in-Ok.ensures.own c.in-Ok.ensures.others
     (c.in-Ok.ensures.rack any
-    ∙ ap (λ m. after_row (shape_of job) (slice_index_or job.plates place.plate any) place.y m c.args.held.now.bytes c.args.held.now.source (slice_index_or c.give.new.self.counts place.slot []) (tells (g.R.Rack.finished c.args.rack.now) (g.R.Rack.working c.args.rack.now) (g.R.Rack.begun c.args.rack.now) (g.R.Rack.taken c.args.rack.now))) c.requires.next)
+    ∙ ap (λ m. after_row (shape_of job) (slice_index_or job.plates place.plate any) place.y m c.args.held.now.bytes c.args.held.now.source (slice_index_or c.give.new.self.counts place.slot []) (told g.R.Rack c.args.rack.now).tells) c.requires.next)
 
 pub returns-in-Ok-clause-leaves_alone : goal.returns-in-Ok-clause-leaves_alone
 returns-in-Ok-clause-leaves_alone g c =
@@ -195,12 +196,12 @@ returns-in-Err-clause-finished_stay g c =
 
 pub returns-in_default-clause-begun_on : goal.returns-in_default-clause-begun_on
 returns-in_default-clause-begun_on g c =
-    let asks : Asks c.args.self.now.job (c.args.self.now.next + 1) c.args.self.now.counts (tells (g.R.Rack.finished c.args.rack.now) (g.R.Rack.working c.args.rack.now) (g.R.Rack.begun c.args.rack.now) (g.R.Rack.taken c.args.rack.now)) = asks-passed c.args.self.now.job c.args.self.now.next c.args.self.now.counts (tells (g.R.Rack.finished c.args.rack.now) (g.R.Rack.working c.args.rack.now) (g.R.Rack.begun c.args.rack.now) (g.R.Rack.taken c.args.rack.now)) c.in_default.ensures.none (record { begun = c.requires.begun; working = c.requires.working }) in
+    let asks : Asks c.args.self.now.job (c.args.self.now.next + 1) c.args.self.now.counts (told g.R.Rack c.args.rack.now).tells = asks-passed c.args.self.now.job c.args.self.now.next c.args.self.now.counts (told g.R.Rack c.args.rack.now).tells c.in_default.ensures.none (record { begun = c.requires.begun; working = c.requires.working }) in
     subst (λ (s : SiteData). AreBegun s.job (s.next + 1) (g.R.Rack.begun c.args.rack.now)) (sym c.self.view_is) asks.begun
 
 pub returns-in_default-clause-working_on : goal.returns-in_default-clause-working_on
 returns-in_default-clause-working_on g c =
-    let asks : Asks c.args.self.now.job (c.args.self.now.next + 1) c.args.self.now.counts (tells (g.R.Rack.finished c.args.rack.now) (g.R.Rack.working c.args.rack.now) (g.R.Rack.begun c.args.rack.now) (g.R.Rack.taken c.args.rack.now)) = asks-passed c.args.self.now.job c.args.self.now.next c.args.self.now.counts (tells (g.R.Rack.finished c.args.rack.now) (g.R.Rack.working c.args.rack.now) (g.R.Rack.begun c.args.rack.now) (g.R.Rack.taken c.args.rack.now)) c.in_default.ensures.none (record { begun = c.requires.begun; working = c.requires.working }) in
+    let asks : Asks c.args.self.now.job (c.args.self.now.next + 1) c.args.self.now.counts (told g.R.Rack c.args.rack.now).tells = asks-passed c.args.self.now.job c.args.self.now.next c.args.self.now.counts (told g.R.Rack c.args.rack.now).tells c.in_default.ensures.none (record { begun = c.requires.begun; working = c.requires.working }) in
     subst (λ (s : SiteData). IfSome (g.R.Rack.working c.args.rack.now) (AreAsLong s.job (s.next + 1) s.counts)) (sym c.self.view_is) asks.working
 
 pub returns-in-Ok-clause-begun_on : goal.returns-in-Ok-clause-begun_on
@@ -217,11 +218,11 @@ returns-in-Ok-clause-begun_on g c =
     let size : length (slice_index_or c.args.self.now.counts place.slot []) ≡ strip_count job.width job.height =
     subst (λ (s : SiteData). length (slice_index_or s.counts place.slot []) ≡ strip_count s.job.width s.job.height) c.self.view_is
     (strips-of (job_with c.self.inside.plates.items c.self.inside.tails.shape c.self.inside.total) c.self.inside.next c.self.inside.finished c.self.inside.slots.items place.slot counting inside (omega arith)) in
-    let asks : Asks job (n + 1) c.give.new.self.counts (tells (g.R.Rack.finished c.give.new.rack) (g.R.Rack.working c.give.new.rack) (g.R.Rack.begun c.give.new.rack) (g.R.Rack.taken c.give.new.rack)) =
-    asks-kept job c.args.held.now.source n place.plate place.y place.slot (tells (g.R.Rack.finished c.args.rack.now) (g.R.Rack.working c.args.rack.now) (g.R.Rack.begun c.args.rack.now) (g.R.Rack.taken c.args.rack.now)) (tells (g.R.Rack.finished c.give.new.rack) (g.R.Rack.working c.give.new.rack) (g.R.Rack.begun c.give.new.rack) (g.R.Rack.taken c.give.new.rack)) c.args.self.now.counts c.give.new.self.counts any c.args.held.now.bytes is there.row (there.slot any) (record { begun = c.requires.begun; working = c.requires.working })
+    let asks : Asks job (n + 1) c.give.new.self.counts (told g.R.Rack c.give.new.rack).tells =
+    asks-kept job c.args.held.now.source n place.plate place.y place.slot (told g.R.Rack c.args.rack.now).tells (told g.R.Rack c.give.new.rack).tells c.args.self.now.counts c.give.new.self.counts any c.args.held.now.bytes is there.row (there.slot any) (record { begun = c.requires.begun; working = c.requires.working })
     (g.met.R.Rack.begun_told c.args.rack.now) size c.in-Ok.ensures.own c.in-Ok.ensures.others
     (c.in-Ok.ensures.rack any
-    ∙ ap (λ m. after_row (shape_of job) (slice_index_or job.plates place.plate any) place.y m c.args.held.now.bytes c.args.held.now.source (slice_index_or c.give.new.self.counts place.slot []) (tells (g.R.Rack.finished c.args.rack.now) (g.R.Rack.working c.args.rack.now) (g.R.Rack.begun c.args.rack.now) (g.R.Rack.taken c.args.rack.now))) c.requires.next) in
+    ∙ ap (λ m. after_row (shape_of job) (slice_index_or job.plates place.plate any) place.y m c.args.held.now.bytes c.args.held.now.source (slice_index_or c.give.new.self.counts place.slot []) (told g.R.Rack c.args.rack.now).tells) c.requires.next) in
     subst (λ (j : SiteJob). AreBegun j c.give.new.self.next (g.R.Rack.begun c.give.new.rack)) (sym c.in-Ok.ensures.goes_on.job) (subst (λ (m : ℕ). AreBegun job m (g.R.Rack.begun c.give.new.rack)) (sym c.in-Ok.ensures.goes_on.next) asks.begun)
 
 pub returns-in-Ok-clause-working_on : goal.returns-in-Ok-clause-working_on
@@ -238,11 +239,11 @@ returns-in-Ok-clause-working_on g c =
     let size : length (slice_index_or c.args.self.now.counts place.slot []) ≡ strip_count job.width job.height =
     subst (λ (s : SiteData). length (slice_index_or s.counts place.slot []) ≡ strip_count s.job.width s.job.height) c.self.view_is
     (strips-of (job_with c.self.inside.plates.items c.self.inside.tails.shape c.self.inside.total) c.self.inside.next c.self.inside.finished c.self.inside.slots.items place.slot counting inside (omega arith)) in
-    let asks : Asks job (n + 1) c.give.new.self.counts (tells (g.R.Rack.finished c.give.new.rack) (g.R.Rack.working c.give.new.rack) (g.R.Rack.begun c.give.new.rack) (g.R.Rack.taken c.give.new.rack)) =
-    asks-kept job c.args.held.now.source n place.plate place.y place.slot (tells (g.R.Rack.finished c.args.rack.now) (g.R.Rack.working c.args.rack.now) (g.R.Rack.begun c.args.rack.now) (g.R.Rack.taken c.args.rack.now)) (tells (g.R.Rack.finished c.give.new.rack) (g.R.Rack.working c.give.new.rack) (g.R.Rack.begun c.give.new.rack) (g.R.Rack.taken c.give.new.rack)) c.args.self.now.counts c.give.new.self.counts any c.args.held.now.bytes is there.row (there.slot any) (record { begun = c.requires.begun; working = c.requires.working })
+    let asks : Asks job (n + 1) c.give.new.self.counts (told g.R.Rack c.give.new.rack).tells =
+    asks-kept job c.args.held.now.source n place.plate place.y place.slot (told g.R.Rack c.args.rack.now).tells (told g.R.Rack c.give.new.rack).tells c.args.self.now.counts c.give.new.self.counts any c.args.held.now.bytes is there.row (there.slot any) (record { begun = c.requires.begun; working = c.requires.working })
     (g.met.R.Rack.begun_told c.args.rack.now) size c.in-Ok.ensures.own c.in-Ok.ensures.others
     (c.in-Ok.ensures.rack any
-    ∙ ap (λ m. after_row (shape_of job) (slice_index_or job.plates place.plate any) place.y m c.args.held.now.bytes c.args.held.now.source (slice_index_or c.give.new.self.counts place.slot []) (tells (g.R.Rack.finished c.args.rack.now) (g.R.Rack.working c.args.rack.now) (g.R.Rack.begun c.args.rack.now) (g.R.Rack.taken c.args.rack.now))) c.requires.next) in
+    ∙ ap (λ m. after_row (shape_of job) (slice_index_or job.plates place.plate any) place.y m c.args.held.now.bytes c.args.held.now.source (slice_index_or c.give.new.self.counts place.slot []) (told g.R.Rack c.args.rack.now).tells) c.requires.next) in
     subst (λ (j : SiteJob). IfSome (g.R.Rack.working c.give.new.rack) (AreAsLong j c.give.new.self.next c.give.new.self.counts)) (sym c.in-Ok.ensures.goes_on.job) (subst (λ (m : ℕ). IfSome (g.R.Rack.working c.give.new.rack) (AreAsLong job m c.give.new.self.counts)) (sym c.in-Ok.ensures.goes_on.next) asks.working)
 
 pub returns-in-Err-clause-begun_on : goal.returns-in-Err-clause-begun_on

@@ -1,0 +1,3 @@
+pub mod Growing
+pub mod Seams
+pub mod Worked

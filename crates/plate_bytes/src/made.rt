@@ -1,0 +1,232 @@
+// A plate in memory: the front and the packed rows as they come, then the bytes behind them.
+ghost use Rattle.std.specs.Prelude.{◌≡◌, ◌+◌, ◌^◌, ◌<◌, ◌≤◌, ◌∷◌, [], ◌++◌, ℕ, List, IfOk, OnOk, OnErr, length, slice_index, slice_set};
+ghost use Rattle.tif_plate.specs.Plate.{IsSide, IsDpi, strip_count};
+ghost use Rattle.tif_plate.specs.Tail.{IsPlaceable, tail_bytes, tail_place, tail_room};
+ghost use Rattle.pr_base.specs.Place.{with_place};
+ghost use Rattle.plate_bytes.specs.Places.{IsSeam};
+
+use byteorder::{ByteOrder, LittleEndian};
+use pr_base::NoMemory;
+use std::alloc::Global;
+use std::marker::Model;
+use tif_plate::{plate_front, plate_tail, rows_per_strip, strips};
+
+/// The bytes behind the rows of a plate are at most so many, and eight for each strip.
+const MOST_TAIL: usize = 167;
+
+/// The bytes before the first row.
+const FRONT: u64 = 8;
+
+/// A plate in memory, which takes its packed rows from the top and then is the bytes of the whole file. The
+/// directory stands behind the rows, whose packed length isn't known before, so no byte of a plate can be
+/// told before all its rows are there. Its memory serves again for a plate of the same sides.
+#[derive(Debug, Drop)]
+pub struct PlateBytes {
+    width: u32,
+    height: u32,
+    dpi: u32,
+    bytes: Vec<u8>,
+    /// The bytes of each strip so far.
+    counts: Vec<u32>,
+    /// Where each packed row ends.
+    ends: Vec<u32>,
+    /// Room for the bytes behind the rows.
+    tail: Vec<u8>,
+}
+
+impl Model for PlateBytes {
+    ghost use Rattle.std.specs.Prelude.{◌≤◌, length};
+    ghost use Rattle.tif_plate.specs.Tail.{tail_room};
+    ghost use Rattle.plate_bytes.specs.Made.{IsPlate, PlateState};
+
+    ghost Value = { PlateState };
+
+    ghost view = { λ p. record {
+      width = p.width;
+      height = p.height;
+      dpi = p.dpi;
+      bytes = p.bytes.items;
+      counts = p.counts.items;
+      ends = p.ends.items;
+    } };
+
+    ghost invariant = { λ p. IsPlate (record {
+      width = p.width;
+      height = p.height;
+      dpi = p.dpi;
+      bytes = p.bytes.items;
+      counts = p.counts.items;
+      ends = p.ends.items;
+    }) × (tail_room p.width p.height ≤ length p.tail.items) };
+}
+
+impl PlateBytes {
+    ghost use Rattle.plate_bytes.specs.Made.{CanTake, HasAllRows, IsAlike, IsFull, TakesRow, so_far, whole};
+    ghost use Rattle.plate_bytes.specs.Places.{row_ends, row_holding};
+
+    /// A plate without rows, `width` by `height` pixels at `dpi` pixels an inch.
+    pub fn new(alloc: Global, width: u32, height: u32, dpi: u32) -> Result<PlateBytes, NoMemory>
+        requires width { IsSide width }
+        requires height { IsSide height }
+        requires dpi { IsDpi dpi }
+        ensures { IfOk result (λ plate. plate ≡ so_far width height dpi []) }
+    {
+        let strips = strips(width, height) as usize;
+        let mut bytes = Vec::new(alloc);
+        bytes.extend_from_slice(&plate_front())?;
+        let counts = vec![in alloc; 0; strips]?;
+        let tail = vec![in alloc; 0; MOST_TAIL + 8 * strips]?;
+        Ok(PlateBytes {
+            width,
+            height,
+            dpi,
+            bytes,
+            counts,
+            ends: Vec::new(alloc),
+            tail,
+        })
+    }
+
+    /// Takes all rows away, and keeps the memory.
+    pub fn restart(&mut self) -> Result<(), NoMemory>
+        ensures rows { OnOk result
+            (self.new ≡ so_far self.old.width self.old.height self.old.dpi []) }
+        ensures sides { IsAlike self.old self.new }
+    {
+        self.bytes.clear();
+        self.bytes.extend_from_slice(&plate_front())?;
+        self.counts.fill(0);
+        self.ends.clear();
+        Ok(())
+    }
+
+    /// Appends a packed row.
+    pub fn push(&mut self, packed: &[u8]) -> Result<(), NoMemory>
+        requires { CanTake self.old packed.now }
+        ensures rows { OnOk result ((rows : List (List ℕ)) (row : List ℕ) →
+            TakesRow self.old rows row packed.now →
+            self.new ≡ so_far self.old.width self.old.height self.old.dpi (rows ++ row ∷ [])) }
+        ensures sides { IsAlike self.old self.new }
+    {
+        let strip = self.ends.len() / rows_per_strip(self.width) as usize;
+        append(&mut self.bytes, &mut self.ends, packed)?;
+        count(&mut self.counts, strip, packed.len());
+        Ok(())
+    }
+
+    /// Appends the bytes behind the rows and writes the place of the directory.
+    pub fn finish(&mut self) -> Result<(), NoMemory>
+        requires { IsFull self.old }
+        ensures file { OnOk result ((rows : List (List ℕ)) → HasAllRows self.old rows →
+            self.new ≡ whole self.old.width self.old.height self.old.dpi rows) }
+        ensures sides { IsAlike self.old self.new }
+    {
+        close(
+            self.width,
+            self.height,
+            self.dpi,
+            &self.counts,
+            &mut self.tail,
+            &mut self.bytes,
+        )?;
+        Ok(())
+    }
+
+    /// The bytes that are made.
+    pub fn bytes(&self) -> &[u8]
+        ensures { result.now ≡ self.now.bytes }
+    {
+        &self.bytes
+    }
+
+    /// The row whose packing holds the byte at a place. None is before byte 8 and none from the end of the
+    /// rows on, so the byte that makes the directory's place even and all behind it belong to no row.
+    #[tactic(auto, using(crate::proofs::Seams::seams))]
+    pub fn row_of(&self, at: u64) -> Option<u32>
+        ensures { (rows : List (List ℕ)) → self.now.ends ≡ row_ends rows → result ≡ row_holding rows at }
+    {
+        if at < FRONT {
+            return None;
+        }
+        let row = ends_within(&self.ends, at);
+        if row < self.ends.len() {
+            Some(row as u32)
+        } else {
+            None
+        }
+    }
+}
+
+/// Appends a packed row, and where it ends.
+fn append(bytes: &mut Vec<u8>, ends: &mut Vec<u32>, packed: &[u8]) -> Result<(), NoMemory>
+    requires { length bytes.old.items + length packed.now < 2 ^ 32 }
+    ensures bytes { OnOk result (bytes.new.items ≡ bytes.old.items ++ packed.now) }
+    ensures ends { OnOk result
+        (ends.new.items ≡ ends.old.items ++ length (bytes.old.items ++ packed.now) ∷ []) }
+    ensures kept { OnErr result (ends.new.items ≡ ends.old.items) }
+{
+    bytes.extend_from_slice(packed)?;
+    ends.push(bytes.len() as u32)?;
+    Ok(())
+}
+
+/// Adds the bytes of a packed row to those of its strip.
+fn count(counts: &mut Vec<u32>, strip: usize, len: usize)
+    requires strip { strip < length counts.old.items }
+    requires len { slice_index counts.old.items strip + len ≤ 4000000000 }
+    ensures { counts.new.items
+        ≡ slice_set counts.old.items strip (slice_index counts.old.items strip + len) }
+{
+    counts[strip] += len as u32;
+}
+
+/// Appends the bytes behind the rows, which are made in `room`, and writes the place of the directory.
+fn close(
+    width: u32,
+    height: u32,
+    dpi: u32,
+    counts: &[u32],
+    room: &mut [u8],
+    bytes: &mut Vec<u8>,
+) -> Result<(), NoMemory>
+    requires width { IsSide width }
+    requires height { IsSide height }
+    requires dpi { IsDpi dpi }
+    requires counts { length counts.now ≡ strip_count width height }
+    requires sum { IsPlaceable counts.now }
+    requires room { tail_room width height ≤ length room.old }
+    requires front { 8 ≤ length bytes.old.items }
+    ensures { OnOk result (bytes.new.items ≡ with_place (tail_place counts.now)
+        (bytes.old.items ++ tail_bytes width height dpi counts.now)) }
+{
+    let tail = plate_tail(width, height, dpi, counts, room);
+    bytes.extend_from_slice(&room[..tail.len])?;
+    put_place(bytes, tail.at);
+    Ok(())
+}
+
+/// Writes the place of the directory into a plate.
+fn put_place(plate: &mut [u8], place: u32)
+    requires { 8 ≤ length plate.old }
+    ensures { plate.new ≡ with_place place plate.old }
+{
+    LittleEndian::write_u32(&mut plate[4..8], place);
+}
+
+/// How many rows end at a place or before it, found by halving.
+fn ends_within(ends: &[u32], at: u64) -> usize
+    requires { 8 ≤ at }
+    ensures { IsSeam ends.now at result }
+{
+    let mut low = 0;
+    let mut high = ends.len();
+    while low < high {
+        let middle = low + (high - low) / 2;
+        if u64::from(ends[middle]) <= at {
+            low = middle + 1;
+        } else {
+            high = middle;
+        }
+    }
+    low
+}

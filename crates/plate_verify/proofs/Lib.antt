@@ -1,0 +1,11 @@
+pub mod CountLemmas
+pub mod Differences
+pub mod Stepping
+pub mod Worked
+pub mod Bounds
+pub mod Each
+pub mod GroupLemmas
+pub mod LookLemmas
+pub mod MakeLemmas
+pub mod OrderLemmas
+pub mod Rights

@@ -1,0 +1,9 @@
+use Rattle.std.proofs.Common.{◌-◌}
+use Rattle.plate_verify.specs.Difference.{IsAlikeTo}
+use Rattle.plate_verify.proofs.difference.equal_bytes.Given as goal
+
+abbrev pub invariant-loop-at : goal.invariant-loop-at
+invariant-loop-at l = IsAlikeTo l.a l.b l.at
+
+abbrev pub decreases-loop-at : goal.decreases-loop-at
+decreases-loop-at l = l.both - l.at

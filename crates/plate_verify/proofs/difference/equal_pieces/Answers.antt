@@ -1,0 +1,7 @@
+use Rattle.std.proofs.Common.{arith}
+use Rattle.plate_verify.proofs.Differences.{IsAlikeTo-equal}
+use Rattle.plate_verify.proofs.difference.equal_pieces.Goals as goal
+
+pub loop-at-preserved : goal.loop-at-preserved
+loop-at-preserved c =
+    IsAlikeTo-equal c.args.a.now c.args.b.now c.loop-at.at 4096 _ (omega arith) c.loop-at.invariant (omega arith) (omega arith) c.if-eq.ensures

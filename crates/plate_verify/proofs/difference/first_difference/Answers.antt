@@ -1,0 +1,14 @@
+use Rattle.std.proofs.Common.{sym, arith}
+use Rattle.plate_verify.proofs.Differences.{difference-at, difference-whole}
+use Rattle.plate_verify.proofs.difference.first_difference.Goals as goal
+use Rattle.plate_verify.proofs.difference.first_difference.Goals.{else-at-a-via-then-at-a+else-at-b, else-at-a-via-else-at-a}
+
+pub returns-then-at-b : goal.returns-then-at-b
+returns-then-at-b c =
+    sym (difference-whole c.args.a.now c.args.b.now c.equal_bytes-at.result c.equal_bytes-at.ensures.alike (omega arith) (omega arith))
+
+pub returns-else-at-a : goal.returns-else-at-a
+returns-else-at-a c =
+    sym (difference-at c.args.a.now c.args.b.now c.equal_bytes-at.result c.equal_bytes-at.ensures.alike
+    (λ p q. elim c.else-at-a.branch [ else-at-a-via-then-at-a+else-at-b w ↦ omega arith | else-at-a-via-else-at-a w ↦ omega arith ])
+    c.equal_bytes-at.ensures.ends)

@@ -1,0 +1,11 @@
+use Rattle.std.proofs.Common.{List, ℕ, take}
+use Rattle.std.specs.List.{flat_map}
+use Rattle.plan_rows.specs.Inks.{inks_of}
+use Rattle.plate_verify.specs.Looking.{AreRight, AreMade, shelf_told}
+use Rattle.plate_verify.specs.Order.{plate_sites}
+use Rattle.plate_verify.proofs.look.look_at_group.Given as goal
+
+abbrev pub invariant-loop-i : goal.invariant-loop-i
+invariant-loop-i g l =
+    (rows : List (List ℕ)) → AreMade l.plan rows l.group l.made
+    → AreRight l.plan rows l.out (flat_map (λ ink. plate_sites l.plan (l.group, ink)) (take l.i (inks_of l.group))) (shelf_told g.H.Shelf l.initial.shelf) (shelf_told g.H.Shelf l.shelf)

@@ -1,0 +1,9 @@
+use Rattle.std.proofs.Common.{List, ℕ, length, take}
+use Rattle.std.specs.List.{flat_map, range_with_len}
+use Rattle.plate_verify.specs.Looking.{AreRight, IsMade, plates_at, shelf_told}
+use Rattle.plate_verify.proofs.look.look_at_sites.Given as goal
+
+abbrev pub invariant-loop-site : goal.invariant-loop-site
+invariant-loop-site g l =
+    (rows : List (List ℕ)) → IsMade l.plan rows (l.group, l.ink) l.made
+    → AreRight l.plan rows l.out (flat_map (plates_at (l.group, l.ink)) (take l.site (range_with_len 0 (length l.plan.sites)))) (shelf_told g.H.Shelf l.initial.shelf) (shelf_told g.H.Shelf l.shelf)

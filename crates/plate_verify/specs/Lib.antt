@@ -1,0 +1,6 @@
+pub mod Difference
+pub mod Looking
+pub mod Making
+pub mod Order
+pub mod Verify
+pub mod Wrong

@@ -1,0 +1,47 @@
+// How many plates the sites of a plan have.
+ghost use Rattle.std.specs.Prelude.{◌≡◌, ◌*◌, ◌≤◌, count_by, length};
+ghost use Rattle.std.specs.List.{range_with_len};
+ghost use Rattle.plan_rows.specs.Inks.{has_site};
+ghost use Rattle.plan_rows.specs.Rows.{rows_of};
+ghost use Rattle.plate_verify.specs.Looking.{group_sites};
+ghost use Rattle.plate_verify.specs.Order.{plates_in_order};
+
+use crate::edition::{group_at, group_number};
+use crate::look::{has, ink_number, site_count};
+use plan_json::Plan;
+use plan_rows::{Group, RowPlan};
+
+/// The sites that have the plates of a group.
+fn sites_of(group: &Group, sites: usize) -> u32
+    requires { sites ≤ 16 }
+    ensures count { result ≡ count_by (has_site group.now) (range_with_len 0 sites) }
+    ensures within { result ≤ sites }
+{
+    let mut count = 0;
+    for site in 0..sites {
+        if has(group, site) {
+            count += 1;
+        }
+    }
+    count
+}
+
+/// The plates of a group at all its sites.
+fn group_count(plan: &Plan, group: &Group) -> u32
+    ensures count { result ≡ length (group_sites plan.now group.now) }
+    ensures within { result ≤ 80 }
+{
+    ink_number(group) as u32 * sites_of(group, site_count(plan))
+}
+
+/// The plates of all sites.
+pub(crate) fn count_plates(plan: &Plan, rows: &RowPlan) -> u32
+    requires { rows.now ≡ rows_of plan.now }
+    ensures { result ≡ length (plates_in_order plan.now) }
+{
+    let mut plates = 0;
+    for index in 0..group_number(plan, rows) {
+        plates += group_count(plan, group_at(plan, rows, index));
+    }
+    plates
+}

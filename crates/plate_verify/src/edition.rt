@@ -1,0 +1,193 @@
+// Whether the plates that a shelf holds are those of an edition.
+ghost use Rattle.std.specs.Prelude.{◌≡◌, ◌<◌, ◌≤◌, ℕ, List, IfOk, IfSome, IsErrOf, OnOk, length, map, slice_index_or};
+ghost use Rattle.pr_base.specs.Count.{Rose};
+ghost use Rattle.pr_base.specs.Row.{row_size};
+ghost use Rattle.tif_packbits.specs.Frame.{AreFrames, frame_size, framed_row};
+ghost use Rattle.tif_plate.specs.Plate.{IsDpi, IsSide};
+ghost use Rattle.plan_json.specs.Data.{plate_height, plate_width};
+ghost use Rattle.plan_json.specs.Plan.{IsPlan};
+ghost use Rattle.plan_rows.specs.Groups.{groups_of};
+ghost use Rattle.plan_rows.specs.Rows.{row_total, rows_of};
+ghost use Rattle.plate_verify.specs.Looking.{AfterAll, FailsAt, IfLong, Looked, shelf_told, told};
+ghost use Rattle.plate_verify.specs.Making.{HaveSides, Sides};
+ghost use Rattle.plate_verify.specs.Order.{plates_in_order};
+ghost use Rattle.plate_verify.specs.Verify.{CanBeLooked, FedFrom, IfShelf, answer_of};
+ghost use Rattle.plate_verify.specs.Wrong.{first_wrong};
+
+use crate::count::count_plates;
+use crate::group::check_group;
+use crate::{Checked, VerifyFault};
+use plan_json::Plan;
+use plan_pages::plate_shape;
+use plan_rows::{Group, RowPlan};
+use plate_bytes::PlateBytes;
+use pr_base::{NoMemory, RowFeed, row_bytes};
+use pr_ports::Shelf;
+use std::alloc::Global;
+use tif_packbits::frame_len;
+
+/// The most inks of a group.
+const INKS: usize = 5;
+
+/// Plates in memory for a group.
+fn plates_for(alloc: Global, width: u32, height: u32, dpi: u32) -> Result<Vec<PlateBytes>, NoMemory>
+    requires width { IsSide width }
+    requires height { IsSide height }
+    requires dpi { IsDpi dpi }
+    ensures sides { IfOk result (λ plates. (sides : Sides) → width ≡ sides.width → height ≡ sides.height →
+        dpi ≡ sides.dpi → HaveSides sides plates.items) }
+    ensures five { IfOk result (λ plates. length plates.items ≡ 5) }
+{
+    let mut plates = Vec::new(alloc);
+    for _i in 0..INKS {
+        plates.push(PlateBytes::new(alloc, width, height, dpi)?)?;
+    }
+    Ok(plates)
+}
+
+/// Room for a frame of a row.
+fn frame_room(alloc: Global, width: u32) -> Result<Vec<u8>, NoMemory>
+    requires { IsSide width }
+    ensures { IfOk result (λ room. length room.items ≡ frame_size (row_size width)) }
+{
+    let room = vec![in alloc; 0; frame_len(row_bytes(width))]?;
+    Ok(room)
+}
+
+/// How many groups a plan has.
+pub(crate) fn group_number(plan: &Plan, rows: &RowPlan) -> usize
+    requires { rows.now ≡ rows_of plan.now }
+    ensures { result ≡ length (groups_of plan.now) }
+{
+    rows.groups().len()
+}
+
+/// One of them.
+pub(crate) fn group_at<'a>(plan: &Plan, rows: &'a RowPlan, index: usize) -> &'a Group
+    requires rows { rows.now ≡ rows_of plan.now }
+    requires index { index < length (groups_of plan.now) }
+    ensures is { result.now ≡ slice_index_or (groups_of plan.now) index result.now }
+    ensures section { result.now.section < length plan.now.sections }
+    ensures plan { IsPlan plan.now }
+{
+    // A plan tells what holds of it where it is read.
+    let _files = plan.files();
+    &rows.groups()[index]
+}
+
+/// Looks at the plates of each group in order.
+fn check_groups<F: RowFeed, H: Shelf>(
+    alloc: Global,
+    plan: &Plan,
+    rows: &RowPlan,
+    out: &str,
+    height: u32,
+    plates: &mut [PlateBytes],
+    frame: &mut [u8],
+    feed: &mut F,
+    shelf: &mut H,
+) -> Result<Option<Checked>, VerifyFault>
+    requires rows { rows.now ≡ rows_of plan.now }
+    requires height { height ≡ plate_height plan.now }
+    requires fed { CanBeLooked plan.now plates.old (F.left feed.old) (length frame.old) }
+    ensures { (all : List (List ℕ)) → FedFrom plan.now all 0 plates.old (F.left feed.old) (length frame.old) →
+        length all ≡ row_total rows.now →
+        Looked plan.now all out.now (plates_in_order plan.now)
+        (shelf_told H.Shelf shelf.old) (shelf_told H.Shelf shelf.new) result }
+{
+    for index in 0..group_number(plan, rows) {
+        let group = group_at(plan, rows, index);
+        match check_group(alloc, plan, out, group, height, plates, frame, feed, shelf) {
+            Ok(None) => {}
+            Ok(Some(found)) => return Ok(Some(found)),
+            Err(fault) => return Err(fault),
+        }
+    }
+    Ok(None)
+}
+
+/// Looks at all plates.
+fn check_all<F: RowFeed, H: Shelf>(
+    alloc: Global,
+    plan: &Plan,
+    rows: &RowPlan,
+    feed: &mut F,
+    out: &str,
+    shelf: &mut H,
+) -> Result<Checked, VerifyFault>
+    requires rows { rows.now ≡ rows_of plan.now }
+    requires frames { AreFrames (row_size (plate_width plan.now)) (map framed_row (F.left feed.old))
+        (F.left feed.old) }
+    requires total { length (F.left feed.old) ≡ row_total rows.now }
+    ensures { AfterAll plan.now (map framed_row (F.left feed.old)) out.now
+        (shelf_told H.Shelf shelf.old) (shelf_told H.Shelf shelf.new) result }
+{
+    let shape = plate_shape(plan);
+    let Ok(mut plates) = plates_for(alloc, shape.width, shape.height, plan.dpi) else {
+        return Err(VerifyFault::Memory);
+    };
+    let Ok(mut frame) = frame_room(alloc, shape.width) else {
+        return Err(VerifyFault::Memory);
+    };
+    let looked = check_groups(
+        alloc,
+        plan,
+        rows,
+        out,
+        shape.height,
+        &mut plates,
+        &mut frame,
+        feed,
+        shelf,
+    );
+    answer(plan, rows, looked)
+}
+
+/// The answer where all plates were looked at, or the first that is wrong was found.
+fn answer(
+    plan: &Plan,
+    rows: &RowPlan,
+    looked: Result<Option<Checked>, VerifyFault>,
+) -> Result<Checked, VerifyFault>
+    requires { rows.now ≡ rows_of plan.now }
+    ensures { result ≡ answer_of plan.now looked }
+{
+    match looked {
+        Ok(None) => Ok(Checked::Same {
+            plates: count_plates(plan, rows),
+        }),
+        Ok(Some(found)) => Ok(found),
+        Err(fault) => Err(fault),
+    }
+}
+
+/// Whether the plates that a shelf holds below the folder `out` are those of a plan, whose rows the feed
+/// gives. The plates are loaded in the order group, ink, site, each once, up to the first that isn't right.
+/// Those of a group are made in memory of the packed rows of the feed, and compared in place with what is
+/// loaded.
+pub fn verify<F: RowFeed, H: Shelf>(
+    alloc: Global,
+    plan: &Plan,
+    rows: &RowPlan,
+    feed: &mut F,
+    out: &str,
+    shelf: &mut H,
+) -> Result<Checked, VerifyFault>
+    requires rows { rows.now ≡ rows_of plan.now }
+    requires frames { AreFrames (row_size (plate_width plan.now)) (map framed_row (F.left feed.old))
+        (F.left feed.old) }
+    requires total { length (F.left feed.old) ≡ row_total rows.now }
+    ensures found { IfOk result (λ checked. IfSome (H.held shelf.old) (λ held.
+        first_wrong plan.now (map framed_row (F.left feed.old)) out.now held ≡ told checked)) }
+    ensures long { IfOk result (λ checked. IfLong checked (Rose (H.longs shelf.old) (H.longs shelf.new))) }
+    // The load that failed was counted, at the path of a plate before which all are right.
+    ensures failed { IfShelf result (FailsAt plan.now (map framed_row (F.left feed.old)) out.now
+        (plates_in_order plan.now) (shelf_told H.Shelf shelf.old) (shelf_told H.Shelf shelf.new)) }
+    ensures ok_missed { OnOk result (H.missed shelf.new ≡ H.missed shelf.old) }
+    ensures memory_missed { IsErrOf result VerifyFault.Memory → H.missed shelf.new ≡ H.missed shelf.old }
+    ensures held { H.held shelf.new ≡ H.held shelf.old }
+    ensures faults_stay { H.faults shelf.old ≤ H.faults shelf.new }
+    ensures longs_stay { H.longs shelf.old ≤ H.longs shelf.new }
+{
+    check_all(alloc, plan, rows, feed, out, shelf)
+}

@@ -1,0 +1,47 @@
+// One group: its plates are made of the next rows of a feed, and then looked at.
+ghost use Rattle.std.specs.Prelude.{◌≡◌, ◌+◌, ◌*◌, ◌<◌, ℕ, List, OnOk, length};
+ghost use Rattle.plan_json.specs.Data.{plate_height};
+ghost use Rattle.plan_rows.specs.Inks.{ink_count};
+ghost use Rattle.plate_verify.specs.Looking.{Looked, group_sites, shelf_told};
+ghost use Rattle.plate_verify.specs.Verify.{CanMakeGroup, FedFrom, FedGroup};
+
+use crate::look::{ink_number, look_at_group};
+use crate::making::make_plates;
+use crate::{Checked, VerifyFault};
+use plan_json::Plan;
+use plan_rows::Group;
+use plate_bytes::PlateBytes;
+use pr_base::RowFeed;
+use pr_ports::Shelf;
+use std::alloc::Global;
+
+/// Makes the plates of a group of the next rows of a feed, and looks at each at all its sites.
+pub(crate) fn check_group<F: RowFeed, H: Shelf>(
+    alloc: Global,
+    plan: &Plan,
+    out: &str,
+    group: &Group,
+    height: u32,
+    plates: &mut [PlateBytes],
+    frame: &mut [u8],
+    feed: &mut F,
+    shelf: &mut H,
+) -> Result<Option<Checked>, VerifyFault>
+    requires section { group.now.section < length plan.now.sections }
+    requires height { height ≡ plate_height plan.now }
+    requires fed { CanMakeGroup plan.now group.now plates.old (F.left feed.old) (length frame.old) }
+    ensures looked { (rows : List (List ℕ)) →
+        FedGroup plan.now rows group.now plates.old (F.left feed.old) (length frame.old) →
+        Looked plan.now rows out.now (group_sites plan.now group.now)
+        (shelf_told H.Shelf shelf.old) (shelf_told H.Shelf shelf.new) result }
+    ensures fed { OnOk result ((rows : List (List ℕ)) →
+        FedGroup plan.now rows group.now plates.old (F.left feed.old) (length frame.old) →
+        FedFrom plan.now rows (group.now.first + plate_height plan.now * ink_count group.now)
+        plates.new (F.left feed.new) (length frame.new)) }
+{
+    let made = &mut plates[..ink_number(group)];
+    let Ok(()) = make_plates(made, height, feed, frame) else {
+        return Err(VerifyFault::Memory);
+    };
+    look_at_group(alloc, plan, out, group, made, shelf)
+}

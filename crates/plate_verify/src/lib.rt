@@ -1,0 +1,17 @@
+// Whether the plates that a shelf holds are those of an edition, and where the first of them that isn't
+// begins to differ.
+#![tactic(auto)]
+
+mod checked;
+mod count;
+mod difference;
+mod edition;
+mod group;
+mod laws;
+mod look;
+mod making;
+
+pub use checked::{Checked, VerifyFault};
+pub use difference::first_difference;
+pub use edition::verify;
+pub use laws::same_is_a_yes;

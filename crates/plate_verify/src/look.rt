@@ -1,0 +1,178 @@
+// Looking at the plates of a group that are held, beside those that were made.
+ghost use Rattle.std.specs.Prelude.{◌≡◌, ◌<◌, ◌≤◌, ◌∷◌, [], ℕ, List, Some, length, option_map, slice_get};
+ghost use Rattle.plate_bytes.specs.Places.{row_ends, row_holding};
+ghost use Rattle.plate_verify.specs.Difference.{difference_of};
+ghost use Rattle.plate_verify.specs.Looking.{AreMade, IsMade, Looked, group_sites, plates_at, shelf_told, told};
+ghost use Rattle.plan_rows.specs.Inks.{has_site, ink_count, inks_of};
+ghost use Rattle.plate_verify.specs.Order.{plate_sites};
+ghost use Rattle.plate_verify.specs.Wrong.{OtherAt};
+
+use crate::{Checked, VerifyFault, first_difference};
+use plan_json::Plan;
+use plan_rows::{Group, plate_path};
+use plate_bytes::PlateBytes;
+use pr_base::{Ink, PathText};
+use pr_ports::{LoadFault, Shelf};
+use std::alloc::Global;
+
+/// The most bytes that are loaded of a plate. No plate has more.
+const MOST_BYTES: u64 = 600_000_000;
+
+/// Where the bytes that are held of a plate differ from it.
+fn compare(path: PathText, made: &PlateBytes, held: &[u8]) -> Option<Checked>
+    ensures { (rows : List (List ℕ)) → made.now.ends ≡ row_ends rows →
+        option_map told result ≡ option_map (λ at. OtherAt path at (row_holding rows at))
+        (difference_of made.now.bytes held.now) }
+{
+    match first_difference(made.bytes(), held) {
+        Some(at) => Some(Checked::Differs {
+            path,
+            at,
+            row: made.row_of(at),
+        }),
+        None => None,
+    }
+}
+
+/// Loads the plate of a site, and compares it with the one that was made.
+fn look_at<H: Shelf>(
+    alloc: Global,
+    plan: &Plan,
+    out: &str,
+    group: &Group,
+    ink: Ink,
+    site: usize,
+    made: &PlateBytes,
+    shelf: &mut H,
+) -> Result<Option<Checked>, VerifyFault>
+    requires site { site < length plan.now.sites }
+    requires section { group.now.section < length plan.now.sections }
+    ensures { (rows : List (List ℕ)) → IsMade plan.now rows (group.now, ink) made.now →
+        Looked plan.now rows out.now ((site, (group.now, ink)) ∷ [])
+        (shelf_told H.Shelf shelf.old) (shelf_told H.Shelf shelf.new) result }
+{
+    let Ok(path) = plate_path(alloc, plan, out, site, group, ink) else {
+        return Err(VerifyFault::Memory);
+    };
+    match shelf.load(path.as_str(), MOST_BYTES) {
+        Ok(bytes) => Ok(compare(path, made, &bytes)),
+        Err(LoadFault::Failed) => Err(VerifyFault::Shelf(path)),
+        Err(LoadFault::TooLong { .. }) => Ok(Some(Checked::Long { path })),
+        Err(LoadFault::Memory) => Err(VerifyFault::Memory),
+    }
+}
+
+/// Whether a site prints the plates of a group.
+pub(crate) fn has(group: &Group, site: usize) -> bool
+    requires { site < 16 }
+    ensures { result ≡ has_site group.now site }
+{
+    group.sites >> site & 1 == 1
+}
+
+/// The number of sites.
+pub(crate) fn site_count(plan: &Plan) -> usize
+    ensures count { result ≡ length plan.now.sites }
+    ensures within { result ≤ 16 }
+{
+    plan.sites.len()
+}
+
+/// Looks at a plate at a site, if the site has it.
+fn look_at_site<H: Shelf>(
+    alloc: Global,
+    plan: &Plan,
+    out: &str,
+    group: &Group,
+    ink: Ink,
+    site: usize,
+    made: &PlateBytes,
+    shelf: &mut H,
+) -> Result<Option<Checked>, VerifyFault>
+    requires site { site < length plan.now.sites }
+    requires few { site < 16 }
+    requires section { group.now.section < length plan.now.sections }
+    ensures { (rows : List (List ℕ)) → IsMade plan.now rows (group.now, ink) made.now →
+        Looked plan.now rows out.now (plates_at (group.now, ink) site)
+        (shelf_told H.Shelf shelf.old) (shelf_told H.Shelf shelf.new) result }
+{
+    if !has(group, site) {
+        return Ok(None);
+    }
+    look_at(alloc, plan, out, group, ink, site, made, shelf)
+}
+
+/// Looks at a plate at each site that has it.
+fn look_at_sites<H: Shelf>(
+    alloc: Global,
+    plan: &Plan,
+    out: &str,
+    group: &Group,
+    ink: Ink,
+    made: &PlateBytes,
+    shelf: &mut H,
+) -> Result<Option<Checked>, VerifyFault>
+    requires { group.now.section < length plan.now.sections }
+    ensures { (rows : List (List ℕ)) → IsMade plan.now rows (group.now, ink) made.now →
+        Looked plan.now rows out.now (plate_sites plan.now (group.now, ink))
+        (shelf_told H.Shelf shelf.old) (shelf_told H.Shelf shelf.new) result }
+{
+    for site in 0..site_count(plan) {
+        match look_at_site(alloc, plan, out, group, ink, site, made, shelf) {
+            Ok(None) => {}
+            Ok(Some(found)) => return Ok(Some(found)),
+            Err(fault) => return Err(fault),
+        }
+    }
+    Ok(None)
+}
+
+/// Looks at the plates of a group, ink by ink, each at all its sites before the next.
+pub(crate) fn look_at_group<H: Shelf>(
+    alloc: Global,
+    plan: &Plan,
+    out: &str,
+    group: &Group,
+    made: &[PlateBytes],
+    shelf: &mut H,
+) -> Result<Option<Checked>, VerifyFault>
+    requires section { group.now.section < length plan.now.sections }
+    requires made { ink_count group.now ≤ length made.now }
+    ensures { (rows : List (List ℕ)) → AreMade plan.now rows group.now made.now →
+        Looked plan.now rows out.now (group_sites plan.now group.now)
+        (shelf_told H.Shelf shelf.old) (shelf_told H.Shelf shelf.new) result }
+{
+    for i in 0..ink_number(group) {
+        let ink = ink_at(group, i);
+        match look_at_sites(alloc, plan, out, group, ink, plate_at(made, i), shelf) {
+            Ok(None) => {}
+            Ok(Some(found)) => return Ok(Some(found)),
+            Err(fault) => return Err(fault),
+        }
+    }
+    Ok(None)
+}
+
+/// How many inks a group has.
+pub(crate) fn ink_number(group: &Group) -> usize
+    ensures count { result ≡ ink_count group.now }
+    ensures within { result ≤ 5 }
+{
+    group.inks().len()
+}
+
+/// One of them.
+fn ink_at(group: &Group, i: usize) -> Ink
+    requires { i < ink_count group.now }
+    ensures { slice_get (inks_of group.now) i ≡ Some result }
+{
+    group.inks()[i]
+}
+
+/// A plate that was made.
+fn plate_at(made: &[PlateBytes], i: usize) -> &PlateBytes
+    requires { i < length made.now }
+    ensures { slice_get made.now i ≡ Some result.now }
+{
+    &made[i]
+}

@@ -1,6 +1,0 @@
-use Rattle.std.proofs.Common.{arith}
-use Rattle.pr_ports.proofs.Distinct.{one_is_distinct}
-use Rattle.plateroom.proofs.tests.shelf_of.Goals as goal
-
-pub new-requires : goal.new-requires
-new-requires c = one_is_distinct c.push.new.self.items (omega (arith, c.in_ok-push.ensures.len))

@@ -1,6 +1,0 @@
-use Rattle.std.proofs.Common.{◌≡◌, length, All, map, is_some}
-use Rattle.pr_rack.specs.Rack.{none_begun}
-use Rattle.plateroom.proofs.thread_tests.watched_racks.Given as goal
-
-abbrev pub invariant-loop-site : goal.invariant-loop-site
-invariant-loop-site l = (length l.racks.items ≡ l.site) × All (λ watched. map is_some watched.rack.slots ≡ none_begun) l.racks.items

@@ -1,0 +1,234 @@
+// Ink keys: the keys of columns, the rows of a small edition, and the turns of a key reader at a ring of two
+// places.
+ghost use Rattle.std.specs.Prelude.{◌≡◌, ◌+◌, ◌<◌, ◌≤◌, false, IfOk, OnOk, length, slice_get};
+ghost use Rattle.plan_rows.specs.Rows.{places_in};
+ghost use Rattle.ink_keys.specs.Counts.{IsBounded, no_counts};
+ghost use Rattle.ink_keys.specs.Turn.{IfWaiting};
+ghost use Rattle.rack_tests.specs.Counting.{IsCounting, small_rows};
+ghost use Rattle.rack_tests.specs.Numbered.{IsFeeding};
+
+use crate::rows::{Numbered, frame};
+use crate::site::sent;
+use crate::turn::publish;
+use ink_keys::{Counts, KeyEnd, KeyReader, key_of};
+use plan_json::read_plan;
+use plan_pages::plate_shape;
+use plan_rows::RowPlan;
+use pr_base::{Deal, Ink, NoMemory};
+use ring_lanes::{Deck, Ends, Full, Reader, Writer, open_ring};
+use std::alloc::Global;
+use std::process::Abort;
+use std::test::Fail;
+
+// ---- columns
+
+/// Width, keys, column and its key: the column times the keys over the width, rounded down.
+const COLUMNS: [(u32, u32, u32, u32); 11] = [
+    (16, 4, 0, 0),
+    // 60 / 16
+    (16, 4, 15, 3),
+    // 15 / 16, and 18 / 16
+    (16, 3, 5, 0),
+    (16, 3, 6, 1),
+    // More keys than columns: 64 / 3, and 128 / 3.
+    (3, 64, 0, 0),
+    (3, 64, 1, 21),
+    (3, 64, 2, 42),
+    // The widest row: 65,472 and 65,536 over 65,535, and 4,194,176, which is 64 less than 64 times as much.
+    (65535, 64, 0, 0),
+    (65535, 64, 1023, 0),
+    (65535, 64, 1024, 1),
+    (65535, 64, 65534, 63),
+];
+
+#[test]
+fn columns_have_their_keys(rt: HostRuntime) {
+    for (width, keys, column, key) in &COLUMNS {
+        assert_key(&rt, *width, *keys, *column, *key);
+    }
+}
+
+fn assert_key(rt: &impl Abort, width: u32, keys: u32, column: u32, key: u32) {
+    assert!(rt; width <= 65535);
+    assert!(rt; keys >= 1);
+    assert!(rt; keys <= 64);
+    assert!(rt; column < width);
+    assert_eq!(rt; key_of(width, keys, column), key);
+}
+
+// ---- counts
+
+/// The two rows of a small edition, which pack to 1, 171, 0 and 1, 19, 0.
+#[derive(Drop)]
+struct SmallRows;
+
+impl Deal for SmallRows {
+    ghost use Rattle.rack_tests.specs.Counting.{small_rows};
+
+    ghost rows = { λ _. small_rows };
+
+    ghost size = { λ _. 5 };
+
+    fn total(&self) -> u64 {
+        2
+    }
+
+    fn row_len(&self) -> usize {
+        5
+    }
+}
+
+/// Zeros for rows of 16 pixels.
+fn zeros(alloc: Global, rows: &RowPlan, keys: u32) -> Result<Counts, NoMemory>
+    requires least { 1 ≤ keys }
+    requires most { keys ≤ 64 }
+    ensures zero { IfOk result (λ counts. counts ≡ no_counts (length rows.now.groups) 16 keys) }
+    ensures bounded { IfOk result (λ counts. IsBounded counts 0) }
+{
+    Ok(Counts::new(alloc, rows, 16, keys)?)
+}
+
+/// Puts the next row of the small edition, and adds it at its place.
+fn add_next(deck: &mut Deck<'_, SmallRows>, rows: &RowPlan, counts: &mut Counts, frame: &[u8])
+    requires home { deck.old.out ≡ false }
+    requires rows { deck.old.rows ≡ small_rows }
+    requires next { slice_get small_rows deck.old.put ≡ Some frame.now }
+    requires total { length (places_in rows.now) ≡ 2 }
+    requires groups { counts.old.groups ≡ length rows.now.groups }
+    requires width { counts.old.width ≡ 16 }
+    requires bounded { IsBounded counts.old deck.old.put }
+    ensures deck { deck.new ≡ record deck.old { put = deck.old.put + 1 } }
+    ensures same { counts.new ≡ record counts.old { numbers = counts.new.numbers } }
+    ensures bounded { IsBounded counts.new (deck.old.put + 1) }
+{
+    deck.put(frame);
+    let held = deck.take();
+    let place = rows.row_at(held.number());
+    counts.add(place, &held);
+    deck.give(held);
+}
+
+/// Counts both rows of the small edition. `frame(n)` is that of n + 1 and 0.
+fn count_small(alloc: Global, rows: &RowPlan, keys: u32) -> Result<Counts, NoMemory>
+    requires least { 1 ≤ keys }
+    requires most { keys ≤ 64 }
+    requires total { length (places_in rows.now) ≡ 2 }
+    ensures { IfOk result (λ counts. counts.groups ≡ length rows.now.groups) }
+{
+    let mut counts = zeros(alloc, rows, keys)?;
+    let deal = SmallRows;
+    let mut deck = Deck::open(alloc, &deal)?;
+    add_next(&mut deck, rows, &mut counts, &frame(170));
+    add_next(&mut deck, rows, &mut counts, &frame(18));
+    Ok(counts)
+}
+
+fn assert_counts(rt: &impl Abort, counts: &Counts, group: usize, wanted: &[u64])
+    requires { group < counts.now.groups }
+{
+    assert_eq!(rt; counts.of(group, Ink::K), wanted);
+}
+
+const SMALL: &[u8] = br#"{"plan": 1, "edition": "E1", "dpi": 1200, "page": [8, 2],
+    "pages": [{"name": "p", "inks": "K", "layers": []}],
+    "sections": [{"name": "A", "pages": ["p", "p"]}],
+    "sites": [{"name": "OSLO"}]}"#;
+
+// 171 and 19 are 10101011 and 00010011. Of four keys each has four columns: 2 and 1 dots in the first four, 3
+// and 2 in the next. Of three the first has columns 0 to 5, the second 6 to 10: 3 and 1 dots there, 2 and 2
+// here.
+#[test]
+fn rows_are_counted(rt: HostRuntime) -> Result<(), Fail> {
+    let plan = read_plan(rt.alloc(), SMALL)?;
+    let rows = RowPlan::of(rt.alloc(), &plan)?;
+    assert!(rt; plate_shape(&plan).width == 16);
+    assert!(rt; rows.total() == 2);
+    assert!(rt; rows.groups().len() == 1);
+    let counts = count_small(rt.alloc(), &rows, 4)?;
+    assert_counts(&rt, &counts, 0, &[3, 5, 0, 0]);
+    sent(&counts);
+    let counts = count_small(rt.alloc(), &rows, 3)?;
+    assert_counts(&rt, &counts, 0, &[4, 4, 0]);
+    Ok(())
+}
+
+// ---- turns
+
+// The next turn of a key reader whose last one ended so. One that finished has no further turn.
+fn go(
+    last: KeyEnd,
+    key: &mut KeyReader<'_>,
+    reader: &mut Reader<'_, Numbered>,
+    patience: u32,
+) -> KeyEnd
+    requires ready { IfWaiting last (λ _. IsCounting reader.old key.old) }
+    requires patience { 0 < patience }
+    ensures ready { IfWaiting result (λ _. IsCounting reader.new key.new) }
+    ensures groups { key.new.counts.groups ≡ key.old.counts.groups }
+{
+    match last {
+        KeyEnd::Waiting { .. } => key.turn(reader, patience),
+        KeyEnd::Finished => KeyEnd::Finished,
+    }
+}
+
+// Three turns of a key reader, the first before a row is published and each other behind two rows more. Gives
+// how each ended.
+fn take_turns(
+    writer: &mut Writer<'_, Numbered>,
+    key: &mut KeyReader<'_>,
+    reader: &mut Reader<'_, Numbered>,
+) -> Result<[KeyEnd; 3], Full>
+    requires feeding { IsFeeding 4 0 writer.old }
+    requires counting { IsCounting reader.old key.old }
+    ensures { OnOk result (key.new.counts.groups ≡ key.old.counts.groups) }
+{
+    let first = go(KeyEnd::Waiting { head: 0 }, key, reader, 2);
+    publish(writer, 4, 0)?;
+    publish(writer, 4, 1)?;
+    let second = go(first, key, reader, 1);
+    publish(writer, 4, 2)?;
+    publish(writer, 4, 3)?;
+    let last = go(second, key, reader, 3);
+    Ok([first, second, last])
+}
+
+// How three turns of a key reader end that count all rows of a ring, and its counts by three keys.
+fn count_all(alloc: Global, rows: &RowPlan) -> Result<([KeyEnd; 3], Counts), Fail>
+    requires { length (places_in rows.now) ≡ 4 }
+    ensures { IfOk result (λ (ends, counts). counts.groups ≡ length rows.now.groups) }
+{
+    let deal = Numbered { count: 4 };
+    let mut ring = open_ring(alloc, &deal, 2, 1)?;
+    let Ends {
+        mut writer,
+        mut readers,
+    } = ring.ends(alloc)?;
+    let mut reader = readers.pop().ok_or("no reader")?;
+    let mut key = KeyReader::new(rows, zeros(alloc, rows, 3)?);
+    sent(&key);
+    let ends = take_turns(&mut writer, &mut key, &mut reader)?;
+    Ok((ends, key.into_counts()))
+}
+
+const TWO_PAIRS: &[u8] = br#"{"plan": 1, "edition": "E1", "dpi": 1200, "page": [8, 2],
+    "pages": [{"name": "p", "inks": "K", "layers": []}],
+    "sections": [{"name": "A", "pages": ["p", "p", "p", "p"]}],
+    "sites": [{"name": "OSLO"}]}"#;
+
+// The first bytes of the rows are 1 to 4, with dots at columns 7, 6, 6 and 7, and 5. Columns 0 to 5 are of
+// key 0, 6 to 10 of key 1. Two rows are of each pair.
+#[test]
+fn a_turn_counts_rows_of_a_ring(rt: HostRuntime) -> Result<(), Fail> {
+    let plan = read_plan(rt.alloc(), TWO_PAIRS)?;
+    let rows = RowPlan::of(rt.alloc(), &plan)?;
+    assert!(rt; plate_shape(&plan).width == 16);
+    assert!(rt; rows.total() == 4);
+    assert!(rt; rows.groups().len() == 2);
+    let (ends, counts) = count_all(rt.alloc(), &rows)?;
+    let waits = |head| KeyEnd::Waiting { head };
+    assert_eq!(rt; ends, [waits(0), waits(2), KeyEnd::Finished]);
+    assert_counts(&rt, &counts, 0, &[0, 2, 0]);
+    assert_counts(&rt, &counts, 1, &[1, 2, 0]);
+    Ok(())
+}

@@ -1,0 +1,51 @@
+-- Lists that are compared element by element.
+use Rattle.std.proofs.Common.{◌≡◌, ℕ, ◌+◌, ◌<◌, Bool, true, false, List, [], ◌∷◌, ◌++◌, length, map, get_or, take, append_assoc, append-nil, refl, ap, sym, ◌∙◌, eqb, arith}
+use Rattle.std.specs.Prelude.{◌&&◌, filter}
+use Rattle.std.specs.List.{flat_map}
+use Rattle.std.specs.Bool.{Decides, beq}
+use Rattle.std.proofs.lemmas.Bool.Decides.{Decides-and, Decides-eqb, Decides-like}
+use Rattle.std.proofs.lemmas.List.{take_more, get_or-map, length-map, map-append}
+use Rattle.std.proofs.lemmas.List.Concat.{flat_map-append}
+use Rattle.std.proofs.lemmas.List.Elements.{filter-append}
+
+pub pair_decides : (p q : ℕ × ℕ) → Decides (eqb p.0 q.0 && eqb p.1 q.1) (p ≡ q)
+pair_decides p q =
+    Decides-like (eqb p.0 q.0 && eqb p.1 q.1) (λ both. λ i. (both.0 i, both.1 i)) (λ same. (ap {A = ℕ × ℕ} (λ r. r.0) same, ap {A = ℕ × ℕ} (λ r. r.1) same))
+    (Decides-and (eqb p.0 q.0) (eqb p.1 q.1) (Decides-eqb p.0 q.0) (Decides-eqb p.1 q.1))
+
+-- where two elements differ the lists do
+pub maps_differ : {X Y : Type 0} (f g : X → Y) (xs ys : List X) (i : ℕ) (d : X) → i < length xs → i < length ys
+    → (f (get_or xs i d) ≡ g (get_or ys i d) → ⊥) → map f xs ≡ map g ys → ⊥
+maps_differ f g xs ys i d left right differs same =
+    differs (sym (get_or-map f xs i d (f d) left) ∙ ap (λ l. get_or l i (f d)) same ∙ get_or-map g ys i d (f d) right)
+
+-- one more element
+pub maps_more : {X Y : Type 0} (f g : X → Y) (xs ys : List X) (i : ℕ) (d : X) → i < length xs → i < length ys
+    → f (get_or xs i d) ≡ g (get_or ys i d) → take i (map f xs) ≡ take i (map g ys) → take (i + 1) (map f xs) ≡ take (i + 1) (map g ys)
+maps_more f g xs ys i d left right same before =
+    take_more (map f xs) i (f d) (omega (arith, length-map xs f))
+    ∙ ap (λ l. l ++ get_or (map f xs) i (f d) ∷ []) before
+    ∙ ap (λ x. take i (map g ys) ++ x ∷ []) (get_or-map f xs i d (f d) left ∙ same ∙ sym (get_or-map g ys i d (f d) right))
+    ∙ sym (take_more (map g ys) i (f d) (omega (arith, length-map ys g)))
+
+pub flags_decide : (a b : Bool) → Decides (beq a b) (a ≡ b)
+flags_decide true true = (λ _. refl, λ _. refl)
+flags_decide true false = (λ same. sym same, λ same. sym same)
+flags_decide false true = (λ same. same, λ same. same)
+flags_decide false false = (λ _. refl, λ _. refl)
+
+-- ---- lists that are filtered piece by piece
+
+pub filter_more : {X Y : Type 0} (test : Y → Bool) (f : X → List Y) (old : List Y) (xs : List X) (i : ℕ) (d : X) → i < length xs
+    → (old ++ filter test (flat_map f (take i xs))) ++ filter test (f (get_or xs i d)) ≡ old ++ filter test (flat_map f (take (i + 1) xs))
+filter_more test f old xs i d within =
+    append_assoc old (filter test (flat_map f (take i xs))) (filter test (f (get_or xs i d)))
+    ∙ ap (λ l. old ++ l) (sym (filter-append test (flat_map f (take i xs)) (f (get_or xs i d)))
+    ∙ ap (λ l. filter test l) (sym (ap (λ l. flat_map f l) (take_more xs i d within) ∙ flat_map-append f (take i xs) (get_or xs i d ∷ []) ∙ ap (λ l. flat_map f (take i xs) ++ l) (append-nil (f (get_or xs i d))))))
+
+pub filter_map_more : {X Y : Type 0} (test : Y → Bool) (f : X → Y) (old : List Y) (xs : List X) (i : ℕ) (d : X) → i < length xs
+    → (old ++ filter test (map f (take i xs))) ++ filter test (f (get_or xs i d) ∷ []) ≡ old ++ filter test (map f (take (i + 1) xs))
+filter_map_more test f old xs i d within =
+    append_assoc old (filter test (map f (take i xs))) (filter test (f (get_or xs i d) ∷ []))
+    ∙ ap (λ l. old ++ l) (sym (filter-append test (map f (take i xs)) (f (get_or xs i d) ∷ []))
+    ∙ ap (λ l. filter test l) (sym (ap (λ l. map f l) (take_more xs i d within) ∙ map-append f (take i xs) (get_or xs i d ∷ []))))

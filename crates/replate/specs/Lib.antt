@@ -1,0 +1,6 @@
+pub mod Recipe
+pub mod Plates
+pub mod Inputs
+pub mod Picks
+pub mod Classes
+pub mod Standing

@@ -1,0 +1,157 @@
+// The old plates whose path no new plate has.
+ghost use Rattle.std.specs.Prelude.{◌≡◌, ◌<◌, ◌++◌, ◌∷◌, [], ℕ, IfOk, OnOk, filter, length};
+ghost use Rattle.std.specs.Option.{ForNone, ForSome};
+ghost use Rattle.plan_json.specs.Plan.{IsPlan};
+ghost use Rattle.plan_rows.specs.Groups.{groups_of};
+ghost use Rattle.plan_rows.specs.Inks.{inks_of};
+ghost use Rattle.replate.specs.Inputs.{AreInputs};
+ghost use Rattle.replate.specs.Picks.{dropped_of, is_dropped as is_left_out};
+ghost use Rattle.replate.specs.Plates.{group_at, ink_plates, plates_in, plates_of};
+ghost use Rattle.replate.specs.Standing.{StandsFor};
+
+use crate::alike::same_edition;
+use crate::standing::{counterpart, group_with, has_ink, has_site, site_count};
+use crate::{Inputs, OldPlate};
+use pr_base::NoMemory;
+use std::alloc::Global;
+
+/// The old plates whose path no new plate has, by old site and then in the order of its files.
+pub(crate) fn dropped_plates(
+    alloc: Global,
+    before: &Inputs<'_>,
+    after: &Inputs<'_>,
+) -> Result<Vec<OldPlate>, NoMemory>
+    requires before { AreInputs before.now }
+    requires after { AreInputs after.now }
+    ensures dropped { IfOk result (λ plates.
+        plates.items ≡ dropped_of before.now.plan.now after.now.plan.now) }
+    ensures plan { IsPlan before.now.plan.now }
+{
+    let mut plates = Vec::new(alloc);
+    for site in 0..site_count(before.plan) {
+        add_site(&mut plates, before, after, site)?;
+    }
+    Ok(plates)
+}
+
+/// Adds those of a site.
+fn add_site(
+    plates: &mut Vec<OldPlate>,
+    before: &Inputs<'_>,
+    after: &Inputs<'_>,
+    site: usize,
+) -> Result<(), NoMemory>
+    requires before { AreInputs before.now }
+    requires after { AreInputs after.now }
+    requires site { site < length before.now.plan.now.sites }
+    ensures { OnOk result (plates.new.items ≡ plates.old.items
+        ++ filter (is_left_out before.now.plan.now after.now.plan.now) (plates_of before.now.plan.now site)) }
+{
+    for index in 0..before.rows.groups().len() {
+        add_group(plates, before, after, site, index)?;
+    }
+    Ok(())
+}
+
+/// Adds those of a group at a site.
+fn add_group(
+    plates: &mut Vec<OldPlate>,
+    before: &Inputs<'_>,
+    after: &Inputs<'_>,
+    site: usize,
+    index: usize,
+) -> Result<(), NoMemory>
+    requires before { AreInputs before.now }
+    requires after { AreInputs after.now }
+    requires site { site < length before.now.plan.now.sites }
+    requires index { index < length (groups_of before.now.plan.now) }
+    ensures { OnOk result (plates.new.items ≡ plates.old.items
+        ++ filter (is_left_out before.now.plan.now after.now.plan.now)
+        (plates_in site (index, group_at before.now.plan.now index))) }
+{
+    let group = group_with(before.plan, before.rows, index);
+    if has_site(group, site) {
+        add_inks(plates, before, after, site, index)?;
+    }
+    Ok(())
+}
+
+/// Adds those of the inks of a group at a site.
+fn add_inks(
+    plates: &mut Vec<OldPlate>,
+    before: &Inputs<'_>,
+    after: &Inputs<'_>,
+    site: usize,
+    index: usize,
+) -> Result<(), NoMemory>
+    requires before { AreInputs before.now }
+    requires after { AreInputs after.now }
+    requires site { site < length before.now.plan.now.sites }
+    requires index { index < length (groups_of before.now.plan.now) }
+    ensures { OnOk result (plates.new.items ≡ plates.old.items
+        ++ filter (is_left_out before.now.plan.now after.now.plan.now)
+        (ink_plates site index (inks_of (group_at before.now.plan.now index)))) }
+{
+    let group = group_with(before.plan, before.rows, index);
+    let place = counterpart(before.plan, site, group, after.plan, after.rows);
+    for ink in group.inks() {
+        let plate = OldPlate {
+            site,
+            group: index,
+            ink: *ink,
+        };
+        add_plate(plates, before, after, plate, place)?;
+    }
+    Ok(())
+}
+
+/// Adds an old plate if no new plate has its path, where its place is the place of the new plates that could.
+fn add_plate(
+    plates: &mut Vec<OldPlate>,
+    before: &Inputs<'_>,
+    after: &Inputs<'_>,
+    plate: OldPlate,
+    place: Option<(usize, usize)>,
+) -> Result<(), NoMemory>
+    requires before { AreInputs before.now }
+    requires after { AreInputs after.now }
+    requires site { plate.site < length before.now.plan.now.sites }
+    requires group { plate.group < length (groups_of before.now.plan.now) }
+    requires found { ForSome place (λ at. StandsFor before.now.plan.now plate.site
+        (group_at before.now.plan.now plate.group) after.now.plan.now at.0 at.1) }
+    requires none { ForNone place ((its index : ℕ) → StandsFor before.now.plan.now plate.site
+        (group_at before.now.plan.now plate.group) after.now.plan.now its index → ⊥) }
+    ensures { OnOk result (plates.new.items ≡ plates.old.items
+        ++ filter (is_left_out before.now.plan.now after.now.plan.now) (plate ∷ [])) }
+{
+    if is_dropped(before, after, plate, place) {
+        plates.push(plate)?;
+    }
+    Ok(())
+}
+
+/// Whether no new plate has the path of an old one.
+fn is_dropped(
+    before: &Inputs<'_>,
+    after: &Inputs<'_>,
+    plate: OldPlate,
+    place: Option<(usize, usize)>,
+) -> bool
+    requires before { AreInputs before.now }
+    requires after { AreInputs after.now }
+    requires site { plate.site < length before.now.plan.now.sites }
+    requires group { plate.group < length (groups_of before.now.plan.now) }
+    requires found { ForSome place (λ at. StandsFor before.now.plan.now plate.site
+        (group_at before.now.plan.now plate.group) after.now.plan.now at.0 at.1) }
+    requires none { ForNone place ((its index : ℕ) → StandsFor before.now.plan.now plate.site
+        (group_at before.now.plan.now plate.group) after.now.plan.now its index → ⊥) }
+    ensures { result ≡ is_left_out before.now.plan.now after.now.plan.now plate }
+{
+    if !same_edition(before.plan, after.plan) {
+        return true;
+    }
+    match place {
+        Some((_its, index)) => !has_ink(group_with(after.plan, after.rows, index), plate.ink),
+        None => true,
+    }
+}

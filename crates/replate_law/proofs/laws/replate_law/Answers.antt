@@ -1,0 +1,13 @@
+use Rattle.replate_law.proofs.Remade as remade
+use Rattle.replate_law.proofs.Unmade as unmade
+use Rattle.replate_law.proofs.laws.replate_law.Goals as goal
+
+pub returns-clause-held : goal.returns-clause-held
+returns-clause-held c = unmade.held
+
+pub returns-clause-same : goal.returns-clause-same
+returns-clause-same c = unmade.same
+
+pub returns-clause-remade : goal.returns-clause-remade
+returns-clause-remade c = λ before after out path old_site site made before_is after_is old_low low name told.
+    remade.remade before after out path old_site site made before_is after_is old_low low name told

@@ -1,0 +1,27 @@
+// The law of replating.
+ghost use Rattle.std.specs.Prelude.{◌≡◌, ◌<◌, ◌↔◌, ℕ, Bool, IsTrue, List, length};
+ghost use Rattle.plan_json.specs.Plan.{IsPlan};
+ghost use Rattle.plan_rows.specs.Paths.{site_name};
+ghost use Rattle.replate.specs.Inputs.{JobData};
+ghost use Rattle.replate.specs.Picks.{MustMake};
+ghost use Rattle.replate.specs.Plates.{PlateAt, IsPlateOf, has_path, path_below};
+ghost use Rattle.replate_law.specs.Law.{bytes_of_plate, files_of_site, held_in, remade_at};
+
+/// A new plate that need not be made is there: the old job has a plate of its path, and its file has the
+/// bytes of the new one. Nothing is asked of the files of either job.
+pub fn replate_law()
+    ensures held { (before after : JobData) (new : PlateAt) → IsPlan before.plan
+        → ¬ (MustMake before after new) → IsTrue (has_path before.plan (path_below after.plan new)) }
+    ensures same { (before after : JobData) (old new : PlateAt) → IsPlan before.plan → IsPlan after.plan
+        → IsPlateOf before.plan old → IsPlateOf after.plan new
+        → path_below before.plan old ≡ path_below after.plan new
+        → ¬ (MustMake before after new) → bytes_of_plate before old ≡ bytes_of_plate after new }
+    // A rack that held the files of an old site holds those of the new site of its name, path by path, where
+    // the entries that must be made were put in and the dropped ones taken out.
+    ensures remade { (before after : JobData) (out path : List ℕ) (old_site site : ℕ) (made : PlateAt → Bool)
+        → IsPlan before.plan → IsPlan after.plan
+        → old_site < length before.plan.sites → site < length after.plan.sites
+        → site_name before.plan old_site ≡ site_name after.plan site
+        → ((new : PlateAt) → IsPlateOf after.plan new → IsTrue (made new) ↔ MustMake before after new)
+        → remade_at before after out old_site site made path ≡ held_in (files_of_site after out site) path }
+{}

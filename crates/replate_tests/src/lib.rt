@@ -1,0 +1,5 @@
+// Tests of replate by its public names.
+#![tactic(auto)]
+
+#[cfg(test)]
+mod changes;

@@ -1,0 +1,72 @@
+-- The laws of a turn: behind one another may be taken, and both are one turn.
+use Rattle.std.specs.Prelude.{◌≡◌, ℕ, ◌≤◌, List}
+use Rattle.std.proofs.Common.{sym, ap, subst, ◌∙◌}
+use Rattle.std.proofs.Math.Nat.{le_trans, suc-le-suc_iff}
+use Rattle.ring_rule.specs.declared.view.RingNumbers.{RingNumbers}
+use Rattle.ring_lanes.specs.Reader.{ReaderState}
+use Rattle.ring_lanes.specs.Writer.{WriterState}
+use Rattle.pr_rack.specs.Told.{RackTells}
+use Rattle.ring_run.specs.Feeding.{Fed, HasRows, MayFeed}
+use Rattle.ring_run.specs.Seat.{SeatData}
+use Rattle.ring_run.specs.Served.{Carries, IsSeated, SomeSeated, Turned}
+
+-- ---- a site
+
+pub may_turn_again : (old mid : RackTells) (was then : SeatData) → SomeSeated old was
+    → Turned old mid was then → SomeSeated mid then
+may_turn_again old mid was then some turned =
+    let ring : then.reader.ring ≡ was.reader.ring = ap (λ (r : ReaderState). r.ring) turned.stays in
+    let number : then.reader.number ≡ was.reader.number = ap (λ (r : ReaderState). r.number) turned.stays in
+    record {
+      delivery = some.delivery;
+      before = some.before;
+      carries = subst (λ (r : RingNumbers). Carries some.delivery r) (sym ring) some.carries;
+      is = subst (λ (n : ℕ). IsSeated some.delivery n some.before mid then) (sym number)
+          (turned.seated some.delivery some.before some.carries some.is);
+    }
+
+pub turned_again : (old mid new : RackTells) (was then is : SeatData) → Turned old mid was then
+    → Turned mid new then is → Turned old new was is
+turned_again old mid new was then is first next =
+    let ring : then.reader.ring ≡ was.reader.ring = ap (λ (r : ReaderState). r.ring) first.stays in
+    let number : then.reader.number ≡ was.reader.number = ap (λ (r : ReaderState). r.number) first.stays in
+    record {
+      stays = next.stays ∙ ap {A = ReaderState} (λ r. record r {
+        cursor = is.reader.cursor;
+        left = is.reader.left;
+        seen = is.reader.seen;
+        loads = is.reader.loads;
+      }) first.stays;
+      seated = λ delivery before carries seated.
+          subst (λ (n : ℕ). IsSeated delivery n before new is) number
+          (next.seated delivery before (subst (λ (r : RingNumbers). Carries delivery r) (sym ring) carries)
+          (subst (λ (n : ℕ). IsSeated delivery n before mid then) (sym number)
+          (first.seated delivery before carries seated)));
+      fewer = le_trans next.fewer first.fewer;
+      gets_on = λ joined known. le_trans (suc-le-suc_iff.1 next.fewer) (first.gets_on joined known);
+    }
+
+-- ---- the writer
+
+pub may_feed_again : (before left : List (List ℕ)) (old mid : WriterState) → MayFeed before old
+    → Fed left old mid → MayFeed left mid
+may_feed_again before left old mid may fed = record {
+  feed = fed.feed;
+  rows = subst (λ (r : RingNumbers). HasRows r) (sym (ap (λ (w : WriterState). w.ring) fed.same)) may.rows;
+}
+
+pub fed_again : (between left : List (List ℕ)) (old mid new : WriterState) → Fed between old mid
+    → Fed left mid new → Fed left old new
+fed_again between left old mid new first next =
+    let ring : mid.ring ≡ old.ring = ap (λ (w : WriterState). w.ring) first.same in
+    record {
+      feed = next.feed;
+      same = next.same ∙ ap {A = WriterState} (λ w. record w {
+        head = new.head;
+        known = new.known;
+        loads = new.loads;
+      }) first.same;
+      grows = le_trans first.grows next.grows;
+      within = subst (λ (r : RingNumbers). new.head ≤ r.total) ring next.within;
+      gets_on = λ some joined room. le_trans (first.gets_on some joined room) next.grows;
+    }

@@ -1,0 +1,260 @@
+// What a run tells of its words, its plan and its files, and of a shelf and sinks that fail.
+use crate::editions::{ONE_SITE, TWO_PAGES, TWO_PAGES_PLATE};
+use crate::files::{FORM, four_by_one, image, patch};
+use crate::room::{CALM, Failing, RUN, Want, check, runs};
+use std::process::Abort;
+use std::thread::Threads;
+use tif_make::{ImageForm, Kind};
+
+// Words of a run of one plate.
+const GOOD: [&[&str]; 2] = [
+    &["run", "plan.json", "FILES", "OUT", "1", "1"],
+    &["run", "plan.json", "FILES", "OUT", "1024", "65536"],
+];
+
+// Words that are no command.
+const BAD: [&[&str]; 7] = [
+    &["run", "plan.json", "FILES", "OUT", "0"],
+    &["run", "plan.json", "FILES", "OUT", "01"],
+    &["run", "plan.json", "FILES", "OUT", "+1"],
+    &["run", "plan.json", "FILES", "OUT", "1025"],
+    &["run", "plan.json", "FILES", "OUT", "1", "65537"],
+    &["run", "plan.json", "FILES", "OUT", "1", "1", "1"],
+    &["run", "plan.json", "", "OUT"],
+];
+
+// Each run of the two pages by these words does what is wanted.
+fn check_words<R: Abort + AllocGlobal + Threads + Sync>(
+    rt: &R,
+    lines: &[&[&str]],
+    file: &[u8],
+    want: &Want<'_>,
+) {
+    for (n, words) in lines.iter().enumerate() {
+        check(rt, n, runs(rt, words, TWO_PAGES, [file, &[]], CALM, want));
+    }
+}
+
+#[test]
+fn reads_ring_and_patience(rt: HostRuntime) {
+    let finished = Want {
+        status: 0,
+        report: ONE_SITE,
+        line: "",
+        plates: &[],
+        taken: &[],
+    };
+    check_words(&rt, &GOOD, &four_by_one(&rt), &finished);
+}
+
+#[test]
+fn refuses_ring_and_patience(rt: HostRuntime) {
+    let refused = Want {
+        status: 2,
+        report: "",
+        line: "plateroom: words\n",
+        plates: &[&[]],
+        taken: &[],
+    };
+    check_words(&rt, &BAD, &four_by_one(&rt), &refused);
+}
+
+// Whether a run of this plan, with these files, reports nothing and tells this line, and its site has
+// nothing.
+fn ends<R: Abort + AllocGlobal + Threads + Sync>(
+    rt: &R,
+    plan: &str,
+    files: [&[u8]; 2],
+    failing: Failing,
+    status: u8,
+    line: &str,
+) -> bool {
+    let want = Want {
+        status,
+        report: "",
+        line,
+        plates: &[&[]],
+        taken: &[],
+    };
+    runs(rt, &RUN, plan, files, failing, &want)
+}
+
+// A crop that doesn't fit, and behind it a second file.
+const LATER: &str = r#"{"plan":1,"edition":"E1","dpi":1200,"page":[8,2],"screens":{"K":"bayer4"},
+"pages":[{"name":"w","inks":"K","layers":[]},{"name":"p","inks":"K","layers":[
+{"kind":"contone","file":"a.tif","crop":[2,0,3,1]},{"kind":"contone","file":"b.tif"}]}],
+"sections":[{"name":"A","pages":["w","p"]}],"sites":[{"name":"OSLO"}]}"#;
+
+// The second file has compression 5, which is LZW: files come before layers. Where the note fails nothing is
+// told.
+fn refuses_second<R: Abort + AllocGlobal + Threads + Sync>(
+    rt: &R,
+    first: &[u8],
+    lzw: &[u8],
+) -> bool {
+    let line = "plateroom: file b.tif: tag 259: compression\n";
+    let failing = Failing {
+        note: Some(0),
+        ..CALM
+    };
+    ends(rt, LATER, [first, lzw], CALM, 4, line) && ends(rt, LATER, [first, lzw], failing, 7, "")
+}
+
+#[test]
+fn refuses_a_later_file(rt: HostRuntime) {
+    let mut lzw = four_by_one(&rt);
+    patch(&mut lzw, 54, 5);
+    assert!(rt; refuses_second(&rt, &four_by_one(&rt), &lzw));
+}
+
+// Whether a plan whose page is a.tif under this key is refused with this line. Beside it lies a mask.
+fn refuses_layer<R: Abort + AllocGlobal + Threads + Sync>(
+    rt: &R,
+    key: &str,
+    mask: &[u8],
+    line: &str,
+) -> bool {
+    let front = r#"{"plan":1,"edition":"E1","dpi":1200,"page":[8,2],"pages":[{"name":"w","inks":"K",
+"layers":[{"kind":"contone","file":"a.tif","#;
+    let back = r#"}]}],"sections":[{"name":"A","pages":["w","w"]}],"sites":[{"name":"OSLO"}]}"#;
+    let plan = format!(in rt.alloc(); "{front}{key}{back}").expect(rt, "memory");
+    ends(rt, plan.as_str(), [&four_by_one(rt), mask], CALM, 4, line)
+}
+
+#[test]
+fn refuses_a_crop_that_ends_outside_its_image(rt: HostRuntime) {
+    let across = "plateroom: file a.tif: tag 256: crop\n";
+    assert!(rt; refuses_layer(&rt, r#""crop":[2,0,3,1]"#, &[], across));
+    let down = "plateroom: file a.tif: tag 257: crop\n";
+    assert!(rt; refuses_layer(&rt, r#""crop":[0,0,1,2]"#, &[], down));
+}
+
+#[test]
+fn refuses_a_mask_of_another_width_than_its_image(rt: HostRuntime) {
+    let narrow = ImageForm {
+        kind: Kind::Mask,
+        width: 3,
+        ..FORM
+    };
+    let line = "plateroom: file b.tif: tag 256: mask size\n";
+    let mask = image(&rt, &narrow, &[0xE0]);
+    assert!(rt; refuses_layer(&rt, r#""mask":"b.tif""#, &mask, line));
+}
+
+#[test]
+fn refuses_a_mask_of_another_length_than_its_image(rt: HostRuntime) {
+    let long = ImageForm {
+        kind: Kind::Mask,
+        length: 2,
+        ..FORM
+    };
+    let line = "plateroom: file b.tif: tag 257: mask size\n";
+    let mask = image(&rt, &long, &[0xF0, 0xF0]);
+    assert!(rt; refuses_layer(&rt, r#""mask":"b.tif""#, &mask, line));
+}
+
+const HEAD: &str = r#"{"plan":1,"edition":"E1","dpi":1200,"page":[8,2],"#;
+
+const SECTIONS: &str = r#""sections":[{"name":"A","pages":["w","w"]}],"#;
+
+const SITES: &str = r#""sites":[{"name":"OSLO"}]}"#;
+
+// The keys before the pages of a plan, its sections and its sites, of which one is wrong, and the line.
+const PLANS: [[&str; 4]; 5] = [
+    [
+        r#"{"plan":1,"edition":"E1","dpi":1200,"page":[8,2],"colour":1,"#,
+        SECTIONS,
+        SITES,
+        "plateroom: plan /colour: unknown\n",
+    ],
+    [
+        HEAD,
+        SECTIONS,
+        r#""sites":[{"name":"OSLO"},{"name":"OSLO"}]}"#,
+        "plateroom: plan /sites/1/name: repeat\n",
+    ],
+    [
+        HEAD,
+        r#""sections":[{"name":"A","pages":["w","w","w"]}],"#,
+        SITES,
+        "plateroom: plan /sections/0/pages: range\n",
+    ],
+    [
+        r#"{"plan":1,"edition":"E1","page":[8,2],"#,
+        SECTIONS,
+        SITES,
+        "plateroom: plan /dpi: missing\n",
+    ],
+    [
+        r#"{"plan":1,"edition":"E1","dpi":"x","page":[8,2],"#,
+        SECTIONS,
+        SITES,
+        "plateroom: plan /dpi: kind\n",
+    ],
+];
+
+// Whether a run of the plan of these keys is refused with this line.
+fn refuses_keys<R: Abort + AllocGlobal + Threads + Sync>(
+    rt: &R,
+    [head, sections, sites, line]: [&str; 4],
+) -> bool {
+    let pages = r#""pages":[{"name":"w","inks":"K","layers":[]}],"#;
+    let plan = format!(in rt.alloc(); "{head}{pages}{sections}{sites}").expect(rt, "memory");
+    ends(rt, plan.as_str(), [&[], &[]], CALM, 3, line)
+}
+
+#[test]
+fn refuses_a_plan(rt: HostRuntime) {
+    for (n, keys) in PLANS.iter().enumerate() {
+        check(&rt, n, refuses_keys(&rt, *keys));
+    }
+}
+
+#[test]
+fn refuses_what_is_no_plan(rt: HostRuntime) {
+    let line = "plateroom: plan: not JSON\n";
+    assert!(rt; ends(&rt, "{", [&[], &[]], CALM, 3, line));
+    let line = "plateroom: plan : kind\n";
+    assert!(rt; ends(&rt, "[]", [&[], &[]], CALM, 3, line));
+}
+
+// What fails: the shelf at each of its loads. Then the line.
+const LOADS: [(u64, &str); 2] = [
+    (0, "plateroom: shelf: plan.json\n"),
+    (1, "plateroom: shelf: FILES/a.tif\n"),
+];
+
+// Whether a run of the two pages whose shelf fails at this load is refused with this line.
+fn misses<R: Abort + AllocGlobal + Threads + Sync>(rt: &R, load: u64, line: &str) -> bool {
+    let failing = Failing {
+        shelf: Some(load),
+        ..CALM
+    };
+    ends(rt, TWO_PAGES, [&four_by_one(rt), &[]], failing, 5, line)
+}
+
+#[test]
+fn tells_what_the_shelf_failed_at(rt: HostRuntime) {
+    for (n, (load, line)) in LOADS.iter().enumerate() {
+        check(&rt, n, misses(&rt, *load, line));
+    }
+}
+
+const UNREPORTED: Want<'static> = Want {
+    status: 7,
+    report: "",
+    line: "",
+    plates: &[&[TWO_PAGES_PLATE]],
+    taken: &[],
+};
+
+// The output takes the whole report in one call, when the plates are there.
+#[test]
+fn ends_where_the_output_fails(rt: HostRuntime) {
+    let failing = Failing {
+        out: Some(0),
+        ..CALM
+    };
+    let file = four_by_one(&rt);
+    assert!(rt; runs(&rt, &RUN, TWO_PAGES, [&file, &[]], failing, &UNREPORTED));
+}

@@ -1,0 +1,166 @@
+// Runs of one pair of pages of 2 by 1 pixels, in one ink or four: what curves, limit and paint leave of each.
+use crate::files::pixel;
+use crate::room::{CALM, Plate, RUN, Want, runs};
+use std::process::Abort;
+use std::thread::Threads;
+
+const FOUR: &str = "site OSLO finished plates 4 rows 4\ntotal rows 4 sites 1\n";
+
+const ONE: &str = "site OSLO finished plates 1 rows 1\ntotal rows 1 sites 1\n";
+
+// Whether a run whose plan has these keys makes these plates. Its left page has these inks, a.tif, and these
+// layers above it, from files of one pixel each.
+fn makes<R: Abort + AllocGlobal + Threads + Sync>(
+    rt: &R,
+    [keys, inks, layers]: [&str; 3],
+    [first, second]: [[u8; 4]; 2],
+    want: &Want<'_>,
+) -> bool {
+    let plan = format!(in rt.alloc();
+        r#"{{"plan":1,"edition":"E1","dpi":1200,"page":[2,1],{keys}
+"sections":[{{"name":"A","pages":["w","p"]}}],"sites":[{{"name":"OSLO"}}],
+"pages":[{{"name":"w","inks":"K","layers":[]}},
+{{"name":"p","inks":"{inks}","layers":[
+{{"kind":"contone","file":"a.tif","scale":2}}{layers}]}}]}}"#
+    )
+    .expect(rt, "memory");
+    let first = pixel(rt, first);
+    let second = pixel(rt, second);
+    runs(rt, &RUN, plan.as_str(), [&first, &second], CALM, want)
+}
+
+const LIMITED: Want<'static> = Want {
+    status: 0,
+    report: FOUR,
+    line: "",
+    plates: &[&[
+        Plate {
+            path: "OUT/OSLO/E1-A-001-C.tif",
+            rows: &[0, 0x80],
+            changes: &[],
+        },
+        Plate {
+            path: "OUT/OSLO/E1-A-001-M.tif",
+            rows: &[0, 0x80],
+            changes: &[],
+        },
+        Plate {
+            path: "OUT/OSLO/E1-A-001-Y.tif",
+            rows: &[0, 0x80],
+            changes: &[],
+        },
+        Plate {
+            path: "OUT/OSLO/E1-A-001-K.tif",
+            rows: &[0, 0xC0],
+            changes: &[],
+        },
+    ]],
+    taken: &[],
+};
+
+// 255 in four inks under a limit of 612 is 119, 119, 119 and 255. A tile of 118 and 119 tells 119 from both
+// of its neighbours.
+#[test]
+fn a_limit_leaves_black(rt: HostRuntime) {
+    let keys = r#""limit":612,"tiles":[{"name":"T","width":2,"height":1,"at":[118,119]}],
+"screens":{"C":"tile:T","M":"tile:T","Y":"tile:T","K":"tile:T"},"#;
+    assert!(rt; makes(&rt, [keys, "CMYK", ""], [[255; 4], [0; 4]], &LIMITED));
+}
+
+// Cyan and black.
+const TWO_INKS: Want<'static> = Want {
+    status: 0,
+    report: FOUR,
+    line: "",
+    plates: &[&[
+        Plate {
+            path: "OUT/OSLO/E1-A-001-C.tif",
+            rows: &[0, 0x80],
+            changes: &[],
+        },
+        Plate {
+            path: "OUT/OSLO/E1-A-001-M.tif",
+            rows: &[0, 0],
+            changes: &[],
+        },
+        Plate {
+            path: "OUT/OSLO/E1-A-001-Y.tif",
+            rows: &[0, 0],
+            changes: &[],
+        },
+        Plate {
+            path: "OUT/OSLO/E1-A-001-K.tif",
+            rows: &[0, 0xC0],
+            changes: &[],
+        },
+    ]],
+    taken: &[],
+};
+
+// The curve makes 192 of 200, and the limit of 300 leaves 45 of it beside 255. The limit first would leave
+// 38.
+#[test]
+fn curves_come_before_the_limit(rt: HostRuntime) {
+    let keys = r#""limit":300,"tiles":[{"name":"T","width":2,"height":1,"at":[44,45]}],
+"screens":{"C":"tile:T","K":"tile:T"},"curves":{"C":[[0,0],[128,110],[255,255]]},"#;
+    let files = [[200, 0, 0, 255], [0; 4]];
+    assert!(rt; makes(&rt, [keys, "CMYK", ""], files, &TWO_INKS));
+}
+
+const BAYER: &str = r#""screens":{"C":"bayer2","K":"bayer2"},"#;
+
+const OVERPRINT: &str = r#",{"kind":"contone","file":"b.tif","scale":2,"paint":"overprint"}"#;
+
+const KNOCKOUT: &str = r#",{"kind":"contone","file":"b.tif","scale":2,"paint":"knockout"}"#;
+
+// Cyan, and black.
+const COLOURS: [[u8; 4]; 2] = [[100, 0, 0, 0], [0, 0, 0, 255]];
+
+const BLACK_OF_FOUR: Want<'static> = Want {
+    status: 0,
+    report: FOUR,
+    line: "",
+    plates: &[&[
+        Plate {
+            path: "OUT/OSLO/E1-A-001-C.tif",
+            rows: &[0, 0],
+            changes: &[],
+        },
+        Plate {
+            path: "OUT/OSLO/E1-A-001-M.tif",
+            rows: &[0, 0],
+            changes: &[],
+        },
+        Plate {
+            path: "OUT/OSLO/E1-A-001-Y.tif",
+            rows: &[0, 0],
+            changes: &[],
+        },
+        Plate {
+            path: "OUT/OSLO/E1-A-001-K.tif",
+            rows: &[0, 0xC0],
+            changes: &[],
+        },
+    ]],
+    taken: &[],
+};
+
+const BLACK: Want<'static> = Want {
+    status: 0,
+    report: ONE,
+    line: "",
+    plates: &[&[Plate {
+        path: "OUT/OSLO/E1-A-001-K.tif",
+        rows: &[0, 0xC0],
+        changes: &[],
+    }]],
+    taken: &[],
+};
+
+// Black over cyan: overprint leaves the cyan, knockout doesn't, and a black page prints none.
+#[test]
+fn black_over_cyan(rt: HostRuntime) {
+    assert!(rt; makes(&rt, [BAYER, "CMYK", OVERPRINT], COLOURS, &TWO_INKS));
+    assert!(rt; makes(&rt, [BAYER, "CMYK", KNOCKOUT], COLOURS, &BLACK_OF_FOUR));
+    assert!(rt; makes(&rt, [BAYER, "K", OVERPRINT], COLOURS, &BLACK));
+}

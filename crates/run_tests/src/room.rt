@@ -1,0 +1,225 @@
+// Runs over a shelf, racks and sinks in memory.
+ghost use Rattle.std.specs.Prelude.{◌≡◌, ◌≤◌, ◌++◌, ◌∷◌, [], is_some, length, map};
+ghost use Rattle.pr_ports.specs.Mem.{files_of};
+ghost use Rattle.pr_rack.specs.Rack.{none_begun};
+ghost use Rattle.plate_room.specs.Seen.{AreIdle};
+
+use crate::files::{have_plates, took};
+use plate_room::plate_main;
+use pr_base::PathText;
+use pr_ports::{MemShelf, MemSink, Shelf, Sink};
+use pr_rack::{MemRack, Rack};
+use ring_lanes::Source;
+use std::alloc::Global;
+use std::process::Abort;
+use std::thread::Threads;
+
+/// The words of a run where a test says nothing else.
+pub const RUN: [&str; 4] = ["run", "plan.json", "FILES", "OUT"];
+
+/// Which calls fail: of the shelf, of the first two racks, of the output, and of the note.
+#[derive(Clone, Copy)]
+pub struct Failing {
+    pub shelf: Option<u64>,
+    pub racks: [Option<u64>; 2],
+    pub out: Option<u64>,
+    pub note: Option<u64>,
+}
+
+/// No call fails.
+pub const CALM: Failing = Failing {
+    shelf: None,
+    racks: [None, None],
+    out: None,
+    note: None,
+};
+
+// The number of a call, where there is one.
+fn calls<R: Abort + AllocGlobal>(rt: &R, call: Option<u64>) -> Vec<u64> {
+    let mut calls = Vec::new(rt.alloc());
+    if let Some(call) = call {
+        calls.push(call).expect(rt, "memory");
+    }
+    calls
+}
+
+/// A sink of which this call fails.
+pub fn sink<R: Abort + AllocGlobal>(rt: &R, failing: Option<u64>) -> MemSink {
+    MemSink::new(rt.alloc(), calls(rt, failing))
+}
+
+// Files, and behind them one more.
+fn with_file<R: Abort + AllocGlobal>(
+    rt: &R,
+    files: Vec<(PathText, Vec<u8>)>,
+    path: &str,
+    bytes: &[u8],
+) -> Vec<(PathText, Vec<u8>)>
+    ensures { map (λ file. file.0) (files_of result.items)
+        ≡ map (λ file. file.0) (files_of files.items) ++ path.now ∷ [] }
+{
+    let mut files = files;
+    let path = PathText::of(rt.alloc(), path).expect(rt, "memory");
+    let bytes = bytes.to_vec(rt.alloc()).expect(rt, "memory");
+    files.push((path, bytes)).expect(rt, "memory");
+    files
+}
+
+/// A shelf with a plan and two files, of which this call fails.
+pub fn shelf<R: Abort + AllocGlobal>(
+    rt: &R,
+    plan: &str,
+    first: &[u8],
+    second: &[u8],
+    failing: Option<u64>,
+) -> MemShelf {
+    let none = Vec::new(rt.alloc());
+    let one = with_file(rt, none, "plan.json", plan.as_bytes());
+    let two = with_file(rt, one, "FILES/a.tif", first);
+    let three = with_file(rt, two, "FILES/b.tif", second);
+    MemShelf::new(rt.alloc(), three, calls(rt, failing))
+}
+
+/// An edition has at most so many sites.
+pub const RACKS: usize = 16;
+
+// The rack of a site, of which a call fails.
+fn rack<R: Abort + AllocGlobal>(rt: &R, site: usize, failing: [Option<u64>; 2]) -> MemRack
+    ensures { map is_some result.slots ≡ none_begun }
+{
+    let call = match failing.get(site) {
+        Some(call) => *call,
+        None => None,
+    };
+    MemRack::new(rt.alloc(), calls(rt, call))
+}
+
+/// Sixteen racks, of which these calls fail.
+pub fn racks<R: Abort + AllocGlobal>(rt: &R, failing: [Option<u64>; 2]) -> Vec<MemRack>
+    ensures count { length result.items ≡ 16 }
+    ensures idle { AreIdle ⟦<MemRack as Rack>⟧ result.items }
+{
+    let mut racks = Vec::new(rt.alloc());
+    for site in 0..RACKS {
+        racks.push(rack(rt, site, failing)).expect(rt, "memory");
+    }
+    racks
+}
+
+// The words of a command line.
+fn texts<R: Abort + AllocGlobal>(rt: &R, words: &[&str]) -> Vec<String> {
+    let mut texts = Vec::new(rt.alloc());
+    for word in words {
+        let text = String::from_str(rt.alloc(), word).expect(rt, "memory");
+        texts.push(text).expect(rt, "memory");
+    }
+    texts
+}
+
+// The call, of which a test is told the status alone.
+fn answer<T: Threads + Sync, H: Shelf, R: Rack + Send, S: Sink, E: Sink>(
+    rt: &T,
+    alloc: Global,
+    words: &[String],
+    shelf: &mut H,
+    racks: &mut [R],
+    out: &mut S,
+    note: &mut E,
+) -> u8
+    requires racks { 16 ≤ length racks.old }
+    requires idle { AreIdle R.Rack racks.old }
+{
+    plate_main(rt, alloc, words, shelf, racks, out, note)
+}
+
+/// Does a command of these words, and gives its status.
+pub fn command<T: Abort + AllocGlobal + Threads + Sync, R: Rack + Send>(
+    rt: &T,
+    words: &[&str],
+    shelf: &mut MemShelf,
+    racks: &mut [R],
+    out: &mut MemSink,
+    note: &mut MemSink,
+) -> u8
+    requires racks { 16 ≤ length racks.old }
+    requires idle { AreIdle R.Rack racks.old }
+{
+    let words = texts(rt, words);
+    answer(rt, rt.alloc(), words.as_slice(), shelf, racks, out, note)
+}
+
+/// A plate that is wanted of a rack: its path, its packed rows, and what differs in its directory.
+#[derive(Clone, Copy)]
+pub struct Plate<'a> {
+    pub path: &'a str,
+    pub rows: &'a [u8],
+    pub changes: &'a [(usize, u8)],
+}
+
+/// What is wanted of a run: its status, its report and its line, and of its racks, from the first on, the
+/// plates, and the sources and the numbers of the rows that they took.
+#[derive(Clone, Copy)]
+pub struct Want<'a> {
+    pub status: u8,
+    pub report: &'a str,
+    pub line: &'a str,
+    pub plates: &'a [&'a [Plate<'a>]],
+    pub taken: &'a [(Source, &'a [u64])],
+}
+
+// Whether a run of these words, with a note of which this call fails, ends with this status and this line.
+fn tells<R: Abort + AllocGlobal + Threads + Sync>(
+    rt: &R,
+    words: &[&str],
+    shelf: &mut MemShelf,
+    racks: &mut [MemRack],
+    out: &mut MemSink,
+    failing: Option<u64>,
+    want: &Want<'_>,
+) -> bool
+    requires racks { 16 ≤ length racks.old }
+    requires idle { AreIdle ⟦<MemRack as Rack>⟧ racks.old }
+{
+    let mut note = sink(rt, failing);
+    let status = command(rt, words, shelf, racks, out, &mut note);
+    status == want.status && note.bytes() == want.line.as_bytes()
+}
+
+/// Whether a run ends, reports and tells as it is wanted.
+pub fn reports<R: Abort + AllocGlobal + Threads + Sync>(
+    rt: &R,
+    words: &[&str],
+    shelf: &mut MemShelf,
+    racks: &mut [MemRack],
+    failing: Failing,
+    want: &Want<'_>,
+) -> bool
+    requires racks { 16 ≤ length racks.old }
+    requires idle { AreIdle ⟦<MemRack as Rack>⟧ racks.old }
+{
+    let mut out = sink(rt, failing.out);
+    tells(rt, words, shelf, racks, &mut out, failing.note, want)
+        && out.bytes() == want.report.as_bytes()
+}
+
+/// Whether a run of these words does what is wanted. The files that its plan may name are a.tif and b.tif.
+pub fn runs<R: Abort + AllocGlobal + Threads + Sync>(
+    rt: &R,
+    words: &[&str],
+    plan: &str,
+    files: [&[u8]; 2],
+    failing: Failing,
+    want: &Want<'_>,
+) -> bool {
+    let [first, second] = files;
+    let mut shelf = shelf(rt, plan, first, second, failing.shelf);
+    let mut racks = racks(rt, failing.racks);
+    reports(rt, words, &mut shelf, racks.as_mut_slice(), failing, want)
+        && have_plates(rt, racks.as_slice(), want.plates)
+        && took(racks.as_slice(), want.taken)
+}
+
+/// Row `n` of a table holds.
+pub fn check(rt: &impl Abort, n: usize, holds: bool) {
+    assert!(rt; holds, "row {n}");
+}

@@ -1,0 +1,267 @@
+// Two sites of a run and its writer side by side, seen by racks that tell each other how many row calls each
+// has begun.
+ghost use Rattle.std.specs.Prelude.{refl, ◌≡◌, Some, ◌≤◌, is_some, length, map};
+ghost use Rattle.pr_rack.specs.Rack.{none_begun};
+ghost use Rattle.plate_room.specs.Seen.{AreIdle};
+
+use crate::room::{RACKS, command, shelf, sink};
+use pr_rack::{MemRack, Rack, RackFault};
+use ring_lanes::{Held, Source};
+use std::alloc::Global;
+use std::process::Abort;
+use std::sync::atomic::{AtomicU64, Ordering};
+use std::thread;
+use std::thread::Threads;
+
+/// What a rack does in one of its row calls.
+#[derive(Clone, Copy)]
+enum Stop {
+    /// In the call for this row it waits until the other rack has begun so many row calls, or 2^26 turns are
+    /// over.
+    Meets { row: u64, calls: u64 },
+    /// In the call for row 0 it waits 2^20 turns.
+    Pauses,
+    /// It goes on in each.
+    Goes,
+}
+
+/// What the racks of a run share: the row calls that each of two has begun, how often one waited in vain or
+/// had a row for which the other's calls leave no room, and the places of the ring.
+#[derive(Drop)]
+struct Counts {
+    first: AtomicU64,
+    second: AtomicU64,
+    alone: AtomicU64,
+    places: u64,
+}
+
+/// A rack in memory that counts its row calls, and looks at those of another rack.
+#[derive(Drop)]
+struct Watched<'c> {
+    rack: MemRack,
+    stop: Stop,
+    own: &'c AtomicU64,
+    other: &'c AtomicU64,
+    counts: &'c Counts,
+}
+
+impl Watched<'_> {
+    /// Waits until the other rack has begun so many row calls, or so many turns are over. Answers whether
+    /// it has.
+    fn wait(&self, calls: u64, turns: u64) -> bool {
+        for turn in 0..turns {
+            if self.other.load(Ordering::SeqCst) >= calls {
+                return true;
+            }
+            if turn % 1024 == 0 {
+                thread::yield_now();
+            }
+        }
+        false
+    }
+
+    /// Waits in the call for row `n` where it is to, and answers whether the other rack came as far as is
+    /// awaited.
+    fn meets(&self, n: u64) -> bool {
+        match self.stop {
+            Stop::Meets { row, calls } if n == row => self.wait(calls, 1 << 26),
+            Stop::Pauses if n == 0 => {
+                self.wait(u64::MAX, 1 << 20);
+                true
+            }
+            _ => true,
+        }
+    }
+
+    /// Begins the call for row `n`.
+    fn begin_row(&self, n: u64) {
+        self.own.fetch_add(1, Ordering::SeqCst);
+        let met = self.meets(n);
+        let near = n
+            < self
+                .other
+                .load(Ordering::SeqCst)
+                .saturating_add(self.counts.places);
+        if !met || !near {
+            self.counts.alone.fetch_add(1, Ordering::SeqCst);
+        }
+    }
+}
+
+impl Rack for Watched<'_> {
+    ghost finished = { λ r. Some r.rack.files };
+
+    ghost working = { λ r. Some r.rack.slots };
+
+    ghost begun = { λ r. map is_some r.rack.slots };
+
+    ghost taken = { λ r. Some r.rack.taken };
+
+    ghost missed = { λ r. Some r.rack.misses.missed };
+
+    ghost faults = { λ r. r.rack.misses.faults };
+
+    ghost finished_told = { λ r h. Prim.cc };
+
+    ghost missed_told = { λ r h. Prim.cc };
+
+    ghost begun_told = { λ r. refl };
+
+    fn begin(&mut self, slot: usize, path: &str, head: &[u8]) -> Result<(), RackFault> {
+        self.rack.begin(slot, path, head)
+    }
+
+    fn row(&mut self, slot: usize, held: &Held) -> Result<(), RackFault> {
+        self.begin_row(held.number());
+        self.rack.row(slot, held)
+    }
+
+    fn finish(&mut self, slot: usize, tail: &[u8], at: u32) -> Result<(), RackFault> {
+        self.rack.finish(slot, tail, at)
+    }
+}
+
+/// The idle rack of a site. Those of the first two look at each other.
+fn rack_of<'c>(alloc: Global, site: usize, stops: [Stop; 2], counts: &'c Counts) -> Watched<'c>
+    ensures { map is_some result.rack.slots ≡ none_begun }
+{
+    let rack = MemRack::new(alloc, Vec::new(alloc));
+    let [first, second] = stops;
+    if site == 1 {
+        return Watched {
+            rack,
+            stop: second,
+            own: &counts.second,
+            other: &counts.first,
+            counts,
+        };
+    }
+    Watched {
+        rack,
+        stop: first,
+        own: &counts.first,
+        other: &counts.second,
+        counts,
+    }
+}
+
+/// Sixteen racks, of which the first two look at each other.
+fn watched_racks<'c, R: Abort + AllocGlobal>(
+    rt: &R,
+    stops: [Stop; 2],
+    counts: &'c Counts,
+) -> Vec<Watched<'c>>
+    ensures count { length result.items ≡ 16 }
+    ensures idle { AreIdle ⟦<Watched<'c> as Rack>⟧ result.items }
+{
+    let mut racks = Vec::new(rt.alloc());
+    for site in 0..RACKS {
+        let rack = rack_of(rt.alloc(), site, stops, counts);
+        racks.push(rack).expect(rt, "memory");
+    }
+    racks
+}
+
+// Two pairs of empty pages for two sites: 1024 rows, which both keep.
+const PLAN: &str = r#"{"plan":1,"edition":"E1","dpi":1200,"page":[8,512],
+"pages":[{"name":"w","inks":"K","layers":[]}],
+"sections":[{"name":"A","pages":["w","w","w","w"]}],"sites":[{"name":"OSLO"},{"name":"BERGEN"}]}"#;
+
+const REPORT: &str = "site OSLO finished plates 2 rows 1024
+site BERGEN finished plates 2 rows 1024
+total rows 1024 sites 2
+";
+
+/// Whether the racks of both sites took all rows from the one ring of so many places.
+fn took_all(racks: &[Watched<'_>], places: u32) -> bool {
+    for (site, rack) in racks.iter().enumerate().take(2) {
+        let source = Source::Ring {
+            reader: site as u32,
+            readers: 2,
+            places,
+        };
+        let taken = rack.rack.taken();
+        if taken.len() != 1024 || !taken.iter().all(|row| row.1 == source) {
+            return false;
+        }
+    }
+    true
+}
+
+/// Whether the run over these racks ends well and reports.
+fn reports<'c, R: Abort + AllocGlobal + Threads + Sync>(
+    rt: &R,
+    words: &[&str],
+    racks: &mut [Watched<'c>],
+) -> bool
+    requires racks { 16 ≤ length racks.old }
+    requires idle { AreIdle ⟦<Watched<'c> as Rack>⟧ racks.old }
+{
+    let mut shelf = shelf(rt, PLAN, &[], &[], None);
+    let mut out = sink(rt, None);
+    let mut note = sink(rt, None);
+    let status = command(rt, words, &mut shelf, racks, &mut out, &mut note);
+    status == 0 && out.bytes() == REPORT.as_bytes()
+}
+
+/// Runs the plan at a ring of so many places.
+fn run_watched<R: Abort + AllocGlobal + Threads + Sync>(
+    rt: &R,
+    ring: &str,
+    places: u32,
+    stops: [Stop; 2],
+    counts: &Counts,
+) -> bool {
+    let words = ["run", "plan.json", "FILES", "OUT", ring, "65536"];
+    let mut racks = watched_racks(rt, stops, counts);
+    reports(rt, &words, racks.as_mut_slice()) && took_all(racks.as_slice(), places)
+}
+
+/// Runs the plan at a ring of so many places, and gives how often a rack was alone.
+fn times_alone<R: Abort + AllocGlobal + Threads + Sync>(
+    rt: &R,
+    ring: &str,
+    places: u32,
+    stops: [Stop; 2],
+) -> u64 {
+    let counts = Counts {
+        first: AtomicU64::new(0),
+        second: AtomicU64::new(0),
+        alone: AtomicU64::new(0),
+        places: u64::from(places),
+    };
+    assert!(rt; run_watched(rt, ring, places, stops, &counts));
+    counts.alone.load(Ordering::SeqCst)
+}
+
+/// In one of four runs over 64 places no rack is alone.
+fn assert_meet<R: Abort + AllocGlobal + Threads + Sync>(rt: &R, stops: [Stop; 2]) {
+    for _run in 0..4 {
+        if times_alone(rt, "64", 64, stops) == 0 {
+            return;
+        }
+    }
+    panic!(rt; "each run went on alone");
+}
+
+// Each rack waits in its first row call for the other to begin one, which on one thread it never does.
+#[test]
+fn sites_run_side_by_side(rt: HostRuntime) {
+    let stop = Stop::Meets { row: 0, calls: 1 };
+    assert_meet(&rt, [stop, stop]);
+}
+
+// At two places no rack gets a row that is two further than what the other has begun, though it pauses.
+#[test]
+fn sites_share_one_ring(rt: HostRuntime) {
+    assert_eq!(rt; times_alone(&rt, "2", 2, [Stop::Goes, Stop::Pauses]), 0);
+}
+
+// The first rack waits in the call for row 10 until the other has begun that for row 70, which a writer whose
+// turn ends before those of the sites begin doesn't give it: rows 64 to 70 take the places of rows 0 to 6,
+// and before that turn of the sites none of these was taken.
+#[test]
+fn writer_runs_beside_the_sites(rt: HostRuntime) {
+    let stop = Stop::Meets { row: 10, calls: 71 };
+    assert_meet(&rt, [stop, Stop::Goes]);
+}
