@@ -1,7 +1,10 @@
 -- What a layer's rows keep, from the begin on.
-use Rattle.std.proofs.Common.{◌≡◌, ℕ, ◌+◌, ◌*◌, ◌/◌, ◌<◌, ◌≤◌, List, length, get_or, replicate, slice_index, Option, option_map, refl, sym, ap, ◌∙◌, arith}
+use Rattle.std.proofs.Common.{◌≡◌, ℕ, Bool, true, false, if◌then◌else◌, ◌+◌, ◌*◌, ◌/◌, ◌<◌, ◌≤◌, List, length, get_or, replicate, slice_index, Option, option_map, refl, sym, ap, ◌∙◌, arith}
 use Rattle.std.proofs.lemmas.List.{get_or-replicate, length-replicate}
-use Rattle.tif_strips.specs.Strips.{Cursor, Image, image_row}
+use Rattle.std.specs.Prelude.{◌==◌}
+use Rattle.pr_base.specs.Row.{row_size}
+use Rattle.tif_strips.specs.declared.shape.Shape.{Shape}
+use Rattle.tif_strips.specs.Strips.{Cursor, Image, image_row, row_length}
 use Rattle.page_layers.specs.declared.layer.Art.{Art}
 use Rattle.page_layers.specs.declared.layer.Art.TheVariants.{Contone, Line}
 use Rattle.page_layers.specs.declared.layer.Layer.{Layer}
@@ -10,6 +13,14 @@ use Rattle.page_layers.specs.Inks.{Planes, inks_at}
 use Rattle.page_layers.specs.Layer.{IsLayer, bytes_of, paint_at, shape_of}
 use Rattle.page_layers.specs.Reader.{mask_cursor}
 use Rattle.page_layers.specs.Rows.{HasSamples, IsLayerRows, IsPaint, fixed_of, painting_of, span_of, with_fixed}
+
+-- a row of an image has a bit for each of its pixels
+pub row_reaches : (shape : Shape) → shape.width ≤ 8 * row_length shape
+row_reaches shape = cases (shape.samples == 4) shape.width
+  where
+    cases : (four : Bool) (width : ℕ) → width ≤ 8 * (if four then 4 * width else row_size width)
+    cases true width = omega arith
+    cases false width = omega arith
 
 -- paint of the fixed inks has what is the same in each row
 fixed_paint : (art : Art) (span : ℕ) (paint : Planes) → paint.cyan ≡ replicate span (slice_index (fixed_of art) 0) → paint.magenta ≡ replicate span (slice_index (fixed_of art) 1)

@@ -5,7 +5,7 @@ ghost use Rattle.page_layers.specs.Layer.{IsLayer, admits, paints_at, shape_of, 
 ghost use Rattle.page_layers.specs.Reader.{IsOf, mask_cursor};
 ghost use Rattle.page_layers.specs.Rows.{IsAdmitted, IsMarked, is_bare};
 
-use crate::layer::{Art, Layer, bilevel_row_len};
+use crate::layer::{Art, Layer};
 use crate::marks::keep_marked;
 use crate::row_reader::RowReader;
 use crate::stretch::stretch;
@@ -33,6 +33,7 @@ pub(crate) fn admit_row(
     requires mask { mask.now ≡ option_map (mask_cursor image.now.next) layer.now.mask }
     requires read { 0 < image.now.next }
     requires layer { IsLayer layer.now }
+    requires width { (shape_of layer.now.art).width ≤ 65535 }
     requires columns { length marks.old ≤ layer.now.crop.width }
     requires enough { (n : ℕ) → layer.now.scale * n < length admitted.old → n < length marks.old }
     requires small { length admitted.old ≤ 65535 }
@@ -53,6 +54,7 @@ pub(crate) fn admit_row(
 fn mark_art(art: &Art<'_>, image: &RowReader<'_>, first: u32, marks: &mut [u8])
     requires image { IsOf art.now image.now }
     requires read { 0 < image.now.next }
+    requires small { first + length marks.old ≤ 65535 }
     requires within { first + length marks.old ≤ (shape_of art.now).width }
     ensures { IsMarked
         (λ n. paints_at art.now (first + n) (image.now.next - 1))
@@ -60,7 +62,6 @@ fn mark_art(art: &Art<'_>, image: &RowReader<'_>, first: u32, marks: &mut [u8])
 {
     marks.fill(255);
     if let Art::Line(line, _) = art {
-        let _len = bilevel_row_len(line);
         keep_marked(line, image.row(), first, marks);
     }
 }
@@ -75,13 +76,13 @@ fn mark_mask(
 )
     requires reader { reader.now ≡ option_map (mask_cursor next) mask.now }
     requires read { 0 < next }
+    requires small { first + length marks.old ≤ 65535 }
     requires within { ForSome mask.now (λ mask. first + length marks.old ≤ mask.shape.width) }
     ensures { IsMarked
         (λ n. shows_through mask.now (first + n) (next - 1))
         (slice_index marks.old) (length marks.old) marks.new }
 {
     if let (Some(mask), Some(reader)) = (mask, reader) {
-        let _len = bilevel_row_len(mask);
         keep_marked(mask, reader.row(), first, marks);
     }
 }

@@ -1,5 +1,5 @@
 // A layer of a page: an image or a part of it, where it stands and how it is painted.
-ghost use Rattle.std.specs.Prelude.{◌≡◌, ◌*◌, ◌≤◌};
+ghost use Rattle.std.specs.Prelude.{◌≡◌, ◌≤◌};
 ghost use Rattle.tif_strips.specs.Strips.{row_length};
 
 use tif_image::{Bilevel, Contone};
@@ -34,32 +34,10 @@ impl<'a> Art<'a> {
         ensures length { (shape_of self.now).length ≤ 65535 }
     {
         match self {
-            Art::Contone(image) => contone_row_len(image),
-            Art::Line(image, _) => bilevel_row_len(image),
+            Art::Contone(image) => image.row_len(),
+            Art::Line(image, _) => image.row_len(),
         }
     }
-}
-
-pub(crate) fn contone_row_len(image: &Contone<'_>) -> usize
-    ensures len { result ≡ row_length image.now.shape }
-    ensures bytes { result ≡ 4 * image.now.shape.width }
-    ensures width { image.now.shape.width ≤ 65535 }
-    ensures length { image.now.shape.length ≤ 65535 }
-{
-    let _length = image.length();
-    let _rows = image.rows();
-    4 * image.width() as usize
-}
-
-pub(crate) fn bilevel_row_len(image: &Bilevel<'_>) -> usize
-    ensures len { result ≡ row_length image.now.shape }
-    ensures bits { image.now.shape.width ≤ 8 * result }
-    ensures width { image.now.shape.width ≤ 65535 }
-    ensures length { image.now.shape.length ≤ 65535 }
-{
-    let _length = image.length();
-    let _rows = image.rows();
-    pr_base::row_bytes(image.width())
 }
 
 /// A part of an image, in its pixels.

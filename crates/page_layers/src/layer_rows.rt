@@ -8,7 +8,7 @@ ghost use Rattle.page_layers.specs.Rows.{IsPaint, fixed_of, painting_of, span_of
 use crate::InkRow;
 use crate::admit::{admit_row, is_bare};
 use crate::lay::Painting;
-use crate::layer::{Art, Layer, bilevel_row_len, contone_row_len};
+use crate::layer::{Art, Layer};
 use crate::mask_rows::{open_mask, reach_mask, restart_mask};
 use crate::room::room;
 use crate::row_reader::RowReader;
@@ -181,7 +181,8 @@ fn paint_row(art: &Art<'_>, image: &RowReader<'_>, first: u32, scale: u32, paint
     ensures paint { IsPaint art.now first scale (image.now.next - 1) (length paint.old.cyan) paint.new }
 {
     if let Art::Contone(contone) = art {
-        let _len = contone_row_len(contone);
+        // For its clause: four bytes a pixel.
+        let _len = contone.row_len();
         paint.set_samples(image.row(), first as usize, scale as usize);
     }
 }

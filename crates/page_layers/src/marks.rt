@@ -5,10 +5,10 @@ ghost use Rattle.tif_strips.specs.Strips.{row_length};
 ghost use Rattle.tif_image.specs.Image.{is_marked, photometric};
 ghost use Rattle.page_layers.specs.Rows.{IsMarked};
 
-use crate::layer::bilevel_row_len;
 use tif_image::Bilevel;
 
 /// Sets to 0 the bytes of pixels that aren't marked, from column `first` of a row on.
+#[tactic(auto, using(crate::proofs::Layers::row_reaches))]
 pub(crate) fn keep_marked(image: &Bilevel<'_>, row: &[u8], first: u32, into: &mut [u8])
     requires row { length row.now ≡ row_length image.now.shape }
     requires small { first + length into.old ≤ 65535 }
@@ -17,7 +17,6 @@ pub(crate) fn keep_marked(image: &Bilevel<'_>, row: &[u8], first: u32, into: &mu
         (λ j. is_marked (photometric image.now.bytes) row.now (first + j))
         (slice_index into.old) (length into.old) into.new }
 {
-    let _len = bilevel_row_len(image);
     if image.marks_zeros() {
         keep_zeros(row, first as usize, into);
     } else {

@@ -3,7 +3,6 @@ ghost use Rattle.std.specs.Prelude.{◌≡◌, ◌+◌, ◌<◌, ◌≤◌, IfOk
 ghost use Rattle.std.specs.Option.{ForSome};
 ghost use Rattle.page_layers.specs.Reader.{at_row, mask_cursor};
 
-use crate::layer::bilevel_row_len;
 use crate::row_reader::RowReader;
 use pr_base::NoMemory;
 use std::alloc::Global;
@@ -17,7 +16,7 @@ pub(crate) fn open_mask<'a>(
     ensures { IfOk result (λ reader. reader ≡ option_map (mask_cursor 0) mask.now) }
 {
     match mask {
-        Some(mask) => Ok(Some(RowReader::new(alloc, mask.rows(), bilevel_row_len(mask))?)),
+        Some(mask) => Ok(Some(RowReader::new(alloc, mask.rows(), mask.row_len())?)),
         None => Ok(None),
     }
 }

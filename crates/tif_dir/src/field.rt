@@ -41,6 +41,18 @@ impl<'a> Field<'a> {
         }
     }
 
+    /// The same field again.
+    pub fn copied(&self) -> Field<'a>
+        ensures { result ≡ self.now }
+    {
+        Field {
+            order: self.order,
+            kind: self.kind,
+            count: self.count,
+            bytes: self.bytes,
+        }
+    }
+
     /// The number of values.
     pub fn count(&self) -> u32
         ensures { result ≡ length self.now }

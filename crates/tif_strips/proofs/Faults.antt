@@ -1,11 +1,11 @@
 -- The tests of the fields and of the strips, one after the other.
-use Rattle.std.proofs.Common.{◌≡◌, ℕ, zero, suc, ◌+◌, ◌<◌, ◌≤◌, Bool, true, false, nat_lt, if◌then◌else◌, List, [], ◌∷◌, length, map, slice_index, Result, Option, Some, None, Ok, Err, refl, sym, ap, ◌∙◌, arith, zero-add}
+use Rattle.std.proofs.Common.{◌≡◌, ℕ, zero, suc, ◌+◌, ◌<◌, ◌≤◌, Bool, true, false, nat_lt, if◌then◌else◌, List, [], ◌∷◌, length, map, slice_index, Option, Some, None, refl, sym, ap, ◌∙◌, arith, zero-add}
 use Rattle.std.specs.List.{range_with_len}
-use Rattle.std.specs.Result.{result_err, result_unwrap_or}
+use Rattle.std.specs.Result.{result_unwrap_or}
 use Rattle.std.proofs.lemmas.Bool.Decides.{nat_tests}
 use Rattle.pr_base.specs.declared.fault.FaultKind.TheVariants.{StripPlace, Short}
 use Rattle.pr_base.specs.declared.fault.TagFault.{TagFault}
-use Rattle.tif_dir.specs.Directory.{FirstDirectory, dir_fault, directory_of, fault_at, field_from, field_of, number_at, number_in}
+use Rattle.tif_dir.specs.Directory.{fault_at}
 use Rattle.tif_dir.specs.Names.{strip_byte_counts, strip_offsets}
 use Rattle.tif_dir.proofs.Fields.{number_at-present}
 use Rattle.tif_strips.specs.declared.shape.Shape.{Shape}
@@ -119,20 +119,6 @@ pub strip_fault-none : (shape : Shape) (bytes : List ℕ) → field_fault shape 
 strip_fault-none shape bytes fields each =
     strip_fault-strips shape bytes fields
     ∙ first_fault-all (fault_of_strip shape bytes) 0 (strip_count shape) (λ k below. ap (fault_of_strip shape bytes) (zero-add k) ∙ each k below)
-
--- ---- the directory
-
--- a file whose field can be read has a directory
-dir_fault-number : (bytes : List ℕ) (tag i least : ℕ) → result_err (number_at bytes tag i least) ≡ None → dir_fault bytes ≡ None
-unfolding number_at field_of
-dir_fault-number bytes tag i least none = known (directory_of bytes) none
-  where
-    known : (dir : Result FirstDirectory TagFault) → result_err (number_in tag i least (field_from bytes tag dir)) ≡ None → result_err dir ≡ None
-    known (Ok dir) none = refl
-    known (Err fault) none = none
-
-pub dir_fault-passed : (shape : Shape) (bytes : List ℕ) → strip_fault shape bytes ≡ None → dir_fault bytes ≡ None
-dir_fault-passed shape bytes none = dir_fault-number bytes strip_offsets 0 (strip_count shape) (field_fault-passed shape bytes none).0
 
 -- ---- the test of a strip
 

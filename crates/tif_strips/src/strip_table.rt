@@ -61,6 +61,18 @@ impl<'a> StripTable<'a> {
         })
     }
 
+    /// The same table again, over the same bytes.
+    pub(crate) fn copied(&self) -> StripTable<'a>
+        ensures { result ≡ self.now }
+    {
+        StripTable {
+            bytes: self.bytes,
+            shape: self.shape,
+            offsets: self.offsets.copied(),
+            sizes: self.sizes.copied(),
+        }
+    }
+
     /// The shape of the image.
     pub(crate) fn shape(&self) -> Shape
         ensures shape { result ≡ self.now.shape }

@@ -8,14 +8,13 @@ use crate::strip_table::StripTable;
 use crate::{RowCursor, Shape};
 use pr_base::TagFault;
 use std::marker::Model;
-use tif_dir::{Dir, read_dir};
+use tif_dir::Dir;
 
 /// The strips of an image, all of which lie in the file and have the samples that they need. Contracts see
 /// the image's shape and the bytes of its file.
 #[derive(Debug, Drop)]
 pub struct Strips<'a> {
-    bytes: &'a [u8],
-    shape: Shape,
+    table: StripTable<'a>,
 }
 
 impl<'a> Model for Strips<'a> {
@@ -24,9 +23,9 @@ impl<'a> Model for Strips<'a> {
 
     ghost Value = { Image };
 
-    ghost view = { λ s. record { shape = s.shape; bytes = s.bytes.now } };
+    ghost view = { λ s. s.table };
 
-    ghost invariant = { λ s. HasPassed s.shape s.bytes.now };
+    ghost invariant = { λ s. HasPassed s.table.shape s.table.bytes };
 }
 
 impl<'a> Strips<'a> {
@@ -48,20 +47,14 @@ impl<'a> Strips<'a> {
                 passed = Some(strip);
             }
         }
-        Ok(Strips { bytes, shape })
+        Ok(Strips { table })
     }
 
     /// The rows of the image, from the top.
     pub fn rows(&self) -> RowCursor<'a>
         ensures { result ≡ record { shape = self.now.shape; bytes = self.now.bytes; next = 0 } }
     {
-        let Ok(dir) = read_dir(self.bytes) else {
-            unreachable!()
-        };
-        let Ok(table) = StripTable::read(self.bytes, &dir, self.shape) else {
-            unreachable!()
-        };
-        RowCursor::new(table)
+        RowCursor::new(self.table.copied())
     }
 }
 

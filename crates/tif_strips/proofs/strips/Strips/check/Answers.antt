@@ -22,10 +22,10 @@ returns-in_err-check-clause-fault c =
     (sym (strip_fault-found c.args.shape c.args.bytes.now c.loop-i.i c.in_err-check.field-0.0 (sym c.in_ok-table.ensures.fault) below c.loop-i.invariant.each fails))
 
 pub invariant_of-result : goal.invariant_of-result
-invariant_of-result c = record {
+invariant_of-result c = rw c.in_ok-table.ensures.table (record {
   striped = c.requires.shape;
   passed = strip_fault-none c.args.shape c.args.bytes.now (sym c.in_ok-table.ensures.fault) (λ k below. c.loop-i.invariant.each k (omega arith));
-}
+})
 
 pub returns-clause-fault : goal.returns-clause-fault
 returns-clause-fault c = sym (strip_fault-none c.args.shape c.args.bytes.now (sym c.in_ok-table.ensures.fault) (λ k below. c.loop-i.invariant.each k (omega arith)))
