@@ -9,12 +9,10 @@ use Rattle.std.proofs.Math.Nat.{mul-le-mul}
 use Rattle.pr_base.specs.Bits.{bit_at, bit_number, byte_bit, packed_byte, packed_row}
 use Rattle.pr_base.specs.Row.{row_size}
 use Rattle.pr_base.proofs.Bits.{length-packed_row}
-use Rattle.tif_dir.specs.declared.order.Order.TheVariants.{Little as ReadLittle, Big as ReadBig}
 use Rattle.tif_strips.specs.Strips.{image_row}
 use Rattle.tif_image.specs.Image.{is_marked}
 use Rattle.tif_make.specs.declared.form.ImageForm.{ImageForm}
 use Rattle.tif_make.specs.declared.form.Planar.TheVariants.{Chunky, Separate}
-use Rattle.tif_make.specs.declared.order.Order.TheVariants.{Little, Big}
 use Rattle.tif_make.specs.Form.{row_length}
 use Rattle.tif_make.specs.Image.{image_file}
 use Rattle.tif_make.specs.Made.{HasRows}
@@ -23,7 +21,6 @@ use Rattle.job_gen.specs.Images.{contone_bytes, contone_form, contone_pixel, con
 use Rattle.job_gen.specs.Made.{planar_number, shape_for}
 use Rattle.job_gen.specs.Numbers.{image_length, image_width, size_of}
 use Rattle.job_gen.specs.Passes.{ArePassing, IsContoneFile, IsLineFile, IsMaskFile, contone_shape_of, line_shape_of, mask_shape_of}
-use Rattle.job_gen.proofs.MadeDirectory.{read_order}
 use Rattle.job_gen.proofs.MadeImage.{IsMakeable, contone-back, contone-row-back, file-within, line-back, line-row-back, mask-back, mask-row-back, order-of, photometric-of}
 use Rattle.job_gen.proofs.MadeStrips.{item-at, row-cut}
 use Rattle.job_gen.proofs.ImageRows.{contone_row-length, rows-length}
@@ -191,10 +188,6 @@ ok-same result a b e h = subst (λ bytes. IfOk result (λ file. file.items ≡ b
 
 -- ---- and they pass
 
-order-told : (b : Bool) → read_order (if b then Little else Big) ≡ (if b then ReadLittle else ReadBig)
-order-told true = refl
-order-told false = refl
-
 planar-told : (b : Bool) → planar_number (if b then Chunky else Separate) ≡ (if b then 1 else 2)
 planar-told true = refl
 planar-told false = refl
@@ -209,7 +202,7 @@ contone-file n f =
     let file = image_file (contone_form n f) (contone_rows n f) in
     let s = sides n in
     record {
-      order = order-of (contone_form n f) (contone_rows n f) ∙ ap Some (order-told (f % 2 == 1));
+      order = order-of (contone_form n f) (contone_rows n f);
       passes = contone-back (contone_form n f) (contone_rows n f) refl can ∙ ap Ok (contone-shape-is n f);
       pixels = λ x y i wide high ink.
           ap (λ shape. slice_index (image_row shape file y) (4 * x + i)) (sym (contone-shape-is n f))

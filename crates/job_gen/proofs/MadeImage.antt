@@ -17,7 +17,7 @@ use Rattle.tif_make.specs.Made.{HasRows}
 use Rattle.tif_make.specs.Strips.{begins, joined, row_at, strips}
 use Rattle.tif_make.proofs.Bounds.{strips-twice}
 use Rattle.job_gen.specs.Made.{planar_number, shape_for}
-use Rattle.job_gen.proofs.MadeDirectory.{header-back, read_order}
+use Rattle.job_gen.proofs.MadeDirectory.{header-back}
 use Rattle.job_gen.proofs.MadeFields.{directory-found, first-within, front-length, looks, made_counts, made_places}
 use Rattle.job_gen.proofs.MadeStrips.{HasStrips, IsShapeOf, image-row-is, strips-pass}
 use Rattle.job_gen.proofs.MadeTests.{contone-passes, line-passes, mask-passes, photometric-back}
@@ -126,7 +126,7 @@ pub photometric-of : (form : ImageForm) (rows : List ℕ) → IsMakeable form ro
 photometric-of form rows can =
     photometric-back form (made_places form rows) (made_counts form rows) (image_file form rows) (looks form rows can.form_is can.has (omega (arith, can.small)))
 
-pub order-of : (form : ImageForm) (rows : List ℕ) → header_of (image_file form rows) ≡ Some (read_order form.order)
+pub order-of : (form : ImageForm) (rows : List ℕ) → header_of (image_file form rows) ≡ Some form.order
 unfolding image_file
 order-of form rows = header-back form.order (image_fields form (made_places form rows) (made_counts form rows)) (joined (strips form rows))
 

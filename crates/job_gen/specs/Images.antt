@@ -6,7 +6,7 @@ use Rattle.tif_make.specs.declared.form.ImageForm.{ImageForm}
 use Rattle.tif_make.specs.declared.form.Kind.TheVariants.{Contone, Line, Mask}
 use Rattle.tif_make.specs.declared.form.Planar.TheVariants.{Chunky, Separate}
 use Rattle.tif_make.specs.declared.form.Compression.TheVariants.{Uncompressed, PackBits}
-use Rattle.tif_make.specs.declared.order.Order.TheVariants.{Little, Big}
+use Rattle.tif_dir.specs.declared.order.Order.TheVariants.{Little, Big}
 use Rattle.tif_make.specs.Image.{image_file}
 use Rattle.job_gen.specs.Numbers.{image_length, image_width, page_count}
 use Rattle.job_gen.specs.Plan.{line_file, mask_file, other_file, page_file}

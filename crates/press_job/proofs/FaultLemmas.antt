@@ -21,8 +21,8 @@ use Rattle.plan_json.specs.Data.{PlanData}
 use Rattle.plan_parts.specs.Parts.{IsLayer, IsPage}
 use Rattle.plan_json.specs.Plan.{IsPlan}
 use Rattle.press_job.specs.declared.fit.Misfit.{Misfit}
-use Rattle.press_job.specs.declared.usage.FileUse.{FileUse}
-use Rattle.press_job.specs.declared.usage.FileUse.TheVariants.{Contone, Bilevel}
+use Rattle.tif_image.specs.declared.usage.Usage.{Usage}
+use Rattle.tif_image.specs.declared.usage.Usage.TheVariants.{Contone, Bilevel}
 use Rattle.press_job.specs.First.{first_some}
 use Rattle.press_job.specs.Tests.{crop_fault, fault_for, fault_of_file, fault_of_layers, fault_where, fit_fault, layer_fault, length_of, mask_fault, mention_fault, mentions_of, page_fault, page_fit_fault, width_of}
 use Rattle.press_job.specs.Layers.{bytes_at}
@@ -218,13 +218,13 @@ image-never usage bytes inks =
 
 -- ---- the files of a plan
 
-for-never : (usage : FileUse) (bytes : List ℕ) → IfSome (fault_for usage bytes) IsShort
+for-never : (usage : Usage) (bytes : List ℕ) → IfSome (fault_for usage bytes) IsShort
 for-never Contone bytes =
     err-never (contone_shape bytes)
     (image-never _ bytes (then-never {A = ℕ} {B = Unit {0}} _ (full_dot_range bytes) (among-never bytes tag.ink_set (1 ∷ []) kind.InkSet (λ e. (cc))) (dots-never bytes)))
 for-never (Bilevel usage) bytes = err-never (bilevel_shape usage bytes) (image-never _ bytes tt)
 
-mention-never : (file : ℕ) (bytes : List ℕ) (mention : ℕ × FileUse) → IfSome (mention_fault file bytes mention) IsShort
+mention-never : (file : ℕ) (bytes : List ℕ) (mention : ℕ × Usage) → IfSome (mention_fault file bytes mention) IsShort
 mention-never file bytes (other, usage) = chosen (nat_eq other file) (fault_for usage bytes) (for-never usage bytes)
   where
     chosen : (test : Bool) (o : Option TagFault) → IfSome o IsShort → IfSome (cond {A = Option TagFault} test o None) IsShort

@@ -22,10 +22,9 @@ use Rattle.page_layers.specs.Layer.{IsLayer}
 use Rattle.page_layers.specs.Layer as laid
 use Rattle.plan_parts.specs.Data.{LayerData, PageData}
 use Rattle.plan_json.specs.Data.{PlanData}
-use Rattle.plan_words.specs.Words.{IsWithin}
 use Rattle.plan_parts.specs.Parts.{IsCrop, IsPage}
 use Rattle.plan_parts.specs.Parts as planned
-use Rattle.press_job.specs.declared.usage.FileUse.TheVariants.{Bilevel}
+use Rattle.tif_image.specs.declared.usage.Usage.TheVariants.{Bilevel}
 use Rattle.press_job.specs.First.{first_some}
 use Rattle.press_job.specs.Fit.{ArePlanned, PassesTests}
 use Rattle.press_job.specs.Layers.{art_in, art_of, bilevel_of, bytes_at, crop_of, layer_of, planned_layers, shape_told}

@@ -7,7 +7,7 @@ use Rattle.plan_json.specs.Data.{PlanData}
 use Rattle.plan_words.specs.Words.{IsWithin}
 use Rattle.plan_parts.specs.Parts.{IsCrop}
 use Rattle.plan_json.specs.Plan.{IsPlan}
-use Rattle.press_job.specs.declared.usage.FileUse.TheVariants.{Bilevel}
+use Rattle.tif_image.specs.declared.usage.Usage.TheVariants.{Bilevel}
 use Rattle.press_job.specs.Layers.{bytes_at}
 use Rattle.press_job.specs.Tests.{ArePassed, fault_for, fault_of_layers, fit_fault, use_of}
 

@@ -1,7 +1,7 @@
 -- What the tests of a file keep.
 use Rattle.std.specs.Prelude.{◌≡◌, ℕ, Bool, true, List, None}
 use Rattle.tif_image.specs.declared.usage.BilevelUse.TheVariants.{Line, Mask}
-use Rattle.press_job.specs.declared.usage.FileUse.TheVariants.{Contone, Bilevel}
+use Rattle.tif_image.specs.declared.usage.Usage.TheVariants.{Contone, Bilevel}
 use Rattle.press_job.specs.Tests.{fault_for}
 
 -- a file has passed the tests for each use that is noted

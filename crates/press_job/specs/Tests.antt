@@ -8,33 +8,32 @@ use Rattle.pr_base.specs.declared.fault.FaultKind.TheVariants as kind
 use Rattle.tif_dir.specs.Directory.{number_at}
 use Rattle.tif_dir.specs.Names.{image_width, image_length}
 use Rattle.tif_image.specs.declared.usage.BilevelUse.TheVariants.{Line, Mask}
-use Rattle.tif_image.specs.Image.{contone_shape, bilevel_shape}
+use Rattle.tif_image.specs.Image.{shape_of}
 use Rattle.plan_parts.specs.Data.{PageData, LayerData}
 use Rattle.plan_json.specs.Data.{PlanData}
 use Rattle.press_job.specs.declared.fit.Misfit.{Misfit}
-use Rattle.press_job.specs.declared.usage.FileUse.{FileUse}
-use Rattle.press_job.specs.declared.usage.FileUse.TheVariants.{Contone, Bilevel}
+use Rattle.tif_image.specs.declared.usage.Usage.{Usage}
+use Rattle.tif_image.specs.declared.usage.Usage.TheVariants.{Contone, Bilevel}
 use Rattle.press_job.specs.First.{first_some}
 use Rattle.press_job.specs.Layers.{bytes_at}
 
 -- ---- the uses of a file
 
 -- the first fault of a file for a use, if it has one
-abbrev pub fault_for : FileUse → List ℕ → Option TagFault
-fault_for Contone bytes = result_err (contone_shape bytes)
-fault_for (Bilevel usage) bytes = result_err (bilevel_shape usage bytes)
+abbrev pub fault_for : Usage → List ℕ → Option TagFault
+fault_for usage bytes = result_err (shape_of usage bytes)
 
 -- what the image of a layer is used for
-abbrev pub use_of : LayerData → FileUse
+abbrev pub use_of : LayerData → Usage
 use_of layer = if layer.line then Bilevel Line else Contone
 
 -- the files that a layer mentions, each with its use, the image before the mask
-abbrev pub mentions_of : LayerData → List (ℕ × FileUse)
+abbrev pub mentions_of : LayerData → List (ℕ × Usage)
 mentions_of layer = (layer.file, use_of layer) ∷ option_to_list (option_map (λ mask.
     (mask, Bilevel Mask)) layer.mask)
 
 -- what a mention of a file finds in its bytes; nothing if it is one of another file
-abbrev pub mention_fault : ℕ → List ℕ → ℕ × FileUse → Option TagFault
+abbrev pub mention_fault : ℕ → List ℕ → ℕ × Usage → Option TagFault
 mention_fault file bytes (other, usage) = if other == file then fault_for usage bytes else None
 
 unfoldable pub layer_fault : ℕ → List ℕ → LayerData → Option TagFault

@@ -4,11 +4,11 @@ ghost use Rattle.std.specs.Result.{result_err};
 ghost use Rattle.press_job.specs.First.{first_some};
 ghost use Rattle.press_job.specs.Tests.{fault_for, fault_of_file, layer_fault, page_fault};
 
-use crate::usage::{FileUse, layers_on};
+use crate::usage::{layers_on, use_of};
 use plan_json::{Page, Plan, PlanLayer};
 use pr_base::TagFault;
 use std::marker::Model;
-use tif_image::{Bilevel, BilevelUse, Contone};
+use tif_image::{Bilevel, BilevelUse, Contone, Usage};
 
 /// A file, and for which uses it has passed the tests: it is tested once for each. Contracts see the file's
 /// bytes.
@@ -34,7 +34,7 @@ impl<'a> Model for FileTest<'a> {
 
 impl<'a> FileTest<'a> {
     /// Tests the file for a use, if that hasn't been done.
-    fn check(&mut self, usage: FileUse) -> Result<(), TagFault>
+    fn check(&mut self, usage: Usage) -> Result<(), TagFault>
         ensures first { result_err result ≡ fault_for usage self.old }
         ensures file { self.new ≡ self.old }
     {
@@ -46,38 +46,38 @@ impl<'a> FileTest<'a> {
     }
 
     /// Whether the file has passed the tests for a use.
-    fn has_passed(&self, usage: FileUse) -> bool
+    fn has_passed(&self, usage: Usage) -> bool
         ensures { IsTrue result → fault_for usage self.now ≡ None }
     {
         match usage {
-            FileUse::Contone => self.contone,
-            FileUse::Bilevel(BilevelUse::Line) => self.line,
-            FileUse::Bilevel(BilevelUse::Mask) => self.mask,
+            Usage::Contone => self.contone,
+            Usage::Bilevel(BilevelUse::Line) => self.line,
+            Usage::Bilevel(BilevelUse::Mask) => self.mask,
         }
     }
 
     /// Notes that it has.
-    fn note(&mut self, usage: FileUse)
+    fn note(&mut self, usage: Usage)
         requires { fault_for usage self.old ≡ None }
         ensures { self.new ≡ self.old }
     {
         match usage {
-            FileUse::Contone => self.contone = true,
-            FileUse::Bilevel(BilevelUse::Line) => self.line = true,
-            FileUse::Bilevel(BilevelUse::Mask) => self.mask = true,
+            Usage::Contone => self.contone = true,
+            Usage::Bilevel(BilevelUse::Line) => self.line = true,
+            Usage::Bilevel(BilevelUse::Mask) => self.mask = true,
         }
     }
 }
 
 /// Tests a file for a use.
-fn check_image(bytes: &[u8], usage: FileUse) -> Result<(), TagFault>
+fn check_image(bytes: &[u8], usage: Usage) -> Result<(), TagFault>
     ensures { result_err result ≡ fault_for usage bytes.now }
 {
     match usage {
-        FileUse::Contone => {
+        Usage::Contone => {
             Contone::check(bytes)?;
         }
-        FileUse::Bilevel(usage) => {
+        Usage::Bilevel(usage) => {
             Bilevel::check(bytes, usage)?;
         }
     }
@@ -128,10 +128,10 @@ fn test_layer(test: &mut FileTest<'_>, file: usize, layer: &PlanLayer) -> Result
     ensures file { test.new ≡ test.old }
 {
     if layer.file == file {
-        test.check(FileUse::of(layer))?;
+        test.check(use_of(layer))?;
     }
     if layer.mask == Some(file) {
-        test.check(FileUse::Bilevel(BilevelUse::Mask))?;
+        test.check(Usage::Bilevel(BilevelUse::Mask))?;
     }
     Ok(())
 }

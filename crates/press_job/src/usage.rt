@@ -1,28 +1,18 @@
 // What the layers of a page use files for.
 ghost use Rattle.std.specs.Prelude.{◌≡◌};
+ghost use Rattle.press_job.specs.Tests.{use_of};
 
 use plan_json::{Page, PlanLayer};
-use tif_image::BilevelUse;
+use tif_image::{BilevelUse, Usage};
 
-/// What a layer uses a file for.
-#[derive(Clone, Copy, Debug, PartialEq, Eq)]
-pub(crate) enum FileUse {
-    Contone,
-    Bilevel(BilevelUse),
-}
-
-impl FileUse {
-    ghost use Rattle.press_job.specs.Tests.{use_of};
-
-    /// What the image of a layer is used for.
-    pub(crate) fn of(layer: &PlanLayer) -> FileUse
-        ensures { result ≡ use_of layer.now }
-    {
-        if layer.line {
-            FileUse::Bilevel(BilevelUse::Line)
-        } else {
-            FileUse::Contone
-        }
+/// What the image of a layer is used for.
+pub(crate) fn use_of(layer: &PlanLayer) -> Usage
+    ensures { result ≡ use_of layer.now }
+{
+    if layer.line {
+        Usage::Bilevel(BilevelUse::Line)
+    } else {
+        Usage::Contone
     }
 }
 

@@ -4,7 +4,7 @@ use Rattle.std.specs.Prelude.{ℕ, ◌+◌, ◌*◌, ◌==◌, nat_lt, nat_le, n
 use Rattle.std.specs.List.{starts_with, find}
 use Rattle.std.specs.Result.{result_err}
 use Rattle.std.specs.Simd.{first_chunks}
-use Rattle.byteorder.specs.Endian.{little_number, big_number}
+use Rattle.byteorder.specs.Endian.{little_number, little_bytes, big_number, big_bytes}
 use Rattle.pr_base.specs.declared.fault.TagFault.{TagFault}
 use Rattle.pr_base.specs.declared.fault.FaultKind.{FaultKind}
 use Rattle.pr_base.specs.declared.fault.FaultKind.TheVariants.{Header, Directory, Missing, FieldType, FieldCount, FieldPlace}
@@ -27,10 +27,20 @@ order_of bytes =
     else if starts_with nat_eq bytes (codes "MM") then Some Big
     else None
 
+-- the first two bytes of a file in this order ("Image File Header", bytes 0-1)
+abbrev pub mark_of : Order → List ℕ
+mark_of Little = codes "II"
+mark_of Big = codes "MM"
+
 -- the number in the first width bytes: II has the least significant byte first, MM the most significant
 abbrev pub number_of : Order → ℕ → List ℕ → ℕ
 number_of Little width bytes = little_number width bytes
 number_of Big width bytes = big_number width bytes
+
+-- a number in so many bytes
+abbrev pub bytes_of : Order → ℕ → ℕ → List ℕ
+bytes_of Little width n = little_bytes width n
+bytes_of Big width n = big_bytes width n
 
 -- ---- the header and the directory
 

@@ -4,6 +4,7 @@
 
 mod dir;
 mod field;
+mod laws;
 mod order;
 mod table;
 pub mod tag;
@@ -11,4 +12,6 @@ mod value_type;
 
 pub use dir::{Dir, read_dir};
 pub use field::Field;
+pub use laws::tags_law;
+pub use order::Order;
 pub use table::least_count;

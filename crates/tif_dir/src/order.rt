@@ -1,6 +1,6 @@
 // The order of the bytes in a file's numbers.
 ghost use Rattle.std.specs.Prelude.{◌≡◌, ◌≤◌, length};
-ghost use Rattle.tif_dir.specs.Directory.{number_of, order_of};
+ghost use Rattle.tif_dir.specs.Directory.{bytes_of, mark_of, number_of, order_of};
 
 use byteorder::{BigEndian, ByteOrder, LittleEndian};
 
@@ -47,5 +47,39 @@ impl Order {
             Order::Little => LittleEndian::read_u32(bytes),
             Order::Big => BigEndian::read_u32(bytes),
         }
+    }
+
+    /// The first two bytes of a file in this order.
+    pub fn mark(self) -> &'static [u8]
+        ensures { result.now ≡ mark_of self }
+    {
+        match self {
+            Order::Little => b"II",
+            Order::Big => b"MM",
+        }
+    }
+
+    /// A number as two bytes.
+    pub fn u16_bytes(self, n: u16) -> [u8; 2]
+        ensures { result ≡ bytes_of self 2 n }
+    {
+        let mut bytes = [0; 2];
+        match self {
+            Order::Little => LittleEndian::write_u16(&mut bytes, n),
+            Order::Big => BigEndian::write_u16(&mut bytes, n),
+        }
+        bytes
+    }
+
+    /// A number as four bytes.
+    pub fn u32_bytes(self, n: u32) -> [u8; 4]
+        ensures { result ≡ bytes_of self 4 n }
+    {
+        let mut bytes = [0; 4];
+        match self {
+            Order::Little => LittleEndian::write_u32(&mut bytes, n),
+            Order::Big => BigEndian::write_u32(&mut bytes, n),
+        }
+        bytes
     }
 }

@@ -10,4 +10,4 @@ mod usage;
 
 pub use bilevel::Bilevel;
 pub use contone::Contone;
-pub use usage::BilevelUse;
+pub use usage::{BilevelUse, Usage};

@@ -13,7 +13,8 @@ pub enum BilevelUse {
 
 /// What an image is used for.
 #[derive(Clone, Copy, Debug, PartialEq, Eq)]
-pub(crate) enum Usage {
+pub enum Usage {
+    /// A picture in four inks. PhotometricInterpretation is 5.
     Contone,
     Bilevel(BilevelUse),
 }

@@ -2,7 +2,7 @@
 use Rattle.std.proofs.Common.{◌≡◌, ℕ, zero, suc, ◌+◌, ◌*◌, ◌<◌, ◌≤◌, List, [], ◌∷◌, ◌++◌, length, map, take, get_or, sym, ap, subst, ◌∙◌, arith, append_assoc, add-zero, add_assoc}
 use Rattle.std.proofs.lemmas.List.{append-nil, map-append, take-map, take_more, length-map, get_or-map, flat_map_more}
 use Rattle.std.specs.List.{flat_map}
-use Rattle.tif_make.specs.declared.order.Order.{Order}
+use Rattle.tif_dir.specs.declared.order.Order.{Order}
 use Rattle.tif_make.specs.declared.field.Field.{Field}
 use Rattle.tif_make.specs.declared.field.Values.TheVariants.{Short}
 use Rattle.tif_make.specs.Fields.{AreFields, FieldData, data_of, directory_end, entries, entry, outside, outside_size, outside_total}

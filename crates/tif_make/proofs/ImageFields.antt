@@ -12,7 +12,7 @@ use Rattle.tif_make.specs.declared.form.Kind.TheVariants.{Contone, Line, Mask}
 use Rattle.tif_make.specs.declared.form.Planar.{Planar}
 use Rattle.tif_make.specs.declared.form.Planar.TheVariants.{Chunky, Separate}
 use Rattle.tif_make.specs.declared.field.Field.{Field}
-use Rattle.tif_make.specs.declared.tag.TheConstants.{BITS_PER_SAMPLE, STRIP_OFFSETS, STRIP_BYTE_COUNTS}
+use Rattle.tif_dir.specs.Names.{bits_per_sample, strip_byte_counts, strip_offsets}
 use Rattle.tif_make.specs.Fields.{AreFields, FieldData, data_of, front, longs, outside_size, outside_total, shorts, total}
 use Rattle.tif_make.specs.Form.{IsForm, bits_of, field_count, planes, planes_of, strip_count, strips_each}
 use Rattle.tif_make.specs.Image.{all_fields, image_fields}
@@ -62,9 +62,9 @@ unfolding all_fields
 all_fields-outside form places counts few_places few_counts =
     omega (
       arith,
-      outside-within (shorts BITS_PER_SAMPLE (bits_of form.kind)),
-      outside-within (longs STRIP_OFFSETS places),
-      outside-within (longs STRIP_BYTE_COUNTS counts),
+      outside-within (shorts bits_per_sample (bits_of form.kind)),
+      outside-within (longs strip_offsets places),
+      outside-within (longs strip_byte_counts counts),
       bits-within form.kind,
     )
 

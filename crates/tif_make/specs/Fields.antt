@@ -1,25 +1,12 @@
 -- A TIFF file of fields (TIFF 6.0, Section 2): the header, one directory right behind it, and the values that
 -- do not fit in an entry. The order of these parts is this crate's own choice among those that TIFF allows.
-use Rattle.std.specs.Prelude.{ℕ, ◌+◌, ◌-◌, ◌*◌, ◌≤◌, nat_le, if◌then◌else◌, List, [], ◌∷◌, ◌++◌, length, replicate, codes}
+use Rattle.std.specs.Prelude.{ℕ, ◌+◌, ◌-◌, ◌*◌, ◌≤◌, nat_le, if◌then◌else◌, List, [], ◌∷◌, ◌++◌, length, replicate}
 use Rattle.std.specs.List.{All, flat_map}
-use Rattle.byteorder.specs.Endian.{little_bytes, big_bytes}
-use Rattle.tif_make.specs.declared.order.Order.{Order}
-use Rattle.tif_make.specs.declared.order.Order.TheVariants.{Little, Big}
+use Rattle.tif_dir.specs.declared.order.Order.{Order}
+use Rattle.tif_dir.specs.Directory.{bytes_of, mark_of}
 use Rattle.tif_make.specs.declared.field.Field.{Field}
 use Rattle.tif_make.specs.declared.field.Values.{Values}
 use Rattle.tif_make.specs.declared.field.Values.TheVariants.{Short, Shorts, Long, Longs}
-
--- ---- numbers
-
--- a number in so many bytes: II has the least significant byte first, MM the most significant
-abbrev pub bytes_of : Order → ℕ → ℕ → List ℕ
-bytes_of Little size n = little_bytes size n
-bytes_of Big size n = big_bytes size n
-
--- the first two bytes of a file ("Image File Header", bytes 0-1)
-abbrev pub mark_of : Order → List ℕ
-mark_of Little = codes "II"
-mark_of Big = codes "MM"
 
 -- ---- a field
 

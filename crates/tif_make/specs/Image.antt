@@ -1,26 +1,26 @@
 -- The file of an image: its fields, and its strips behind them (TIFF 6.0, Sections 3, 8, 9 and 16).
 use Rattle.std.specs.Prelude.{ℕ, ◌+◌, ◌*◌, nat_le, if◌then◌else◌, List, [], ◌∷◌, ◌++◌, take}
+use Rattle.tif_dir.specs.Names as tag
 use Rattle.tif_make.specs.declared.form.ImageForm.{ImageForm}
 use Rattle.tif_make.specs.declared.form.Kind.{Kind}
 use Rattle.tif_make.specs.declared.form.Kind.TheVariants.{Contone, Line, Mask}
 use Rattle.tif_make.specs.Fields.{FieldData, shorts, longs, front, directory_end}
 use Rattle.tif_make.specs.Form.{bits_of, compression_of, field_count, photometric_of, samples_of, strip_count}
 use Rattle.tif_make.specs.Strips.{begins, joined, sizes, strips}
-use Rattle.tif_make.specs.declared.tag.TheConstants as tag
 
 -- the fields of an image whose strips have these places and byte counts, by their tags
 unfoldable pub all_fields : ImageForm → List ℕ → List ℕ → List FieldData
 all_fields form places counts =
-    longs tag.IMAGE_WIDTH (form.width ∷ [])
-    ∷ longs tag.IMAGE_LENGTH (form.length ∷ [])
-    ∷ shorts tag.BITS_PER_SAMPLE (bits_of form.kind)
-    ∷ shorts tag.COMPRESSION (compression_of form.compression ∷ [])
-    ∷ shorts tag.PHOTOMETRIC_INTERPRETATION (photometric_of form.kind ∷ [])
-    ∷ longs tag.STRIP_OFFSETS places
-    ∷ shorts tag.SAMPLES_PER_PIXEL (samples_of form.kind ∷ [])
-    ∷ longs tag.ROWS_PER_STRIP (form.rows_per_strip ∷ [])
-    ∷ longs tag.STRIP_BYTE_COUNTS counts
-    ∷ shorts tag.PLANAR_CONFIGURATION (2 ∷ [])
+    longs tag.image_width (form.width ∷ [])
+    ∷ longs tag.image_length (form.length ∷ [])
+    ∷ shorts tag.bits_per_sample (bits_of form.kind)
+    ∷ shorts tag.compression (compression_of form.compression ∷ [])
+    ∷ shorts tag.photometric_interpretation (photometric_of form.kind ∷ [])
+    ∷ longs tag.strip_offsets places
+    ∷ shorts tag.samples_per_pixel (samples_of form.kind ∷ [])
+    ∷ longs tag.rows_per_strip (form.rows_per_strip ∷ [])
+    ∷ longs tag.strip_byte_counts counts
+    ∷ shorts tag.planar_configuration (2 ∷ [])
     ∷ []
 
 -- PlanarConfiguration, the last, is left out where it is 1, its default

@@ -7,8 +7,8 @@ ghost use Rattle.std.specs.List.{flat_map};
 ghost use Rattle.tif_make.specs.Fields.{AreFields, data_of, directory_end, entries, front, outside};
 
 use crate::field::Field;
-use crate::order::Order;
 use pr_base::NoMemory;
+use tif_dir::Order;
 
 /// The place of the directory, behind the header.
 const DIRECTORY: u32 = 8;
@@ -26,11 +26,11 @@ pub(crate) fn put_front(order: Order, fields: &[Field], file: &mut Vec<u8>) -> R
     ensures { OnOk result (file.new.items ≡ file.old.items ++ front order (map data_of fields.now)) }
 {
     file.extend_from_slice(order.mark())?;
-    file.extend_from_slice(&order.short(42))?;
-    file.extend_from_slice(&order.long(DIRECTORY))?;
-    file.extend_from_slice(&order.short(fields.len() as u16))?;
+    file.extend_from_slice(&order.u16_bytes(42))?;
+    file.extend_from_slice(&order.u32_bytes(DIRECTORY))?;
+    file.extend_from_slice(&order.u16_bytes(fields.len() as u16))?;
     put_entries(order, fields, file)?;
-    file.extend_from_slice(&order.long(0))?;
+    file.extend_from_slice(&order.u32_bytes(0))?;
     put_outside(order, fields, file)
 }
 

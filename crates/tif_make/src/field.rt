@@ -1,10 +1,11 @@
 // A field of a directory.
 ghost use Rattle.std.specs.Prelude.{◌≡◌, ◌≤◌, ◌+◌, ◌*◌, ◌++◌, ◌<◌, OnOk, length, map, replicate, nat_le, if◌then◌else◌};
 ghost use Rattle.std.specs.List.{flat_map};
-ghost use Rattle.tif_make.specs.Fields.{bytes_of, data_of, entry, outside, outside_size, total, value_bytes, value_or_place};
+ghost use Rattle.tif_dir.specs.Directory.{bytes_of};
+ghost use Rattle.tif_make.specs.Fields.{data_of, entry, outside, outside_size, total, value_bytes, value_or_place};
 
-use crate::order::Order;
 use pr_base::NoMemory;
+use tif_dir::Order;
 
 /// The types of a field (TIFF 6.0, Section 2).
 const SHORT: u16 = 3;
@@ -70,8 +71,8 @@ impl Field<'_> {
         ensures { OnOk result (file.new.items ≡ file.old.items ++ value_bytes order (data_of self.now)) }
     {
         match self.values {
-            Values::Short(n) => file.extend_from_slice(&order.short(n))?,
-            Values::Long(n) => file.extend_from_slice(&order.long(n))?,
+            Values::Short(n) => file.extend_from_slice(&order.u16_bytes(n))?,
+            Values::Long(n) => file.extend_from_slice(&order.u32_bytes(n))?,
             Values::Shorts(numbers) => put_shorts(numbers, order, file)?,
             Values::Longs(numbers) => put_longs(numbers, order, file)?,
         }
@@ -109,9 +110,9 @@ impl Field<'_> {
         requires { length (data_of self.now).values ≤ 4294967295 }
         ensures { OnOk result (file.new.items ≡ file.old.items ++ entry order place (data_of self.now)) }
     {
-        file.extend_from_slice(&order.short(self.tag))?;
-        file.extend_from_slice(&order.short(self.kind()))?;
-        file.extend_from_slice(&order.long(self.count() as u32))?;
+        file.extend_from_slice(&order.u16_bytes(self.tag))?;
+        file.extend_from_slice(&order.u16_bytes(self.kind()))?;
+        file.extend_from_slice(&order.u32_bytes(self.count() as u32))?;
         self.put_value_or_place(order, place, file)
     }
 
@@ -128,7 +129,7 @@ impl Field<'_> {
     {
         let total = self.total();
         if total > HELD {
-            file.extend_from_slice(&order.long(place))?;
+            file.extend_from_slice(&order.u32_bytes(place))?;
             return Ok(());
         }
         self.put_values(order, file)?;
@@ -142,7 +143,7 @@ fn put_shorts(numbers: &[u16], order: Order, file: &mut Vec<u8>) -> Result<(), N
     ensures { OnOk result (file.new.items ≡ file.old.items ++ flat_map (bytes_of order 2) numbers.now) }
 {
     for n in numbers {
-        file.extend_from_slice(&order.short(*n))?;
+        file.extend_from_slice(&order.u16_bytes(*n))?;
     }
     Ok(())
 }
@@ -152,7 +153,7 @@ fn put_longs(numbers: &[u32], order: Order, file: &mut Vec<u8>) -> Result<(), No
     ensures { OnOk result (file.new.items ≡ file.old.items ++ flat_map (bytes_of order 4) numbers.now) }
 {
     for n in numbers {
-        file.extend_from_slice(&order.long(*n))?;
+        file.extend_from_slice(&order.u32_bytes(*n))?;
     }
     Ok(())
 }

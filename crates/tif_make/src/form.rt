@@ -2,8 +2,8 @@
 ghost use Rattle.std.specs.Prelude.{◌≡◌, ◌≤◌};
 ghost use Rattle.tif_make.specs.Form.{IsForm, bits_of, compression_of, field_count, photometric_of, plane_row_length, planes, row_length, samples_of, strip_count, strips_each};
 
-use crate::order::Order;
 use pr_base::row_bytes;
+use tif_dir::Order;
 
 /// What an image holds.
 #[derive(Clone, Copy, Debug, PartialEq, Eq)]

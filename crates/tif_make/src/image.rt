@@ -9,12 +9,12 @@ use crate::directory::put_front;
 use crate::field::{Field, Values};
 use crate::form::{ImageForm, Kind};
 use crate::strips::Strips;
-use crate::tag::{
+use pr_base::NoMemory;
+use std::alloc::Global;
+use tif_dir::tag::{
     BITS_PER_SAMPLE, COMPRESSION, IMAGE_LENGTH, IMAGE_WIDTH, PHOTOMETRIC_INTERPRETATION,
     PLANAR_CONFIGURATION, ROWS_PER_STRIP, SAMPLES_PER_PIXEL, STRIP_BYTE_COUNTS, STRIP_OFFSETS,
 };
-use pr_base::NoMemory;
-use std::alloc::Global;
 
 /// The bytes before the entries of a directory and behind them, and those of an entry.
 const DIRECTORY_ENDS: u32 = 14;

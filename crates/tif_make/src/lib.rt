@@ -7,11 +7,9 @@ mod directory;
 mod field;
 mod form;
 mod image;
-mod order;
 mod room;
 mod strips;
-mod tag;
 
 pub use form::{Compression, ImageForm, Kind, Planar};
 pub use image::make_image;
-pub use order::Order;
+pub use tif_dir::Order;

@@ -1,6 +1,6 @@
 use Rattle.std.proofs.Common.{◌≡◌, ◌++◌, take}
 use Rattle.std.specs.List.{flat_map}
-use Rattle.tif_make.specs.Fields.{bytes_of}
+use Rattle.tif_dir.specs.Directory.{bytes_of}
 use Rattle.tif_make.proofs.field.put_shorts.Given as goal
 
 abbrev pub invariant-loop-n : goal.invariant-loop-n
