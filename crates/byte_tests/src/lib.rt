@@ -4,6 +4,8 @@
 #[cfg(test)]
 mod faults;
 #[cfg(test)]
+mod keeping;
+#[cfg(test)]
 mod making;
 #[cfg(test)]
 mod packing;

@@ -150,6 +150,7 @@ impl<F: Write + OpenFile> Counted<F> {
     /// Has the machine keep what was written. False where that failed, as a close of the file would,
     /// which is counted.
     pub fn keep(&mut self) -> bool
+        ensures bytes { Keeps (F.contents self.old.stream) (F.contents self.new.stream) }
         ensures count { self.new.faults ≡ count_unless result self.old.faults }
         ensures faults_stay { self.old.faults ≤ self.new.faults }
     {

@@ -1,7 +1,8 @@
 -- What a shelf holds, and what a call of load tells of it.
-use Rattle.std.specs.Prelude.{◌≡◌, ℕ, ◌<◌, Bool, true, false, if◌then◌else◌, List, length, Option, Some, IfSome, IsSomeAnd, Result, Ok, Err, nat_eq}
+use Rattle.std.specs.Prelude.{◌≡◌, ℕ, ◌<◌, ◌≤◌, Bool, true, false, if◌then◌else◌, List, length, Option, Some, IfSome, IsSomeAnd, Result, Ok, Err, nat_eq}
 use Rattle.std.specs.Option.{option_map}
 use Rattle.std.specs.Map.{lookup}
+use Rattle.std.specs.Io.KnownBytes.{Consumes}
 use Rattle.std.specs.Cmp.Lexicographic.{pointwise}
 use Rattle.pr_ports.specs.declared.shelf.LoadFault.{LoadFault}
 use Rattle.pr_ports.specs.declared.shelf.LoadFault.TheVariants.{Failed, TooLong, Memory}
@@ -36,3 +37,7 @@ IfTooLong (Err Memory) P = Unit {0}
 -- the path of the last failed call, after a call at path that failed or didn't
 abbrev pub missed_after : Bool → List ℕ → Option (Option (List ℕ)) → Option (Option (List ℕ))
 missed_after failed path missed = option_map (λ last. if failed then Some path else last) missed
+
+-- where a reader tells what it has left, it gave at most so many bytes
+abbrev pub GaveAtMost : ℕ → Option (List ℕ) → Option (List ℕ) → Type 0
+GaveAtMost most old new = (given : List ℕ) × Consumes old new given × (length given ≤ most)

@@ -1,7 +1,7 @@
 // The shelf of the machine's files.
-ghost use Rattle.std.specs.Prelude.{◌≡◌, ◌<◌, ◌≤◌, None, IfOk, IfSome, IsErrOf, length, not};
+ghost use Rattle.std.specs.Prelude.{◌≡◌, ◌+◌, ◌<◌, ◌≤◌, None, IfOk, IfSome, IsErrOf, length, not};
 ghost use Rattle.pr_base.specs.Count.{Rose, count_unless};
-ghost use Rattle.pr_ports.specs.Shelf.{has_failed, IfTooLong};
+ghost use Rattle.pr_ports.specs.Shelf.{has_failed, GaveAtMost, IfTooLong};
 ghost use Rattle.pr_ports.specs.Mem.{Counts, counts_after};
 
 use crate::{LoadFault, Shelf};
@@ -57,6 +57,7 @@ fn read_whole<F: Read>(
     ensures whole { IfOk result (λ bytes. IfSome (F.remaining file.old.stream) (λ left. left ≡ bytes.items)) }
     ensures longer { IfTooLong result
         (λ _. IfSome (F.remaining file.old.stream) (λ left. limit < length left)) }
+    ensures most { GaveAtMost (limit + 1) (F.remaining file.old.stream) (F.remaining file.new.stream) }
     ensures count { file.new.faults ≡ count_unless (not (has_failed result)) file.old.faults }
 {
     let Ok(mut bytes) = Vec::with_capacity(alloc, size.min(limit) as usize) else {

@@ -116,11 +116,12 @@ fn has(rt: &HostRuntime, path: &str, bytes: &[u8]) -> Result<(), Fail> {
     Err("other bytes".into())
 }
 
-// A file in the place of a folder, and a device that is full.
+// A file in the place of a folder, a device that is full, and one that takes all bytes and keeps none.
 #[test]
 fn counts_what_the_machine_refuses(rt: HostRuntime) -> Result<(), Fail> {
     assert!(rt; refuses(HostRack::new(rt.clone()?), "/dev/null/a.tif"));
     assert!(rt; refuses(HostRack::new(rt.clone()?), "/dev/full"));
+    assert!(rt; keeps_none(HostRack::new(rt.clone()?), "/dev/null"));
     Ok(())
 }
 
@@ -128,4 +129,10 @@ fn refuses(mut rack: HostRack<HostRuntime>, path: &str) -> bool
     requires { rack.begun ≡ none_begun }
 {
     rack.begin(0, path, &HEAD) == Err(RackFault::Failed)
+}
+
+fn keeps_none(mut rack: HostRack<HostRuntime>, path: &str) -> bool
+    requires { rack.begun ≡ none_begun }
+{
+    rack.begin(0, path, &HEAD).is_ok() && rack.finish(0, &[0, 7], 12) == Err(RackFault::Failed)
 }

@@ -1,0 +1,65 @@
+// What is to be kept is flushed, and then synced.
+use pr_base::Counted;
+use std::fs::{Metadata, OpenFile};
+use std::io;
+use std::io::Write;
+use std::process::Abort;
+
+/// A file that takes all bytes, and whose flush or sync may fail.
+#[derive(Drop)]
+struct Unsure {
+    flushes: bool,
+    syncs: bool,
+}
+
+/// What a call answers that is done, or isn't.
+fn answer(done: bool) -> io::Result<()> {
+    if done {
+        Ok(())
+    } else {
+        Err(io::Error::from(io::ErrorKind::Other))
+    }
+}
+
+impl Write for Unsure {
+    fn write(&mut self, buf: &[u8]) -> io::Result<usize> {
+        Ok(buf.len())
+    }
+
+    fn flush(&mut self) -> io::Result<()> {
+        answer(self.flushes)
+    }
+}
+
+impl OpenFile for Unsure {
+    fn metadata(&self) -> io::Result<Metadata> {
+        Err(io::Error::from(io::ErrorKind::Unsupported))
+    }
+
+    fn set_len(&self, _size: u64) -> io::Result<()> {
+        answer(false)
+    }
+
+    fn sync_all(&self) -> io::Result<()> {
+        answer(self.syncs)
+    }
+
+    fn sync_data(&self) -> io::Result<()> {
+        answer(false)
+    }
+}
+
+/// A call of `keep` is done exactly where both are, and otherwise counted.
+fn assert_keeps(rt: &impl Abort, flushes: bool, syncs: bool) {
+    let kept = flushes && syncs;
+    let mut file = Counted::new(Unsure { flushes, syncs }, 4);
+    assert!(rt; file.keep() == kept);
+    assert!(rt; file.faults() == 4 + u64::from(!kept));
+}
+
+#[test]
+fn a_file_is_kept_where_it_is_flushed_and_synced(rt: HostRuntime) {
+    assert_keeps(&rt, true, true);
+    assert_keeps(&rt, true, false);
+    assert_keeps(&rt, false, true);
+}
