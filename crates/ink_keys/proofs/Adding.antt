@@ -11,7 +11,7 @@ use Rattle.pr_base.specs.Bits.{bit_at, byte_bit}
 use Rattle.pr_base.specs.Row.{row_size}
 use Rattle.pr_base.specs.declared.ink.Ink.{Ink}
 use Rattle.pr_base.specs.declared.ink.Ink.TheVariants.{C, M, Y, K, S}
-use Rattle.plan_pages.specs.Ink.{slot_of}
+use Rattle.pr_base.specs.Ink.{slot_of}
 use Rattle.tif_packbits.specs.Frame.{framed_row, packed_in}
 use Rattle.tif_packbits.specs.Packbits.{expansion}
 use Rattle.ink_keys.specs.Keys.{key_dots, dots_between, first_column}

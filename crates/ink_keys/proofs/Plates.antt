@@ -10,7 +10,8 @@ use Rattle.pr_base.specs.declared.ink.Ink.{Ink}
 use Rattle.pr_base.specs.declared.ink.Ink.TheVariants.{C, M, Y, K, S}
 use Rattle.plan_json.specs.Data.{PlanData, plate_height, plate_width}
 use Rattle.plan_json.specs.Plan.{IsPlan}
-use Rattle.plan_pages.specs.Ink.{slot_of}
+use Rattle.pr_base.specs.Ink.{slot_of}
+use Rattle.pr_base.proofs.Inks.{slot_tells}
 use Rattle.plan_rows.specs.declared.group.Group.{Group}
 use Rattle.plan_rows.specs.declared.place.RowPlace.{RowPlace}
 use Rattle.plan_rows.specs.Groups.{groups_of}
@@ -62,17 +63,7 @@ sum-steps f c low a (suc h) n some order inside none =
     (λ y from below. ap f (let e : a + c + y * c ≡ a + (y + 1) * c = omega arith in e)) in
     omega arith
 
--- ---- inks and zeros
-
-ink-at : (ink : Ink) → get_or (C ∷ M ∷ Y ∷ K ∷ S ∷ []) (slot_of ink) K ≡ ink
-ink-at C = refl
-ink-at M = refl
-ink-at Y = refl
-ink-at K = refl
-ink-at S = refl
-
-same-ink : (a b : Ink) → slot_of a ≡ slot_of b → a ≡ b
-same-ink a b same = sym (ink-at a) ∙ ap (λ n. get_or (C ∷ M ∷ Y ∷ K ∷ S ∷ []) n K) same ∙ ink-at b
+-- ---- zeros
 
 zero-at : (n i : ℕ) → ◌≡◌ {A = ℕ} (get_or (replicate n 0) i 0) 0
 zero-at n i =
@@ -125,7 +116,7 @@ other-part plan ring width keys index group ink k n is count of within other =
         let one = slot-small ink in
         let two = slot-small ink' in
         let of' = at.of in
-        let inks : ink' ≡ ink = same-ink ink' ink (omega arith) in
+        let inks : ink' ≡ ink = slot_tells ink' ink (omega arith) in
         let indexes : index' ≡ index = omega arith in
         let groups : group' ≡ group = same_Some group' group (sym of' ∙ ap (slice_get (groups_of plan)) indexes ∙ of) in
         other y at.top (at.number ∙ ap {A = Group} (λ g. row_number g y ink') groups ∙ ap {A = Ink} (λ i. row_number group y i) inks)

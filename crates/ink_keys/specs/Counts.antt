@@ -2,7 +2,7 @@
 use Rattle.std.specs.Prelude.{◌≡◌, ◌<◌, ◌≤◌, ℕ, ◌+◌, ◌*◌, ◌/◌, ◌==◌, ◌&&◌, if◌then◌else◌, List, length, map, replicate, slice_index}
 use Rattle.std.specs.List.{range_with_len}
 use Rattle.pr_base.specs.declared.ink.Ink.{Ink}
-use Rattle.plan_pages.specs.Ink.{slot_of}
+use Rattle.pr_base.specs.Ink.{slot_of}
 use Rattle.ink_keys.specs.Keys.{first_column, key_dots}
 
 -- what contracts see of counts

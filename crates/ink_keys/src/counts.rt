@@ -103,7 +103,7 @@ impl Counts {
         ensures within { result + self.now.keys ≤ length self.now.numbers }
     {
         let keys = self.keys as usize;
-        (group * SLOTS + ink as usize) * keys
+        (group * SLOTS + ink.slot()) * keys
     }
 }
 

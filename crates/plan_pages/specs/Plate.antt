@@ -5,7 +5,7 @@ use Rattle.pr_base.specs.declared.ink.Ink.{Ink}
 use Rattle.plan_parts.specs.Data.{MarkData}
 use Rattle.plan_json.specs.Data.{PlanData, plate_width, plate_height}
 use Rattle.plan_pages.specs.declared.shape.PlateShape.{PlateShape}
-use Rattle.plan_pages.specs.Ink.{slot_of}
+use Rattle.pr_base.specs.Ink.{slot_of}
 
 -- the sides of a plate, and the places of its two pages
 abbrev pub shape_of_plate : PlanData → PlateShape

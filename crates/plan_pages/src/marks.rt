@@ -31,7 +31,7 @@ fn add_mark(mark: &Mark, ink: Ink, y: u32, bits: &mut [u8])
     requires fits_y { mark.now.y + mark.now.h < 2 ^ 32 }
     ensures { AddsBits (λ x. has_ink ink mark.now && covers x y mark.now) bits.old bits.new }
 {
-    if mark.inks[ink as usize] && mark.y <= y && y < mark.y + mark.h {
+    if mark.inks[ink.slot()] && mark.y <= y && y < mark.y + mark.h {
         set_span(bits, mark.x, mark.x + mark.w);
     }
 }

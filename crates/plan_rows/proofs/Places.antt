@@ -15,7 +15,7 @@ use Rattle.pr_base.specs.declared.ink.Ink.TheVariants.{K}
 use Rattle.plan_json.specs.Data.{PlanData, plate_height}
 use Rattle.plan_words.specs.Words.{IsWithin}
 use Rattle.plan_json.specs.Plan.{IsPlan}
-use Rattle.plan_pages.specs.Ink.{slot_of}
+use Rattle.pr_base.specs.Ink.{slot_of}
 use Rattle.plan_pages.specs.Pages.{page_count}
 use Rattle.plan_rows.specs.declared.group.Group.{Group}
 use Rattle.plan_rows.specs.declared.place.RowPlace.{RowPlace}

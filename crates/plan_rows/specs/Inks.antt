@@ -2,7 +2,7 @@
 use Rattle.std.specs.Prelude.{ℕ, ◌/◌, ◌%◌, ◌^◌, Bool, true, false, ◌==◌, List, [], ◌∷◌, ◌++◌, length, count_by, nat_lt}
 use Rattle.pr_base.specs.declared.ink.Ink.{Ink}
 use Rattle.pr_base.specs.declared.ink.Ink.TheVariants.{C, M, Y, K, S}
-use Rattle.plan_pages.specs.Ink.{slot_of}
+use Rattle.pr_base.specs.Ink.{slot_of}
 use Rattle.plan_rows.specs.declared.group.Group.{Group}
 
 -- the process inks of a plate, told by whether it is in colour

@@ -2,17 +2,9 @@
 use Rattle.std.specs.Prelude.{ℕ, ◌+◌, ◌/◌, ◌%◌, List, [], ◌∷◌, ◌++◌, codes, slice_get}
 use Rattle.std.specs.Option.{option_map_or}
 use Rattle.pr_base.specs.declared.ink.Ink.{Ink}
-use Rattle.pr_base.specs.declared.ink.Ink.TheVariants.{C, M, Y, K, S}
+pub use Rattle.pr_base.specs.Ink.{letter_of}
 use Rattle.plan_json.specs.Data.{PlanData}
 use Rattle.plan_rows.specs.declared.group.Group.{Group}
-
--- the letter of an ink
-abbrev pub letter_of : Ink → List ℕ
-letter_of C = codes "C"
-letter_of M = codes "M"
-letter_of Y = codes "Y"
-letter_of K = codes "K"
-letter_of S = codes "S"
 
 -- a number below 1000 in three digits
 abbrev pub three_digits : ℕ → List ℕ

@@ -4,7 +4,7 @@ use Rattle.std.specs.List.{flat_map, enumerate_from, range_with_len}
 use Rattle.std.specs.Option.{option_map_or}
 use Rattle.pr_base.specs.declared.ink.Ink.{Ink}
 use Rattle.plan_json.specs.Data.{PlanData, plate_height}
-use Rattle.plan_pages.specs.Ink.{slot_of}
+use Rattle.pr_base.specs.Ink.{slot_of}
 use Rattle.plan_rows.specs.declared.group.Group.{Group}
 use Rattle.plan_rows.specs.declared.place.RowPlace.{RowPlace}
 use Rattle.plan_rows.specs.Inks.{inks_of, ink_count, ink_place, has_site}

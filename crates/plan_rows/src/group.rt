@@ -3,9 +3,6 @@ ghost use Rattle.std.specs.Prelude.{◌≡◌};
 
 use pr_base::Ink;
 
-/// The inks in the order of their slots.
-const INKS: [Ink; 5] = [Ink::C, Ink::M, Ink::Y, Ink::K, Ink::S];
-
 /// A part of the sites: those that print the same two pages as one pair of a section.
 #[derive(Clone, Copy, Debug, PartialEq, Eq)]
 pub struct Group {
@@ -34,10 +31,10 @@ impl Group {
         ensures { result.now ≡ inks_of self.now }
     {
         match (self.colour, self.spot) {
-            (true, true) => &INKS,
-            (true, false) => &INKS[..4],
-            (false, true) => &INKS[3..],
-            (false, false) => &INKS[3..4],
+            (true, true) => &Ink::ALL,
+            (true, false) => &Ink::ALL[..4],
+            (false, true) => &Ink::ALL[3..],
+            (false, false) => &Ink::ALL[3..4],
         }
     }
 }

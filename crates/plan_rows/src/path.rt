@@ -1,6 +1,6 @@
 // The path of a plate: OUT/SITE/EDITION-SECTION-PPP-I.tif.
 ghost use Rattle.std.specs.Prelude.{◌≡◌, ◌<◌, length, string_bytes, IfOk};
-ghost use Rattle.plan_rows.specs.Paths.{letter_of, name_text, path_of, path_text, site_name as name_of_site, section_name as name_of_section};
+ghost use Rattle.plan_rows.specs.Paths.{name_text, path_of, path_text, site_name as name_of_site, section_name as name_of_section};
 
 use crate::Group;
 use plan_json::Plan;
@@ -24,7 +24,6 @@ pub fn plate_path(
 {
     let site = site_name(plan, site);
     let section = section_name(plan, group.section as usize);
-    let letter = letter(ink);
     let text = joined(
         alloc,
         out,
@@ -32,7 +31,7 @@ pub fn plate_path(
         plan.edition.as_str(),
         section,
         group.pair,
-        letter,
+        ink.letter(),
     )?;
     PathText::of(alloc, text.as_str())
 }
@@ -68,17 +67,4 @@ fn section_name(plan: &Plan, section: usize) -> &str
     ensures { result.now ≡ name_of_section plan.now section }
 {
     plan.sections[section].name.as_str()
-}
-
-/// The letter of an ink.
-fn letter(ink: Ink) -> &'static str
-    ensures { result.now ≡ letter_of ink }
-{
-    match ink {
-        Ink::C => "C",
-        Ink::M => "M",
-        Ink::Y => "Y",
-        Ink::K => "K",
-        Ink::S => "S",
-    }
 }

@@ -24,7 +24,7 @@ impl RowPlace {
             group,
             y,
             ink,
-            slot: ink as usize,
+            slot: ink.slot(),
         }
     }
 }

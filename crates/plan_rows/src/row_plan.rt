@@ -36,7 +36,7 @@ impl Model for RowPlan {
 
 impl RowPlan {
     ghost use Rattle.pr_base.specs.declared.ink.Ink.{Ink};
-    ghost use Rattle.plan_pages.specs.Ink.{slot_of};
+    ghost use Rattle.pr_base.specs.Ink.{slot_of};
     ghost use Rattle.plan_words.specs.Words.{IsWithin};
     ghost use Rattle.plan_pages.specs.Pages.{page_count};
     ghost use Rattle.plan_rows.specs.Groups.{pair_groups, section_groups};

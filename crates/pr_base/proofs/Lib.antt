@@ -1,3 +1,4 @@
 pub mod BitLemmas
 pub mod Bits
+pub mod Inks
 pub mod Streams

@@ -1,6 +1,7 @@
 pub mod Bits
 pub mod Count
 pub mod Fault
+pub mod Ink
 pub mod Place
 pub mod Row
 pub mod Stream

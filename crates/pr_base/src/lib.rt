@@ -17,7 +17,7 @@ pub use count::raised;
 pub use counted::Counted;
 pub use deal::{Deal, RowFeed};
 pub use fault::{FaultKind, FileFault, TagFault};
-pub use ink::Ink;
+pub use ink::{Ink, inks_law};
 pub use memory::NoMemory;
 pub use path_text::PathText;
 pub use pixel::set_bit;

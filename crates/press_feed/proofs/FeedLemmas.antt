@@ -13,7 +13,8 @@ use Rattle.pr_base.specs.declared.ink.Ink.{Ink}
 use Rattle.tif_packbits.specs.Frame.{frame_of, frame_size}
 use Rattle.plan_json.specs.Data.{PlanData, plate_height, plate_width}
 use Rattle.plan_json.specs.Plan.{IsPlan}
-use Rattle.plan_pages.specs.Ink.{slot_of}
+use Rattle.pr_base.specs.Ink.{slot_of}
+use Rattle.pr_base.proofs.Inks.{slot_below}
 use Rattle.plan_pages.specs.Plate.{shape_of_plate}
 use Rattle.plan_rows.specs.declared.group.Group.{Group}
 use Rattle.plan_rows.specs.declared.place.RowPlace.{RowPlace}
@@ -34,7 +35,7 @@ use Rattle.press_feed.specs.SidePages.{opened_side}
 use Rattle.press_feed.specs.Sides.{SideData, at_top, behind_row, entered, page_on, screened_after, stands_in}
 use Rattle.press_feed.proofs.StandLemmas.{group_stands}
 use Rattle.press_job.proofs.FrameLemmas.{each-plate_frames, length-plate_frames}
-use Rattle.press_feed.proofs.ScreenerLemmas.{slot_below, slots_apart}
+use Rattle.press_feed.proofs.ScreenerLemmas.{slots_apart}
 
 -- ---- the row before a row
 

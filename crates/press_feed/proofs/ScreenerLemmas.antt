@@ -4,8 +4,9 @@ use Rattle.std.proofs.lemmas.Bool.{cases_lt}
 use Rattle.std.proofs.lemmas.List.{length-set, get_or-map, get_or_push, get_or_append_left, get_or-take, length_push, length-map, map-set, set-get_or, take_more, get_or_default}
 use Rattle.std.proofs.lemmas.List.FromFn.{get_or-map-range_with_len, length-map-range_with_len}
 use Rattle.pr_base.specs.declared.ink.Ink.{Ink}
-use Rattle.pr_base.specs.declared.ink.Ink.TheVariants.{C, M, Y, K, S}
 use Rattle.pr_base.specs.Bits.{SetsBits}
+use Rattle.pr_base.specs.Ink.{all_inks, slot_of}
+use Rattle.pr_base.proofs.Inks.{ink_at_slot, slot_below, slot_tells}
 use Rattle.scr_tile.specs.Tile.{tile_bit}
 use Rattle.scr_tile.specs.AnyTile.{threshold_of}
 use Rattle.scr_diffuse.specs.Diffusion.{diffused_bit, prints}
@@ -13,7 +14,6 @@ use Rattle.scr_diffuse.proofs.DiffusionLemmas.{v_at-same}
 use Rattle.plan_parts.specs.declared.printing.Screen.{Screen}
 use Rattle.plan_parts.specs.declared.printing.Screen.TheVariants.{Bayer, Diffuse, Own}
 use Rattle.plan_json.specs.Data.{PlanData}
-use Rattle.plan_pages.specs.Ink.{slot_of}
 use Rattle.press_feed.specs.declared.screener.Screener.{Screener}
 use Rattle.press_feed.specs.declared.screener.Screener.TheVariants.{Tile, Diffusion}
 use Rattle.press_job.specs.Printing.{bit_under, page_bit, page_values, printed_at, printed_row, screen_of}
@@ -35,33 +35,12 @@ screeners_more plan inks screeners screener i ink long within there before is k 
     (subst {A = Ink} (λ j. IsScreener plan j screener) (there ∙ get_or_default inks i ink e within) is))
     k less
 
-abbrev five_inks : List Ink
-five_inks = C ∷ M ∷ Y ∷ K ∷ S ∷ []
-
--- each ink stands at its place
-pub ink_at_slot : (ink e : Ink) → get_or five_inks (slot_of ink) e ≡ ink
-ink_at_slot C e = refl
-ink_at_slot M e = refl
-ink_at_slot Y e = refl
-ink_at_slot K e = refl
-ink_at_slot S e = refl
-
-pub slot_below : (ink : Ink) → slot_of ink < 5
-slot_below C = omega arith
-slot_below M = omega arith
-slot_below Y = omega arith
-slot_below K = omega arith
-slot_below S = omega arith
-
-slot_tells : (ink other : Ink) → slot_of ink ≡ slot_of other → ink ≡ other
-slot_tells ink other same = sym (ink_at_slot ink ink) ∙ ap {A = ℕ} (λ n. get_or five_inks n ink) same ∙ ink_at_slot other ink
-
 pub slots_apart : (ink other : Ink) → ink ≢ other → slot_of ink ≢ slot_of other
 slots_apart ink other apart same = apart (slot_tells ink other same)
 
 -- those of all inks
 pub screeners_all : (plan : PlanData) (screeners : List Screener) → length screeners ≡ 5
-    → ((k : ℕ) (e : Ink) (d : Screener) → k < 5 → IsScreener plan (get_or five_inks k e) (get_or screeners k d)) → AreScreeners plan screeners
+    → ((k : ℕ) (e : Ink) (d : Screener) → k < 5 → IsScreener plan (get_or all_inks k e) (get_or screeners k d)) → AreScreeners plan screeners
 screeners_all plan screeners long each = record {
   five = long;
   each = λ ink d. subst {A = Ink} (λ j. IsScreener plan j (get_or screeners (slot_of ink) d)) (ink_at_slot ink ink) (each (slot_of ink) ink d (slot_below ink));

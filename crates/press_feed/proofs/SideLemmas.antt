@@ -14,7 +14,8 @@ use Rattle.page_layers.specs.Page.{Page}
 use Rattle.page_layers.specs.declared.layer.Layer.{Layer}
 use Rattle.plan_json.specs.Data.{PlanData}
 use Rattle.plan_json.specs.Plan.{IsPlan}
-use Rattle.plan_pages.specs.Ink.{slot_of}
+use Rattle.pr_base.specs.Ink.{slot_of}
+use Rattle.pr_base.proofs.Inks.{slot_below}
 use Rattle.plan_rows.specs.Groups.{groups_of, page_colour, page_spot}
 use Rattle.press_feed.specs.declared.screener.Screener.{Screener}
 use Rattle.press_feed.specs.declared.screener.Screener.TheVariants.{Diffusion}
@@ -26,7 +27,7 @@ use Rattle.press_job.specs.Printing.{page_bit, page_values, printed_at, printed_
 use Rattle.press_feed.specs.Screener.{HasScreened, IsScreener, behind_values, from_top, front_of, is_diffused, rows_in, screened_bit}
 use Rattle.press_feed.specs.SidePages.{AreOpen, AreOpened, AreScreeners, IsSide, at_first_row, behind_next}
 use Rattle.press_feed.specs.Sides.{next_of, page_before, screened_after, stands_in}
-use Rattle.press_feed.proofs.ScreenerLemmas.{AreScreeners-from_top, AreScreeners-behind, HasScreened-all_from_top, HasScreened-all_behind, get_or-printed_row, rows_in-all_behind, sets_page, slot_below}
+use Rattle.press_feed.proofs.ScreenerLemmas.{AreScreeners-from_top, AreScreeners-behind, HasScreened-all_from_top, HasScreened-all_behind, get_or-printed_row, rows_in-all_behind, sets_page}
 
 -- ---- pages that are open
 

@@ -5,7 +5,7 @@ use Rattle.page_layers.specs.Inks.{HasWidth, Planes, plane_of}
 use Rattle.page_layers.specs.Page.{Page}
 use Rattle.plan_json.specs.Data.{PlanData}
 use Rattle.plan_json.specs.Plan.{IsPlan}
-use Rattle.plan_pages.specs.Ink.{slot_of}
+use Rattle.pr_base.specs.Ink.{slot_of}
 use Rattle.plan_rows.specs.Groups.{groups_of}
 use Rattle.press_feed.specs.declared.screener.Screener.{Screener}
 use Rattle.press_feed.specs.declared.side.Side.{Side}

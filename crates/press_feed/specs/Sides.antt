@@ -5,7 +5,7 @@ use Rattle.std.specs.Option.{option_map_or}
 use Rattle.pr_base.specs.declared.ink.Ink.{Ink}
 use Rattle.page_layers.specs.Page.{Page}
 use Rattle.plan_json.specs.Data.{PlanData}
-use Rattle.plan_pages.specs.Ink.{slot_of}
+use Rattle.pr_base.specs.Ink.{slot_of}
 use Rattle.plan_pages.specs.Plate.{shape_of_plate}
 use Rattle.plan_rows.specs.declared.group.Group.{Group}
 use Rattle.plan_rows.specs.Groups.{groups_of}

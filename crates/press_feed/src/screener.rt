@@ -28,7 +28,7 @@ impl Screener {
         ensures screener { IfOk result (IsScreener plan.now ink) }
         ensures top { IfOk result (λ screener. rows_in screener ≡ 0) }
     {
-        match plan.screens[ink as usize] {
+        match plan.screens[ink.slot()] {
             Screen::Bayer(side) => Ok(Screener::Tile(bayer_tile(side))),
             Screen::Diffuse => Ok(Screener::Diffusion(Diffuser::new(alloc, plan.page_width)?)),
             Screen::Own(tile) => Ok(Screener::Tile(own_tile(alloc, plan, tile)?)),

@@ -3,7 +3,7 @@ ghost use Rattle.std.specs.Prelude.{◌≡◌, ◌+◌, ◌-◌, ◌*◌, ◌<�
 ghost use Rattle.std.specs.Option.{ForSome, option_map};
 ghost use Rattle.pr_base.specs.Bits.{SetsBits};
 ghost use Rattle.page_layers.specs.Inks.{HasWidth};
-ghost use Rattle.plan_pages.specs.Ink.{slot_of};
+ghost use Rattle.pr_base.specs.Ink.{slot_of};
 ghost use Rattle.plan_rows.specs.Groups.{groups_of, page_colour, page_spot};
 ghost use Rattle.press_feed.specs.declared.screener.Screener.{Screener as ScreenerData};
 ghost use Rattle.press_feed.specs.Planes.{ShowsInks};
@@ -23,9 +23,6 @@ use pr_base::{Ink, NoMemory};
 use press_job::{Job, open_layers};
 use std::alloc::Global;
 use std::marker::Model;
-
-/// The inks in the order of their places.
-const INKS: [Ink; 5] = [Ink::C, Ink::M, Ink::Y, Ink::K, Ink::S];
 
 /// The pages of one side. One of them is shown row by row; a row is painted and toned once for all its inks.
 /// Contracts see the job, the side, which page is shown, how many of its rows were shown, and how many rows
@@ -241,8 +238,8 @@ fn open_screeners(alloc: Global, plan: &Plan) -> Result<Vec<Screener>, NoMemory>
     ensures screeners { IfOk result (λ screeners. AreScreeners plan.now screeners.items) }
     ensures top { IfOk result (λ screeners. map rows_in screeners.items ≡ replicate 5 0) }
 {
-    let mut screeners = Vec::with_capacity(alloc, INKS.len())?;
-    for ink in INKS {
+    let mut screeners = Vec::with_capacity(alloc, Ink::ALL.len())?;
+    for ink in Ink::ALL {
         screeners.push(Screener::of(alloc, plan, ink)?)?;
     }
     Ok(screeners)
@@ -290,5 +287,5 @@ fn screen(screeners: &mut [Screener], ink: Ink, y: u32, values: &[u8], bits: &mu
     ensures behind { (screener : ScreenerData) → slice_get screeners.old (slot_of ink) ≡ Some screener →
         screeners.new ≡ slice_set screeners.old (slot_of ink) (behind_values values.now screener) }
 {
-    screeners[ink as usize].row(y, values, bits, from);
+    screeners[ink.slot()].row(y, values, bits, from);
 }

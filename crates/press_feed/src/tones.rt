@@ -67,7 +67,7 @@ impl<'j> Tones<'j> {
         ensures { IsTrue result → (value : ℕ) → value < 256 → toned self.now ink value ≡ value }
     {
         let plan = self.plan;
-        let curve = &plan.curves[ink as usize];
+        let curve = &plan.curves[ink.slot()];
         is_identity(&curve.points)
     }
 
@@ -75,7 +75,7 @@ impl<'j> Tones<'j> {
     pub(crate) fn curve(&self, ink: Ink) -> &Curve
         ensures { (value : ℕ) → value < 256 → slice_index result.now value ≡ toned self.now ink value }
     {
-        &self.curves[ink as usize]
+        &self.curves[ink.slot()]
     }
 }
 

@@ -159,7 +159,7 @@ dots-never : (bytes : List ℕ) → NeverLong (full_dot_range bytes)
 unfolding full_dot_range
 dots-never bytes = range-never (field_of bytes tag.dot_range) (field-never bytes tag.dot_range)
 
-fields-never : (usage : _) (bytes : List ℕ) → NeverLong (ink_fields usage bytes) → NeverLong (image_fields usage bytes)
+fields-never : (usage : Usage) (bytes : List ℕ) → NeverLong (ink_fields usage bytes) → NeverLong (image_fields usage bytes)
 unfolding image_fields
 fields-never usage bytes inks =
     then-never _ _ (tiles-never bytes)
@@ -210,7 +210,7 @@ strips-never shape bytes =
     (All-cons (λ o. IfSome o IsShort) (fault_of_field shape bytes tag.strip_byte_counts) strips (err-never (number_at bytes tag.strip_byte_counts 0 (strip_count shape)) (number-never bytes tag.strip_byte_counts 0 (strip_count shape)))
     (All-map (λ (o : Option TagFault). IfSome o IsShort) (fault_of_strip shape bytes) (range_with_len 0 (strip_count shape)) (λ k d less. strip-never shape bytes (get_or (range_with_len 0 (strip_count shape)) k d)))))
 
-image-never : (usage : _) (bytes : List ℕ) → NeverLong (ink_fields usage bytes) → NeverLong (shape_of usage bytes)
+image-never : (usage : Usage) (bytes : List ℕ) → NeverLong (ink_fields usage bytes) → NeverLong (shape_of usage bytes)
 unfolding shape_of
 image-never usage bytes inks =
     then-never _ _ (no_fault-never (dir_fault bytes) (err-never (directory_of bytes) (directory-never bytes)))

@@ -24,6 +24,7 @@ use Rattle.plan_parts.specs.Data.{LayerData, PageData}
 use Rattle.plan_json.specs.Data.{PlanData}
 use Rattle.plan_parts.specs.Parts.{IsCrop, IsPage}
 use Rattle.plan_parts.specs.Parts as planned
+use Rattle.tif_image.specs.declared.usage.Usage.{Usage}
 use Rattle.tif_image.specs.declared.usage.Usage.TheVariants.{Bilevel}
 use Rattle.press_job.specs.First.{first_some}
 use Rattle.press_job.specs.Fit.{ArePlanned, PassesTests}
@@ -187,7 +188,7 @@ made_from (Ok u) (Ok v) (Ok x) (Ok p) (Ok q) (Ok r) (Ok y) (Err fault) i make sh
 made_from (Ok u) (Ok v) (Ok x) (Ok p) (Ok q) (Ok r) (Ok y) (Ok s) (Err fault) make shape is = cc
 made_from (Ok u) (Ok v) (Ok x) (Ok p) (Ok q) (Ok r) (Ok y) (Ok s) (Ok z) make shape is = (x, y, z, same_Ok {A = Shape} (make x y z) shape is)
 
-fields_sides : (usage : _) (bytes : List ℕ) (shape : Shape) → image_fields usage bytes ≡ Ok shape → HasSides bytes shape
+fields_sides : (usage : Usage) (bytes : List ℕ) (shape : Shape) → image_fields usage bytes ≡ Ok shape → HasSides bytes shape
 unfolding image_fields
 fields_sides usage bytes shape is =
     let make : ℕ → ℕ → ℕ → ℕ → ℕ → Shape = λ width length x y z. record {
@@ -223,12 +224,12 @@ shape_from (Ok u) (Ok s) strips shape is = ap {A = Shape} Ok (kept (strips s) s 
     kept (Err fault) s shape is = cc
     kept (Ok u) s shape is = same_Ok {A = Shape} s shape is
 
-pub shape_sides : (usage : _) (bytes : List ℕ) (shape : Shape) → shape_of usage bytes ≡ Ok shape → HasSides bytes shape
+pub shape_sides : (usage : Usage) (bytes : List ℕ) (shape : Shape) → shape_of usage bytes ≡ Ok shape → HasSides bytes shape
 unfolding shape_of
 shape_sides usage bytes shape is =
     fields_sides usage bytes shape (shape_from (no_fault (dir_fault bytes)) (image_fields usage bytes) (λ s. no_fault (strip_fault s bytes)) shape is)
 
-told_sides : (usage : _) (bytes : List ℕ) → result_err (shape_of usage bytes) ≡ None → HasSides bytes (shape_told (shape_of usage bytes))
+told_sides : (usage : Usage) (bytes : List ℕ) → result_err (shape_of usage bytes) ≡ None → HasSides bytes (shape_told (shape_of usage bytes))
 told_sides usage bytes passes = by_result (shape_of usage bytes) refl passes
   where
     by_result : (r : Result Shape TagFault) → shape_of usage bytes ≡ r → result_err r ≡ None → HasSides bytes (shape_told r)

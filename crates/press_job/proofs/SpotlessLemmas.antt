@@ -20,7 +20,7 @@ use Rattle.plan_parts.specs.declared.printing.Screen.{Screen}
 use Rattle.plan_parts.specs.declared.printing.Screen.TheVariants.{Bayer, Diffuse, Own}
 use Rattle.plan_parts.specs.Data.{CurveData, LayerData, MarkData, PageData}
 use Rattle.plan_json.specs.Data.{PlanData, plate_height, plate_width}
-use Rattle.plan_pages.specs.Ink.{slot_of}
+use Rattle.pr_base.specs.Ink.{slot_of}
 use Rattle.plan_pages.specs.Pages.{page_count}
 use Rattle.plan_pages.specs.Plate.{covers, has_ink, is_marked_at, shape_of_plate}
 use Rattle.plan_rows.specs.declared.group.Group.{Group}

@@ -14,7 +14,7 @@ use Rattle.scr_diffuse.specs.Diffusion.{diffused_bit}
 use Rattle.plan_parts.specs.declared.printing.Screen.{Screen}
 use Rattle.plan_parts.specs.declared.printing.Screen.TheVariants.{Bayer, Diffuse, Own}
 use Rattle.plan_json.specs.Data.{PlanData}
-use Rattle.plan_pages.specs.Ink.{slot_of}
+use Rattle.pr_base.specs.Ink.{slot_of}
 use Rattle.plan_rows.specs.Groups.{page_colour, page_spot}
 use Rattle.press_job.specs.Layers.{layers_of}
 

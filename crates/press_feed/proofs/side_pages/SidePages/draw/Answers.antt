@@ -3,7 +3,7 @@ use Rattle.std.specs.Prelude.{slice_index}
 use Rattle.std.proofs.lemmas.List.{take_at, with_items_is}
 use Rattle.pr_base.specs.Bits.{SetsBits}
 use Rattle.plan_json.specs.Data.{PlanData}
-use Rattle.plan_pages.specs.Ink.{slot_of}
+use Rattle.pr_base.specs.Ink.{slot_of}
 use Rattle.press_job.specs.Printing.{page_bit}
 use Rattle.press_feed.specs.Screener.{is_diffused, rows_in}
 use Rattle.press_feed.specs.Sides.{SideData, left_edge, screened_after}
