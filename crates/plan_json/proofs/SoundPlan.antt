@@ -6,7 +6,7 @@ use Rattle.serde_json.specs.Data.{Data}
 use Rattle.plan_words.specs.declared.fault.PlanFault.{PlanFault}
 use Rattle.plan_words.specs.declared.fault.PlanFault.TheVariants.{Range}
 use Rattle.plan_words.specs.Gives.{Fails}
-use Rattle.plan_words.proofs.Items.{fails_then}
+use Rattle.plan_words.proofs.Lists.{fails_then}
 use Rattle.plan_json.specs.declared.front.Front.{Front}
 use Rattle.plan_parts.specs.declared.printing.Screen.{Screen}
 use Rattle.plan_words.specs.Forms.{is_name}

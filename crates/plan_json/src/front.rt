@@ -1,15 +1,12 @@
 // The first keys of a plan: its edition, its resolution, and the sides of pages and plates.
-ghost use Rattle.std.specs.Prelude.{◌≡◌, ◌≤◌, IfOk, codes};
+ghost use Rattle.std.specs.Prelude.{◌≡◌, ◌≤◌, List, ℕ, IfOk};
 ghost use Rattle.plan_json.specs.Data.{width_over, height_over};
 ghost use Rattle.plan_words.specs.Gives.{Gives};
+ghost use Rattle.plan_words.specs.Node.{inside};
 ghost use Rattle.plan_json.specs.PlanOf as spec;
-ghost use Rattle.plan_words.specs.Reading.{name as spec_name, optional, required};
-ghost use Rattle.serde_json.specs.View.{view};
 
-use plan_words::{Object, PlanFault, items_within, name, nth};
+use plan_words::{Name, Node, Number, Object, PlanFault, Reader};
 use pr_base::PathText;
-use serde_json::Value;
-use std::alloc::Global;
 
 /// What the first keys of a plan say; lengths are in pixels.
 #[derive(Drop)]
@@ -23,36 +20,49 @@ pub(crate) struct Front {
     pub(crate) limit: u16,
 }
 
-#[tactic(auto, unfolding(crate::specs::PlanOf::page_size))]
-fn page_size(alloc: Global, path: &str, value: &Value) -> Result<(u32, u32), PlanFault>
-    ensures { Gives (λ p. p) result (spec.page_size path.now (view value.now)) }
-{
-    let items = items_within(alloc, 2, 2, path, value)?;
-    let width = nth(alloc, 0, 1, 65535, path, items)?;
-    let height = nth(alloc, 1, 1, 65535, path, items)?;
-    Ok((width as u32, height as u32))
+// Reads the sides of a page.
+#[derive(Drop)]
+struct PageSizeReader;
+
+impl Reader for PageSizeReader {
+    type Out = (u32, u32);
+
+    ghost Seen = { ℕ × ℕ };
+
+    ghost seen = { λ p. p };
+
+    ghost reads = { λ _. spec.page_size };
+
+    #[tactic(auto, unfolding(crate::specs::PlanOf::page_size))]
+    fn read(&self, node: Node<'_>) -> Result<(u32, u32), PlanFault> {
+        let items = node.items(2, 2)?;
+        let width = items.required(0, &Number(1, 65535))? as u32;
+        let height = items.required(1, &Number(1, 65535))? as u32;
+        Ok((width, height))
+    }
 }
 
-#[tactic(auto, unfolding(crate::specs::PlanOf::margins))]
-fn margins(alloc: Global, path: &str, value: &Value) -> Result<[u32; 4], PlanFault>
-    ensures { Gives (λ m. m) result (spec.margins path.now (view value.now)) }
-{
-    let items = items_within(alloc, 4, 4, path, value)?;
-    let left = nth(alloc, 0, 0, 65535, path, items)?;
-    let top = nth(alloc, 1, 0, 65535, path, items)?;
-    let right = nth(alloc, 2, 0, 65535, path, items)?;
-    let bottom = nth(alloc, 3, 0, 65535, path, items)?;
-    Ok([left as u32, top as u32, right as u32, bottom as u32])
-}
+// Reads the margins of a plate.
+#[derive(Drop)]
+struct MarginsReader;
 
-#[tactic(auto, unfolding(plan_words::specs::Reading::optional))]
-fn margins_in(o: &Object<'_>) -> Result<[u32; 4], PlanFault>
-    ensures { Gives (λ m. m) result
-        (optional (codes "margins") spec.no_margins spec.margins o.now.path.now (view o.now.value.now)) }
-{
-    match o.value.get("margins") {
-        Some(value) => margins(o.alloc, o.path_to("margins")?.as_str(), value),
-        None => Ok([0, 0, 0, 0]),
+impl Reader for MarginsReader {
+    type Out = [u32; 4];
+
+    ghost Seen = { List ℕ };
+
+    ghost seen = { λ m. m };
+
+    ghost reads = { λ _. spec.margins };
+
+    #[tactic(auto, unfolding(crate::specs::PlanOf::margins))]
+    fn read(&self, node: Node<'_>) -> Result<[u32; 4], PlanFault> {
+        let items = node.items(4, 4)?;
+        let left = items.required(0, &Number(0, 65535))? as u32;
+        let top = items.required(1, &Number(0, 65535))? as u32;
+        let right = items.required(2, &Number(0, 65535))? as u32;
+        let bottom = items.required(3, &Number(0, 65535))? as u32;
+        Ok([left, top, right, bottom])
     }
 }
 
@@ -76,39 +86,22 @@ fn fits_plate(margins: &[u32; 4], page_width: u32, page_height: u32, gutter: u32
     sum_width(margins, page_width, gutter) <= 65535 && sum_height(margins, page_height) <= 65535
 }
 
-#[tactic(auto, unfolding(plan_words::specs::Reading::required))]
-fn edition_in(o: &Object<'_>) -> Result<PathText, PlanFault>
-    ensures { Gives (λ s. s) result
-        (required (codes "edition") spec_name o.now.path.now (view o.now.value.now)) }
-{
-    let s = name(o.alloc, o.place("edition"), o.required("edition")?)?;
-    Ok(PathText::of(o.alloc, s)?)
-}
-
-#[tactic(auto, unfolding(plan_words::specs::Reading::required))]
-fn page_in(o: &Object<'_>) -> Result<(u32, u32), PlanFault>
-    ensures { Gives (λ p. p) result
-        (required (codes "page") spec.page_size o.now.path.now (view o.now.value.now)) }
-{
-    page_size(o.alloc, o.path_to("page")?.as_str(), o.required("page")?)
-}
-
 /// The first keys. The plate's sides are tested once the gutter is known.
 #[tactic(auto, unfolding(crate::specs::PlanOf::front))]
 pub(crate) fn front_in(o: &Object<'_>) -> Result<Front, PlanFault>
-    ensures value { Gives (λ f. f) result (spec.front o.now.path.now (view o.now.value.now)) }
+    ensures value { Gives (λ f. f) result (inside o.now spec.front) }
     ensures width { IfOk result (λ f. width_over f.margins f.page_width f.gutter ≤ 65535) }
     ensures height { IfOk result (λ f. height_over f.margins f.page_height ≤ 65535) }
 {
-    let edition = edition_in(o)?;
-    let dpi = o.number("dpi", 1, 10000)? as u32;
-    let page = page_in(o)?;
-    let margins = margins_in(o)?;
-    let gutter = o.optional_number("gutter", 0, 0, 65535)? as u32;
+    let edition = o.required("edition", &Name)?;
+    let dpi = o.required("dpi", &Number(1, 10000))? as u32;
+    let page = o.required("page", &PageSizeReader)?;
+    let margins = o.optional("margins", [0, 0, 0, 0], &MarginsReader)?;
+    let gutter = o.optional("gutter", 0, &Number(0, 65535))? as u32;
     if !fits_plate(&margins, page.0, page.1, gutter) {
         return Err(PlanFault::Range(o.path_to("page")?));
     }
-    let limit = o.optional_number("limit", 1020, 0, 1020)? as u16;
+    let limit = o.optional("limit", 1020, &Number(0, 1020))? as u16;
     Ok(Front {
         edition,
         dpi,

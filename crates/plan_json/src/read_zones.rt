@@ -1,38 +1,43 @@
 // Reading the zones of a plan.
-ghost use Rattle.std.specs.Prelude.{◌≡◌, ◌≤◌, ◌<◌, IfOk, [], length, codes};
+ghost use Rattle.std.specs.Prelude.{◌≡◌, ◌≤◌, ◌<◌, ℕ, [], length, codes};
 ghost use Rattle.std.specs.List.{list_any};
-ghost use Rattle.plan_words.specs.Gives.{Gives};
-ghost use Rattle.plan_words.specs.Place.{path_of};
 ghost use Rattle.plan_parts.specs.Pages.{page_names};
-ghost use Rattle.plan_words.specs.Reading.{optional, required};
+ghost use Rattle.plan_words.specs.Gives.{Gives};
+ghost use Rattle.plan_words.specs.Node.{inside};
+ghost use Rattle.plan_words.specs.Reading.{optional};
 ghost use Rattle.plan_json.specs.Zoning as spec;
-ghost use Rattle.serde_json.specs.View.{view};
 
 use crate::{Replace, Section, Zone};
 use plan_parts::NamedPage;
-use plan_words::{Object, Place, PlanFault, defined, items_within, new_name, number};
-use serde_json::Value;
-use std::alloc::Global;
+use plan_words::{Defined, ItemReader, ListOf, NewName, Node, Number, Object, PlanFault, Reader};
 
-// A place in a section, from 1, that no earlier item replaces.
-#[tactic(auto, unfolding(crate::specs::Zoning::new_page))]
-fn new_page(
-    alloc: Global,
-    earlier: &[Replace],
+// Reads a place in a section of so many pages, from 1, that no earlier item replaces.
+#[derive(Drop)]
+struct NewPageReader<'x> {
+    earlier: &'x [Replace],
     section: usize,
     count: usize,
-    place: Place<'_>,
-    value: &Value,
-) -> Result<u64, PlanFault>
-    ensures value { Gives (λ n. n) result
-        (spec.new_page earlier.now section count (path_of place.entry) (view value.now)) }
-    ensures most { IfOk result (λ n. n ≤ count) }
-{
-    let page = number(alloc, 1, count as u64, place, value)?;
-    if is_replaced(earlier, section, page) {
-        return Err(PlanFault::Repeat(place.path(alloc)?));
+}
+
+impl Reader for NewPageReader<'_> {
+    type Out = u64;
+
+    ghost Seen = { ℕ };
+
+    ghost seen = { λ n. n };
+
+    ghost reads = { λ page. spec.new_page page.earlier.now page.section page.count };
+
+    ghost keeps = { λ page n. n ≤ page.count };
+
+    #[tactic(auto, unfolding(crate::specs::Zoning::new_page))]
+    fn read(&self, node: Node<'_>) -> Result<u64, PlanFault> {
+        let page = Number(1, self.count as u64).read(node)?;
+        if is_replaced(self.earlier, self.section, page) {
+            return Err(PlanFault::Repeat(node.path()?));
+        }
+        Ok(page)
     }
-    Ok(page)
 }
 
 fn is_replaced(earlier: &[Replace], section: usize, page: u64) -> bool
@@ -50,122 +55,74 @@ fn page_count(sections: &[Section], section: usize) -> usize
     section.pages.len()
 }
 
-#[tactic(auto, unfolding(crate::specs::Zoning::replace, plan_words::specs::Reading::required))]
-fn replace(
-    alloc: Global,
-    pages: &[NamedPage],
-    sections: &[Section],
-    earlier: &[Replace],
-    path: &str,
-    value: &Value,
-) -> Result<Replace, PlanFault>
-    ensures { Gives (λ r. r) result
-        (spec.replace (page_names pages.now) sections.now earlier.now path.now (view value.now)) }
-{
-    let o = Object::of(alloc, &["section", "page", "with"], path, value)?;
-    let section = defined(alloc, sections, o.place("section"), o.required("section")?)?;
-    let count = page_count(sections, section);
-    let page = new_page(
-        alloc,
-        earlier,
-        section,
-        count,
-        o.place("page"),
-        o.required("page")?,
-    )?;
-    let with = defined(alloc, pages, o.place("with"), o.required("with")?)?;
-    Ok(Replace {
-        section,
-        page: page as u32,
-        with,
-    })
+// Reads a page that a zone replaces, in one of these sections by one of these pages.
+#[derive(Drop)]
+struct ReplaceReader<'x> {
+    pages: &'x [NamedPage],
+    sections: &'x [Section],
 }
 
-#[tactic(auto, unfolding(crate::specs::Zoning::replaced))]
-fn replaced(
-    alloc: Global,
-    pages: &[NamedPage],
-    sections: &[Section],
-    path: &str,
-    value: &Value,
-) -> Result<Vec<Replace>, PlanFault>
-    ensures { Gives (λ v. v.items) result
-        (spec.replaced (page_names pages.now) sections.now path.now (view value.now)) }
-{
-    let items = items_within(alloc, 0, 1024, path, value)?;
-    let mut all = Vec::new(alloc);
-    for item in items {
-        let place = Place::Item(path, all.len()).path(alloc)?;
-        let one = replace(alloc, pages, sections, all.as_slice(), place.as_str(), item)?;
-        all.push(one)?;
+impl ItemReader for ReplaceReader<'_> {
+    type Item = Replace;
+
+    ghost reads = { λ plan. spec.replace (page_names plan.pages.now) plan.sections.now };
+
+    #[tactic(auto, unfolding(crate::specs::Zoning::replace))]
+    fn read_item(&self, earlier: &[Replace], node: Node<'_>) -> Result<Replace, PlanFault> {
+        let o = node.object(&["section", "page", "with"])?;
+        let section = o.required("section", &Defined(self.sections))?;
+        let count = page_count(self.sections, section);
+        let new_page = NewPageReader {
+            earlier,
+            section,
+            count,
+        };
+        let page = o.required("page", &new_page)? as u32;
+        let with = o.required("with", &Defined(self.pages))?;
+        Ok(Replace {
+            section,
+            page,
+            with,
+        })
     }
-    Ok(all)
 }
 
-#[tactic(auto, unfolding(crate::specs::Zoning::zone, plan_words::specs::Reading::required))]
-fn zone(
-    alloc: Global,
-    pages: &[NamedPage],
-    sections: &[Section],
-    earlier: &[Zone],
-    path: &str,
-    value: &Value,
-) -> Result<Zone, PlanFault>
-    ensures { Gives (λ z. z) result
-        (spec.zone (page_names pages.now) sections.now earlier.now path.now (view value.now)) }
-{
-    let o = Object::of(alloc, &["name", "replace"], path, value)?;
-    let name = new_name(alloc, earlier, o.place("name"), o.required("name")?)?;
-    let replace = replaced(
-        alloc,
-        pages,
-        sections,
-        o.path_to("replace")?.as_str(),
-        o.required("replace")?,
-    )?;
-    Ok(Zone { name, replace })
+// Reads a zone of a plan with these pages and sections.
+#[derive(Drop)]
+struct ZoneReader<'x> {
+    pages: &'x [NamedPage],
+    sections: &'x [Section],
 }
 
+impl ItemReader for ZoneReader<'_> {
+    type Item = Zone;
+
+    ghost reads = { λ plan. spec.zone (page_names plan.pages.now) plan.sections.now };
+
+    #[tactic(auto, unfolding(crate::specs::Zoning::zone, crate::specs::Zoning::replaced))]
+    fn read_item(&self, earlier: &[Zone], node: Node<'_>) -> Result<Zone, PlanFault> {
+        let o = node.object(&["name", "replace"])?;
+        let name = o.required("name", &NewName(earlier))?;
+        let item = ReplaceReader {
+            pages: self.pages,
+            sections: self.sections,
+        };
+        let replace = o.required("replace", &ListOf(0, 1024, item))?;
+        Ok(Zone { name, replace })
+    }
+}
+
+/// The zones of a plan with these pages and sections: what the key `zones` of its top object has, or none
+/// where the key is absent.
 #[tactic(auto, unfolding(crate::specs::Zoning::zones))]
-fn zones(
-    alloc: Global,
-    pages: &[NamedPage],
-    sections: &[Section],
-    path: &str,
-    value: &Value,
-) -> Result<Vec<Zone>, PlanFault>
-    ensures { Gives (λ v. v.items) result
-        (spec.zones (page_names pages.now) sections.now path.now (view value.now)) }
-{
-    let items = items_within(alloc, 0, 16, path, value)?;
-    let mut all = Vec::new(alloc);
-    for item in items {
-        let place = Place::Item(path, all.len()).path(alloc)?;
-        let one = zone(alloc, pages, sections, all.as_slice(), place.as_str(), item)?;
-        all.push(one)?;
-    }
-    Ok(all)
-}
-
-/// The zones of a plan.
-#[tactic(auto, unfolding(plan_words::specs::Reading::optional))]
 pub(crate) fn zones_in(
     o: &Object<'_>,
     pages: &[NamedPage],
     sections: &[Section],
 ) -> Result<Vec<Zone>, PlanFault>
-    ensures { Gives (λ v. v.items) result
-        (optional (codes "zones") [] (spec.zones (page_names pages.now) sections.now)
-        o.now.path.now (view o.now.value.now)) }
+    ensures { Gives (λ v. v.items) result (inside o.now
+        (optional (codes "zones") [] (spec.zones (page_names pages.now) sections.now))) }
 {
-    match o.value.get("zones") {
-        Some(value) => zones(
-            o.alloc,
-            pages,
-            sections,
-            o.path_to("zones")?.as_str(),
-            value,
-        ),
-        None => Ok(Vec::new(o.alloc)),
-    }
+    let item = ZoneReader { pages, sections };
+    o.optional("zones", Vec::new(o.alloc), &ListOf(0, 16, item))
 }

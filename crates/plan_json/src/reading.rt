@@ -1,6 +1,7 @@
 // Reading a plan: from bytes to a value, and from the value to the plan by its table.
 ghost use Rattle.std.specs.Prelude.{◌≡◌, ◌≢◌, IfOk, IfErr, Ok, Err};
 ghost use Rattle.plan_words.specs.Gives.{Gives};
+ghost use Rattle.plan_words.specs.Node.{inside};
 ghost use Rattle.plan_json.specs.PlanOf as spec;
 ghost use Rattle.plan_words.specs.Reading.{some_or};
 ghost use Rattle.plan_words.specs.declared.fault.PlanFault.TheVariants.{Memory, NotJson};
@@ -16,7 +17,7 @@ use plan_parts::{
     Mark, NamedPage, PlanCurve, PlanTile, Screen, curves_in, marks_in, pages_in, screens_in,
     tiles_in,
 };
-use plan_words::{Object, PlanFault};
+use plan_words::{Node, Number, Object, Place, PlanFault};
 use serde_json::Value;
 use std::alloc::Global;
 use std::marker::Model;
@@ -67,7 +68,7 @@ impl Model for Layout {
 
 #[tactic(auto, unfolding(crate::specs::PlanOf::inks))]
 fn inks_in(o: &Object<'_>, spot: bool, width: u32, height: u32) -> Result<Inks, PlanFault>
-    ensures { Gives (λ i. i) result (spec.inks spot width height o.now.path.now (view o.now.value.now)) }
+    ensures { Gives (λ i. i) result (inside o.now (spec.inks spot width height)) }
 {
     let tiles = tiles_in(o)?;
     let screens = screens_in(o, spot, tiles.as_slice())?;
@@ -83,7 +84,7 @@ fn inks_in(o: &Object<'_>, spot: bool, width: u32, height: u32) -> Result<Inks, 
 
 #[tactic(auto, unfolding(crate::specs::PlanOf::layout))]
 fn layout_in(o: &Object<'_>, spot: bool) -> Result<Layout, PlanFault>
-    ensures { Gives (λ l. l) result (spec.layout spot o.now.path.now (view o.now.value.now)) }
+    ensures { Gives (λ l. l) result (inside o.now (spec.layout spot)) }
 {
     let pages = pages_in(o, spot)?;
     let named = pages.as_slice();
@@ -100,7 +101,7 @@ fn layout_in(o: &Object<'_>, spot: bool) -> Result<Layout, PlanFault>
 
 #[tactic(auto, unfolding(crate::specs::PlanOf::plan_by))]
 fn plan_by(o: &Object<'_>, spot: bool) -> Result<Plan, PlanFault>
-    ensures { Gives (λ p. p) result (spec.plan_by spot o.now.path.now (view o.now.value.now)) }
+    ensures { Gives (λ p. p) result (inside o.now (spec.plan_by spot)) }
 {
     let front = front_in(o)?;
     let inks = inks_in(o, spot, front.plate_width(), front.plate_height())?;
@@ -136,16 +137,16 @@ fn plan_by(o: &Object<'_>, spot: bool) -> Result<Plan, PlanFault>
 fn plan_in(alloc: Global, value: &Value) -> Result<Plan, PlanFault>
     ensures { Gives (λ p. p) result (spec.plan_in (view value.now)) }
 {
-    let o = Object::of(
+    let top = Node {
         alloc,
-        &[
-            "plan", "edition", "dpi", "page", "margins", "gutter", "limit", "tiles", "screens",
-            "curves", "marks", "pages", "sections", "zones", "sites",
-        ],
-        "",
+        place: Place::Top,
         value,
-    )?;
-    let number = o.number("plan", 1, 2)?;
+    };
+    let o = top.object(&[
+        "plan", "edition", "dpi", "page", "margins", "gutter", "limit", "tiles", "screens",
+        "curves", "marks", "pages", "sections", "zones", "sites",
+    ])?;
+    let number = o.required("plan", &Number(1, 2))?;
     plan_by(&o, number == 2)
 }
 

@@ -1,38 +1,32 @@
 // Reading tone curves, one for each ink.
-ghost use Rattle.std.specs.Prelude.{◌≡◌, IfOk, codes};
+ghost use Rattle.std.specs.Prelude.{◌≡◌, List, IfOk, codes};
 ghost use Rattle.plan_words.specs.Gives.{Gives};
-ghost use Rattle.plan_parts.specs.Printing as spec;
+ghost use Rattle.plan_words.specs.Node.{inside};
 ghost use Rattle.plan_words.specs.Reading.{optional};
-ghost use Rattle.serde_json.specs.View.{view};
+ghost use Rattle.plan_parts.specs.Data.{CurveData};
+ghost use Rattle.plan_parts.specs.Printing as spec;
 
 use crate::PlanCurve;
-use plan_words::{Object, Place, PlanFault, items_within, nth};
-use pr_base::{NoMemory, PathText};
-use serde_json::Value;
+use plan_words::{ItemReader, ListOf, Node, Number, Object, PlanFault, Reader};
+use pr_base::NoMemory;
 use std::alloc::Global;
 
-#[tactic(auto, unfolding(crate::specs::Printing::point))]
-fn point(alloc: Global, path: &str, value: &Value) -> Result<(u8, u8), PlanFault>
-    ensures { Gives (λ p. p) result (spec.point path.now (view value.now)) }
-{
-    let items = items_within(alloc, 2, 2, path, value)?;
-    let x = nth(alloc, 0, 0, 255, path, items)?;
-    let y = nth(alloc, 1, 0, 255, path, items)?;
-    Ok((x as u8, y as u8))
-}
+// Reads a point of a curve.
+#[derive(Drop)]
+struct PointReader;
 
-#[tactic(auto, unfolding(crate::specs::Printing::points))]
-fn points(alloc: Global, path: &str, value: &Value) -> Result<Vec<(u8, u8)>, PlanFault>
-    ensures { Gives (λ v. v.items) result (spec.points path.now (view value.now)) }
-{
-    let items = items_within(alloc, 2, 32, path, value)?;
-    let mut all = Vec::new(alloc);
-    for item in items {
-        let place = Place::Item(path, all.len()).path(alloc)?;
-        let one = point(alloc, place.as_str(), item)?;
-        all.push(one)?;
+impl ItemReader for PointReader {
+    type Item = (u8, u8);
+
+    ghost reads = { λ _ _. spec.point };
+
+    #[tactic(auto, unfolding(crate::specs::Printing::point))]
+    fn read_item(&self, _earlier: &[(u8, u8)], node: Node<'_>) -> Result<(u8, u8), PlanFault> {
+        let items = node.items(2, 2)?;
+        let x = items.required(0, &Number(0, 255))?;
+        let y = items.required(1, &Number(0, 255))?;
+        Ok((x as u8, y as u8))
     }
-    Ok(all)
 }
 
 // Whether each point stands to the right of the one before.
@@ -56,15 +50,27 @@ fn spans(points: &[(u8, u8)]) -> bool
     points[0].0 == 0 && points[points.len() - 1].0 == 255 && is_rising(points)
 }
 
-#[tactic(auto, unfolding(crate::specs::Printing::curve))]
-fn curve(alloc: Global, path: &str, value: &Value) -> Result<PlanCurve, PlanFault>
-    ensures { Gives (λ c. c) result (spec.curve path.now (view value.now)) }
-{
-    let points = points(alloc, path, value)?;
-    if !spans(points.as_slice()) {
-        return Err(PlanFault::Range(PathText::of(alloc, path)?));
+// Reads the curve of an ink.
+#[derive(Drop)]
+struct CurveReader;
+
+impl Reader for CurveReader {
+    type Out = PlanCurve;
+
+    ghost Seen = { CurveData };
+
+    ghost seen = { λ c. c };
+
+    ghost reads = { λ _. spec.curve };
+
+    #[tactic(auto, unfolding(crate::specs::Printing::curve, crate::specs::Printing::points))]
+    fn read(&self, node: Node<'_>) -> Result<PlanCurve, PlanFault> {
+        let points = ListOf(2, 32, PointReader).read(node)?;
+        if !spans(points.as_slice()) {
+            return Err(PlanFault::Range(node.path()?));
+        }
+        Ok(PlanCurve { points })
     }
-    Ok(PlanCurve { points })
 }
 
 // The curve that changes nothing.
@@ -73,30 +79,6 @@ fn identity(alloc: Global) -> Result<PlanCurve, NoMemory>
 {
     let points = vec![in alloc; (0, 0), (255, 255)]?;
     Ok(PlanCurve { points })
-}
-
-#[tactic(auto, unfolding(plan_words::specs::Reading::optional))]
-fn curve_of(o: &Object<'_>, key: &str) -> Result<PlanCurve, PlanFault>
-    ensures { Gives (λ c. c) result
-        (optional key.now spec.identity spec.curve o.now.path.now (view o.now.value.now)) }
-{
-    match o.value.get(key) {
-        Some(value) => curve(o.alloc, o.path_to(key)?.as_str(), value),
-        None => Ok(identity(o.alloc)?),
-    }
-}
-
-#[tactic(auto, unfolding(crate::specs::Printing::curves))]
-fn curves(alloc: Global, spot: bool, path: &str, value: &Value) -> Result<[PlanCurve; 5], PlanFault>
-    ensures { Gives (λ c. c) result (spec.curves spot path.now (view value.now)) }
-{
-    let o = Object::of_inks(alloc, spot, path, value)?;
-    let c = curve_of(&o, "C")?;
-    let m = curve_of(&o, "M")?;
-    let y = curve_of(&o, "Y")?;
-    let k = curve_of(&o, "K")?;
-    let s = curve_of(&o, "S")?;
-    Ok([c, m, y, k, s])
 }
 
 // Five curves that change nothing.
@@ -111,16 +93,39 @@ fn identities(alloc: Global) -> Result<[PlanCurve; 5], NoMemory>
     Ok([c, m, y, k, s])
 }
 
+// Reads the curves of all inks.
+#[derive(Drop)]
+struct CurvesReader {
+    spot: bool,
+}
+
+impl Reader for CurvesReader {
+    type Out = [PlanCurve; 5];
+
+    ghost Seen = { List CurveData };
+
+    ghost seen = { λ c. c };
+
+    ghost reads = { λ curves. spec.curves curves.spot };
+
+    #[tactic(auto, unfolding(crate::specs::Printing::curves))]
+    fn read(&self, node: Node<'_>) -> Result<[PlanCurve; 5], PlanFault> {
+        let o = node.ink_object(self.spot)?;
+        let c = o.optional("C", identity(o.alloc)?, &CurveReader)?;
+        let m = o.optional("M", identity(o.alloc)?, &CurveReader)?;
+        let y = o.optional("Y", identity(o.alloc)?, &CurveReader)?;
+        let k = o.optional("K", identity(o.alloc)?, &CurveReader)?;
+        let s = o.optional("S", identity(o.alloc)?, &CurveReader)?;
+        Ok([c, m, y, k, s])
+    }
+}
+
 /// The curves of a plan, one for each ink: what the key `curves` of its top object has, or five curves
 /// that change nothing where the key is absent. A curve of S stands only where there is a spot ink. The
 /// first fault is refused.
-#[tactic(auto, unfolding(plan_words::specs::Reading::optional))]
 pub fn curves_in(o: &Object<'_>, spot: bool) -> Result<[PlanCurve; 5], PlanFault>
     ensures { Gives (λ c. c) result
-        (optional (codes "curves") spec.identities (spec.curves spot) o.now.path.now (view o.now.value.now)) }
+        (inside o.now (optional (codes "curves") spec.identities (spec.curves spot))) }
 {
-    match o.value.get("curves") {
-        Some(value) => curves(o.alloc, spot, o.path_to("curves")?.as_str(), value),
-        None => Ok(identities(o.alloc)?),
-    }
+    o.optional("curves", identities(o.alloc)?, &CurvesReader { spot })
 }

@@ -1,170 +1,139 @@
 // Reading the layers of a page.
-ghost use Rattle.std.specs.Prelude.{◌≡◌, ◌≤◌, IfOk, Some, None, false, codes};
+ghost use Rattle.std.specs.Prelude.{◌≡◌, List, ℕ, Bool, Option, codes};
 ghost use Rattle.plan_words.specs.Gives.{Gives};
-ghost use Rattle.plan_words.specs.Place.{path_of};
+ghost use Rattle.plan_words.specs.Node.{inside};
+ghost use Rattle.plan_words.specs.Reading.{required};
 ghost use Rattle.plan_parts.specs.Pages as spec;
-ghost use Rattle.plan_words.specs.Reading.{file_name, optional, required};
-ghost use Rattle.serde_json.specs.View.{view, items_view};
 
 use crate::named::{NamedLayer, Painting, Placing};
-use plan_words::{Object, Place, PlanFault, found, items_within, nth, number, text};
+use plan_words::{FileName, ItemReader, ListOf, Node, Number, Object, PlanFault, Reader};
 use pr_base::PathText;
-use serde_json::Value;
-use std::alloc::Global;
 
-// One text of two: whether it is the second.
-#[tactic(auto, unfolding(crate::specs::Pages::either))]
-fn either(
-    alloc: Global,
-    first: &str,
-    second: &str,
-    place: Place<'_>,
-    value: &Value,
-) -> Result<bool, PlanFault>
-    ensures { Gives (λ b. b) result
-        (spec.either first.now second.now (path_of place.entry) (view value.now)) }
-{
-    let s = text(alloc, place, value)?;
-    if s == first {
-        return Ok(false);
-    }
-    if s == second {
-        return Ok(true);
-    }
-    Err(PlanFault::Range(place.path(alloc)?))
-}
+// Reads one text of two: whether it is the second.
+#[derive(Drop)]
+struct Either<'x>(&'x str, &'x str);
 
-#[tactic(auto, unfolding(crate::specs::Pages::crop))]
-fn crop(alloc: Global, path: &str, value: &Value) -> Result<Option<[u32; 4]>, PlanFault>
-    ensures { Gives (λ c. c) result (spec.crop path.now (view value.now)) }
-{
-    let items = items_within(alloc, 4, 4, path, value)?;
-    let x = nth(alloc, 0, 0, 65535, path, items)?;
-    let y = nth(alloc, 1, 0, 65535, path, items)?;
-    let width = nth(alloc, 2, 1, 65535, path, items)?;
-    let height = nth(alloc, 3, 1, 65535, path, items)?;
-    Ok(Some([x as u32, y as u32, width as u32, height as u32]))
-}
+impl Reader for Either<'_> {
+    type Out = bool;
 
-#[tactic(auto, unfolding(plan_words::specs::Reading::optional))]
-fn crop_of(o: &Object<'_>) -> Result<Option<[u32; 4]>, PlanFault>
-    ensures { Gives (λ c. c) result
-        (optional (codes "crop") None spec.crop o.now.path.now (view o.now.value.now)) }
-{
-    match o.value.get("crop") {
-        Some(value) => crop(o.alloc, o.path_to("crop")?.as_str(), value),
-        None => Ok(None),
+    ghost Seen = { Bool };
+
+    ghost seen = { λ b. b };
+
+    ghost reads = { λ texts. spec.either texts.0.now texts.1.now };
+
+    #[tactic(auto, unfolding(crate::specs::Pages::either))]
+    fn read(&self, node: Node<'_>) -> Result<bool, PlanFault> {
+        let s = node.text()?;
+        if s == self.0 {
+            return Ok(false);
+        }
+        if s == self.1 {
+            return Ok(true);
+        }
+        Err(PlanFault::Range(node.path()?))
     }
 }
 
-#[tactic(auto, unfolding(crate::specs::Pages::mask))]
-fn mask(alloc: Global, place: Place<'_>, value: &Value) -> Result<Option<PathText>, PlanFault>
-    ensures { Gives (λ m. m) result (spec.mask (path_of place.entry) (view value.now)) }
-{
-    let s = plan_words::file_name(alloc, place, value)?;
-    Ok(Some(PathText::of(alloc, s)?))
-}
+// Reads which part of an image is shown.
+#[derive(Drop)]
+struct CropReader;
 
-#[tactic(auto, unfolding(plan_words::specs::Reading::optional))]
-fn mask_of(o: &Object<'_>) -> Result<Option<PathText>, PlanFault>
-    ensures { Gives (λ m. m) result
-        (optional (codes "mask") None spec.mask o.now.path.now (view o.now.value.now)) }
-{
-    match o.value.get("mask") {
-        Some(value) => mask(o.alloc, o.place("mask"), value),
-        None => Ok(None),
+impl Reader for CropReader {
+    type Out = Option<[u32; 4]>;
+
+    ghost Seen = { Option (List ℕ) };
+
+    ghost seen = { λ c. c };
+
+    ghost reads = { λ _. spec.crop };
+
+    #[tactic(auto, unfolding(crate::specs::Pages::crop))]
+    fn read(&self, node: Node<'_>) -> Result<Option<[u32; 4]>, PlanFault> {
+        let items = node.items(4, 4)?;
+        let x = items.required(0, &Number(0, 65535))? as u32;
+        let y = items.required(1, &Number(0, 65535))? as u32;
+        let width = items.required(2, &Number(1, 65535))? as u32;
+        let height = items.required(3, &Number(1, 65535))? as u32;
+        Ok(Some([x, y, width, height]))
     }
 }
 
-#[tactic(auto, unfolding(plan_words::specs::Reading::required, crate::specs::Pages::kind))]
-fn line_of(o: &Object<'_>) -> Result<bool, PlanFault>
-    ensures { Gives (λ b. b) result
-        (required (codes "kind") spec.kind o.now.path.now (view o.now.value.now)) }
-{
-    either(
-        o.alloc,
-        "contone",
-        "line",
-        o.place("kind"),
-        o.required("kind")?,
-    )
-}
+// Reads the file of a mask.
+#[derive(Drop)]
+struct MaskReader;
 
-#[tactic(auto, unfolding(plan_words::specs::Reading::required))]
-fn file_of(o: &Object<'_>) -> Result<PathText, PlanFault>
-    ensures { Gives (λ s. s) result
-        (required (codes "file") file_name o.now.path.now (view o.now.value.now)) }
-{
-    let s = plan_words::file_name(o.alloc, o.place("file"), o.required("file")?)?;
-    Ok(PathText::of(o.alloc, s)?)
-}
+impl Reader for MaskReader {
+    type Out = Option<PathText>;
 
-#[tactic(auto, unfolding(plan_words::specs::Reading::optional, crate::specs::Pages::paint))]
-fn overprint_of(o: &Object<'_>) -> Result<bool, PlanFault>
-    ensures { Gives (λ b. b) result
-        (optional (codes "paint") false spec.paint o.now.path.now (view o.now.value.now)) }
-{
-    match o.value.get("paint") {
-        Some(value) => either(o.alloc, "knockout", "overprint", o.place("paint"), value),
-        None => Ok(false),
+    ghost Seen = { Option (List ℕ) };
+
+    ghost seen = { λ m. m };
+
+    ghost reads = { λ _. spec.mask };
+
+    #[tactic(auto, unfolding(crate::specs::Pages::mask))]
+    fn read(&self, node: Node<'_>) -> Result<Option<PathText>, PlanFault> {
+        Ok(Some(FileName.read(node)?))
     }
 }
 
-// The fifth number, or 0 where there is none.
-fn fifth(alloc: Global, path: &str, items: &[Value]) -> Result<u64, PlanFault>
-    ensures value { Gives (λ n. n) result (spec.fifth path.now (items_view items.now)) }
-    ensures most { IfOk result (λ n. n ≤ 255) }
-{
-    match found(4, items) {
-        Some(item) => number(alloc, 0, 255, Place::Item(path, 4), item),
-        None => Ok(0),
+// Reads the values C, M, Y, K and, where there is a spot ink, maybe S.
+#[derive(Drop)]
+struct InkReader {
+    spot: bool,
+}
+
+impl Reader for InkReader {
+    type Out = [u8; 5];
+
+    ghost Seen = { List ℕ };
+
+    ghost seen = { λ i. i };
+
+    ghost reads = { λ ink. spec.ink ink.spot };
+
+    #[tactic(auto, unfolding(crate::specs::Pages::ink))]
+    fn read(&self, node: Node<'_>) -> Result<[u8; 5], PlanFault> {
+        let byte = Number(0, 255);
+        let items = node.items(4, if self.spot { 5 } else { 4 })?;
+        let c = items.required(0, &byte)? as u8;
+        let m = items.required(1, &byte)? as u8;
+        let y = items.required(2, &byte)? as u8;
+        let k = items.required(3, &byte)? as u8;
+        let s = items.optional(4, 0, &byte)? as u8;
+        Ok([c, m, y, k, s])
     }
 }
 
-#[tactic(auto, unfolding(crate::specs::Pages::ink))]
-fn ink(alloc: Global, spot: bool, path: &str, value: &Value) -> Result<[u8; 5], PlanFault>
-    ensures { Gives (λ i. i) result (spec.ink spot path.now (view value.now)) }
+// Whether an image is linework.
+#[tactic(auto, unfolding(crate::specs::Pages::kind))]
+fn line_in(o: &Object<'_>) -> Result<bool, PlanFault>
+    ensures { Gives (λ b. b) result (inside o.now (required (codes "kind") spec.kind)) }
 {
-    let items = items_within(alloc, 4, if spot { 5 } else { 4 }, path, value)?;
-    let c = nth(alloc, 0, 0, 255, path, items)?;
-    let m = nth(alloc, 1, 0, 255, path, items)?;
-    let y = nth(alloc, 2, 0, 255, path, items)?;
-    let k = nth(alloc, 3, 0, 255, path, items)?;
-    let s = fifth(alloc, path, items)?;
-    Ok([c as u8, m as u8, y as u8, k as u8, s as u8])
-}
-
-#[tactic(auto, unfolding(plan_words::specs::Reading::optional))]
-fn ink_of(o: &Object<'_>, spot: bool) -> Result<[u8; 5], PlanFault>
-    ensures { Gives (λ i. i) result
-        (optional (codes "ink") spec.black (spec.ink spot) o.now.path.now (view o.now.value.now)) }
-{
-    match o.value.get("ink") {
-        Some(value) => ink(o.alloc, spot, o.path_to("ink")?.as_str(), value),
-        None => Ok([0, 0, 0, 255, 0]),
-    }
+    o.required("kind", &Either("contone", "line"))
 }
 
 // Where an image lies on the page, and how large.
 #[tactic(auto, unfolding(crate::specs::Pages::placing))]
 fn placing_in(o: &Object<'_>) -> Result<Placing, PlanFault>
-    ensures { Gives (λ p. p) result (spec.placing o.now.path.now (view o.now.value.now)) }
+    ensures { Gives (λ p. p) result (inside o.now spec.placing) }
 {
-    let x = o.optional_number("x", 0, 0, 65535)? as u32;
-    let y = o.optional_number("y", 0, 0, 65535)? as u32;
-    let scale = o.optional_number("scale", 1, 1, 64)? as u32;
+    let x = o.optional("x", 0, &Number(0, 65535))? as u32;
+    let y = o.optional("y", 0, &Number(0, 65535))? as u32;
+    let scale = o.optional("scale", 1, &Number(1, 64))? as u32;
     Ok(Placing { x, y, scale })
 }
 
 // Which part of an image is painted, and how.
-#[tactic(auto, unfolding(crate::specs::Pages::painting))]
+#[tactic(auto, unfolding(crate::specs::Pages::painting, crate::specs::Pages::paint))]
 fn painting_in(o: &Object<'_>, spot: bool) -> Result<Painting, PlanFault>
-    ensures { Gives (λ p. p) result (spec.painting spot o.now.path.now (view o.now.value.now)) }
+    ensures { Gives (λ p. p) result (inside o.now (spec.painting spot)) }
 {
-    let crop = crop_of(o)?;
-    let mask = mask_of(o)?;
-    let overprint = overprint_of(o)?;
-    let ink = ink_of(o, spot)?;
+    let crop = o.optional("crop", None, &CropReader)?;
+    let mask = o.optional("mask", None, &MaskReader)?;
+    let overprint = o.optional("paint", false, &Either("knockout", "overprint"))?;
+    let ink = o.optional("ink", [0, 0, 0, 255, 0], &InkReader { spot })?;
     Ok(Painting {
         crop,
         mask,
@@ -173,61 +142,49 @@ fn painting_in(o: &Object<'_>, spot: bool) -> Result<Painting, PlanFault>
     })
 }
 
-#[tactic(auto, unfolding(crate::specs::Pages::layer))]
-fn layer<'x>(
-    alloc: Global,
+// Reads a layer of a page.
+#[derive(Drop)]
+struct LayerReader {
     spot: bool,
-    path: &'x str,
-    value: &'x Value,
-) -> Result<NamedLayer, PlanFault>
-    ensures { Gives (λ l. l) result (spec.layer spot path.now (view value.now)) }
-{
-    let o = Object::of(
-        alloc,
-        &[
-            "kind", "file", "x", "y", "scale", "crop", "mask", "paint", "ink",
-        ],
-        path,
-        value,
-    )?;
-    let line = line_of(&o)?;
-    let file = file_of(&o)?;
-    let Placing { x, y, scale } = placing_in(&o)?;
-    let Painting {
-        crop,
-        mask,
-        overprint,
-        ink,
-    } = painting_in(&o, spot)?;
-    Ok(NamedLayer {
-        line,
-        file,
-        x,
-        y,
-        scale,
-        crop,
-        mask,
-        overprint,
-        ink,
-    })
 }
 
-/// The layers of a page.
-#[tactic(auto, unfolding(crate::specs::Pages::layers))]
-pub(crate) fn layers(
-    alloc: Global,
-    spot: bool,
-    path: &str,
-    value: &Value,
-) -> Result<Vec<NamedLayer>, PlanFault>
-    ensures { Gives (λ v. v.items) result (spec.layers spot path.now (view value.now)) }
-{
-    let items = items_within(alloc, 0, 32, path, value)?;
-    let mut all = Vec::new(alloc);
-    for item in items {
-        let place = Place::Item(path, all.len()).path(alloc)?;
-        let one = layer(alloc, spot, place.as_str(), item)?;
-        all.push(one)?;
+impl ItemReader for LayerReader {
+    type Item = NamedLayer;
+
+    ghost reads = { λ layer _. spec.layer layer.spot };
+
+    #[tactic(auto, unfolding(crate::specs::Pages::layer))]
+    fn read_item(&self, _earlier: &[NamedLayer], node: Node<'_>) -> Result<NamedLayer, PlanFault> {
+        let o = node.object(&[
+            "kind", "file", "x", "y", "scale", "crop", "mask", "paint", "ink",
+        ])?;
+        let line = line_in(&o)?;
+        let file = o.required("file", &FileName)?;
+        let at = placing_in(&o)?;
+        let Painting {
+            crop,
+            mask,
+            overprint,
+            ink,
+        } = painting_in(&o, self.spot)?;
+        Ok(NamedLayer {
+            line,
+            file,
+            x: at.x,
+            y: at.y,
+            scale: at.scale,
+            crop,
+            mask,
+            overprint,
+            ink,
+        })
     }
-    Ok(all)
+}
+
+/// The layers of a page: what its key `layers` has.
+#[tactic(auto, unfolding(crate::specs::Pages::layers))]
+pub(crate) fn layers_in(o: &Object<'_>, spot: bool) -> Result<Vec<NamedLayer>, PlanFault>
+    ensures { Gives (λ v. v.items) result (inside o.now (required (codes "layers") (spec.layers spot))) }
+{
+    o.required("layers", &ListOf(0, 32, LayerReader { spot }))
 }

@@ -1,57 +1,67 @@
 // Reading the marks of a plate.
-ghost use Rattle.std.specs.Prelude.{◌≡◌, [], codes};
+ghost use Rattle.std.specs.Prelude.{◌≡◌, List, [], Bool, codes};
 ghost use Rattle.plan_words.specs.Gives.{Gives};
-ghost use Rattle.plan_words.specs.Place.{path_of};
-ghost use Rattle.plan_parts.specs.Printing as spec;
+ghost use Rattle.plan_words.specs.Node.{inside};
 ghost use Rattle.plan_words.specs.Reading.{optional};
-ghost use Rattle.serde_json.specs.View.{view};
+ghost use Rattle.plan_parts.specs.Printing as spec;
 
 use crate::Mark;
-use plan_words::{Object, Place, PlanFault, items_within, text};
-use pr_base::PathText;
-use serde_json::Value;
-use std::alloc::Global;
+use plan_words::{ItemReader, ListOf, Node, Number, Object, PlanFault, Reader};
 
-#[tactic(auto, unfolding(crate::specs::Printing::mark, plan_words::specs::Reading::required))]
-fn mark(
-    alloc: Global,
+// Reads a mark of plates of this width and height, in pixels.
+#[derive(Drop)]
+struct MarkReader {
     spot: bool,
     width: u32,
     height: u32,
-    path: &str,
-    value: &Value,
-) -> Result<Mark, PlanFault>
-    ensures { Gives (λ m. m) result (spec.mark spot width height path.now (view value.now)) }
-{
-    let o = Object::of(alloc, &["inks", "x", "y", "w", "h"], path, value)?;
-    let inks = mark_inks(alloc, spot, o.place("inks"), o.required("inks")?)?;
-    let x = o.number("x", 0, 65535)? as u32;
-    let y = o.number("y", 0, 65535)? as u32;
-    let w = o.number("w", 1, 65535)? as u32;
-    let h = o.number("h", 1, 65535)? as u32;
-    if x + w > width || y + h > height {
-        return Err(PlanFault::Range(PathText::of(alloc, path)?));
-    }
-    Ok(Mark { inks, x, y, w, h })
 }
 
-#[tactic(auto, unfolding(crate::specs::Printing::mark_inks))]
-fn mark_inks(
-    alloc: Global,
-    spot: bool,
-    place: Place<'_>,
-    value: &Value,
-) -> Result<[bool; 5], PlanFault>
-    ensures { Gives (λ inks. inks) result (spec.mark_inks spot (path_of place.entry) (view value.now)) }
-{
-    let s = text(alloc, place, value)?;
-    let Some(inks) = flags_in(s.as_bytes()) else {
-        return Err(PlanFault::Range(place.path(alloc)?));
-    };
-    if !may_have(spot, &inks) {
-        return Err(PlanFault::Range(place.path(alloc)?));
+impl ItemReader for MarkReader {
+    type Item = Mark;
+
+    ghost reads = { λ plate _. spec.mark plate.spot plate.width plate.height };
+
+    #[tactic(auto, unfolding(crate::specs::Printing::mark))]
+    fn read_item(&self, _earlier: &[Mark], node: Node<'_>) -> Result<Mark, PlanFault> {
+        let o = node.object(&["inks", "x", "y", "w", "h"])?;
+        let inks = o.required("inks", &MarkInksReader { spot: self.spot })?;
+        let x = o.required("x", &Number(0, 65535))? as u32;
+        let y = o.required("y", &Number(0, 65535))? as u32;
+        let w = o.required("w", &Number(1, 65535))? as u32;
+        let h = o.required("h", &Number(1, 65535))? as u32;
+        if x + w > self.width || y + h > self.height {
+            return Err(PlanFault::Range(node.path()?));
+        }
+        Ok(Mark { inks, x, y, w, h })
     }
-    Ok(inks)
+}
+
+// Reads which inks a mark has.
+#[derive(Drop)]
+struct MarkInksReader {
+    spot: bool,
+}
+
+impl Reader for MarkInksReader {
+    type Out = [bool; 5];
+
+    ghost Seen = { List Bool };
+
+    ghost seen = { λ inks. inks };
+
+    ghost reads = { λ inks. spec.mark_inks inks.spot };
+
+    #[tactic(auto, unfolding(crate::specs::Printing::mark_inks))]
+    fn read(&self, node: Node<'_>) -> Result<[bool; 5], PlanFault> {
+        let s = node.text()?;
+        let Some(inks) = flags_in(s.as_bytes()) else {
+            return Err(PlanFault::Range(node.path()?));
+        };
+        if !may_have(self.spot, &inks) {
+            return Err(PlanFault::Range(node.path()?));
+        }
+        Ok(inks)
+    }
 }
 
 fn may_have(spot: bool, inks: &[bool; 5]) -> bool
@@ -86,44 +96,18 @@ fn taken(letter: u8, s: &[u8]) -> (bool, &[u8])
     }
 }
 
-#[tactic(auto, unfolding(crate::specs::Printing::marks))]
-fn marks(
-    alloc: Global,
-    spot: bool,
-    width: u32,
-    height: u32,
-    path: &str,
-    value: &Value,
-) -> Result<Vec<Mark>, PlanFault>
-    ensures { Gives (λ v. v.items) result (spec.marks spot width height path.now (view value.now)) }
-{
-    let items = items_within(alloc, 0, 64, path, value)?;
-    let mut all = Vec::new(alloc);
-    for item in items {
-        let place = Place::Item(path, all.len()).path(alloc)?;
-        let one = mark(alloc, spot, width, height, place.as_str(), item)?;
-        all.push(one)?;
-    }
-    Ok(all)
-}
-
 /// The marks of a plan whose plates have this width and height, in pixels: what the key `marks` of its
 /// top object has, or none where the key is absent. The first fault is refused, as that a mark lies
 /// outside the plate.
-#[tactic(auto, unfolding(plan_words::specs::Reading::optional))]
+#[tactic(auto, unfolding(crate::specs::Printing::marks))]
 pub fn marks_in(o: &Object<'_>, spot: bool, width: u32, height: u32) -> Result<Vec<Mark>, PlanFault>
     ensures { Gives (λ v. v.items) result
-        (optional (codes "marks") [] (spec.marks spot width height) o.now.path.now (view o.now.value.now)) }
+        (inside o.now (optional (codes "marks") [] (spec.marks spot width height))) }
 {
-    match o.value.get("marks") {
-        Some(value) => marks(
-            o.alloc,
-            spot,
-            width,
-            height,
-            o.path_to("marks")?.as_str(),
-            value,
-        ),
-        None => Ok(Vec::new(o.alloc)),
-    }
+    let item = MarkReader {
+        spot,
+        width,
+        height,
+    };
+    o.optional("marks", Vec::new(o.alloc), &ListOf(0, 64, item))
 }

@@ -1,4 +1,4 @@
 pub mod Texts
 pub mod Places
-pub mod Items
+pub mod Lists
 pub mod Sound

@@ -3,3 +3,4 @@ pub mod Forms
 pub mod Reading
 pub mod Gives
 pub mod Place
+pub mod Node

@@ -1,18 +1,14 @@
 // Names: of the form, new in their list, or defined in another.
-ghost use Rattle.std.specs.Prelude.{◌≡◌, ◌<◌, List, ℕ, IfOk, IfSome, map, length};
+ghost use Rattle.std.specs.Prelude.{◌≡◌, ◌<◌, List, ℕ, IfSome, map, length};
 ghost use Rattle.plan_words.specs.Gives.{Gives};
-ghost use Rattle.plan_words.specs.Place.{path_of};
+ghost use Rattle.plan_words.specs.Node.{at};
 ghost use Rattle.plan_words.specs.Reading as spec;
 ghost use Rattle.std.specs.List.{position};
 ghost use Rattle.std.specs.Str.{bytes_eq};
-ghost use Rattle.serde_json.specs.View.{view};
 
-use crate::place::Place;
-use crate::words::text;
+use crate::node::{ItemReader, Node, Reader};
 use crate::{PlanFault, forms};
 use pr_base::PathText;
-use serde_json::Value;
-use std::alloc::Global;
 
 /// An item that has a name in its list.
 pub trait Named {
@@ -23,69 +19,119 @@ pub trait Named {
         ensures { result.now ≡ named self.now };
 }
 
-/// A name: a text of 1 to 16 letters, digits and `_`. Another text is refused as out of its range.
-#[tactic(auto, unfolding(crate::specs::Reading::name))]
-pub fn name<'v>(alloc: Global, place: Place<'_>, value: &'v Value) -> Result<&'v str, PlanFault>
-    ensures { Gives (λ s. s.now) result (spec.name (path_of place.entry) (view value.now)) }
-{
-    let s = text(alloc, place, value)?;
-    if !forms::is_name(s) {
-        return Err(PlanFault::Range(place.path(alloc)?));
+impl<'a> Node<'a> {
+    // A name: a text of 1 to 16 letters, digits and `_`.
+    #[tactic(auto, unfolding(crate::specs::Reading::name))]
+    fn name(self) -> Result<&'a str, PlanFault>
+        ensures { Gives (λ s. s.now) result (at self.entry spec.name) }
+    {
+        let s = self.text()?;
+        if !forms::is_name(s) {
+            return Err(PlanFault::Range(self.path()?));
+        }
+        Ok(s)
     }
-    Ok(s)
 }
 
-/// The name of a file: a text of 1 to 255 bytes without control codes, whose parts between `/` are
+/// Reads a name: a text of 1 to 16 letters, digits and `_`. Another text is refused as out of its range.
+#[derive(Drop)]
+pub struct Name;
+
+impl Reader for Name {
+    type Out = PathText;
+
+    ghost Seen = { List ℕ };
+
+    ghost seen = { λ s. s };
+
+    ghost reads = { λ _. spec.name };
+
+    fn read(&self, node: Node<'_>) -> Result<PathText, PlanFault> {
+        let s = node.name()?;
+        Ok(PathText::of(node.alloc, s)?)
+    }
+}
+
+/// Reads the name of a file: a text of 1 to 255 bytes without control codes, whose parts between `/` are
 /// neither empty nor `.` nor `..`. Another text is refused as out of its range.
-#[tactic(auto, unfolding(crate::specs::Reading::file_name))]
-pub fn file_name<'v>(
-    alloc: Global,
-    place: Place<'_>,
-    value: &'v Value,
-) -> Result<&'v str, PlanFault>
-    ensures { Gives (λ s. s.now) result (spec.file_name (path_of place.entry) (view value.now)) }
-{
-    let s = text(alloc, place, value)?;
-    if !forms::is_file_name(s) {
-        return Err(PlanFault::Range(place.path(alloc)?));
+#[derive(Drop)]
+pub struct FileName;
+
+impl Reader for FileName {
+    type Out = PathText;
+
+    ghost Seen = { List ℕ };
+
+    ghost seen = { λ s. s };
+
+    ghost reads = { λ _. spec.file_name };
+
+    #[tactic(auto, unfolding(crate::specs::Reading::file_name))]
+    fn read(&self, node: Node<'_>) -> Result<PathText, PlanFault> {
+        let s = node.text()?;
+        if !forms::is_file_name(s) {
+            return Err(PlanFault::Range(node.path()?));
+        }
+        Ok(PathText::of(node.alloc, s)?)
     }
-    Ok(s)
 }
 
-/// A name that none of the earlier items has. One that an item has is refused as a repeat.
-#[tactic(auto, unfolding(crate::specs::Reading::new_name))]
-pub fn new_name<T: Named>(
-    alloc: Global,
-    earlier: &[T],
-    place: Place<'_>,
-    value: &Value,
-) -> Result<PathText, PlanFault>
-    ensures { Gives (λ s. s) result
-        (spec.new_name (map T.named earlier.now) (path_of place.entry) (view value.now)) }
-{
-    let s = name(alloc, place, value)?;
-    if index_of(earlier, s).is_some() {
-        return Err(PlanFault::Repeat(place.path(alloc)?));
+/// Reads a name that none of these earlier items has. One that an item has is refused as a repeat.
+#[derive(Drop)]
+pub struct NewName<'x, T>(pub &'x [T]);
+
+impl<T: Named> Reader for NewName<'_, T> {
+    type Out = PathText;
+
+    ghost Seen = { List ℕ };
+
+    ghost seen = { λ s. s };
+
+    ghost reads = { λ earlier. spec.new_name (map T.named earlier.0.now) };
+
+    #[tactic(auto, unfolding(crate::specs::Reading::new_name))]
+    fn read(&self, node: Node<'_>) -> Result<PathText, PlanFault> {
+        let s = node.name()?;
+        if index_of(self.0, s).is_some() {
+            return Err(PlanFault::Repeat(node.path()?));
+        }
+        Ok(PathText::of(node.alloc, s)?)
     }
-    Ok(PathText::of(alloc, s)?)
 }
 
-/// The index, from 0, of the item that is named so. A name that none of the items has is refused as unknown.
-#[tactic(auto, unfolding(crate::specs::Reading::defined))]
-pub fn defined<T: Named>(
-    alloc: Global,
-    items: &[T],
-    place: Place<'_>,
-    value: &Value,
-) -> Result<usize, PlanFault>
-    ensures value { Gives (λ i. i) result
-        (spec.defined (map T.named items.now) (path_of place.entry) (view value.now)) }
-    ensures within { IfOk result (λ i. i < length items.now) }
-{
-    let s = name(alloc, place, value)?;
-    match index_of(items, s) {
-        Some(i) => Ok(i),
-        None => Err(PlanFault::Unknown(place.path(alloc)?)),
+/// Reads the name of one of these items, and gives the item's index, from 0. A name that none of them has
+/// is refused as unknown.
+#[derive(Drop)]
+pub struct Defined<'x, T>(pub &'x [T]);
+
+impl<T: Named> Reader for Defined<'_, T> {
+    type Out = usize;
+
+    ghost Seen = { ℕ };
+
+    ghost seen = { λ i. i };
+
+    ghost reads = { λ items. spec.defined (map T.named items.0.now) };
+
+    ghost keeps = { λ items i. i < length items.0.now };
+
+    #[tactic(auto, unfolding(crate::specs::Reading::defined))]
+    fn read(&self, node: Node<'_>) -> Result<usize, PlanFault> {
+        let s = node.name()?;
+        match index_of(self.0, s) {
+            Some(i) => Ok(i),
+            None => Err(PlanFault::Unknown(node.path()?)),
+        }
+    }
+}
+
+impl<T: Named> ItemReader for Defined<'_, T> {
+    type Item = usize;
+
+    ghost reads = { λ items _. spec.defined (map T.named items.0.now) };
+
+    fn read_item(&self, _earlier: &[usize], node: Node<'_>) -> Result<usize, PlanFault> {
+        self.read(node)
     }
 }
 

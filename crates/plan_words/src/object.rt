@@ -1,130 +1,123 @@
 // An object that has no unknown keys, and what its keys have.
-ghost use Rattle.std.specs.Prelude.{◌≡◌, ◌≤◌, IfOk, not, map, option_map, string_bytes};
+ghost use Rattle.std.specs.Prelude.{◌≡◌, IfOk, IfSome, not, map, option_map, string_bytes};
 ghost use Rattle.std.specs.List.{find, list_any};
 ghost use Rattle.std.specs.Str.{bytes_eq};
 ghost use Rattle.std.specs.BTreeMap.{keys as keys_of};
 ghost use Rattle.plan_words.specs.Gives.{Gives};
+ghost use Rattle.plan_words.specs.Node.{at, inside};
 ghost use Rattle.plan_words.specs.Reading.{ink_keys};
 ghost use Rattle.plan_words.specs.Place.{path_of};
 ghost use Rattle.plan_words.specs.Reading as spec;
-ghost use Rattle.plan_words.specs.declared.fault.PlanFault.TheVariants.{Missing};
 ghost use Rattle.serde_json.specs.Find.{get};
 ghost use Rattle.serde_json.specs.View.{view, members_view};
 
+use crate::PlanFault;
+use crate::node::{Node, Reader};
 use crate::place::Place;
-use crate::{PlanFault, names, words};
 use pr_base::{NoMemory, PathText};
 use serde_json::{Map, Value};
 use std::alloc::Global;
 
 /// An object at a path, whose keys were tested.
-#[derive(Clone, Copy)]
+#[derive(Drop)]
 pub struct Object<'a> {
     /// Where the texts of faults are made.
     pub alloc: Global,
     /// The path to the object.
-    pub path: &'a str,
+    pub path: PathText,
     pub value: &'a Value,
 }
 
-impl<'a> Object<'a> {
-    /// The object that stands at a path, and has no other keys than these. Another value is refused by
-    /// its kind, and the first other key in byte order as unknown.
+impl<'a> Node<'a> {
+    /// The object that the value is, which has no other keys than these. Another value is refused by its
+    /// kind, and the first other key in byte order as unknown.
     #[tactic(auto, unfolding(crate::specs::Reading::object_with))]
-    pub fn of(
-        alloc: Global,
-        keys: &[&str],
-        path: &'a str,
-        value: &'a Value,
-    ) -> Result<Object<'a>, PlanFault>
+    pub fn object(self, keys: &[&str]) -> Result<Object<'a>, PlanFault>
         ensures value { Gives (λ o. view o.value.now) result
-            (spec.object_with (map (λ key. key.now) keys.now) path.now (view value.now)) }
-        ensures path { IfOk result (λ o. o.path.now ≡ path.now) }
+            (at self.entry (spec.object_with (map (λ key. key.now) keys.now))) }
+        ensures path { IfOk result (λ o. o.path ≡ path_of self.entry.place) }
     {
-        let Value::Object(members) = value else {
-            return Err(PlanFault::Kind(PathText::of(alloc, path)?));
+        let path = self.path()?;
+        let Value::Object(members) = self.value else {
+            return Err(PlanFault::Kind(path));
         };
         if let Some(key) = first_unknown(keys, members) {
-            return Err(PlanFault::Unknown(Place::Key(path, key).path(alloc)?));
+            let unknown = Place::Key(path.as_str(), key).path(self.alloc)?;
+            return Err(PlanFault::Unknown(unknown));
         }
-        Ok(Object { alloc, path, value })
+        Ok(Object {
+            alloc: self.alloc,
+            path,
+            value: self.value,
+        })
     }
 
     /// The object whose keys are inks: C, M, Y, K and, where there is a spot ink, S. It is refused as in
-    /// `of`.
-    pub fn of_inks(
-        alloc: Global,
-        spot: bool,
-        path: &'a str,
-        value: &'a Value,
-    ) -> Result<Object<'a>, PlanFault>
+    /// `object`.
+    pub fn ink_object(self, spot: bool) -> Result<Object<'a>, PlanFault>
         ensures value { Gives (λ o. view o.value.now) result
-            (spec.object_with (ink_keys spot) path.now (view value.now)) }
-        ensures path { IfOk result (λ o. o.path.now ≡ path.now) }
+            (at self.entry (spec.object_with (ink_keys spot))) }
+        ensures path { IfOk result (λ o. o.path ≡ path_of self.entry.place) }
     {
         if spot {
-            Object::of(alloc, &["C", "M", "Y", "K", "S"], path, value)
+            self.object(&["C", "M", "Y", "K", "S"])
         } else {
-            Object::of(alloc, &["C", "M", "Y", "K"], path, value)
+            self.object(&["C", "M", "Y", "K"])
         }
     }
+}
 
-    /// The place of a key.
-    pub fn place<'k>(&self, key: &'k str) -> Place<'k>
-    where
-        'a: 'k,
-        ensures { path_of result ≡ spec.at_key self.now.path.now key.now }
-    {
-        Place::Key(self.path, key)
-    }
-
+impl Object<'_> {
     /// The path of a key.
     pub fn path_to(&self, key: &str) -> Result<PathText, NoMemory>
-        ensures { IfOk result (λ path. path ≡ spec.at_key self.now.path.now key.now) }
+        ensures { IfOk result (λ path. path ≡ spec.at_key self.now.path key.now) }
     {
-        self.place(key).path(self.alloc)
+        Place::Key(self.path.as_str(), key).path(self.alloc)
     }
 
-    /// What a required key has. A key that is absent is refused as missing.
-    pub fn required(&self, key: &str) -> Result<&'a Value, PlanFault>
-        ensures { Gives (λ value. view value.now) result
-            (spec.some_or (Missing (spec.at_key self.now.path.now key.now))
-            (get key.now (view self.now.value.now))) }
+    // What a key has, if it is there.
+    fn get<'k>(&'k self, key: &'k str) -> Option<Node<'k>>
+        ensures value { option_map (λ node. view node.value.now) result
+            ≡ get key.now (view self.now.value.now) }
+        ensures place { IfSome result (λ node. path_of node.place ≡ spec.at_key self.now.path key.now) }
     {
         match self.value.get(key) {
-            Some(value) => Ok(value),
-            None => Err(PlanFault::Missing(self.place(key).path(self.alloc)?)),
+            Some(value) => Some(Node {
+                alloc: self.alloc,
+                place: Place::Key(self.path.as_str(), key),
+                value,
+            }),
+            None => None,
         }
     }
 
-    /// The number from `low` to `high` of a required key.
+    /// What is read from a required key. A key that is absent is refused as missing.
     #[tactic(auto, unfolding(crate::specs::Reading::required))]
-    pub fn number(&self, key: &str, low: u64, high: u64) -> Result<u64, PlanFault>
-        ensures value { Gives (λ n. n) result
-            (spec.required key.now (spec.number low high) self.now.path.now (view self.now.value.now)) }
-        ensures most { IfOk result (λ n. n ≤ high) }
+    pub fn required<R: Reader>(&self, key: &str, read: &R) -> Result<R::Out, PlanFault>
+        ensures value { Gives R.seen result (inside self.now (spec.required key.now (R.reads read.now))) }
+        ensures kept { IfOk result (R.keeps read.now) }
     {
-        let value = self.required(key)?;
-        words::number(self.alloc, low, high, self.place(key), value)
+        match self.get(key) {
+            Some(node) => read.read(node),
+            None => Err(PlanFault::Missing(self.path_to(key)?)),
+        }
     }
 
-    /// The number from `low` to `high` of a key, or `absent` where the key is absent.
+    /// What is read from a key, or `absent` where the key is absent.
     #[tactic(auto, unfolding(crate::specs::Reading::optional))]
-    pub fn optional_number(
+    pub fn optional<R: Reader>(
         &self,
         key: &str,
-        absent: u64,
-        low: u64,
-        high: u64,
-    ) -> Result<u64, PlanFault>
-        requires { absent ≤ high }
-        ensures value { Gives (λ n. n) result
-            (spec.optional key.now absent (spec.number low high)
-            self.now.path.now (view self.now.value.now)) }
-        ensures most { IfOk result (λ n. n ≤ high) }
+        absent: R::Out,
+        read: &R,
+    ) -> Result<R::Out, PlanFault>
+        requires { R.keeps read.now absent }
+        ensures value { Gives R.seen result
+            (inside self.now (spec.optional key.now (R.seen absent) (R.reads read.now))) }
+        ensures kept { IfOk result (R.keeps read.now) }
     {
-        match self.value.get(key) {
-            Some(value) => words::number(self.alloc, low, high, self.place(key), value),
+        match self.get(key) {
+            Some(node) => read.read(node),
             None => Ok(absent),
         }
     }

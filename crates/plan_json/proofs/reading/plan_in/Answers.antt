@@ -11,8 +11,8 @@ returns-in_err-o c =
 pub returns-in_err-number : goal.returns-in_err-number
 returns-in_err-number c =
     let p = err_from_is_err_and c.from_residual-in_err-number.result c.from_residual-in_err-number.ensures.1 in
-    rw (p.1, p.2) (in_number (view c.args.value.now) (view c.in_ok-o.o.value.now) c.in_ok-o.o.path.now _ c.in_ok-o.ensures.path c.in_ok-o.ensures.value c.in_err-number.ensures.value)
+    rw (p.1, p.2) (in_number (view c.args.value.now) (view c.in_ok-o.o.value.now) c.in_ok-o.o.path _ c.in_ok-o.ensures.path c.in_ok-o.ensures.value c.in_err-number.ensures.value)
 
 pub returns : goal.returns
 returns c =
-    rw (in_plan (view c.args.value.now) (view c.in_ok-o.o.value.now) c.in_ok-o.o.path.now c.in_ok-number.number c.in_ok-o.ensures.path c.in_ok-o.ensures.value c.in_ok-number.ensures.value) c.plan_by.ensures
+    rw (in_plan (view c.args.value.now) (view c.in_ok-o.o.value.now) c.in_ok-o.o.path c.in_ok-number.number c.in_ok-o.ensures.path c.in_ok-o.ensures.value c.in_ok-number.ensures.value) c.plan_by.ensures

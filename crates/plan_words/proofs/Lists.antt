@@ -1,11 +1,12 @@
 -- The items of a list, one at a time.
-use Rattle.std.proofs.Common.{◌≡◌, ℕ, suc, ◌+◌, ◌<◌, ◌≤◌, List, [], ◌∷◌, ◌++◌, length, get_or, drop, Ok, refl, sym, ap, subst, ◌∙◌, drop-cons, add-one}
+use Rattle.std.proofs.Common.{◌≡◌, ℕ, suc, ◌+◌, ◌<◌, ◌≤◌, List, [], ◌∷◌, ◌++◌, length, get_or, drop, Ok, refl, sym, ap, subst, ◌∙◌, drop-cons, add-one, arith}
 use Rattle.std.proofs.Math.ListN.{drop_of_length-le}
 use Rattle.serde_json.specs.View.{view, items_view}
 use Rattle.serde_json.specs.declared.value.Value.{Value}
 use Rattle.plan_words.specs.declared.fault.PlanFault.{PlanFault}
 use Rattle.plan_words.specs.declared.fault.PlanFault.TheVariants.{Missing, Kind, Range, Unknown, Repeat, Memory, NotJson}
 use Rattle.plan_words.specs.Gives.{Fails}
+use Rattle.plan_words.proofs.Sound.{each_keeps}
 use Rattle.plan_words.specs.Reading.{Read, Reader, ◌>>=◌, at_item, count_of, each_after}
 
 pub count_view : (vs : List Value) → count_of (items_view vs) ≡ length vs
@@ -43,3 +44,7 @@ module _ {A : Type 0} (read : List A → Reader A) (path : List ℕ) (vs : List 
   pub each-done : (xs : List A) (i : ℕ) → length vs ≤ i → Reads xs i → total ≡ Ok xs
   unfolding each_after
   each-done xs i all h = sym h ∙ ap (λ ws. each_after xs read path (items_view ws)) (drop_of_length-le vs all)
+
+-- so many are read as there are items
+pub each-count : {A : Type 0} (read : List A → Reader A) (path : List ℕ) (vs : List Value) (xs : List A) → each_after [] read path (items_view vs) ≡ Ok xs → length xs ≡ length vs
+each-count read path vs xs e = omega (arith, (each_keeps read (λ _. Unit {0}) (λ _ _ _ _ _ _. tt) [] path (items_view vs) xs tt e).1, count_view vs)
