@@ -1,5 +1,5 @@
 // The first keys of a plan: its edition, its resolution, and the sides of pages and plates.
-ghost use Rattle.std.specs.Prelude.{◌≡◌, ◌≤◌, List, ℕ, IfOk};
+ghost use Rattle.std.specs.Prelude.{◌≡◌, ◌≤◌, IfOk};
 ghost use Rattle.plan_json.specs.Data.{width_over, height_over};
 ghost use Rattle.plan_words.specs.Gives.{Gives};
 ghost use Rattle.plan_words.specs.Node.{inside};
@@ -27,10 +27,6 @@ struct PageSizeReader;
 impl Reader for PageSizeReader {
     type Out = (u32, u32);
 
-    ghost Seen = { ℕ × ℕ };
-
-    ghost seen = { λ p. p };
-
     ghost reads = { λ _. spec.page_size };
 
     #[tactic(auto, unfolding(crate::specs::PlanOf::page_size))]
@@ -48,10 +44,6 @@ struct MarginsReader;
 
 impl Reader for MarginsReader {
     type Out = [u32; 4];
-
-    ghost Seen = { List ℕ };
-
-    ghost seen = { λ m. m };
 
     ghost reads = { λ _. spec.margins };
 

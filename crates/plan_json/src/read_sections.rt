@@ -19,9 +19,7 @@ struct SectionPagesReader<'x> {
 impl Reader for SectionPagesReader<'_> {
     type Out = Vec<usize>;
 
-    ghost Seen = { List ℕ };
-
-    ghost seen = { λ v. v.items };
+    ghost shows = { record { Seen = List ℕ; seen = λ v. v.items } };
 
     ghost reads = { λ section. spec.section_pages (page_names section.pages.now) };
 

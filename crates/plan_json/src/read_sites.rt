@@ -1,5 +1,5 @@
 // Reading the print sites of a plan.
-ghost use Rattle.std.specs.Prelude.{Option, ℕ, codes};
+ghost use Rattle.std.specs.Prelude.{codes};
 ghost use Rattle.plan_words.specs.Gives.{Gives};
 ghost use Rattle.plan_words.specs.Node.{inside};
 ghost use Rattle.plan_words.specs.Reading.{required};
@@ -16,10 +16,6 @@ struct SiteZoneReader<'x> {
 
 impl Reader for SiteZoneReader<'_> {
     type Out = Option<usize>;
-
-    ghost Seen = { Option ℕ };
-
-    ghost seen = { λ z. z };
 
     ghost reads = { λ site. spec.site_zone (spec.zone_names site.zones.now) };
 

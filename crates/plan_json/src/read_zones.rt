@@ -1,5 +1,5 @@
 // Reading the zones of a plan.
-ghost use Rattle.std.specs.Prelude.{◌≡◌, ◌≤◌, ◌<◌, ℕ, [], length, codes};
+ghost use Rattle.std.specs.Prelude.{◌≡◌, ◌≤◌, ◌<◌, [], length, codes};
 ghost use Rattle.std.specs.List.{list_any};
 ghost use Rattle.plan_parts.specs.Pages.{page_names};
 ghost use Rattle.plan_words.specs.Gives.{Gives};
@@ -21,10 +21,6 @@ struct NewPageReader<'x> {
 
 impl Reader for NewPageReader<'_> {
     type Out = u64;
-
-    ghost Seen = { ℕ };
-
-    ghost seen = { λ n. n };
 
     ghost reads = { λ page. spec.new_page page.earlier.now page.section page.count };
 

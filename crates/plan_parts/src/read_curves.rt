@@ -1,9 +1,8 @@
 // Reading tone curves, one for each ink.
-ghost use Rattle.std.specs.Prelude.{◌≡◌, List, IfOk, codes};
+ghost use Rattle.std.specs.Prelude.{◌≡◌, IfOk, codes};
 ghost use Rattle.plan_words.specs.Gives.{Gives};
 ghost use Rattle.plan_words.specs.Node.{inside};
 ghost use Rattle.plan_words.specs.Reading.{optional};
-ghost use Rattle.plan_parts.specs.Data.{CurveData};
 ghost use Rattle.plan_parts.specs.Printing as spec;
 
 use crate::PlanCurve;
@@ -57,10 +56,6 @@ struct CurveReader;
 impl Reader for CurveReader {
     type Out = PlanCurve;
 
-    ghost Seen = { CurveData };
-
-    ghost seen = { λ c. c };
-
     ghost reads = { λ _. spec.curve };
 
     #[tactic(auto, unfolding(crate::specs::Printing::curve, crate::specs::Printing::points))]
@@ -101,10 +96,6 @@ struct CurvesReader {
 
 impl Reader for CurvesReader {
     type Out = [PlanCurve; 5];
-
-    ghost Seen = { List CurveData };
-
-    ghost seen = { λ c. c };
 
     ghost reads = { λ curves. spec.curves curves.spot };
 

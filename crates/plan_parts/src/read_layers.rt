@@ -1,5 +1,5 @@
 // Reading the layers of a page.
-ghost use Rattle.std.specs.Prelude.{◌≡◌, List, ℕ, Bool, Option, codes};
+ghost use Rattle.std.specs.Prelude.{◌≡◌, codes};
 ghost use Rattle.plan_words.specs.Gives.{Gives};
 ghost use Rattle.plan_words.specs.Node.{inside};
 ghost use Rattle.plan_words.specs.Reading.{required};
@@ -15,10 +15,6 @@ struct Either<'x>(&'x str, &'x str);
 
 impl Reader for Either<'_> {
     type Out = bool;
-
-    ghost Seen = { Bool };
-
-    ghost seen = { λ b. b };
 
     ghost reads = { λ texts. spec.either texts.0.now texts.1.now };
 
@@ -42,10 +38,6 @@ struct CropReader;
 impl Reader for CropReader {
     type Out = Option<[u32; 4]>;
 
-    ghost Seen = { Option (List ℕ) };
-
-    ghost seen = { λ c. c };
-
     ghost reads = { λ _. spec.crop };
 
     #[tactic(auto, unfolding(crate::specs::Pages::crop))]
@@ -66,10 +58,6 @@ struct MaskReader;
 impl Reader for MaskReader {
     type Out = Option<PathText>;
 
-    ghost Seen = { Option (List ℕ) };
-
-    ghost seen = { λ m. m };
-
     ghost reads = { λ _. spec.mask };
 
     #[tactic(auto, unfolding(crate::specs::Pages::mask))]
@@ -86,10 +74,6 @@ struct InkReader {
 
 impl Reader for InkReader {
     type Out = [u8; 5];
-
-    ghost Seen = { List ℕ };
-
-    ghost seen = { λ i. i };
 
     ghost reads = { λ ink. spec.ink ink.spot };
 

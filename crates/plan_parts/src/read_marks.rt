@@ -1,5 +1,5 @@
 // Reading the marks of a plate.
-ghost use Rattle.std.specs.Prelude.{◌≡◌, List, [], Bool, codes};
+ghost use Rattle.std.specs.Prelude.{◌≡◌, [], codes};
 ghost use Rattle.plan_words.specs.Gives.{Gives};
 ghost use Rattle.plan_words.specs.Node.{inside};
 ghost use Rattle.plan_words.specs.Reading.{optional};
@@ -44,10 +44,6 @@ struct MarkInksReader {
 
 impl Reader for MarkInksReader {
     type Out = [bool; 5];
-
-    ghost Seen = { List Bool };
-
-    ghost seen = { λ inks. inks };
 
     ghost reads = { λ inks. spec.mark_inks inks.spot };
 

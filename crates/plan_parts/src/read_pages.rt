@@ -1,5 +1,5 @@
 // Reading pages.
-ghost use Rattle.std.specs.Prelude.{Bool, codes};
+ghost use Rattle.std.specs.Prelude.{codes};
 ghost use Rattle.plan_words.specs.Gives.{Gives};
 ghost use Rattle.plan_words.specs.Node.{at, inside};
 ghost use Rattle.plan_words.specs.Reading.{required};
@@ -37,10 +37,6 @@ struct PageInksReader {
 
 impl Reader for PageInksReader {
     type Out = (bool, bool);
-
-    ghost Seen = { Bool × Bool };
-
-    ghost seen = { λ i. i };
 
     ghost reads = { λ inks. spec.page_inks inks.spot };
 

@@ -1,11 +1,10 @@
 // Reading threshold tiles, and the screen of each ink.
-ghost use Rattle.std.specs.Prelude.{◌≡◌, List, [], Some, None, option_map, drop, nat_eq, if◌then◌else◌, codes};
+ghost use Rattle.std.specs.Prelude.{◌≡◌, [], Some, None, option_map, drop, nat_eq, if◌then◌else◌, codes};
 ghost use Rattle.std.specs.List.{starts_with};
 ghost use Rattle.plan_words.specs.Gives.{Gives};
 ghost use Rattle.plan_words.specs.Node.{at, inside};
 ghost use Rattle.plan_parts.specs.Printing as spec;
 ghost use Rattle.plan_words.specs.Reading.{number, optional};
-ghost use Rattle.plan_parts.specs.declared.printing.Screen.{Screen as ScreenData};
 
 use crate::{PlanTile, Screen};
 use plan_words::{ItemReader, ListOf, NewName, Node, Number, Object, PlanFault, Reader, index_of};
@@ -108,10 +107,6 @@ struct ScreenReader<'x> {
 impl Reader for ScreenReader<'_> {
     type Out = Screen;
 
-    ghost Seen = { ScreenData };
-
-    ghost seen = { λ s. s };
-
     ghost reads = { λ screen. spec.screen (spec.tile_names screen.tiles.now) };
 
     #[tactic(auto, unfolding(crate::specs::Printing::screen))]
@@ -130,10 +125,6 @@ struct ScreensReader<'x> {
 
 impl Reader for ScreensReader<'_> {
     type Out = [Screen; 5];
-
-    ghost Seen = { List ScreenData };
-
-    ghost seen = { λ s. s };
 
     ghost reads = { λ screens. spec.screens screens.spot screens.tiles.now };
 

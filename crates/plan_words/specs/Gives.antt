@@ -17,3 +17,12 @@ Fails (Repeat path) read = read ≡ Err (Repeat path)
 abbrev pub Gives : {A B : Type 0} → (A → B) → Result A PlanFault → Read B → Type 0
 Gives view (Ok x) read = read ≡ Ok (view x)
 Gives view (Err fault) read = Fails fault read
+
+-- how contracts see what a reader of the code gives
+pub record View (A : Type 0) : Type 1 where
+  pub Seen : Type 0
+  pub seen : A → Seen
+
+-- as it is
+abbrev pub itself : {A : Type 0} → View A
+itself {A} = record { Seen = A; seen = λ x. x }

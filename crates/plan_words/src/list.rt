@@ -87,7 +87,7 @@ impl Items<'_> {
     /// What is read from the item at an index, from 0. Where there is no such item, it is refused as missing.
     #[tactic(auto, unfolding(crate::specs::Reading::nth))]
     pub fn required<R: Reader>(&self, i: usize, read: &R) -> Result<R::Out, PlanFault>
-        ensures value { Gives R.seen result (among self.now (spec.nth i (R.reads read.now))) }
+        ensures value { Gives R.shows.seen result (among self.now (spec.nth i (R.reads read.now))) }
         ensures kept { IfOk result (R.keeps read.now) }
     {
         match self.get(i) {
@@ -107,8 +107,8 @@ impl Items<'_> {
         read: &R,
     ) -> Result<R::Out, PlanFault>
         requires { R.keeps read.now absent }
-        ensures value { Gives R.seen result (among self.now
-            (λ path items. spec.optional_in (R.seen absent) (R.reads read.now)
+        ensures value { Gives R.shows.seen result (among self.now
+            (λ path items. spec.optional_in (R.shows.seen absent) (R.reads read.now)
             (spec.at_item path i) (get_item i items))) }
         ensures kept { IfOk result (R.keeps read.now) }
     {
@@ -145,9 +145,7 @@ pub struct ListOf<I>(pub usize, pub usize, pub I);
 impl<I: ItemReader> Reader for ListOf<I> {
     type Out = Vec<I::Item>;
 
-    ghost Seen = { List I.Item };
-
-    ghost seen = { λ all. all.items };
+    ghost shows = { record { Seen = List I.Item; seen = λ all. all.items } };
 
     ghost reads = { λ list. spec.list_of list.0 list.1 (I.reads list.2) };
 

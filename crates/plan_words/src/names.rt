@@ -40,10 +40,6 @@ pub struct Name;
 impl Reader for Name {
     type Out = PathText;
 
-    ghost Seen = { List ℕ };
-
-    ghost seen = { λ s. s };
-
     ghost reads = { λ _. spec.name };
 
     fn read(&self, node: Node<'_>) -> Result<PathText, PlanFault> {
@@ -59,10 +55,6 @@ pub struct FileName;
 
 impl Reader for FileName {
     type Out = PathText;
-
-    ghost Seen = { List ℕ };
-
-    ghost seen = { λ s. s };
 
     ghost reads = { λ _. spec.file_name };
 
@@ -83,10 +75,6 @@ pub struct NewName<'x, T>(pub &'x [T]);
 impl<T: Named> Reader for NewName<'_, T> {
     type Out = PathText;
 
-    ghost Seen = { List ℕ };
-
-    ghost seen = { λ s. s };
-
     ghost reads = { λ earlier. spec.new_name (map T.named earlier.0.now) };
 
     #[tactic(auto, unfolding(crate::specs::Reading::new_name))]
@@ -106,10 +94,6 @@ pub struct Defined<'x, T>(pub &'x [T]);
 
 impl<T: Named> Reader for Defined<'_, T> {
     type Out = usize;
-
-    ghost Seen = { ℕ };
-
-    ghost seen = { λ i. i };
 
     ghost reads = { λ items. spec.defined (map T.named items.0.now) };
 

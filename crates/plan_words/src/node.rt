@@ -1,6 +1,6 @@
 // A value of a plan and where it stands, and what reads such a value.
 ghost use Rattle.std.specs.Prelude.{◌≡◌, List, ℕ, IfOk};
-ghost use Rattle.plan_words.specs.Gives.{Gives};
+ghost use Rattle.plan_words.specs.Gives.{Gives, View, itself};
 ghost use Rattle.plan_words.specs.Node.{at};
 ghost use Rattle.plan_words.specs.Place.{path_of};
 ghost use Rattle.plan_words.specs.Reading.{Read, text as spec_text};
@@ -46,20 +46,18 @@ pub trait Reader {
     /// What is read.
     type Out: Drop;
 
-    // What clauses see of it.
-    ghost Seen: { Type 0 };
-
-    ghost seen: { Self.Out → Self.Seen };
+    // How clauses see it.
+    ghost shows: { View Self.Out } = { itself };
 
     // What a value at a path is, or its first fault.
-    ghost reads: { Self → List ℕ → Data → Read Self.Seen };
+    ghost reads: { Self → List ℕ → Data → Read Self.shows.Seen };
 
     // What holds of all that is read.
     ghost keeps: { Self → Self.Out → Type 0 } = { λ _ _. Unit {0} };
 
     /// What the value is, or its first fault.
     fn read(&self, node: Node<'_>) -> Result<Self::Out, PlanFault>
-        ensures value { Gives Self.seen result (at node.entry (Self.reads self.now)) }
+        ensures value { Gives Self.shows.seen result (at node.entry (Self.reads self.now)) }
         ensures kept { IfOk result (Self.keeps self.now) };
 }
 

@@ -1,5 +1,5 @@
 // Numbers of a plan.
-ghost use Rattle.std.specs.Prelude.{◌≡◌, ◌≤◌, ℕ};
+ghost use Rattle.std.specs.Prelude.{◌≡◌, ◌≤◌};
 ghost use Rattle.plan_words.specs.Reading.{number};
 
 use crate::PlanFault;
@@ -12,10 +12,6 @@ pub struct Number(pub u64, pub u64);
 
 impl Reader for Number {
     type Out = u64;
-
-    ghost Seen = { ℕ };
-
-    ghost seen = { λ n. n };
 
     ghost reads = { λ range. number range.0 range.1 };
 

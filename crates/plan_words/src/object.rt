@@ -94,7 +94,8 @@ impl Object<'_> {
     /// What is read from a required key. A key that is absent is refused as missing.
     #[tactic(auto, unfolding(crate::specs::Reading::required))]
     pub fn required<R: Reader>(&self, key: &str, read: &R) -> Result<R::Out, PlanFault>
-        ensures value { Gives R.seen result (inside self.now (spec.required key.now (R.reads read.now))) }
+        ensures value { Gives R.shows.seen result
+            (inside self.now (spec.required key.now (R.reads read.now))) }
         ensures kept { IfOk result (R.keeps read.now) }
     {
         match self.get(key) {
@@ -112,8 +113,8 @@ impl Object<'_> {
         read: &R,
     ) -> Result<R::Out, PlanFault>
         requires { R.keeps read.now absent }
-        ensures value { Gives R.seen result
-            (inside self.now (spec.optional key.now (R.seen absent) (R.reads read.now))) }
+        ensures value { Gives R.shows.seen result
+            (inside self.now (spec.optional key.now (R.shows.seen absent) (R.reads read.now))) }
         ensures kept { IfOk result (R.keeps read.now) }
     {
         match self.get(key) {
