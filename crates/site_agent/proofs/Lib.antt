@@ -20,3 +20,4 @@ pub mod Going
 pub mod Drawing
 pub mod Turning
 pub mod Racks
+pub mod Parts

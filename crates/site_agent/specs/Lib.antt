@@ -6,6 +6,7 @@ pub mod Refused
 pub mod Site
 pub mod Kept
 pub mod Plan
+pub mod Picked
 pub mod Going
 pub mod Turn
 pub mod Draw

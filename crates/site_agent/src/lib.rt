@@ -4,6 +4,7 @@
 
 mod calls;
 mod kept;
+mod new_site;
 mod place;
 mod plate;
 mod plates;

@@ -1,9 +1,10 @@
 // The plates of a site, as a plan gives them.
-ghost use Rattle.std.specs.Prelude.{◌≡◌, ◌+◌, ◌++◌, ◌<◌, ◌≤◌, ◌^◌, if◌then◌else◌, IfOk, OnOk, length, map, replicate};
+ghost use Rattle.std.specs.Prelude.{◌≡◌, ◌+◌, ◌++◌, ◌∷◌, ◌<◌, ◌≤◌, ◌^◌, [], if◌then◌else◌, IfOk, OnOk, length, map, replicate};
 ghost use Rattle.plan_json.specs.Plan.{IsPlan};
 ghost use Rattle.plan_rows.specs.Inks.{has_site, ink_place};
 ghost use Rattle.plan_rows.specs.Plates.{group_plates, site_plates};
 ghost use Rattle.plan_rows.specs.Rows.{rows_of};
+ghost use Rattle.site_agent.specs.Picked.{kept_where};
 ghost use Rattle.site_agent.specs.Plan.{plate_of};
 ghost use Rattle.site_agent.specs.Site.{AreFresh};
 
@@ -122,6 +123,35 @@ fn plate(
         step: group.inks().len() as u32,
         slot: ink as usize,
     })
+}
+
+/// Those of these plates that are wanted.
+pub(crate) fn picked_of(
+    alloc: Global,
+    plates: Vec<SitePlate>,
+    wanted: &[bool],
+) -> Result<Vec<SitePlate>, NoMemory>
+    requires { length wanted.now ≡ length plates.items }
+    ensures { IfOk result (λ picked. picked.items ≡ kept_where wanted.now plates.items) }
+{
+    let mut picked = Vec::new(alloc);
+    let mut index = 0;
+    for plate in plates {
+        add_wanted(&mut picked, plate, wanted[index])?;
+        index += 1;
+    }
+    Ok(picked)
+}
+
+/// Adds a plate if it is wanted.
+fn add_wanted(plates: &mut Vec<SitePlate>, plate: SitePlate, wanted: bool) -> Result<(), NoMemory>
+    ensures { OnOk result (
+        plates.new.items ≡ plates.old.items ++ (if wanted then plate ∷ [] else [])) }
+{
+    if wanted {
+        plates.push(plate)?;
+    }
+    Ok(())
 }
 
 /// Empty slots, each with counts for so many strips.

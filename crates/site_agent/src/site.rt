@@ -1,16 +1,17 @@
 // A print site and its turn for a row.
-ghost use Rattle.std.specs.Prelude.{◌≡◌, ◌≢◌, ◌+◌, ◌/◌, ◌<◌, ◌≤◌, ℕ, List, [], Some, false, true, IfErr, IfNone, IfOk, IfSome, OnErr, OnOk, length, slice_get, slice_index_or};
+ghost use Rattle.std.specs.Prelude.{◌≡◌, ◌≢◌, ◌+◌, ◌/◌, ◌==◌, ◌<◌, ◌≤◌, ℕ, List, [], Some, false, true, IfErr, IfNone, IfOk, IfSome, OnErr, OnOk, length, slice_get, slice_index_or};
 ghost use Rattle.pr_base.specs.Row.{row_size};
 ghost use Rattle.tif_packbits.specs.Frame.{IsFrame, framed_row, packed_in};
 ghost use Rattle.tif_plate.specs.Plate.{rows_each};
 ghost use Rattle.pr_base.specs.Count.{Rose};
 ghost use Rattle.pr_rack.specs.Told.{Tells, told};
 ghost use Rattle.site_agent.specs.declared.plate.SitePlate.{SitePlate as SitePlateData};
-ghost use Rattle.site_agent.specs.Job.{shape_of};
-ghost use Rattle.site_agent.specs.Given.{IsNoRow, is_kept};
+ghost use Rattle.site_agent.specs.Job.{IsJob, shape_of};
+ghost use Rattle.site_agent.specs.Given.{IsNoRow, finished_count, is_kept};
 ghost use Rattle.site_agent.specs.Kept.{GoesOn, IfLeft, IsCauseAt, OnDone, OnEnd, OnMemory, TakenOnce, kept_of};
+ghost use Rattle.plan_json.specs.Plan.{IsPlan};
 ghost use Rattle.plan_rows.specs.Rows.{rows_of};
-ghost use Rattle.site_agent.specs.Plan.{fresh_site};
+ghost use Rattle.site_agent.specs.Picked.{job_over, site_over};
 ghost use Rattle.site_agent.specs.Refused.{IsStopped, taken_at};
 ghost use Rattle.site_agent.specs.Site.{IsPlaceOf};
 ghost use Rattle.site_agent.specs.Stands.{AreAsLong, AreBegun, StandsAfter};
@@ -19,7 +20,7 @@ ghost use Rattle.site_agent.specs.Tells.{after_row, counted};
 use crate::calls::{Refusal, deliver};
 use crate::place::Place;
 use crate::plate::SitePlate;
-use crate::plates::{empty_slots, plates_of};
+use crate::plates::empty_slots;
 use crate::slot::{Slot, finished_with};
 use crate::tails::Tails;
 use crate::{Kept, LeftCause};
@@ -65,22 +66,19 @@ impl Model for Site {
 }
 
 impl Site {
-    /// The site with this index of a plan, before its first row. Its plates have paths below the folder
-    /// `out`.
-    pub fn new(
+    /// A site with these plates of a plan, before its first row.
+    pub(crate) fn with_plates(
         alloc: Global,
         job_plan: &Plan,
         rows: &RowPlan,
-        out: &str,
-        site: usize,
+        plates: Vec<SitePlate>,
     ) -> Result<Site, NoMemory>
         requires rows { rows.now ≡ rows_of job_plan.now }
-        requires site { site < length job_plan.now.sites }
-        ensures { IfOk result (λ made. made ≡ fresh_site job_plan.now out.now site) }
+        requires job { IsPlan job_plan.now → IsJob (job_over job_plan.now plates.items) }
+        ensures { IfOk result (λ made. made ≡ site_over job_plan.now plates.items) }
     {
         let dpi = job_plan.dpi;
         let shape = plate_shape(job_plan);
-        let plates = plates_of(alloc, job_plan, rows, out, site)?;
         let tails = Tails::of(alloc, shape.width, shape.height, dpi)?;
         let slots = empty_slots(alloc, strips(shape.width, shape.height) as usize)?;
         Ok(Site {
@@ -92,6 +90,14 @@ impl Site {
             slots,
             ended: false,
         })
+    }
+
+    /// Whether all its plates are finished.
+    pub fn is_finished(&self) -> bool
+        requires { self.now.ended ≡ false }
+        ensures { result ≡ (finished_count self.now.job self.now.next == length self.now.job.plates) }
+    {
+        self.finished as usize == self.plates.len()
     }
 
     /// The place of the row that comes next, if it is one of the site's.

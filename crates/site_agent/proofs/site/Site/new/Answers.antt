@@ -1,27 +1,11 @@
-use Rattle.std.proofs.Common.{◌≡◌, ◌∙◌, ℕ, length, map, ap, sym, subst}
-use Rattle.plan_json.specs.Data.{PlanData, plate_width, plate_height}
-use Rattle.plan_json.specs.Plan.{IsPlan}
-use Rattle.plan_rows.specs.Plates.{site_plates}
-use Rattle.plan_rows.specs.Rows.{places_in, row_places}
-use Rattle.tif_plate.specs.Plate.{strip_count}
-use Rattle.site_agent.specs.Job.{SiteJob}
-use Rattle.site_agent.specs.Plan.{job_of, plate_of}
-use Rattle.site_agent.specs.Site.{AreFresh, IsCounting, job_with}
-use Rattle.site_agent.proofs.Fresh.{counts-fresh}
+use Rattle.std.proofs.Common.{List, sym, subst}
+use Rattle.site_agent.specs.declared.plate.SitePlate.{SitePlate}
+use Rattle.site_agent.specs.Job.{IsJob}
+use Rattle.site_agent.specs.Picked.{job_over}
 use Rattle.site_agent.proofs.Jobs.{job_is}
 use Rattle.site_agent.proofs.site.Site.new.Goals as goal
 
-pub invariant_of-result : goal.invariant_of-result
-invariant_of-result c =
-    let plan : PlanData = c.args.job_plan.now in
-    let is : IsPlan plan = subst (λ (p : PlanData). IsPlan p) c.job_plan.view_is c.job_plan.invariant in
-    let shape : c.in_ok-tails.tails.shape ≡ record { width = plate_width plan; height = plate_height plan; dpi = plan.dpi } = c.in_ok-tails.ensures ∙ (λ i. record { width = ap (λ s. s.width) c.plate_shape-shape.ensures.shape i; height = ap (λ s. s.height) c.plate_shape-shape.ensures.shape i; dpi = ap (λ p. p.dpi) c.job_plan.view_is i }) in
-    let total : c.total.result ≡ length (row_places plan) = c.total.ensures.total ∙ ap (λ r. length (places_in r)) c.requires.rows in
-    let job : job_with c.in_ok-plates.plates.items c.in_ok-tails.tails.shape c.total.result ≡ job_of plan c.args.out.now c.args.site =
-    ap (λ plates. job_with plates c.in_ok-tails.tails.shape c.total.result) c.in_ok-plates.ensures
-    ∙ ap (λ s. job_with (map (plate_of plan c.args.out.now c.args.site) (site_plates plan c.args.site)) s c.total.result) shape
-    ∙ ap (λ t. job_with (map (plate_of plan c.args.out.now c.args.site) (site_plates plan c.args.site)) (record { width = plate_width plan; height = plate_height plan; dpi = plan.dpi }) t) total in
-    let strips : c.strips.result ≡ strip_count (plate_width plan) (plate_height plan) = c.strips.ensures.count ∙ ap (λ s. strip_count s.width s.height) c.plate_shape-shape.ensures.shape in
-    λ open'. subst (λ (j : SiteJob). IsCounting j 0 0 c.in_ok-slots.slots.items) (sym job)
-    (counts-fresh (job_of plan c.args.out.now c.args.site) c.in_ok-slots.slots.items (job_is plan c.args.out.now c.args.site is)
-    (subst (λ (n : ℕ). AreFresh n c.in_ok-slots.slots.items) strips c.in_ok-slots.ensures))
+pub with_plates-requires-clause-job : goal.with_plates-requires-clause-job
+with_plates-requires-clause-job c = λ is.
+    let plan = c.args.job_plan.now in
+    subst (λ (plates : List SitePlate). IsJob (job_over plan plates)) (sym c.in_ok-plates.ensures) (job_is plan c.args.out.now c.args.site is)

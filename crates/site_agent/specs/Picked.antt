@@ -1,0 +1,54 @@
+-- A site of some of its plates: those that are picked, a bit for each in the order of its files.
+use Rattle.std.specs.Prelude.{ℕ, Bool, false, if◌then◌else◌, List, [], ◌∷◌, length, replicate}
+use Rattle.tif_plate.specs.Plate.{strip_count}
+use Rattle.pr_rack.specs.Rack.{Plate}
+use Rattle.plan_json.specs.Data.{PlanData, plate_width, plate_height}
+use Rattle.plan_rows.specs.Plates.{site_files}
+use Rattle.plan_rows.specs.Rows.{row_places}
+use Rattle.site_agent.specs.declared.plate.SitePlate.{SitePlate}
+use Rattle.site_agent.specs.Job.{SiteJob}
+use Rattle.site_agent.specs.Plan.{fresh_site, job_of}
+use Rattle.site_agent.specs.Site.{SiteData}
+
+-- the entries of a list at which the bits are true
+abbrev pub kept_where : {X : Type 0} → List Bool → List X → List X
+kept_where [] xs = []
+kept_where (bit ∷ bits) [] = []
+kept_where (bit ∷ bits) (x ∷ xs) = if bit then x ∷ kept_where bits xs else kept_where bits xs
+
+-- a job of some of its plates
+abbrev pub part_of : SiteJob → List Bool → SiteJob
+part_of job bits = record job { plates = kept_where bits job.plates }
+
+-- what a site has to make of a plan, of the plates that are picked
+abbrev pub picked_job : PlanData → List ℕ → ℕ → List Bool → SiteJob
+picked_job plan out site bits = part_of (job_of plan out site) bits
+
+-- a site of these plates before the first row
+abbrev pub picked_site : PlanData → List ℕ → ℕ → List Bool → SiteData
+picked_site plan out site bits = record (fresh_site plan out site) { job = picked_job plan out site bits }
+
+-- the files of the plates that are picked
+abbrev pub picked_files : PlanData → List (List ℕ) → List ℕ → ℕ → List Bool → List Plate
+picked_files plan rows out site bits = kept_where bits (site_files plan rows out site)
+
+-- ---- any plates
+
+-- a job of these plates of a plan
+abbrev pub job_over : PlanData → List SitePlate → SiteJob
+job_over plan plates = record {
+  plates = plates;
+  width = plate_width plan;
+  height = plate_height plan;
+  dpi = plan.dpi;
+  total = length (row_places plan);
+}
+
+-- a site of them before the first row
+abbrev pub site_over : PlanData → List SitePlate → SiteData
+site_over plan plates = record {
+  job = job_over plan plates;
+  next = 0;
+  counts = replicate 5 (replicate (strip_count (plate_width plan) (plate_height plan)) 0);
+  ended = false;
+}
