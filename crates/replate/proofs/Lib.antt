@@ -6,4 +6,8 @@ pub mod PageLemmas
 pub mod PlateLemmas
 pub mod KeptLemmas
 pub mod PickLemmas
+pub mod MakerLemmas
+pub mod RowLemmas
+pub mod DeliveryLemmas
+pub mod WantedLemmas
 mod SmallJobs

@@ -4,3 +4,5 @@ pub mod Inputs
 pub mod Picks
 pub mod Classes
 pub mod Standing
+pub mod Remade
+pub mod Making

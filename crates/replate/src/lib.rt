@@ -1,16 +1,24 @@
 // Which plates a late page changes: what a plate is made of is its recipe, and two jobs are compared by the
-// recipes of their plates. Files are told apart once, and nothing of either job is copied.
+// recipes of their plates. Files are told apart once, and nothing of either job is copied. `deliver` makes the
+// plates that changed, and these alone.
 #![tactic(auto)]
 
 mod alike;
 mod classes;
+mod delivery;
 mod dropped;
 mod inputs;
 mod kept;
+mod maker;
 mod old_plate;
 mod picks;
+mod remade;
+mod remaking;
 mod standing;
+mod wanted;
 
+pub use delivery::deliver;
 pub use inputs::Inputs;
 pub use old_plate::OldPlate;
 pub use picks::Picks;
+pub use remade::RemadeEnd;

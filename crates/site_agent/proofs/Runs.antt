@@ -94,7 +94,7 @@ asks_working job rows source n before now counts stands = by_told now.working st
 
 -- ---- the end
 
-finished-end : (job : SiteJob) → IsJob job → finished_count job job.total ≡ length job.plates
+pub finished-end : (job : SiteJob) → IsJob job → finished_count job job.total ≡ length job.plates
 finished-end job is = finished-is job job.total (length job.plates) (omega arith) (λ j d less. is.within j d less) (λ j d from less. absurd (omega arith))
 
 -- the rack's finished plates grew by exactly the files of the job

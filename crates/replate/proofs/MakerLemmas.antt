@@ -1,0 +1,197 @@
+-- A site of a delivery and a row: it goes on, it leaves, or its rack wants memory.
+use Rattle.std.proofs.Common.{◌≡◌, ℕ, ◌+◌, ◌<◌, ◌≤◌, false, List, length, map, take, Some, IfSome, refl, sym, ap, subst, ◌∙◌, inl, inr, ⊎_elim, arith}
+use Rattle.std.specs.Prelude.{slice_get}
+use Rattle.std.proofs.lemmas.List.{length-map}
+use Rattle.std.proofs.lemmas.Option.{get_or_from_slice_get, slice_get_within}
+use Rattle.pr_base.specs.Count.{Rose}
+use Rattle.pr_base.specs.Row.{row_size}
+use Rattle.ring_lanes.specs.Held.{HeldRow}
+use Rattle.ring_lanes.specs.declared.source.Source.{Source}
+use Rattle.ring_lanes.specs.declared.source.Source.TheVariants.{Deck}
+use Rattle.tif_packbits.specs.Frame.{IsFrame, framed_row}
+use Rattle.tif_packbits.proofs.Frames.{AreFrames-frame}
+use Rattle.pr_rack.specs.Told.{RackTells, Tells}
+use Rattle.plan_json.specs.Data.{plate_width}
+use Rattle.site_agent.specs.declared.kept.Kept.TheVariants as kept
+use Rattle.site_agent.specs.declared.kept.LeftCause.{LeftCause}
+use Rattle.site_agent.specs.Given.{finished_count}
+use Rattle.site_agent.specs.Job.{SiteJob}
+use Rattle.site_agent.specs.Kept.{GoesOn, IsCauseAt}
+use Rattle.site_agent.specs.Picked.{picked_job}
+use Rattle.site_agent.specs.Site.{SiteData}
+use Rattle.site_agent.specs.Stands.{AreAsLong, AreBegun, StandsAfter, grown}
+use Rattle.site_agent.proofs.Drawing.{Keeps, row-taken}
+use Rattle.site_agent.proofs.Going.{going_further, going_within, going_sides, going_begun, going_working}
+use Rattle.site_agent.proofs.Parts.{IsLeftAt, picked_below, picked_left}
+use Rattle.replate.specs.declared.maker.Maker.{Maker}
+use Rattle.replate.specs.declared.remade.RemadeEnd.{RemadeEnd}
+use Rattle.replate.specs.declared.remade.RemadeEnd.TheVariants.{Done, Left}
+use Rattle.replate.specs.Making.{Carries, GoesOnAt, HasLeft, HasPart, Made, ServedBy, SomeServed, Stopped}
+use Rattle.replate.specs.Remade.{Making, files_for}
+
+-- ---- the row
+
+pub row_at : (making : Making) (frames : List (List ℕ)) (n : ℕ) (bytes : List ℕ) → Carries making frames → slice_get frames n ≡ Some bytes → slice_get making.rows n ≡ Some (framed_row bytes)
+row_at making frames n bytes carries there = ap (λ (rows : List (List ℕ)). slice_get rows n) carries.framed ∙ row-taken frames n n bytes refl there
+
+pub frame_at : (making : Making) (frames : List (List ℕ)) (n : ℕ) (bytes : List ℕ) → Carries making frames → slice_get frames n ≡ Some bytes → IsFrame bytes
+frame_at making frames n bytes carries there =
+    subst IsFrame (get_or_from_slice_get frames n bytes bytes there)
+    (AreFrames-frame (row_size (plate_width making.plan)) (map framed_row frames) frames n bytes carries.rows_are.are (omega (arith, slice_get_within frames n bytes there, length-map frames framed_row)))
+
+-- ---- a site that goes on
+
+-- how it stands
+pub stands_at : (making : Making) (site n : ℕ) (before now : RackTells) (going : SiteData) (made kept' : ℕ) → GoesOnAt making site n before now going made kept'
+    → StandsAfter (picked_job making.plan making.out site (making.bits site)) making.rows Deck n before.tells now.tells going.counts
+stands_at making site n before now going made kept' at =
+    subst (λ (m : ℕ). StandsAfter (picked_job making.plan making.out site (making.bits site)) making.rows Deck m before.tells now.tells going.counts) at.next_is
+    (subst (λ (job : SiteJob). StandsAfter job making.rows Deck going.next before.tells now.tells going.counts) at.job_is at.is.stands)
+
+-- what its rack has more
+pub files_at : (making : Making) (site n : ℕ) (before now : RackTells) (going : SiteData) (made kept' : ℕ) → GoesOnAt making site n before now going made kept'
+    → now.tells.finished ≡ grown (take (finished_count (picked_job making.plan making.out site (making.bits site)) n) (files_for making site)) before.tells.finished
+files_at making site n before now going made kept' at =
+    (stands_at making site n before now going made kept' at).rack.finished
+    ∙ ap (λ files. grown files before.tells.finished) (picked_below making.plan making.rows making.out site n (making.bits site))
+
+pub part_at : (making : Making) (site n : ℕ) (before now : RackTells) (going : SiteData) (made kept' : ℕ) → GoesOnAt making site n before now going made kept' → HasPart making site before now
+part_at making site n before now going made kept' at = record {
+  part = record {
+    files = finished_count (picked_job making.plan making.out site (making.bits site)) n;
+    finished = files_at making site n before now going made kept' at;
+  };
+  faults = at.faults;
+}
+
+-- each site's rack has a part
+pub served_part : (making : Making) (site n : ℕ) (before now : RackTells) (going : SiteData) (end : RemadeEnd) → ServedBy making site n before now going end → HasPart making site before now
+served_part making site n before now going (Done made kept') at = part_at making site n before now going made kept' at
+served_part making site n before now going (Left made path) left = record {
+  part = record { files = made; finished = left.fits.finished };
+  faults = left.faults;
+}
+
+-- ---- what Site::keep asks
+
+-- the site of a maker that goes on
+pub going_of : (making : Making) (site n : ℕ) (before now : RackTells) (going : SiteData) (end : RemadeEnd) (made kept' : ℕ) → end ≡ Done made kept' → ServedBy making site n before now going end
+    → GoesOnAt making site n before now going made kept'
+going_of making site n before now going end made kept' is served = subst (λ (e : RemadeEnd). ServedBy making site n before now going e) is served
+
+pub record Asks (going : SiteData) (held : HeldRow) (now : Tells) : Type 0 where
+  pub on : going.ended ≡ false
+  pub next_is : held.number ≡ going.next
+  pub within : going.next < going.job.total
+  pub frame : IsFrame held.bytes
+  pub row : length (framed_row held.bytes) ≡ row_size going.job.width
+  pub begun : AreBegun going.job going.next now.begun
+  pub working : IfSome now.working (AreAsLong going.job going.next going.counts)
+
+pub asks : (frames : List (List ℕ)) (n : ℕ) (now : RackTells) (maker : Maker) (held : HeldRow) (made kept' : ℕ) → SomeServed frames n now maker → maker.end ≡ Done made kept' → held.number ≡ n
+    → slice_get frames held.number ≡ Some held.bytes → Asks maker.site held now.tells
+asks frames n now maker held made kept' some is number there =
+    let making : Making = some.making in
+    let at : GoesOnAt making some.site' n some.before now maker.site made kept' = going_of making some.site' n some.before now maker.site maker.end made kept' is some.is in
+    let here : slice_get making.rows maker.site.next ≡ Some (framed_row held.bytes) =
+    ap (slice_get making.rows) (at.next_is ∙ sym number) ∙ row_at making frames held.number held.bytes some.carries there in
+    record {
+      on = at.is.on;
+      next_is = number ∙ sym at.next_is;
+      within = going_within making.rows Deck some.before.tells now.tells maker.site (framed_row held.bytes) at.is here;
+      frame = frame_at making frames held.number held.bytes some.carries there;
+      row = going_sides making.rows Deck some.before.tells now.tells maker.site (framed_row held.bytes) at.is here;
+      begun = going_begun making.rows Deck some.before.tells now.tells maker.site at.is;
+      working = going_working making.rows Deck some.before.tells now.tells maker.site at.is;
+    }
+
+-- ---- what keeping the row makes of it
+
+-- a row of the deck
+pub record IsPutRow (frames : List (List ℕ)) (n : ℕ) (held : HeldRow) : Type 0 where
+  pub number_is : held.number ≡ n
+  pub bytes_are : slice_get frames held.number ≡ Some held.bytes
+  pub source_is : held.source ≡ Deck
+
+-- it was kept
+goes_further : (making : Making) (frames : List (List ℕ)) (site n : ℕ) (before old new : RackTells) (held : HeldRow) (going next : SiteData) (made kept' : ℕ) → Carries making frames → IsPutRow frames n held
+    → Keeps going next held old new kept.Done → GoesOnAt making site n before old going made kept' → GoesOnAt making site (n + 1) before new next made kept'
+goes_further making frames site n before old new held going next made kept' carries row keeps at =
+    let goes : GoesOn going next = keeps.goes_on in
+    let here : slice_get making.rows going.next ≡ Some (framed_row held.bytes) =
+    ap (slice_get making.rows) (at.next_is ∙ sym row.number_is) ∙ row_at making frames held.number held.bytes carries row.bytes_are in
+    record {
+      job_is = goes.job ∙ at.job_is;
+      next_is = goes.next ∙ ap (λ m. m + 1) at.next_is;
+      is = going_further making.rows Deck before.tells old.tells new.tells going next at.is goes
+          (λ stands. subst (λ (s : Source). StandsAfter going.job making.rows s (going.next + 1) before.tells new.tells next.counts) row.source_is
+          (keeps.keeps making.rows before.tells here
+          (subst (λ (s : Source). StandsAfter going.job making.rows s going.next before.tells old.tells going.counts) (sym row.source_is) stands)));
+      made_are = at.made_are;
+      kept_are = at.kept_are;
+      faults = (let since = at.faults in let stay = keeps.faults_stay in omega (arith, since, stay));
+    }
+
+pub made_on : (frames : List (List ℕ)) (n : ℕ) (old new : RackTells) (held : HeldRow) (maker : Maker) (next : SiteData) (made kept' : ℕ) → maker.end ≡ Done made kept' → IsPutRow frames n held
+    → Keeps maker.site next held old new kept.Done → Made frames n old new maker (record maker { site = next })
+made_on frames n old new held maker next made kept' is row keeps = record {
+  each = λ making site before carries served.
+      subst (λ (e : RemadeEnd). ServedBy making site (n + 1) before new next e) (sym is)
+      (goes_further making frames site n before old new held maker.site next made kept' carries row keeps (going_of making site n before old maker.site maker.end made kept' is served));
+}
+
+-- a count that rose since then rose since before
+rose_since : (before old now : ℕ) → before ≤ old → Rose old now → Rose before now
+rose_since before old now from rose = ⊎_elim (λ more. inl (omega (arith, from, more))) (λ last. inr last) rose
+
+-- the site left
+has_left : (making : Making) (frames : List (List ℕ)) (site n : ℕ) (before old new : RackTells) (held : HeldRow) (going next : SiteData) (made kept' : ℕ) (cause : LeftCause) → Carries making frames
+    → Keeps going next held old new (kept.Left cause) → GoesOnAt making site n before old going made kept' → HasLeft making site before new cause.plates cause.path
+has_left making frames site n before old new held going next made kept' cause carries keeps at =
+    let job : SiteJob = picked_job making.plan making.out site (making.bits site) in
+    let by : IsCauseAt going.job going.next cause = keeps.left in
+    let cause-at : IsCauseAt job n cause = subst (λ (m : ℕ). IsCauseAt job m cause) at.next_is (subst (λ (j : SiteJob). IsCauseAt j going.next cause) at.job_is by) in
+    let left : IsLeftAt (files_for making site) cause.plates cause.path = picked_left making.plan making.rows making.out site n (making.bits site) cause carries.plan_is cause-at in
+    record {
+      fits = record {
+        finished = keeps.finished_stay ∙ files_at making site n before old going made kept' at ∙ ap (λ k. grown (take k (files_for making site)) before.tells.finished) (sym cause-at.plates);
+        index = left.index;
+        least = left.from;
+        within = left.within;
+        path_is = left.is;
+        counted = rose_since before.faults old.faults new.faults at.faults keeps.left_counted;
+        last_call = cause.call;
+        missed = keeps.left_missed;
+      };
+      faults = (let since = at.faults in let stay = keeps.faults_stay in omega (arith, since, stay));
+    }
+
+pub made_left : (frames : List (List ℕ)) (n : ℕ) (old new : RackTells) (held : HeldRow) (maker : Maker) (next : SiteData) (made kept' : ℕ) (cause : LeftCause) → maker.end ≡ Done made kept'
+    → Keeps maker.site next held old new (kept.Left cause) → Made frames n old new maker (record { site = next; end = Left cause.plates cause.path })
+made_left frames n old new held maker next made kept' cause is keeps = record {
+  each = λ making site before carries served.
+      has_left making frames site n before old new held maker.site next made kept' cause carries keeps (going_of making site n before old maker.site maker.end made kept' is served);
+}
+
+-- its rack wanted memory
+pub made_stopped : (frames : List (List ℕ)) (n : ℕ) (old new : RackTells) (held : HeldRow) (maker : Maker) (next : SiteData) (made kept' : ℕ) → maker.end ≡ Done made kept'
+    → Keeps maker.site next held old new kept.Memory → Stopped frames n old new maker
+made_stopped frames n old new held maker next made kept' is keeps = record {
+  each = λ making site before carries served.
+      let at : GoesOnAt making site n before old maker.site made kept' = going_of making site n before old maker.site maker.end made kept' is served in
+      record {
+        part = record {
+          files = finished_count (picked_job making.plan making.out site (making.bits site)) n;
+          finished = keeps.finished_stay ∙ files_at making site n before old maker.site made kept' at;
+        };
+        faults = (let since = at.faults in let stay = keeps.faults_stay in omega (arith, since, stay));
+      };
+}
+
+-- a site that has left stays so
+pub left_stays : (frames : List (List ℕ)) (n : ℕ) (told : RackTells) (maker : Maker) (made : ℕ) (path : List ℕ) → maker.end ≡ Left made path → Made frames n told told maker maker
+left_stays frames n told maker made path is = record {
+  each = λ making site before carries served.
+      subst (λ (e : RemadeEnd). ServedBy making site (n + 1) before told maker.site e) (sym is)
+      (subst (λ (e : RemadeEnd). ServedBy making site n before told maker.site e) is served);
+}

@@ -1,0 +1,142 @@
+use Rattle.std.proofs.Common.{◌≡◌, ◌-◌, ℕ, subst, sym, arith}
+use Rattle.pr_rack.specs.Told.{RackTells, told}
+use Rattle.site_agent.specs.declared.kept.Kept.TheVariants as kept
+use Rattle.site_agent.proofs.Drawing.{Keeps}
+use Rattle.replate.specs.declared.maker.Maker.{Maker}
+use Rattle.replate.specs.Making.{Made}
+use Rattle.replate.proofs.MakerLemmas.{IsPutRow, asks, made_left, made_on, made_stopped}
+use Rattle.replate.proofs.maker.hand.Goals as goal
+
+pub keep-kept-requires-clause-going : goal.keep-kept-requires-clause-going
+keep-kept-requires-clause-going g c =
+    let held = c.take-held.result in
+    let n : ℕ = c.args.deck.now.put - 1 in
+    let number : held.number ≡ n = (let put = c.take-held.ensures.number in omega (arith, put)) in
+    let now : RackTells = told g.R.Rack c.args.rack.now in
+    (asks c.args.deck.now.rows n now c.args.maker.now held c.in-Done.made c.in-Done.kept c.requires.some c.in-Done.is number c.take-held.ensures.bytes).on
+
+pub keep-kept-requires-clause-next : goal.keep-kept-requires-clause-next
+keep-kept-requires-clause-next g c =
+    let held = c.take-held.result in
+    let n : ℕ = c.args.deck.now.put - 1 in
+    let number : held.number ≡ n = (let put = c.take-held.ensures.number in omega (arith, put)) in
+    let now : RackTells = told g.R.Rack c.args.rack.now in
+    (asks c.args.deck.now.rows n now c.args.maker.now held c.in-Done.made c.in-Done.kept c.requires.some c.in-Done.is number c.take-held.ensures.bytes).next_is
+
+pub keep-kept-requires-clause-within : goal.keep-kept-requires-clause-within
+keep-kept-requires-clause-within g c =
+    let held = c.take-held.result in
+    let n : ℕ = c.args.deck.now.put - 1 in
+    let number : held.number ≡ n = (let put = c.take-held.ensures.number in omega (arith, put)) in
+    let now : RackTells = told g.R.Rack c.args.rack.now in
+    (asks c.args.deck.now.rows n now c.args.maker.now held c.in-Done.made c.in-Done.kept c.requires.some c.in-Done.is number c.take-held.ensures.bytes).within
+
+pub keep-kept-requires-clause-frame : goal.keep-kept-requires-clause-frame
+keep-kept-requires-clause-frame g c =
+    let held = c.take-held.result in
+    let n : ℕ = c.args.deck.now.put - 1 in
+    let number : held.number ≡ n = (let put = c.take-held.ensures.number in omega (arith, put)) in
+    let now : RackTells = told g.R.Rack c.args.rack.now in
+    (asks c.args.deck.now.rows n now c.args.maker.now held c.in-Done.made c.in-Done.kept c.requires.some c.in-Done.is number c.take-held.ensures.bytes).frame
+
+pub keep-kept-requires-clause-row : goal.keep-kept-requires-clause-row
+keep-kept-requires-clause-row g c =
+    let held = c.take-held.result in
+    let n : ℕ = c.args.deck.now.put - 1 in
+    let number : held.number ≡ n = (let put = c.take-held.ensures.number in omega (arith, put)) in
+    let now : RackTells = told g.R.Rack c.args.rack.now in
+    (asks c.args.deck.now.rows n now c.args.maker.now held c.in-Done.made c.in-Done.kept c.requires.some c.in-Done.is number c.take-held.ensures.bytes).row
+
+pub keep-kept-requires-clause-begun : goal.keep-kept-requires-clause-begun
+keep-kept-requires-clause-begun g c =
+    let held = c.take-held.result in
+    let n : ℕ = c.args.deck.now.put - 1 in
+    let number : held.number ≡ n = (let put = c.take-held.ensures.number in omega (arith, put)) in
+    let now : RackTells = told g.R.Rack c.args.rack.now in
+    (asks c.args.deck.now.rows n now c.args.maker.now held c.in-Done.made c.in-Done.kept c.requires.some c.in-Done.is number c.take-held.ensures.bytes).begun
+
+pub keep-kept-requires-clause-working : goal.keep-kept-requires-clause-working
+keep-kept-requires-clause-working g c =
+    let held = c.take-held.result in
+    let n : ℕ = c.args.deck.now.put - 1 in
+    let number : held.number ≡ n = (let put = c.take-held.ensures.number in omega (arith, put)) in
+    let now : RackTells = told g.R.Rack c.args.rack.now in
+    (asks c.args.deck.now.rows n now c.args.maker.now held c.in-Done.made c.in-Done.kept c.requires.some c.in-Done.is number c.take-held.ensures.bytes).working
+
+pub returns-in-Done-kept-clause-made : goal.returns-in-Done-kept-clause-made
+returns-in-Done-kept-clause-made g c =
+    let held = c.take-held.result in
+    let n : ℕ = c.args.deck.now.put - 1 in
+    let number : held.number ≡ n = (let put = c.take-held.ensures.number in omega (arith, put)) in
+    let old : RackTells = told g.R.Rack c.args.rack.now in
+    let new : RackTells = told g.R.Rack c.keep-kept.new.rack in
+    let row : IsPutRow c.args.deck.now.rows n held = record { number_is = number; bytes_are = c.take-held.ensures.bytes; source_is = c.take-held.ensures.source } in
+    let keeps : Keeps c.args.maker.now.site c.keep-kept.new.self held old new kept.Done = record {
+      keeps = c.in-Done-kept.ensures.keeps;
+      goes_on = c.in-Done-kept.ensures.goes_on;
+      begun_on = c.in-Done-kept.ensures.begun_on;
+      working_on = c.in-Done-kept.ensures.working_on;
+      done_missed = c.in-Done-kept.ensures.done_missed;
+      passes = c.in-Done-kept.ensures.passes;
+      left = c.in-Done-kept.ensures.left;
+      left_counted = c.in-Done-kept.ensures.left_counted;
+      left_missed = c.in-Done-kept.ensures.left_missed;
+      left_taken = c.in-Done-kept.ensures.left_taken;
+      memory_missed = c.in-Done-kept.ensures.memory_missed;
+      memory_taken = c.in-Done-kept.ensures.memory_taken;
+      finished_stay = c.in-Done-kept.ensures.finished_stay;
+      ended = c.in-Done-kept.ensures.ended;
+      faults_stay = c.in-Done-kept.ensures.faults_stay;
+    } in
+    made_on c.args.deck.now.rows n old new held c.args.maker.now c.keep-kept.new.self c.in-Done.made c.in-Done.kept c.in-Done.is row keeps
+
+pub returns-in-Left-clause-made : goal.returns-in-Left-clause-made
+returns-in-Left-clause-made g c =
+    let held = c.take-held.result in
+    let n : ℕ = c.args.deck.now.put - 1 in
+    let old : RackTells = told g.R.Rack c.args.rack.now in
+    let new : RackTells = told g.R.Rack c.keep-kept.new.rack in
+    let keeps : Keeps c.args.maker.now.site c.keep-kept.new.self held old new (kept.Left c.in-Left.cause) = record {
+      keeps = c.in-Left.ensures.keeps;
+      goes_on = c.in-Left.ensures.goes_on;
+      begun_on = c.in-Left.ensures.begun_on;
+      working_on = c.in-Left.ensures.working_on;
+      done_missed = c.in-Left.ensures.done_missed;
+      passes = c.in-Left.ensures.passes;
+      left = c.in-Left.ensures.left;
+      left_counted = c.in-Left.ensures.left_counted;
+      left_missed = c.in-Left.ensures.left_missed;
+      left_taken = c.in-Left.ensures.left_taken;
+      memory_missed = c.in-Left.ensures.memory_missed;
+      memory_taken = c.in-Left.ensures.memory_taken;
+      finished_stay = c.in-Left.ensures.finished_stay;
+      ended = c.in-Left.ensures.ended;
+      faults_stay = c.in-Left.ensures.faults_stay;
+    } in
+    subst (λ (is : Maker). Made c.args.deck.now.rows n old new c.args.maker.now is) (sym c.leave.ensures)
+    (made_left c.args.deck.now.rows n old new held c.args.maker.now c.keep-kept.new.self c.in-Done.made c.in-Done.kept c.in-Left.cause c.in-Done.is keeps)
+
+pub returns-in-Memory-clause-stopped : goal.returns-in-Memory-clause-stopped
+returns-in-Memory-clause-stopped g c =
+    let held = c.take-held.result in
+    let n : ℕ = c.args.deck.now.put - 1 in
+    let old : RackTells = told g.R.Rack c.args.rack.now in
+    let new : RackTells = told g.R.Rack c.keep-kept.new.rack in
+    let keeps : Keeps c.args.maker.now.site c.keep-kept.new.self held old new kept.Memory = record {
+      keeps = c.in-Memory.ensures.keeps;
+      goes_on = c.in-Memory.ensures.goes_on;
+      begun_on = c.in-Memory.ensures.begun_on;
+      working_on = c.in-Memory.ensures.working_on;
+      done_missed = c.in-Memory.ensures.done_missed;
+      passes = c.in-Memory.ensures.passes;
+      left = c.in-Memory.ensures.left;
+      left_counted = c.in-Memory.ensures.left_counted;
+      left_missed = c.in-Memory.ensures.left_missed;
+      left_taken = c.in-Memory.ensures.left_taken;
+      memory_missed = c.in-Memory.ensures.memory_missed;
+      memory_taken = c.in-Memory.ensures.memory_taken;
+      finished_stay = c.in-Memory.ensures.finished_stay;
+      ended = c.in-Memory.ensures.ended;
+      faults_stay = c.in-Memory.ensures.faults_stay;
+    } in
+    made_stopped c.args.deck.now.rows n old new held c.args.maker.now c.keep-kept.new.self c.in-Done.made c.in-Done.kept c.in-Done.is keeps

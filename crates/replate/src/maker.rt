@@ -1,0 +1,71 @@
+// A site of a delivery.
+ghost use Rattle.std.specs.Prelude.{◌≡◌, ◌-◌, ◌<◌, false, OnErr, OnOk};
+ghost use Rattle.pr_rack.specs.Told.{told};
+ghost use Rattle.replate.specs.Making.{Made, SomeServed, Stopped, is_making as is_making_lem, IsUp};
+
+use crate::RemadeEnd;
+use pr_base::{Deal, NoMemory};
+use pr_rack::Rack;
+use ring_lanes::Deck;
+use site_agent::{Kept, LeftCause, Site};
+
+/// A site of a delivery, and how the delivery ends there unless a call of its rack fails.
+#[derive(Debug, Drop)]
+pub(crate) struct Maker {
+    pub(crate) site: Site,
+    pub(crate) end: RemadeEnd,
+}
+
+impl Maker {
+    /// Whether plates are left to make.
+    pub(crate) fn is_making(&self) -> bool
+        requires { IsUp self.now }
+        ensures { result ≡ is_making_lem self.now }
+    {
+        match self.end {
+            RemadeEnd::Done { .. } => !self.site.is_finished(),
+            RemadeEnd::Left { .. } => false,
+        }
+    }
+
+    /// The delivery ends here for this cause.
+    fn leave(&mut self, cause: LeftCause)
+        ensures { self.new ≡ record self.old { end = RemadeEnd.Left cause.plates cause.path } }
+    {
+        self.end = RemadeEnd::Left {
+            made: cause.plates,
+            path: cause.path,
+        };
+    }
+}
+
+/// A site takes the row that was put last, keeps it and gives it back, unless it has left.
+pub(crate) fn hand<D: Deal, R: Rack>(
+    deck: &mut Deck<'_, D>,
+    maker: &mut Maker,
+    rack: &mut R,
+) -> Result<(), NoMemory>
+    requires put { 0 < deck.old.put }
+    requires home { deck.old.out ≡ false }
+    requires some { SomeServed deck.old.rows (deck.old.put - 1) (told R.Rack rack.old) maker.old }
+    ensures made { OnOk result (Made deck.old.rows (deck.old.put - 1)
+        (told R.Rack rack.old) (told R.Rack rack.new) maker.old maker.new) }
+    ensures stopped { OnErr result (Stopped deck.old.rows (deck.old.put - 1)
+        (told R.Rack rack.old) (told R.Rack rack.new) maker.old) }
+    ensures deck { deck.new ≡ deck.old }
+{
+    let RemadeEnd::Done { .. } = &maker.end else {
+        return Ok(());
+    };
+    let held = deck.take();
+    let kept = maker.site.keep(&held, rack);
+    deck.give(held);
+    match kept {
+        Kept::Done => Ok(()),
+        Kept::Left(cause) => {
+            maker.leave(cause);
+            Ok(())
+        }
+        Kept::Memory => Err(NoMemory),
+    }
+}

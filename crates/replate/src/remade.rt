@@ -1,0 +1,12 @@
+// How a delivery ended at a site.
+
+use pr_base::PathText;
+
+/// How a delivery of the plates that must be made ended at a site.
+#[derive(Debug, PartialEq, Eq, Drop)]
+pub enum RemadeEnd {
+    /// All plates that must be made are finished: so many. The others were kept.
+    Done { made: u32, kept: u32 },
+    /// A call of its rack failed for the plate with this path, when so many were finished.
+    Left { made: u32, path: PathText },
+}

@@ -1,0 +1,80 @@
+// Which plates of a site must be made, in the order of its files.
+ghost use Rattle.std.specs.Prelude.{◌≡◌, ◌<◌, ◌++◌, IfOk, OnOk, length, map};
+ghost use Rattle.plan_json.specs.Plan.{IsPlan};
+ghost use Rattle.plan_rows.specs.Groups.{groups_of};
+ghost use Rattle.plan_rows.specs.Inks.{inks_of};
+ghost use Rattle.replate.specs.Inputs.{AreInputs};
+ghost use Rattle.replate.specs.Plates.{group_at, ink_plates, plates_in};
+ghost use Rattle.replate.specs.Remade.{is_picked, picked_bits};
+
+use crate::standing::{group_with, has_site, site_count};
+use crate::{Inputs, Picks};
+use pr_base::NoMemory;
+use std::alloc::Global;
+
+/// For each plate of a site, in the order of its files, whether it must be made.
+pub(crate) fn wanted_of(
+    alloc: Global,
+    after: &Inputs<'_>,
+    picks: &Picks,
+    site: usize,
+) -> Result<Vec<bool>, NoMemory>
+    requires after { AreInputs after.now }
+    requires picks { length picks.now.kept ≡ length (groups_of after.now.plan.now) }
+    requires site { site < length after.now.plan.now.sites }
+    ensures bits { IfOk result (λ bits. bits.items ≡ picked_bits picks.now after.now.plan.now site) }
+    ensures plan { IsPlan after.now.plan.now }
+{
+    let sites = site_count(after.plan);
+    prove!(site < sites);
+    let mut bits = Vec::new(alloc);
+    for index in 0..after.rows.groups().len() {
+        add_group(&mut bits, after, picks, site, index)?;
+    }
+    Ok(bits)
+}
+
+/// Adds those of a group.
+fn add_group(
+    bits: &mut Vec<bool>,
+    after: &Inputs<'_>,
+    picks: &Picks,
+    site: usize,
+    index: usize,
+) -> Result<(), NoMemory>
+    requires after { AreInputs after.now }
+    requires picks { length picks.now.kept ≡ length (groups_of after.now.plan.now) }
+    requires site { site < 16 }
+    requires index { index < length (groups_of after.now.plan.now) }
+    ensures { OnOk result (bits.new.items ≡ bits.old.items
+        ++ map (is_picked picks.now) (plates_in site (index, group_at after.now.plan.now index))) }
+{
+    let group = group_with(after.plan, after.rows, index);
+    if has_site(group, site) {
+        add_inks(bits, after, picks, site, index)?;
+    }
+    Ok(())
+}
+
+/// Adds those of the inks of a group.
+fn add_inks(
+    bits: &mut Vec<bool>,
+    after: &Inputs<'_>,
+    picks: &Picks,
+    site: usize,
+    index: usize,
+) -> Result<(), NoMemory>
+    requires after { AreInputs after.now }
+    requires picks { length picks.now.kept ≡ length (groups_of after.now.plan.now) }
+    requires site { site < 16 }
+    requires index { index < length (groups_of after.now.plan.now) }
+    ensures { OnOk result (bits.new.items ≡ bits.old.items
+        ++ map (is_picked picks.now)
+        (ink_plates site index (inks_of (group_at after.now.plan.now index)))) }
+{
+    let group = group_with(after.plan, after.rows, index);
+    for ink in group.inks() {
+        bits.push(picks.made(site, index, *ink))?;
+    }
+    Ok(())
+}
