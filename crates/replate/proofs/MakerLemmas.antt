@@ -1,5 +1,5 @@
 -- A site of a delivery and a row: it goes on, it leaves, or its rack wants memory.
-use Rattle.std.proofs.Common.{◌≡◌, ℕ, ◌+◌, ◌<◌, ◌≤◌, false, List, length, map, take, Some, IfSome, refl, sym, ap, subst, ◌∙◌, inl, inr, ⊎_elim, arith}
+use Rattle.std.proofs.Common.{◌≡◌, ℕ, ◌+◌, ◌<◌, ◌≤◌, true, false, List, length, map, take, Some, IfSome, refl, sym, ap, subst, ◌∙◌, inl, inr, ⊎_elim, arith}
 use Rattle.std.specs.Prelude.{slice_get}
 use Rattle.std.proofs.lemmas.List.{length-map}
 use Rattle.std.proofs.lemmas.Option.{get_or_from_slice_get, slice_get_within}
@@ -26,7 +26,7 @@ use Rattle.site_agent.proofs.Parts.{IsLeftAt, picked_below, picked_left}
 use Rattle.replate.specs.declared.maker.Maker.{Maker}
 use Rattle.replate.specs.declared.remade.RemadeEnd.{RemadeEnd}
 use Rattle.replate.specs.declared.remade.RemadeEnd.TheVariants.{Done, Left}
-use Rattle.replate.specs.Making.{Carries, GoesOnAt, HasLeft, HasPart, Made, ServedBy, SomeServed, Stopped}
+use Rattle.replate.specs.Making.{Carries, GoesOnAt, HasLeft, HasPart, Made, ServedBy, SomeServed, Stopped, has_left}
 use Rattle.replate.specs.Remade.{Making, files_for}
 
 -- ---- the row
@@ -145,9 +145,9 @@ rose_since : (before old now : ℕ) → before ≤ old → Rose old now → Rose
 rose_since before old now from rose = ⊎_elim (λ more. inl (omega (arith, from, more))) (λ last. inr last) rose
 
 -- the site left
-has_left : (making : Making) (frames : List (List ℕ)) (site n : ℕ) (before old new : RackTells) (held : HeldRow) (going next : SiteData) (made kept' : ℕ) (cause : LeftCause) → Carries making frames
+leaves_at : (making : Making) (frames : List (List ℕ)) (site n : ℕ) (before old new : RackTells) (held : HeldRow) (going next : SiteData) (made kept' : ℕ) (cause : LeftCause) → Carries making frames
     → Keeps going next held old new (kept.Left cause) → GoesOnAt making site n before old going made kept' → HasLeft making site before new cause.plates cause.path
-has_left making frames site n before old new held going next made kept' cause carries keeps at =
+leaves_at making frames site n before old new held going next made kept' cause carries keeps at =
     let job : SiteJob = picked_job making.plan making.out site (making.bits site) in
     let by : IsCauseAt going.job going.next cause = keeps.left in
     let cause-at : IsCauseAt job n cause = subst (λ (m : ℕ). IsCauseAt job m cause) at.next_is (subst (λ (j : SiteJob). IsCauseAt j going.next cause) at.job_is by) in
@@ -170,7 +170,7 @@ pub made_left : (frames : List (List ℕ)) (n : ℕ) (old new : RackTells) (held
     → Keeps maker.site next held old new (kept.Left cause) → Made frames n old new maker (record { site = next; end = Left cause.plates cause.path })
 made_left frames n old new held maker next made kept' cause is keeps = record {
   each = λ making site before carries served.
-      has_left making frames site n before old new held maker.site next made kept' cause carries keeps (going_of making site n before old maker.site maker.end made kept' is served);
+      leaves_at making frames site n before old new held maker.site next made kept' cause carries keeps (going_of making site n before old maker.site maker.end made kept' is served);
 }
 
 -- its rack wanted memory
@@ -189,9 +189,13 @@ made_stopped frames n old new held maker next made kept' is keeps = record {
 }
 
 -- a site that has left stays so
-pub left_stays : (frames : List (List ℕ)) (n : ℕ) (told : RackTells) (maker : Maker) (made : ℕ) (path : List ℕ) → maker.end ≡ Left made path → Made frames n told told maker maker
-left_stays frames n told maker made path is = record {
-  each = λ making site before carries served.
-      subst (λ (e : RemadeEnd). ServedBy making site (n + 1) before told maker.site e) (sym is)
-      (subst (λ (e : RemadeEnd). ServedBy making site n before told maker.site e) is served);
-}
+pub left_stays : (frames : List (List ℕ)) (n : ℕ) (told : RackTells) (maker : Maker) → has_left maker.end ≡ true → Made frames n told told maker maker
+left_stays frames n told maker out = record { each = λ making site before carries served. by making site before maker.end out served } where
+  by : (making : Making) (site : ℕ) (before : RackTells) (end : RemadeEnd) → has_left end ≡ true → ServedBy making site n before told maker.site end → ServedBy making site (n + 1) before told maker.site end
+  by making site before (Done made kept') out' at = absurd (let e : false ≡ true = out' in cc)
+  by making site before (Left made path) out' left = left
+
+-- one that hasn't is done with so many plates unless it leaves
+pub is_done : (end : RemadeEnd) → has_left end ≡ false → (made : ℕ) × ((kept' : ℕ) × (end ≡ Done made kept'))
+is_done (Done made kept') on = (made, (kept', refl))
+is_done (Left made path) on = absurd (let e : true ≡ false = on in cc)

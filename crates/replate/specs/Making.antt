@@ -1,5 +1,5 @@
 -- How far the sites of a delivery are. This is the contract of private calls.
-use Rattle.std.specs.Prelude.{◌≡◌, ℕ, ◌+◌, ◌-◌, ◌<◌, ◌≤◌, ◌==◌, Bool, false, not, List, length, map, count_by, Some, slice_get}
+use Rattle.std.specs.Prelude.{◌≡◌, ℕ, ◌+◌, ◌-◌, ◌<◌, ◌≤◌, ◌==◌, Bool, true, false, not, List, length, map, count_by, Some, slice_get}
 use Rattle.std.specs.List.{range_with_len}
 use Rattle.ring_lanes.specs.declared.source.Source.TheVariants.{Deck}
 use Rattle.pr_rack.specs.Told.{RackTells}
@@ -23,6 +23,11 @@ pub record Carries (making : Making) (frames : List (List ℕ)) : Type 0 where
   pub framed : making.rows ≡ map framed_row frames
 
 -- ---- one site
+
+-- whether a delivery has ended at a site
+abbrev pub has_left : RemadeEnd → Bool
+has_left (Done made kept) = false
+has_left (Left made path) = true
 
 -- a site goes on, and has dealt with the rows below row n
 pub record GoesOnAt (making : Making) (site n : ℕ) (before now : RackTells) (going : SiteData)

@@ -1,7 +1,7 @@
 // A site of a delivery.
 ghost use Rattle.std.specs.Prelude.{◌≡◌, ◌-◌, ◌<◌, false, OnErr, OnOk};
 ghost use Rattle.pr_rack.specs.Told.{told};
-ghost use Rattle.replate.specs.Making.{Made, SomeServed, Stopped, is_making as is_making_lem, IsUp};
+ghost use Rattle.replate.specs.Making.{IsUp, Made, SomeServed, Stopped, has_left as has_left_lem, is_making as is_making_lem};
 
 use crate::RemadeEnd;
 use pr_base::{Deal, NoMemory};
@@ -28,6 +28,13 @@ impl Maker {
         }
     }
 
+    /// Whether it has left.
+    fn has_left(&self) -> bool
+        ensures { result ≡ has_left_lem self.now.end }
+    {
+        matches!(self.end, RemadeEnd::Left { .. })
+    }
+
     /// The delivery ends here for this cause.
     fn leave(&mut self, cause: LeftCause)
         ensures { self.new ≡ record self.old { end = RemadeEnd.Left cause.plates cause.path } }
@@ -40,6 +47,7 @@ impl Maker {
 }
 
 /// A site takes the row that was put last, keeps it and gives it back, unless it has left.
+#[tactic(auto, using(crate::proofs::MakerLemmas::left_stays))]
 pub(crate) fn hand<D: Deal, R: Rack>(
     deck: &mut Deck<'_, D>,
     maker: &mut Maker,
@@ -54,9 +62,28 @@ pub(crate) fn hand<D: Deal, R: Rack>(
         (told R.Rack rack.old) (told R.Rack rack.new) maker.old) }
     ensures deck { deck.new ≡ deck.old }
 {
-    let RemadeEnd::Done { .. } = &maker.end else {
+    if maker.has_left() {
         return Ok(());
-    };
+    }
+    hand_on(deck, maker, rack)
+}
+
+/// The same with a site that goes on.
+fn hand_on<D: Deal, R: Rack>(
+    deck: &mut Deck<'_, D>,
+    maker: &mut Maker,
+    rack: &mut R,
+) -> Result<(), NoMemory>
+    requires going { has_left_lem maker.old.end ≡ false }
+    requires put { 0 < deck.old.put }
+    requires home { deck.old.out ≡ false }
+    requires some { SomeServed deck.old.rows (deck.old.put - 1) (told R.Rack rack.old) maker.old }
+    ensures made { OnOk result (Made deck.old.rows (deck.old.put - 1)
+        (told R.Rack rack.old) (told R.Rack rack.new) maker.old maker.new) }
+    ensures stopped { OnErr result (Stopped deck.old.rows (deck.old.put - 1)
+        (told R.Rack rack.old) (told R.Rack rack.new) maker.old) }
+    ensures deck { deck.new ≡ deck.old }
+{
     let held = deck.take();
     let kept = maker.site.keep(&held, rack);
     deck.give(held);

@@ -19,8 +19,8 @@ use ring_lanes::Deck;
 use site_agent::Site;
 use std::alloc::Global;
 
-/// What doesn't change while a delivery goes on: the new job, which of its plates must be made, and the folder
-/// of the plates.
+/// What doesn't change while a delivery goes on: the new job, which of its plates must be made, and the
+/// folder of the plates.
 #[derive(Drop)]
 pub(crate) struct Remaking<'p> {
     pub(crate) alloc: Global,

@@ -4,96 +4,105 @@ use Rattle.site_agent.specs.declared.kept.Kept.TheVariants as kept
 use Rattle.site_agent.proofs.Drawing.{Keeps}
 use Rattle.replate.specs.declared.maker.Maker.{Maker}
 use Rattle.replate.specs.Making.{Made}
-use Rattle.replate.proofs.MakerLemmas.{IsPutRow, asks, made_left, made_on, made_stopped}
-use Rattle.replate.proofs.maker.hand.Goals as goal
+use Rattle.replate.proofs.MakerLemmas.{IsPutRow, asks, is_done, made_left, made_on, made_stopped}
+use Rattle.replate.proofs.maker.hand_on.Goals as goal
 
 pub keep-kept-requires-clause-going : goal.keep-kept-requires-clause-going
 keep-kept-requires-clause-going g c =
     let held = c.take-held.result in
     let n : ℕ = c.args.deck.now.put - 1 in
+    let done = is_done c.args.maker.now.end c.requires.going in
     let number : held.number ≡ n = (let put = c.take-held.ensures.number in omega (arith, put)) in
     let now : RackTells = told g.R.Rack c.args.rack.now in
-    (asks c.args.deck.now.rows n now c.args.maker.now held c.in-Done.made c.in-Done.kept c.requires.some c.in-Done.is number c.take-held.ensures.bytes).on
+    (asks c.args.deck.now.rows n now c.args.maker.now held done.0 done.1.0 c.requires.some done.1.1 number c.take-held.ensures.bytes).on
 
 pub keep-kept-requires-clause-next : goal.keep-kept-requires-clause-next
 keep-kept-requires-clause-next g c =
     let held = c.take-held.result in
     let n : ℕ = c.args.deck.now.put - 1 in
+    let done = is_done c.args.maker.now.end c.requires.going in
     let number : held.number ≡ n = (let put = c.take-held.ensures.number in omega (arith, put)) in
     let now : RackTells = told g.R.Rack c.args.rack.now in
-    (asks c.args.deck.now.rows n now c.args.maker.now held c.in-Done.made c.in-Done.kept c.requires.some c.in-Done.is number c.take-held.ensures.bytes).next_is
+    (asks c.args.deck.now.rows n now c.args.maker.now held done.0 done.1.0 c.requires.some done.1.1 number c.take-held.ensures.bytes).next_is
 
 pub keep-kept-requires-clause-within : goal.keep-kept-requires-clause-within
 keep-kept-requires-clause-within g c =
     let held = c.take-held.result in
     let n : ℕ = c.args.deck.now.put - 1 in
+    let done = is_done c.args.maker.now.end c.requires.going in
     let number : held.number ≡ n = (let put = c.take-held.ensures.number in omega (arith, put)) in
     let now : RackTells = told g.R.Rack c.args.rack.now in
-    (asks c.args.deck.now.rows n now c.args.maker.now held c.in-Done.made c.in-Done.kept c.requires.some c.in-Done.is number c.take-held.ensures.bytes).within
+    (asks c.args.deck.now.rows n now c.args.maker.now held done.0 done.1.0 c.requires.some done.1.1 number c.take-held.ensures.bytes).within
 
 pub keep-kept-requires-clause-frame : goal.keep-kept-requires-clause-frame
 keep-kept-requires-clause-frame g c =
     let held = c.take-held.result in
     let n : ℕ = c.args.deck.now.put - 1 in
+    let done = is_done c.args.maker.now.end c.requires.going in
     let number : held.number ≡ n = (let put = c.take-held.ensures.number in omega (arith, put)) in
     let now : RackTells = told g.R.Rack c.args.rack.now in
-    (asks c.args.deck.now.rows n now c.args.maker.now held c.in-Done.made c.in-Done.kept c.requires.some c.in-Done.is number c.take-held.ensures.bytes).frame
+    (asks c.args.deck.now.rows n now c.args.maker.now held done.0 done.1.0 c.requires.some done.1.1 number c.take-held.ensures.bytes).frame
 
 pub keep-kept-requires-clause-row : goal.keep-kept-requires-clause-row
 keep-kept-requires-clause-row g c =
     let held = c.take-held.result in
     let n : ℕ = c.args.deck.now.put - 1 in
+    let done = is_done c.args.maker.now.end c.requires.going in
     let number : held.number ≡ n = (let put = c.take-held.ensures.number in omega (arith, put)) in
     let now : RackTells = told g.R.Rack c.args.rack.now in
-    (asks c.args.deck.now.rows n now c.args.maker.now held c.in-Done.made c.in-Done.kept c.requires.some c.in-Done.is number c.take-held.ensures.bytes).row
+    (asks c.args.deck.now.rows n now c.args.maker.now held done.0 done.1.0 c.requires.some done.1.1 number c.take-held.ensures.bytes).row
 
 pub keep-kept-requires-clause-begun : goal.keep-kept-requires-clause-begun
 keep-kept-requires-clause-begun g c =
     let held = c.take-held.result in
     let n : ℕ = c.args.deck.now.put - 1 in
+    let done = is_done c.args.maker.now.end c.requires.going in
     let number : held.number ≡ n = (let put = c.take-held.ensures.number in omega (arith, put)) in
     let now : RackTells = told g.R.Rack c.args.rack.now in
-    (asks c.args.deck.now.rows n now c.args.maker.now held c.in-Done.made c.in-Done.kept c.requires.some c.in-Done.is number c.take-held.ensures.bytes).begun
+    (asks c.args.deck.now.rows n now c.args.maker.now held done.0 done.1.0 c.requires.some done.1.1 number c.take-held.ensures.bytes).begun
 
 pub keep-kept-requires-clause-working : goal.keep-kept-requires-clause-working
 keep-kept-requires-clause-working g c =
     let held = c.take-held.result in
     let n : ℕ = c.args.deck.now.put - 1 in
+    let done = is_done c.args.maker.now.end c.requires.going in
     let number : held.number ≡ n = (let put = c.take-held.ensures.number in omega (arith, put)) in
     let now : RackTells = told g.R.Rack c.args.rack.now in
-    (asks c.args.deck.now.rows n now c.args.maker.now held c.in-Done.made c.in-Done.kept c.requires.some c.in-Done.is number c.take-held.ensures.bytes).working
+    (asks c.args.deck.now.rows n now c.args.maker.now held done.0 done.1.0 c.requires.some done.1.1 number c.take-held.ensures.bytes).working
 
-pub returns-in-Done-kept-clause-made : goal.returns-in-Done-kept-clause-made
-returns-in-Done-kept-clause-made g c =
+pub returns-in-Done-clause-made : goal.returns-in-Done-clause-made
+returns-in-Done-clause-made g c =
     let held = c.take-held.result in
     let n : ℕ = c.args.deck.now.put - 1 in
+    let done = is_done c.args.maker.now.end c.requires.going in
     let number : held.number ≡ n = (let put = c.take-held.ensures.number in omega (arith, put)) in
     let old : RackTells = told g.R.Rack c.args.rack.now in
     let new : RackTells = told g.R.Rack c.keep-kept.new.rack in
     let row : IsPutRow c.args.deck.now.rows n held = record { number_is = number; bytes_are = c.take-held.ensures.bytes; source_is = c.take-held.ensures.source } in
     let keeps : Keeps c.args.maker.now.site c.keep-kept.new.self held old new kept.Done = record {
-      keeps = c.in-Done-kept.ensures.keeps;
-      goes_on = c.in-Done-kept.ensures.goes_on;
-      begun_on = c.in-Done-kept.ensures.begun_on;
-      working_on = c.in-Done-kept.ensures.working_on;
-      done_missed = c.in-Done-kept.ensures.done_missed;
-      passes = c.in-Done-kept.ensures.passes;
-      left = c.in-Done-kept.ensures.left;
-      left_counted = c.in-Done-kept.ensures.left_counted;
-      left_missed = c.in-Done-kept.ensures.left_missed;
-      left_taken = c.in-Done-kept.ensures.left_taken;
-      memory_missed = c.in-Done-kept.ensures.memory_missed;
-      memory_taken = c.in-Done-kept.ensures.memory_taken;
-      finished_stay = c.in-Done-kept.ensures.finished_stay;
-      ended = c.in-Done-kept.ensures.ended;
-      faults_stay = c.in-Done-kept.ensures.faults_stay;
+      keeps = c.in-Done.ensures.keeps;
+      goes_on = c.in-Done.ensures.goes_on;
+      begun_on = c.in-Done.ensures.begun_on;
+      working_on = c.in-Done.ensures.working_on;
+      done_missed = c.in-Done.ensures.done_missed;
+      passes = c.in-Done.ensures.passes;
+      left = c.in-Done.ensures.left;
+      left_counted = c.in-Done.ensures.left_counted;
+      left_missed = c.in-Done.ensures.left_missed;
+      left_taken = c.in-Done.ensures.left_taken;
+      memory_missed = c.in-Done.ensures.memory_missed;
+      memory_taken = c.in-Done.ensures.memory_taken;
+      finished_stay = c.in-Done.ensures.finished_stay;
+      ended = c.in-Done.ensures.ended;
+      faults_stay = c.in-Done.ensures.faults_stay;
     } in
-    made_on c.args.deck.now.rows n old new held c.args.maker.now c.keep-kept.new.self c.in-Done.made c.in-Done.kept c.in-Done.is row keeps
+    made_on c.args.deck.now.rows n old new held c.args.maker.now c.keep-kept.new.self done.0 done.1.0 done.1.1 row keeps
 
 pub returns-in-Left-clause-made : goal.returns-in-Left-clause-made
 returns-in-Left-clause-made g c =
     let held = c.take-held.result in
     let n : ℕ = c.args.deck.now.put - 1 in
+    let done = is_done c.args.maker.now.end c.requires.going in
     let old : RackTells = told g.R.Rack c.args.rack.now in
     let new : RackTells = told g.R.Rack c.keep-kept.new.rack in
     let keeps : Keeps c.args.maker.now.site c.keep-kept.new.self held old new (kept.Left c.in-Left.cause) = record {
@@ -114,12 +123,13 @@ returns-in-Left-clause-made g c =
       faults_stay = c.in-Left.ensures.faults_stay;
     } in
     subst (λ (is : Maker). Made c.args.deck.now.rows n old new c.args.maker.now is) (sym c.leave.ensures)
-    (made_left c.args.deck.now.rows n old new held c.args.maker.now c.keep-kept.new.self c.in-Done.made c.in-Done.kept c.in-Left.cause c.in-Done.is keeps)
+    (made_left c.args.deck.now.rows n old new held c.args.maker.now c.keep-kept.new.self done.0 done.1.0 c.in-Left.cause done.1.1 keeps)
 
 pub returns-in-Memory-clause-stopped : goal.returns-in-Memory-clause-stopped
 returns-in-Memory-clause-stopped g c =
     let held = c.take-held.result in
     let n : ℕ = c.args.deck.now.put - 1 in
+    let done = is_done c.args.maker.now.end c.requires.going in
     let old : RackTells = told g.R.Rack c.args.rack.now in
     let new : RackTells = told g.R.Rack c.keep-kept.new.rack in
     let keeps : Keeps c.args.maker.now.site c.keep-kept.new.self held old new kept.Memory = record {
@@ -139,4 +149,4 @@ returns-in-Memory-clause-stopped g c =
       ended = c.in-Memory.ensures.ended;
       faults_stay = c.in-Memory.ensures.faults_stay;
     } in
-    made_stopped c.args.deck.now.rows n old new held c.args.maker.now c.keep-kept.new.self c.in-Done.made c.in-Done.kept c.in-Done.is keeps
+    made_stopped c.args.deck.now.rows n old new held c.args.maker.now c.keep-kept.new.self done.0 done.1.0 done.1.1 keeps
