@@ -1,5 +1,5 @@
 // Which plates of a site must be made, in the order of its files.
-ghost use Rattle.std.specs.Prelude.{◌≡◌, ◌<◌, ◌++◌, IfOk, OnOk, length, map};
+ghost use Rattle.std.specs.Prelude.{◌≡◌, ◌<◌, ◌++◌, ◌∷◌, [], IfOk, OnOk, length, map};
 ghost use Rattle.plan_json.specs.Plan.{IsPlan};
 ghost use Rattle.plan_rows.specs.Groups.{groups_of};
 ghost use Rattle.plan_rows.specs.Inks.{inks_of};
@@ -9,7 +9,7 @@ ghost use Rattle.replate.specs.Remade.{is_picked, picked_bits};
 
 use crate::standing::{group_with, has_site, site_count};
 use crate::{Inputs, Picks};
-use pr_base::NoMemory;
+use pr_base::{Ink, NoMemory};
 use std::alloc::Global;
 
 /// For each plate of a site, in the order of its files, whether it must be made.
@@ -74,7 +74,24 @@ fn add_inks(
 {
     let group = group_with(after.plan, after.rows, index);
     for ink in group.inks() {
-        bits.push(picks.made(site, index, *ink))?;
+        add_plate(bits, picks, site, index, *ink)?;
     }
+    Ok(())
+}
+
+/// Adds that of a plate.
+fn add_plate(
+    bits: &mut Vec<bool>,
+    picks: &Picks,
+    site: usize,
+    index: usize,
+    ink: Ink,
+) -> Result<(), NoMemory>
+    requires site { site < 16 }
+    requires index { index < length picks.now.kept }
+    ensures { OnOk result (bits.new.items
+        ≡ bits.old.items ++ is_picked picks.now (record { site = site; group = index; ink = ink }) ∷ []) }
+{
+    bits.push(picks.made(site, index, ink))?;
     Ok(())
 }

@@ -19,7 +19,6 @@ loop-ink-preserved c =
     let seen : List Bool = old ++ map test (ink_plates c.args.site c.args.index (take k inks)) in
     let long : length items ≡ length inks = ap length same in
     let low = c.loop-ink-test.true in
-    c.in_ok-push.ensures.items ∙ ap (λ l. l ++ c.made.result ∷ []) c.loop-ink.invariant
-    ∙ ap (λ b. seen ++ b ∷ []) c.made.ensures
+    c.in_ok-add_plate.ensures ∙ ap (λ l. l ++ test (plate (get_or items k C)) ∷ []) c.loop-ink.invariant
     ∙ ap (λ l. seen ++ test (plate (get_or l k C)) ∷ []) same
     ∙ map_map_more test plate old inks k C (omega arith)
