@@ -16,7 +16,7 @@ use Rattle.plate_room.specs.Drill.{HaveFiles, finished_end, finished_ends, rows_
 use Rattle.ring_run.specs.Fits.{Delivery, FitsEnd, RunFits, files_for}
 use Rattle.ring_run.specs.declared.site_end.SiteEnd.{SiteEnd}
 use Rattle.ring_run.specs.declared.site_end.SiteEnd.TheVariants.{Finished, Left}
-use Rattle.plate_room.proofs.Verdicts.{there}
+use Rattle.plate_room.proofs.Owed.{there}
 
 -- what a rack that doesn't fail tells
 abbrev pub sure_told : MemState → RackTells

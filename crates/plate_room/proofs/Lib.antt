@@ -1,10 +1,12 @@
 pub mod Grow
-pub mod Verdicts
+pub mod Jobs
+pub mod Owed
 pub mod Told
 pub mod Clauses
 pub mod Pack
 pub mod Numbers
 pub mod Delivering
+pub mod Looking
 pub mod DrillVerdict
 pub mod DrillDots
 pub mod Drilled

@@ -12,6 +12,12 @@ pub record Edition : Type 0 where
   pub ring : ℕ
   pub patience : ℕ
 
+-- an edition whose plates are looked at: its plan, the folder of its files, and the folder of its plates
+pub record Asked : Type 0 where
+  pub plan : List ℕ
+  pub files : List ℕ
+  pub out : List ℕ
+
 -- what a command line asks for
 pub data Command : Type 0 where
   -- the black plate of one file
@@ -20,6 +26,8 @@ pub data Command : Type 0 where
   Run : Edition → Command
   -- the plates of the generated job with this number, over a ring of so many places and with this patience
   Drill : ℕ → ℕ → ℕ → Command
+  -- whether the plates that are held are those of an edition
+  Verify : Asked → Command
 
 -- the word isn't empty
 abbrev pub is_given : List ℕ → Bool
@@ -63,6 +71,17 @@ drill_of (number ∷ numbers) =
     option_and_then (λ n. option_map (λ turns. Drill n turns.0 turns.1) (numbers_of numbers))
     (number_within 0 4294967295 number)
 
+-- the words behind `verify`: a plan and two folders
+abbrev pub asked_of : List (List ℕ) → Option Asked
+asked_of [] = None
+asked_of (plan ∷ []) = None
+asked_of (plan ∷ files ∷ []) = None
+asked_of (plan ∷ files ∷ out ∷ []) =
+    if is_given plan && is_given files && is_given out
+    then Some (record { plan = plan; files = files; out = out })
+    else None
+asked_of (plan ∷ files ∷ out ∷ word ∷ words) = None
+
 -- the command that these words are, if they are one
 unfoldable pub command_of : List (List ℕ) → Option Command
 command_of [] = None
@@ -70,6 +89,7 @@ command_of (name ∷ words) =
     if pointwise nat_eq name (codes "one") then one_of words
     else if pointwise nat_eq name (codes "run") then option_map Run (edition_of words)
     else if pointwise nat_eq name (codes "drill") then drill_of words
+    else if pointwise nat_eq name (codes "verify") then option_map Verify (asked_of words)
     else None
 
 -- the words ask for a drill
@@ -78,6 +98,15 @@ AsksDrill None = ⊥
 AsksDrill (Some (One file)) = ⊥
 AsksDrill (Some (Run edition)) = ⊥
 AsksDrill (Some (Drill number ring patience)) = Unit {0}
+AsksDrill (Some (Verify asked)) = ⊥
+
+-- the words ask whether plates are right
+abbrev pub AsksVerify : Option Command → Type 0
+AsksVerify None = ⊥
+AsksVerify (Some (One file)) = ⊥
+AsksVerify (Some (Run edition)) = ⊥
+AsksVerify (Some (Drill number ring patience)) = ⊥
+AsksVerify (Some (Verify asked)) = Unit {0}
 
 -- the bytes of each word
 abbrev pub words_of : {Z : Type 0} → List (String Z) → List (List ℕ)

@@ -15,6 +15,8 @@ use Rattle.job_gen.specs.Plan.{job_plan}
 use Rattle.drill_room.specs.Dots.{all_dots}
 use Rattle.ring_run.specs.Fits.{kept_rows}
 use Rattle.plate_room.specs.Report.{report_of}
+use Rattle.plate_room.specs.Seen.{ShelfSeen}
+use Rattle.plate_room.specs.Task.{Rules}
 use Rattle.ring_run.specs.declared.site_end.SiteEnd.{SiteEnd}
 use Rattle.ring_run.specs.declared.site_end.SiteEnd.TheVariants.{Finished}
 
@@ -65,6 +67,19 @@ GeneratedJobsPass = (n : ℕ) → verdict_on_files (job_plan n) (codes "in") (fi
 -- what the drill of a number prints
 unfoldable pub drill_text : ℕ → List ℕ
 drill_text number = told_of (drill_job number)
+
+-- the text is that of the drill of a number
+pub record PrintsDrill (number : ℕ) (shelf : ShelfSeen) (text : List ℕ) (status : ℕ) : Type 0 where
+  pub is : text ≡ drill_text number
+  pub zero : status ≡ 0
+
+-- nothing is wrong with a drill, and it meets no refusal
+abbrev pub drill_rules : Rules
+drill_rules = record {
+  verdict = λ files. None;
+  Meets = λ shelf refusal. ⊥;
+  Ends = λ files status. status ≡ 0;
+}
 
 -- ---- private calls
 

@@ -2,16 +2,16 @@
 use Rattle.std.specs.Prelude.{◌≡◌, ℕ, ◌⊎◌, List, [], ◌++◌, take, Option, Some}
 use Rattle.pr_ports.specs.Sink.{Grew, GrewByPrefix}
 use Rattle.plate_room.specs.Line.{memory_line}
-use Rattle.plate_room.specs.Refusal.{Refusal, status_of, line_of}
-use Rattle.plate_room.specs.Verdict.{verdict_of}
-use Rattle.plate_room.specs.Met.{Meets}
+use Rattle.plate_room.specs.declared.refusal.Refusal.{Refusal}
+use Rattle.plate_room.specs.Refusal.{status_of, line_of}
+use Rattle.plate_room.specs.Tasks.{Meets, verdict_of}
 use Rattle.plate_room.specs.Seen.{Files, ShelfSeen, SinkSeen}
 
 -- ---- statuses
 
--- the command is done; 1 where a site left
+-- the command is done; 1 where a site left, and 8 where a plate that is held isn't right
 abbrev pub IsDoneStatus : ℕ → Type 0
-IsDoneStatus status = (status ≡ 0) ⊎ (status ≡ 1)
+IsDoneStatus status = (status ≡ 0) ⊎ (status ≡ 1) ⊎ (status ≡ 8)
 
 -- the status tells of a refusal: of the words, the plan, a file or the shelf
 abbrev pub IsRefusal : ℕ → Type 0

@@ -1,14 +1,16 @@
 -- How a run of `plate_main` ends. This is the contract of a private call.
-use Rattle.std.specs.Prelude.{◌≡◌, ℕ, List, Some}
+use Rattle.std.specs.Prelude.{◌≡◌, ℕ, List, Some, Result, Ok, Err}
 use Rattle.pr_ports.specs.Sink.{Grew, GrewByPrefix}
 use Rattle.pr_rack.specs.declared.rack.Rack.{Ghosts}
+use Rattle.plate_room.specs.declared.refusal.Refusal.{Refusal}
+use Rattle.plate_room.specs.declared.refusal.Stop.{Stop}
+use Rattle.plate_room.specs.declared.refusal.Stop.TheVariants as stop
 use Rattle.plate_room.specs.Command.{Command, command_of}
 use Rattle.plate_room.specs.Line.{memory_line}
-use Rattle.plate_room.specs.Refusal.{Refusal, status_of, line_of}
-use Rattle.plate_room.specs.Met.{Meets}
-use Rattle.plate_room.specs.Done.{IsDone, IsCut}
-use Rattle.plate_room.specs.End.{IsDoneStatus, GrewByTwo}
-use Rattle.plate_room.specs.Seen.{Seen, SinkSeen, PutFailed}
+use Rattle.plate_room.specs.Refusal.{status_of, line_of}
+use Rattle.plate_room.specs.Tasks.{IsCut, IsDone, IsUnprinted, Meets}
+use Rattle.plate_room.specs.End.{GrewByTwo}
+use Rattle.plate_room.specs.Seen.{Seen, SinkSeen, IsSilent, PutFailed}
 
 -- the words are a command
 abbrev pub IsAsked : List (List ℕ) → Type 0
@@ -18,25 +20,29 @@ IsAsked words = (command : Command) × (command_of words ≡ Some command)
 pub record IsStopped {R : Type 0} (seen : Seen R) (refusal : Refusal) : Type 0 where
   pub met : Meets seen.words seen.shelf refusal
   pub racks : seen.racks' ≡ seen.racks
-  pub given : seen.out.given' ≡ seen.out.given
-  pub faults : seen.out.faults' ≡ seen.out.faults
-
--- a sink took nothing, and no write failed
-pub record IsSilent (sink : SinkSeen) : Type 0 where
-  pub given : sink.given' ≡ sink.given
-  pub faults : sink.faults' ≡ sink.faults
+  pub silent : IsSilent seen.out
 
 module _ {R : Type 0} (g : Ghosts R) where
   -- the command is done, and no load failed that the shelf tells of
   pub record IsFinished (seen : Seen R) (status : ℕ) : Type 0 where
-    pub is : IsDoneStatus status
-    pub made : IsDone g seen.words seen.shelf.held seen.racks seen.racks' seen.out status
+    pub made : IsDone g seen.words seen.shelf seen.racks seen.racks' seen.out status
     pub missed : seen.shelf.missed' ≡ seen.shelf.missed
 
   -- a part of a command was done
   pub record IsBroken (seen : Seen R) : Type 0 where
     pub asked : IsAsked seen.words
-    pub cut : IsCut g seen.words seen.shelf.held seen.racks seen.racks' seen.out
+    pub cut : IsCut g seen.words seen.shelf seen.racks seen.racks' seen.out
+
+  -- a command was done but for its text
+  abbrev pub IsSpoilt : Seen R → Type 0
+  IsSpoilt seen = IsUnprinted g seen.words seen.shelf seen.racks seen.racks' seen.out
+
+  -- what a command leaves
+  abbrev pub Answered : Seen R → Result ℕ Stop → Type 0
+  Answered seen (Ok status) = IsFinished seen status
+  Answered seen (Err (stop.Refused refusal)) = IsStopped seen refusal
+  Answered seen (Err stop.Memory) = IsBroken seen
+  Answered seen (Err stop.Printing) = IsSpoilt seen
 
   pub data Ending (seen : Seen R) (note : SinkSeen) (status : ℕ) : Type 0 where
     Done : IsFinished seen status → IsSilent note → Ending seen note status
@@ -52,5 +58,4 @@ module _ {R : Type 0} (g : Ghosts R) where
     Wanted : status ≡ 6 → IsBroken seen → GrewByPrefix note.given note.given' memory_line
         → Ending seen note status
     -- the output failed
-    NotPrinted : status ≡ 7 → IsBroken seen → PutFailed seen.out → note.given' ≡ note.given
-        → Ending seen note status
+    NotPrinted : status ≡ 7 → IsSpoilt seen → note.given' ≡ note.given → Ending seen note status

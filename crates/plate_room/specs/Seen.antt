@@ -68,6 +68,11 @@ LoadFailed shelf = Rose shelf.faults shelf.faults'
 abbrev pub PutFailed : SinkSeen → Type 0
 PutFailed sink = Rose sink.faults sink.faults'
 
+-- a sink took nothing, and no write failed
+pub record IsSilent (sink : SinkSeen) : Type 0 where
+  pub given : sink.given' ≡ sink.given
+  pub faults : sink.faults' ≡ sink.faults
+
 -- a call of a rack failed
 pub record RackFailed {R : Type 0} (g : rack.Ghosts R) (racks racks' : List R) : Type 0 where
   pub site : ℕ

@@ -1,14 +1,15 @@
 // Doing a command.
 ghost use Rattle.plate_room.specs.Command.{AsksDrill, command_of as meant, words_of};
-ghost use Rattle.plate_room.specs.Answer.{Answered};
+ghost use Rattle.plate_room.specs.Ending.{Answered};
 ghost use Rattle.plate_room.specs.Seen.{AreIdle, shelf_seen, sink_seen};
 ghost use Rattle.std.specs.Prelude.{◌≡◌, ◌≤◌, length};
 
+use crate::check::print_check;
 use crate::command::{Command, command_of};
 use crate::drill::print_drill;
 use crate::edition::run_edition;
-use crate::note::Refusal;
 use crate::one::print_one;
+use crate::refusal::{Refusal, Stop};
 use pr_ports::{Shelf, Sink};
 use pr_rack::Rack;
 use std::alloc::Global;
@@ -22,7 +23,7 @@ pub(crate) fn answer<T: Threads + Sync, H: Shelf, R: Rack + Send, S: Sink>(
     shelf: &mut H,
     racks: &mut [R],
     out: &mut S,
-) -> Result<u8, Refusal>
+) -> Result<u8, Stop>
     requires racks { 16 ≤ length racks.old }
     requires idle { AreIdle R.Rack racks.old }
     ensures answered { Answered R.Rack (record {
@@ -40,6 +41,7 @@ pub(crate) fn answer<T: Threads + Sync, H: Shelf, R: Rack + Send, S: Sink>(
         Some(Command::One { file }) => print_one(alloc, file, shelf, out),
         Some(Command::Run(edition)) => run_edition(rt, alloc, edition, shelf, racks, out),
         Some(Command::Drill(drill)) => print_drill(rt, alloc, drill, out),
-        None => Err(Refusal::Words),
+        Some(Command::Verify(asked)) => print_check(alloc, asked, shelf, out),
+        None => Err(Stop::Refused(Refusal::Words)),
     }
 }

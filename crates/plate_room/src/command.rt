@@ -1,8 +1,8 @@
 // The words of a command line.
 ghost use Rattle.std.specs.Prelude.{◌≡◌, IfSome};
 ghost use Rattle.plan_words.specs.Words.{IsWithin};
-ghost use Rattle.plate_room.specs.Command.{command_of as meant, drill_of as drill_meant, edition_of as edition_meant, numbers_of as numbers_meant, one_of as one_meant, words_of};
-ghost use Rattle.plate_room.specs.Answer.{HasNumbers, HasTurns, IfRun, IsCommand, IsDrill, IsEdition};
+ghost use Rattle.plate_room.specs.Command.{asked_of as asked_meant, command_of as meant, drill_of as drill_meant, edition_of as edition_meant, numbers_of as numbers_meant, one_of as one_meant, words_of};
+ghost use Rattle.plate_room.specs.Answer.{HasNumbers, HasTurns, IfRun, IsAskedFor, IsCommand, IsDrill, IsEdition};
 
 use crate::number::number_within;
 
@@ -19,6 +19,17 @@ pub(crate) struct Edition<'a> {
     pub(crate) ring: u32,
     /// How often a turn looks for a row in vain, 1 to 65,536.
     pub(crate) patience: u32,
+}
+
+/// An edition whose plates are looked at.
+#[derive(Clone, Copy)]
+pub(crate) struct Asked<'a> {
+    /// The path of the plan.
+    pub(crate) plan: &'a str,
+    /// The folder of the plan's files.
+    pub(crate) files: &'a str,
+    /// The folder of the plates.
+    pub(crate) out: &'a str,
 }
 
 /// A generated job to be run in memory.
@@ -41,6 +52,8 @@ pub(crate) enum Command<'a> {
     Run(Edition<'a>),
     /// `drill N [RING [PATIENCE]]`: the report of a generated job, and the dots on its plates.
     Drill(Drill),
+    /// `verify PLAN FILES OUT`: whether the plates that are held are those of an edition.
+    Verify(Asked<'a>),
 }
 
 const RING: u32 = 64;
@@ -68,6 +81,10 @@ pub(crate) fn command_of(words: &[String]) -> Option<Command<'_>>
         },
         "drill" => match drill_of(words) {
             Some(drill) => Some(Command::Drill(drill)),
+            None => None,
+        },
+        "verify" => match asked_of(words) {
+            Some(asked) => Some(Command::Verify(asked)),
             None => None,
         },
         _ => None,
@@ -106,6 +123,22 @@ fn edition_of(words: &[String]) -> Option<Edition<'_>>
         ring,
         patience,
     })
+}
+
+/// The words behind `verify`.
+fn asked_of(words: &[String]) -> Option<Asked<'_>>
+    ensures { IsAskedFor result (asked_meant (words_of words.now)) }
+{
+    match words {
+        [plan, files, out] if !plan.is_empty() && !files.is_empty() && !out.is_empty() => {
+            Some(Asked {
+                plan: plan.as_str(),
+                files: files.as_str(),
+                out: out.as_str(),
+            })
+        }
+        _ => None,
+    }
 }
 
 /// The words behind `drill`.

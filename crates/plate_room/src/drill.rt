@@ -7,19 +7,21 @@ ghost use Rattle.pr_rack.specs.Mem.{empty_slots};
 ghost use Rattle.plan_words.specs.Words.{IsWithin};
 ghost use Rattle.plan_json.specs.PlanOf.{plan_of};
 ghost use Rattle.press_job.specs.Verdict.{files_in, verdict_on_files};
-ghost use Rattle.plate_room.specs.Answer.{DrillAnswered};
-ghost use Rattle.plate_room.specs.Drill.{drill_job, drill_text as text_for, told_of};
-ghost use Rattle.plate_room.specs.Seen.{sink_seen};
+ghost use Rattle.plate_room.specs.Drill.{PrintsDrill, drill_job, drill_rules, drill_text as text_for, told_of};
+ghost use Rattle.plate_room.specs.Seen.{ShelfSeen, sink_seen};
+ghost use Rattle.plate_room.specs.Task.{Told};
 
 use crate::command::Drill;
 use crate::dots::told;
-use crate::note::Refusal;
+use crate::put::put_text;
+use crate::refusal::Stop;
 use crate::run_job;
+use crate::status::Status;
 use drill_room::{SureRack, SureShelf};
 use job_gen::make_job;
 use plan_json::{Plan, PlanFault, read_plan};
 use pr_base::{NoMemory, PathText};
-use pr_ports::{Sink, SinkFault};
+use pr_ports::Sink;
 use press_feed::{Job, prepare};
 use std::alloc::Global;
 use std::thread::Threads;
@@ -30,9 +32,6 @@ const FILES: &str = "in";
 /// The folder of its plates.
 const PLATES: &str = "drill";
 
-/// The status of a command that is done.
-const DONE: u8 = 0;
-
 /// Runs a generated job in memory, and prints the report and the dots of its plates. It answers the status
 /// of what was done.
 pub(crate) fn print_drill<T: Threads + Sync, S: Sink>(
@@ -40,19 +39,16 @@ pub(crate) fn print_drill<T: Threads + Sync, S: Sink>(
     alloc: Global,
     drill: Drill,
     out: &mut S,
-) -> Result<u8, Refusal>
+) -> Result<u8, Stop>
     requires ring { IsWithin 1 1024 drill.ring }
     requires patience { IsWithin 1 65536 drill.patience }
-    ensures { DrillAnswered drill.number (sink_seen S.Sink out.old out.new) result }
+    ensures { (shelf : ShelfSeen) → Told drill_rules (PrintsDrill drill.number)
+        shelf (sink_seen S.Sink out.old out.new) result }
 {
     let Ok(text) = drill_text(rt, alloc, drill) else {
-        return Err(Refusal::Memory);
+        return Err(Stop::Memory);
     };
-    match out.put(text.as_bytes()) {
-        Ok(()) => Ok(DONE),
-        Err(SinkFault::Failed) => Err(Refusal::Printing),
-        Err(SinkFault::Memory) => Err(Refusal::Memory),
-    }
+    put_text(text.as_bytes(), Status::Done, out)
 }
 
 /// What a drill prints.

@@ -4,19 +4,25 @@
 
 mod answer;
 mod black;
+mod check;
 mod command;
 mod dots;
 mod drill;
 mod edition;
 mod laws;
+mod loading;
 mod main_call;
 mod note;
 mod number;
 mod one;
 mod plate;
+mod put;
+mod refusal;
 mod report;
 mod room;
+mod status;
 
 pub use laws::generated_jobs_pass;
 pub use main_call::plate_main;
+pub use refusal::{Refusal, Whose};
 pub use ring_run::{FeedEnd, Outcome, SiteEnd, feed_turn, run_job};

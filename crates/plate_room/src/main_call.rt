@@ -1,13 +1,12 @@
 // The top call.
-ghost use Rattle.std.specs.Prelude.{◌≡◌, ◌≤◌, ◌⊎◌, ◌<◌, ◌≢◌, ℕ, None, Some, IfSome, length, slice_index};
-ghost use Rattle.pr_rack.specs.Rack.{none_begun};
-ghost use Rattle.plate_room.specs.Command.{AsksDrill, command_of, words_of};
-ghost use Rattle.plate_room.specs.Done.{IsCut, IsDone};
+ghost use Rattle.std.specs.Prelude.{◌≡◌, ◌≤◌, ◌⊎◌, ◌≢◌, None, Some, IfSome, length};
+ghost use Rattle.plate_room.specs.declared.refusal.Refusal.{Refusal};
+ghost use Rattle.plate_room.specs.Command.{AsksDrill, AsksVerify, command_of, words_of};
 ghost use Rattle.plate_room.specs.End.{IsCutShort, IsDoneStatus, IsRefusal, IsStatus, Tells, TellsOfMemory, TellsPart, TellsVerdict};
 ghost use Rattle.plate_room.specs.Ending.{Ending};
-ghost use Rattle.plate_room.specs.Refusal.{Refusal as RefusalData, status_of};
+ghost use Rattle.plate_room.specs.Refusal.{status_of};
 ghost use Rattle.plate_room.specs.Seen.{AreIdle, Files, IsUntouched, LoadFailed, PutFailed, RackFailed, shelf_seen, sink_seen};
-ghost use Rattle.plate_room.specs.Verdict.{verdict_of};
+ghost use Rattle.plate_room.specs.Tasks.{IsCut, IsDone, IsEnd, IsUnprinted, verdict_of};
 
 use crate::answer::answer;
 use crate::note::tell;
@@ -29,6 +28,7 @@ use std::thread::Threads;
 /// | 5 | the shelf failed |
 /// | 6 | memory was wanted |
 /// | 7 | `out` or `note` failed |
+/// | 8 | done, and a plate that the shelf holds isn't right |
 ///
 /// A drill runs in memory of its own, so that statuses 1, 3, 4 and 5 never come of it.
 pub fn plate_main<T: Threads + Sync, H: Shelf, R: Rack + Send, S: Sink, E: Sink>(
@@ -46,12 +46,14 @@ pub fn plate_main<T: Threads + Sync, H: Shelf, R: Rack + Send, S: Sink, E: Sink>
     ensures held { H.held shelf.new ≡ H.held shelf.old }
 
     // Done: the output and the racks took exactly what the command makes.
-    ensures done { IsDoneStatus result → IsDone R.Rack (words_of words.now) (H.held shelf.old)
-        racks.old racks.new (sink_seen S.Sink out.old out.new) result }
+    ensures done { IsDoneStatus result → IsDone R.Rack (words_of words.now)
+        (shelf_seen H.Shelf shelf.old shelf.new) racks.old racks.new
+        (sink_seen S.Sink out.old out.new) result }
     ensures done_verdict { IsDoneStatus result →
         IfSome (H.held shelf.old) (λ files. verdict_of (words_of words.now) files ≡ None) }
     ensures done_note { IsDoneStatus result → E.given note.new ≡ E.given note.old }
     ensures one { result ≡ 1 → RackFailed R.Rack racks.old racks.new }
+    ensures eight { result ≡ 8 → AsksVerify (command_of (words_of words.now)) }
 
     // Refused: the note took the whole line of a refusal that the words met.
     ensures words { result ≡ 2 → command_of (words_of words.now) ≡ None }
@@ -69,13 +71,15 @@ pub fn plate_main<T: Threads + Sync, H: Shelf, R: Rack + Send, S: Sink, E: Sink>
     ensures verdict { (files : Files) → H.held shelf.old ≡ Some files → IsRefusal result → result ≢ 5
         → TellsVerdict (words_of words.now) files (sink_seen E.Sink note.old note.new) result }
     ensures verdict_there { (files : Files) → H.held shelf.old ≡ Some files
-        → (refusal : RefusalData) → verdict_of (words_of words.now) files ≡ Some refusal
+        → (refusal : Refusal) → verdict_of (words_of words.now) files ≡ Some refusal
         → (LoadFailed (shelf_seen H.Shelf shelf.old shelf.new) → ⊥)
         → (result ≡ status_of refusal) ⊎ IsCutShort result }
 
-    // The output or the note failed.
+    // The output or the note failed; where the output did, all was made but its text, which comes last.
     ensures printing { result ≡ 7 →
-        PutFailed (sink_seen S.Sink out.old out.new) ⊎ PutFailed (sink_seen E.Sink note.old note.new) }
+        IsUnprinted R.Rack (words_of words.now) (shelf_seen H.Shelf shelf.old shelf.new)
+        racks.old racks.new (sink_seen S.Sink out.old out.new)
+        ⊎ PutFailed (sink_seen E.Sink note.old note.new) }
     ensures printing_out { (files : Files) → H.held shelf.old ≡ Some files
         → verdict_of (words_of words.now) files ≡ None
         → (LoadFailed (shelf_seen H.Shelf shelf.old shelf.new) → ⊥)
@@ -89,8 +93,8 @@ pub fn plate_main<T: Threads + Sync, H: Shelf, R: Rack + Send, S: Sink, E: Sink>
         → (verdict_of (words_of words.now) files ≡ None → ⊥) → S.given out.new ≡ S.given out.old }
     ensures refused_racks { IsRefusal result → racks.new ≡ racks.old }
     ensures refused_out { IsRefusal result → S.given out.new ≡ S.given out.old }
-    ensures cut { IsCutShort result → IsCut R.Rack (words_of words.now) (H.held shelf.old)
-        racks.old racks.new (sink_seen S.Sink out.old out.new) }
+    ensures cut { IsCutShort result → IsCut R.Rack (words_of words.now)
+        (shelf_seen H.Shelf shelf.old shelf.new) racks.old racks.new (sink_seen S.Sink out.old out.new) }
     ensures memory_note { result ≡ 6 → TellsOfMemory (words_of words.now)
         (shelf_seen H.Shelf shelf.old shelf.new) (sink_seen E.Sink note.old note.new) }
     ensures printing_note { result ≡ 7 → TellsPart (words_of words.now)
@@ -109,14 +113,18 @@ pub fn plate_main<T: Threads + Sync, H: Shelf, R: Rack + Send, S: Sink, E: Sink>
     ensures drill_shelf { AsksDrill (command_of (words_of words.now)) → shelf.new ≡ shelf.old }
     ensures drill_racks { AsksDrill (command_of (words_of words.now)) → racks.new ≡ racks.old }
 
-    // Where nothing is wrong and nothing fails, the command is done or memory was wanted.
+    // A look at plates leaves the racks alone, and no site leaves.
+    ensures verify { AsksVerify (command_of (words_of words.now)) → result ≢ 1 }
+    ensures verify_racks { AsksVerify (command_of (words_of words.now)) → racks.new ≡ racks.old }
+
+    // Where nothing is wrong and nothing fails, the command ends with its own status or memory was wanted.
     ensures complete { (files : Files) → H.held shelf.old ≡ Some files
         → verdict_of (words_of words.now) files ≡ None
         → (LoadFailed (shelf_seen H.Shelf shelf.old shelf.new) → ⊥)
         → (RackFailed R.Rack racks.old racks.new → ⊥)
         → (PutFailed (sink_seen S.Sink out.old out.new) → ⊥)
         → (PutFailed (sink_seen E.Sink note.old note.new) → ⊥)
-        → (result ≡ 0) ⊎ (result ≡ 6) }
+        → IsEnd (words_of words.now) files result ⊎ (result ≡ 6) }
 {
     run(rt, alloc, words, shelf, racks, out, note)
 }
@@ -146,6 +154,6 @@ fn run<T: Threads + Sync, H: Shelf, R: Rack + Send, S: Sink, E: Sink>(
 {
     match answer(rt, alloc, words, shelf, racks, out) {
         Ok(status) => status,
-        Err(refusal) => tell(alloc, &refusal, note),
+        Err(stop) => tell(alloc, &stop, note),
     }
 }

@@ -1,11 +1,12 @@
 // The command `one`: the black plate of one file.
-ghost use Rattle.std.specs.Prelude.{◌≡◌};
-ghost use Rattle.plate_room.specs.Answer.{OneAnswered};
+ghost use Rattle.std.specs.Prelude.{◌≡◌, OnOk};
+ghost use Rattle.plate_room.specs.OneFile.{PrintsPlate, named, one_rules, too_long as too_long_fault};
 ghost use Rattle.plate_room.specs.Seen.{shelf_seen, sink_seen};
-ghost use Rattle.plate_room.specs.Verdict.{named, too_long as too_long_fault};
+ghost use Rattle.plate_room.specs.Task.{Told};
 
-use crate::note::Refusal;
 use crate::plate::{PlateFault, print_plate};
+use crate::refusal::{Refusal, Stop, Whose};
+use crate::status::Status;
 use pr_base::{FaultKind, FileFault, PathText, TagFault};
 use pr_ports::{LoadFault, Shelf, Sink};
 use std::alloc::Global;
@@ -13,34 +14,36 @@ use std::alloc::Global;
 /// The bytes of a file that are read at most.
 const FILE_LIMIT: u64 = 536_870_912;
 
-/// The status of a command that is done.
-const DONE: u8 = 0;
-
 /// Prints the black plate of one file, and answers the status of what was done.
 pub(crate) fn print_one<H: Shelf, S: Sink>(
     alloc: Global,
     file: &str,
     shelf: &mut H,
     out: &mut S,
-) -> Result<u8, Refusal>
-    ensures answered { OneAnswered file.now
+) -> Result<u8, Stop>
+    ensures told { Told (one_rules file.now) (PrintsPlate file.now)
         (shelf_seen H.Shelf shelf.old shelf.new) (sink_seen S.Sink out.old out.new) result }
     ensures held { H.held shelf.new ≡ H.held shelf.old }
+    ensures missed { OnOk result (H.missed shelf.new ≡ H.missed shelf.old) }
 {
     let Ok(name) = PathText::of(alloc, file) else {
-        return Err(Refusal::Memory);
+        return Err(Stop::Memory);
     };
     let bytes = match shelf.load(file, FILE_LIMIT) {
         Ok(bytes) => bytes,
-        Err(LoadFault::TooLong { .. }) => return Err(Refusal::File(too_long(name))),
-        Err(LoadFault::Failed) => return Err(Refusal::Shelf(name)),
-        Err(LoadFault::Memory) => return Err(Refusal::Memory),
+        Err(LoadFault::TooLong { .. }) => {
+            return Err(Stop::Refused(Refusal::File(Whose::New, too_long(name))));
+        }
+        Err(LoadFault::Failed) => return Err(Stop::Refused(Refusal::Shelf(name))),
+        Err(LoadFault::Memory) => return Err(Stop::Memory),
     };
     match print_plate(alloc, bytes.as_slice(), out) {
-        Ok(()) => Ok(DONE),
-        Err(PlateFault::Refused(fault)) => Err(Refusal::File(faulty(name, fault))),
-        Err(PlateFault::Memory) => Err(Refusal::Memory),
-        Err(PlateFault::Printing) => Err(Refusal::Printing),
+        Ok(()) => Ok(Status::Done.number()),
+        Err(PlateFault::Refused(fault)) => {
+            Err(Stop::Refused(Refusal::File(Whose::New, faulty(name, fault))))
+        }
+        Err(PlateFault::Memory) => Err(Stop::Memory),
+        Err(PlateFault::Printing) => Err(Stop::Printing),
     }
 }
 

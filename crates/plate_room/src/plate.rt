@@ -5,8 +5,8 @@ ghost use Rattle.scr_tile.specs.AnyTile.{threshold_of};
 ghost use Rattle.plate_bytes.specs.Made.{so_far};
 ghost use Rattle.tif_strips.specs.Strips.{row_length};
 ghost use Rattle.plate_room.specs.One.{black_plate, black_rows};
+ghost use Rattle.plate_room.specs.OneFile.{Printed};
 ghost use Rattle.plate_room.specs.Room.{FitsRow};
-ghost use Rattle.plate_room.specs.Answer.{Printed};
 ghost use Rattle.plate_room.specs.Seen.{sink_seen};
 
 use crate::room::{RowRoom, pack_next, row_room};

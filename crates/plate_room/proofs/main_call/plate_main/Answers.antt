@@ -1,5 +1,5 @@
 use Rattle.std.proofs.Common.{refl, inl, inr}
-use Rattle.plate_room.proofs.Clauses.{complete, cut_left, done_made, done_missed, done_note, done_verdict, drill_status, memory_note, one_left, printing_note, printing_out, printing_rose, refused_out, refused_racks, status_is, stays, tells_at, verdict_there, verdict_told, words_none, words_shelf, words_there}
+use Rattle.plate_room.proofs.Clauses.{complete, cut_left, done_made, done_missed, done_note, done_verdict, drill_status, eight_asked, look_never_one, look_racks, memory_note, one_left, printing_note, printing_out, printing_rose, refused_out, refused_racks, status_is, stays, tells_at, verdict_there, verdict_told, words_none, words_shelf, words_there}
 use Rattle.plate_room.proofs.main_call.plate_main.Goals as goal
 
 pub returns-clause-statuses : goal.returns-clause-statuses
@@ -85,3 +85,12 @@ returns-clause-complete g c = complete g.R.Rack _ _ c.run.result c.run.ensures.e
 
 pub returns-clause-drill : goal.returns-clause-drill
 returns-clause-drill g c = drill_status g.R.Rack _ _ c.run.result c.run.ensures.ending
+
+pub returns-clause-eight : goal.returns-clause-eight
+returns-clause-eight g c = eight_asked g.R.Rack _ _ c.run.result c.run.ensures.ending
+
+pub returns-clause-verify : goal.returns-clause-verify
+returns-clause-verify g c = look_never_one g.R.Rack _ _ c.run.result c.run.ensures.ending
+
+pub returns-clause-verify_racks : goal.returns-clause-verify_racks
+returns-clause-verify_racks g c = look_racks g.R.Rack _ _ c.run.result c.run.ensures.ending

@@ -1,8 +1,8 @@
 use Rattle.std.proofs.Common.{refl, ap, ◌∙◌, inl, rules}
-use Rattle.plate_room.specs.Verdict.{named, too_long}
+use Rattle.plate_room.specs.OneFile.{named, too_long}
 use Rattle.plate_room.proofs.one.print_one.Goals as goal
 
-pub returns-in-Err-TooLong-clause-answered : goal.returns-in-Err-TooLong-clause-answered
-returns-in-Err-TooLong-clause-answered g c =
+pub returns-in-Err-TooLong-clause-told : goal.returns-in-Err-TooLong-clause-told
+returns-in-Err-TooLong-clause-told g c =
     let same : _ = ap (λ name. named name too_long) c.in-Ok.ensures in
-    ((too_long, c.too_long.ensures ∙ same, inl (refl, search rules, search rules)), record { given = refl; faults = refl })
+    ((refl, (too_long, c.too_long.ensures ∙ same, inl (refl, search rules, search rules))), record { given = refl; faults = refl })

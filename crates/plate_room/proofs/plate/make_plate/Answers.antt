@@ -1,4 +1,4 @@
-use Rattle.std.proofs.Common.{◌≡◌, ℕ, List, ap, ◌∙◌}
+use Rattle.std.proofs.Common.{ap, ◌∙◌}
 use Rattle.tif_strips.specs.Strips.{Cursor}
 use Rattle.plate_room.specs.One.{black_plate, black_rows}
 use Rattle.plate_room.proofs.Pack.{has_black, whole_black}

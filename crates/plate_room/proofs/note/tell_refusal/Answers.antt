@@ -1,7 +1,7 @@
 use Rattle.std.proofs.Common.{◌∙◌, subst, List, ℕ, inr}
 use Rattle.pr_ports.specs.Sink.{GrewByPrefix}
 use Rattle.plate_room.proofs.Grow.{second_front, both_fronts}
-use Rattle.plate_room.proofs.note.tell_line.Goals as goal
+use Rattle.plate_room.proofs.note.tell_refusal.Goals as goal
 
 pub returns-in_default : goal.returns-in_default
 returns-in_default g c = inr (inr (c.tell_memory.ensures.status, second_front _ _ _ _ c.tell_memory.ensures.note))

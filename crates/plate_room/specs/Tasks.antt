@@ -1,0 +1,74 @@
+-- All commands: what each asks and makes, and what that says of a call.
+use Rattle.std.specs.Prelude.{◌≡◌, ℕ, ◌⊎◌, List, Option, Some, None}
+use Rattle.pr_rack.specs.declared.rack.Rack.{Ghosts}
+use Rattle.plate_room.specs.declared.refusal.Refusal.{Refusal}
+use Rattle.plate_room.specs.declared.refusal.Refusal.TheVariants as refused
+use Rattle.plate_room.specs.Command.{Command, Drill, One, Run, Verify, command_of}
+use Rattle.plate_room.specs.Check.{PrintsFound, check_rules}
+use Rattle.plate_room.specs.Drill.{PrintsDrill, drill_rules}
+use Rattle.plate_room.specs.Edition.{run_makes, run_rules}
+use Rattle.plate_room.specs.OneFile.{PrintsPlate, one_rules}
+use Rattle.plate_room.specs.Seen.{Files, IsUntouched, PutFailed, ShelfSeen, SinkSeen}
+use Rattle.plate_room.specs.Task.{IsNothing, IsPart, Makes, PrintsFront, PrintsWhole, Rules, telling}
+
+-- what a command asks
+abbrev pub rules_of : Command → Rules
+rules_of (One file) = one_rules file
+rules_of (Run edition) = run_rules edition
+rules_of (Drill number ring patience) = drill_rules
+rules_of (Verify asked) = check_rules asked
+
+-- words meet this refusal: they are no command, and nothing is loaded, or they are one that meets it
+abbrev pub Meets : List (List ℕ) → ShelfSeen → Refusal → Type 0
+Meets words shelf refusal =
+    ((command_of words ≡ None) × (refusal ≡ refused.Words) × IsUntouched shelf)
+    ⊎ ((command : Command) × (command_of words ≡ Some command) × (rules_of command).Meets shelf refusal)
+
+-- the verdict on a command: its refusal, or none
+abbrev pub verdict_for : Option Command → Files → Option Refusal
+verdict_for None files = Some refused.Words
+verdict_for (Some command) files = (rules_of command).verdict files
+
+-- the verdict on a command line
+abbrev pub verdict_of : List (List ℕ) → Files → Option Refusal
+verdict_of words files = verdict_for (command_of words) files
+
+-- words are a command that ends with this status where a shelf holds these files and nothing fails
+pub record IsEnd (words : List (List ℕ)) (files : Files) (status : ℕ) : Type 0 where
+  pub command : Command
+  pub asked : command_of words ≡ Some command
+  pub ends : (rules_of command).Ends files status
+
+module _ {R : Type 0} (g : Ghosts R) where
+  -- what a command makes
+  abbrev pub makes_of : Command → Makes R
+  makes_of (One file) = telling (PrintsPlate file)
+  makes_of (Run edition) = run_makes g edition
+  makes_of (Drill number ring patience) = telling (PrintsDrill number)
+  makes_of (Verify asked) = telling (PrintsFound asked)
+
+  -- words are a command, and the output took its whole text
+  pub record IsDone (words : List (List ℕ)) (shelf : ShelfSeen) (racks racks' : List R) (out : SinkSeen)
+      (status : ℕ) : Type 0 where
+    pub command : Command
+    pub asked : command_of words ≡ Some command
+    pub made : PrintsWhole (makes_of command) shelf racks racks' out status
+
+  -- words are a command that was done but for its text, of which the output failed to take all
+  pub record IsUnprinted (words : List (List ℕ)) (shelf : ShelfSeen) (racks racks' : List R) (out : SinkSeen)
+      : Type 0 where
+    pub command : Command
+    pub asked : command_of words ≡ Some command
+    pub made : PrintsFront (makes_of command) shelf racks racks' out
+    pub rose : PutFailed out
+
+  -- words are a command, and it was cut short
+  pub record IsBegun (words : List (List ℕ)) (shelf : ShelfSeen) (racks racks' : List R) (out : SinkSeen)
+      : Type 0 where
+    pub command : Command
+    pub asked : command_of words ≡ Some command
+    pub made : IsPart (makes_of command) shelf racks racks' out
+
+  -- what is left where memory was wanted or a sink failed: nothing was made, or a part
+  abbrev pub IsCut : List (List ℕ) → ShelfSeen → List R → List R → SinkSeen → Type 0
+  IsCut words shelf racks racks' out = IsNothing racks racks' out ⊎ IsBegun words shelf racks racks' out
