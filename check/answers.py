@@ -45,6 +45,9 @@ WORDS = [
     *(["run", "plan.json", "in", "OUT", ring] for ring in ("0", "1025", "064", "+1", "")),
     *(["run", "plan.json", "in", "OUT", "64", patience] for patience in ("0", "65537", "01")),
     ["run", "plan.json", "in", "OUT", "64", "1024", "1"],
+    ["Verify"], ["verify"], ["verify", "plan.json", "in"], ["verify", "plan.json", "in", ""],
+    ["verify", "", "in", "OUT"], ["verify", "plan.json", "", "OUT"], ["verify", "plan.json", "in", "OUT", ""],
+    ["verify", "plan.json", "in", "OUT", "64"], [b"verify", b"plan.json", b"in", b"OUT\xff"],
     [b"\xff"], [b"one", b"a\xff.tif"], [b"one", b"a.tif", b"\xff"], [b"\xff", b"one", b"a.tif"],
     [b"one", b"a.tif\xff"], [b"one", b"\xed\xa0\x80.tif"], [b"one", b"a.tif\xc3"], [b"drill", b"7", b"\xff"],
     [b"drill", b"7\xff"], [b"dr\xffill", b"7"], [b"run", b"plan.json", b"in", b"OUT\xff"],
@@ -114,23 +117,29 @@ def refused(trial, folder, words, status, line, **how):
         shutil.rmtree(os.path.join(folder, "OUT"))
 
 
+def refused_by_both(trial, folder, words, status, line):
+    """The words behind `run` or `verify` are refused by this line."""
+    for command in ("run", "verify"):
+        refused(trial, folder, [command, *words], status, line)
+
+
 def refusals(trial, folder):
     """Status 2 to 5."""
-    run = ["run", "try.json", "in", "OUT"]
+    tried = ["try.json", "in", "OUT"]
     for words in WORDS:
         refused(trial, folder, words, 2, "plateroom: words\n")
     trial.part("words that are no command")
     for plan, fault in PLANS:
         with open(os.path.join(folder, "try.json"), "wb") as file:
             file.write(plan if isinstance(plan, bytes) else json.dumps(plan).encode())
-        refused(trial, folder, run, 3, f"plateroom: plan{fault}\n")
+        refused_by_both(trial, folder, tried, 3, f"plateroom: plan{fault}\n")
     for size, fault in ((16777216, "not JSON"), (16777217, "too long")):
         sparse(os.path.join(folder, "long.json"), size)
         refused(trial, folder, ["run", "long.json", "in", "OUT"], 3, f"plateroom: plan: {fault}\n")
     trial.part("plans that are refused")
     for keys, name, fault in IMAGES:
         editions.write_plan(os.path.join(folder, "try.json"), layer(**keys))
-        refused(trial, folder, run, 4, f"plateroom: file {name}: {fault}\n")
+        refused_by_both(trial, folder, tried, 4, f"plateroom: file {name}: {fault}\n")
         if list(keys) == ["file"]:
             refused(trial, folder, ["one", f"in/{name}"], 4, f"plateroom: file in/{name}: {fault}\n")
     trial.part("files that are refused")
@@ -139,16 +148,19 @@ def refusals(trial, folder):
         (["one", "a.tif/a.tif"], "a.tif/a.tif"), (["run", "none.json", "in", "OUT"], "none.json"),
         (["run", "in", "in", "OUT"], "in"), (["run", "plan.json", "none", "OUT"], "none/a.tif"),
         (["run", "plan.json", "a.tif", "OUT"], "a.tif/a.tif"),
+        (["verify", "none.json", "in", "OUT"], "none.json"),
+        (["verify", "plan.json", "none", "OUT"], "none/a.tif"),
+        (["verify", "plan.json", "in", "OUT"], "OUT/OSLO/E1-A-001-K.tif"),
     ):
         refused(trial, folder, words, 5, f"plateroom: shelf: {path}\n")
     for name in ("folder.tif", "none.tif", "Æ.tif"):
         editions.write_plan(os.path.join(folder, "try.json"), layer(file=name))
-        refused(trial, folder, run, 5, f"plateroom: shelf: in/{name}\n")
+        refused_by_both(trial, folder, tried, 5, f"plateroom: shelf: in/{name}\n")
     files = [{"kind": "contone", "file": name} for name in ("none.tif", "lzw.tif", "a.tif")]
     editions.write_plan(os.path.join(folder, "try.json"), layers(*files))
-    refused(trial, folder, run, 5, "plateroom: shelf: in/none.tif\n")
+    refused_by_both(trial, folder, tried, 5, "plateroom: shelf: in/none.tif\n")
     editions.write_plan(os.path.join(folder, "try.json"), layers(*files[::-1]))
-    refused(trial, folder, run, 4, "plateroom: file lzw.tif: tag 259: compression\n")
+    refused_by_both(trial, folder, tried, 4, "plateroom: file lzw.tif: tag 259: compression\n")
     trial.part("files that aren't there")
 
 

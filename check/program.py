@@ -19,6 +19,7 @@ sys.dont_write_bytecode = True
 import answers
 import drill
 import editions
+import held
 import trial
 from plates import Edition, black_plate, compared
 from tiff import Image
@@ -111,6 +112,24 @@ def beside_others(tried, folder, files):
     tried.part(f"beside other work, {said} s")
 
 
+def plates_of_examples(tried, folder):
+    """The plates of the small edition that a run left: all right, one changed, and then taken away."""
+    words = ["verify", "edition.json", EXAMPLES, "OUT"]
+    tried.answers(words, 0, b"same plates 12 sites 2\n", b"", folder=folder)
+    path = os.path.join(folder, "OUT", "BERGEN", "MORNING-A-001-K.tif")
+    with open(path, "r+b") as plate:
+        plate.seek(8)
+        byte = plate.read(1)
+        plate.seek(8)
+        plate.write(bytes([byte[0] ^ 255]))
+    line = b"differs OUT/BERGEN/MORNING-A-001-K.tif byte 8 row 0\n"
+    tried.answers(words, 8, line, b"", folder=folder)
+    os.remove(path)
+    line = b"plateroom: shelf: OUT/BERGEN/MORNING-A-001-K.tif\n"
+    tried.answers(words, 5, b"", line, folder=folder)
+    tried.part("the plates of examples/ looked at")
+
+
 def trials(tried, folder):
     files = os.path.join(folder, "images")
     editions.write_images(files)
@@ -124,11 +143,13 @@ def trials(tried, folder):
     drills(tried)
     with open(os.path.join(EXAMPLES, "edition.json"), encoding="utf-8") as file:
         runs(tried, folder, "of examples/", Edition(json.load(file), EXAMPLES), [[]])
+    plates_of_examples(tried, folder)
     runs(tried, folder, "of sixteen sites", Edition(editions.wide(), files), [[], ["1", "1"]])
     runs_by_chance(tried, folder, files, range(1, 31))
     runs(tried, folder, "of six pairs", Edition(editions.rows(), files), [["1"], ["2", "65536"]])
     runs(tried, folder, "of five inks", five, [[], ["16", "7"], ["1024", "7"]])
     read_by_others(tried, five, os.path.join(folder, "OUT"))
+    held.trials(tried, folder, five)
     beside_others(tried, folder, files)
 
 
