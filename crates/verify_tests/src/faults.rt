@@ -1,0 +1,105 @@
+// What a look tells of its words, its plan and its image, and of a shelf and sinks that fail.
+use crate::desk::Plate;
+use crate::files::{TWO_PAGES, TWO_PAGES_PLATE};
+use crate::room::{CALM, Case, VERIFY, check, does};
+use std::process::Abort;
+use std::thread::Threads;
+
+// The plate of the two pages.
+const PLATES: [Plate<'static>; 1] = [Plate {
+    path: "OUT/OSLO/E1-A-001-K.tif",
+    bytes: &TWO_PAGES_PLATE,
+}];
+
+// Whether a look by these words at right plates, of which these calls fail, prints nothing and ends with this
+// status and this line.
+fn refuses<R: Abort + AllocGlobal + Threads + Sync>(
+    rt: &R,
+    words: &[&str],
+    plan: &str,
+    failing: [Option<u64>; 3],
+    status: u8,
+    line: &str,
+    loads: u64,
+) -> bool {
+    let case = Case {
+        plan,
+        plates: &PLATES,
+        wrong: &[],
+        failing,
+        status,
+        out: "",
+        line,
+        loads,
+    };
+    does(rt, words, &case)
+}
+
+// Words that are no command. A look takes no ring.
+const WORDS: [&[&str]; 8] = [
+    &["verify"],
+    &["verify", "plan.json", "FILES"],
+    &["verify", "plan.json", "FILES", "OUT", "64"],
+    &["verify", "plan.json", "FILES", "OUT", ""],
+    &["verify", "plan.json", "FILES", ""],
+    &["verify", "plan.json", "", "OUT"],
+    &["verify", "", "FILES", "OUT"],
+    &["Verify", "plan.json", "FILES", "OUT"],
+];
+
+#[test]
+fn refuses_other_words(rt: HostRuntime) {
+    for (n, words) in WORDS.iter().enumerate() {
+        let holds = refuses(&rt, words, TWO_PAGES, CALM, 2, "plateroom: words\n", 0);
+        check(&rt, n, holds);
+    }
+}
+
+// The image has four samples a pixel, and linework one.
+const AS_LINE: &str = r#"{"plan":1,"edition":"E1","dpi":1200,"page":[8,2],
+"pages":[{"name":"w","inks":"K","layers":[{"kind":"line","file":"a.tif"}]}],
+"sections":[{"name":"A","pages":["w","w"]}],"sites":[{"name":"OSLO"}]}"#;
+
+// A plan, the calls of shelf, output and note that fail, the status, the line, and how many loads there are:
+// of the plan, the image and the plate.
+const FAULTS: [(&str, [Option<u64>; 3], u8, &str, u64); 7] = [
+    ("{", CALM, 3, "plateroom: plan: not JSON\n", 1),
+    (
+        AS_LINE,
+        CALM,
+        4,
+        "plateroom: file a.tif: tag 277: samples\n",
+        2,
+    ),
+    (
+        TWO_PAGES,
+        [Some(0), None, None],
+        5,
+        "plateroom: shelf: plan.json\n",
+        1,
+    ),
+    (
+        TWO_PAGES,
+        [Some(1), None, None],
+        5,
+        "plateroom: shelf: FILES/a.tif\n",
+        2,
+    ),
+    (
+        TWO_PAGES,
+        [Some(2), None, None],
+        5,
+        "plateroom: shelf: OUT/OSLO/E1-A-001-K.tif\n",
+        3,
+    ),
+    (TWO_PAGES, [None, Some(0), None], 7, "", 3),
+    (TWO_PAGES, [Some(2), None, Some(0)], 7, "", 3),
+];
+
+#[test]
+fn tells_what_is_refused_and_what_failed(rt: HostRuntime) {
+    for (n, (plan, failing, status, line, loads)) in FAULTS.iter().enumerate() {
+        let holds = refuses(&rt, &VERIFY, plan, *failing, *status, line, *loads);
+        check(&rt, n, holds);
+    }
+}
