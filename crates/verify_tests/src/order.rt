@@ -40,7 +40,8 @@ const INKS: [Plate<'static>; 8] = [
     },
 ];
 
-const GROUPS: [Plate<'static>; 4] = [
+/// Two pairs at two sites, which share the first.
+pub const GROUPS: [Plate<'static>; 4] = [
     Plate {
         path: "OUT/OSLO/E1-A-001-K.tif",
         bytes: &EMPTY_PLATE,

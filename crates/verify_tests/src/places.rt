@@ -7,16 +7,17 @@ use std::thread::Threads;
 
 const PATH: &str = "OUT/OSLO/E1-A-001-K.tif";
 
-// Whether a look at the one plate of a plan, in whose place this is held, ends with this status and this
-// output. There are three loads: of the plan, the image and the plate.
+// Whether a look at the one plate of a plan, in whose place this is held, ends with this status and this text:
+// at 5 the line of the note, else the output. There are three loads: of the plan, the image and the plate.
 fn finds<R: Abort + AllocGlobal + Threads + Sync>(
     rt: &R,
     plan: &str,
     plate: &[u8],
     held: Held,
     status: u8,
-    out: &str,
+    text: &str,
 ) -> bool {
+    let (out, line) = if status == 5 { ("", text) } else { (text, "") };
     let plates = [Plate {
         path: PATH,
         bytes: plate,
@@ -29,16 +30,21 @@ fn finds<R: Abort + AllocGlobal + Threads + Sync>(
         failing: CALM,
         status,
         out,
-        line: "",
+        line,
         loads: 3,
     };
     does(rt, &VERIFY, &case)
 }
 
-// What is held of the plate of two rows, the status and the output. Its rows are the bytes 8 to 10 and 11 to
+// What is held of the plate of two rows, the status and the text. Its rows are the bytes 8 to 10 and 11 to
 // 13; what stands before and behind belongs to no row. A plate that is cut has the row that should be there.
-const TWO_ROWS: [(Held, u8, &str); 14] = [
+const TWO_ROWS: [(Held, u8, &str); 15] = [
     (Held::Right, 0, "same plates 1 sites 1\n"),
+    (
+        Held::Missing,
+        5,
+        "plateroom: shelf: OUT/OSLO/E1-A-001-K.tif\n",
+    ),
     (
         Held::Turned(0),
         8,
@@ -104,8 +110,8 @@ const TWO_ROWS: [(Held, u8, &str); 14] = [
 
 #[test]
 fn finds_the_first_byte_and_its_row(rt: HostRuntime) {
-    for (n, (held, status, out)) in TWO_ROWS.iter().enumerate() {
-        let holds = finds(&rt, TWO_PAGES, &TWO_PAGES_PLATE, *held, *status, out);
+    for (n, (held, status, text)) in TWO_ROWS.iter().enumerate() {
+        let holds = finds(&rt, TWO_PAGES, &TWO_PAGES_PLATE, *held, *status, text);
         check(&rt, n, holds);
     }
 }
@@ -137,11 +143,11 @@ const PADDED: [(Held, u8, &str); 5] = [
 
 #[test]
 fn a_pad_byte_is_in_no_row(rt: HostRuntime) {
-    for (n, (held, status, out)) in PADDED.iter().enumerate() {
+    for (n, (held, status, text)) in PADDED.iter().enumerate() {
         check(
             &rt,
             n,
-            finds(&rt, ONE_ROW, &ONE_ROW_PLATE, *held, *status, out),
+            finds(&rt, ONE_ROW, &ONE_ROW_PLATE, *held, *status, text),
         );
     }
 }

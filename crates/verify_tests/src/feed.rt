@@ -1,0 +1,78 @@
+// The calls of plate_verify themselves: the plates of a job over its feed, and two files beside one another.
+ghost use Rattle.std.specs.Prelude.{◌≡◌};
+ghost use Rattle.press_job.specs.Rows.{plate_frames};
+
+use crate::desk::Desk;
+use crate::files::ZONED;
+use crate::order::GROUPS;
+use crate::room::check;
+use plan_json::read_plan;
+use plate_verify::{Checked, first_difference, verify};
+use pr_base::RowFeed;
+use pr_ports::Shelf;
+use press_feed::{Feed, Job, prepare};
+use std::alloc::Global;
+use std::process::Abort;
+
+// Whether the four plates of a job are the same below OUT.
+fn are_same<F: RowFeed, H: Shelf>(alloc: Global, job: &Job, feed: &mut F, shelf: &mut H) -> bool
+    requires { F.left feed.old ≡ plate_frames job.now.plan job.now.files }
+{
+    match verify(alloc, job.plan(), job.rows(), feed, "OUT", shelf) {
+        Ok(Checked::Same { plates }) => plates == 4,
+        Ok(_) | Err(_) => false,
+    }
+}
+
+// The job of a plan, whose files lie on a shelf.
+fn job_of<R: Abort + AllocGlobal, H: Shelf>(rt: &R, plan: &str, shelf: &mut H) -> Job {
+    let Ok(plan) = read_plan(rt.alloc(), plan.as_bytes()) else {
+        rt.abort();
+    };
+    match prepare(rt.alloc(), plan, "FILES", shelf) {
+        Ok(job) => job,
+        Err(_) => rt.abort(),
+    }
+}
+
+// Whether the plates of a plan are the same below OUT.
+fn looks<R: Abort + AllocGlobal, H: Shelf>(rt: &R, plan: &str, shelf: &mut H) -> bool {
+    let job = job_of(rt, plan, shelf);
+    let Ok(mut feed) = Feed::open(rt.alloc(), &job) else {
+        rt.abort();
+    };
+    are_same(rt.alloc(), &job, &mut feed, shelf)
+}
+
+#[test]
+fn looks_at_the_plates_of_a_job(rt: HostRuntime) {
+    let mut desk = Desk {
+        alloc: rt.alloc(),
+        plan: ZONED,
+        plates: &GROUPS,
+        wrong: &[],
+        failing: None,
+        loads: 0,
+        faults: 0,
+        longs: 0,
+    };
+    assert!(rt; looks(&rt, ZONED, &mut desk));
+    assert_eq!(rt; desk.loads, 5);
+}
+
+// Two files, and the first place at which one has a byte that the other lacks or has otherwise.
+const FILES: [(&[u8], &[u8], Option<u64>); 6] = [
+    (&[], &[], None),
+    (&[], &[0], Some(0)),
+    (&[7, 8, 9], &[7, 8, 9], None),
+    (&[7, 8, 9], &[7, 8], Some(2)),
+    (&[7, 8], &[7, 8, 9], Some(2)),
+    (&[7, 8, 9], &[7, 0, 0], Some(1)),
+];
+
+#[test]
+fn differences_of_files(rt: HostRuntime) {
+    for (n, (file, held, at)) in FILES.iter().enumerate() {
+        check(&rt, n, first_difference(file, held) == *at);
+    }
+}
