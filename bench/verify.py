@@ -2,7 +2,7 @@
 
 usage: bench/verify.py FOLDER PROGRAM
 
-FOLDER takes the images, the plates and their copies, some 5 GB; let it lie in memory. Each is made three times
+FOLDER takes the images, the plates and their copies, some 6 GB; let it lie in memory. Each is made three times
 in turn, and the best is printed: a run with one site, a run with four, `cmp` of each plate of four sites with a
 copy of it, and `verify` of these plates. Then `verify` finds the last byte of the last plate changed.
 """
