@@ -35,13 +35,18 @@ fn job_of<R: Abort + AllocGlobal, H: Shelf>(rt: &R, plan: &str, shelf: &mut H) -
     }
 }
 
-// Whether the plates of a plan are the same below OUT.
-fn looks<R: Abort + AllocGlobal, H: Shelf>(rt: &R, plan: &str, shelf: &mut H) -> bool {
-    let job = job_of(rt, plan, shelf);
-    let Ok(mut feed) = Feed::open(rt.alloc(), &job) else {
+// Whether the plates of a job are the same below OUT, by a feed of its own.
+fn looks<R: Abort + AllocGlobal, H: Shelf>(rt: &R, job: &Job, shelf: &mut H) -> bool {
+    let Ok(mut feed) = Feed::open(rt.alloc(), job) else {
         rt.abort();
     };
-    are_same(rt.alloc(), &job, &mut feed, shelf)
+    are_same(rt.alloc(), job, &mut feed, shelf)
+}
+
+// The same of the job of a plan.
+fn looks_at_plan<R: Abort + AllocGlobal, H: Shelf>(rt: &R, plan: &str, shelf: &mut H) -> bool {
+    let job = job_of(rt, plan, shelf);
+    looks(rt, &job, shelf)
 }
 
 #[test]
@@ -56,7 +61,7 @@ fn looks_at_the_plates_of_a_job(rt: HostRuntime) {
         faults: 0,
         longs: 0,
     };
-    assert!(rt; looks(&rt, ZONED, &mut desk));
+    assert!(rt; looks_at_plan(&rt, ZONED, &mut desk));
     assert_eq!(rt; desk.loads, 5);
 }
 
