@@ -18,7 +18,8 @@ use Rattle.plate_room.specs.Task.{Makes, Rules}
 
 -- what the run of a job delivers
 abbrev pub delivery_of : Edition → JobData → Delivery
-delivery_of edition job = by_ring job.plan (plate_rows job.plan job.files) edition.out edition.ring
+delivery_of edition job =
+    by_ring job.plan (plate_rows job.plan job.files) edition.out (length job.plan.sites) edition.ring
 
 abbrev pub run_rules : Edition → Rules
 run_rules edition = record {

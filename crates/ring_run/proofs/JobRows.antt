@@ -33,7 +33,7 @@ rows-long plan files =
     All-map (λ (row : List ℕ). length row ≡ row_size (plate_width plan)) (row_at_place plan files (groups_of plan)) (row_places plan)
     (λ k d less. row-long plan files (get_or (row_places plan) k d))
 
-are_frames : (plan : PlanData) (files : List (List ℕ)) → IsPlan plan → AreFrames (row_size (plate_width plan)) (plate_rows plan files) (plate_frames plan files)
+pub are_frames : (plan : PlanData) (files : List (List ℕ)) → IsPlan plan → AreFrames (row_size (plate_width plan)) (plate_rows plan files) (plate_frames plan files)
 are_frames plan files is = record {
   small = (let wide = is.width in omega (arith, wide));
   each = rows-long plan files;
@@ -45,9 +45,9 @@ pub rows_are : (plan : PlanData) (files : List (List ℕ)) → IsPlan plan → m
 rows_are plan files is = AreFrames-rows (row_size (plate_width plan)) (plate_rows plan files) (plate_frames plan files) (are_frames plan files is)
 
 -- a job is what a ring can carry
-pub job_carries : (plan : PlanData) (files : List (List ℕ)) (out : List ℕ) (ring size : ℕ) → IsPlan plan
-    → Carries (by_ring plan (map framed_row (plate_frames plan files)) out ring) (ring_of ring (length plan.sites) (plate_frames plan files) size)
-job_carries plan files out ring size is = record {
+pub job_carries : (plan : PlanData) (files : List (List ℕ)) (out : List ℕ) (readers ring size : ℕ) → IsPlan plan
+    → Carries (by_ring plan (map framed_row (plate_frames plan files)) out readers ring) (ring_of ring readers (plate_frames plan files) size)
+job_carries plan files out readers ring size is = record {
   plan_is = is;
   are = subst (λ (rows : List (List ℕ)). AreFrames (row_size (plate_width plan)) rows (plate_frames plan files)) (sym (rows_are plan files is)) (are_frames plan files is);
   count = length-map (plate_frames plan files) framed_row ∙ length-plate_frames plan files;
@@ -56,35 +56,35 @@ job_carries plan files out ring size is = record {
 }
 
 -- what holds of the job's frames on a ring holds of its rows
-pub over_job : (P : Delivery → Type 0) (own plan : PlanData) (files : List (List ℕ)) (out : List ℕ) (ring : ℕ) → own ≡ plan → IsPlan own → P (by_ring own (map framed_row (plate_frames plan files)) out ring)
-    → P (by_ring plan (plate_rows plan files) out ring)
-over_job P own plan files out ring same is p =
+pub over_job : (P : Delivery → Type 0) (own plan : PlanData) (files : List (List ℕ)) (out : List ℕ) (readers ring : ℕ) → own ≡ plan → IsPlan own → P (by_ring own (map framed_row (plate_frames plan files)) out readers ring)
+    → P (by_ring plan (plate_rows plan files) out readers ring)
+over_job P own plan files out readers ring same is p =
     let is' : IsPlan plan = subst (λ (q : PlanData). IsPlan q) same is in
-    subst (λ (rows : List (List ℕ)). P (by_ring plan rows out ring)) (rows_are plan files is')
-    (subst (λ (q : PlanData). P (by_ring q (map framed_row (plate_frames plan files)) out ring)) same p)
+    subst (λ (rows : List (List ℕ)). P (by_ring plan rows out readers ring)) (rows_are plan files is')
+    (subst (λ (q : PlanData). P (by_ring q (map framed_row (plate_frames plan files)) out readers ring)) same p)
 
 -- ---- the racks of the sites, and those behind them
 
 wide : {X : Type 0} (tell : X → RackTells) (racks front rest : List X) → racks ≡ front ++ rest → map tell racks ≡ map tell front ++ map tell rest
 wide tell racks front rest is = ap (map tell) is ∙ map-append tell front rest
 
-pub job_fits : {X : Type 0} (tell : X → RackTells) (own plan : PlanData) (files : List (List ℕ)) (out : List ℕ) (ring : ℕ) (racks racks' front front' rest : List X) (ends : List SiteEnd) → racks ≡ front ++ rest → racks' ≡ front' ++ rest
-    → length front ≡ length own.sites → length front' ≡ length front → own ≡ plan → IsPlan own → RunFits (by_ring own (map framed_row (plate_frames plan files)) out ring) (map tell front) (map tell front') ends
-    → RunFits (by_ring plan (plate_rows plan files) out ring) (map tell racks) (map tell racks') ends
-job_fits tell own plan files out ring racks racks' front front' rest ends is is' long same plan-is is-plan fits =
-    over_job (λ (d : Delivery). RunFits d (map tell racks) (map tell racks') ends) own plan files out ring plan-is is-plan
-    (subst (λ (new : List RackTells). RunFits (by_ring own (map framed_row (plate_frames plan files)) out ring) (map tell racks) new ends) (sym (wide tell racks' front' rest is'))
-    (subst (λ (old : List RackTells). RunFits (by_ring own (map framed_row (plate_frames plan files)) out ring) old (map tell front' ++ map tell rest) ends) (sym (wide tell racks front rest is))
-    (fits_wide (by_ring own (map framed_row (plate_frames plan files)) out ring) (map tell front) (map tell front') (map tell rest) ends (length-map front tell ∙ long) (length-map front' tell ∙ same ∙ long) fits)))
+pub job_fits : {X : Type 0} (tell : X → RackTells) (own plan : PlanData) (files : List (List ℕ)) (out : List ℕ) (readers ring : ℕ) (racks racks' front front' rest : List X) (ends : List SiteEnd) → racks ≡ front ++ rest → racks' ≡ front' ++ rest
+    → length front ≡ length own.sites → length front' ≡ length front → own ≡ plan → IsPlan own → RunFits (by_ring own (map framed_row (plate_frames plan files)) out readers ring) (map tell front) (map tell front') ends
+    → RunFits (by_ring plan (plate_rows plan files) out readers ring) (map tell racks) (map tell racks') ends
+job_fits tell own plan files out readers ring racks racks' front front' rest ends is is' long same plan-is is-plan fits =
+    over_job (λ (d : Delivery). RunFits d (map tell racks) (map tell racks') ends) own plan files out readers ring plan-is is-plan
+    (subst (λ (new : List RackTells). RunFits (by_ring own (map framed_row (plate_frames plan files)) out readers ring) (map tell racks) new ends) (sym (wide tell racks' front' rest is'))
+    (subst (λ (old : List RackTells). RunFits (by_ring own (map framed_row (plate_frames plan files)) out readers ring) old (map tell front' ++ map tell rest) ends) (sym (wide tell racks front rest is))
+    (fits_wide (by_ring own (map framed_row (plate_frames plan files)) out readers ring) (map tell front) (map tell front') (map tell rest) ends (length-map front tell ∙ long) (length-map front' tell ∙ same ∙ long) fits)))
 
-pub job_part : {X : Type 0} (tell : X → RackTells) (own plan : PlanData) (files : List (List ℕ)) (out : List ℕ) (ring : ℕ) (racks racks' front front' rest : List X) → racks ≡ front ++ rest → racks' ≡ front' ++ rest
-    → length front ≡ length own.sites → length front' ≡ length front → own ≡ plan → IsPlan own → RunPart (by_ring own (map framed_row (plate_frames plan files)) out ring) (map tell front) (map tell front')
-    → RunPart (by_ring plan (plate_rows plan files) out ring) (map tell racks) (map tell racks')
-job_part tell own plan files out ring racks racks' front front' rest is is' long same plan-is is-plan part =
-    over_job (λ (d : Delivery). RunPart d (map tell racks) (map tell racks')) own plan files out ring plan-is is-plan
-    (subst (λ (new : List RackTells). RunPart (by_ring own (map framed_row (plate_frames plan files)) out ring) (map tell racks) new) (sym (wide tell racks' front' rest is'))
-    (subst (λ (old : List RackTells). RunPart (by_ring own (map framed_row (plate_frames plan files)) out ring) old (map tell front' ++ map tell rest)) (sym (wide tell racks front rest is))
-    (part_wide (by_ring own (map framed_row (plate_frames plan files)) out ring) (map tell front) (map tell front') (map tell rest) (length-map front tell ∙ long) (length-map front' tell ∙ same ∙ long) part)))
+pub job_part : {X : Type 0} (tell : X → RackTells) (own plan : PlanData) (files : List (List ℕ)) (out : List ℕ) (readers ring : ℕ) (racks racks' front front' rest : List X) → racks ≡ front ++ rest → racks' ≡ front' ++ rest
+    → length front ≡ length own.sites → length front' ≡ length front → own ≡ plan → IsPlan own → RunPart (by_ring own (map framed_row (plate_frames plan files)) out readers ring) (map tell front) (map tell front')
+    → RunPart (by_ring plan (plate_rows plan files) out readers ring) (map tell racks) (map tell racks')
+job_part tell own plan files out readers ring racks racks' front front' rest is is' long same plan-is is-plan part =
+    over_job (λ (d : Delivery). RunPart d (map tell racks) (map tell racks')) own plan files out readers ring plan-is is-plan
+    (subst (λ (new : List RackTells). RunPart (by_ring own (map framed_row (plate_frames plan files)) out readers ring) (map tell racks) new) (sym (wide tell racks' front' rest is'))
+    (subst (λ (old : List RackTells). RunPart (by_ring own (map framed_row (plate_frames plan files)) out readers ring) old (map tell front' ++ map tell rest)) (sym (wide tell racks front rest is))
+    (part_wide (by_ring own (map framed_row (plate_frames plan files)) out readers ring) (map tell front) (map tell front') (map tell rest) (length-map front tell ∙ long) (length-map front' tell ∙ same ∙ long) part)))
 
 pub job_counts : {X : Type 0} (tell : X → RackTells) (racks racks' front front' rest : List X) → racks ≡ front ++ rest → racks' ≡ front' ++ rest → length front' ≡ length front → KeepCounts (map tell front) (map tell front')
     → KeepCounts (map tell racks) (map tell racks')

@@ -7,3 +7,5 @@ mod Feeds
 mod Rounds
 mod Halves
 mod OneThread
+mod KeyTurns
+mod RoundEnds

@@ -197,10 +197,12 @@ less old new ring joined grows within = by new.left old.left joined where
 -- a site that takes no row
 pub idle : (told : RackTells) (seat : SeatData) → (seat.reader.left ≡ false → seat.reader.cursor < seat.reader.seen → ⊥) → Turned told told seat seat
 idle told seat none = record {
-  stays = refl;
+  end = record {
+    stays = refl;
+    fewer = (let e : to_take seat.reader ≤ to_take seat.reader = omega arith in e);
+    gets_on = λ joined more. absurd (none joined more);
+  };
   seated = λ delivery before carries seated. seated;
-  fewer = (let e : to_take seat.reader ≤ to_take seat.reader = omega arith in e);
-  gets_on = λ joined more. absurd (none joined more);
 }
 
 -- one that has left, or was stopped, takes none
@@ -221,7 +223,6 @@ pub turned_on : (old new : RackTells) (was is : ReaderState) (going next : SiteD
 turned_on old new was is going next stays joined' joined grows within gets_on stands goes faults =
     let ring : is.ring ≡ was.ring = ap (λ (x : ReaderState). x.ring) stays in
     record {
-      stays = stays;
       seated = λ delivery before carries seated.
           let at = going_at delivery before old was going seated in
           record {
@@ -235,8 +236,11 @@ turned_on old new was is going next stays joined' joined grows within gets_on st
               faults = (let since = at.faults in omega (arith, since, faults));
             };
           };
-      fewer = fewer was is ring joined grows;
-      gets_on = λ e more. less was is ring joined (gets_on more) within;
+      end = record {
+        stays = stays;
+        fewer = fewer was is ring joined grows;
+        gets_on = λ e more. less was is ring joined (gets_on more) within;
+      };
     }
 
 -- it leaves
@@ -247,7 +251,6 @@ pub turned_left : (old new : RackTells) (was is : ReaderState) (going : SiteData
 turned_left old new was is going cause stays out joined grows within by row rose missed leaves' faults =
     let ring : is.ring ≡ was.ring = ap (λ (x : ReaderState). x.ring) stays in
     record {
-      stays = stays;
       seated = λ delivery before carries seated.
           let at = going_at delivery before old was going seated in
           let total = total_is delivery was.ring carries in
@@ -258,8 +261,11 @@ turned_left old new was is going cause stays out joined grows within by row rose
             is = leaves delivery was was.cursor before old new going cause carries (omega (arith, total, row, within)) at by rose missed
                 (leaves' before.tells (going_by delivery was before.tells old.tells going carries at.is)) faults;
           };
-      fewer = fewer was is ring joined (omega (arith, grows));
-      gets_on = λ e more. less was is ring joined grows within;
+      end = record {
+        stays = stays;
+        fewer = fewer was is ring joined (omega (arith, grows));
+        gets_on = λ e more. less was is ring joined grows within;
+      };
     }
 
 -- want of memory stops it
@@ -270,7 +276,6 @@ turned_out old new was is going stays out joined grows within stops' faults =
     let ring : is.ring ≡ was.ring = ap (λ (x : ReaderState). x.ring) stays in
     let last : (is.cursor - 1) + 1 ≡ is.cursor = omega (arith, grows) in
     record {
-      stays = stays;
       seated = λ delivery before carries seated.
           let at = going_at delivery before old was going seated in
           let total = total_is delivery was.ring carries in
@@ -281,6 +286,9 @@ turned_out old new was is going stays out joined grows within stops' faults =
             is = stops delivery was was.cursor (is.cursor - 1) before old new going carries (omega (arith, total, last, within)) at
                 (stops' before.tells (is.cursor - 1) last (going_by delivery was before.tells old.tells going carries at.is)) faults;
           };
-      fewer = fewer was is ring joined (omega (arith, grows));
-      gets_on = λ e more. less was is ring joined grows within;
+      end = record {
+        stays = stays;
+        fewer = fewer was is ring joined (omega (arith, grows));
+        gets_on = λ e more. less was is ring joined grows within;
+      };
     }

@@ -8,15 +8,30 @@ use Rattle.ring_lanes.specs.Writer.{WriterState}
 use Rattle.pr_rack.specs.Told.{RackTells}
 use Rattle.ring_run.specs.Feeding.{Fed, HasRows, MayFeed}
 use Rattle.ring_run.specs.Seat.{SeatData}
-use Rattle.ring_run.specs.Served.{Carries, IsSeated, SomeSeated, Turned}
+use Rattle.ring_run.specs.Served.{Carries, IsSeated, SomeSeated, TakesOn, Turned}
+
+-- ---- a reader's end
+
+pub takes_again : (was then is : ReaderState) → TakesOn was then → TakesOn then is → TakesOn was is
+takes_again was then is first next = record {
+  stays = next.stays ∙ ap {A = ReaderState} (λ r. record r {
+    cursor = is.cursor;
+    left = is.left;
+    seen = is.seen;
+    loads = is.loads;
+  }) first.stays;
+  fewer = le_trans next.fewer first.fewer;
+  gets_on = λ joined known. le_trans (suc-le-suc_iff.1 next.fewer) (first.gets_on joined known);
+}
 
 -- ---- a site
 
 pub may_turn_again : (old mid : RackTells) (was then : SeatData) → SomeSeated old was
     → Turned old mid was then → SomeSeated mid then
 may_turn_again old mid was then some turned =
-    let ring : then.reader.ring ≡ was.reader.ring = ap (λ (r : ReaderState). r.ring) turned.stays in
-    let number : then.reader.number ≡ was.reader.number = ap (λ (r : ReaderState). r.number) turned.stays in
+    let ring : then.reader.ring ≡ was.reader.ring = ap (λ (r : ReaderState). r.ring) turned.end.stays in
+    let number : then.reader.number ≡ was.reader.number =
+    ap (λ (r : ReaderState). r.number) turned.end.stays in
     record {
       delivery = some.delivery;
       before = some.before;
@@ -28,22 +43,16 @@ may_turn_again old mid was then some turned =
 pub turned_again : (old mid new : RackTells) (was then is : SeatData) → Turned old mid was then
     → Turned mid new then is → Turned old new was is
 turned_again old mid new was then is first next =
-    let ring : then.reader.ring ≡ was.reader.ring = ap (λ (r : ReaderState). r.ring) first.stays in
-    let number : then.reader.number ≡ was.reader.number = ap (λ (r : ReaderState). r.number) first.stays in
+    let ring : then.reader.ring ≡ was.reader.ring = ap (λ (r : ReaderState). r.ring) first.end.stays in
+    let number : then.reader.number ≡ was.reader.number =
+    ap (λ (r : ReaderState). r.number) first.end.stays in
     record {
-      stays = next.stays ∙ ap {A = ReaderState} (λ r. record r {
-        cursor = is.reader.cursor;
-        left = is.reader.left;
-        seen = is.reader.seen;
-        loads = is.reader.loads;
-      }) first.stays;
+      end = takes_again was.reader then.reader is.reader first.end next.end;
       seated = λ delivery before carries seated.
           subst (λ (n : ℕ). IsSeated delivery n before new is) number
           (next.seated delivery before (subst (λ (r : RingNumbers). Carries delivery r) (sym ring) carries)
           (subst (λ (n : ℕ). IsSeated delivery n before mid then) (sym number)
           (first.seated delivery before carries seated)));
-      fewer = le_trans next.fewer first.fewer;
-      gets_on = λ joined known. le_trans (suc-le-suc_iff.1 next.fewer) (first.gets_on joined known);
     }
 
 -- ---- the writer

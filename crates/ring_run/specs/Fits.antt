@@ -1,10 +1,10 @@
 -- What a run leaves on the racks of its sites, by what each of them told before and tells now.
-use Rattle.std.specs.Prelude.{◌≡◌, ℕ, ◌<◌, ◌≤◌, Bool, false, List, length, map, take, count_by, Option, Some, IfSome, is_some, slice_get}
+use Rattle.std.specs.Prelude.{◌≡◌, ℕ, ◌<◌, false, List, length, take, count_by, Some, IfSome, slice_get}
 use Rattle.std.specs.List.{range_with_len}
 use Rattle.pr_base.specs.Count.{Rose}
 use Rattle.ring_lanes.specs.declared.source.Source.{Source}
 use Rattle.ring_lanes.specs.declared.source.Source.TheVariants.{Ring}
-use Rattle.pr_rack.specs.Rack.{Plate, Slots, none_begun}
+use Rattle.pr_rack.specs.Rack.{Plate}
 use Rattle.pr_rack.specs.Told.{RackTells}
 use Rattle.plan_json.specs.Data.{PlanData}
 use Rattle.plan_rows.specs.Plates.{site_plates, site_files}
@@ -25,13 +25,13 @@ pub record Delivery : Type 0 where
   pub out : List ℕ
   pub source : ℕ → Source
 
--- the same by a ring of so many places, which has a reader for each site, with its number
-abbrev pub by_ring : PlanData → List (List ℕ) → List ℕ → ℕ → Delivery
-by_ring plan rows out ring = record {
+-- the same by a ring of so many readers and places, where the reader of a site has its number
+abbrev pub by_ring : PlanData → List (List ℕ) → List ℕ → ℕ → ℕ → Delivery
+by_ring plan rows out readers ring = record {
   plan = plan;
   rows = rows;
   out = out;
-  source = λ site. Ring site (length plan.sites) ring;
+  source = λ site. Ring site readers ring;
 }
 
 -- the files of a site in order

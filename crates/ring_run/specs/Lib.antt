@@ -5,3 +5,5 @@ pub mod Feeding
 pub mod Round
 pub mod Pairs
 pub mod Again
+pub mod Counting
+pub mod Keyed

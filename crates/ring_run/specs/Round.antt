@@ -1,4 +1,4 @@
--- A round of a run: notes go round between the ends of the ring, and then the writer and the sites take
+-- A round of a run: notes go round between the ends of the ring, and then the writer and the readers take
 -- their turns. This is the contract of private calls.
 use Rattle.std.specs.Prelude.{◌≡◌, ℕ, ◌+◌, ◌-◌, ◌≤◌, true, List, [], ◌∷◌, length, slice_get, Some, None}
 use Rattle.ring_lanes.specs.Reader.{ReaderState}
@@ -14,41 +14,54 @@ pub record IsEndOf (writer : WriterState) (i : ℕ) (reader : ReaderState) : Typ
   pub ring : reader.ring ≡ writer.ring
   pub number : reader.number ≡ i
 
--- the seats are at the readers' ends of the writer's ring, in order
-pub record AreEndsOf (writer : WriterState) (seats : List SeatData) : Type 0 where
-  pub count : length seats ≡ writer.ring.readers
-  pub each : (i : ℕ) (seat : SeatData) → slice_get seats i ≡ Some seat → IsEndOf writer i seat.reader
+-- the readers' ends of the writer's ring, in order
+pub record AreEndsOf (writer : WriterState) (readers : List ReaderState) : Type 0 where
+  pub count : length readers ≡ writer.ring.readers
+  pub each : (i : ℕ) (reader : ReaderState) → slice_get readers i ≡ Some reader → IsEndOf writer i reader
+
+-- each of these has an end of the writer's ring
+abbrev pub AreAtTable : {X : Type 0} → (X → ReaderState) → WriterState → List X → Type 0
+AreAtTable {X} end writer xs = (i : ℕ) (x : X) → slice_get xs i ≡ Some x → (end x).table ≡ writer.table
 
 -- what the writer knows of a reader isn't below what the reader told: that it left, or its cursor
 pub record Knows (known : List ℕ) (reader : ReaderState) : Type 0 where
   pub left : reader.left ≡ true → cursor_known known reader.number ≡ None
   pub cursor : (k : ℕ) → cursor_known known reader.number ≡ Some k → reader.cursor ≤ k
 
--- so it is of each reader
-abbrev pub KnowsAll : List ℕ → List SeatData → Type 0
-KnowsAll known seats = (i : ℕ) (seat : SeatData) → slice_get seats i ≡ Some seat → Knows known seat.reader
+-- so it is of the end of each of these
+abbrev pub KnowsAll : {X : Type 0} → (X → ReaderState) → List ℕ → List X → Type 0
+KnowsAll {X} end known xs = (i : ℕ) (x : X) → slice_get xs i ≡ Some x → Knows known (end x)
 
--- a note of the writer came to a site, where it goes on: its reader knows the head, and the writer knows
+-- no known cursor falls, and a reader that is known to have left stays so
+abbrev pub KnowsMore : List ℕ → List ℕ → Type 0
+KnowsMore old new = (r k : ℕ) → cursor_known new r ≡ Some k
+    → (j : ℕ) × (cursor_known old r ≡ Some j) × (j ≤ k)
+
+-- a note of the writer came to a reader, where it goes on: the reader knows the head, and the writer knows
 -- that it is joined
-pub record IsTold (w : WriterState) (was is : SeatData) : Type 0 where
-  pub site : is.site ≡ was.site
-  pub stays : is.reader ≡ record was.reader { seen = is.reader.seen; loads = is.reader.loads }
-  pub head : is_going was ≡ true → w.head ≤ is.reader.seen
-  pub joined : is_going was ≡ true → (k : ℕ) × (cursor_known w.known was.reader.number ≡ Some k)
+pub record IsTold (w : WriterState) (was is : ReaderState) : Type 0 where
+  pub stays : is ≡ record was { seen = is.seen; loads = is.loads }
+  pub head : is_going was ≡ true → w.head ≤ is.seen
+  pub joined : is_going was ≡ true → (k : ℕ) × (cursor_known w.known was.number ≡ Some k)
 
--- so it did to each site
-abbrev pub AreTold : WriterState → List SeatData → List SeatData → Type 0
-AreTold w were are = (i : ℕ) (was is : SeatData) → slice_get were i ≡ Some was → slice_get are i ≡ Some is
-    → IsTold w was is
+-- so it did to the reader of a site
+pub record IsSeatTold (w : WriterState) (was is : SeatData) : Type 0 where
+  pub site : is.site ≡ was.site
+  pub end : IsTold w was.reader is.reader
+
+-- so it did to each of these
+abbrev pub AreTold : {X : Type 0} → (WriterState → X → X → Type 0) → WriterState → List X → List X → Type 0
+AreTold {X} told w were are = (i : ℕ) (was is : X) → slice_get were i ≡ Some was
+    → slice_get are i ≡ Some is → told w was is
 
 -- how many rows the readers have yet to take
-unfoldable pub all_to_take : List SeatData → ℕ
+unfoldable pub all_to_take : List ReaderState → ℕ
 all_to_take [] = 0
-all_to_take (seat ∷ seats) = to_take seat.reader + all_to_take seats
+all_to_take (reader ∷ readers) = to_take reader + all_to_take readers
 
 -- the measure of a run: how many rows are yet to be published, and to be taken
-abbrev pub to_do : WriterState → List SeatData → ℕ
-to_do writer seats = (writer.ring.total - writer.head) + all_to_take seats
+abbrev pub to_do : WriterState → List ReaderState → ℕ
+to_do writer readers = (writer.ring.total - writer.head) + all_to_take readers
 
 -- of each run, the sites are seated afterwards as they were
 abbrev pub StaySeated : List RackTells → List RackTells → List SeatData → List SeatData → Type 0

@@ -1,5 +1,5 @@
--- A site of a run at its end of the ring.
-use Rattle.std.specs.Prelude.{Bool, true, false, not, ◌&&◌, nat_lt, List}
+-- A site of a run at its end of the ring, and the ends of all readers.
+use Rattle.std.specs.Prelude.{Bool, true, false, not, ◌&&◌, ◌||◌, nat_lt, List, ◌++◌, map}
 use Rattle.std.specs.List.{list_any}
 use Rattle.ring_lanes.specs.Reader.{ReaderState}
 use Rattle.ring_run.specs.declared.site.RunSite.{RunSite}
@@ -10,9 +10,13 @@ pub record SeatData : Type 0 where
   pub reader : ReaderState
   pub site : RunSite
 
+-- the ends of all readers: those of the sites, and then those of the further readers
+abbrev pub all_readers : List SeatData → List ReaderState → List ReaderState
+all_readers seats more = map (λ seat. seat.reader) seats ++ more
+
 -- the reader hasn't left, and rows are still to come
-abbrev pub is_going : SeatData → Bool
-is_going seat = not seat.reader.left && nat_lt seat.reader.cursor seat.reader.ring.total
+abbrev pub is_going : ReaderState → Bool
+is_going reader = not reader.left && nat_lt reader.cursor reader.ring.total
 
 -- want of memory stopped the site
 abbrev pub is_stopped : RunSite → Bool
@@ -20,6 +24,8 @@ is_stopped (Going going) = false
 is_stopped (Left cause) = false
 is_stopped Stopped = true
 
--- some site goes on, and none was stopped
-abbrev pub are_going : List SeatData → Bool
-are_going seats = list_any is_going seats && not (list_any (λ seat. is_stopped seat.site) seats)
+-- some reader goes on, whether a site's or a further one, and no site was stopped
+abbrev pub are_going : List SeatData → List ReaderState → Bool
+are_going seats more =
+    (list_any (λ seat. is_going seat.reader) seats || list_any is_going more)
+    && not (list_any (λ seat. is_stopped seat.site) seats)

@@ -91,20 +91,18 @@ pub record SomeSeated (now : RackTells) (seat : SeatData) : Type 0 where
 abbrev pub to_take : ReaderState → ℕ
 to_take reader = if reader.left then 0 else reader.ring.total - reader.cursor
 
--- a turn of a site at its reader's end: of each run it is seated afterwards as it was, and where a row was
--- known of, fewer rows are yet to be taken
+-- what a turn leaves of a reader's end, whoever sits there: it is the same end, and fewer rows are yet to be
+-- taken where a row was known of
+pub record TakesOn (was is : ReaderState) : Type 0 where
+  pub stays : is ≡ record was { cursor = is.cursor; left = is.left; seen = is.seen; loads = is.loads }
+  pub fewer : to_take is ≤ to_take was
+  pub gets_on : was.left ≡ false → was.cursor < was.seen → to_take is < to_take was
+
+-- a turn of a site at its reader's end: of each run it is seated afterwards as it was
 pub record Turned (old new : RackTells) (was is : SeatData) : Type 0 where
-  pub stays : is.reader ≡ record was.reader {
-    cursor = is.reader.cursor;
-    left = is.reader.left;
-    seen = is.reader.seen;
-    loads = is.reader.loads;
-  }
+  pub end : TakesOn was.reader is.reader
   pub seated : (delivery : Delivery) (before : RackTells) → Carries delivery was.reader.ring
       → IsSeated delivery was.reader.number before old was → IsSeated delivery was.reader.number before new is
-  pub fewer : to_take is.reader ≤ to_take was.reader
-  pub gets_on : was.reader.left ≡ false → was.reader.cursor < was.reader.seen
-      → to_take is.reader < to_take was.reader
 
 -- ---- all sites
 

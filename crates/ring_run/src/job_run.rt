@@ -1,14 +1,16 @@
 // A run: all plates of a job, on the racks of its sites.
-ghost use Rattle.std.specs.Prelude.{◌≡◌, ◌<◌, ◌≤◌, IfOk, OnErr, drop, length};
+ghost use Rattle.std.specs.Prelude.{◌≡◌, ◌+◌, ◌<◌, ◌≤◌, IfOk, OnErr, drop, length};
 ghost use Rattle.pr_rack.specs.Told.{all_told};
 ghost use Rattle.plan_words.specs.Words.{IsWithin};
 ghost use Rattle.press_job.specs.Rows.{plate_frames, plate_rows};
 ghost use Rattle.site_agent.specs.Racks.{AreIdle, KeepCounts};
 ghost use Rattle.ring_run.specs.Fits.{RunFits, RunPart, by_ring};
+ghost use Rattle.ring_run.specs.Keyed.{AllKeysFit, AreFreshKeys};
 ghost use Rattle.ring_run.specs.Served.{IsRun};
 
 use crate::Outcome;
 use crate::rows::Run;
+use ink_keys::KeyReader;
 use pr_base::{NoMemory, RowFeed};
 use pr_rack::Rack;
 use press_feed::{Feed, Job};
@@ -34,52 +36,64 @@ pub fn run_job<T: Threads + Sync, R: Rack + Send>(
     requires patience { IsWithin 1 65536 patience }
     // Each site's end fits what its rack has more than before.
     ensures fits { IfOk result (λ outcome. RunFits
-        (by_ring job.now.plan (plate_rows job.now.plan job.now.files) out.now ring)
+        (by_ring job.now.plan (plate_rows job.now.plan job.now.files) out.now
+        (length job.now.plan.sites) ring)
         (all_told R.Rack racks.old) (all_told R.Rack racks.new) outcome.sites.items) }
     // Want of memory: each rack has the first of its site's files more, and the first of its rows.
     ensures part { OnErr result (RunPart
-        (by_ring job.now.plan (plate_rows job.now.plan job.now.files) out.now ring)
+        (by_ring job.now.plan (plate_rows job.now.plan job.now.files) out.now
+        (length job.now.plan.sites) ring)
         (all_told R.Rack racks.old) (all_told R.Rack racks.new)) }
     // What stands of the racks, whatever the answer.
     ensures counts { KeepCounts (all_told R.Rack racks.old) (all_told R.Rack racks.new) }
     ensures others { drop (length job.now.plan.sites) racks.new ≡ drop (length job.now.plan.sites) racks.old }
 {
     let mut feed = Feed::open(alloc, job)?;
+    let plan = job.plan();
     let run = Run {
         alloc,
-        plan: job.plan(),
+        plan,
         rows: job.rows(),
         out,
+        readers: plan.sites.len() as u32,
         ring,
         patience,
     };
-    run_fed(rt, &run, job, &mut feed, racks)
+    run_fed(rt, &run, job, &mut feed, racks, &mut [])
 }
 
-/// The same with a feed that has all rows of the job to come.
-fn run_fed<T: Threads + Sync, F: RowFeed + Send, R: Rack + Send>(
+/// The same with a feed that has all rows of the job to come, and with key readers that count them.
+pub(crate) fn run_fed<T: Threads + Sync, F: RowFeed + Send, R: Rack + Send>(
     rt: &T,
     run: &Run<'_>,
     job: &Job,
     feed: &mut F,
     racks: &mut [R],
+    keys: &mut [KeyReader<'_>],
 ) -> Result<Outcome, NoMemory>
     requires run { IsRun run.now.plan.now run.now.rows.now run.now.ring run.now.patience }
     requires plan { run.now.plan.now ≡ job.now.plan }
+    requires readers { run.now.readers ≡ length job.now.plan.sites + length keys.old }
+    requires few_keys { length keys.old ≤ 1 }
+    requires zeros { AreFreshKeys job.now.plan keys.old }
     requires feed { F.left feed.old ≡ plate_frames job.now.plan job.now.files }
     requires racks { length job.now.plan.sites ≤ length racks.old }
     requires idle { AreIdle (length job.now.plan.sites) (all_told R.Rack racks.old) }
     ensures fits { IfOk result (λ outcome. RunFits
-        (by_ring job.now.plan (plate_rows job.now.plan job.now.files) run.now.out.now run.now.ring)
+        (by_ring job.now.plan (plate_rows job.now.plan job.now.files) run.now.out.now
+        run.now.readers run.now.ring)
         (all_told R.Rack racks.old) (all_told R.Rack racks.new) outcome.sites.items) }
     ensures part { OnErr result (RunPart
-        (by_ring job.now.plan (plate_rows job.now.plan job.now.files) run.now.out.now run.now.ring)
+        (by_ring job.now.plan (plate_rows job.now.plan job.now.files) run.now.out.now
+        run.now.readers run.now.ring)
         (all_told R.Rack racks.old) (all_told R.Rack racks.new)) }
     ensures counts { KeepCounts (all_told R.Rack racks.old) (all_told R.Rack racks.new) }
     ensures others { drop (length job.now.plan.sites) racks.new ≡ drop (length job.now.plan.sites) racks.old }
+    ensures keys { IfOk result (λ _. AllKeysFit job.now.plan
+        (plate_rows job.now.plan job.now.files) keys.old keys.new) }
 {
     let plan = run.plan;
     let (racks, _others) = racks.split_at_mut(plan.sites.len());
-    let sites = run.run_rows(rt, job, feed, racks)?;
+    let sites = run.run_rows(rt, job, feed, racks, keys)?;
     Ok(Outcome { sites })
 }

@@ -1,10 +1,16 @@
 // The run of a job: one writer and every site, side by side over a ring, round after round. `run_job`
-// delivers the plates of a job to the racks of its sites, and answers how each site ended.
+// delivers the plates of a job to the racks of its sites, and answers how each site ended; `run_keys` counts
+// the ink keys of the plates too.
 #![tactic(auto)]
 
+mod all_rounds;
+mod at_end;
+mod counting;
 mod ends;
 mod feeding;
+mod further;
 mod job_run;
+mod keys_run;
 mod one_thread;
 mod round;
 mod rows;
@@ -16,4 +22,5 @@ mod site_end;
 
 pub use feeding::{FeedEnd, feed_turn};
 pub use job_run::run_job;
+pub use keys_run::run_keys;
 pub use site_end::{Outcome, SiteEnd};

@@ -1,15 +1,14 @@
 // A site of a run at its reader's end of the ring.
-ghost use Rattle.std.specs.Prelude.{◌≡◌, ◌≤◌, ℕ, Some, false};
-ghost use Rattle.ring_lanes.specs.Note.{told_by_reader};
-ghost use Rattle.ring_lanes.specs.Writer.{cursor_known};
+ghost use Rattle.std.specs.Prelude.{◌≡◌};
 ghost use Rattle.pr_rack.specs.Told.{told};
-ghost use Rattle.ring_run.specs.Seat.{SeatData, is_going as is_going_lem, is_stopped as is_stopped_lem};
+ghost use Rattle.ring_run.specs.Seat.{SeatData, is_stopped as is_stopped_lem};
 
+use crate::at_end::AtEnd;
 use crate::side_by_side::TurnWith;
 use crate::site::RunSite;
 use pr_base::Deal;
 use pr_rack::Rack;
-use ring_lanes::{CursorNote, HeadNote, Reader};
+use ring_lanes::{CursorNote, Reader, Writer};
 use std::marker::Model;
 
 /// A site of a run at its reader's end of the ring. Contracts see the end, and how far the site is.
@@ -40,41 +39,31 @@ impl<'r, D: Deal> Seat<'r, D> {
         self.site
     }
 
-    /// Whether its reader hasn't left, and rows are still to come.
-    pub(crate) fn is_going(&self) -> bool
-        ensures { result ≡ is_going_lem self.now }
-    {
-        self.reader.joined() && self.reader.cursor() < self.reader.total()
-    }
-
     /// Whether want of memory stopped the site.
     pub(crate) fn is_stopped(&self) -> bool
         ensures { result ≡ is_stopped_lem self.now.site }
     {
         self.site.is_stopped()
     }
+}
 
-    /// Makes a note of the reader.
-    pub(crate) fn tell(&mut self) -> CursorNote<D>
-        ensures note { result ≡ told_by_reader self.old.reader }
-        ensures same { self.new ≡ self.old }
-    {
-        self.reader.tell()
+impl<'r, D: Deal> AtEnd<D> for Seat<'r, D> {
+    ghost use Rattle.ring_run.specs.Round.{IsSeatTold};
+
+    ghost end = { λ seat. seat.reader };
+
+    ghost heard = { λ w was is. IsSeatTold w was is };
+
+    fn goes_on(&self) -> bool {
+        self.reader.goes_on()
     }
 
-    /// Takes in a note of the writer.
-    pub(crate) fn learn(&mut self, note: HeadNote<D>)
-        requires ring { note.table ≡ self.old.reader.table }
-        requires joined { self.old.reader.left ≡ false }
-        ensures head { note.head ≤ self.new.reader.seen }
-        ensures joined { (k : ℕ) × (cursor_known note.known self.old.reader.number ≡ Some k) }
-        ensures site { self.new.site ≡ self.old.site }
-        ensures stays { self.new.reader ≡ record self.old.reader {
-          seen = self.new.reader.seen;
-          loads = self.new.reader.loads;
-        } }
-    {
-        self.reader.learn(note);
+    fn note(&mut self) -> CursorNote<D> {
+        self.reader.note()
+    }
+
+    fn hear(&mut self, writer: &mut Writer<'_, D>) {
+        self.reader.hear(writer);
     }
 }
 

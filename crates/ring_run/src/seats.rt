@@ -1,25 +1,27 @@
-// The sites of a run at their readers' ends.
+// Whether a run goes on, by its sites and its further readers at their ends.
 ghost use Rattle.std.specs.Prelude.{◌≡◌};
 ghost use Rattle.std.specs.List.{list_any};
 ghost use Rattle.ring_run.specs.Seat.{are_going as are_going_lem, is_going, is_stopped};
 
+use crate::at_end::AtEnd;
 use crate::seat::Seat;
 use pr_base::Deal;
+use ring_lanes::Reader;
 
-/// Whether some site goes on, and none was stopped.
-pub(crate) fn are_going<D: Deal>(seats: &[Seat<'_, D>]) -> bool
-    ensures { result ≡ are_going_lem seats.now }
+/// Whether some reader goes on, a site's or a further one, and no site was stopped.
+pub(crate) fn are_going<D: Deal>(seats: &[Seat<'_, D>], more: &[Reader<'_, D>]) -> bool
+    ensures { result ≡ are_going_lem seats.now more.now }
 {
-    let going = some_going(seats);
+    let going = some_going(seats) || some_going(more);
     let stopped = some_stopped(seats);
     going && !stopped
 }
 
-/// Whether some site goes on.
-fn some_going<D: Deal>(seats: &[Seat<'_, D>]) -> bool
-    ensures { result ≡ list_any is_going seats.now }
+/// Whether some of these readers goes on.
+fn some_going<D: Deal, E: AtEnd<D>>(ends: &[E]) -> bool
+    ensures { result ≡ list_any (λ it. is_going (E.end it)) ends.now }
 {
-    seats.iter().any(|seat| seat.is_going())
+    ends.iter().any(|end| end.goes_on())
 }
 
 /// Whether want of memory stopped some site.

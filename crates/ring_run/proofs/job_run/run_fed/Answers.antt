@@ -1,28 +1,31 @@
-use Rattle.std.proofs.Common.{◌≡◌, ◌∙◌, ℕ, List, length, map, ap, refl, subst, sym, rules}
+use Rattle.std.proofs.Common.{◌≡◌, ℕ, List, length, map, refl, subst, sym, rules}
 use Rattle.tif_packbits.specs.Frame.{frame_size, framed_row}
 use Rattle.pr_base.specs.Row.{row_size}
 use Rattle.pr_rack.specs.Told.{RackTells, told}
 use Rattle.plan_json.specs.Data.{PlanData, plate_width}
 use Rattle.plan_json.specs.Plan.{IsPlan}
-use Rattle.plan_rows.specs.Rows.{rows_of}
 use Rattle.press_job.specs.Rows.{plate_frames}
 use Rattle.ring_rule.specs.Views.{ring_of}
 use Rattle.site_agent.specs.Racks.{AreIdle}
 use Rattle.ring_run.specs.Fits.{by_ring}
 use Rattle.ring_run.specs.Served.{Carries}
 use Rattle.ring_run.proofs.Results.{on_err}
-use Rattle.ring_run.proofs.JobRows.{job_carries, job_counts, job_fits, job_idle, job_others, job_part}
+use Rattle.ring_run.proofs.JobRows.{job_carries, job_counts, job_fits, job_idle, job_part}
+use Rattle.ring_run.proofs.KeyTurns.{all_keys_fit, fresh_may}
 use Rattle.ring_run.proofs.job_run.run_fed.Goals as goal
 
 pub run_rows-requires-clause-carries : goal.run_rows-requires-clause-carries
 run_rows-requires-clause-carries g c κs within =
-    let is : IsPlan c.args.run.now.plan.now = c.requires.run.plan_is in
+    let is : IsPlan c.args.job.now.plan = subst (λ (p : PlanData). IsPlan p) c.requires.plan c.requires.run.plan_is in
     let frames : List (List ℕ) = plate_frames c.args.job.now.plan c.args.job.now.files in
-    subst (λ (q : PlanData). Carries (by_ring q (map framed_row frames) c.args.run.now.out.now c.args.run.now.ring) (ring_of c.args.run.now.ring (length q.sites) frames (frame_size (row_size (plate_width c.args.job.now.plan))))) (sym c.requires.plan)
-    (job_carries c.args.job.now.plan c.args.job.now.files c.args.run.now.out.now c.args.run.now.ring (frame_size (row_size (plate_width c.args.job.now.plan))) (subst (λ (p : PlanData). IsPlan p) c.requires.plan is))
+    let size : ℕ = frame_size (row_size (plate_width c.args.job.now.plan)) in
+    subst (λ (q : PlanData). Carries (by_ring q (map framed_row frames) c.args.run.now.out.now c.args.run.now.readers c.args.run.now.ring) (ring_of c.args.run.now.ring c.args.run.now.readers frames size)) (sym c.requires.plan)
+    (job_carries c.args.job.now.plan c.args.job.now.files c.args.run.now.out.now c.args.run.now.readers c.args.run.now.ring size is)
 
-pub run_rows-requires-clause-racks : goal.run_rows-requires-clause-racks
-run_rows-requires-clause-racks g c κs within = search rules
+pub run_rows-requires-clause-zeros : goal.run_rows-requires-clause-zeros
+run_rows-requires-clause-zeros g c κs within =
+    let is : IsPlan c.args.job.now.plan = subst (λ (p : PlanData). IsPlan p) c.requires.plan c.requires.run.plan_is in
+    fresh_may c.args.job.now.plan c.args.job.now.files c.args.run.now.ring c.args.run.now.readers (frame_size (row_size (plate_width c.args.job.now.plan))) c.args.keys.now is c.requires.zeros
 
 pub run_rows-requires-clause-idle : goal.run_rows-requires-clause-idle
 run_rows-requires-clause-idle g c κs within =
@@ -37,7 +40,7 @@ returns-in_err-sites-clause-part g c =
     let is : IsPlan c.args.run.now.plan.now = c.requires.run.plan_is in
     let count : length c.split_at_mut-racks.result.0.now ≡ length c.args.run.now.plan.now.sites = search rules in
     on_err c.from_residual.result _
-    (job_part tell c.args.run.now.plan.now c.args.job.now.plan c.args.job.now.files c.args.run.now.out.now c.args.run.now.ring c.args.racks.now _ c.split_at_mut-racks.result.0.now c.run_rows.new.racks c.split_at_mut-racks.result.1.now
+    (job_part tell c.args.run.now.plan.now c.args.job.now.plan c.args.job.now.files c.args.run.now.out.now c.args.run.now.readers c.args.run.now.ring c.args.racks.now _ c.split_at_mut-racks.result.0.now c.run_rows.new.racks c.split_at_mut-racks.result.1.now
     (search rules) refl count c.run_rows.auto.racks c.requires.plan is c.in_err-sites.ensures.part)
 
 pub returns-in_err-sites-clause-counts : goal.returns-in_err-sites-clause-counts
@@ -45,17 +48,12 @@ returns-in_err-sites-clause-counts g c =
     let tell : g.row.R.Denot → RackTells = told g.R.Rack in
     job_counts tell c.args.racks.now _ c.split_at_mut-racks.result.0.now c.run_rows.new.racks c.split_at_mut-racks.result.1.now (search rules) refl c.run_rows.auto.racks c.in_err-sites.ensures.counts
 
-pub returns-in_err-sites-clause-others : goal.returns-in_err-sites-clause-others
-returns-in_err-sites-clause-others g c =
-    let count : length c.split_at_mut-racks.result.0.now ≡ length c.args.job.now.plan.sites = search rules in
-    job_others (length c.args.job.now.plan.sites) c.args.racks.now _ c.split_at_mut-racks.result.0.now c.run_rows.new.racks c.split_at_mut-racks.result.1.now (search rules) refl count c.run_rows.auto.racks
-
 pub returns-clause-fits : goal.returns-clause-fits
 returns-clause-fits g c =
     let tell : g.row.R.Denot → RackTells = told g.R.Rack in
     let is : IsPlan c.args.run.now.plan.now = c.requires.run.plan_is in
     let count : length c.split_at_mut-racks.result.0.now ≡ length c.args.run.now.plan.now.sites = search rules in
-    job_fits tell c.args.run.now.plan.now c.args.job.now.plan c.args.job.now.files c.args.run.now.out.now c.args.run.now.ring c.args.racks.now _ c.split_at_mut-racks.result.0.now c.run_rows.new.racks c.split_at_mut-racks.result.1.now
+    job_fits tell c.args.run.now.plan.now c.args.job.now.plan c.args.job.now.files c.args.run.now.out.now c.args.run.now.readers c.args.run.now.ring c.args.racks.now _ c.split_at_mut-racks.result.0.now c.run_rows.new.racks c.split_at_mut-racks.result.1.now
     c.in_ok-sites.sites.items (search rules) refl count c.run_rows.auto.racks c.requires.plan is c.in_ok-sites.ensures.fits
 
 pub returns-clause-counts : goal.returns-clause-counts
@@ -63,7 +61,7 @@ returns-clause-counts g c =
     let tell : g.row.R.Denot → RackTells = told g.R.Rack in
     job_counts tell c.args.racks.now _ c.split_at_mut-racks.result.0.now c.run_rows.new.racks c.split_at_mut-racks.result.1.now (search rules) refl c.run_rows.auto.racks c.in_ok-sites.ensures.counts
 
-pub returns-clause-others : goal.returns-clause-others
-returns-clause-others g c =
-    let count : length c.split_at_mut-racks.result.0.now ≡ length c.args.job.now.plan.sites = search rules in
-    job_others (length c.args.job.now.plan.sites) c.args.racks.now _ c.split_at_mut-racks.result.0.now c.run_rows.new.racks c.split_at_mut-racks.result.1.now (search rules) refl count c.run_rows.auto.racks
+pub returns-clause-keys : goal.returns-clause-keys
+returns-clause-keys g c =
+    let is : IsPlan c.args.job.now.plan = subst (λ (p : PlanData). IsPlan p) c.requires.plan c.requires.run.plan_is in
+    all_keys_fit c.args.job.now.plan c.args.job.now.files c.args.run.now.ring c.args.run.now.readers (frame_size (row_size (plate_width c.args.job.now.plan))) c.args.keys.now c.run_rows.new.keys is c.requires.zeros c.in_ok-sites.ensures.counted

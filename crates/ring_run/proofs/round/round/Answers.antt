@@ -1,57 +1,180 @@
-use Rattle.std.proofs.Common.{◌≡◌, map, ap, subst, ◌∙◌, arith}
-use Rattle.std.proofs.lemmas.List.{length-map}
+use Rattle.std.proofs.Common.{refl, sym, ap, subst, ◌∙◌}
+use Rattle.ring_lanes.specs.Reader.{ReaderState}
 use Rattle.ring_lanes.specs.Writer.{WriterState}
 use Rattle.pr_rack.specs.Told.{RackTells, told}
-use Rattle.ring_run.specs.Feeding.{Fed}
-use Rattle.ring_run.specs.Round.{AreTold, KnowsAll}
-use Rattle.ring_run.proofs.Rounds.{ends_stay, ends_told, falls, may_turn, rounded, stay_seated}
+use Rattle.ring_run.specs.Feeding.{Fed, MayFeed}
+use Rattle.ring_run.specs.Round.{AreTold, IsSeatTold, IsTold, KnowsAll}
+use Rattle.ring_run.specs.Seat.{SeatData}
+use Rattle.ring_run.proofs.KeyTurns.{may_count}
+use Rattle.ring_run.proofs.RoundEnds.{feed_noted, more_at, noted_both, round_leaves, seats_at}
+use Rattle.ring_run.proofs.Rounds.{may_turn}
 use Rattle.ring_run.proofs.round.round.Goals as goal
 
-pub turn_beside-requires-clause-may : goal.turn_beside-requires-clause-may
-turn_beside-requires-clause-may g c κs within =
+pub tell_writer-requires : goal.tell_writer-requires
+tell_writer-requires g c = record { table = seats_at c.args.writer.now c.args.writer.now c.args.seats.now c.args.seats.now c.args.more.now c.requires.ends refl refl }
+
+pub tell_writer-requires-2 : goal.tell_writer-requires-2
+tell_writer-requires-2 g c = record {
+  table = more_at c.args.writer.now c.tell_writer.new.writer c.args.seats.now c.args.more.now c.args.more.now c.requires.ends refl (ap (λ (w : WriterState). w.table) c.tell_writer.ensures.same);
+}
+
+pub tell_readers-requires : goal.tell_readers-requires
+tell_readers-requires g c = record {
+  table = seats_at c.args.writer.now c.tell_writer-2.new.writer c.args.seats.now c.tell_writer.new.ends c.args.more.now c.requires.ends c.tell_writer.ensures.ends
+      (ap (λ (w : WriterState). w.table) (noted_both c.args.writer.now c.tell_writer.new.writer c.tell_writer-2.new.writer c.tell_writer.ensures.same c.tell_writer-2.ensures.same));
+}
+
+pub tell_readers-requires-2 : goal.tell_readers-requires-2
+tell_readers-requires-2 g c = record {
+  table = more_at c.args.writer.now c.tell_readers.new.writer c.args.seats.now c.args.more.now c.tell_writer-2.new.ends c.requires.ends c.tell_writer-2.ensures.ends
+      (ap (λ (w : WriterState). w.table) (c.tell_readers.ensures.same ∙ noted_both c.args.writer.now c.tell_writer.new.writer c.tell_writer-2.new.writer c.tell_writer.ensures.same c.tell_writer-2.ensures.same));
+}
+
+pub turn_all-requires-clause-may_one : goal.turn_all-requires-clause-may_one
+turn_all-requires-clause-may_one g c κs within =
+    let same = noted_both c.args.writer.now c.tell_writer.new.writer c.tell_writer-2.new.writer c.tell_writer.ensures.same c.tell_writer-2.ensures.same in
+    subst (λ (w : WriterState). MayFeed (g.F.RowFeed.left c.args.feed.now) w) (sym (c.tell_readers-2.ensures.same ∙ c.tell_readers.ensures.same))
+    (feed_noted (g.F.RowFeed.left c.args.feed.now) c.args.writer.now c.tell_writer-2.new.writer same c.requires.feed)
+
+pub turn_all-requires-clause-count : goal.turn_all-requires-clause-count
+turn_all-requires-clause-count g c κs within = c.tell_readers.auto.ends ∙ c.tell_writer.auto.ends ∙ c.requires.count
+
+pub turn_all-requires-clause-count_further : goal.turn_all-requires-clause-count_further
+turn_all-requires-clause-count_further g c κs within = c.tell_readers-2.auto.ends ∙ c.tell_writer-2.auto.ends ∙ c.requires.more
+
+pub turn_all-requires-clause-may : goal.turn_all-requires-clause-may
+turn_all-requires-clause-may g c κs within =
     let tell : g.row.R.Denot → RackTells = told g.R.Rack in
-    may_turn tell c.tell_writer.new.writer c.args.seats.now c.tell_readers.new.seats c.args.racks.now (c.tell_readers.auto.seats ∙ c.tell_writer.auto.seats)
-    (subst (λ (s : _). AreTold c.tell_writer.new.writer s c.tell_readers.new.seats) c.tell_writer.ensures.seats c.tell_readers.ensures.told) c.requires.some
+    may_turn tell c.tell_writer-2.new.writer c.args.seats.now c.tell_readers.new.ends c.args.racks.now (c.tell_readers.auto.ends ∙ c.tell_writer.auto.ends)
+    (subst (λ (s : _). AreTold IsSeatTold c.tell_writer-2.new.writer s c.tell_readers.new.ends) c.tell_writer.ensures.ends c.tell_readers.ensures.told) c.requires.some
+
+pub turn_all-requires-clause-may_further : goal.turn_all-requires-clause-may_further
+turn_all-requires-clause-may_further g c κs within =
+    may_count c.tell_readers.new.writer c.args.more.now c.tell_readers-2.new.ends c.args.keys.now (c.tell_readers-2.auto.ends ∙ c.tell_writer-2.auto.ends)
+    (subst (λ (s : _). AreTold IsTold c.tell_readers.new.writer s c.tell_readers-2.new.ends) c.tell_writer-2.ensures.ends c.tell_readers-2.ensures.told) c.requires.counting
+
+pub returns-clause-ring : goal.returns-clause-ring
+returns-clause-ring g c =
+    let tell : g.row.R.Denot → RackTells = told g.R.Rack in
+    let w = c.args.writer.now in
+    let noted = c.tell_writer-2.new.writer in
+    let seats-are = c.tell_writer.ensures.ends in
+    let more-are = c.tell_writer-2.ensures.ends in
+    let same = noted_both w c.tell_writer.new.writer noted c.tell_writer.ensures.same c.tell_writer-2.ensures.same in
+    let heard = c.tell_readers.ensures.same in
+    let leaves = round_leaves tell (g.F.RowFeed.left c.turn_all.new.its) w noted c.turn_all.new.one c.tell_writer.new.writer.known c.args.seats.now c.tell_readers.new.ends c.turn_all.new.all c.args.more.now c.tell_readers-2.new.ends
+    c.turn_all.new.further c.args.racks.now c.turn_all.new.others c.args.keys.now c.turn_all.new.theirs c.requires.ends c.requires.places c.requires.count c.requires.more same
+    (subst (λ (s : _). KnowsAll (λ (seat : SeatData). seat.reader) c.tell_writer.new.writer.known s) seats-are c.tell_writer.ensures.knows) c.tell_writer-2.ensures.more
+    (subst (λ (s : _). KnowsAll (λ (reader : ReaderState). reader) noted.known s) more-are c.tell_writer-2.ensures.knows)
+    (c.tell_readers.auto.ends ∙ c.tell_writer.auto.ends) (c.tell_readers-2.auto.ends ∙ c.tell_writer-2.auto.ends)
+    (subst (λ (s : _). AreTold IsSeatTold noted s c.tell_readers.new.ends) seats-are c.tell_readers.ensures.told)
+    (subst (λ (w' : WriterState). AreTold IsTold w' c.args.more.now c.tell_readers-2.new.ends) heard
+    (subst (λ (s : _). AreTold IsTold c.tell_readers.new.writer s c.tell_readers-2.new.ends) more-are c.tell_readers-2.ensures.told))
+    c.turn_all.auto.all c.turn_all.auto.further c.turn_all.auto.others c.turn_all.auto.theirs c.turn_all.ensures.turned c.turn_all.ensures.further
+    (subst (λ (w' : WriterState). Fed (g.F.RowFeed.left c.turn_all.new.its) w' c.turn_all.new.one) (c.tell_readers-2.ensures.same ∙ heard) c.turn_all.ensures.one) in
+    leaves.ring
 
 pub returns-clause-ends : goal.returns-clause-ends
 returns-clause-ends g c =
     let tell : g.row.R.Denot → RackTells = told g.R.Rack in
-    let told : AreTold c.tell_writer.new.writer c.args.seats.now c.tell_readers.new.seats = subst (λ (s : _). AreTold c.tell_writer.new.writer s c.tell_readers.new.seats) c.tell_writer.ensures.seats c.tell_readers.ensures.told in
-    let same = c.tell_readers.auto.seats ∙ c.tell_writer.auto.seats in
-    let all = c.turn_beside.auto.all ∙ same in
-    let others = c.turn_beside.auto.others in
-    let count = c.requires.count in
-    let olds = length-map c.args.racks.now tell in
-    let news = length-map c.turn_beside.new.others tell in
-    let all-rounded = rounded tell c.tell_writer.new.writer c.args.seats.now c.tell_readers.new.seats c.turn_beside.new.all c.args.racks.now c.turn_beside.new.others same told c.turn_beside.ensures.turned in
-    let after : c.turn_beside.new.one ≡ record c.args.writer.now { head = c.turn_beside.new.one.head; known = c.turn_beside.new.one.known; loads = c.turn_beside.new.one.loads } =
-    c.turn_beside.ensures.one.same ∙ ap {A = WriterState} (λ w. record w { head = c.turn_beside.new.one.head; known = c.turn_beside.new.one.known; loads = c.turn_beside.new.one.loads }) (c.tell_readers.ensures.same ∙ c.tell_writer.ensures.same) in
-    ends_stay c.tell_writer.new.writer c.args.writer.now c.turn_beside.new.one (map tell c.args.racks.now) (map tell c.turn_beside.new.others) c.args.seats.now c.turn_beside.new.all (omega (arith, all)) (omega (arith, count, olds))
-    (omega (arith, count, news, others)) (ap (λ (w : WriterState). w.table) after) (ap (λ (w : WriterState). w.ring) after) c.requires.ends all-rounded
+    let w = c.args.writer.now in
+    let noted = c.tell_writer-2.new.writer in
+    let seats-are = c.tell_writer.ensures.ends in
+    let more-are = c.tell_writer-2.ensures.ends in
+    let same = noted_both w c.tell_writer.new.writer noted c.tell_writer.ensures.same c.tell_writer-2.ensures.same in
+    let heard = c.tell_readers.ensures.same in
+    let leaves = round_leaves tell (g.F.RowFeed.left c.turn_all.new.its) w noted c.turn_all.new.one c.tell_writer.new.writer.known c.args.seats.now c.tell_readers.new.ends c.turn_all.new.all c.args.more.now c.tell_readers-2.new.ends
+    c.turn_all.new.further c.args.racks.now c.turn_all.new.others c.args.keys.now c.turn_all.new.theirs c.requires.ends c.requires.places c.requires.count c.requires.more same
+    (subst (λ (s : _). KnowsAll (λ (seat : SeatData). seat.reader) c.tell_writer.new.writer.known s) seats-are c.tell_writer.ensures.knows) c.tell_writer-2.ensures.more
+    (subst (λ (s : _). KnowsAll (λ (reader : ReaderState). reader) noted.known s) more-are c.tell_writer-2.ensures.knows)
+    (c.tell_readers.auto.ends ∙ c.tell_writer.auto.ends) (c.tell_readers-2.auto.ends ∙ c.tell_writer-2.auto.ends)
+    (subst (λ (s : _). AreTold IsSeatTold noted s c.tell_readers.new.ends) seats-are c.tell_readers.ensures.told)
+    (subst (λ (w' : WriterState). AreTold IsTold w' c.args.more.now c.tell_readers-2.new.ends) heard
+    (subst (λ (s : _). AreTold IsTold c.tell_readers.new.writer s c.tell_readers-2.new.ends) more-are c.tell_readers-2.ensures.told))
+    c.turn_all.auto.all c.turn_all.auto.further c.turn_all.auto.others c.turn_all.auto.theirs c.turn_all.ensures.turned c.turn_all.ensures.further
+    (subst (λ (w' : WriterState). Fed (g.F.RowFeed.left c.turn_all.new.its) w' c.turn_all.new.one) (c.tell_readers-2.ensures.same ∙ heard) c.turn_all.ensures.one) in
+    leaves.ends
 
 pub returns-clause-seated : goal.returns-clause-seated
 returns-clause-seated g c =
     let tell : g.row.R.Denot → RackTells = told g.R.Rack in
-    let told : AreTold c.tell_writer.new.writer c.args.seats.now c.tell_readers.new.seats = subst (λ (s : _). AreTold c.tell_writer.new.writer s c.tell_readers.new.seats) c.tell_writer.ensures.seats c.tell_readers.ensures.told in
-    let same = c.tell_readers.auto.seats ∙ c.tell_writer.auto.seats in
-    let all-rounded = rounded tell c.tell_writer.new.writer c.args.seats.now c.tell_readers.new.seats c.turn_beside.new.all c.args.racks.now c.turn_beside.new.others same told c.turn_beside.ensures.turned in
-    stay_seated c.tell_writer.new.writer c.args.writer.now (map tell c.args.racks.now) (map tell c.turn_beside.new.others) c.args.seats.now c.turn_beside.new.all c.requires.ends all-rounded
+    let w = c.args.writer.now in
+    let noted = c.tell_writer-2.new.writer in
+    let seats-are = c.tell_writer.ensures.ends in
+    let more-are = c.tell_writer-2.ensures.ends in
+    let same = noted_both w c.tell_writer.new.writer noted c.tell_writer.ensures.same c.tell_writer-2.ensures.same in
+    let heard = c.tell_readers.ensures.same in
+    let leaves = round_leaves tell (g.F.RowFeed.left c.turn_all.new.its) w noted c.turn_all.new.one c.tell_writer.new.writer.known c.args.seats.now c.tell_readers.new.ends c.turn_all.new.all c.args.more.now c.tell_readers-2.new.ends
+    c.turn_all.new.further c.args.racks.now c.turn_all.new.others c.args.keys.now c.turn_all.new.theirs c.requires.ends c.requires.places c.requires.count c.requires.more same
+    (subst (λ (s : _). KnowsAll (λ (seat : SeatData). seat.reader) c.tell_writer.new.writer.known s) seats-are c.tell_writer.ensures.knows) c.tell_writer-2.ensures.more
+    (subst (λ (s : _). KnowsAll (λ (reader : ReaderState). reader) noted.known s) more-are c.tell_writer-2.ensures.knows)
+    (c.tell_readers.auto.ends ∙ c.tell_writer.auto.ends) (c.tell_readers-2.auto.ends ∙ c.tell_writer-2.auto.ends)
+    (subst (λ (s : _). AreTold IsSeatTold noted s c.tell_readers.new.ends) seats-are c.tell_readers.ensures.told)
+    (subst (λ (w' : WriterState). AreTold IsTold w' c.args.more.now c.tell_readers-2.new.ends) heard
+    (subst (λ (s : _). AreTold IsTold c.tell_readers.new.writer s c.tell_readers-2.new.ends) more-are c.tell_readers-2.ensures.told))
+    c.turn_all.auto.all c.turn_all.auto.further c.turn_all.auto.others c.turn_all.auto.theirs c.turn_all.ensures.turned c.turn_all.ensures.further
+    (subst (λ (w' : WriterState). Fed (g.F.RowFeed.left c.turn_all.new.its) w' c.turn_all.new.one) (c.tell_readers-2.ensures.same ∙ heard) c.turn_all.ensures.one) in
+    leaves.seated
+
+pub returns-clause-counting : goal.returns-clause-counting
+returns-clause-counting g c =
+    let tell : g.row.R.Denot → RackTells = told g.R.Rack in
+    let w = c.args.writer.now in
+    let noted = c.tell_writer-2.new.writer in
+    let seats-are = c.tell_writer.ensures.ends in
+    let more-are = c.tell_writer-2.ensures.ends in
+    let same = noted_both w c.tell_writer.new.writer noted c.tell_writer.ensures.same c.tell_writer-2.ensures.same in
+    let heard = c.tell_readers.ensures.same in
+    let leaves = round_leaves tell (g.F.RowFeed.left c.turn_all.new.its) w noted c.turn_all.new.one c.tell_writer.new.writer.known c.args.seats.now c.tell_readers.new.ends c.turn_all.new.all c.args.more.now c.tell_readers-2.new.ends
+    c.turn_all.new.further c.args.racks.now c.turn_all.new.others c.args.keys.now c.turn_all.new.theirs c.requires.ends c.requires.places c.requires.count c.requires.more same
+    (subst (λ (s : _). KnowsAll (λ (seat : SeatData). seat.reader) c.tell_writer.new.writer.known s) seats-are c.tell_writer.ensures.knows) c.tell_writer-2.ensures.more
+    (subst (λ (s : _). KnowsAll (λ (reader : ReaderState). reader) noted.known s) more-are c.tell_writer-2.ensures.knows)
+    (c.tell_readers.auto.ends ∙ c.tell_writer.auto.ends) (c.tell_readers-2.auto.ends ∙ c.tell_writer-2.auto.ends)
+    (subst (λ (s : _). AreTold IsSeatTold noted s c.tell_readers.new.ends) seats-are c.tell_readers.ensures.told)
+    (subst (λ (w' : WriterState). AreTold IsTold w' c.args.more.now c.tell_readers-2.new.ends) heard
+    (subst (λ (s : _). AreTold IsTold c.tell_readers.new.writer s c.tell_readers-2.new.ends) more-are c.tell_readers-2.ensures.told))
+    c.turn_all.auto.all c.turn_all.auto.further c.turn_all.auto.others c.turn_all.auto.theirs c.turn_all.ensures.turned c.turn_all.ensures.further
+    (subst (λ (w' : WriterState). Fed (g.F.RowFeed.left c.turn_all.new.its) w' c.turn_all.new.one) (c.tell_readers-2.ensures.same ∙ heard) c.turn_all.ensures.one) in
+    leaves.counting
+
+pub returns-clause-keys : goal.returns-clause-keys
+returns-clause-keys g c =
+    let tell : g.row.R.Denot → RackTells = told g.R.Rack in
+    let w = c.args.writer.now in
+    let noted = c.tell_writer-2.new.writer in
+    let seats-are = c.tell_writer.ensures.ends in
+    let more-are = c.tell_writer-2.ensures.ends in
+    let same = noted_both w c.tell_writer.new.writer noted c.tell_writer.ensures.same c.tell_writer-2.ensures.same in
+    let heard = c.tell_readers.ensures.same in
+    let leaves = round_leaves tell (g.F.RowFeed.left c.turn_all.new.its) w noted c.turn_all.new.one c.tell_writer.new.writer.known c.args.seats.now c.tell_readers.new.ends c.turn_all.new.all c.args.more.now c.tell_readers-2.new.ends
+    c.turn_all.new.further c.args.racks.now c.turn_all.new.others c.args.keys.now c.turn_all.new.theirs c.requires.ends c.requires.places c.requires.count c.requires.more same
+    (subst (λ (s : _). KnowsAll (λ (seat : SeatData). seat.reader) c.tell_writer.new.writer.known s) seats-are c.tell_writer.ensures.knows) c.tell_writer-2.ensures.more
+    (subst (λ (s : _). KnowsAll (λ (reader : ReaderState). reader) noted.known s) more-are c.tell_writer-2.ensures.knows)
+    (c.tell_readers.auto.ends ∙ c.tell_writer.auto.ends) (c.tell_readers-2.auto.ends ∙ c.tell_writer-2.auto.ends)
+    (subst (λ (s : _). AreTold IsSeatTold noted s c.tell_readers.new.ends) seats-are c.tell_readers.ensures.told)
+    (subst (λ (w' : WriterState). AreTold IsTold w' c.args.more.now c.tell_readers-2.new.ends) heard
+    (subst (λ (s : _). AreTold IsTold c.tell_readers.new.writer s c.tell_readers-2.new.ends) more-are c.tell_readers-2.ensures.told))
+    c.turn_all.auto.all c.turn_all.auto.further c.turn_all.auto.others c.turn_all.auto.theirs c.turn_all.ensures.turned c.turn_all.ensures.further
+    (subst (λ (w' : WriterState). Fed (g.F.RowFeed.left c.turn_all.new.its) w' c.turn_all.new.one) (c.tell_readers-2.ensures.same ∙ heard) c.turn_all.ensures.one) in
+    leaves.same
 
 pub returns-clause-falls : goal.returns-clause-falls
 returns-clause-falls g c =
     let tell : g.row.R.Denot → RackTells = told g.R.Rack in
-    let told : AreTold c.tell_writer.new.writer c.args.seats.now c.tell_readers.new.seats = subst (λ (s : _). AreTold c.tell_writer.new.writer s c.tell_readers.new.seats) c.tell_writer.ensures.seats c.tell_readers.ensures.told in
-    let same = c.tell_readers.auto.seats ∙ c.tell_writer.auto.seats in
-    let all = c.turn_beside.auto.all ∙ same in
-    let others = c.turn_beside.auto.others in
-    let count = c.requires.count in
-    let olds = length-map c.args.racks.now tell in
-    let news = length-map c.turn_beside.new.others tell in
-    let places = c.requires.places in
-    let all-rounded = rounded tell c.tell_writer.new.writer c.args.seats.now c.tell_readers.new.seats c.turn_beside.new.all c.args.racks.now c.turn_beside.new.others same told c.turn_beside.ensures.turned in
-    let noted : c.tell_writer.new.writer ≡ record c.args.writer.now { known = c.tell_writer.new.writer.known; loads = c.tell_writer.new.writer.loads } = c.tell_writer.ensures.same in
-    let knows : KnowsAll c.tell_writer.new.writer.known c.args.seats.now = subst (λ (s : _). KnowsAll c.tell_writer.new.writer.known s) c.tell_writer.ensures.seats c.tell_writer.ensures.knows in
-    falls (g.F.RowFeed.left c.turn_beside.new.its) c.args.writer.now c.tell_writer.new.writer c.turn_beside.new.one (map tell c.args.racks.now) (map tell c.turn_beside.new.others) c.args.seats.now c.turn_beside.new.all noted
-    (ends_told c.args.writer.now c.tell_writer.new.writer c.args.seats.now noted c.requires.ends) knows (omega (arith, all)) (omega (arith, count, olds)) (omega (arith, count, news, others)) all-rounded
-    (subst (λ (w : WriterState). Fed (g.F.RowFeed.left c.turn_beside.new.its) w c.turn_beside.new.one) c.tell_readers.ensures.same c.turn_beside.ensures.one)
-    (omega (arith, places, ap (λ (w : WriterState). w.ring.places) noted))
+    let w = c.args.writer.now in
+    let noted = c.tell_writer-2.new.writer in
+    let seats-are = c.tell_writer.ensures.ends in
+    let more-are = c.tell_writer-2.ensures.ends in
+    let same = noted_both w c.tell_writer.new.writer noted c.tell_writer.ensures.same c.tell_writer-2.ensures.same in
+    let heard = c.tell_readers.ensures.same in
+    let leaves = round_leaves tell (g.F.RowFeed.left c.turn_all.new.its) w noted c.turn_all.new.one c.tell_writer.new.writer.known c.args.seats.now c.tell_readers.new.ends c.turn_all.new.all c.args.more.now c.tell_readers-2.new.ends
+    c.turn_all.new.further c.args.racks.now c.turn_all.new.others c.args.keys.now c.turn_all.new.theirs c.requires.ends c.requires.places c.requires.count c.requires.more same
+    (subst (λ (s : _). KnowsAll (λ (seat : SeatData). seat.reader) c.tell_writer.new.writer.known s) seats-are c.tell_writer.ensures.knows) c.tell_writer-2.ensures.more
+    (subst (λ (s : _). KnowsAll (λ (reader : ReaderState). reader) noted.known s) more-are c.tell_writer-2.ensures.knows)
+    (c.tell_readers.auto.ends ∙ c.tell_writer.auto.ends) (c.tell_readers-2.auto.ends ∙ c.tell_writer-2.auto.ends)
+    (subst (λ (s : _). AreTold IsSeatTold noted s c.tell_readers.new.ends) seats-are c.tell_readers.ensures.told)
+    (subst (λ (w' : WriterState). AreTold IsTold w' c.args.more.now c.tell_readers-2.new.ends) heard
+    (subst (λ (s : _). AreTold IsTold c.tell_readers.new.writer s c.tell_readers-2.new.ends) more-are c.tell_readers-2.ensures.told))
+    c.turn_all.auto.all c.turn_all.auto.further c.turn_all.auto.others c.turn_all.auto.theirs c.turn_all.ensures.turned c.turn_all.ensures.further
+    (subst (λ (w' : WriterState). Fed (g.F.RowFeed.left c.turn_all.new.its) w' c.turn_all.new.one) (c.tell_readers-2.ensures.same ∙ heard) c.turn_all.ensures.one) in
+    leaves.falls

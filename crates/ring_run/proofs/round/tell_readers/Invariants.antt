@@ -3,4 +3,7 @@ use Rattle.ring_run.proofs.Rounds.{ToldUpTo}
 use Rattle.ring_run.proofs.round.tell_readers.Given as goal
 
 abbrev pub invariant-loop-i : goal.invariant-loop-i
-invariant-loop-i g l = (l.writer ≡ l.initial.writer) × ToldUpTo l.initial.writer l.initial.seats l.seats l.i
+invariant-loop-i g l = record {
+  same : l.writer ≡ l.initial.writer;
+  told : ToldUpTo (g.E.AtEnd.heard l.initial.writer) l.initial.ends l.ends l.i;
+}

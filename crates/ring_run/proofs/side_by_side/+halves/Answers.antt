@@ -1,4 +1,4 @@
-use Rattle.std.proofs.Common.{◌≡◌, ◌≤◌, ◌/◌, ℕ, length, arith}
+use Rattle.std.proofs.Common.{◌≡◌, ◌/◌, ℕ, length, arith}
 use Rattle.ring_run.proofs.Halves.{both_turned}
 use Rattle.ring_run.proofs.side_by_side.+halves.Goals as goal
 

@@ -1,0 +1,102 @@
+// Turns that are taken beside further ones.
+ghost use Rattle.std.specs.Prelude.{◌≡◌, ◌<◌, ℕ, length};
+ghost use Rattle.std.specs.Thread.{IsSync};
+ghost use Rattle.ring_run.specs.Pairs.{AreTurned, MayAllTurn};
+
+use crate::side_by_side::{Pace, TurnWith, turn_beside, turns};
+use std::thread::{Threads, join_mut};
+
+/// A turn of one, and beside it those of all others and the further ones. Where there is no further one, no
+/// join is made for it.
+pub(crate) fn turn_all<T, W, F, X, Y, Z, V>(
+    rt: &T,
+    pace: Pace,
+    its: &mut F,
+    one: &mut W,
+    others: &mut [Y],
+    all: &mut [X],
+    theirs: &mut [V],
+    further: &mut [Z],
+)
+where
+    T: Threads + Sync,
+    W: TurnWith<F> + Send,
+    F: Send,
+    X: TurnWith<Y> + Send,
+    Y: Send,
+    Z: TurnWith<V> + Send,
+    V: Send,
+    requires may_one { W.may one.old its.old }
+    requires count { length all.old ≡ length others.old }
+    requires may { MayAllTurn X.may all.old others.old }
+    requires count_further { length further.old ≡ length theirs.old }
+    requires may_further { MayAllTurn Z.may further.old theirs.old }
+    requires patience { 0 < pace.patience }
+    ensures one { W.turned one.old its.old one.new its.new }
+    ensures turned { AreTurned X.turned all.old others.old all.new others.new }
+    ensures further { AreTurned Z.turned further.old theirs.old further.new theirs.new }
+{
+    if further.is_empty() {
+        turn_beside(rt, pace, its, one, others, all);
+    } else {
+        turn_beside_further(rt, pace, its, one, others, all, theirs, further);
+    }
+}
+
+/// The same with a join for the further ones.
+fn turn_beside_further<T, W, F, X, Y, Z, V>(
+    rt: &T,
+    pace: Pace,
+    its: &mut F,
+    one: &mut W,
+    others: &mut [Y],
+    all: &mut [X],
+    theirs: &mut [V],
+    further: &mut [Z],
+)
+where
+    T: Threads + Sync,
+    W: TurnWith<F> + Send,
+    F: Send,
+    X: TurnWith<Y> + Send,
+    Y: Send,
+    Z: TurnWith<V> + Send,
+    V: Send,
+    requires may_one { W.may one.old its.old }
+    requires count { length all.old ≡ length others.old }
+    requires may { MayAllTurn X.may all.old others.old }
+    requires count_further { length further.old ≡ length theirs.old }
+    requires may_further { MayAllTurn Z.may further.old theirs.old }
+    requires patience { 0 < pace.patience }
+    ensures one { W.turned one.old its.old one.new its.new }
+    ensures turned { AreTurned X.turned all.old others.old all.new others.new }
+    ensures further { AreTurned Z.turned further.old theirs.old further.new theirs.new }
+{
+    // The second closure runs in this thread, and in it the one's turn.
+    join_mut(
+        rt,
+        &mut ||
+            requires sync { IsSync T.row }
+            requires count { length all.now ≡ length others.now }
+            requires may { MayAllTurn X.may all.now others.now }
+            requires patience { 0 < pace.patience }
+            ensures { AreTurned X.turned all.entry.now others.entry.now all.exit.now others.exit.now }
+        {
+            let pace = pace;
+            turns(rt, pace, others, all)
+        },
+        &mut ||
+            requires sync { IsSync T.row }
+            requires may_one { W.may one.now its.now }
+            requires count { length further.now ≡ length theirs.now }
+            requires may { MayAllTurn Z.may further.now theirs.now }
+            requires patience { 0 < pace.patience }
+            ensures one { W.turned one.entry.now its.entry.now one.exit.now its.exit.now }
+            ensures further { AreTurned Z.turned further.entry.now theirs.entry.now further.exit.now
+                theirs.exit.now }
+        {
+            let pace = pace;
+            turn_beside(rt, pace, its, one, theirs, further)
+        },
+    );
+}
