@@ -7,6 +7,7 @@ pub mod Pack
 pub mod Numbers
 pub mod Delivering
 pub mod Looking
+pub mod Changing
 pub mod DrillVerdict
 pub mod DrillDots
 pub mod Drilled

@@ -40,7 +40,7 @@ module _ (own : PlanData) (job : JobData) (left : List (List ℕ)) (same : own �
       }))
 
   -- what holds of the plan and the rows that the feed tells holds of the job's
-  over_job : (P : PlanData → List (List ℕ) → Type 0) → P own (map framed_row left) → P job.plan (plate_rows job.plan job.files)
+  pub over_job : (P : PlanData → List (List ℕ) → Type 0) → P own (map framed_row left) → P job.plan (plate_rows job.plan job.files)
   over_job P p = subst (λ (rows : List (List ℕ)). P job.plan rows) rows_in (subst (λ (q : PlanData). P q (map framed_row left)) same p)
 
 pub total_in : (job : JobData) (left : List (List ℕ)) (rows : RowPlanData) → rows ≡ rows_of job.plan

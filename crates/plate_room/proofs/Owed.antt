@@ -2,6 +2,7 @@
 use Rattle.std.proofs.Common.{◌≡◌, ◌⊎◌, ℕ, ◌<◌, ◌≤◌, List, length, [], ◌∷◌, Bool, Option, Some, None, IsSomeAnd, suc, option_map, true, false, if◌then◌else◌, nat_lt, refl, sym, ap, subst, ◌∙◌, inl, inr, arith}
 use Rattle.std.specs.Prelude.{slice_get}
 use Rattle.std.specs.List.{list_all}
+use Rattle.std.specs.Option.{option_or}
 use Rattle.std.proofs.lemmas.Option.{slice_get-map, slice_get_cases, slice_get_within}
 use Rattle.std.proofs.lemmas.Bool.Decides.{nat_tests}
 use Rattle.pr_base.specs.declared.fault.TagFault.{TagFault}
@@ -14,20 +15,26 @@ use Rattle.site_agent.specs.declared.kept.LeftCause.{LeftCause}
 use Rattle.ring_run.specs.Fits.{FitsCause}
 use Rattle.ring_run.specs.declared.site_end.SiteEnd.{SiteEnd}
 use Rattle.ring_run.specs.declared.site_end.SiteEnd.TheVariants.{Finished, Left}
+use Rattle.replate.specs.declared.remade.RemadeEnd.{RemadeEnd}
+use Rattle.replate.specs.declared.remade.RemadeEnd.TheVariants as remade
+use Rattle.replate.specs.Picks.{PicksData}
+use Rattle.replate.specs.Remade.{FitsLeft}
 use Rattle.plate_verify.specs.declared.checked.Checked.{Checked}
 use Rattle.plate_verify.specs.declared.checked.Checked.TheVariants.{Same, Differs, Long}
 use Rattle.plate_verify.specs.Looking as looking
-use Rattle.plate_room.specs.declared.refusal.Whose.TheVariants.{New}
+use Rattle.plate_room.specs.declared.refusal.Whose.TheVariants.{New, Old}
 use Rattle.plate_room.specs.declared.refusal.Refusal.{Refusal}
 use Rattle.plate_room.specs.declared.refusal.Refusal.TheVariants.{Words, LongPlan, Plan, File, Shelf}
+use Rattle.plate_room.specs.Change.{AreCompared, ChangeMeets, DeliversPicked, change_makes, change_rules, making_of, verdict_on_change}
 use Rattle.plate_room.specs.Check.{CheckMeets, EndsFound, PrintsFound, check_rules, found_status, wrong_of}
-use Rattle.plate_room.specs.Command.{AsksDrill, AsksVerify, Asked, Command, Drill, Edition, One, Run, Verify}
+use Rattle.plate_room.specs.Command.{AsksDrill, AsksVerify, Asked, Change, Command, Drill, Edition, One, Replate, Run, Verify}
 use Rattle.plate_room.specs.Drill.{PrintsDrill, drill_rules}
 use Rattle.plate_room.specs.Edition.{Delivers, delivery_of, run_makes, run_rules}
 use Rattle.plate_room.specs.End.{IsDoneStatus}
-use Rattle.plate_room.specs.Job.{IsLoaded, IsPrepared}
+use Rattle.plate_room.specs.Job.{IsLoaded, IsPrepared, verdict_on_job}
 use Rattle.plate_room.specs.OneFile.{HasFault, OneMeets, PrintsPlate, file_limit, judged, named, one_rules, too_long, verdict_on}
 use Rattle.plate_room.specs.Refusal.{status_of}
+use Rattle.plate_room.specs.Remade.{is_done, status_of_remade}
 use Rattle.plate_room.specs.Report.{is_finished, status_of_ends}
 use Rattle.plate_room.specs.Seen.{Files, ShelfSeen, LoadFailed, RackFailed}
 use Rattle.plate_room.specs.Task.{Makes, Rules, telling}
@@ -259,6 +266,92 @@ check_owes g asked = record {
   by : (status : ℕ) → (status ≡ 0) ⊎ (status ≡ 8) → status ≡ 1 → ⊥
   by status done one = grind arith
 
+-- ---- `replate`
+
+-- a refusal of the old job is the verdict; where it has none, that of the new one is
+change_met : (change : Change) (files : Files) (shelf : ShelfSeen) (refusal : Refusal) → shelf.held ≡ Some files
+    → ChangeMeets change shelf refusal
+    → (verdict_on_change change files ≡ Some refusal) ⊎ ((status_of refusal ≡ 5) × LoadFailed shelf)
+change_met change files shelf refusal told (inl met) =
+    elim (job_met Old change.old_plan change.old_files files shelf refusal told met) [
+      | inl is ↦ inl (ap (λ (v : Option Refusal). option_or v (verdict_on_job New change.plan change.files files)) is)
+      | inr lost ↦ inr lost
+    ]
+change_met change files shelf refusal told (inr ((before, prepared), met)) =
+    elim (job_met New change.plan change.files files shelf refusal told met) [
+      | inl is ↦
+          inl (ap (λ (v : Option Refusal). option_or v (verdict_on_job New change.plan change.files files))
+          (prepared_is Old change.old_plan change.old_files files shelf.held before told prepared) ∙ is)
+      | inr lost ↦ inr lost
+    ]
+
+change_known : (change : Change) (shelf : ShelfSeen) (refusal : Refusal) → ChangeMeets change shelf refusal
+    → status_of refusal ≡ 2 → ⊥
+change_known change shelf refusal (inl met) is = job_known Old change.old_plan change.old_files shelf refusal met is
+change_known change shelf refusal (inr met) is = job_known New change.plan change.files shelf refusal met.1 is
+
+change_passes : (change : Change) (files : Files) (shelf : ShelfSeen) (before job : JobData) (picks : PicksData)
+    → shelf.held ≡ Some files → AreCompared change shelf.held before job picks → verdict_on_change change files ≡ None
+change_passes change files shelf before job picks told are =
+    ap (λ (v : Option Refusal). option_or v (verdict_on_job New change.plan change.files files))
+    (prepared_is Old change.old_plan change.old_files files shelf.held before told are.old_prepared)
+    ∙ prepared_is New change.plan change.files files shelf.held job told are.prepared
+
+-- where not all are done a site left
+some_left_picked : (ends : List RemadeEnd) → list_all is_done ends ≡ false
+    → (site : ℕ) × (made : ℕ) × (path : List ℕ) × (slice_get ends site ≡ Some (remade.Left made path))
+some_left_picked [] h = cc
+some_left_picked (remade.Done made kept ∷ ends) h =
+    let rest = some_left_picked ends h in (suc rest.0, rest.1, rest.2, rest.3)
+some_left_picked (remade.Left made path ∷ ends) h = (0, made, path, refl)
+
+remade_status : (ends : List RemadeEnd) (status : ℕ) → status ≡ status_of_remade ends → (status ≡ 0) ⊎ (status ≡ 1)
+unfolding status_of_remade
+remade_status ends status is = by (list_all is_done ends) is where
+  by : (all : Bool) → status ≡ (if all then 0 else 1) → (status ≡ 0) ⊎ (status ≡ 1)
+  by true h = inl h
+  by false h = inr h
+
+not_all_done : (ends : List RemadeEnd) (status : ℕ) → status ≡ status_of_remade ends → status ≡ 1 → list_all is_done ends ≡ false
+unfolding status_of_remade
+not_all_done ends status is one = by (list_all is_done ends) is where
+  by : (all : Bool) → status ≡ (if all then 0 else 1) → all ≡ false
+  by true h = absurd (zero_or_one status h one)
+  by false h = refl
+
+module _ {R : Type 0} (g : Ghosts R) where
+  -- the rack of a site that left counted a failure
+  picked_failed : (change : Change) (job : JobData) (picks : PicksData) (racks racks' : List R) (ends : List RemadeEnd) (site made : ℕ) (path : List ℕ)
+      → DeliversPicked g change job picks racks racks' ends → slice_get ends site ≡ Some (remade.Left made path) → RackFailed g racks racks'
+  picked_failed change job picks racks racks' ends site made path delivers at =
+      let within : site < length ends = slice_get_within ends site (remade.Left made path) at in
+      let count : length ends ≡ length job.plan.sites = delivers.fits.count in
+      let enough : length job.plan.sites ≤ length racks = delivers.enough in
+      let kept : length racks' ≡ length racks = delivers.kept in
+      let old = there racks site (omega arith) in
+      let new = there racks' site (omega arith) in
+      let fits : FitsLeft (making_of change job picks) site (told g old.0) (told g new.0) made path =
+      delivers.fits.each site (told g old.0) (told g new.0) (remade.Left made path)
+      (slice_get-map (told g) racks site ∙ ap (option_map (told g)) old.1)
+      (slice_get-map (told g) racks' site ∙ ap (option_map (told g)) new.1) at in
+      record { site = site; old = old.0; new = new.0; before = old.1; after = new.1; rose = fits.counted }
+
+  change_owes : (change : Change) → Owes g (change_rules change) (change_makes g change)
+  change_owes change = record {
+    met = change_met change;
+    known = change_known change;
+    prints = λ files shelf racks racks' text status held made.
+        change_passes change files shelf made.before made.job made.picks held made.compared_are;
+    begins = λ files shelf racks racks' held begun.
+        change_passes change files shelf begun.before begun.job begun.picks held begun.compared_are;
+    done = λ shelf racks racks' text status made.
+        elim (remade_status made.ends status made.status_is) [ inl zero ↦ inl zero | inr one ↦ inr (inl one) ];
+    one = λ shelf racks racks' text status made is.
+        let left = some_left_picked made.ends (not_all_done made.ends status made.status_is is) in
+        picked_failed change made.job made.picks racks racks' made.ends left.0 left.1 left.2 made.delivers left.3;
+    ends = λ files shelf racks racks' text status held made. remade_status made.ends status made.status_is;
+  }
+
 -- ---- all commands
 
 pub owes : {R : Type 0} (g : Ghosts R) (command : Command) → Owes g (rules_of command) (makes_of g command)
@@ -266,6 +359,7 @@ owes g (One file) = one_owes g file
 owes g (Run edition) = run_owes g edition
 owes g (Drill number ring patience) = drill_owes g number
 owes g (Verify asked) = check_owes g asked
+owes g (Replate change) = change_owes g change
 
 -- a drill isn't refused
 pub drill_unmet : (shelf : ShelfSeen) (command : Command) (refusal : Refusal) → AsksDrill (Some command)
@@ -274,6 +368,7 @@ drill_unmet shelf (One file) refusal drill met = drill
 drill_unmet shelf (Run edition) refusal drill met = drill
 drill_unmet shelf (Drill number ring patience) refusal drill met = met
 drill_unmet shelf (Verify asked) refusal drill met = drill
+drill_unmet shelf (Replate change) refusal drill met = drill
 
 module _ {R : Type 0} (g : Ghosts R) (shelf : ShelfSeen) (racks racks' : List R) (text : List ℕ) (status : ℕ) where
   -- a drill that is done has status 0
@@ -283,6 +378,7 @@ module _ {R : Type 0} (g : Ghosts R) (shelf : ShelfSeen) (racks racks' : List R)
   drill_zero (Run edition) drill made = absurd drill
   drill_zero (Drill number ring patience) drill made = made.0.zero
   drill_zero (Verify asked) drill made = absurd drill
+  drill_zero (Replate change) drill made = absurd drill
 
   -- what ends with 8 is a look at plates
   pub eight_looks : (command : Command) → (makes_of g command).Prints shelf racks racks' text status → status ≡ 8
@@ -294,6 +390,9 @@ module _ {R : Type 0} (g : Ghosts R) (shelf : ShelfSeen) (racks racks' : List R)
         by h = grind arith
   eight_looks (Drill number ring patience) made is = absurd (let zero = made.0.zero in omega arith)
   eight_looks (Verify asked) made is = tt
+  eight_looks (Replate change) made is = absurd (by (remade_status made.ends status made.status_is)) where
+    by : (status ≡ 0) ⊎ (status ≡ 1) → ⊥
+    by h = grind arith
 
   -- and that never ends with 1
   pub look_not_one : (command : Command) → AsksVerify (Some command)
@@ -301,6 +400,7 @@ module _ {R : Type 0} (g : Ghosts R) (shelf : ShelfSeen) (racks racks' : List R)
   look_not_one (One file) look made is = look
   look_not_one (Run edition) look made is = look
   look_not_one (Drill number ring patience) look made is = look
+  look_not_one (Replate change) look made is = look
   look_not_one (Verify asked) look made is = by (check_status asked shelf text status made.0) where
     by : (status ≡ 0) ⊎ (status ≡ 8) → ⊥
     by h = grind arith
@@ -312,6 +412,7 @@ module _ {R : Type 0} (g : Ghosts R) (shelf : ShelfSeen) (racks racks' : List R)
   look_leaves (Run edition) look made = absurd look
   look_leaves (Drill number ring patience) look made = absurd look
   look_leaves (Verify asked) look made = made.1
+  look_leaves (Replate change) look made = absurd look
 
   -- nor does it begin anything
   pub look_begins : (command : Command) → AsksVerify (Some command) → (makes_of g command).Begins shelf racks racks' → ⊥
@@ -319,3 +420,4 @@ module _ {R : Type 0} (g : Ghosts R) (shelf : ShelfSeen) (racks racks' : List R)
   look_begins (Run edition) look begun = look
   look_begins (Drill number ring patience) look begun = begun
   look_begins (Verify asked) look begun = begun
+  look_begins (Replate change) look begun = look

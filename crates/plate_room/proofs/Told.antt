@@ -8,7 +8,7 @@ use Rattle.plate_room.specs.Answer.{TellsRefusal, TellsStop}
 use Rattle.plate_room.specs.Command.{Command, command_of}
 use Rattle.plate_room.specs.Ending.{Answered, Ending, IsStopped, Refused, Untold, NotNoted, Wanted, NotPrinted}
 use Rattle.plate_room.specs.Seen.{Seen, ShelfSeen, SinkSeen}
-use Rattle.plate_room.specs.Task.{Answers, Puts, Rules, Told, telling}
+use Rattle.plate_room.specs.Task.{Answers, Makes, Puts, Rules, Told, telling}
 use Rattle.plate_room.specs.Tasks.{makes_of, rules_of}
 
 -- a refusal with a line of its own
@@ -65,6 +65,21 @@ put_tells rules Tells shelf out text own (Err stop.Memory) tells front =
     inr (record { text = text; status = own; tells = tells; grew = front })
 put_tells rules Tells shelf out text own (Err stop.Printing) tells (front, rose) =
     (record { text = text; status = own; tells = tells; grew = front }, rose)
+
+-- what is left of a command over racks where its text was put
+pub put_makes : {R : Type 0} (rules : Rules) (makes : Makes R) (shelf : ShelfSeen) (racks racks' : List R) (out : SinkSeen)
+    (text : List ℕ) (own : ℕ) (result : Result ℕ Stop) → makes.Prints shelf racks racks' text own → Puts text own out result
+    → Answers rules makes shelf racks racks' out result
+put_makes rules makes shelf racks racks' out text own (Ok status) prints (is, grew) = record {
+  text = text;
+  prints = let P : ℕ → Type 0 = λ s. makes.Prints shelf racks racks' text s in subst P (sym is) prints;
+  grew = grew;
+}
+put_makes rules makes shelf racks racks' out text own (Err (stop.Refused refusal)) prints h = absurd h
+put_makes rules makes shelf racks racks' out text own (Err stop.Memory) prints front =
+    inr (inl (record { text = text; status = own; prints = prints; grew = front }))
+put_makes rules makes shelf racks racks' out text own (Err stop.Printing) prints (front, rose) =
+    (record { text = text; status = own; prints = prints; grew = front }, rose)
 
 -- what holds anyway holds of an answer that is good
 pub on_any : (P : Type 0) (result : Result ℕ Stop) → P → OnOk result P

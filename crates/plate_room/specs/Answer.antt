@@ -11,6 +11,7 @@ use Rattle.plate_room.specs.Seen.{ShelfSeen, SinkSeen, PutFailed}
 use Rattle.plate_room.specs.declared.command.Command as asked_type
 use Rattle.plate_room.specs.declared.command.Command.TheVariants as asked
 use Rattle.plate_room.specs.declared.command.Asked.{Asked}
+use Rattle.plate_room.specs.declared.command.Change.{Change}
 use Rattle.plate_room.specs.declared.command.Edition.{Edition}
 use Rattle.plate_room.specs.declared.command.Drill.{Drill}
 use Rattle.plate_room.specs.declared.refusal.Refusal.{Refusal}
@@ -34,6 +35,16 @@ edition_told edition = record {
 abbrev pub asked_told : Asked → line.Asked
 asked_told asked = record { plan = asked.plan.now; files = asked.files.now; out = asked.out.now }
 
+-- the texts of an edition of which the plates that changed are made
+abbrev pub change_told : Change → line.Change
+change_told change = record {
+  old_plan = change.old_plan.now;
+  old_files = change.old_files.now;
+  plan = change.plan.now;
+  files = change.files.now;
+  out = change.out.now;
+}
+
 -- the numbers of an edition are in their ranges
 pub record HasNumbers (edition : Edition) : Type 0 where
   pub ring : IsWithin 1 1024 edition.ring
@@ -51,6 +62,7 @@ IfRun (Some (asked.One file)) = Unit {0}
 IfRun (Some (asked.Run edition)) = HasNumbers edition
 IfRun (Some (asked.Drill drill)) = HasTurns drill
 IfRun (Some (asked.Verify asked')) = Unit {0}
+IfRun (Some (asked.Replate change)) = Unit {0}
 
 -- what the words of a drill are
 abbrev pub drill_told : Drill → line.Command
@@ -63,6 +75,7 @@ IsCommand (Some (asked.One file)) meant = meant ≡ Some (line.One file.now)
 IsCommand (Some (asked.Run edition)) meant = meant ≡ Some (line.Run (edition_told edition))
 IsCommand (Some (asked.Drill drill)) meant = meant ≡ Some (drill_told drill)
 IsCommand (Some (asked.Verify asked')) meant = meant ≡ Some (line.Verify (asked_told asked'))
+IsCommand (Some (asked.Replate change)) meant = meant ≡ Some (line.Replate (change_told change))
 
 -- the code's edition is this one
 abbrev pub IsEdition : Option Edition → Option line.Edition → Type 0
@@ -78,6 +91,11 @@ IsDrill (Some drill) meant = meant ≡ Some (drill_told drill)
 abbrev pub IsAskedFor : Option Asked → Option line.Asked → Type 0
 IsAskedFor None meant = meant ≡ None
 IsAskedFor (Some asked') meant = meant ≡ Some (asked_told asked')
+
+-- the code's change is this one
+abbrev pub IsChange : Option Change → Option line.Change → Type 0
+IsChange None meant = meant ≡ None
+IsChange (Some change) meant = meant ≡ Some (change_told change)
 
 -- ---- loading
 

@@ -18,6 +18,15 @@ pub record Asked : Type 0 where
   pub files : List ℕ
   pub out : List ℕ
 
+-- an edition of which the plates that changed are made: the plan that was made before it, the folder of that
+-- plan's files, its own plan, the folder of its files, and the folder of its plates
+pub record Change : Type 0 where
+  pub old_plan : List ℕ
+  pub old_files : List ℕ
+  pub plan : List ℕ
+  pub files : List ℕ
+  pub out : List ℕ
+
 -- what a command line asks for
 pub data Command : Type 0 where
   -- the black plate of one file
@@ -28,6 +37,8 @@ pub data Command : Type 0 where
   Drill : ℕ → ℕ → ℕ → Command
   -- whether the plates that are held are those of an edition
   Verify : Asked → Command
+  -- the plates of an edition that changed
+  Replate : Change → Command
 
 -- the word isn't empty
 abbrev pub is_given : List ℕ → Bool
@@ -82,6 +93,25 @@ asked_of (plan ∷ files ∷ out ∷ []) =
     else None
 asked_of (plan ∷ files ∷ out ∷ word ∷ words) = None
 
+-- a change from an old plan and its files to such an edition
+abbrev pub change_with : List ℕ → List ℕ → Asked → Change
+change_with old_plan old_files asked = record {
+  old_plan = old_plan;
+  old_files = old_files;
+  plan = asked.plan;
+  files = asked.files;
+  out = asked.out;
+}
+
+-- the words behind `replate`: an old plan and the folder of its files, a plan and two folders
+abbrev pub change_of : List (List ℕ) → Option Change
+change_of [] = None
+change_of (old_plan ∷ []) = None
+change_of (old_plan ∷ old_files ∷ words) =
+    if is_given old_plan && is_given old_files
+    then option_map (change_with old_plan old_files) (asked_of words)
+    else None
+
 -- the command that these words are, if they are one
 unfoldable pub command_of : List (List ℕ) → Option Command
 command_of [] = None
@@ -90,6 +120,7 @@ command_of (name ∷ words) =
     else if pointwise nat_eq name (codes "run") then option_map Run (edition_of words)
     else if pointwise nat_eq name (codes "drill") then drill_of words
     else if pointwise nat_eq name (codes "verify") then option_map Verify (asked_of words)
+    else if pointwise nat_eq name (codes "replate") then option_map Replate (change_of words)
     else None
 
 -- the words ask for a drill
@@ -99,6 +130,7 @@ AsksDrill (Some (One file)) = ⊥
 AsksDrill (Some (Run edition)) = ⊥
 AsksDrill (Some (Drill number ring patience)) = Unit {0}
 AsksDrill (Some (Verify asked)) = ⊥
+AsksDrill (Some (Replate change)) = ⊥
 
 -- the words ask whether plates are right
 abbrev pub AsksVerify : Option Command → Type 0
@@ -107,6 +139,7 @@ AsksVerify (Some (One file)) = ⊥
 AsksVerify (Some (Run edition)) = ⊥
 AsksVerify (Some (Drill number ring patience)) = ⊥
 AsksVerify (Some (Verify asked)) = Unit {0}
+AsksVerify (Some (Replate change)) = ⊥
 
 -- the bytes of each word
 abbrev pub words_of : {Z : Type 0} → List (String Z) → List (List ℕ)

@@ -12,6 +12,8 @@ pub mod Report
 pub mod Edition
 pub mod Drill
 pub mod Check
+pub mod Remade
+pub mod Change
 pub mod Tasks
 pub mod End
 pub mod Ending

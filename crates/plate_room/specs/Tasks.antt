@@ -3,7 +3,8 @@ use Rattle.std.specs.Prelude.{◌≡◌, ℕ, ◌⊎◌, List, Option, Some, Non
 use Rattle.pr_rack.specs.declared.rack.Rack.{Ghosts}
 use Rattle.plate_room.specs.declared.refusal.Refusal.{Refusal}
 use Rattle.plate_room.specs.declared.refusal.Refusal.TheVariants as refused
-use Rattle.plate_room.specs.Command.{Command, Drill, One, Run, Verify, command_of}
+use Rattle.plate_room.specs.Command.{Command, Drill, One, Replate, Run, Verify, command_of}
+use Rattle.plate_room.specs.Change.{change_makes, change_rules}
 use Rattle.plate_room.specs.Check.{PrintsFound, check_rules}
 use Rattle.plate_room.specs.Drill.{PrintsDrill, drill_rules}
 use Rattle.plate_room.specs.Edition.{run_makes, run_rules}
@@ -17,6 +18,7 @@ rules_of (One file) = one_rules file
 rules_of (Run edition) = run_rules edition
 rules_of (Drill number ring patience) = drill_rules
 rules_of (Verify asked) = check_rules asked
+rules_of (Replate change) = change_rules change
 
 -- words meet this refusal: they are no command, and nothing is loaded, or they are one that meets it
 abbrev pub Meets : List (List ℕ) → ShelfSeen → Refusal → Type 0
@@ -46,6 +48,7 @@ module _ {R : Type 0} (g : Ghosts R) where
   makes_of (Run edition) = run_makes g edition
   makes_of (Drill number ring patience) = telling (PrintsDrill number)
   makes_of (Verify asked) = telling (PrintsFound asked)
+  makes_of (Replate change) = change_makes g change
 
   -- words are a command, and the output took its whole text
   pub record IsDone (words : List (List ℕ)) (shelf : ShelfSeen) (racks racks' : List R) (out : SinkSeen)

@@ -4,6 +4,7 @@ ghost use Rattle.plate_room.specs.Ending.{Answered};
 ghost use Rattle.plate_room.specs.Seen.{AreIdle, shelf_seen, sink_seen};
 ghost use Rattle.std.specs.Prelude.{◌≡◌, ◌≤◌, length};
 
+use crate::change::print_change;
 use crate::check::print_check;
 use crate::command::{Command, command_of};
 use crate::drill::print_drill;
@@ -42,6 +43,7 @@ pub(crate) fn answer<T: Threads + Sync, H: Shelf, R: Rack + Send, S: Sink>(
         Some(Command::Run(edition)) => run_edition(rt, alloc, edition, shelf, racks, out),
         Some(Command::Drill(drill)) => print_drill(rt, alloc, drill, out),
         Some(Command::Verify(asked)) => print_check(alloc, asked, shelf, out),
+        Some(Command::Replate(change)) => print_change(alloc, change, shelf, racks, out),
         None => Err(Stop::Refused(Refusal::Words)),
     }
 }

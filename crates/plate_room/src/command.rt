@@ -1,8 +1,8 @@
 // The words of a command line.
 ghost use Rattle.std.specs.Prelude.{◌≡◌, IfSome};
 ghost use Rattle.plan_words.specs.Words.{IsWithin};
-ghost use Rattle.plate_room.specs.Command.{asked_of as asked_meant, command_of as meant, drill_of as drill_meant, edition_of as edition_meant, numbers_of as numbers_meant, one_of as one_meant, words_of};
-ghost use Rattle.plate_room.specs.Answer.{HasNumbers, HasTurns, IfRun, IsAskedFor, IsCommand, IsDrill, IsEdition};
+ghost use Rattle.plate_room.specs.Command.{asked_of as asked_meant, change_of as change_meant, command_of as meant, drill_of as drill_meant, edition_of as edition_meant, numbers_of as numbers_meant, one_of as one_meant, words_of};
+ghost use Rattle.plate_room.specs.Answer.{HasNumbers, HasTurns, IfRun, IsAskedFor, IsChange, IsCommand, IsDrill, IsEdition};
 
 use crate::number::number_within;
 
@@ -24,6 +24,21 @@ pub(crate) struct Edition<'a> {
 /// An edition whose plates are looked at.
 #[derive(Clone, Copy)]
 pub(crate) struct Asked<'a> {
+    /// The path of the plan.
+    pub(crate) plan: &'a str,
+    /// The folder of the plan's files.
+    pub(crate) files: &'a str,
+    /// The folder of the plates.
+    pub(crate) out: &'a str,
+}
+
+/// An edition of which the plates that changed are made.
+#[derive(Clone, Copy)]
+pub(crate) struct Change<'a> {
+    /// The path of the plan that was made before it.
+    pub(crate) old_plan: &'a str,
+    /// The folder of that plan's files.
+    pub(crate) old_files: &'a str,
     /// The path of the plan.
     pub(crate) plan: &'a str,
     /// The folder of the plan's files.
@@ -54,6 +69,8 @@ pub(crate) enum Command<'a> {
     Drill(Drill),
     /// `verify PLAN FILES OUT`: whether the plates that are held are those of an edition.
     Verify(Asked<'a>),
+    /// `replate OLDPLAN OLDFILES PLAN FILES OUT`: the plates of an edition that changed.
+    Replate(Change<'a>),
 }
 
 const RING: u32 = 64;
@@ -85,6 +102,10 @@ pub(crate) fn command_of(words: &[String]) -> Option<Command<'_>>
         },
         "verify" => match asked_of(words) {
             Some(asked) => Some(Command::Verify(asked)),
+            None => None,
+        },
+        "replate" => match change_of(words) {
+            Some(change) => Some(Command::Replate(change)),
             None => None,
         },
         _ => None,
@@ -139,6 +160,26 @@ fn asked_of(words: &[String]) -> Option<Asked<'_>>
         }
         _ => None,
     }
+}
+
+/// The words behind `replate`.
+fn change_of(words: &[String]) -> Option<Change<'_>>
+    ensures { IsChange result (change_meant (words_of words.now)) }
+{
+    let [old_plan, old_files, words @ ..] = words else {
+        return None;
+    };
+    if old_plan.is_empty() || old_files.is_empty() {
+        return None;
+    }
+    let asked = asked_of(words)?;
+    Some(Change {
+        old_plan: old_plan.as_str(),
+        old_files: old_files.as_str(),
+        plan: asked.plan,
+        files: asked.files,
+        out: asked.out,
+    })
 }
 
 /// The words behind `drill`.

@@ -4,6 +4,7 @@
 
 mod answer;
 mod black;
+mod change;
 mod check;
 mod command;
 mod dots;
@@ -18,6 +19,7 @@ mod one;
 mod plate;
 mod put;
 mod refusal;
+mod remade;
 mod report;
 mod room;
 mod status;

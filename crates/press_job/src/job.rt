@@ -1,5 +1,5 @@
 // A job: a plan and its files, all of whose tests have passed, and the order of its rows.
-ghost use Rattle.std.specs.Prelude.{◌≡◌, map};
+ghost use Rattle.std.specs.Prelude.{◌≡◌, length, map};
 
 use crate::files::Files;
 use plan_json::Plan;
@@ -60,7 +60,8 @@ impl Job {
 
     /// The bytes of its files, in the order of `Plan::files`.
     pub fn files(&self) -> &[Vec<u8>]
-        ensures { map (λ file. file.items) result.now ≡ self.now.files }
+        ensures bytes { map (λ file. file.items) result.now ≡ self.now.files }
+        ensures count { length result.now ≡ length self.now.plan.files }
     {
         self.files.each()
     }
