@@ -20,6 +20,7 @@ import answers
 import drill
 import editions
 import held
+import late
 import trial
 from plates import Edition, black_plate, compared
 from tiff import Image
@@ -142,7 +143,8 @@ def trials(tried, folder):
     images(tried)
     drills(tried)
     with open(os.path.join(EXAMPLES, "edition.json"), encoding="utf-8") as file:
-        runs(tried, folder, "of examples/", Edition(json.load(file), EXAMPLES), [[]])
+        small = Edition(json.load(file), EXAMPLES)
+    runs(tried, folder, "of examples/", small, [[]])
     plates_of_examples(tried, folder)
     runs(tried, folder, "of sixteen sites", Edition(editions.wide(), files), [[], ["1", "1"]])
     runs_by_chance(tried, folder, files, range(1, 31))
@@ -150,6 +152,7 @@ def trials(tried, folder):
     runs(tried, folder, "of five inks", five, [[], ["16", "7"], ["1024", "7"]])
     read_by_others(tried, five, os.path.join(folder, "OUT"))
     held.trials(tried, folder, five)
+    late.trials(tried, folder, files, small)
     beside_others(tried, folder, files)
 
 

@@ -35,7 +35,7 @@ class Trial:
         print(f"{name}: {passed} of {passed + failed}, {seconds:.1f} s since the beginning", flush=True)
         self.before = self.passed, self.failed
 
-    def answers(self, words, status, out, note, **how):
+    def answers(self, words, status, out, note, where="", **how):
         """The program ends with this status and writes exactly this to its two streams."""
         got = self.run(words, **how)
         faults = []
@@ -43,7 +43,7 @@ class Trial:
         for name, wanted, given in zip(names, (status, out, note), got):
             if given != wanted and wanted is not None:
                 faults.append(f"{name} is {shown(given)} and not {shown(wanted)}")
-        self.holds(told(words, how), "; ".join(faults))
+        self.holds(told(words, how) + f" ({where})" * bool(where), "; ".join(faults))
 
     def run(self, words, folder=None, streams=("", ""), limits=(), seconds=MOST_SECONDS):
         """Status and what was written to both streams. A stream is a path, `closed`, `unread` or kept here."""
