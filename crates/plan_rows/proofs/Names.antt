@@ -20,7 +20,7 @@ abbrev pub Lacks : ℕ → List ℕ → Type 0
 Lacks c text = All (λ b. b ≢ c) text
 
 -- two texts that end at the first such byte
-split_at : (c : ℕ) (a b x y : List ℕ) → Lacks c a → Lacks c b → a ++ (c ∷ x) ≡ b ++ (c ∷ y) → (a ≡ b) × (x ≡ y)
+pub split_at : (c : ℕ) (a b x y : List ℕ) → Lacks c a → Lacks c b → a ++ (c ∷ x) ≡ b ++ (c ∷ y) → (a ≡ b) × (x ≡ y)
 split_at c [] [] x y left right same = (refl, cc)
 split_at c [] (d ∷ b) x y left right same = absurd (All-head (λ k. k ≢ c) d b right cc)
 split_at c (d ∷ a) [] x y left right same = absurd (All-head (λ k. k ≢ c) d a left cc)
@@ -40,7 +40,7 @@ name_bytes : (text : List ℕ) → IsTrue (is_name text) → All (λ b. is_name_
 unfolding is_name
 name_bytes text is = each_passes is_name_byte text (and_parts _ (list_all is_name_byte text) is).1
 
-name_lacks : (c : ℕ) (text : List ℕ) → is_name_byte c ≡ false → IsTrue (is_name text) → Lacks c text
+pub name_lacks : (c : ℕ) (text : List ℕ) → is_name_byte c ≡ false → IsTrue (is_name text) → Lacks c text
 name_lacks c text other is =
     All-weaker (λ b. is_name_byte b ≡ true) (λ b. b ≢ c) (λ b passes same. both_ways (is_name_byte c) other (sym (ap is_name_byte same) ∙ passes)) text (name_bytes text is)
 
@@ -49,12 +49,12 @@ name_lacks c text other is =
 abbrev pub named : {X : Type 0} → (X → List ℕ) → List X → ℕ → List ℕ
 named f xs i = option_map_or f (slice_get xs i) []
 
-named-get : {X : Type 0} (f : X → List ℕ) (xs : List X) (i : ℕ) → named f xs i ≡ get_or (map f xs) i []
+pub named-get : {X : Type 0} (f : X → List ℕ) (xs : List X) (i : ℕ) → named f xs i ≡ get_or (map f xs) i []
 named-get f [] i = refl
 named-get f (x ∷ xs) zero = refl
 named-get f (x ∷ xs) (suc i) = named-get f xs i
 
-named-distinct : {X : Type 0} (f : X → List ℕ) (xs : List X) (i j : ℕ) → AllPairs (λ a b. a ≢ b) (map f xs) → i < length xs → j < length xs → named f xs i ≡ named f xs j → i ≡ j
+pub named-distinct : {X : Type 0} (f : X → List ℕ) (xs : List X) (i j : ℕ) → AllPairs (λ a b. a ≢ b) (map f xs) → i < length xs → j < length xs → named f xs i ≡ named f xs j → i ≡ j
 named-distinct f xs i j apart left right same =
     let names : get_or (map f xs) i [] ≡ get_or (map f xs) j [] = sym (named-get f xs i) ∙ same ∙ named-get f xs j in
     elim (cases_order i j) [
@@ -63,31 +63,31 @@ named-distinct f xs i j apart left right same =
       | inr (inr behind) ↦ absurd (apart j i [] behind (omega (arith, length-map xs f)) (sym names))
     ]
 
-named-holds : {X : Type 0} (P : List ℕ → Type 0) (f : X → List ℕ) (xs : List X) (i : ℕ) → i < length xs → All (λ x. P (f x)) xs → P (named f xs i)
+pub named-holds : {X : Type 0} (P : List ℕ → Type 0) (f : X → List ℕ) (xs : List X) (i : ℕ) → i < length xs → All (λ x. P (f x)) xs → P (named f xs i)
 named-holds P f [] i within each = absurd (omega arith)
 named-holds P f (x ∷ xs) zero within each = All-head (λ y. P (f y)) x xs each
 named-holds P f (x ∷ xs) (suc i) within each = named-holds P f xs i (omega arith) (All-tail (λ y. P (f y)) x xs each)
 
-site_lacks : (plan : PlanData) (c site : ℕ) → is_name_byte c ≡ false → IsPlan plan → site < length plan.sites → Lacks c (site_name plan site)
+pub site_lacks : (plan : PlanData) (c site : ℕ) → is_name_byte c ≡ false → IsPlan plan → site < length plan.sites → Lacks c (site_name plan site)
 site_lacks plan c site other is within =
     named-holds (Lacks c) (λ (s : SiteData). s.name) plan.sites site within
     (All-weaker (IsSite (length plan.zones)) (λ s. Lacks c s.name) (λ s has. name_lacks c s.name other has.name) plan.sites is.sites)
 
-section_lacks : (plan : PlanData) (c section : ℕ) → is_name_byte c ≡ false → IsPlan plan → section < length plan.sections → Lacks c (section_name plan section)
+pub section_lacks : (plan : PlanData) (c section : ℕ) → is_name_byte c ≡ false → IsPlan plan → section < length plan.sections → Lacks c (section_name plan section)
 section_lacks plan c section other is within =
     named-holds (Lacks c) (λ (s : SectionData). s.name) plan.sections section within
     (All-weaker (IsSection (length plan.pages)) (λ s. Lacks c s.name) (λ s has. name_lacks c s.name other has.name) plan.sections is.sections)
 
 -- ---- the parts of a path
 
-regroup : (o s i e d n a l t : List ℕ) → o ++ s ++ i ++ s ++ (e ++ d ++ n ++ d ++ a ++ d ++ l ++ t) ≡ o ++ (s ++ (i ++ (s ++ (e ++ (d ++ (n ++ (d ++ (a ++ (d ++ (l ++ t))))))))))
+regroup : (o s i e d n a l t : List ℕ) → o ++ s ++ i ++ s ++ (e ++ d ++ (n ++ d ++ a ++ d ++ l) ++ t) ≡ o ++ (s ++ (i ++ (s ++ (e ++ (d ++ (n ++ (d ++ (a ++ (d ++ (l ++ t))))))))))
 regroup o s i e d n a l t = simp append_assoc
 
 -- what stands behind the section's name
 abbrev pub behind_section : ℕ → Ink → List ℕ
 behind_section pair ink = three_digits pair ++ (45 ∷ (letter_of ink ++ codes ".tif"))
 
-path_is : (plan : PlanData) (out : List ℕ) (site : ℕ) (group : Group) (ink : Ink)
+pub path_is : (plan : PlanData) (out : List ℕ) (site : ℕ) (group : Group) (ink : Ink)
     → path_of plan out site group ink ≡ out ++ (47 ∷ (site_name plan site ++ (47 ∷ (plan.edition ++ (45 ∷ (section_name plan group.section ++ (45 ∷ behind_section group.pair ink)))))))
 unfolding path_of
 path_is plan out site group ink =
@@ -109,7 +109,7 @@ paths_tell_sites plan out site other group group' ink ink' is left right same =
     let parts = split_at 47 (site_name plan site) (site_name plan other) _ _ (site_lacks plan 47 site refl is left) (site_lacks plan 47 other refl is right) (path_behind plan out site other group group' ink ink' same) in
     named-distinct (λ (s : SiteData). s.name) plan.sites site other is.site_names left right parts.0
 
-digits_tell : (a b : ℕ) (x y : List ℕ) → a < 1000 → b < 1000 → three_digits a ++ x ≡ three_digits b ++ y → (a ≡ b) × (x ≡ y)
+pub digits_tell : (a b : ℕ) (x y : List ℕ) → a < 1000 → b < 1000 → three_digits a ++ x ≡ three_digits b ++ y → (a ≡ b) × (x ≡ y)
 digits_tell a b x y left right same =
     let hundreds : 48 + a / 100 % 10 ≡ 48 + b / 100 % 10 = cc in
     let tens : 48 + a / 10 % 10 ≡ 48 + b / 10 % 10 = cc in
@@ -118,11 +118,11 @@ digits_tell a b x y left right same =
     (omega arith, rest)
 
 -- the ink of a letter
-ink_of : List ℕ → Ink
+pub ink_of : List ℕ → Ink
 ink_of [] = K
 ink_of (b ∷ rest) = cond (nat_eq b 67) C (cond (nat_eq b 77) M (cond (nat_eq b 89) Y (cond (nat_eq b 75) K S)))
 
-ink_of-letter : (ink : Ink) → ink_of (letter_of ink ++ codes ".tif") ≡ ink
+pub ink_of-letter : (ink : Ink) → ink_of (letter_of ink ++ codes ".tif") ≡ ink
 unfolding ink_of
 ink_of-letter C = refl
 ink_of-letter M = refl

@@ -16,14 +16,22 @@ site_name plan site = option_map_or (λ s. s.name) (slice_get plan.sites site) [
 abbrev pub section_name : PlanData → ℕ → List ℕ
 section_name plan section = option_map_or (λ s. s.name) (slice_get plan.sections section) []
 
+-- SECTION-PPP-I
+abbrev pub plate_text : List ℕ → ℕ → List ℕ → List ℕ
+plate_text section pair letter = section ++ codes "-" ++ three_digits pair ++ codes "-" ++ letter
+
 -- EDITION-SECTION-PPP-I.tif
 abbrev pub name_text : List ℕ → List ℕ → ℕ → List ℕ → List ℕ
 name_text edition section pair letter =
-    edition ++ codes "-" ++ section ++ codes "-" ++ three_digits pair ++ codes "-" ++ letter ++ codes ".tif"
+    edition ++ codes "-" ++ plate_text section pair letter ++ codes ".tif"
 
 -- OUT/SITE/NAME
 abbrev pub path_text : List ℕ → List ℕ → List ℕ → List ℕ
 path_text out site name = out ++ codes "/" ++ site ++ codes "/" ++ name
+
+-- the name of a plate in its edition
+unfoldable pub plate_name_of : PlanData → Group → Ink → List ℕ
+plate_name_of plan group ink = plate_text (section_name plan group.section) group.pair (letter_of ink)
 
 -- the name of a plate's file
 abbrev pub file_name : PlanData → Group → Ink → List ℕ

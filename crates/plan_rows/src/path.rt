@@ -1,15 +1,15 @@
 // The path of a plate: OUT/SITE/EDITION-SECTION-PPP-I.tif.
-ghost use Rattle.std.specs.Prelude.{◌≡◌, ◌<◌, length, string_bytes, IfOk};
-ghost use Rattle.plan_rows.specs.Paths.{name_text, path_of, path_text, site_name as name_of_site, section_name as name_of_section};
+ghost use Rattle.std.specs.Prelude.{◌≡◌, ◌<◌, ◌++◌, codes, length, string_bytes, IfOk};
+ghost use Rattle.plan_rows.specs.Paths.{path_of, path_text, plate_name_of, plate_text, site_name as name_of_site, section_name as name_of_section};
 
 use crate::Group;
 use plan_json::Plan;
 use pr_base::{Ink, NoMemory, PathText};
 use std::alloc::{AllocError, Global};
 
-/// The path of a group's plate at a site, below the folder `out`: the names of site, edition and section, the
-/// pair in three digits, and the letter of the ink.
-#[tactic(auto, unfolding(crate::specs::Paths::path_of))]
+/// The path of a group's plate at a site, below the folder `out`: the names of site and edition, and the
+/// plate's name in the edition.
+#[tactic(auto, unfolding(crate::specs::Paths::path_of, crate::specs::Paths::plate_name_of))]
 pub fn plate_path(
     alloc: Global,
     plan: &Plan,
@@ -24,16 +24,20 @@ pub fn plate_path(
 {
     let site = site_name(plan, site);
     let section = section_name(plan, group.section as usize);
-    let text = joined(
-        alloc,
-        out,
-        site,
-        plan.edition.as_str(),
-        section,
-        group.pair,
-        ink.letter(),
-    )?;
+    let name = name_of(alloc, section, group.pair, ink.letter())?;
+    let text = joined(alloc, out, site, plan.edition.as_str(), name.as_str())?;
     PathText::of(alloc, text.as_str())
+}
+
+/// The name of a group's plate in its edition, SECTION-PPP-I: the name of the section, the pair in three
+/// digits, and the letter of the ink.
+#[tactic(auto, unfolding(crate::specs::Paths::plate_name_of))]
+pub fn plate_name(alloc: Global, plan: &Plan, group: &Group, ink: Ink) -> Result<String, AllocError>
+    requires section { group.now.section < length plan.now.sections }
+    ensures { IfOk result (λ name. string_bytes name ≡ plate_name_of plan.now group.now ink) }
+{
+    let section = section_name(plan, group.section as usize);
+    name_of(alloc, section, group.pair, ink.letter())
 }
 
 /// The parts of a path with what stands between them.
@@ -42,15 +46,20 @@ fn joined(
     out: &str,
     site: &str,
     edition: &str,
-    section: &str,
-    pair: u32,
-    letter: &str,
+    name: &str,
 ) -> Result<String, AllocError>
     ensures { IfOk result (λ text. string_bytes text ≡
-        path_text out.now site.now (name_text edition.now section.now pair letter.now)) }
+        path_text out.now site.now (edition.now ++ codes "-" ++ name.now ++ codes ".tif")) }
+{
+    format!(in alloc; "{out}/{site}/{edition}-{name}.tif")
+}
+
+/// The parts of a plate's name with what stands between them.
+fn name_of(alloc: Global, section: &str, pair: u32, letter: &str) -> Result<String, AllocError>
+    ensures { IfOk result (λ text. string_bytes text ≡ plate_text section.now pair letter.now) }
 {
     let (hundreds, tens, ones) = (pair / 100 % 10, pair / 10 % 10, pair % 10);
-    format!(in alloc; "{out}/{site}/{edition}-{section}-{hundreds}{tens}{ones}-{letter}.tif")
+    format!(in alloc; "{section}-{hundreds}{tens}{ones}-{letter}")
 }
 
 /// The name of a site.

@@ -12,23 +12,7 @@ use Rattle.plan_words.specs.Forms.{is_name, is_name_byte}
 use Rattle.plan_json.specs.Plan.{IsPlan, IsSite, IsSection}
 use Rattle.plan_rows.specs.declared.group.Group.{Group}
 use Rattle.plan_rows.specs.Paths.{letter_of, three_digits, site_name, section_name, path_of, path_text, name_text}
-use Rattle.plan_rows.proofs.Names.{Lacks, named, behind_section}
-
--- ---- names by their indexes
-
-named-get : {X : Type 0} (f : X → List ℕ) (xs : List X) (i : ℕ) → named f xs i ≡ get_or (map f xs) i []
-named-get f [] i = refl
-named-get f (x ∷ xs) zero = refl
-named-get f (x ∷ xs) (suc i) = named-get f xs i
-
-named-distinct : {X : Type 0} (f : X → List ℕ) (xs : List X) (i j : ℕ) → AllPairs (λ a b. a ≢ b) (map f xs) → i < length xs → j < length xs → named f xs i ≡ named f xs j → i ≡ j
-named-distinct f xs i j apart left right same =
-    let names : get_or (map f xs) i [] ≡ get_or (map f xs) j [] = sym (named-get f xs i) ∙ same ∙ named-get f xs j in
-    elim (cases_order i j) [
-      | inl one ↦ one
-      | inr (inl before) ↦ absurd (apart i j [] before (omega (arith, length-map xs f)) names)
-      | inr (inr behind) ↦ absurd (apart j i [] behind (omega (arith, length-map xs f)) (sym names))
-    ]
+use Rattle.plan_rows.proofs.Names.{Lacks, behind_section, digits_tell, ink_of, ink_of-letter, name_lacks, named, named-distinct, path_is, section_lacks, site_lacks, split_at}
 
 pub sites_apart : (plan : PlanData) (i j : ℕ) → IsPlan plan → i < length plan.sites → j < length plan.sites → site_name plan i ≡ site_name plan j → i ≡ j
 sites_apart plan i j is left right same = named-distinct (λ (s : SiteData). s.name) plan.sites i j is.site_names left right same
@@ -36,81 +20,11 @@ sites_apart plan i j is left right same = named-distinct (λ (s : SiteData). s.n
 pub sections_apart : (plan : PlanData) (i j : ℕ) → IsPlan plan → i < length plan.sections → j < length plan.sections → section_name plan i ≡ section_name plan j → i ≡ j
 sections_apart plan i j is left right same = named-distinct (λ (s : SectionData). s.name) plan.sections i j is.section_names left right same
 
--- ---- texts without a byte
-
--- two texts that end at the first such byte
-split_at : (c : ℕ) (a b x y : List ℕ) → Lacks c a → Lacks c b → a ++ (c ∷ x) ≡ b ++ (c ∷ y) → (a ≡ b) × (x ≡ y)
-split_at c [] [] x y left right same = (refl, cc)
-split_at c [] (d ∷ b) x y left right same = absurd (All-head (λ k. k ≢ c) d b right cc)
-split_at c (d ∷ a) [] x y left right same = absurd (All-head (λ k. k ≢ c) d a left cc)
-split_at c (d ∷ a) (e ∷ b) x y left right same =
-    let head : d ≡ e = cc in
-    let tail : a ++ (c ∷ x) ≡ b ++ (c ∷ y) = cc in
-    let rest = split_at c a b x y (All-tail (λ k. k ≢ c) d a left) (All-tail (λ k. k ≢ c) e b right) tail in
-    (ap (λ k. k ∷ a) head ∙ ap (λ l. e ∷ l) rest.0, rest.1)
-
-each_passes : (test : ℕ → Bool) (xs : List ℕ) → list_all test xs ≡ true → All (λ x. test x ≡ true) xs
-each_passes test [] all = All-nil (λ x. test x ≡ true)
-each_passes test (x ∷ xs) all =
-    let both = and_parts (test x) (list_all test xs) all in
-    All-cons (λ y. test y ≡ true) x xs both.0 (each_passes test xs both.1)
-
-name_lacks : (c : ℕ) (text : List ℕ) → is_name_byte c ≡ false → IsTrue (is_name text) → Lacks c text
-unfolding is_name
-name_lacks c text other is =
-    All-weaker (λ b. is_name_byte b ≡ true) (λ b. b ≢ c) (λ b passes same. both_ways (is_name_byte c) other (sym (ap is_name_byte same) ∙ passes)) text
-    (each_passes is_name_byte text (and_parts _ (list_all is_name_byte text) is).1)
-
-named-holds : {X : Type 0} (P : List ℕ → Type 0) (f : X → List ℕ) (xs : List X) (i : ℕ) → i < length xs → All (λ x. P (f x)) xs → P (named f xs i)
-named-holds P f [] i within each = absurd (omega arith)
-named-holds P f (x ∷ xs) zero within each = All-head (λ y. P (f y)) x xs each
-named-holds P f (x ∷ xs) (suc i) within each = named-holds P f xs i (omega arith) (All-tail (λ y. P (f y)) x xs each)
-
-site_lacks : (plan : PlanData) (c site : ℕ) → is_name_byte c ≡ false → IsPlan plan → site < length plan.sites → Lacks c (site_name plan site)
-site_lacks plan c site other is within =
-    named-holds (Lacks c) (λ (s : SiteData). s.name) plan.sites site within
-    (All-weaker (IsSite (length plan.zones)) (λ s. Lacks c s.name) (λ s has. name_lacks c s.name other has.name) plan.sites is.sites)
-
-section_lacks : (plan : PlanData) (c section : ℕ) → is_name_byte c ≡ false → IsPlan plan → section < length plan.sections → Lacks c (section_name plan section)
-section_lacks plan c section other is within =
-    named-holds (Lacks c) (λ (s : SectionData). s.name) plan.sections section within
-    (All-weaker (IsSection (length plan.pages)) (λ s. Lacks c s.name) (λ s has. name_lacks c s.name other has.name) plan.sections is.sections)
-
 -- ---- the parts of a path
-
-regroup : (o s i e d n a l t : List ℕ) → o ++ s ++ i ++ s ++ (e ++ d ++ n ++ d ++ a ++ d ++ l ++ t) ≡ o ++ (s ++ (i ++ (s ++ (e ++ (d ++ (n ++ (d ++ (a ++ (d ++ (l ++ t))))))))))
-regroup o s i e d n a l t = simp append_assoc
-
-path_is : (plan : PlanData) (out : List ℕ) (site : ℕ) (group : Group) (ink : Ink)
-    → path_of plan out site group ink ≡ out ++ (47 ∷ (site_name plan site ++ (47 ∷ (plan.edition ++ (45 ∷ (section_name plan group.section ++ (45 ∷ behind_section group.pair ink)))))))
-unfolding path_of
-path_is plan out site group ink =
-    regroup out (codes "/") (site_name plan site) plan.edition (codes "-") (section_name plan group.section) (three_digits group.pair) (letter_of ink) (codes ".tif")
 
 -- the folder stands in front, whichever it is
 pub path_under : (plan : PlanData) (out : List ℕ) (site : ℕ) (group : Group) (ink : Ink) → path_of plan out site group ink ≡ out ++ path_of plan [] site group ink
 path_under plan out site group ink = path_is plan out site group ink ∙ ap (λ l. out ++ l) (sym (path_is plan [] site group ink))
-
-digits_tell : (a b : ℕ) (x y : List ℕ) → a < 1000 → b < 1000 → three_digits a ++ x ≡ three_digits b ++ y → (a ≡ b) × (x ≡ y)
-digits_tell a b x y left right same =
-    let hundreds : 48 + a / 100 % 10 ≡ 48 + b / 100 % 10 = cc in
-    let tens : 48 + a / 10 % 10 ≡ 48 + b / 10 % 10 = cc in
-    let ones : 48 + a % 10 ≡ 48 + b % 10 = cc in
-    let rest : x ≡ y = cc in
-    (omega arith, rest)
-
--- the ink of a letter
-ink_of : List ℕ → Ink
-ink_of [] = K
-ink_of (b ∷ rest) = cond (nat_eq b 67) C (cond (nat_eq b 77) M (cond (nat_eq b 89) Y (cond (nat_eq b 75) K S)))
-
-ink_of-letter : (ink : Ink) → ink_of (letter_of ink ++ codes ".tif") ≡ ink
-unfolding ink_of
-ink_of-letter C = refl
-ink_of-letter M = refl
-ink_of-letter Y = refl
-ink_of-letter K = refl
-ink_of-letter S = refl
 
 -- two plates of two plans have one edition, sites and sections of the same names, one pair and one ink
 pub record SameNames (a : PlanData) (site : ℕ) (group : Group) (ink : Ink) (b : PlanData) (site' : ℕ) (group' : Group) (ink' : Ink) : Type 0 where
