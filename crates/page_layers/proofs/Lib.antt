@@ -2,3 +2,5 @@ pub mod Stretches
 pub mod Paints
 pub mod Layers
 pub mod Pages
+pub mod Blocks
+pub mod Spans

@@ -1,5 +1,6 @@
 -- What the code of a layer's rows keeps.
-use Rattle.std.specs.Prelude.{◌≡◌, ℕ, ◌+◌, ◌-◌, ◌*◌, ◌/◌, ◌<◌, ◌≤◌, ◌==◌, min, Bool, true, false, if◌then◌else◌, IsTrue, List, All, length, map, replicate, slice_index, Option, Some, None, option_map}
+use Rattle.std.specs.Prelude.{◌≡◌, ℕ, ◌+◌, ◌-◌, ◌*◌, ◌/◌, ◌<◌, ◌≤◌, ◌==◌, min, Bool, true, false, if◌then◌else◌, IsTrue, List, All, length, map, not, replicate, slice_index, Option, Some, None, option_map}
+use Rattle.pr_base.specs.Bits.{bit_at}
 use Rattle.tif_strips.specs.Strips.{Cursor}
 use Rattle.tif_image.specs.Image.{BilevelImage}
 use Rattle.page_layers.specs.declared.layer.Art.{Art}
@@ -87,6 +88,18 @@ with_fixed (Line image inks) span paint =
 -- the first values are those of a source where a test passes, and otherwise 0
 pub record IsMarked (test : ℕ → Bool) (source : ℕ → ℕ) (count : ℕ) (marks : List ℕ) : Type 0 where
   pub each : (n : ℕ) → n < count → slice_index marks n ≡ (if test n then source n else 0)
+
+-- whether pixel x of a row of bytes has the bit 0, or else the bit 1
+abbrev pub bit_is : Bool → List ℕ → ℕ → Bool
+bit_is zeros row x = if zeros then not (bit_at row x) else bit_at row x
+
+-- the values from one place to another stay where a test of their place passes, and are otherwise 0; those
+-- before and behind stay
+pub record Keeps (test : ℕ → Bool) (from to : ℕ) (old new : List ℕ) : Type 0 where
+  pub long : length new ≡ length old
+  pub inside : (n : ℕ) → from ≤ n → n < to → slice_index new n ≡ (if test n then slice_index old n else 0)
+  pub before : (n : ℕ) → n < from → slice_index new n ≡ slice_index old n
+  pub behind : (n : ℕ) → to ≤ n → slice_index new n ≡ slice_index old n
 
 -- the paint of a row of the image, from a column on, each as many times as the scale says
 pub record IsPaint (art : Art) (first scale row span : ℕ) (paint : Planes) : Type 0 where

@@ -2,7 +2,7 @@
 ghost use Rattle.std.specs.Prelude.{ℕ, ◌+◌, ◌*◌, ◌<◌, ◌≤◌, length};
 ghost use Rattle.page_layers.specs.Rows.{HasSamples};
 
-use crate::lay::{Painting, lay_span};
+use crate::lay::{Painting, lay_ink, lay_span};
 use crate::room::room;
 use crate::stretch::stretch;
 use pr_base::{Ink, NoMemory};
@@ -112,9 +112,16 @@ impl InkRow {
         set_sample(pixels, 4 * first + 3, scale, &mut self.black);
     }
 
-    /// Lays paint from column `from` on, where it is admitted.
-    pub(crate) fn lay(&mut self, painting: Painting, from: usize, paint: &InkRow, admitted: &[u8])
+    /// Lays samples, and no spot ink, from column `from` on, where they are admitted.
+    pub(crate) fn lay_samples(
+        &mut self,
+        painting: Painting,
+        from: usize,
+        paint: &InkRow,
+        admitted: &[u8],
+    )
         requires paint { HasWidth paint.now (length admitted.now) }
+        requires none { paint.now.spot ≡ replicate (length admitted.now) 0 }
         requires cyan { from + length admitted.now ≤ length self.old.cyan }
         requires magenta { from + length admitted.now ≤ length self.old.magenta }
         requires yellow { from + length admitted.now ≤ length self.old.yellow }
@@ -132,7 +139,44 @@ impl InkRow {
         lay_span(painting, from, &paint.magenta, admitted, &mut self.magenta);
         lay_span(painting, from, &paint.yellow, admitted, &mut self.yellow);
         lay_span(painting, from, &paint.black, admitted, &mut self.black);
-        lay_span(painting, from, &paint.spot, admitted, &mut self.spot);
+        lay_ink(painting, from, 0, admitted, &mut self.spot);
+    }
+
+    /// Lays these inks from column `from` on, where they are admitted.
+    pub(crate) fn lay_inks(
+        &mut self,
+        painting: Painting,
+        from: usize,
+        inks: &[u8; 5],
+        admitted: &[u8],
+    )
+        requires cyan { from + length admitted.now ≤ length self.old.cyan }
+        requires magenta { from + length admitted.now ≤ length self.old.magenta }
+        requires yellow { from + length admitted.now ≤ length self.old.yellow }
+        requires black { from + length admitted.now ≤ length self.old.black }
+        requires spot { from + length admitted.now ≤ length self.old.spot }
+        ensures cyan { LaysSpan painting from
+            (replicate (length admitted.now) (slice_index inks.now 0))
+            admitted.now self.old.cyan self.new.cyan }
+        ensures magenta { LaysSpan painting from
+            (replicate (length admitted.now) (slice_index inks.now 1))
+            admitted.now self.old.magenta self.new.magenta }
+        ensures yellow { LaysSpan painting from
+            (replicate (length admitted.now) (slice_index inks.now 2))
+            admitted.now self.old.yellow self.new.yellow }
+        ensures black { LaysSpan painting from
+            (replicate (length admitted.now) (slice_index inks.now 3))
+            admitted.now self.old.black self.new.black }
+        ensures spot { LaysSpan painting from
+            (replicate (length admitted.now) (slice_index inks.now 4))
+            admitted.now self.old.spot self.new.spot }
+    {
+        let [cyan, magenta, yellow, black, spot] = *inks;
+        lay_ink(painting, from, cyan, admitted, &mut self.cyan);
+        lay_ink(painting, from, magenta, admitted, &mut self.magenta);
+        lay_ink(painting, from, yellow, admitted, &mut self.yellow);
+        lay_ink(painting, from, black, admitted, &mut self.black);
+        lay_ink(painting, from, spot, admitted, &mut self.spot);
     }
 }
 

@@ -1,5 +1,5 @@
 // Paint laid over a row of one ink.
-ghost use Rattle.std.specs.Prelude.{◌≡◌, ℕ, ◌+◌, ◌<◌, ◌≤◌, length, slice_index};
+ghost use Rattle.std.specs.Prelude.{◌≡◌, ℕ, ◌+◌, ◌<◌, ◌≤◌, ◌==◌, if◌then◌else◌, length, replicate, slice_index};
 ghost use Rattle.page_layers.specs.Rows.{IsLaid, LaysSpan};
 
 /// How a layer is painted.
@@ -33,6 +33,38 @@ pub(crate) fn lay_span(
     }
 }
 
+/// Lays one ink value over a row from column `from` on, where it is admitted.
+pub(crate) fn lay_ink(painting: Painting, from: usize, ink: u8, admitted: &[u8], into: &mut [u8])
+    requires within { from + length admitted.now ≤ length into.old }
+    ensures { LaysSpan painting from (replicate (length admitted.now) ink) admitted.now into.old into.new }
+{
+    match painting {
+        Painting::Whole => into[from..from + admitted.len()].fill(ink),
+        Painting::Knockout => knock_out_ink(from, ink, admitted, into),
+        Painting::Overprint => overprint_ink(from, ink, admitted, into),
+    }
+}
+
+fn knock_out_ink(from: usize, ink: u8, admitted: &[u8], into: &mut [u8])
+    requires within { from + length admitted.now ≤ length into.old }
+    ensures { LaysSpan Painting.Knockout from (replicate (length admitted.now) ink) admitted.now
+        into.old into.new }
+{
+    spread(ink, admitted, &mut into[from..from + admitted.len()]);
+}
+
+// No ink overprints nothing.
+fn overprint_ink(from: usize, ink: u8, admitted: &[u8], into: &mut [u8])
+    requires within { from + length admitted.now ≤ length into.old }
+    ensures { LaysSpan Painting.Overprint from (replicate (length admitted.now) ink) admitted.now
+        into.old into.new }
+{
+    if ink == 0 {
+        return;
+    }
+    knock_out_ink(from, ink, admitted, into);
+}
+
 // The loops multiply by 0 or 1 in place of a choice, so that they run on vectors and no branch is guessed.
 fn knock_out(paint: &[u8], admitted: &[u8], into: &mut [u8])
     requires paint { length paint.now ≡ length into.old }
@@ -53,5 +85,16 @@ fn overprint(paint: &[u8], admitted: &[u8], into: &mut [u8])
     for x in 0..into.len() {
         let shows = u8::from(admitted[x] != 0) * u8::from(paint[x] != 0);
         into[x] = paint[x] * shows + into[x] * (1 - shows);
+    }
+}
+
+fn spread(ink: u8, admitted: &[u8], into: &mut [u8])
+    requires { length admitted.now ≡ length into.old }
+    ensures { (x : ℕ) → x < length into.old
+        → slice_index into.new x ≡ (if slice_index admitted.now x == 0 then slice_index into.old x else ink) }
+{
+    for x in 0..into.len() {
+        let shows = u8::from(admitted[x] != 0);
+        into[x] = ink * shows + into[x] * (1 - shows);
     }
 }

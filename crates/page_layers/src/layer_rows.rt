@@ -3,7 +3,7 @@ ghost use Rattle.std.specs.Prelude.{◌≡◌, ℕ, ◌+◌, ◌-◌, ◌*◌, �
 ghost use Rattle.page_layers.specs.Inks.{HasWidth, inks_at};
 ghost use Rattle.page_layers.specs.Layer.{IsLayer, paint_at, shape_of};
 ghost use Rattle.page_layers.specs.Reader.{IsOf};
-ghost use Rattle.page_layers.specs.Rows.{IsPaint, fixed_of, painting_of, span_of, with_fixed};
+ghost use Rattle.page_layers.specs.Rows.{IsPaint, LaysSpan, fixed_of, painting_of, span_of, with_fixed};
 
 use crate::InkRow;
 use crate::admit::{admit_row, is_bare};
@@ -117,7 +117,14 @@ impl<'a> LayerRows<'a> {
         let row = self.row_at(y);
         self.stand_behind(row);
         let from = self.layer.x as usize;
-        into.lay(self.painting, from, &self.paint, &self.admitted);
+        lay_paint(
+            &self.layer.art,
+            self.painting,
+            from,
+            &self.paint,
+            &self.admitted,
+            into,
+        );
     }
 
     // Reads up to a row of the image that shows, and makes paint of it.
@@ -184,6 +191,32 @@ fn paint_row(art: &Art<'_>, image: &RowReader<'_>, first: u32, scale: u32, paint
         // For its clause: four bytes a pixel.
         let _len = contone.row_len();
         paint.set_samples(image.row(), first as usize, scale as usize);
+    }
+}
+
+// Lays the paint of a row of the image. Inks that are the same in each row are not read from it.
+fn lay_paint(
+    art: &Art<'_>,
+    painting: Painting,
+    from: usize,
+    paint: &InkRow,
+    admitted: &[u8],
+    into: &mut InkRow,
+)
+    requires paint { HasWidth paint.now (length admitted.now) }
+    requires fixed { paint.now ≡ with_fixed art.now (length admitted.now) paint.now }
+    requires wide { HasWidth into.old (length into.old.cyan) }
+    requires room { from + length admitted.now ≤ length into.old.cyan }
+    ensures cyan { LaysSpan painting from paint.now.cyan admitted.now into.old.cyan into.new.cyan }
+    ensures magenta { LaysSpan painting from paint.now.magenta admitted.now
+        into.old.magenta into.new.magenta }
+    ensures yellow { LaysSpan painting from paint.now.yellow admitted.now into.old.yellow into.new.yellow }
+    ensures black { LaysSpan painting from paint.now.black admitted.now into.old.black into.new.black }
+    ensures spot { LaysSpan painting from paint.now.spot admitted.now into.old.spot into.new.spot }
+{
+    match art {
+        Art::Contone(_) => into.lay_samples(painting, from, paint, admitted),
+        Art::Line(_, inks) => into.lay_inks(painting, from, inks, admitted),
     }
 }
 

@@ -1,11 +1,27 @@
 // Marked pixels of a bilevel image as bytes.
-ghost use Rattle.std.specs.Prelude.{◌≡◌, ℕ, ◌+◌, ◌*◌, ◌<◌, ◌≤◌, not, length, slice_index};
-ghost use Rattle.pr_base.specs.Bits.{bit_at};
+ghost use Rattle.std.specs.Prelude.{◌≡◌, ℕ, ◌+◌, ◌-◌, ◌*◌, ◌%◌, ◌<◌, ◌≤◌, length, slice_index};
 ghost use Rattle.tif_strips.specs.Strips.{row_length};
 ghost use Rattle.tif_image.specs.Image.{is_marked, photometric};
-ghost use Rattle.page_layers.specs.Rows.{IsMarked};
+ghost use Rattle.page_layers.specs.Rows.{IsMarked, Keeps, bit_is};
 
+use std::simd::prelude::*;
 use tif_image::Bilevel;
+
+/// How many pixels go in one step: the bits of eight bytes.
+const BLOCK: usize = 64;
+
+/// The byte, of the eight of a block, that has the bit of each pixel.
+const BYTE_OF: [usize; BLOCK] = [
+    0, 0, 0, 0, 0, 0, 0, 0, 1, 1, 1, 1, 1, 1, 1, 1, 2, 2, 2, 2, 2, 2, 2, 2, 3, 3, 3, 3, 3, 3, 3, 3,
+    4, 4, 4, 4, 4, 4, 4, 4, 5, 5, 5, 5, 5, 5, 5, 5, 6, 6, 6, 6, 6, 6, 6, 6, 7, 7, 7, 7, 7, 7, 7, 7,
+];
+
+/// That bit of it: the first pixel has the highest.
+const BIT_OF: [u8; BLOCK] = [
+    128, 64, 32, 16, 8, 4, 2, 1, 128, 64, 32, 16, 8, 4, 2, 1, 128, 64, 32, 16, 8, 4, 2, 1, 128, 64,
+    32, 16, 8, 4, 2, 1, 128, 64, 32, 16, 8, 4, 2, 1, 128, 64, 32, 16, 8, 4, 2, 1, 128, 64, 32, 16,
+    8, 4, 2, 1, 128, 64, 32, 16, 8, 4, 2, 1,
+];
 
 /// Sets to 0 the bytes of pixels that aren't marked, from column `first` of a row on.
 #[tactic(auto, using(crate::proofs::Layers::row_reaches))]
@@ -17,36 +33,76 @@ pub(crate) fn keep_marked(image: &Bilevel<'_>, row: &[u8], first: u32, into: &mu
         (λ j. is_marked (photometric image.now.bytes) row.now (first + j))
         (slice_index into.old) (length into.old) into.new }
 {
-    if image.marks_zeros() {
-        keep_zeros(row, first as usize, into);
-    } else {
-        keep_ones(row, first as usize, into);
-    }
+    keep(image.marks_zeros(), row, first as usize, into);
 }
 
-// The loops multiply by the bit: a branch on it would often be guessed wrong.
-fn keep_ones(row: &[u8], first: usize, into: &mut [u8])
+// Keeps the bytes of pixels whose bit is 0, or else of those whose bit is 1: first those up to a whole byte
+// of the row, then whole blocks, then the rest.
+fn keep(zeros: bool, row: &[u8], first: usize, into: &mut [u8])
     requires small { first + length into.old ≤ 65535 }
     requires within { first + length into.old ≤ 8 * length row.now }
-    ensures { IsMarked (λ j. bit_at row.now (first + j)) (slice_index into.old) (length into.old) into.new }
-{
-    for j in 0..into.len() {
-        let x = first + j;
-        let bit = row[x / 8] >> (7 - x % 8) & 1;
-        into[j] *= bit;
-    }
-}
-
-fn keep_zeros(row: &[u8], first: usize, into: &mut [u8])
-    requires small { first + length into.old ≤ 65535 }
-    requires within { first + length into.old ≤ 8 * length row.now }
-    ensures { IsMarked
-        (λ j. not (bit_at row.now (first + j)))
+    ensures { IsMarked (λ j. bit_is zeros row.now (first + j))
         (slice_index into.old) (length into.old) into.new }
 {
-    for j in 0..into.len() {
-        let x = first + j;
-        let bit = row[x / 8] >> (7 - x % 8) & 1;
-        into[j] *= u8::from(bit == 0);
+    let all = into.len();
+    let ragged = ((8 - first % 8) % 8).min(all);
+    let done = ragged + (all - ragged) / BLOCK * BLOCK;
+    keep_bits(zeros, row, first, into, 0, ragged);
+    keep_blocks(zeros, row, first, into, ragged, done);
+    keep_bits(zeros, row, first, into, done, all);
+}
+
+// The loop multiplies by 0 or 1: a branch on the bit would often be guessed wrong.
+fn keep_bits(zeros: bool, row: &[u8], first: usize, into: &mut [u8], from: usize, to: usize)
+    requires order { (from ≤ to) × (to ≤ length into.old) }
+    requires small { first + to ≤ 65535 }
+    requires within { first + to ≤ 8 * length row.now }
+    ensures { Keeps (λ j. bit_is zeros row.now (first + j)) from to into.old into.new }
+{
+    for j in from..to {
+        into[j] *= u8::from(has_bit(zeros, row, first + j));
     }
+}
+
+// Pixel `x` of a row has the bit 0, or else the bit 1.
+#[inline(always)]
+fn has_bit(zeros: bool, row: &[u8], x: usize) -> bool
+    requires within { x < 8 * length row.now }
+    ensures { result ≡ bit_is zeros row.now x }
+{
+    let bit = row[x / 8] >> (7 - x % 8) & 1;
+    (bit == 1) != zeros
+}
+
+// The same of whole blocks, of which the first begins with a byte of the row.
+fn keep_blocks(zeros: bool, row: &[u8], first: usize, into: &mut [u8], from: usize, to: usize)
+    requires order { (from ≤ to) × (to ≤ length into.old) }
+    requires small { first + to ≤ 65535 }
+    requires within { first + to ≤ 8 * length row.now }
+    requires begins { from < to → (first + from) % 8 ≡ 0 }
+    requires whole { (to - from) % BLOCK ≡ 0 }
+    ensures { Keeps (λ j. bit_is zeros row.now (first + j)) from to into.old into.new }
+{
+    let byte = (first + from) / 8;
+    for k in 0..(to - from) / BLOCK {
+        let bits = &row[byte + 8 * k..byte + 8 * k + 8];
+        let at = from + BLOCK * k;
+        keep_block(zeros, bits, &mut into[at..at + BLOCK]);
+    }
+}
+
+// The same of one block: each pixel's bit stands alone in a lane, and its byte stays where that is the bit
+// that is wanted.
+fn keep_block(zeros: bool, bits: &[u8], into: &mut [u8])
+    requires bits { length bits.now ≡ 8 }
+    requires into { length into.old ≡ BLOCK }
+    ensures { IsMarked (bit_is zeros bits.now) (slice_index into.old) BLOCK into.new }
+{
+    let none = u8x64::splat(0);
+    let each = u8x64::from_array(BIT_OF);
+    let wanted = if zeros { none } else { each };
+    let bit = u8x8::from_slice(bits).swizzle(BYTE_OF) & each;
+    bit.simd_eq(wanted)
+        .select(u8x64::from_slice(into), none)
+        .copy_to_slice(into);
 }

@@ -186,7 +186,7 @@ fn layers_of<'a, R: Abort + AllocGlobal>(
 }
 
 // Puts a layer on the others, once it is one that a page takes.
-fn put<'a, R: Abort>(rt: &R, layers: &mut Vec<Layer<'a>>, layer: Layer<'a>) -> Result<(), Fail>
+pub fn put<'a, R: Abort>(rt: &R, layers: &mut Vec<Layer<'a>>, layer: Layer<'a>) -> Result<(), Fail>
     requires { All IsLayer layers.old.items }
     ensures { IfOk result (λ done. All IsLayer layers.new.items) }
 {

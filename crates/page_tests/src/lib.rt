@@ -6,6 +6,8 @@ mod diffusion;
 #[cfg(test)]
 mod layers;
 #[cfg(test)]
+mod offsets;
+#[cfg(test)]
 mod pages;
 #[cfg(test)]
 mod tiles;

@@ -1,5 +1,5 @@
 // Curves and the limit on a pixel's ink: worked values.
-use page_tone::{Curve, limit_inks, valid_points};
+use page_tone::{Curve, limit_inks, limit_row, valid_points};
 use std::process::Abort;
 
 #[test]
@@ -43,4 +43,62 @@ fn rows_under_a_limit(rt: HostRuntime) {
         assert!(rt; limit <= 1020);
         assert_eq!(rt; limit_inks(inks, limit), limited);
     }
+}
+
+#[test]
+fn shares_are_quotients(rt: HostRuntime) {
+    for colours in 0..=765u32 {
+        let c = colours.min(255);
+        let m = (colours - c).min(255);
+        let inks = [c as u8, m as u8, (colours - c - m) as u8, 0];
+        for limit in [0, 1, 100, 254, 255, 300, 511, 612, 764] {
+            assert!(rt; limit <= 1020);
+            assert!(rt; is_divided(inks, limit, limit_inks(inks, limit)));
+        }
+    }
+}
+
+/// Whether the inks of a pixel without black are those that three divisions give.
+fn is_divided(inks: [u8; 4], limit: u16, limited: [u8; 4]) -> bool {
+    let [c, m, y, _] = inks;
+    let colours = c as u32 + m as u32 + y as u32;
+    if colours <= limit as u32 {
+        return limited == inks;
+    }
+    let [cyan, magenta, yellow, black] = limited;
+    is_share(c, limit, colours, cyan)
+        && is_share(m, limit, colours, magenta)
+        && is_share(y, limit, colours, yellow)
+        && black == 0
+}
+
+fn is_share(value: u8, rest: u16, colours: u32, part: u8) -> bool {
+    colours > 0 && value as u32 * rest as u32 / colours == part as u32
+}
+
+/// A pixel over the limit in the first block of a row, in its second, at the ends of each.
+#[test]
+fn one_pixel_over_a_limit(rt: HostRuntime) {
+    for column in [0, 63, 64, 69] {
+        assert!(rt; is_limited_at(column));
+    }
+}
+
+fn is_limited_at(column: usize) -> bool {
+    let (mut cyan, mut magenta, mut yellow, mut black) = ([10; 70], [10; 70], [10; 70], [10; 70]);
+    if column >= 70 {
+        return false;
+    }
+    cyan[column] = 255;
+    magenta[column] = 255;
+    yellow[column] = 255;
+    black[column] = 255;
+    limit_row(612, &mut cyan, &mut magenta, &mut yellow, &mut black);
+    for x in 0..70 {
+        let (colour, key) = if x == column { (119, 255) } else { (10, 10) };
+        if cyan[x] != colour || magenta[x] != colour || yellow[x] != colour || black[x] != key {
+            return false;
+        }
+    }
+    true
 }

@@ -1,2 +1,4 @@
 pub mod CurveLemmas
 pub mod LimitLemmas
+pub mod ReciprocalLemmas
+pub mod RowLemmas

@@ -1,5 +1,5 @@
 -- The limit on the ink of a pixel.
-use Rattle.std.specs.Prelude.{ℕ, ◌+◌, ◌-◌, ◌*◌, ◌/◌, ◌==◌, if◌then◌else◌, nat_le, min, List, [], ◌∷◌}
+use Rattle.std.specs.Prelude.{◌≡◌, ℕ, ◌+◌, ◌-◌, ◌*◌, ◌/◌, ◌==◌, ◌<◌, ◌≤◌, if◌then◌else◌, nat_le, min, List, [], ◌∷◌, length, slice_index}
 
 -- the colours' part of the ink that black leaves, each in its share, rounded down
 abbrev pub share : ℕ → ℕ → ℕ → ℕ
@@ -14,3 +14,38 @@ limited c m y k limit =
     let rest = limit - black in
     let colours = c + m + y in
     share c rest colours ∷ share m rest colours ∷ share y rest colours ∷ black ∷ [])
+
+-- the values of four planes under a limit
+pub record AreLimited (limit : ℕ) (c m y k cyan magenta yellow black : List ℕ) : Type 0 where
+  pub cyan_is : (x : ℕ) → x < length c
+      → slice_index cyan x ≡ slice_index (limited (slice_index c x) (slice_index m x) (slice_index y x)
+      (slice_index k x) limit) 0
+  pub magenta_is : (x : ℕ) → x < length c
+      → slice_index magenta x ≡ slice_index (limited (slice_index c x) (slice_index m x) (slice_index y x)
+      (slice_index k x) limit) 1
+  pub yellow_is : (x : ℕ) → x < length c
+      → slice_index yellow x ≡ slice_index (limited (slice_index c x) (slice_index m x) (slice_index y x)
+      (slice_index k x) limit) 2
+  pub black_is : (x : ℕ) → x < length c
+      → slice_index black x ≡ slice_index (limited (slice_index c x) (slice_index m x) (slice_index y x)
+      (slice_index k x) limit) 3
+
+-- ---- what the code does to a part of a row
+
+-- the inks of a pixel of four planes under a limit
+abbrev pub limited_at : ℕ → List ℕ → List ℕ → List ℕ → List ℕ → ℕ → List ℕ
+limited_at limit c m y k x =
+    limited (slice_index c x) (slice_index m x) (slice_index y x) (slice_index k x) limit
+
+-- the values from one column on and before another are those of a function; all others are as they were
+pub record IsWritten (value : ℕ → ℕ) (from to : ℕ) (old new : List ℕ) : Type 0 where
+  pub inside : (x : ℕ) → from ≤ x → x < to → slice_index new x ≡ value x
+  pub before : (x : ℕ) → x < from → slice_index new x ≡ slice_index old x
+  pub behind : (x : ℕ) → to ≤ x → slice_index new x ≡ slice_index old x
+
+-- the values of four planes from one column on and before another are under a limit
+pub record HasLimited (limit from to : ℕ) (c m y k cyan magenta yellow black : List ℕ) : Type 0 where
+  pub cyan_is : IsWritten (λ x. slice_index (limited_at limit c m y k x) 0) from to c cyan
+  pub magenta_is : IsWritten (λ x. slice_index (limited_at limit c m y k x) 1) from to m magenta
+  pub yellow_is : IsWritten (λ x. slice_index (limited_at limit c m y k x) 2) from to y yellow
+  pub black_is : IsWritten (λ x. slice_index (limited_at limit c m y k x) 3) from to k black

@@ -3,6 +3,9 @@
 
 mod curve;
 mod limit;
+mod reciprocals;
+mod row;
 
 pub use curve::{Curve, valid_points};
 pub use limit::limit_inks;
+pub use row::limit_row;

@@ -1,6 +1,8 @@
 // The limit on the ink of a pixel.
-ghost use Rattle.std.specs.Prelude.{◌≡◌, ◌≤◌, slice_index, sum};
+ghost use Rattle.std.specs.Prelude.{◌≡◌, ◌+◌, ◌*◌, ◌/◌, ◌≤◌, ◌^◌, slice_index, sum};
 ghost use Rattle.page_tone.specs.Limit.{limited};
+
+use crate::reciprocals::share_of;
 
 /// The inks C, M, Y, K of a pixel, with no more than `limit` of ink together: black is kept as far as the
 /// limit goes, and the colours share what it leaves in proportion, rounded down.
@@ -13,18 +15,17 @@ pub fn limit_inks(inks: [u8; 4], limit: u16) -> [u8; 4]
     let [c, m, y, k] = inks;
     let colours = c as u32 + m as u32 + y as u32;
     let limit = limit as u32;
-    if colours + k as u32 <= limit {
-        return inks;
-    }
     let black = limit.min(k as u32);
-    let rest = limit - black;
-    if colours == 0 {
-        return [0, 0, 0, black as u8];
-    }
-    [
-        (c as u32 * rest / colours) as u8,
-        (m as u32 * rest / colours) as u8,
-        (y as u32 * rest / colours) as u8,
-        black as u8,
-    ]
+    // Where the limit leaves room for all, each colour's part is the colour.
+    let rest = (limit - black).min(colours);
+    let share = share_of(rest, colours);
+    [part(c, share), part(m, share), part(y, share), black as u8]
+}
+
+/// A colour's part of the rest.
+fn part(value: u8, share: u32) -> u8
+    requires { share ≤ 2 ^ 24 + 48 }
+    ensures { result ≡ value * share / 2 ^ 24 }
+{
+    (value as u32 * share >> 24) as u8
 }

@@ -1,28 +1,19 @@
 -- The five inks of a row of a page behind curves and limit.
-use Rattle.std.proofs.Common.{◌≡◌, ℕ, ◌+◌, ◌<◌, ◌≤◌, Bool, true, false, cond, List, [], ◌∷◌, length, ap, sym, ◌∙◌, arith}
-use Rattle.std.specs.Prelude.{nat_le, nat_lt, slice_index}
+use Rattle.std.proofs.Common.{◌≡◌, ℕ, ◌+◌, ◌<◌, ◌≤◌, Bool, true, false, List, [], ◌∷◌, length, ap, sym, ◌∙◌, arith}
+use Rattle.std.specs.Prelude.{nat_lt, slice_index}
 use Rattle.std.proofs.lemmas.Bool.Decides.{nat_tests}
 use Rattle.pr_base.specs.declared.ink.Ink.{Ink}
 use Rattle.pr_base.specs.declared.ink.Ink.TheVariants.{C, M, Y, K, S}
 use Rattle.page_layers.specs.declared.layer.Layer.{Layer}
 use Rattle.page_layers.specs.Inks.{HasWidth, Planes, inks_at, plane_of}
 use Rattle.page_layers.specs.Layer.{ink_at}
-use Rattle.page_tone.specs.Limit.{limited}
+use Rattle.page_tone.specs.Limit.{AreLimited, limited}
+use Rattle.page_tone.proofs.LimitLemmas.{limited-free}
 use Rattle.plan_json.specs.Data.{PlanData}
-use Rattle.press_feed.specs.Planes.{AreLimited, IsToned, ShowsInks}
+use Rattle.press_feed.specs.Planes.{IsToned, ShowsInks}
 use Rattle.press_job.specs.Printing.{limited_inks, printed_ink, toned_ink}
 use Rattle.press_feed.specs.Tones.{limits}
 use Rattle.press_job.proofs.LimitLemmas.{limited-same}
-
--- values that add up to no more than the limit stay
-limited-free : (c m y k limit : ℕ) → c + m + y + k ≤ limit → limited c m y k limit ≡ c ∷ m ∷ y ∷ k ∷ []
-limited-free c m y k limit within = by_test (nat_le (c + m + y + k) limit) _ _ (fits (c + m + y + k) limit within)
-  where
-    fits : (sum limit : ℕ) → sum ≤ limit → nat_le sum limit ≡ true
-    fits sum limit h = grind (arith, nat_tests)
-
-    by_test : (test : Bool) (some other : List ℕ) → test ≡ true → cond {A = List ℕ} test some other ≡ some
-    by_test test some other e = ap (λ t. cond {A = List ℕ} t some other) e
 
 -- five rows behind their curves
 pub record AreToned (plan : PlanData) (colour spotted : Bool) (inks shown : Planes) : Type 0 where

@@ -4,4 +4,3 @@ pub mod PlateLemmas
 pub mod ScreenerLemmas
 pub mod SideLemmas
 pub mod StandLemmas
-pub mod ValueLemmas

@@ -4,7 +4,6 @@ use Rattle.pr_base.specs.declared.ink.Ink.{Ink}
 use Rattle.page_layers.specs.declared.layer.Layer.{Layer}
 use Rattle.page_layers.specs.Inks.{HasWidth, Planes, plane_of}
 use Rattle.page_layers.specs.Layer.{ink_at}
-use Rattle.page_tone.specs.Limit.{limited}
 use Rattle.plan_json.specs.Data.{PlanData}
 use Rattle.press_feed.specs.declared.plane.Plane.{Plane}
 use Rattle.press_job.specs.Printing.{printed_ink, toned}
@@ -43,21 +42,6 @@ pub record HaveWidth (inks : Planes) (cyan magenta yellow black spot : Plane) : 
   pub yellow_wide : length yellow.values.items ≡ length inks.cyan
   pub black_wide : length black.values.items ≡ length inks.cyan
   pub spot_wide : length spot.values.items ≡ length inks.cyan
-
--- the values of four planes under a limit
-pub record AreLimited (limit : ℕ) (c m y k cyan magenta yellow black : List ℕ) : Type 0 where
-  pub cyan_is : (x : ℕ) → x < length c
-      → slice_index cyan x ≡ slice_index (limited (slice_index c x) (slice_index m x) (slice_index y x)
-      (slice_index k x) limit) 0
-  pub magenta_is : (x : ℕ) → x < length c
-      → slice_index magenta x ≡ slice_index (limited (slice_index c x) (slice_index m x) (slice_index y x)
-      (slice_index k x) limit) 1
-  pub yellow_is : (x : ℕ) → x < length c
-      → slice_index yellow x ≡ slice_index (limited (slice_index c x) (slice_index m x) (slice_index y x)
-      (slice_index k x) limit) 2
-  pub black_is : (x : ℕ) → x < length c
-      → slice_index black x ≡ slice_index (limited (slice_index c x) (slice_index m x) (slice_index y x)
-      (slice_index k x) limit) 3
 
 -- a plane with other values of its own, as many as before
 pub record IsSameKind (old new : Plane) : Type 0 where

@@ -2,12 +2,13 @@
 // pixel.
 ghost use Rattle.std.specs.Prelude.{◌≡◌, ◌+◌, ◌-◌, ◌<◌, ◌≤◌, IfOk, length};
 ghost use Rattle.page_layers.specs.Inks.{HasWidth, plane_of};
-ghost use Rattle.press_feed.specs.Planes.{AreLimited, IsSameKind, ShowsInks};
+ghost use Rattle.page_tone.specs.Limit.{AreLimited};
+ghost use Rattle.press_feed.specs.Planes.{IsSameKind, ShowsInks};
 
 use crate::plane::Plane;
 use crate::tones::Tones;
 use page_layers::{InkRow, PageRows};
-use page_tone::limit_inks;
+use page_tone::limit_row;
 use plan_json::Plan;
 use pr_base::{Ink, NoMemory};
 use std::alloc::Global;
@@ -142,36 +143,11 @@ fn limit_planes(
     ensures yellow { IsSameKind yellow.old yellow.new }
     ensures black { IsSameKind black.old black.new }
 {
-    limit_values(
+    limit_row(
         limit,
         &mut cyan.values,
         &mut magenta.values,
         &mut yellow.values,
         &mut black.values,
     );
-}
-
-/// Limits the ink of each pixel, whose values stand at one place of four rows.
-fn limit_values(
-    limit: u16,
-    cyan: &mut [u8],
-    magenta: &mut [u8],
-    yellow: &mut [u8],
-    black: &mut [u8],
-)
-    requires limit { limit ≤ 1020 }
-    requires magenta { length magenta.old ≡ length cyan.old }
-    requires yellow { length yellow.old ≡ length cyan.old }
-    requires black { length black.old ≡ length cyan.old }
-    ensures { AreLimited limit cyan.old magenta.old yellow.old black.old
-        cyan.new magenta.new yellow.new black.new }
-{
-    for x in 0..cyan.len() {
-        let inks = [cyan[x], magenta[x], yellow[x], black[x]];
-        let [c, m, y, k] = limit_inks(inks, limit);
-        cyan[x] = c;
-        magenta[x] = m;
-        yellow[x] = y;
-        black[x] = k;
-    }
 }

@@ -18,7 +18,7 @@ returns-clause-inks c =
     let expanded : IsExpanded c.self.inside.layer (row_at c.self.inside.layer c.args.y) (span_of c.self.inside.width c.self.inside.layer) c.self.inside.paint c.deref.result.now =
     rw (c.deref.ensures.value, sym row) (c.self.invariant.expanded (omega arith)) in
     let long : length c.deref.result.now ≡ span_of c.self.inside.width c.self.inside.layer = ap length c.deref.ensures.value ∙ c.self.invariant.admitted_long in
-    let P : Layer → Type 0 = λ l. (x : ℕ) → x < c.args.self.now.width → inks_at c.lay.new.self x ≡ painted l x c.args.y (inks_at c.args.into.now x) in
+    let P : Layer → Type 0 = λ l. (x : ℕ) → x < c.args.self.now.width → inks_at c.lay_paint.new.into x ≡ painted l x c.args.y (inks_at c.args.into.now x) in
     subst P layer
-    (λ x within. painted-row c.self.inside.layer c.self.inside.width c.args.y c.self.inside.painting c.self.inside.paint c.deref.result.now c.args.into.now c.lay.new.self c.self.invariant.painting_is long covers expanded
-    c.lay.ensures.cyan c.lay.ensures.magenta c.lay.ensures.yellow c.lay.ensures.black c.lay.ensures.spot x (omega arith))
+    (λ x within. painted-row c.self.inside.layer c.self.inside.width c.args.y c.self.inside.painting c.self.inside.paint c.deref.result.now c.args.into.now c.lay_paint.new.into c.self.invariant.painting_is long covers expanded
+    c.lay_paint.ensures.cyan c.lay_paint.ensures.magenta c.lay_paint.ensures.yellow c.lay_paint.ensures.black c.lay_paint.ensures.spot x (omega arith))

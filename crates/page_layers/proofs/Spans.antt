@@ -1,0 +1,69 @@
+-- One ink value laid over a span of a row.
+use Rattle.std.proofs.Common.{◌≡◌, ◌≢◌, ℕ, ◌+◌, ◌-◌, ◌<◌, ◌≤◌, Bool, true, false, if◌then◌else◌, List, length, get_or, replicate, refl, ap, sym, ◌∙◌, arith}
+use Rattle.std.specs.Prelude.{◌==◌}
+use Rattle.std.proofs.lemmas.Bool.{ne_eqb}
+use Rattle.std.proofs.lemmas.List.{get_or-replicate, length-replicate}
+use borrow.Rule.Slice.PartMut.{put_mid}
+use Rattle.page_layers.specs.declared.lay.Painting.{Painting}
+use Rattle.page_layers.specs.declared.lay.Painting.TheVariants.{Whole, Knockout, Overprint}
+use Rattle.page_layers.specs.Rows.{LaysSpan, laid_where}
+use Rattle.page_layers.proofs.Blocks.{part_above, part_below, part_here, part_long}
+
+-- a part of a row that was written anew
+LaysSpan_part : (painting : Painting) (from cut size : ℕ) (paint admitted old part : List ℕ) → from + length admitted ≤ length old → cut ≡ length admitted → size ≡ length admitted → length part ≡ size
+    → ((j : ℕ) → j < length admitted → get_or part j 0 ≡ laid_where painting (get_or admitted j 0) (get_or paint j 0) (get_or old (from + j) 0))
+    → LaysSpan painting from paint admitted old (put_mid from cut old part)
+LaysSpan_part painting from cut size paint admitted old part room cut_is size_is long each = record {
+  long = part_long from cut old part (omega arith) (omega arith);
+  inside = λ j within.
+      let back : from + j - from ≡ j = omega arith in
+      part_here from cut old part (from + j) (omega arith) (omega arith) (omega arith) (omega arith) ∙ ap (λ k. get_or part k 0) back ∙ each j within;
+  before = λ x below. part_below from cut old part x (omega arith) below;
+  behind = λ x above. part_above from cut old part x (omega arith) (omega arith) (omega arith);
+}
+
+-- a value that covers its span
+pub LaysSpan_fill : (from cut size ink : ℕ) (admitted old part : List ℕ) → from + length admitted ≤ length old → cut ≡ length admitted → size ≡ length admitted → part ≡ replicate size ink
+    → LaysSpan Whole from (replicate (length admitted) ink) admitted old (put_mid from cut old part)
+LaysSpan_fill from cut size ink admitted old part room cut_is size_is filled =
+    LaysSpan_part Whole from cut size (replicate (length admitted) ink) admitted old part room cut_is size_is (ap length filled ∙ length-replicate size ink)
+    (λ j within. ap (λ list. get_or list j 0) filled ∙ get_or-replicate size j ink 0 (omega arith) ∙ sym (get_or-replicate (length admitted) j ink 0 within))
+
+-- a value that was laid where it is admitted
+pub LaysSpan_spread : (from cut size ink : ℕ) (admitted old under part : List ℕ) → from + length admitted ≤ length old → cut ≡ length admitted → size ≡ length admitted → length part ≡ size
+    → ((j : ℕ) → j < length admitted → get_or under j 0 ≡ get_or old (from + j) 0)
+    → ((j : ℕ) → j < size → get_or part j 0 ≡ (if get_or admitted j 0 == 0 then get_or under j 0 else ink))
+    → LaysSpan Knockout from (replicate (length admitted) ink) admitted old (put_mid from cut old part)
+LaysSpan_spread from cut size ink admitted old under part room cut_is size_is long there spread =
+    LaysSpan_part Knockout from cut size (replicate (length admitted) ink) admitted old part room cut_is size_is long
+    (λ j within.
+    spread j (omega arith) ∙ ap (λ u. if get_or admitted j 0 == 0 then u else ink) (there j within)
+    ∙ ap (λ p. if get_or admitted j 0 == 0 then get_or old (from + j) 0 else p) (sym (get_or-replicate (length admitted) j ink 0 within)))
+
+both : (bit : Bool) (under : ℕ) → under ≡ (if bit then under else under)
+both true under = refl
+both false under = refl
+
+-- an overprint of no ink leaves what stands
+pub LaysSpan_none : (from ink : ℕ) (admitted old : List ℕ) → ink ≡ 0 → LaysSpan Overprint from (replicate (length admitted) ink) admitted old old
+LaysSpan_none from ink admitted old none = record {
+  long = refl;
+  inside = λ j within.
+      both (get_or admitted j 0 == 0) (get_or old (from + j) 0)
+      ∙ sym (ap (λ p. laid_where Overprint (get_or admitted j 0) p (get_or old (from + j) 0)) (get_or-replicate (length admitted) j ink 0 within ∙ none));
+  before = λ x below. refl;
+  behind = λ x above. refl;
+}
+
+-- and one of some ink knocks out
+pub LaysSpan_overprint : (from ink : ℕ) (admitted old new : List ℕ) → ink ≢ 0 → LaysSpan Knockout from (replicate (length admitted) ink) admitted old new → LaysSpan Overprint from (replicate (length admitted) ink) admitted old new
+LaysSpan_overprint from ink admitted old new some laid = record {
+  long = laid.long;
+  inside = λ j within.
+      let value = get_or-replicate (length admitted) j ink 0 within in
+      laid.inside j within
+      ∙ ap (λ t. if get_or admitted j 0 == 0 then get_or old (from + j) 0 else if t then get_or old (from + j) 0 else get_or (replicate (length admitted) ink) j 0)
+      (sym (ap (λ p. p == 0) value ∙ ne_eqb ink 0 some));
+  before = laid.before;
+  behind = laid.behind;
+}

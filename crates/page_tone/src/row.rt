@@ -1,0 +1,102 @@
+// The limit on the ink of each pixel of a row.
+ghost use Rattle.std.specs.Prelude.{◌≡◌, ℕ, ◌+◌, ◌<◌, ◌≤◌, length, slice_index};
+ghost use Rattle.page_tone.specs.Limit.{AreLimited, HasLimited};
+
+use crate::limit::limit_inks;
+
+/// How many pixels are tested at once whether one of them has more ink than the limit.
+const BLOCK: usize = 64;
+
+/// Limits the ink of each pixel of a row, whose values stand at one place of four rows, as `limit_inks` does.
+pub fn limit_row(
+    limit: u16,
+    cyan: &mut [u8],
+    magenta: &mut [u8],
+    yellow: &mut [u8],
+    black: &mut [u8],
+)
+    requires limit { limit ≤ 1020 }
+    requires magenta { length magenta.old ≡ length cyan.old }
+    requires yellow { length yellow.old ≡ length cyan.old }
+    requires black { length black.old ≡ length cyan.old }
+    ensures { AreLimited limit cyan.old magenta.old yellow.old black.old
+        cyan.new magenta.new yellow.new black.new }
+{
+    let width = cyan.len();
+    for block in 0..width / BLOCK + 1 {
+        let from = BLOCK * block;
+        let to = (from + BLOCK).min(width);
+        limit_block(limit, from, to, cyan, magenta, yellow, black);
+    }
+}
+
+/// Limits the ink of the pixels from column `from` on, as far as `to`. Where none has more than the limit,
+/// nothing is written.
+fn limit_block(
+    limit: u16,
+    from: usize,
+    to: usize,
+    cyan: &mut [u8],
+    magenta: &mut [u8],
+    yellow: &mut [u8],
+    black: &mut [u8],
+)
+    requires limit { limit ≤ 1020 }
+    requires from { from ≤ to }
+    requires to { to ≤ length cyan.old }
+    requires magenta { length magenta.old ≡ length cyan.old }
+    requires yellow { length yellow.old ≡ length cyan.old }
+    requires black { length black.old ≡ length cyan.old }
+    ensures { HasLimited limit from to cyan.old magenta.old yellow.old black.old
+        cyan.new magenta.new yellow.new black.new }
+{
+    if most_ink(from, to, cyan, magenta, yellow, black) > limit {
+        limit_pixels(limit, from, to, cyan, magenta, yellow, black);
+    }
+}
+
+/// No pixel from column `from` on, as far as `to`, has more ink than this.
+fn most_ink(from: usize, to: usize, cyan: &[u8], magenta: &[u8], yellow: &[u8], black: &[u8]) -> u16
+    requires to { to ≤ length cyan.now }
+    requires magenta { length magenta.now ≡ length cyan.now }
+    requires yellow { length yellow.now ≡ length cyan.now }
+    requires black { length black.now ≡ length cyan.now }
+    ensures { (x : ℕ) → from ≤ x → x < to →
+        slice_index cyan.now x + slice_index magenta.now x + slice_index yellow.now x
+        + slice_index black.now x ≤ result }
+{
+    let mut most = 0;
+    for x in from..to {
+        most = most.max(cyan[x] as u16 + magenta[x] as u16 + yellow[x] as u16 + black[x] as u16);
+    }
+    most
+}
+
+/// Limits the ink of the pixels from column `from` on, as far as `to`.
+fn limit_pixels(
+    limit: u16,
+    from: usize,
+    to: usize,
+    cyan: &mut [u8],
+    magenta: &mut [u8],
+    yellow: &mut [u8],
+    black: &mut [u8],
+)
+    requires limit { limit ≤ 1020 }
+    requires from { from ≤ to }
+    requires to { to ≤ length cyan.old }
+    requires magenta { length magenta.old ≡ length cyan.old }
+    requires yellow { length yellow.old ≡ length cyan.old }
+    requires black { length black.old ≡ length cyan.old }
+    ensures { HasLimited limit from to cyan.old magenta.old yellow.old black.old
+        cyan.new magenta.new yellow.new black.new }
+{
+    for x in from..to {
+        let inks = [cyan[x], magenta[x], yellow[x], black[x]];
+        let [c, m, y, k] = limit_inks(inks, limit);
+        cyan[x] = c;
+        magenta[x] = m;
+        yellow[x] = y;
+        black[x] = k;
+    }
+}
