@@ -93,14 +93,6 @@ job_counts tell racks racks' front front' rest is is' same keep =
     (subst (λ (old : List RackTells). KeepCounts old (map tell front' ++ map tell rest)) (sym (wide tell racks front rest is))
     (counts_wide (map tell front) (map tell front') (map tell rest) (length-map front' tell ∙ same ∙ sym (length-map front tell)) keep))
 
-pub job_others : {X : Type 0} (n : ℕ) (racks racks' front front' rest : List X) → racks ≡ front ++ rest → racks' ≡ front' ++ rest → length front ≡ n → length front' ≡ length front → drop n racks' ≡ drop n racks
-job_others n racks racks' front front' rest is is' long same =
-    ap (drop n) is' ∙ ap (λ k. drop k (front' ++ rest)) (sym (same ∙ long)) ∙ behind front' rest
-    ∙ sym (ap (drop n) is ∙ ap (λ k. drop k (front ++ rest)) (sym long) ∙ behind front rest) where
-      behind : {X : Type 0} (xs ys : List X) → drop (length xs) (xs ++ ys) ≡ ys
-      behind [] ys = refl
-      behind (x ∷ xs) ys = behind xs ys
-
 pub job_idle : {X : Type 0} (tell : X → RackTells) (count : ℕ) (racks front rest : List X) → racks ≡ front ++ rest → length front ≡ count → AreIdle count (map tell racks) → AreIdle count (map tell front)
 job_idle tell count racks front rest is long idle =
     idle_front count (map tell front) (map tell rest) (length-map front tell ∙ long) (subst (λ (list : List RackTells). AreIdle count list) (wide tell racks front rest is) idle)

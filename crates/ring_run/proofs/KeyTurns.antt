@@ -21,10 +21,10 @@ use Rattle.ink_keys.specs.Plates.{AreKeyCounts, CountsPlan}
 use Rattle.ink_keys.specs.Turn.{AreRowsOf, CountsRows, KeyReaderData}
 use Rattle.ink_keys.proofs.Plates.{bounded-first, plates-are}
 use Rattle.ink_keys.proofs.Turning.{counted-both, none-counted}
+use Rattle.ring_turns.specs.Pairs.{AreTurned, MayAllTurn}
 use Rattle.ring_run.specs.declared.site_end.SiteEnd.{SiteEnd}
 use Rattle.ring_run.specs.Counting.{AreSameKeys, Counted, HasCounted, HaveCounted, IsCounting, IsSameKey, MayAllCount, MayCount, same_again, zeros_of}
 use Rattle.ring_run.specs.Keyed.{AllKeysFit, AreFreshKeys, IsFreshKey, KeysFit}
-use Rattle.ring_run.specs.Pairs.{AreTurned, MayAllTurn}
 use Rattle.ring_run.specs.Round.{AreEndsOf, AreTold, IsTold}
 use Rattle.ring_run.specs.Seat.{SeatData, all_readers, are_going, is_going}
 use Rattle.ring_run.specs.Served.{ends_in}
@@ -152,10 +152,6 @@ same_keys_again olds mids news count first next i old new there there' =
     let mid : KeyReaderData = get_or mids i old in
     let mid-at : slice_get mids i ≡ Some mid = slice_get-get_or mids i old (omega (arith, inside, count)) in
     same_again old mid new (first i old mid there mid-at) (next i mid new mid-at there')
-
-pub same_keys : (keys : List KeyReaderData) → AreSameKeys keys keys
-same_keys keys i old new there there' =
-    subst (λ (key : KeyReaderData). IsSameKey old key) (same_Some old new (sym there ∙ there')) (record { rows = refl; counts = refl })
 
 -- ---- behind the last row
 

@@ -7,9 +7,9 @@ use Rattle.ring_lanes.specs.Reader.{ReaderState}
 use Rattle.ring_lanes.specs.Writer.{WriterState}
 use Rattle.pr_rack.specs.Told.{RackTells}
 use Rattle.ink_keys.specs.Turn.{KeyReaderData}
+use Rattle.ring_turns.specs.Feeding.{Fed, MayFeed}
+use Rattle.ring_turns.specs.Pairs.{AreTurned, MayAllTurn}
 use Rattle.ring_run.specs.Counting.{AreSameKeys, Counted, IsCounting}
-use Rattle.ring_run.specs.Feeding.{Fed, MayFeed}
-use Rattle.ring_run.specs.Pairs.{AreTurned, MayAllTurn}
 use Rattle.ring_run.specs.Round.{AreAtTable, AreEndsOf, AreTold, IsSeatTold, IsTold, KnowsAll, KnowsMore, StaySeated, to_do}
 use Rattle.ring_run.specs.Seat.{SeatData, all_readers, is_going}
 use Rattle.ring_run.specs.Served.{Turned}

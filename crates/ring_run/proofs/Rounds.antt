@@ -13,10 +13,10 @@ use Rattle.ring_lanes.specs.Reader.{ReaderState}
 use Rattle.ring_lanes.specs.Writer.{HasRoom, IsLoaded, OthersStand, WriterState, cursor_known}
 use Rattle.pr_rack.specs.Told.{RackTells}
 use Rattle.site_agent.proofs.Racks.{slice_get-behind, slice_get-front}
+use Rattle.ring_turns.specs.Feeding.{Fed}
+use Rattle.ring_turns.specs.Pairs.{AreTurned}
 use Rattle.ring_run.specs.declared.site.RunSite.{RunSite}
-use Rattle.ring_run.specs.Feeding.{Fed}
 use Rattle.ring_run.specs.Fits.{Delivery}
-use Rattle.ring_run.specs.Pairs.{AreTurned}
 use Rattle.ring_run.specs.Round.{AreEndsOf, AreTold, IsEndOf, IsSeatTold, IsTold, Knows, KnowsAll, KnowsMore, StaySeated, all_to_take, to_do}
 use Rattle.ring_run.specs.Seat.{SeatData, all_readers, are_going, is_going, is_stopped}
 use Rattle.ring_run.specs.Served.{AreSomeSeated, Carries, IsSeated, IsServed, SomeSeated, TakesOn, Turned, to_take}
@@ -523,11 +523,6 @@ stay_then old mid new were are last more more' writer same mids first ends ends'
     let t-at : slice_get mid i ≡ Some t = slice_get-get_or mid i now (omega (arith, within, mids)) in
     next delivery i before t now m is (subst (λ (r : RingNumbers). Carries delivery r) ((seat_end first were more i was ends wt).ring ∙ sym ring ∙ sym (seat_end writer are more' i m ends' m-at).ring) carries) t-at nt m-at it
     (stay delivery i before told t was m carries tt' t-at wt m-at seated)
-
-pub stay_none : (tells : List RackTells) (seats : List SeatData) → StaySeated tells tells seats seats
-stay_none tells seats delivery i before told now was is carries tt' nt wt it seated =
-    subst (λ (t : RackTells). IsSeated delivery i before t is) (same_Some told now (sym tt' ∙ nt))
-    (subst (λ (s : SeatData). IsSeated delivery i before told s) (same_Some was is (sym wt ∙ it)) seated)
 
 -- where the readers go on, one of them does
 any-map : {X Y : Type 0} (p : Y → Bool) (f : X → Y) (xs : List X) (ys : List Y) → list_any p (map f xs ++ ys) ≡ (list_any (λ x. p (f x)) xs || list_any p ys)

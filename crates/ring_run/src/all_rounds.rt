@@ -1,21 +1,21 @@
 // The rounds of a run, one behind the other.
 ghost use Rattle.std.specs.Prelude.{◌≡◌, ◌<◌, length, false};
 ghost use Rattle.pr_rack.specs.Told.{all_told};
+ghost use Rattle.ring_turns.specs.Feeding.{MayFeed};
+ghost use Rattle.ring_turns.specs.Pairs.{MayAllTurn};
 ghost use Rattle.ring_run.specs.Counting.{AreSameKeys, IsCounting};
-ghost use Rattle.ring_run.specs.Feeding.{MayFeed};
-ghost use Rattle.ring_run.specs.Pairs.{MayAllTurn};
 ghost use Rattle.ring_run.specs.Round.{AreEndsOf, StaySeated};
 ghost use Rattle.ring_run.specs.Seat.{all_readers, are_going as are_going_lem};
 ghost use Rattle.ring_run.specs.Served.{AreSomeSeated};
 
+use crate::counting::RunKeyReader;
 use crate::round::round;
 use crate::seat::Seat;
 use crate::seats::are_going;
-use crate::side_by_side::Pace;
-use ink_keys::KeyReader;
 use pr_base::{Deal, RowFeed};
 use pr_rack::Rack;
 use ring_lanes::{Reader, Writer};
+use ring_turns::Pace;
 use std::thread::Threads;
 
 /// Round after round, until each site has finished or left and each further reader has all rows, or want of
@@ -27,7 +27,7 @@ pub(crate) fn run_rounds<T: Threads + Sync, D: Deal + Sync, F: RowFeed + Send, R
     seats: &mut [Seat<'_, D>],
     racks: &mut [R],
     more: &mut [Reader<'_, D>],
-    keys: &mut [KeyReader<'_>],
+    keys: &mut [RunKeyReader<'_>],
     patience: u32,
 )
     requires feed { MayFeed (F.left feed.old) writer.old }

@@ -1,11 +1,41 @@
-// A key reader at a reader's end of a run's ring, and its turn there.
+// A key reader of a run, and its turn at a reader's end of the run's ring.
 ghost use Rattle.std.specs.Prelude.{◌≡◌, ◌<◌};
+ghost use Rattle.ink_keys.specs.Turn.{KeyReaderData};
 ghost use Rattle.ring_run.specs.Counting.{Counted, IsCounting};
 
-use crate::side_by_side::TurnWith;
-use ink_keys::KeyReader;
+use ink_keys::{Counts, KeyReader};
 use pr_base::Deal;
 use ring_lanes::Reader;
+use ring_turns::TurnWith;
+use std::marker::Model;
+
+/// A key reader of a run. Contracts see the key reader.
+#[derive(Drop)]
+pub(crate) struct RunKeyReader<'p> {
+    reader: KeyReader<'p>,
+}
+
+impl<'p> Model for RunKeyReader<'p> {
+    ghost Value = { KeyReaderData };
+
+    ghost view = { λ key. key.reader };
+}
+
+impl<'p> RunKeyReader<'p> {
+    /// This key reader.
+    pub(crate) fn new(reader: KeyReader<'p>) -> RunKeyReader<'p>
+        ensures { result ≡ reader.entry }
+    {
+        RunKeyReader { reader }
+    }
+
+    /// Its counts.
+    pub(crate) fn into_counts(self) -> Counts
+        ensures { result ≡ self.entry.counts }
+    {
+        self.reader.into_counts()
+    }
+}
 
 /// Counts rows at the reader's end, if rows are still to come.
 fn count_rows<D: Deal>(reader: &mut Reader<'_, D>, key: &mut KeyReader<'_>, patience: u32)
@@ -18,7 +48,7 @@ fn count_rows<D: Deal>(reader: &mut Reader<'_, D>, key: &mut KeyReader<'_>, pati
     }
 }
 
-impl<'r, 'p, D: Deal> TurnWith<KeyReader<'p>> for Reader<'r, D> {
+impl<'r, 'p, D: Deal> TurnWith<RunKeyReader<'p>> for Reader<'r, D> {
     ghost use Rattle.ring_run.specs.Counting.{counted_again, may_count_again};
 
     ghost may = { λ reader key. IsCounting reader key };
@@ -26,8 +56,8 @@ impl<'r, 'p, D: Deal> TurnWith<KeyReader<'p>> for Reader<'r, D> {
     ghost turned = { λ was old is new. Counted was old is new };
 
     /// The turn of the key reader that sits here.
-    fn turn(&mut self, key: &mut KeyReader<'p>, patience: u32) {
-        count_rows(self, key, patience);
+    fn turn(&mut self, key: &mut RunKeyReader<'p>, patience: u32) {
+        count_rows(self, &mut key.reader, patience);
     }
 
     ghost may_again = { λ x x' y y' first. may_count_again x x' y y' };

@@ -9,8 +9,8 @@ ghost use Rattle.ring_run.specs.Keyed.{AllKeysFit, AreFreshKeys};
 ghost use Rattle.ring_run.specs.Served.{IsRun};
 
 use crate::Outcome;
+use crate::counting::RunKeyReader;
 use crate::rows::Run;
-use ink_keys::KeyReader;
 use pr_base::{NoMemory, RowFeed};
 use pr_rack::Rack;
 use press_feed::{Feed, Job};
@@ -19,8 +19,8 @@ use std::thread::Threads;
 
 /// Delivers the plates of a job, each site's to the rack of its number, with paths below the folder `out`.
 /// A site whose rack fails leaves, and the others go on. The rows pass from one writer to the sites through a
-/// ring of `ring` places; all work side by side, in rounds, and in its turn of a round each looks `patience`
-/// times in vain for a row or a place.
+/// ring of `ring` places; all work side by side, in rounds, and in its turn of a round each looks at most
+/// `patience` times in vain for a row or a place; sites that share a thread do so together.
 pub fn run_job<T: Threads + Sync, R: Rack + Send>(
     rt: &T,
     alloc: Global,
@@ -69,7 +69,7 @@ pub(crate) fn run_fed<T: Threads + Sync, F: RowFeed + Send, R: Rack + Send>(
     job: &Job,
     feed: &mut F,
     racks: &mut [R],
-    keys: &mut [KeyReader<'_>],
+    keys: &mut [RunKeyReader<'_>],
 ) -> Result<Outcome, NoMemory>
     requires run { IsRun run.now.plan.now run.now.rows.now run.now.ring run.now.patience }
     requires plan { run.now.plan.now ≡ job.now.plan }

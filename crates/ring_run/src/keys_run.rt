@@ -9,6 +9,7 @@ ghost use Rattle.ring_run.specs.Fits.{RunFits, RunPart, by_ring};
 ghost use Rattle.ring_run.specs.Keyed.{KeysFit};
 
 use crate::Outcome;
+use crate::counting::RunKeyReader;
 use crate::job_run::run_fed;
 use crate::rows::Run;
 use ink_keys::{Counts, KeyReader};
@@ -77,18 +78,18 @@ fn one_reader<'p>(
     alloc: Global,
     rows: &'p RowPlan,
     counts: Counts,
-) -> Result<Vec<KeyReader<'p>>, NoMemory>
+) -> Result<Vec<RunKeyReader<'p>>, NoMemory>
     requires { counts.groups ≡ length rows.now.groups }
     ensures { IfOk result (λ readers.
         readers.items ≡ record { rows = rows.now; counts = counts } ∷ []) }
 {
     let mut readers = Vec::new(alloc);
-    readers.push(KeyReader::new(rows, counts))?;
+    readers.push(RunKeyReader::new(KeyReader::new(rows, counts)))?;
     Ok(readers)
 }
 
 /// The counts of the one key reader of a list.
-fn counts_of(mut readers: Vec<KeyReader<'_>>) -> Counts
+fn counts_of(mut readers: Vec<RunKeyReader<'_>>) -> Counts
     requires one { length readers.items ≡ 1 }
     ensures its { (key : KeyReaderData) → slice_get readers.entry.items 0 ≡ Some key
         → result ≡ key.counts }

@@ -3,22 +3,21 @@
 ghost use Rattle.std.specs.Prelude.{◌≡◌, ◌<◌, length, true};
 ghost use Rattle.std.specs.List.{list_any};
 ghost use Rattle.pr_rack.specs.Told.{all_told};
+ghost use Rattle.ring_turns.specs.Feeding.{MayFeed};
+ghost use Rattle.ring_turns.specs.Pairs.{MayAllTurn};
 ghost use Rattle.ring_run.specs.Counting.{AreSameKeys, IsCounting};
-ghost use Rattle.ring_run.specs.Feeding.{MayFeed};
-ghost use Rattle.ring_run.specs.Pairs.{MayAllTurn};
 ghost use Rattle.ring_run.specs.Round.{AreAtTable, AreEndsOf, AreTold, KnowsAll, KnowsMore};
 ghost use Rattle.ring_run.specs.Round.{StaySeated, to_do};
 ghost use Rattle.ring_run.specs.Seat.{all_readers, is_going};
 ghost use Rattle.ring_run.specs.Served.{AreSomeSeated};
 
 use crate::at_end::AtEnd;
-use crate::further::turn_all;
+use crate::counting::RunKeyReader;
 use crate::seat::Seat;
-use crate::side_by_side::Pace;
-use ink_keys::KeyReader;
 use pr_base::{Deal, RowFeed};
 use pr_rack::Rack;
 use ring_lanes::{Reader, Writer};
+use ring_turns::{Pace, turn_all};
 use std::thread::Threads;
 
 /// Hands a note of each reader to the writer, also of one that has left.
@@ -54,7 +53,7 @@ pub(crate) fn round<T: Threads + Sync, D: Deal + Sync, F: RowFeed + Send, R: Rac
     seats: &mut [Seat<'_, D>],
     racks: &mut [R],
     more: &mut [Reader<'_, D>],
-    keys: &mut [KeyReader<'_>],
+    keys: &mut [RunKeyReader<'_>],
     pace: Pace,
 )
     requires feed { MayFeed (F.left feed.old) writer.old }

@@ -4,19 +4,19 @@ ghost use Rattle.tif_packbits.specs.Frame.{framed_row};
 ghost use Rattle.pr_rack.specs.Told.{all_told};
 ghost use Rattle.ring_rule.specs.Views.{ring_of};
 ghost use Rattle.site_agent.specs.Racks.{AllTellSlots, AreIdle, KeepCounts};
+ghost use Rattle.ring_turns.specs.Feeding.{HasRows, MayFeed};
+ghost use Rattle.ring_turns.specs.Pairs.{MayAllTurn};
 ghost use Rattle.ring_run.specs.Counting.{HaveCounted, IsCounting, MayAllCount};
-ghost use Rattle.ring_run.specs.Feeding.{HasRows, MayFeed};
 ghost use Rattle.ring_run.specs.Fits.{RunFits, RunPart, by_ring};
-ghost use Rattle.ring_run.specs.Pairs.{MayAllTurn};
 ghost use Rattle.ring_run.specs.Round.{AreEndsOf};
 ghost use Rattle.ring_run.specs.Seat.{all_readers};
 ghost use Rattle.ring_run.specs.Served.{AreSomeSeated, Carries, FitsFrom, IsRun, StopsFrom};
 
 use crate::SiteEnd;
 use crate::all_rounds::run_rounds;
+use crate::counting::RunKeyReader;
 use crate::ends::{ends_of, seats_of};
 use crate::seat::Seat;
-use ink_keys::KeyReader;
 use plan_json::Plan;
 use plan_rows::RowPlan;
 use pr_base::{Deal, NoMemory, RowFeed};
@@ -55,7 +55,7 @@ impl Run<'_> {
         mut seats: Vec<Seat<'_, D>>,
         racks: &mut [R],
         mut more: Vec<Reader<'_, D>>,
-        keys: &mut [KeyReader<'_>],
+        keys: &mut [RunKeyReader<'_>],
     ) -> Result<Vec<SiteEnd>, NoMemory>
         requires run { IsRun self.now.plan.now self.now.rows.now self.now.ring self.now.patience }
         requires feed { MayFeed (F.left feed.old) writer.old }
@@ -93,7 +93,7 @@ impl Run<'_> {
         table: &mut Ring<'_, D>,
         feed: &mut F,
         racks: &mut [R],
-        keys: &mut [KeyReader<'_>],
+        keys: &mut [RunKeyReader<'_>],
     ) -> Result<Vec<SiteEnd>, NoMemory>
         requires run { IsRun self.now.plan.now self.now.rows.now self.now.ring self.now.patience }
         requires fresh { table.old.fresh ≡ true }
@@ -138,7 +138,7 @@ impl Run<'_> {
         deal: &D,
         feed: &mut F,
         racks: &mut [R],
-        keys: &mut [KeyReader<'_>],
+        keys: &mut [RunKeyReader<'_>],
     ) -> Result<Vec<SiteEnd>, NoMemory>
         requires run { IsRun self.now.plan.now self.now.rows.now self.now.ring self.now.patience }
         requires carries { Carries

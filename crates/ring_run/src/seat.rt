@@ -4,11 +4,11 @@ ghost use Rattle.pr_rack.specs.Told.{told};
 ghost use Rattle.ring_run.specs.Seat.{SeatData, is_stopped as is_stopped_lem};
 
 use crate::at_end::AtEnd;
-use crate::side_by_side::TurnWith;
 use crate::site::RunSite;
 use pr_base::Deal;
 use pr_rack::Rack;
 use ring_lanes::{CursorNote, Reader, Writer};
+use ring_turns::TurnWith;
 use std::marker::Model;
 
 /// A site of a run at its reader's end of the ring. Contracts see the end, and how far the site is.

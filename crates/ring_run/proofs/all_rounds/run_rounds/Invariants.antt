@@ -1,8 +1,8 @@
 use Rattle.std.proofs.Common.{◌≡◌}
 use Rattle.pr_rack.specs.Told.{all_told}
+use Rattle.ring_turns.specs.Feeding.{MayFeed}
+use Rattle.ring_turns.specs.Pairs.{MayAllTurn}
 use Rattle.ring_run.specs.Counting.{AreSameKeys, IsCounting}
-use Rattle.ring_run.specs.Feeding.{MayFeed}
-use Rattle.ring_run.specs.Pairs.{MayAllTurn}
 use Rattle.ring_run.specs.Round.{AreEndsOf, StaySeated, to_do}
 use Rattle.ring_run.specs.Seat.{all_readers}
 use Rattle.ring_run.specs.Served.{AreSomeSeated}

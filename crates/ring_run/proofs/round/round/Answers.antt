@@ -1,8 +1,9 @@
 use Rattle.std.proofs.Common.{refl, sym, ap, subst, ◌∙◌}
+use Rattle.ring_rule.specs.declared.view.RingNumbers.{RingNumbers}
 use Rattle.ring_lanes.specs.Reader.{ReaderState}
 use Rattle.ring_lanes.specs.Writer.{WriterState}
 use Rattle.pr_rack.specs.Told.{RackTells, told}
-use Rattle.ring_run.specs.Feeding.{Fed, MayFeed}
+use Rattle.ring_turns.specs.Feeding.{Fed, HasRows, MayFeed}
 use Rattle.ring_run.specs.Round.{AreTold, IsSeatTold, IsTold, KnowsAll}
 use Rattle.ring_run.specs.Seat.{SeatData}
 use Rattle.ring_run.proofs.KeyTurns.{may_count}
@@ -53,8 +54,8 @@ turn_all-requires-clause-may_further g c κs within =
     may_count c.tell_readers.new.writer c.args.more.now c.tell_readers-2.new.ends c.args.keys.now (c.tell_readers-2.auto.ends ∙ c.tell_writer-2.auto.ends)
     (subst (λ (s : _). AreTold IsTold c.tell_readers.new.writer s c.tell_readers-2.new.ends) c.tell_writer-2.ensures.ends c.tell_readers-2.ensures.told) c.requires.counting
 
-pub returns-clause-ring : goal.returns-clause-ring
-returns-clause-ring g c =
+pub returns : goal.returns
+returns g c =
     let tell : g.row.R.Denot → RackTells = told g.R.Rack in
     let w = c.args.writer.now in
     let noted = c.tell_writer-2.new.writer in
@@ -72,109 +73,12 @@ returns-clause-ring g c =
     (subst (λ (s : _). AreTold IsTold c.tell_readers.new.writer s c.tell_readers-2.new.ends) more-are c.tell_readers-2.ensures.told))
     c.turn_all.auto.all c.turn_all.auto.further c.turn_all.auto.others c.turn_all.auto.theirs c.turn_all.ensures.turned c.turn_all.ensures.further
     (subst (λ (w' : WriterState). Fed (g.F.RowFeed.left c.turn_all.new.its) w' c.turn_all.new.one) (c.tell_readers-2.ensures.same ∙ heard) c.turn_all.ensures.one) in
-    leaves.ring
-
-pub returns-clause-ends : goal.returns-clause-ends
-returns-clause-ends g c =
-    let tell : g.row.R.Denot → RackTells = told g.R.Rack in
-    let w = c.args.writer.now in
-    let noted = c.tell_writer-2.new.writer in
-    let seats-are = c.tell_writer.ensures.ends in
-    let more-are = c.tell_writer-2.ensures.ends in
-    let same = noted_both w c.tell_writer.new.writer noted c.tell_writer.ensures.same c.tell_writer-2.ensures.same in
-    let heard = c.tell_readers.ensures.same in
-    let leaves = round_leaves tell (g.F.RowFeed.left c.turn_all.new.its) w noted c.turn_all.new.one c.tell_writer.new.writer.known c.args.seats.now c.tell_readers.new.ends c.turn_all.new.all c.args.more.now c.tell_readers-2.new.ends
-    c.turn_all.new.further c.args.racks.now c.turn_all.new.others c.args.keys.now c.turn_all.new.theirs c.requires.ends c.requires.places c.requires.count c.requires.more same
-    (subst (λ (s : _). KnowsAll (λ (seat : SeatData). seat.reader) c.tell_writer.new.writer.known s) seats-are c.tell_writer.ensures.knows) c.tell_writer-2.ensures.more
-    (subst (λ (s : _). KnowsAll (λ (reader : ReaderState). reader) noted.known s) more-are c.tell_writer-2.ensures.knows)
-    (c.tell_readers.auto.ends ∙ c.tell_writer.auto.ends) (c.tell_readers-2.auto.ends ∙ c.tell_writer-2.auto.ends)
-    (subst (λ (s : _). AreTold IsSeatTold noted s c.tell_readers.new.ends) seats-are c.tell_readers.ensures.told)
-    (subst (λ (w' : WriterState). AreTold IsTold w' c.args.more.now c.tell_readers-2.new.ends) heard
-    (subst (λ (s : _). AreTold IsTold c.tell_readers.new.writer s c.tell_readers-2.new.ends) more-are c.tell_readers-2.ensures.told))
-    c.turn_all.auto.all c.turn_all.auto.further c.turn_all.auto.others c.turn_all.auto.theirs c.turn_all.ensures.turned c.turn_all.ensures.further
-    (subst (λ (w' : WriterState). Fed (g.F.RowFeed.left c.turn_all.new.its) w' c.turn_all.new.one) (c.tell_readers-2.ensures.same ∙ heard) c.turn_all.ensures.one) in
-    leaves.ends
-
-pub returns-clause-seated : goal.returns-clause-seated
-returns-clause-seated g c =
-    let tell : g.row.R.Denot → RackTells = told g.R.Rack in
-    let w = c.args.writer.now in
-    let noted = c.tell_writer-2.new.writer in
-    let seats-are = c.tell_writer.ensures.ends in
-    let more-are = c.tell_writer-2.ensures.ends in
-    let same = noted_both w c.tell_writer.new.writer noted c.tell_writer.ensures.same c.tell_writer-2.ensures.same in
-    let heard = c.tell_readers.ensures.same in
-    let leaves = round_leaves tell (g.F.RowFeed.left c.turn_all.new.its) w noted c.turn_all.new.one c.tell_writer.new.writer.known c.args.seats.now c.tell_readers.new.ends c.turn_all.new.all c.args.more.now c.tell_readers-2.new.ends
-    c.turn_all.new.further c.args.racks.now c.turn_all.new.others c.args.keys.now c.turn_all.new.theirs c.requires.ends c.requires.places c.requires.count c.requires.more same
-    (subst (λ (s : _). KnowsAll (λ (seat : SeatData). seat.reader) c.tell_writer.new.writer.known s) seats-are c.tell_writer.ensures.knows) c.tell_writer-2.ensures.more
-    (subst (λ (s : _). KnowsAll (λ (reader : ReaderState). reader) noted.known s) more-are c.tell_writer-2.ensures.knows)
-    (c.tell_readers.auto.ends ∙ c.tell_writer.auto.ends) (c.tell_readers-2.auto.ends ∙ c.tell_writer-2.auto.ends)
-    (subst (λ (s : _). AreTold IsSeatTold noted s c.tell_readers.new.ends) seats-are c.tell_readers.ensures.told)
-    (subst (λ (w' : WriterState). AreTold IsTold w' c.args.more.now c.tell_readers-2.new.ends) heard
-    (subst (λ (s : _). AreTold IsTold c.tell_readers.new.writer s c.tell_readers-2.new.ends) more-are c.tell_readers-2.ensures.told))
-    c.turn_all.auto.all c.turn_all.auto.further c.turn_all.auto.others c.turn_all.auto.theirs c.turn_all.ensures.turned c.turn_all.ensures.further
-    (subst (λ (w' : WriterState). Fed (g.F.RowFeed.left c.turn_all.new.its) w' c.turn_all.new.one) (c.tell_readers-2.ensures.same ∙ heard) c.turn_all.ensures.one) in
-    leaves.seated
-
-pub returns-clause-counting : goal.returns-clause-counting
-returns-clause-counting g c =
-    let tell : g.row.R.Denot → RackTells = told g.R.Rack in
-    let w = c.args.writer.now in
-    let noted = c.tell_writer-2.new.writer in
-    let seats-are = c.tell_writer.ensures.ends in
-    let more-are = c.tell_writer-2.ensures.ends in
-    let same = noted_both w c.tell_writer.new.writer noted c.tell_writer.ensures.same c.tell_writer-2.ensures.same in
-    let heard = c.tell_readers.ensures.same in
-    let leaves = round_leaves tell (g.F.RowFeed.left c.turn_all.new.its) w noted c.turn_all.new.one c.tell_writer.new.writer.known c.args.seats.now c.tell_readers.new.ends c.turn_all.new.all c.args.more.now c.tell_readers-2.new.ends
-    c.turn_all.new.further c.args.racks.now c.turn_all.new.others c.args.keys.now c.turn_all.new.theirs c.requires.ends c.requires.places c.requires.count c.requires.more same
-    (subst (λ (s : _). KnowsAll (λ (seat : SeatData). seat.reader) c.tell_writer.new.writer.known s) seats-are c.tell_writer.ensures.knows) c.tell_writer-2.ensures.more
-    (subst (λ (s : _). KnowsAll (λ (reader : ReaderState). reader) noted.known s) more-are c.tell_writer-2.ensures.knows)
-    (c.tell_readers.auto.ends ∙ c.tell_writer.auto.ends) (c.tell_readers-2.auto.ends ∙ c.tell_writer-2.auto.ends)
-    (subst (λ (s : _). AreTold IsSeatTold noted s c.tell_readers.new.ends) seats-are c.tell_readers.ensures.told)
-    (subst (λ (w' : WriterState). AreTold IsTold w' c.args.more.now c.tell_readers-2.new.ends) heard
-    (subst (λ (s : _). AreTold IsTold c.tell_readers.new.writer s c.tell_readers-2.new.ends) more-are c.tell_readers-2.ensures.told))
-    c.turn_all.auto.all c.turn_all.auto.further c.turn_all.auto.others c.turn_all.auto.theirs c.turn_all.ensures.turned c.turn_all.ensures.further
-    (subst (λ (w' : WriterState). Fed (g.F.RowFeed.left c.turn_all.new.its) w' c.turn_all.new.one) (c.tell_readers-2.ensures.same ∙ heard) c.turn_all.ensures.one) in
-    leaves.counting
-
-pub returns-clause-keys : goal.returns-clause-keys
-returns-clause-keys g c =
-    let tell : g.row.R.Denot → RackTells = told g.R.Rack in
-    let w = c.args.writer.now in
-    let noted = c.tell_writer-2.new.writer in
-    let seats-are = c.tell_writer.ensures.ends in
-    let more-are = c.tell_writer-2.ensures.ends in
-    let same = noted_both w c.tell_writer.new.writer noted c.tell_writer.ensures.same c.tell_writer-2.ensures.same in
-    let heard = c.tell_readers.ensures.same in
-    let leaves = round_leaves tell (g.F.RowFeed.left c.turn_all.new.its) w noted c.turn_all.new.one c.tell_writer.new.writer.known c.args.seats.now c.tell_readers.new.ends c.turn_all.new.all c.args.more.now c.tell_readers-2.new.ends
-    c.turn_all.new.further c.args.racks.now c.turn_all.new.others c.args.keys.now c.turn_all.new.theirs c.requires.ends c.requires.places c.requires.count c.requires.more same
-    (subst (λ (s : _). KnowsAll (λ (seat : SeatData). seat.reader) c.tell_writer.new.writer.known s) seats-are c.tell_writer.ensures.knows) c.tell_writer-2.ensures.more
-    (subst (λ (s : _). KnowsAll (λ (reader : ReaderState). reader) noted.known s) more-are c.tell_writer-2.ensures.knows)
-    (c.tell_readers.auto.ends ∙ c.tell_writer.auto.ends) (c.tell_readers-2.auto.ends ∙ c.tell_writer-2.auto.ends)
-    (subst (λ (s : _). AreTold IsSeatTold noted s c.tell_readers.new.ends) seats-are c.tell_readers.ensures.told)
-    (subst (λ (w' : WriterState). AreTold IsTold w' c.args.more.now c.tell_readers-2.new.ends) heard
-    (subst (λ (s : _). AreTold IsTold c.tell_readers.new.writer s c.tell_readers-2.new.ends) more-are c.tell_readers-2.ensures.told))
-    c.turn_all.auto.all c.turn_all.auto.further c.turn_all.auto.others c.turn_all.auto.theirs c.turn_all.ensures.turned c.turn_all.ensures.further
-    (subst (λ (w' : WriterState). Fed (g.F.RowFeed.left c.turn_all.new.its) w' c.turn_all.new.one) (c.tell_readers-2.ensures.same ∙ heard) c.turn_all.ensures.one) in
-    leaves.same
-
-pub returns-clause-falls : goal.returns-clause-falls
-returns-clause-falls g c =
-    let tell : g.row.R.Denot → RackTells = told g.R.Rack in
-    let w = c.args.writer.now in
-    let noted = c.tell_writer-2.new.writer in
-    let seats-are = c.tell_writer.ensures.ends in
-    let more-are = c.tell_writer-2.ensures.ends in
-    let same = noted_both w c.tell_writer.new.writer noted c.tell_writer.ensures.same c.tell_writer-2.ensures.same in
-    let heard = c.tell_readers.ensures.same in
-    let leaves = round_leaves tell (g.F.RowFeed.left c.turn_all.new.its) w noted c.turn_all.new.one c.tell_writer.new.writer.known c.args.seats.now c.tell_readers.new.ends c.turn_all.new.all c.args.more.now c.tell_readers-2.new.ends
-    c.turn_all.new.further c.args.racks.now c.turn_all.new.others c.args.keys.now c.turn_all.new.theirs c.requires.ends c.requires.places c.requires.count c.requires.more same
-    (subst (λ (s : _). KnowsAll (λ (seat : SeatData). seat.reader) c.tell_writer.new.writer.known s) seats-are c.tell_writer.ensures.knows) c.tell_writer-2.ensures.more
-    (subst (λ (s : _). KnowsAll (λ (reader : ReaderState). reader) noted.known s) more-are c.tell_writer-2.ensures.knows)
-    (c.tell_readers.auto.ends ∙ c.tell_writer.auto.ends) (c.tell_readers-2.auto.ends ∙ c.tell_writer-2.auto.ends)
-    (subst (λ (s : _). AreTold IsSeatTold noted s c.tell_readers.new.ends) seats-are c.tell_readers.ensures.told)
-    (subst (λ (w' : WriterState). AreTold IsTold w' c.args.more.now c.tell_readers-2.new.ends) heard
-    (subst (λ (s : _). AreTold IsTold c.tell_readers.new.writer s c.tell_readers-2.new.ends) more-are c.tell_readers-2.ensures.told))
-    c.turn_all.auto.all c.turn_all.auto.further c.turn_all.auto.others c.turn_all.auto.theirs c.turn_all.ensures.turned c.turn_all.ensures.further
-    (subst (λ (w' : WriterState). Fed (g.F.RowFeed.left c.turn_all.new.its) w' c.turn_all.new.one) (c.tell_readers-2.ensures.same ∙ heard) c.turn_all.ensures.one) in
-    leaves.falls
+    record {
+      feed = record { feed = c.turn_all.ensures.one.feed; rows = subst (λ (r : RingNumbers). HasRows r) (sym leaves.ring) c.requires.feed.rows };
+      ring = leaves.ring;
+      ends = leaves.ends;
+      seated = leaves.seated;
+      counting = leaves.counting;
+      keys = leaves.same;
+      falls = leaves.falls;
+    }

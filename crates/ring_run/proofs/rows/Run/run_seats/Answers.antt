@@ -1,8 +1,8 @@
 use Rattle.std.proofs.Common.{◌≡◌, length, map, refl, sym, ap, subst, ◌∙◌, arith}
 use Rattle.std.proofs.lemmas.List.{length-map, take_at}
 use Rattle.pr_rack.specs.Told.{RackTells, told}
+use Rattle.ring_turns.specs.Pairs.{MayAllTurn}
 use Rattle.ring_run.specs.Counting.{IsCounting}
-use Rattle.ring_run.specs.Pairs.{MayAllTurn}
 use Rattle.ring_run.specs.Round.{StaySeated}
 use Rattle.ring_run.specs.Served.{ends_in}
 use Rattle.ring_run.proofs.KeyTurns.{have_counted}

@@ -1,9 +1,9 @@
 // The turn of the writer at a ring: it publishes rows of a feed until it would wait too often.
 ghost use Rattle.std.specs.Prelude.{◌≡◌, ◌+◌, ◌<◌, ◌≤◌, ℕ, Some, drop, length, IfErr, OnErr, OnOk};
 ghost use Rattle.ring_lanes.specs.Writer.{HasRoom, IsFull, LooksOnce};
-ghost use Rattle.ring_run.specs.Feeding.{Grows, HasRows, IfWaiting, IsFed, IsKnownWithin, OnDone, SomeJoined, WaitsFor};
+ghost use Rattle.ring_turns.specs.Feeding.{Grows, HasRows, IfWaiting, IsFed, IsKnownWithin, OnDone, SomeJoined, WaitsFor};
 
-use crate::side_by_side::TurnWith;
+use crate::turn::TurnWith;
 use pr_base::{Deal, RowFeed};
 use ring_lanes::{Full, Writer, pause};
 
@@ -90,8 +90,8 @@ fn publish_next<D: Deal, F: RowFeed>(
 }
 
 impl<'r, D: Deal, F: RowFeed> TurnWith<F> for Writer<'r, D> {
-    ghost use Rattle.ring_run.specs.Feeding.{Fed, MayFeed};
-    ghost use Rattle.ring_run.specs.Again.{fed_again, may_feed_again};
+    ghost use Rattle.ring_turns.specs.Feeding.{Fed, MayFeed};
+    ghost use Rattle.ring_turns.specs.Again.{fed_again, may_feed_again};
 
     ghost may = { λ writer feed. MayFeed (F.left feed) writer };
 

@@ -1,10 +1,10 @@
-use Rattle.std.proofs.Common.{◌≡◌, ◌/◌, ℕ, length, arith}
-use Rattle.ring_run.proofs.Halves.{both_turned}
-use Rattle.ring_run.proofs.side_by_side.+halves.Goals as goal
+use Rattle.std.proofs.Common.{◌≡◌, ℕ, length, arith}
+use Rattle.ring_turns.proofs.Halves.{both_turned}
+use Rattle.ring_turns.proofs.side_by_side.+halves.Goals as goal
 
 pub turns-returns : goal.turns-returns
 turns-returns g n = λ c.
-    let half : ℕ = length c.args.all.now / 2 in
+    let half : ℕ = c.share-half.result in
     let x = c.split_at_mut-a.ensures in
     let y = c.split_at_mut-c.ensures in
     let a = c.join_halves.auto.a in

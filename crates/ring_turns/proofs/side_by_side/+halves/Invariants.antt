@@ -1,5 +1,5 @@
 use Rattle.std.proofs.Common.{length, ◌+◌, ◌-◌, ◌*◌}
-use Rattle.ring_run.proofs.side_by_side.+halves.Given as goal
+use Rattle.ring_turns.proofs.side_by_side.+halves.Given as goal
 
 abbrev pub decreases-turns : goal.decreases-turns
 decreases-turns g l = 4 * length l.all.now

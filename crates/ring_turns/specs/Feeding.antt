@@ -2,8 +2,8 @@
 use Rattle.std.specs.Prelude.{◌≡◌, ℕ, zero, suc, ◌+◌, ◌<◌, ◌≤◌, ◌⊎◌, List, length, drop, All, Some, None, slice_index}
 use Rattle.ring_rule.specs.declared.view.RingNumbers.{RingNumbers}
 use Rattle.ring_lanes.specs.Writer.{WriterState, HasRoom, cursor_known}
-use Rattle.ring_run.specs.declared.feeding.FeedEnd.{FeedEnd}
-use Rattle.ring_run.specs.declared.feeding.FeedEnd.TheVariants.{Waiting, Done}
+use Rattle.ring_turns.specs.declared.feeding.FeedEnd.{FeedEnd}
+use Rattle.ring_turns.specs.declared.feeding.FeedEnd.TheVariants.{Waiting, Done}
 
 -- P where the answer is Done
 abbrev pub OnDone : FeedEnd → Type 0 → Type 0

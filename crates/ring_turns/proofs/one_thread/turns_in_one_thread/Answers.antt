@@ -1,5 +1,5 @@
-use Rattle.ring_run.proofs.OneThread.{are_turned_again, may_all_again}
-use Rattle.ring_run.proofs.one_thread.turns_in_one_thread.Goals as goal
+use Rattle.ring_turns.proofs.OneThread.{are_turned_again, may_all_again}
+use Rattle.ring_turns.proofs.one_thread.turns_in_one_thread.Goals as goal
 
 pub loop-pass-init : goal.loop-pass-init
 loop-pass-init g c = record {

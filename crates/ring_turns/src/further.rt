@@ -1,14 +1,16 @@
 // Turns that are taken beside further ones.
 ghost use Rattle.std.specs.Prelude.{◌≡◌, ◌<◌, ℕ, length};
 ghost use Rattle.std.specs.Thread.{IsSync};
-ghost use Rattle.ring_run.specs.Pairs.{AreTurned, MayAllTurn};
+ghost use Rattle.ring_turns.specs.Pairs.{AreTurned, MayAllTurn};
 
-use crate::side_by_side::{Pace, TurnWith, turn_beside, turns};
+use crate::pace::Pace;
+use crate::side_by_side::{turn_beside, turns};
+use crate::turn::TurnWith;
 use std::thread::{Threads, join_mut};
 
 /// A turn of one, and beside it those of all others and the further ones. Where there is no further one, no
 /// join is made for it.
-pub(crate) fn turn_all<T, W, F, X, Y, Z, V>(
+pub fn turn_all<T, W, F, X, Y, Z, V>(
     rt: &T,
     pace: Pace,
     its: &mut F,

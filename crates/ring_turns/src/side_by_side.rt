@@ -1,67 +1,15 @@
 // Turns that are taken side by side, in as many threads as there are processors for them.
 ghost use Rattle.std.specs.Prelude.{◌≡◌, ◌<◌, ℕ, length};
 ghost use Rattle.std.specs.Thread.{IsSync};
-ghost use Rattle.ring_run.specs.Pairs.{AreTurned, MayAllTurn};
+ghost use Rattle.ring_turns.specs.Pairs.{AreTurned, MayAllTurn};
 
 use crate::one_thread::turns_in_one_thread;
-use std::thread::{Threads, available_parallelism, join_mut};
+use crate::pace::Pace;
+use crate::turn::TurnWith;
+use std::thread::{Threads, join_mut};
 
-/// How the turns of a round are taken: how often each may wait in vain, and in how many threads those of all
-/// ends but one are.
-#[derive(Clone, Copy)]
-pub(crate) struct Pace {
-    pub(crate) patience: u32,
-    pub(crate) threads: usize,
-}
-
-impl Pace {
-    /// One thread for each processor but that of the one end, and at least two, since a rack may wait for
-    /// what another one does. Where the processors can't be counted each turn has a thread of its own.
-    pub(crate) fn of<T: Threads>(rt: &T, patience: u32) -> Pace
-        ensures { result.patience ≡ patience }
-    {
-        let threads = match available_parallelism(rt) {
-            Ok(processors) => processors.get().saturating_sub(1).max(2),
-            Err(_) => usize::MAX,
-        };
-        Pace { patience, threads }
-    }
-
-    /// The same in so many threads.
-    fn in_threads(self, threads: usize) -> Pace
-        ensures { result.patience ≡ self.patience }
-    {
-        Pace {
-            patience: self.patience,
-            threads,
-        }
-    }
-}
-
-/// What takes turns, each with a value of its own.
-///
-/// Implementers define `may`, when a turn may be taken, and `turned`, what it leaves.
-pub(crate) trait TurnWith<Y> {
-    ghost may: { Self → Y → Type 0 };
-
-    ghost turned: { Self → Y → Self → Y → Type 0 };
-
-    /// Takes a turn, in which it waits in vain at most so often.
-    fn turn(&mut self, other: &mut Y, patience: u32)
-        requires may { may self.old other.old }
-        requires patience { 0 < patience }
-        ensures { turned self.old other.old self.new other.new };
-
-    /// Behind a turn another one may be taken.
-    ghost may_again: { (x x' : Self) (y y' : Y) → may x y → turned x y x' y' → may x' y' };
-
-    /// A turn behind a turn is one turn.
-    ghost turned_again: { (x x' x'' : Self) (y y' y'' : Y) → turned x y x' y' → turned x' y' x'' y''
-        → turned x y x'' y'' };
-}
-
-/// The turn of each with the other at its index, in so many threads: they are halved until one is left, or
-/// one thread, in which those that are left take turns over and over again.
+/// The turn of each with the other at its index, in so many threads: these are halved until one is left, in
+/// which its share of them take turns over and over again.
 #[cycle(halves)]
 pub(crate) fn turns<T: Threads + Sync, X: TurnWith<Y> + Send, Y: Send>(
     rt: &T,
@@ -83,7 +31,7 @@ pub(crate) fn turns<T: Threads + Sync, X: TurnWith<Y> + Send, Y: Send>(
     if pace.threads < 2 {
         return turns_in_one_thread(others, all, pace.patience);
     }
-    let half = all.len() / 2;
+    let half = pace.share(all.len());
     let (a, b) = all.split_at_mut(half);
     let (c, d) = others.split_at_mut(half);
     join_halves(rt, pace, a, b, c, d);

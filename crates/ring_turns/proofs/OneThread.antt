@@ -2,7 +2,7 @@
 use Rattle.std.proofs.Common.{◌≡◌, ℕ, ◌<◌, ◌≤◌, List, length, get_or, Some, arith}
 use Rattle.std.specs.Prelude.{slice_get}
 use Rattle.std.proofs.lemmas.Option.{slice_get-get_or, slice_get_within}
-use Rattle.ring_run.specs.Pairs.{AreTurned, MayAllTurn}
+use Rattle.ring_turns.specs.Pairs.{AreTurned, MayAllTurn}
 
 -- ---- pairs in one thread
 

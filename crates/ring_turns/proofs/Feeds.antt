@@ -9,7 +9,7 @@ use Rattle.ring_rule.proofs.Numbers.{cursor_is_word, cursor_none}
 use Rattle.ring_rule.specs.Views.{left_word, cursor_in}
 use Rattle.ring_lanes.specs.declared.answer.Full.{Full}
 use Rattle.ring_lanes.specs.Writer.{AreKnown, HasRoom, IsFull, LooksOnce, LooksOnceAt, WriterState, cursor_known, joined_count}
-use Rattle.ring_run.specs.Feeding.{Grows, IsFed, IsKnownWithin, SomeJoined, WaitsFor, loads_of}
+use Rattle.ring_turns.specs.Feeding.{Grows, IsFed, IsKnownWithin, SomeJoined, WaitsFor, loads_of}
 
 -- ---- the next frame
 

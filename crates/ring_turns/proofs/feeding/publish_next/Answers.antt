@@ -1,8 +1,8 @@
 use Rattle.std.proofs.Common.{◌+◌, length, drop, sym, ap, ◌∙◌, arith}
 use Rattle.std.specs.Prelude.{slice_get}
 use Rattle.ring_lanes.specs.Writer.{WriterState}
-use Rattle.ring_run.proofs.Feeds.{fits_next, next_is, rest_is}
-use Rattle.ring_run.proofs.feeding.publish_next.Goals as goal
+use Rattle.ring_turns.proofs.Feeds.{fits_next, next_is, rest_is}
+use Rattle.ring_turns.proofs.feeding.publish_next.Goals as goal
 
 pub next-requires : goal.next-requires
 next-requires g c =

@@ -1,5 +1,5 @@
-use Rattle.ring_run.specs.Pairs.{AreTurned, MayAllTurn}
-use Rattle.ring_run.proofs.one_thread.turns_in_one_thread.Given as goal
+use Rattle.ring_turns.specs.Pairs.{AreTurned, MayAllTurn}
+use Rattle.ring_turns.proofs.one_thread.turns_in_one_thread.Given as goal
 
 abbrev pub invariant-loop-pass : goal.invariant-loop-pass
 invariant-loop-pass g l = record {

@@ -1,0 +1,3 @@
+mod Feeds
+mod Halves
+mod OneThread

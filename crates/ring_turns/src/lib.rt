@@ -1,0 +1,15 @@
+// Turns at a ring: the writer's, and those of any pairs side by side, in as many threads as there are
+// processors for them. Nothing here knows of racks, sites or jobs.
+#![tactic(auto)]
+
+mod feeding;
+mod further;
+mod one_thread;
+mod pace;
+mod side_by_side;
+mod turn;
+
+pub use feeding::{FeedEnd, feed_turn};
+pub use further::turn_all;
+pub use pace::Pace;
+pub use turn::TurnWith;

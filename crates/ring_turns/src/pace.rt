@@ -1,0 +1,50 @@
+// How the turns of a round are taken, and how threads share them.
+ghost use Rattle.std.specs.Prelude.{◌≡◌, ◌<◌, ◌≤◌};
+
+use std::thread::{Threads, available_parallelism};
+
+/// How the turns of a round are taken: how often each may wait in vain, and in how many threads those of all
+/// ends but one are.
+#[derive(Clone, Copy)]
+pub struct Pace {
+    pub patience: u32,
+    pub threads: usize,
+}
+
+impl Pace {
+    /// One thread for each processor but that of the one end, and at least two, since a rack may wait for
+    /// what another one does. Where the processors can't be counted each turn has a thread of its own.
+    pub fn of<T: Threads>(rt: &T, patience: u32) -> Pace
+        ensures { result.patience ≡ patience }
+    {
+        let threads = match available_parallelism(rt) {
+            Ok(processors) => processors.get().saturating_sub(1).max(2),
+            Err(_) => usize::MAX,
+        };
+        Pace { patience, threads }
+    }
+
+    /// The same in so many threads.
+    pub(crate) fn in_threads(self, threads: usize) -> Pace
+        ensures { result.patience ≡ self.patience }
+    {
+        Pace {
+            patience: self.patience,
+            threads,
+        }
+    }
+
+    /// How many of so many ends the first half of the threads take, so that no thread has two ends more than
+    /// another one.
+    pub(crate) fn share(self, ends: usize) -> usize
+        requires threads { 2 ≤ self.threads }
+        requires ends { 2 ≤ ends }
+        ensures some_first { 0 < result }
+        ensures some_last { result < ends }
+    {
+        let threads = self.threads.min(ends);
+        let first = threads / 2;
+        let more = ends % threads;
+        ends / threads * first + more.saturating_sub(threads - first)
+    }
+}
