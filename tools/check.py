@@ -12,15 +12,12 @@ import argparse
 import json
 import os
 import re
-import shutil
 import struct
-import subprocess
 import sys
-import tempfile
 
+from ask import Asked, leave, program_path
 from tiff import Broken, Tiff
 
-HERE = os.path.dirname(os.path.abspath(__file__))
 INKS = "CMYKS"
 PLACES_SHOWN = 3
 # What Python reads as JSON and the program doesn't.
@@ -36,45 +33,13 @@ def bar(items, words):
     return tqdm(items, desc=words, delay=2, leave=False, disable=None)
 
 
-def program_path(given):
-    """Where the program is: as given, else by PLATEROOM, else on the path, else where it is built."""
-    built = os.path.join(HERE, "..", "crates", "plateroom", "out", "plateroom")
-    for path in (given, os.environ.get("PLATEROOM"), shutil.which("plateroom"), built):
-        if path:
-            break
-    if shutil.which(path) is None:
-        leave(2, f"no program at {os.path.normpath(path)}: name it by --program or in PLATEROOM")
-    return path
-
-
-def leave(status, line):
-    print(f"check.py: {line}", file=sys.stderr)
-    sys.exit(status)
-
-
-class Asked:
-    """The program, asked about plans without making a plate: its folder OUT can't be made."""
+class Probes(Asked):
+    """The program, asked about one layer after the other."""
 
     def __init__(self, program):
-        self.program = program
-        self.folder = tempfile.TemporaryDirectory(prefix="plateroom-check-")
-        self.plan = os.path.join(self.folder.name, "plan.json")
+        super().__init__(program)
         with open(os.path.join(self.folder.name, "probe"), "wb") as file:
             file.write(one_pixel())
-
-    def text(self, text, files):
-        """The program's line on a plan's text, and its status: None where plan and files are taken."""
-        with open(self.plan, "wb") as file:
-            file.write(text)
-        out = "/dev/null/out"
-        try:
-            answer = subprocess.run([self.program, "run", self.plan, files, out], capture_output=True)
-        except OSError as error:
-            leave(2, f"{self.program} can't be started: {error.strerror}")
-        line = answer.stderr.decode("utf-8", "replace").strip()
-        if answer.returncode not in (0, 1, 3, 4, 5) or bool(line) == (answer.returncode < 2):
-            leave(2, f"{self.program} ended with status {answer.returncode} and said {line or 'nothing'!r}")
-        return (line, answer.returncode) if line else None
 
     def layer(self, layer, image, mask=None):
         """The fault of one layer on a page of one pixel, whose files stand at these paths."""
@@ -393,7 +358,7 @@ def main():
         "--program", metavar="PATH", help="the program; without it PLATEROOM, then the path, are asked"
     )
     words = parser.parse_args()
-    asked = Asked(program_path(words.program))
+    asked = Probes(program_path(words.program))
     try:
         with open(words.plan, "rb") as file:
             text = file.read()
