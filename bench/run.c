@@ -1,9 +1,26 @@
 /* The four plates of one pair of pages, each page one uncompressed CMYK file of one strip at scale 4, by straightforward
  * loops: what `plateroom run` is measured against. It reads ImageWidth, ImageLength and StripOffsets and tests nothing.
+ * Then it prints how many pixels of each plate print in each of 32 keys, counted pixel by pixel, where KEYS is set.
  * usage: run LEFT RIGHT bayer8|diffuse PLATES..; the plate of ink I becomes PLATES-I.tif, for each PLATES */
 #include "plate.h"
 
-enum { SCALE = 4 };
+enum { SCALE = 4, KEYS = 32 };
+
+static uint64_t counts[INKS][KEYS];
+
+static void count_row(const uint8_t *bits, uint32_t width, uint64_t *keys) {
+    for (uint32_t x = 0; x < width; x++)
+        keys[(uint64_t)x * KEYS / width] += bits[x / 8] >> (7 - x % 8) & 1;
+}
+
+static void print_counts(void) {
+    for (int ink = 0; ink < INKS; ink++) {
+        printf("keys 0 A-001-%c", "CMYK"[ink]);
+        for (int key = 0; key < KEYS; key++)
+            printf(" %llu", (unsigned long long)counts[ink][key]);
+        printf("\n");
+    }
+}
 
 /* An image, and the row of the page that is made of it. */
 struct page {
@@ -66,7 +83,7 @@ int main(int argc, char **argv) {
         if (read_page(argv[1 + side], &pages[side]))
             return 5;
     fill_thresholds();
-    int diffused = strcmp(argv[3], "diffuse") == 0;
+    int diffused = strcmp(argv[3], "diffuse") == 0, counted = getenv("KEYS") != NULL;
     uint32_t wide = SCALE * pages[0].image.width, length = SCALE * pages[0].image.length;
     uint32_t row = 2 * wide / 8, each = 8192 / row ? 8192 / row : 1;
     uint8_t *bits = malloc(row), *packed = malloc(row + (row + 127) / 128);
@@ -87,6 +104,8 @@ int main(int argc, char **argv) {
                 else
                     tile_row(page->values[ink], wide, thresholds[y % 8], half);
             }
+            if (counted)
+                count_row(bits, 2 * wide, counts[ink]);
             size_t count = pack(bits, row, packed);
             for (int site = 0; site < sites; site++) {
                 struct plate *plate = &plates[site][ink];
@@ -100,5 +119,7 @@ int main(int argc, char **argv) {
         for (int ink = 0; ink < INKS; ink++)
             if (finish(&plates[site][ink], 2 * wide, length, each))
                 return 7;
+    if (counted)
+        print_counts();
     return 0;
 }

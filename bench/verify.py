@@ -22,7 +22,7 @@ RUNS = 3
 def measure(command, wanted=0):
     """Seconds of the clock, of the program's own code and of the system's, and the peak of memory in KiB."""
     start = time.monotonic()
-    process = subprocess.Popen(command, stdout=subprocess.DEVNULL)
+    process = subprocess.Popen(command, stdout=subprocess.DEVNULL, stderr=subprocess.DEVNULL if wanted else None)
     _, status, usage = os.wait4(process.pid, 0)
     if os.waitstatus_to_exitcode(status) != wanted:
         sys.exit(f"{command[0]} ended with status {os.waitstatus_to_exitcode(status)}")

@@ -235,7 +235,7 @@ def curve_by_chance(rng):
     return [[x, rng.choice((x, rng.randint(0, 255)))] for x in [0, *inner, 255]]
 
 
-def by_chance(seed):
+def by_chance(seed, most_sections=2, most_zones=2, most_sites=4):
     """A small edition in which everything is by chance."""
     rng = random.Random(seed)
     number = rng.choice((1, 2, 2))
@@ -256,11 +256,11 @@ def by_chance(seed):
         marks.append({"inks": inks, "x": x, "y": y, "w": rng.randint(1, across - x), "h": rng.randint(1, down - y)})
     names = [f"p{page}" for page in range(rng.randint(2, 5))]
     sections = [{"name": f"S{section}", "pages": [rng.choice(names) for _ in range(rng.choice((2, 4, 6)))]}
-                for section in range(rng.randint(1, 2))]
+                for section in range(rng.randint(1, most_sections))]
     places = [(section["name"], page + 1) for section in sections for page in range(len(section["pages"]))]
     zones = [{"name": f"Z{zone}", "replace": [
         {"section": section, "page": page, "with": rng.choice(names)}
-        for section, page in places if rng.random() < 0.3]} for zone in range(rng.randint(0, 2))]
+        for section, page in places if rng.random() < 0.3]} for zone in range(rng.randint(0, most_zones))]
     return {
         "plan": number, "edition": f"E{seed}", "dpi": rng.randint(1, 10000), "page": [width, height],
         "margins": margins, "gutter": gutter, "limit": rng.choice((0, 200, 400, 612, 1020, rng.randint(0, 1020))),
@@ -270,7 +270,7 @@ def by_chance(seed):
             layer_by_chance(rng, len(letters)) for _ in range(rng.randint(0, 4))]} for name in names],
         "sections": sections, "zones": zones,
         "sites": [dict(name=f"O{site}", **({"zone": rng.choice(zones)["name"]} if zones and site else {}))
-                  for site in range(rng.randint(1, 4))],
+                  for site in range(rng.randint(1, most_sites))],
     }
 
 

@@ -20,6 +20,7 @@ import answers
 import drill
 import editions
 import held
+import keyed
 import late
 import trial
 from plates import Edition, black_plate, compared
@@ -152,6 +153,7 @@ def trials(tried, folder):
     runs(tried, folder, "of five inks", five, [[], ["16", "7"], ["1024", "7"]])
     read_by_others(tried, five, os.path.join(folder, "OUT"))
     held.trials(tried, folder, five)
+    keyed.trials(tried, folder, EXAMPLES, small, five)
     late.trials(tried, folder, files, small)
     beside_others(tried, folder, files)
 

@@ -839,7 +839,12 @@ def see_tiles(results, program, folder):
 
 def see_help(results):
     """Each companion tells its words, a line or two for each, and its statuses."""
-    for name, first in (("check.py", "PLAN FILES"), ("proof.py", "PLATES OUT"), ("tile.py", "NAME")):
+    for name, first in (
+        ("check.py", "PLAN FILES"),
+        ("parts.py", "PLAN OUT"),
+        ("proof.py", "PLATES OUT"),
+        ("tile.py", "NAME"),
+    ):
         status, out, _ = tool(name, "--help")
         usage, *parts = out.split("\n\n")
         results.see(

@@ -1,13 +1,4 @@
-pub mod Grow
-pub mod Jobs
 pub mod Owed
 pub mod Told
 pub mod Clauses
-pub mod Pack
 pub mod Numbers
-pub mod Delivering
-pub mod Looking
-pub mod Changing
-pub mod DrillVerdict
-pub mod DrillDots
-pub mod Drilled

@@ -2,30 +2,9 @@
 use Rattle.std.specs.Prelude.{ℕ, if◌then◌else◌, ◌&&◌, not, ◌==◌, Bool, List, [], ◌∷◌, Option, Some, None, option_map, option_and_then, codes, map, length, nat_eq, String, string_bytes}
 use Rattle.std.specs.Cmp.Lexicographic.{pointwise}
 use Rattle.plate_room.specs.Number.{number_within}
-
--- an edition to be run: its plan, the folder of its files, the folder of its plates, the places of the
--- ring, and the patience of a turn
-pub record Edition : Type 0 where
-  pub plan : List ℕ
-  pub files : List ℕ
-  pub out : List ℕ
-  pub ring : ℕ
-  pub patience : ℕ
-
--- an edition whose plates are looked at: its plan, the folder of its files, and the folder of its plates
-pub record Asked : Type 0 where
-  pub plan : List ℕ
-  pub files : List ℕ
-  pub out : List ℕ
-
--- an edition of which the plates that changed are made: the plan that was made before it, the folder of that
--- plan's files, its own plan, the folder of its files, and the folder of its plates
-pub record Change : Type 0 where
-  pub old_plan : List ℕ
-  pub old_files : List ℕ
-  pub plan : List ℕ
-  pub files : List ℕ
-  pub out : List ℕ
+use Rattle.room_run.specs.Edition.{Edition}
+use Rattle.room_verify.specs.Check.{Asked}
+use Rattle.room_replate.specs.Change.{Change}
 
 -- what a command line asks for
 pub data Command : Type 0 where
@@ -33,6 +12,8 @@ pub data Command : Type 0 where
   One : List ℕ → Command
   -- the plates of all sites of an edition
   Run : Edition → Command
+  -- the same, and the counts of so many ink keys of each plate
+  Keys : Edition → ℕ → Command
   -- the plates of the generated job with this number, over a ring of so many places and with this patience
   Drill : ℕ → ℕ → ℕ → Command
   -- whether the plates that are held are those of an edition
@@ -65,15 +46,29 @@ abbrev pub edition_with : List ℕ → List ℕ → List ℕ → ℕ × ℕ → 
 edition_with plan files out numbers =
     record { plan = plan; files = files; out = out; ring = numbers.0; patience = numbers.1 }
 
+-- an edition of these texts, and the words of its numbers
+abbrev pub edition_in : List ℕ → List ℕ → List ℕ → List (List ℕ) → Option Edition
+edition_in plan files out numbers =
+    if is_given plan && is_given files && is_given out
+    then option_map (edition_with plan files out) (numbers_of numbers)
+    else None
+
 -- the words behind `run`: a plan, two folders, and numbers
 abbrev pub edition_of : List (List ℕ) → Option Edition
 edition_of [] = None
 edition_of (plan ∷ []) = None
 edition_of (plan ∷ files ∷ []) = None
-edition_of (plan ∷ files ∷ out ∷ numbers) =
-    if is_given plan && is_given files && is_given out
-    then option_map (edition_with plan files out) (numbers_of numbers)
-    else None
+edition_of (plan ∷ files ∷ out ∷ numbers) = edition_in plan files out numbers
+
+-- the words behind `keys`: a plan, two folders, how many keys, and numbers
+abbrev pub keys_of : List (List ℕ) → Option Command
+keys_of [] = None
+keys_of (plan ∷ []) = None
+keys_of (plan ∷ files ∷ []) = None
+keys_of (plan ∷ files ∷ out ∷ []) = None
+keys_of (plan ∷ files ∷ out ∷ keys ∷ numbers) =
+    option_and_then (λ edition. option_map (Keys edition) (number_within 1 64 keys))
+    (edition_in plan files out numbers)
 
 -- the words behind `drill`: the number of a job, and numbers
 abbrev pub drill_of : List (List ℕ) → Option Command
@@ -118,6 +113,7 @@ command_of [] = None
 command_of (name ∷ words) =
     if pointwise nat_eq name (codes "one") then one_of words
     else if pointwise nat_eq name (codes "run") then option_map Run (edition_of words)
+    else if pointwise nat_eq name (codes "keys") then keys_of words
     else if pointwise nat_eq name (codes "drill") then drill_of words
     else if pointwise nat_eq name (codes "verify") then option_map Verify (asked_of words)
     else if pointwise nat_eq name (codes "replate") then option_map Replate (change_of words)
@@ -128,6 +124,7 @@ abbrev pub AsksDrill : Option Command → Type 0
 AsksDrill None = ⊥
 AsksDrill (Some (One file)) = ⊥
 AsksDrill (Some (Run edition)) = ⊥
+AsksDrill (Some (Keys edition keys)) = ⊥
 AsksDrill (Some (Drill number ring patience)) = Unit {0}
 AsksDrill (Some (Verify asked)) = ⊥
 AsksDrill (Some (Replate change)) = ⊥
@@ -137,6 +134,7 @@ abbrev pub AsksVerify : Option Command → Type 0
 AsksVerify None = ⊥
 AsksVerify (Some (One file)) = ⊥
 AsksVerify (Some (Run edition)) = ⊥
+AsksVerify (Some (Keys edition keys)) = ⊥
 AsksVerify (Some (Drill number ring patience)) = ⊥
 AsksVerify (Some (Verify asked)) = Unit {0}
 AsksVerify (Some (Replate change)) = ⊥

@@ -1,35 +1,12 @@
 -- How a command may end, in the words of the contract of `plate_main`.
-use Rattle.std.specs.Prelude.{◌≡◌, ℕ, ◌⊎◌, List, [], ◌++◌, take, Option, Some}
+use Rattle.std.specs.Prelude.{◌≡◌, ℕ, ◌⊎◌, List, [], Some}
 use Rattle.pr_ports.specs.Sink.{Grew, GrewByPrefix}
-use Rattle.plate_room.specs.Line.{memory_line}
-use Rattle.plate_room.specs.declared.refusal.Refusal.{Refusal}
-use Rattle.plate_room.specs.Refusal.{status_of, line_of}
+use Rattle.room_base.specs.Line.{memory_line}
+use Rattle.room_base.specs.declared.refusal.Refusal.{Refusal}
+use Rattle.room_base.specs.Refusal.{status_of, line_of}
 use Rattle.plate_room.specs.Tasks.{Meets, verdict_of}
-use Rattle.plate_room.specs.Seen.{Files, ShelfSeen, SinkSeen}
-
--- ---- statuses
-
--- the command is done; 1 where a site left, and 8 where a plate that is held isn't right
-abbrev pub IsDoneStatus : ℕ → Type 0
-IsDoneStatus status = (status ≡ 0) ⊎ (status ≡ 1) ⊎ (status ≡ 8)
-
--- the status tells of a refusal: of the words, the plan, a file or the shelf
-abbrev pub IsRefusal : ℕ → Type 0
-IsRefusal status = (status ≡ 2) ⊎ (status ≡ 3) ⊎ (status ≡ 4) ⊎ (status ≡ 5)
-
--- the command was cut short: memory was wanted, or a sink failed
-abbrev pub IsCutShort : ℕ → Type 0
-IsCutShort status = (status ≡ 6) ⊎ (status ≡ 7)
-
--- a status of a command
-abbrev pub IsStatus : ℕ → Type 0
-IsStatus status = IsDoneStatus status ⊎ IsRefusal status ⊎ IsCutShort status
-
--- ---- the note
-
--- where told, the bytes given grew by a front of the first text and then a front of the second
-abbrev pub GrewByTwo : Option (List ℕ) → Option (List ℕ) → List ℕ → List ℕ → Type 0
-GrewByTwo old new first second = (n m : ℕ) × Grew old new (take n first ++ take m second)
+use Rattle.room_base.specs.Seen.{Files, ShelfSeen, SinkSeen}
+use Rattle.room_base.specs.Note.{GrewByTwo}
 
 -- the note took the whole line of a refusal with this status, which the words met
 pub record Tells (words : List (List ℕ)) (shelf : ShelfSeen) (note : SinkSeen) (status : ℕ) : Type 0 where

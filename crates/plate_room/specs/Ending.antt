@@ -2,15 +2,15 @@
 use Rattle.std.specs.Prelude.{◌≡◌, ℕ, List, Some, Result, Ok, Err}
 use Rattle.pr_ports.specs.Sink.{Grew, GrewByPrefix}
 use Rattle.pr_rack.specs.declared.rack.Rack.{Ghosts}
-use Rattle.plate_room.specs.declared.refusal.Refusal.{Refusal}
-use Rattle.plate_room.specs.declared.refusal.Stop.{Stop}
-use Rattle.plate_room.specs.declared.refusal.Stop.TheVariants as stop
+use Rattle.room_base.specs.declared.refusal.Refusal.{Refusal}
+use Rattle.room_base.specs.declared.refusal.Stop.{Stop}
+use Rattle.room_base.specs.declared.refusal.Stop.TheVariants as stop
 use Rattle.plate_room.specs.Command.{Command, command_of}
-use Rattle.plate_room.specs.Line.{memory_line}
-use Rattle.plate_room.specs.Refusal.{status_of, line_of}
+use Rattle.room_base.specs.Line.{memory_line}
+use Rattle.room_base.specs.Refusal.{status_of, line_of}
 use Rattle.plate_room.specs.Tasks.{IsCut, IsDone, IsUnprinted, Meets}
-use Rattle.plate_room.specs.End.{GrewByTwo}
-use Rattle.plate_room.specs.Seen.{Seen, SinkSeen, IsSilent, PutFailed}
+use Rattle.room_base.specs.Note.{GrewByTwo}
+use Rattle.room_base.specs.Seen.{Seen, SinkSeen, IsSilent, PutFailed}
 
 -- the words are a command
 abbrev pub IsAsked : List (List ℕ) → Type 0

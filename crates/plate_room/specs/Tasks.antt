@@ -1,21 +1,23 @@
 -- All commands: what each asks and makes, and what that says of a call.
 use Rattle.std.specs.Prelude.{◌≡◌, ℕ, ◌⊎◌, List, Option, Some, None}
 use Rattle.pr_rack.specs.declared.rack.Rack.{Ghosts}
-use Rattle.plate_room.specs.declared.refusal.Refusal.{Refusal}
-use Rattle.plate_room.specs.declared.refusal.Refusal.TheVariants as refused
-use Rattle.plate_room.specs.Command.{Command, Drill, One, Replate, Run, Verify, command_of}
-use Rattle.plate_room.specs.Change.{change_makes, change_rules}
-use Rattle.plate_room.specs.Check.{PrintsFound, check_rules}
-use Rattle.plate_room.specs.Drill.{PrintsDrill, drill_rules}
-use Rattle.plate_room.specs.Edition.{run_makes, run_rules}
-use Rattle.plate_room.specs.OneFile.{PrintsPlate, one_rules}
-use Rattle.plate_room.specs.Seen.{Files, IsUntouched, PutFailed, ShelfSeen, SinkSeen}
-use Rattle.plate_room.specs.Task.{IsNothing, IsPart, Makes, PrintsFront, PrintsWhole, Rules, telling}
+use Rattle.room_base.specs.declared.refusal.Refusal.{Refusal}
+use Rattle.room_base.specs.declared.refusal.Refusal.TheVariants as refused
+use Rattle.plate_room.specs.Command.{Command, Drill, Keys, One, Replate, Run, Verify, command_of}
+use Rattle.room_replate.specs.Change.{change_makes, change_rules}
+use Rattle.room_verify.specs.Check.{PrintsFound, check_rules}
+use Rattle.room_run.specs.Drill.{PrintsDrill, drill_rules}
+use Rattle.room_run.specs.Edition.{run_makes, run_rules}
+use Rattle.room_run.specs.Keys.{keys_makes}
+use Rattle.room_one.specs.OneFile.{PrintsPlate, one_rules}
+use Rattle.room_base.specs.Seen.{Files, IsUntouched, PutFailed, ShelfSeen, SinkSeen}
+use Rattle.room_base.specs.Task.{IsNothing, IsPart, Makes, PrintsFront, PrintsWhole, Rules, telling}
 
 -- what a command asks
 abbrev pub rules_of : Command → Rules
 rules_of (One file) = one_rules file
 rules_of (Run edition) = run_rules edition
+rules_of (Keys edition keys) = run_rules edition
 rules_of (Drill number ring patience) = drill_rules
 rules_of (Verify asked) = check_rules asked
 rules_of (Replate change) = change_rules change
@@ -46,6 +48,7 @@ module _ {R : Type 0} (g : Ghosts R) where
   abbrev pub makes_of : Command → Makes R
   makes_of (One file) = telling (PrintsPlate file)
   makes_of (Run edition) = run_makes g edition
+  makes_of (Keys edition keys) = keys_makes g edition keys
   makes_of (Drill number ring patience) = telling (PrintsDrill number)
   makes_of (Verify asked) = telling (PrintsFound asked)
   makes_of (Replate change) = change_makes g change

@@ -1,18 +1,17 @@
 // Doing a command.
 ghost use Rattle.plate_room.specs.Command.{AsksDrill, command_of as meant, words_of};
 ghost use Rattle.plate_room.specs.Ending.{Answered};
-ghost use Rattle.plate_room.specs.Seen.{AreIdle, shelf_seen, sink_seen};
+ghost use Rattle.room_base.specs.Seen.{AreIdle, shelf_seen, sink_seen};
 ghost use Rattle.std.specs.Prelude.{◌≡◌, ◌≤◌, length};
 
-use crate::change::print_change;
-use crate::check::print_check;
 use crate::command::{Command, command_of};
-use crate::drill::print_drill;
-use crate::edition::run_edition;
-use crate::one::print_one;
-use crate::refusal::{Refusal, Stop};
 use pr_ports::{Shelf, Sink};
 use pr_rack::Rack;
+use room_base::{Refusal, Stop};
+use room_one::print_one;
+use room_replate::print_change;
+use room_run::{print_drill, run_edition, run_with_keys};
+use room_verify::print_check;
 use std::alloc::Global;
 use std::thread::Threads;
 
@@ -41,6 +40,9 @@ pub(crate) fn answer<T: Threads + Sync, H: Shelf, R: Rack + Send, S: Sink>(
     match command_of(words) {
         Some(Command::One { file }) => print_one(alloc, file, shelf, out),
         Some(Command::Run(edition)) => run_edition(rt, alloc, edition, shelf, racks, out),
+        Some(Command::Keys(edition, keys)) => run_with_keys(
+            rt, alloc, edition, keys, shelf, racks, out,
+        ),
         Some(Command::Drill(drill)) => print_drill(rt, alloc, drill, out),
         Some(Command::Verify(asked)) => print_check(alloc, asked, shelf, out),
         Some(Command::Replate(change)) => print_change(alloc, change, shelf, racks, out),

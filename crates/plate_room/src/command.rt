@@ -1,62 +1,13 @@
 // The words of a command line.
 ghost use Rattle.std.specs.Prelude.{◌≡◌, IfSome};
 ghost use Rattle.plan_words.specs.Words.{IsWithin};
-ghost use Rattle.plate_room.specs.Command.{asked_of as asked_meant, change_of as change_meant, command_of as meant, drill_of as drill_meant, edition_of as edition_meant, numbers_of as numbers_meant, one_of as one_meant, words_of};
+ghost use Rattle.plate_room.specs.Command.{asked_of as asked_meant, change_of as change_meant, command_of as meant, drill_of as drill_meant, edition_in as edition_in_meant, edition_of as edition_meant, keys_of as keys_meant, numbers_of as numbers_meant, one_of as one_meant, words_of};
 ghost use Rattle.plate_room.specs.Answer.{HasNumbers, HasTurns, IfRun, IsAskedFor, IsChange, IsCommand, IsDrill, IsEdition};
 
 use crate::number::number_within;
-
-/// An edition to be run.
-#[derive(Clone, Copy)]
-pub(crate) struct Edition<'a> {
-    /// The path of the plan.
-    pub(crate) plan: &'a str,
-    /// The folder of the plan's files.
-    pub(crate) files: &'a str,
-    /// The folder of the plates.
-    pub(crate) out: &'a str,
-    /// Places of the ring, 1 to 1024.
-    pub(crate) ring: u32,
-    /// How often a turn looks for a row in vain, 1 to 65,536.
-    pub(crate) patience: u32,
-}
-
-/// An edition whose plates are looked at.
-#[derive(Clone, Copy)]
-pub(crate) struct Asked<'a> {
-    /// The path of the plan.
-    pub(crate) plan: &'a str,
-    /// The folder of the plan's files.
-    pub(crate) files: &'a str,
-    /// The folder of the plates.
-    pub(crate) out: &'a str,
-}
-
-/// An edition of which the plates that changed are made.
-#[derive(Clone, Copy)]
-pub(crate) struct Change<'a> {
-    /// The path of the plan that was made before it.
-    pub(crate) old_plan: &'a str,
-    /// The folder of that plan's files.
-    pub(crate) old_files: &'a str,
-    /// The path of the plan.
-    pub(crate) plan: &'a str,
-    /// The folder of the plan's files.
-    pub(crate) files: &'a str,
-    /// The folder of the plates.
-    pub(crate) out: &'a str,
-}
-
-/// A generated job to be run in memory.
-#[derive(Clone, Copy)]
-pub(crate) struct Drill {
-    /// The number of the job.
-    pub(crate) number: u32,
-    /// Places of the ring, 1 to 1024.
-    pub(crate) ring: u32,
-    /// How often a turn looks for a row in vain, 1 to 65,536.
-    pub(crate) patience: u32,
-}
+use room_replate::Change;
+use room_run::{Drill, Edition};
+use room_verify::Asked;
 
 /// What the words ask for.
 #[derive(Clone, Copy)]
@@ -65,6 +16,8 @@ pub(crate) enum Command<'a> {
     One { file: &'a str },
     /// `run PLAN FILES OUT [RING [PATIENCE]]`: the plates of all sites of an edition.
     Run(Edition<'a>),
+    /// `keys PLAN FILES OUT KEYS [RING [PATIENCE]]`: the same, and the counts of so many keys of each plate.
+    Keys(Edition<'a>, u32),
     /// `drill N [RING [PATIENCE]]`: the report of a generated job, and the dots on its plates.
     Drill(Drill),
     /// `verify PLAN FILES OUT`: whether the plates that are held are those of an edition.
@@ -72,6 +25,8 @@ pub(crate) enum Command<'a> {
     /// `replate OLDPLAN OLDFILES PLAN FILES OUT`: the plates of an edition that changed.
     Replate(Change<'a>),
 }
+
+const MOST_KEYS: u32 = 64;
 
 const RING: u32 = 64;
 
@@ -96,6 +51,7 @@ pub(crate) fn command_of(words: &[String]) -> Option<Command<'_>>
             Some(edition) => Some(Command::Run(edition)),
             None => None,
         },
+        "keys" => keys_of(words),
         "drill" => match drill_of(words) {
             Some(drill) => Some(Command::Drill(drill)),
             None => None,
@@ -133,14 +89,41 @@ fn edition_of(words: &[String]) -> Option<Edition<'_>>
     let [plan, files, out, numbers @ ..] = words else {
         return None;
     };
+    edition_in(plan.as_str(), files.as_str(), out.as_str(), numbers)
+}
+
+/// The words behind `keys`.
+fn keys_of(words: &[String]) -> Option<Command<'_>>
+    ensures meant { IsCommand result (keys_meant (words_of words.now)) }
+    ensures within { IfRun result }
+{
+    let [plan, files, out, keys, numbers @ ..] = words else {
+        return None;
+    };
+    let edition = edition_in(plan.as_str(), files.as_str(), out.as_str(), numbers)?;
+    let keys = number_within(keys.as_str(), 1, MOST_KEYS)?;
+    Some(Command::Keys(edition, keys))
+}
+
+/// An edition of these texts, and the words of its numbers.
+fn edition_in<'a>(
+    plan: &'a str,
+    files: &'a str,
+    out: &'a str,
+    numbers: &[String],
+) -> Option<Edition<'a>>
+    ensures meant { IsEdition result
+        (edition_in_meant plan.now files.now out.now (words_of numbers.now)) }
+    ensures within { IfSome result HasNumbers }
+{
     if plan.is_empty() || files.is_empty() || out.is_empty() {
         return None;
     }
     let (ring, patience) = numbers_of(numbers)?;
     Some(Edition {
-        plan: plan.as_str(),
-        files: files.as_str(),
-        out: out.as_str(),
+        plan,
+        files,
+        out,
         ring,
         patience,
     })

@@ -1,30 +1,13 @@
-// The room where plates are made: reads the words of a command line, loads what they name, and writes plates
-// and lines. `plate_main` is the call that everything else is for.
+// The room where plates are made: reads the words of a command line, has the command done by the crate that
+// it stands in, and tells of a refusal. `plate_main` is the call that everything else is for.
 #![tactic(auto)]
 
 mod answer;
-mod black;
-mod change;
-mod check;
 mod command;
-mod dots;
-mod drill;
-mod edition;
-mod laws;
-mod loading;
 mod main_call;
-mod note;
 mod number;
-mod one;
-mod plate;
-mod put;
-mod refusal;
-mod remade;
-mod report;
-mod room;
-mod status;
 
-pub use laws::generated_jobs_pass;
 pub use main_call::plate_main;
-pub use refusal::{Refusal, Whose};
 pub use ring_run::{FeedEnd, Outcome, SiteEnd, feed_turn, run_job};
+pub use room_base::{Refusal, Whose};
+pub use room_run::generated_jobs_pass;

@@ -1,17 +1,18 @@
 // The top call.
 ghost use Rattle.std.specs.Prelude.{◌≡◌, ◌≤◌, ◌⊎◌, ◌≢◌, None, Some, IfSome, length};
-ghost use Rattle.plate_room.specs.declared.refusal.Refusal.{Refusal};
+ghost use Rattle.room_base.specs.declared.refusal.Refusal.{Refusal};
 ghost use Rattle.plate_room.specs.Command.{AsksDrill, AsksVerify, command_of, words_of};
-ghost use Rattle.plate_room.specs.End.{IsCutShort, IsDoneStatus, IsRefusal, IsStatus, Tells, TellsOfMemory, TellsPart, TellsVerdict};
+ghost use Rattle.room_base.specs.Status.{IsCutShort, IsDoneStatus, IsRefusal, IsStatus};
+ghost use Rattle.plate_room.specs.End.{Tells, TellsOfMemory, TellsPart, TellsVerdict};
 ghost use Rattle.plate_room.specs.Ending.{Ending};
-ghost use Rattle.plate_room.specs.Refusal.{status_of};
-ghost use Rattle.plate_room.specs.Seen.{AreIdle, Files, IsUntouched, LoadFailed, PutFailed, RackFailed, shelf_seen, sink_seen};
+ghost use Rattle.room_base.specs.Refusal.{status_of};
+ghost use Rattle.room_base.specs.Seen.{AreIdle, Files, IsUntouched, LoadFailed, PutFailed, RackFailed, shelf_seen, sink_seen};
 ghost use Rattle.plate_room.specs.Tasks.{IsCut, IsDone, IsEnd, IsUnprinted, verdict_of};
 
 use crate::answer::answer;
-use crate::note::tell;
 use pr_ports::{Shelf, Sink};
 use pr_rack::Rack;
+use room_base::tell;
 use std::alloc::Global;
 use std::thread::Threads;
 

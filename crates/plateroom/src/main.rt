@@ -3,7 +3,7 @@
 #![tactic(auto)]
 
 ghost use Rattle.std.specs.Prelude.{◌≡◌, IfOk, length};
-ghost use Rattle.plate_room.specs.Seen.{AreIdle};
+ghost use Rattle.room_base.specs.Seen.{AreIdle};
 
 use plate_room::plate_main;
 use pr_ports::{HostShelf, WriterSink};

@@ -22,8 +22,8 @@ const ZONED: &str = r#"{"plan":1,"edition":"E1","dpi":1200,"page":[8,2],"screens
 "zones":[{"name":"Z","replace":[{"section":"A","page":3,"with":"p"}]}],
 "sites":[{"name":"OSLO"},{"name":"BERGEN","zone":"Z"}]}"#;
 
-// A page with a spot, from linework.
-const SPOT: &str = r#"{"plan":2,"edition":"E1","dpi":1200,"page":[8,2],
+/// A page with a spot, from linework.
+pub const SPOT: &str = r#"{"plan":2,"edition":"E1","dpi":1200,"page":[8,2],
 "pages":[{"name":"w","inks":"K","layers":[]},{"name":"p","inks":"KS","layers":[
 {"kind":"line","file":"a.tif","ink":[0,0,0,0,255],"paint":"overprint"}]}],
 "sections":[{"name":"A","pages":["w","p"]}],"sites":[{"name":"OSLO"}]}"#;

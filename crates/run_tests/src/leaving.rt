@@ -3,8 +3,8 @@ use crate::room::{CALM, Failing, Plate, RUN, Want, check, runs};
 use std::process::Abort;
 use std::thread::Threads;
 
-// Four empty pages for two sites.
-const EMPTY: &str = r#"{"plan":1,"edition":"E1","dpi":1200,"page":[8,2],
+/// Four empty pages for two sites.
+pub const EMPTY: &str = r#"{"plan":1,"edition":"E1","dpi":1200,"page":[8,2],
 "pages":[{"name":"w","inks":"K","layers":[]}],
 "sections":[{"name":"A","pages":["w","w","w","w"]}],"sites":[{"name":"OSLO"},{"name":"BERGEN"}]}"#;
 

@@ -1,5 +1,5 @@
-// Tests of the command `run`: editions, the sites that leave them, and what is refused. They use public names
-// alone.
+// Tests of the commands `run` and `keys`: editions, the sites that leave them, counts, and what is refused. They
+// use public names alone.
 #![tactic(auto)]
 
 #[cfg(test)]
@@ -10,6 +10,8 @@ mod faults;
 mod files;
 #[cfg(test)]
 mod inks;
+#[cfg(test)]
+mod keys;
 #[cfg(test)]
 mod leaving;
 #[cfg(test)]

@@ -2,15 +2,15 @@
 // has begun.
 ghost use Rattle.std.specs.Prelude.{refl, ◌≡◌, Some, ◌≤◌, is_some, length, map};
 ghost use Rattle.pr_rack.specs.Rack.{none_begun};
-ghost use Rattle.plate_room.specs.Seen.{AreIdle};
+ghost use Rattle.room_base.specs.Seen.{AreIdle};
 
 use crate::room::{RACKS, command, shelf, sink};
 use pr_rack::{MemRack, Rack, RackFault};
 use ring_lanes::{Held, Source};
 use std::alloc::Global;
+use std::hint;
 use std::process::Abort;
 use std::sync::atomic::{AtomicU64, Ordering};
-use std::thread;
 use std::thread::Threads;
 
 /// What a rack does in one of its row calls.
@@ -49,13 +49,11 @@ impl Watched<'_> {
     /// Waits until the other rack has begun so many row calls, or so many turns are over. Answers whether
     /// it has.
     fn wait(&self, calls: u64, turns: u64) -> bool {
-        for turn in 0..turns {
+        for _turn in 0..turns {
             if self.other.load(Ordering::SeqCst) >= calls {
                 return true;
             }
-            if turn % 1024 == 0 {
-                thread::yield_now();
-            }
+            hint::spin_loop();
         }
         false
     }
@@ -167,18 +165,62 @@ const PLAN: &str = r#"{"plan":1,"edition":"E1","dpi":1200,"page":[8,512],
 "pages":[{"name":"w","inks":"K","layers":[]}],
 "sections":[{"name":"A","pages":["w","w","w","w"]}],"sites":[{"name":"OSLO"},{"name":"BERGEN"}]}"#;
 
+/// A command over a ring of so many readers and places, and what it reports.
+#[derive(Clone, Copy)]
+struct Order<'a> {
+    words: &'a [&'a str],
+    report: &'a str,
+    readers: u32,
+    places: u32,
+}
+
 const REPORT: &str = "site OSLO finished plates 2 rows 1024
 site BERGEN finished plates 2 rows 1024
 total rows 1024 sites 2
 ";
 
-/// Whether the racks of both sites took all rows from the one ring of so many places.
-fn took_all(racks: &[Watched<'_>], places: u32) -> bool {
+const KEYS_REPORT: &str = "site OSLO finished plates 2 rows 1024
+site BERGEN finished plates 2 rows 1024
+total rows 1024 sites 2
+keys 0 A-001-K 0
+keys 1 A-002-K 0
+";
+
+const RUN_AT_64: Order<'static> = Order {
+    words: &["run", "plan.json", "FILES", "OUT", "64", "65536"],
+    report: REPORT,
+    readers: 2,
+    places: 64,
+};
+
+const RUN_AT_2: Order<'static> = Order {
+    words: &["run", "plan.json", "FILES", "OUT", "2", "65536"],
+    report: REPORT,
+    readers: 2,
+    places: 2,
+};
+
+const KEYS_AT_64: Order<'static> = Order {
+    words: &["keys", "plan.json", "FILES", "OUT", "1", "64", "65536"],
+    report: KEYS_REPORT,
+    readers: 3,
+    places: 64,
+};
+
+const KEYS_AT_2: Order<'static> = Order {
+    words: &["keys", "plan.json", "FILES", "OUT", "1", "2", "65536"],
+    report: KEYS_REPORT,
+    readers: 3,
+    places: 2,
+};
+
+/// Whether the racks of both sites took all rows from the one ring of the order.
+fn took_all(racks: &[Watched<'_>], order: Order<'_>) -> bool {
     for (site, rack) in racks.iter().enumerate().take(2) {
         let source = Source::Ring {
             reader: site as u32,
-            readers: 2,
-            places,
+            readers: order.readers,
+            places: order.places,
         };
         let taken = rack.rack.taken();
         if taken.len() != 1024 || !taken.iter().all(|row| row.1 == source) {
@@ -188,10 +230,10 @@ fn took_all(racks: &[Watched<'_>], places: u32) -> bool {
     true
 }
 
-/// Whether the run over these racks ends well and reports.
+/// Whether the command over these racks ends well and reports.
 fn reports<'c, R: Abort + AllocGlobal + Threads + Sync>(
     rt: &R,
-    words: &[&str],
+    order: Order<'_>,
     racks: &mut [Watched<'c>],
 ) -> bool
     requires racks { 16 ≤ length racks.old }
@@ -200,44 +242,45 @@ fn reports<'c, R: Abort + AllocGlobal + Threads + Sync>(
     let mut shelf = shelf(rt, PLAN, &[], &[], None);
     let mut out = sink(rt, None);
     let mut note = sink(rt, None);
-    let status = command(rt, words, &mut shelf, racks, &mut out, &mut note);
-    status == 0 && out.bytes() == REPORT.as_bytes()
+    let status = command(rt, order.words, &mut shelf, racks, &mut out, &mut note);
+    status == 0 && out.bytes() == order.report.as_bytes()
 }
 
-/// Runs the plan at a ring of so many places.
+/// Does the command over racks that wait so for each other.
 fn run_watched<R: Abort + AllocGlobal + Threads + Sync>(
     rt: &R,
-    ring: &str,
-    places: u32,
+    order: Order<'_>,
     stops: [Stop; 2],
     counts: &Counts,
 ) -> bool {
-    let words = ["run", "plan.json", "FILES", "OUT", ring, "65536"];
     let mut racks = watched_racks(rt, stops, counts);
-    reports(rt, &words, racks.as_mut_slice()) && took_all(racks.as_slice(), places)
+    reports(rt, order, racks.as_mut_slice()) && took_all(racks.as_slice(), order)
 }
 
-/// Runs the plan at a ring of so many places, and gives how often a rack was alone.
+/// Does the command, and gives how often a rack was alone.
 fn times_alone<R: Abort + AllocGlobal + Threads + Sync>(
     rt: &R,
-    ring: &str,
-    places: u32,
+    order: Order<'_>,
     stops: [Stop; 2],
 ) -> u64 {
     let counts = Counts {
         first: AtomicU64::new(0),
         second: AtomicU64::new(0),
         alone: AtomicU64::new(0),
-        places: u64::from(places),
+        places: u64::from(order.places),
     };
-    assert!(rt; run_watched(rt, ring, places, stops, &counts));
+    assert!(rt; run_watched(rt, order, stops, &counts));
     counts.alone.load(Ordering::SeqCst)
 }
 
-/// In one of four runs over 64 places no rack is alone.
-fn assert_meet<R: Abort + AllocGlobal + Threads + Sync>(rt: &R, stops: [Stop; 2]) {
+/// In one of four runs no rack is alone.
+fn assert_meet<R: Abort + AllocGlobal + Threads + Sync>(
+    rt: &R,
+    order: Order<'_>,
+    stops: [Stop; 2],
+) {
     for _run in 0..4 {
-        if times_alone(rt, "64", 64, stops) == 0 {
+        if times_alone(rt, order, stops) == 0 {
             return;
         }
     }
@@ -248,13 +291,16 @@ fn assert_meet<R: Abort + AllocGlobal + Threads + Sync>(rt: &R, stops: [Stop; 2]
 #[test]
 fn sites_run_side_by_side(rt: HostRuntime) {
     let stop = Stop::Meets { row: 0, calls: 1 };
-    assert_meet(&rt, [stop, stop]);
+    assert_meet(&rt, RUN_AT_64, [stop, stop]);
+    assert_meet(&rt, KEYS_AT_64, [stop, stop]);
 }
 
 // At two places no rack gets a row that is two further than what the other has begun, though it pauses.
 #[test]
 fn sites_share_one_ring(rt: HostRuntime) {
-    assert_eq!(rt; times_alone(&rt, "2", 2, [Stop::Goes, Stop::Pauses]), 0);
+    let stops = [Stop::Goes, Stop::Pauses];
+    assert_eq!(rt; times_alone(&rt, RUN_AT_2, stops), 0);
+    assert_eq!(rt; times_alone(&rt, KEYS_AT_2, stops), 0);
 }
 
 // The first rack waits in the call for row 10 until the other has begun that for row 70, which a writer whose
@@ -263,5 +309,5 @@ fn sites_share_one_ring(rt: HostRuntime) {
 #[test]
 fn writer_runs_beside_the_sites(rt: HostRuntime) {
     let stop = Stop::Meets { row: 10, calls: 71 };
-    assert_meet(&rt, [stop, Stop::Goes]);
+    assert_meet(&rt, RUN_AT_64, [stop, Stop::Goes]);
 }

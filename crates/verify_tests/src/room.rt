@@ -1,6 +1,6 @@
 // Commands over a desk, racks and sinks in memory.
 ghost use Rattle.std.specs.Prelude.{◌≡◌, ◌≤◌, length};
-ghost use Rattle.plate_room.specs.Seen.{AreIdle};
+ghost use Rattle.room_base.specs.Seen.{AreIdle};
 
 use crate::desk::{Desk, Held, Plate};
 use plate_room::plate_main;

@@ -1,6 +1,7 @@
 use Rattle.std.proofs.Common.{refl}
-use Rattle.plate_room.specs.Drill.{PrintsDrill, drill_rules}
-use Rattle.plate_room.proofs.Told.{answered, on_any, told_answers}
+use Rattle.room_run.specs.Drill.{PrintsDrill, drill_rules}
+use Rattle.plate_room.proofs.Told.{answered, on_any}
+use Rattle.room_base.proofs.Told.{told_answers}
 use Rattle.plate_room.proofs.answer.answer.Goals as goal
 
 pub returns-in-Some-Drill-clause-answered : goal.returns-in-Some-Drill-clause-answered

@@ -1,0 +1,180 @@
+// An edition that is made, then made again where it changed, beside one that is made at once.
+ghost use Rattle.std.specs.Prelude.{◌≤◌, length};
+ghost use Rattle.room_base.specs.Seen.{AreIdle};
+
+use crate::desk::{File, Held};
+use crate::room::{CALM, Case, REPLATE, prints, racks};
+use pr_rack::{MemRack, Rack};
+use std::process::Abort;
+use std::thread::Threads;
+
+// Two sections for two sites. Page 3 is in four inks, and at BERGEN another one in black.
+const BEFORE: &str = r#"{"plan":1,"edition":"E1","dpi":1200,"page":[8,2],"screens":{"K":"bayer4"},
+"pages":[{"name":"w","inks":"K","layers":[]},
+{"name":"p","inks":"K","layers":[{"kind":"contone","file":"a.tif","scale":2}]},
+{"name":"q","inks":"K","layers":[{"kind":"contone","file":"b.tif","scale":2}]},
+{"name":"c","inks":"CMYK","layers":[{"kind":"contone","file":"b.tif","scale":2}]}],
+"sections":[{"name":"A","pages":["q","w","c","w"]},{"name":"B","pages":["p","w"]}],
+"zones":[{"name":"Z","replace":[{"section":"A","page":3,"with":"p"}]}],
+"sites":[{"name":"OSLO"},{"name":"BERGEN","zone":"Z"}]}"#;
+
+// BERGEN is gone, OSLO has its page 3, and there is a site more.
+const AFTER: &str = r#"{"plan":1,"edition":"E1","dpi":1200,"page":[8,2],"screens":{"K":"bayer4"},
+"pages":[{"name":"w","inks":"K","layers":[]},
+{"name":"p","inks":"K","layers":[{"kind":"contone","file":"a.tif","scale":2}]},
+{"name":"q","inks":"K","layers":[{"kind":"contone","file":"b.tif","scale":2}]},
+{"name":"c","inks":"CMYK","layers":[{"kind":"contone","file":"b.tif","scale":2}]}],
+"sections":[{"name":"A","pages":["q","w","c","w"]},{"name":"B","pages":["p","w"]}],
+"zones":[{"name":"Z","replace":[{"section":"A","page":3,"with":"p"}]}],
+"sites":[{"name":"NEW"},{"name":"OSLO","zone":"Z"}]}"#;
+
+// The second image changed too.
+const FILES: [File<'static>; 6] = [
+    ("old.json", Held::Plan(BEFORE)),
+    ("OLD/a.tif", Held::Image),
+    ("OLD/b.tif", Held::Image),
+    ("plan.json", Held::Plan(AFTER)),
+    ("FILES/a.tif", Held::Image),
+    ("FILES/b.tif", Held::Changed(133, 254)),
+];
+
+const MADE: &str = "site NEW made 6 kept 0
+site OSLO made 2 kept 1
+dropped OUT/OSLO/E1-A-002-C.tif
+dropped OUT/OSLO/E1-A-002-M.tif
+dropped OUT/OSLO/E1-A-002-Y.tif
+dropped OUT/BERGEN/E1-A-001-K.tif
+dropped OUT/BERGEN/E1-A-002-K.tif
+dropped OUT/BERGEN/E1-B-001-K.tif
+total made 8
+";
+
+// The plates that are told as dropped.
+const DROPPED: [&str; 6] = [
+    "OUT/OSLO/E1-A-002-C.tif",
+    "OUT/OSLO/E1-A-002-M.tif",
+    "OUT/OSLO/E1-A-002-Y.tif",
+    "OUT/BERGEN/E1-A-001-K.tif",
+    "OUT/BERGEN/E1-A-002-K.tif",
+    "OUT/BERGEN/E1-B-001-K.tif",
+];
+
+// The plates of the old job, of the replate, and of a run of the new job.
+#[derive(Clone, Copy)]
+struct Plates<'a> {
+    old: &'a [MemRack],
+    made: &'a [MemRack],
+    new: &'a [MemRack],
+}
+
+// The bytes of the plate at a path.
+fn find<'a>(racks: &'a [MemRack], path: &str) -> Option<&'a [u8]> {
+    for rack in racks {
+        for file in rack.files() {
+            if file.0.as_str() == path {
+                return Some(file.1.as_slice());
+            }
+        }
+    }
+    None
+}
+
+fn is_dropped(path: &str) -> bool {
+    DROPPED.iter().any(|dropped| *dropped == path)
+}
+
+// What lies at a path when the plates that were made are put in and those that are dropped are taken out.
+fn lying<'a>(plates: Plates<'a>, path: &str) -> Option<&'a [u8]> {
+    if is_dropped(path) {
+        return None;
+    }
+    match find(plates.made, path) {
+        Some(bytes) => Some(bytes),
+        None => find(plates.old, path),
+    }
+}
+
+// Whether the new job has the same at a path.
+fn is_right(plates: Plates<'_>, path: &str) -> bool {
+    match (lying(plates, path), find(plates.new, path)) {
+        (Some(lying), Some(new)) => lying == new,
+        (None, None) => true,
+        _ => false,
+    }
+}
+
+// Whether it has so at each path of these racks.
+fn are_right(plates: Plates<'_>, racks: &[MemRack]) -> bool {
+    racks.iter().all(|rack| rack
+        .files()
+        .iter()
+        .all(|file| is_right(plates, file.0.as_str())))
+}
+
+// Whether a command over these racks prints this and ends with 0.
+fn is_done<R: Abort + AllocGlobal + Threads + Sync>(
+    rt: &R,
+    words: &[&str],
+    racks: &mut [MemRack],
+    text: &str,
+    loads: u64,
+) -> bool
+    requires racks { 16 ≤ length racks.old }
+    requires idle { AreIdle ⟦<MemRack as Rack>⟧ racks.old }
+{
+    let case = Case {
+        files: &FILES,
+        failing: CALM,
+        status: 0,
+        text,
+        line: "",
+        loads,
+        kept: &[],
+    };
+    prints(rt, words, racks, &case)
+}
+
+const RAN: &str = "site OSLO finished plates 6 rows 12
+site BERGEN finished plates 3 rows 6
+total rows 14 sites 2
+";
+
+// The old job is run.
+fn holds<R: Abort + AllocGlobal + Threads + Sync>(rt: &R) -> bool {
+    let mut old = racks(rt, [None; 2]);
+    let words = ["run", "old.json", "OLD", "OUT"];
+    is_done(rt, &words, old.as_mut_slice(), RAN, 3) && holds_of(rt, old.as_slice())
+}
+
+// What changed is made.
+fn holds_of<R: Abort + AllocGlobal + Threads + Sync>(rt: &R, old: &[MemRack]) -> bool {
+    let mut made = racks(rt, [None; 2]);
+    is_done(rt, &REPLATE, made.as_mut_slice(), MADE, 6) && holds_beside(rt, old, made.as_slice())
+}
+
+const RAN_ANEW: &str = "site NEW finished plates 6 rows 12
+site OSLO finished plates 3 rows 6
+total rows 14 sites 2
+";
+
+// The new job is run.
+fn holds_beside<R: Abort + AllocGlobal + Threads + Sync>(
+    rt: &R,
+    old: &[MemRack],
+    made: &[MemRack],
+) -> bool {
+    let mut new = racks(rt, [None; 2]);
+    let words = ["run", "plan.json", "FILES", "OUT"];
+    is_done(rt, &words, new.as_mut_slice(), RAN_ANEW, 3) && all_lie(old, made, new.as_slice())
+}
+
+// Whether the plates that lie in the end are those of the new job, byte for byte, and no other lies there.
+fn all_lie(old: &[MemRack], made: &[MemRack], new: &[MemRack]) -> bool {
+    let plates = Plates { old, made, new };
+    are_right(plates, old) && are_right(plates, made) && are_right(plates, new)
+}
+
+#[test]
+fn lies_as_made_at_once(rt: HostRuntime) {
+    assert!(rt; holds(&rt));
+}

@@ -1,0 +1,189 @@
+// Sites that leave, since their racks fail, and an output that does.
+use crate::changes::{EIGHTH, SECOND};
+use crate::desk::{File, Held};
+use crate::files::{Kept, Plate, TWO_PAGES};
+use crate::room::{CALM, Case, Failing, REPLATE, check, does};
+use std::process::Abort;
+use std::thread::Threads;
+
+// Six pages for two sites. The image is pages 1 and 3, which are in the first pair and in the third.
+const SIX_PAGES: &str =
+    r#"{"plan":1,"edition":"E1","dpi":1200,"page":[8,2],"screens":{"K":"bayer4"},
+"pages":[{"name":"w","inks":"K","layers":[]},
+{"name":"p","inks":"K","layers":[{"kind":"contone","file":"a.tif","scale":2}]}],
+"sections":[{"name":"A","pages":["p","w","p","w","w","w"]}],
+"sites":[{"name":"OSLO"},{"name":"BERGEN"}]}"#;
+
+// They, and the same with another byte in the image.
+const SIX: [File<'static>; 4] = [
+    ("old.json", Held::Plan(SIX_PAGES)),
+    ("OLD/a.tif", Held::Image),
+    ("plan.json", Held::Plan(SIX_PAGES)),
+    ("FILES/a.tif", Held::Changed(133, 254)),
+];
+
+// The two pages, and they under another screen.
+const SCREENED: [File<'static>; 4] = [
+    ("old.json", Held::Plan(TWO_PAGES)),
+    ("OLD/a.tif", Held::Image),
+    ("plan.json", Held::Plan(EIGHTH)),
+    ("FILES/a.tif", Held::Image),
+];
+
+// The two pages, and they in another edition.
+const RENAMED: [File<'static>; 4] = [
+    ("old.json", Held::Plan(TWO_PAGES)),
+    ("OLD/a.tif", Held::Image),
+    ("plan.json", Held::Plan(SECOND)),
+    ("FILES/a.tif", Held::Image),
+];
+
+const NONE_MADE: &str = "site OSLO made 2 kept 1
+site BERGEN left made 0 file OUT/BERGEN/E1-A-001-K.tif
+total made 2
+";
+
+const ONE_MADE: &str = "site OSLO made 2 kept 1
+site BERGEN left made 1 file OUT/BERGEN/E1-A-003-K.tif
+total made 3
+";
+
+// What OSLO has: the pair that is the same has rows 2 and 3.
+const WHOLE: Kept<'static> = (
+    &[
+        Plate {
+            path: "OUT/OSLO/E1-A-001-K.tif",
+            rows: [1, 0, 0xEB, 1, 0, 0xD3],
+        },
+        Plate {
+            path: "OUT/OSLO/E1-A-003-K.tif",
+            rows: [1, 0, 0xEB, 1, 0, 0xD3],
+        },
+    ],
+    &[0, 1, 4, 5],
+);
+
+// The plates of BERGEN.
+const FIRST: Plate<'static> = Plate {
+    path: "OUT/BERGEN/E1-A-001-K.tif",
+    rows: [1, 0, 0xEB, 1, 0, 0xD3],
+};
+
+const THIRD: Plate<'static> = Plate {
+    path: "OUT/BERGEN/E1-A-003-K.tif",
+    rows: [1, 0, 0xEB, 1, 0, 0xD3],
+};
+
+// What is printed where a call of the second rack fails, and what both have. A plate is four calls: begin,
+// row, row and finish.
+const CALLS: [(u64, &str, [Kept<'static>; 2]); 4] = [
+    (2, NONE_MADE, [WHOLE, (&[], &[0])]),
+    (4, ONE_MADE, [WHOLE, (&[FIRST], &[0, 1])]),
+    (6, ONE_MADE, [WHOLE, (&[FIRST], &[0, 1, 4])]),
+    (7, ONE_MADE, [WHOLE, (&[FIRST], &[0, 1, 4, 5])]),
+];
+
+// Whether a replate of these files, of which these calls fail, ends with this status and this text, and racks
+// have this.
+fn ends<R: Abort + AllocGlobal + Threads + Sync>(
+    rt: &R,
+    files: &[File<'_>],
+    failing: Failing,
+    status: u8,
+    text: &str,
+    kept: &[Kept<'_>],
+) -> bool {
+    let case = Case {
+        files,
+        failing,
+        status,
+        text,
+        line: "",
+        loads: 4,
+        kept,
+    };
+    does(rt, &REPLATE, &case)
+}
+
+// Whether it does so of the six pages where this call of the second rack fails.
+fn leaves<R: Abort + AllocGlobal + Threads + Sync>(
+    rt: &R,
+    call: u64,
+    text: &str,
+    kept: &[Kept<'_>],
+) -> bool {
+    let failing = Failing {
+        racks: [None, Some(call)],
+        ..CALM
+    };
+    ends(rt, &SIX, failing, 1, text, kept)
+}
+
+#[test]
+fn a_site_leaves(rt: HostRuntime) {
+    for (n, (call, text, kept)) in CALLS.iter().enumerate() {
+        check(&rt, n, leaves(&rt, *call, text, kept));
+    }
+}
+
+// Files of one site, the call of its rack that fails, what is printed, and what it has.
+type Alone<'a> = (&'a [File<'a>], u64, &'a str, &'a [Kept<'a>]);
+
+const ALONE: [Alone<'static>; 2] = [
+    (
+        &SCREENED,
+        0,
+        "site OSLO left made 0 file OUT/OSLO/E1-A-001-K.tif\ntotal made 0\n",
+        &[],
+    ),
+    (
+        &RENAMED,
+        3,
+        "site OSLO left made 0 file OUT/OSLO/E2-A-001-K.tif\n\
+        dropped OUT/OSLO/E1-A-001-K.tif\ntotal made 0\n",
+        &[(&[], &[0, 1])],
+    ),
+];
+
+fn leaves_alone<R: Abort + AllocGlobal + Threads + Sync>(rt: &R, row: &Alone<'_>) -> bool {
+    let (files, call, text, kept) = *row;
+    let failing = Failing {
+        racks: [Some(call), None],
+        ..CALM
+    };
+    ends(rt, files, failing, 1, text, kept)
+}
+
+#[test]
+fn the_only_site_leaves(rt: HostRuntime) {
+    for (n, row) in ALONE.iter().enumerate() {
+        check(&rt, n, leaves_alone(&rt, row));
+    }
+}
+
+// A call of the second rack that fails, and what both have.
+const UNPRINTED: [(Option<u64>, [Kept<'static>; 2]); 2] = [
+    (None, [WHOLE, (&[FIRST, THIRD], &[0, 1, 4, 5])]),
+    (Some(6), [WHOLE, (&[FIRST], &[0, 1, 4])]),
+];
+
+// Whether a replate where this call of the second rack fails, and the output, leaves the racks with this.
+fn stands<R: Abort + AllocGlobal + Threads + Sync>(
+    rt: &R,
+    call: Option<u64>,
+    kept: &[Kept<'_>],
+) -> bool {
+    let failing = Failing {
+        racks: [None, call],
+        out: Some(0),
+        ..CALM
+    };
+    ends(rt, &SIX, failing, 7, "", kept)
+}
+
+#[test]
+fn plates_stand_where_the_output_fails(rt: HostRuntime) {
+    for (n, (call, kept)) in UNPRINTED.iter().enumerate() {
+        check(&rt, n, stands(&rt, *call, kept));
+    }
+}

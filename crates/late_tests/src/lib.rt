@@ -1,0 +1,17 @@
+// Tests of the command `replate`, which makes the plates that changed. They use public names alone.
+#![tactic(auto)]
+
+#[cfg(test)]
+mod changes;
+#[cfg(test)]
+mod desk;
+#[cfg(test)]
+mod edition;
+#[cfg(test)]
+mod faults;
+#[cfg(test)]
+mod files;
+#[cfg(test)]
+mod leaving;
+#[cfg(test)]
+mod room;

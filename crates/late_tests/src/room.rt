@@ -1,0 +1,182 @@
+// Commands over a desk, racks and sinks in memory.
+ghost use Rattle.std.specs.Prelude.{◌≡◌, ◌≤◌, is_some, length, map};
+ghost use Rattle.pr_rack.specs.Rack.{none_begun};
+ghost use Rattle.room_base.specs.Seen.{AreIdle};
+
+use crate::desk::{Desk, File};
+use crate::files::{Kept, have};
+use plate_room::plate_main;
+use pr_ports::{MemSink, Shelf, Sink};
+use pr_rack::{MemRack, Rack};
+use std::alloc::Global;
+use std::process::Abort;
+use std::thread::Threads;
+
+/// The words by which a job is made again beside another.
+pub const REPLATE: [&str; 6] = ["replate", "old.json", "OLD", "plan.json", "FILES", "OUT"];
+
+/// Which calls fail: of the shelf, of the first two racks, and of the output.
+#[derive(Clone, Copy)]
+pub struct Failing {
+    pub shelf: Option<u64>,
+    pub racks: [Option<u64>; 2],
+    pub out: Option<u64>,
+}
+
+/// No call fails.
+pub const CALM: Failing = Failing {
+    shelf: None,
+    racks: [None, None],
+    out: None,
+};
+
+/// What a desk has, and which calls fail. Then what is wanted: the status, what is printed, the line of the
+/// note, how many loads there are, and what racks have, from the first on.
+#[derive(Clone, Copy)]
+pub struct Case<'a> {
+    pub files: &'a [File<'a>],
+    pub failing: Failing,
+    pub status: u8,
+    pub text: &'a str,
+    pub line: &'a str,
+    pub loads: u64,
+    pub kept: &'a [Kept<'a>],
+}
+
+// The number of a call, where there is one.
+fn calls<R: Abort + AllocGlobal>(rt: &R, call: Option<u64>) -> Vec<u64> {
+    let mut calls = Vec::new(rt.alloc());
+    if let Some(call) = call {
+        calls.push(call).expect(rt, "memory");
+    }
+    calls
+}
+
+// A sink of which this call fails.
+fn sink<R: Abort + AllocGlobal>(rt: &R, failing: Option<u64>) -> MemSink {
+    MemSink::new(rt.alloc(), calls(rt, failing))
+}
+
+// An edition has at most so many sites.
+const RACKS: usize = 16;
+
+// The rack of a site, of which a call fails.
+fn rack<R: Abort + AllocGlobal>(rt: &R, site: usize, failing: [Option<u64>; 2]) -> MemRack
+    ensures { map is_some result.slots ≡ none_begun }
+{
+    let call = match failing.get(site) {
+        Some(call) => *call,
+        None => None,
+    };
+    MemRack::new(rt.alloc(), calls(rt, call))
+}
+
+/// Sixteen racks, of which these calls fail.
+pub fn racks<R: Abort + AllocGlobal>(rt: &R, failing: [Option<u64>; 2]) -> Vec<MemRack>
+    ensures count { length result.items ≡ 16 }
+    ensures idle { AreIdle ⟦<MemRack as Rack>⟧ result.items }
+{
+    let mut racks = Vec::new(rt.alloc());
+    for site in 0..RACKS {
+        racks.push(rack(rt, site, failing)).expect(rt, "memory");
+    }
+    racks
+}
+
+// The words of a command line.
+fn texts<R: Abort + AllocGlobal>(rt: &R, words: &[&str]) -> Vec<String> {
+    let mut texts = Vec::new(rt.alloc());
+    for word in words {
+        let text = String::from_str(rt.alloc(), word).expect(rt, "memory");
+        texts.push(text).expect(rt, "memory");
+    }
+    texts
+}
+
+// The call, of which a test is told the status alone.
+fn answer<T: Threads + Sync, H: Shelf, R: Rack + Send, S: Sink, E: Sink>(
+    rt: &T,
+    alloc: Global,
+    words: &[String],
+    shelf: &mut H,
+    racks: &mut [R],
+    out: &mut S,
+    note: &mut E,
+) -> u8
+    requires racks { 16 ≤ length racks.old }
+    requires idle { AreIdle R.Rack racks.old }
+{
+    plate_main(rt, alloc, words, shelf, racks, out, note)
+}
+
+// Does a command of these words, and gives its status.
+fn command<T: Abort + AllocGlobal + Threads + Sync, H: Shelf, S: Sink, E: Sink>(
+    rt: &T,
+    words: &[&str],
+    shelf: &mut H,
+    racks: &mut [MemRack],
+    out: &mut S,
+    note: &mut E,
+) -> u8
+    requires racks { 16 ≤ length racks.old }
+    requires idle { AreIdle ⟦<MemRack as Rack>⟧ racks.old }
+{
+    let words = texts(rt, words);
+    answer(rt, rt.alloc(), words.as_slice(), shelf, racks, out, note)
+}
+
+// Whether a command of these words ends with this status and this line.
+fn tells<R: Abort + AllocGlobal + Threads + Sync, H: Shelf, S: Sink>(
+    rt: &R,
+    words: &[&str],
+    shelf: &mut H,
+    racks: &mut [MemRack],
+    out: &mut S,
+    case: &Case<'_>,
+) -> bool
+    requires racks { 16 ≤ length racks.old }
+    requires idle { AreIdle ⟦<MemRack as Rack>⟧ racks.old }
+{
+    let mut note = sink(rt, None);
+    let status = command(rt, words, shelf, racks, out, &mut note);
+    status == case.status && note.bytes() == case.line.as_bytes()
+}
+
+/// Whether a command of these words over these racks ends, prints and tells as it is wanted.
+pub fn prints<R: Abort + AllocGlobal + Threads + Sync>(
+    rt: &R,
+    words: &[&str],
+    racks: &mut [MemRack],
+    case: &Case<'_>,
+) -> bool
+    requires racks { 16 ≤ length racks.old }
+    requires idle { AreIdle ⟦<MemRack as Rack>⟧ racks.old }
+{
+    let mut desk = Desk {
+        alloc: rt.alloc(),
+        files: case.files,
+        failing: case.failing.shelf,
+        loads: 0,
+        faults: 0,
+        longs: 0,
+    };
+    let mut out = sink(rt, case.failing.out);
+    tells(rt, words, &mut desk, racks, &mut out, case)
+        && out.bytes() == case.text.as_bytes()
+        && desk.loads == case.loads
+}
+
+/// Whether a command of these words does what is wanted.
+pub fn does<R: Abort + AllocGlobal + Threads + Sync>(
+    rt: &R,
+    words: &[&str],
+    case: &Case<'_>,
+) -> bool {
+    let mut racks = racks(rt, case.failing.racks);
+    prints(rt, words, racks.as_mut_slice(), case) && have(racks.as_slice(), case.kept)
+}
+
+/// Row `n` of a table holds.
+pub fn check(rt: &impl Abort, n: usize, holds: bool) {
+    assert!(rt; holds, "row {n}");
+}

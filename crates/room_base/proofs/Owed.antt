@@ -1,0 +1,46 @@
+-- What a command owes, so that the clauses of `plate_main` follow for all of them at once.
+use Rattle.std.proofs.Common.{◌≡◌, ◌⊎◌, ℕ, ◌<◌, List, length, Some, None, inl, inr, arith}
+use Rattle.std.specs.Prelude.{slice_get}
+use Rattle.std.proofs.lemmas.Option.{slice_get_cases}
+use Rattle.pr_rack.specs.declared.rack.Rack.{Ghosts}
+use Rattle.room_base.specs.declared.refusal.Refusal.{Refusal}
+use Rattle.room_base.specs.Status.{IsDoneStatus}
+use Rattle.room_base.specs.Refusal.{status_of}
+use Rattle.room_base.specs.Seen.{Files, ShelfSeen, LoadFailed, RackFailed}
+use Rattle.room_base.specs.Task.{Makes, Rules}
+
+-- what is owed of a command whose rules and makings are these
+pub record Owes {R : Type 0} (g : Ghosts R) (rules : Rules) (makes : Makes R) : Type 0 where
+  -- a refusal that was met is the verdict, or a load failed
+  pub met : (files : Files) (shelf : ShelfSeen) (refusal : Refusal) → shelf.held ≡ Some files → rules.Meets shelf refusal
+      → (rules.verdict files ≡ Some refusal) ⊎ ((status_of refusal ≡ 5) × LoadFailed shelf)
+  -- the words aren't refused
+  pub known : (shelf : ShelfSeen) (refusal : Refusal) → rules.Meets shelf refusal → status_of refusal ≡ 2 → ⊥
+  -- what prints passes the verdict
+  pub prints : (files : Files) (shelf : ShelfSeen) (racks racks' : List R) (text : List ℕ) (status : ℕ)
+      → shelf.held ≡ Some files → makes.Prints shelf racks racks' text status → rules.verdict files ≡ None
+  -- and so does what begins
+  pub begins : (files : Files) (shelf : ShelfSeen) (racks racks' : List R)
+      → shelf.held ≡ Some files → makes.Begins shelf racks racks' → rules.verdict files ≡ None
+  -- the status of what prints is that of a command that is done
+  pub done : (shelf : ShelfSeen) (racks racks' : List R) (text : List ℕ) (status : ℕ)
+      → makes.Prints shelf racks racks' text status → IsDoneStatus status
+  -- it is 1 where a rack failed alone
+  pub one : (shelf : ShelfSeen) (racks racks' : List R) (text : List ℕ) (status : ℕ)
+      → makes.Prints shelf racks racks' text status → status ≡ 1 → RackFailed g racks racks'
+  -- and else that which the files tell
+  pub ends : (files : Files) (shelf : ShelfSeen) (racks racks' : List R) (text : List ℕ) (status : ℕ)
+      → shelf.held ≡ Some files → makes.Prints shelf racks racks' text status
+      → rules.Ends files status ⊎ (status ≡ 1)
+
+-- ---- what several commands cite
+
+pub zero_or_one : (status : ℕ) → status ≡ 0 → status ≡ 1 → ⊥
+zero_or_one status zero one = omega arith
+
+-- the element at an index within
+pub there : {A : Type 0} (xs : List A) (k : ℕ) → k < length xs → (x : A) × (slice_get xs k ≡ Some x)
+there xs k less = elim ((slice_get_cases xs k).1) [
+  | inl found ↦ (found.0, found.2)
+  | inr past ↦ absurd (let far = past.0 in omega arith)
+]

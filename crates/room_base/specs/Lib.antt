@@ -1,0 +1,7 @@
+pub mod Seen
+pub mod Status
+pub mod Line
+pub mod Refusal
+pub mod Note
+pub mod Task
+pub mod Job

@@ -1,0 +1,166 @@
+// The command `replate`: the plates of an edition that changed, and these alone.
+ghost use Rattle.std.specs.Prelude.{◌≡◌, ◌≤◌, IfErr, IfOk, OnErr, OnOk, length};
+ghost use Rattle.plan_json.specs.Plan.{IsPlan};
+ghost use Rattle.plan_rows.specs.Groups.{groups_of};
+ghost use Rattle.press_job.specs.Rows.{plate_frames};
+ghost use Rattle.replate.specs.Inputs.{AreInputs, job_of};
+ghost use Rattle.room_replate.specs.Change.{change_told, ChangeRefused, DeliversPicked, DeliversPickedPart, IsLate, IsLoadedLate, change_makes, change_rules, compared};
+ghost use Rattle.room_base.specs.Seen.{AreIdle, shelf_seen, sink_seen};
+ghost use Rattle.room_base.specs.Task.{Answers};
+
+use crate::remade::{dropped_lines, remade_text, status_of};
+use pr_base::{NoMemory, RowFeed};
+use pr_ports::{Shelf, Sink};
+use pr_rack::Rack;
+use press_feed::{Feed, Job};
+use replate::{Inputs, Picks, RemadeEnd, deliver};
+use room_base::{Stop, Whose, load_job, put_text};
+use std::alloc::Global;
+
+/// An edition of which the plates that changed are made.
+#[derive(Clone, Copy)]
+pub struct Change<'a> {
+    /// The path of the plan that was made before it.
+    pub old_plan: &'a str,
+    /// The folder of that plan's files.
+    pub old_files: &'a str,
+    /// The path of the plan.
+    pub plan: &'a str,
+    /// The folder of the plan's files.
+    pub files: &'a str,
+    /// The folder of the plates.
+    pub out: &'a str,
+}
+
+/// A new job, what must be made of it beside an old one, and the lines of the old plates that are dropped.
+#[derive(Drop)]
+pub(crate) struct Late {
+    job: Job,
+    picks: Picks,
+    dropped: String,
+}
+
+/// Makes the plates of an edition that changed, prints how its sites ended, and answers the status of what
+/// was done.
+pub fn print_change<H: Shelf, R: Rack, S: Sink>(
+    alloc: Global,
+    change: Change<'_>,
+    shelf: &mut H,
+    racks: &mut [R],
+    out: &mut S,
+) -> Result<u8, Stop>
+    requires racks { 16 ≤ length racks.old }
+    requires idle { AreIdle R.Rack racks.old }
+    ensures answered { Answers
+        (change_rules (change_told change.entry)) (change_makes R.Rack (change_told change.entry))
+        (shelf_seen H.Shelf shelf.old shelf.new)
+        racks.old racks.new (sink_seen S.Sink out.old out.new) result }
+    ensures held { H.held shelf.new ≡ H.held shelf.old }
+    ensures missed { OnOk result (H.missed shelf.new ≡ H.missed shelf.old) }
+{
+    let late = load_late(alloc, change, shelf)?;
+    let Ok(remade) = make_late(alloc, change, &late, racks) else {
+        return Err(Stop::Memory);
+    };
+    let ends = remade.as_slice();
+    let plan = late.job.plan();
+    let dropped = late.dropped.as_str();
+    let Ok(text) = remade_text(alloc, plan, ends, dropped) else {
+        return Err(Stop::Memory);
+    };
+    put_text(text.as_bytes(), status_of(ends), out)
+}
+
+/// Loads the old job and then the new one, and compares them. The old job is let go here.
+fn load_late<H: Shelf>(alloc: Global, change: Change<'_>, shelf: &mut H) -> Result<Late, Stop>
+    ensures loaded { IfOk result (IsLoadedLate (change_told change.entry) (H.held shelf.old)) }
+    ensures refused { IfErr result
+        (ChangeRefused (change_told change.entry) (shelf_seen H.Shelf shelf.old shelf.new)) }
+    ensures held { H.held shelf.new ≡ H.held shelf.old }
+    ensures missed { OnOk result (H.missed shelf.new ≡ H.missed shelf.old) }
+{
+    let before = load_job(alloc, Whose::Old, change.old_plan, change.old_files, shelf)?;
+    let job = load_job(alloc, Whose::New, change.plan, change.files, shelf)?;
+    let Ok(late) = compare(alloc, &before, job, change.out) else {
+        return Err(Stop::Memory);
+    };
+    Ok(late)
+}
+
+/// Compares an old job with a new one.
+fn compare(alloc: Global, before: &Job, job: Job, out: &str) -> Result<Late, NoMemory>
+    ensures late { IfOk result (IsLate before.now out.now) }
+    ensures job { IfOk result (λ late. late.job ≡ job) }
+{
+    let olds = inputs_of(before);
+    let news = inputs_of(&job);
+    let picks = Picks::of(alloc, &olds, &news)?;
+    let plates = picks.dropped();
+    let dropped = dropped_lines(alloc, before, out, plates)?;
+    Ok(Late {
+        job,
+        picks,
+        dropped,
+    })
+}
+
+/// A job as it is compared.
+fn inputs_of(job: &Job) -> Inputs<'_>
+    ensures inputs { AreInputs result }
+    ensures job { job_of result ≡ compared job.now }
+    ensures plan { IsPlan job.now.plan }
+{
+    Inputs {
+        plan: job.plan(),
+        rows: job.rows(),
+        files: job.files(),
+    }
+}
+
+/// Makes the plates that must be made.
+fn make_late<R: Rack>(
+    alloc: Global,
+    change: Change<'_>,
+    late: &Late,
+    racks: &mut [R],
+) -> Result<Vec<RemadeEnd>, NoMemory>
+    requires racks { 16 ≤ length racks.old }
+    requires idle { AreIdle R.Rack racks.old }
+    requires groups { length late.now.picks.kept ≡ length (groups_of late.now.job.plan) }
+    ensures delivers { IfOk result (λ ends. DeliversPicked R.Rack (change_told change.entry) late.now.job
+        late.now.picks racks.old racks.new ends.items) }
+    ensures part { OnErr result (DeliversPickedPart R.Rack (change_told change.entry) late.now.job
+        late.now.picks racks.old racks.new) }
+{
+    let mut feed = Feed::open(alloc, &late.job)?;
+    make_fed(alloc, change, late, &mut feed, racks)
+}
+
+/// The same with a feed that has all rows of the new job to come.
+fn make_fed<F: RowFeed, R: Rack>(
+    alloc: Global,
+    change: Change<'_>,
+    late: &Late,
+    feed: &mut F,
+    racks: &mut [R],
+) -> Result<Vec<RemadeEnd>, NoMemory>
+    requires feed { F.left feed.old ≡ plate_frames late.now.job.plan late.now.job.files }
+    requires racks { 16 ≤ length racks.old }
+    requires idle { AreIdle R.Rack racks.old }
+    requires groups { length late.now.picks.kept ≡ length (groups_of late.now.job.plan) }
+    ensures delivers { IfOk result (λ ends. DeliversPicked R.Rack (change_told change.entry) late.now.job
+        late.now.picks racks.old racks.new ends.items) }
+    ensures part { OnErr result (DeliversPickedPart R.Rack (change_told change.entry) late.now.job
+        late.now.picks racks.old racks.new) }
+{
+    let inputs = inputs_of(&late.job);
+    deliver(
+        alloc,
+        &late.job,
+        feed,
+        &inputs,
+        &late.picks,
+        change.out,
+        racks,
+    )
+}

@@ -1,0 +1,4 @@
+pub mod Report
+pub mod Edition
+pub mod Keys
+pub mod Drill

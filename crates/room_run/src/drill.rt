@@ -1,0 +1,143 @@
+// The command `drill`: a generated job, run in memory.
+ghost use Rattle.std.specs.Prelude.{◌≡◌, All, IfOk, IsOk, None, Ok, [], codes, length, map, nat_eq, string_bytes};
+ghost use Rattle.std.specs.Cmp.Lexicographic.{pointwise};
+ghost use Rattle.std.specs.List.{IsDistinct};
+ghost use Rattle.pr_ports.specs.Mem.{files_of};
+ghost use Rattle.pr_rack.specs.Mem.{empty_slots};
+ghost use Rattle.plan_words.specs.Words.{IsWithin};
+ghost use Rattle.plan_json.specs.PlanOf.{plan_of};
+ghost use Rattle.press_job.specs.Verdict.{files_in, verdict_on_files};
+ghost use Rattle.room_run.specs.Drill.{PrintsDrill, drill_job, drill_rules, drill_text as text_for, told_of};
+ghost use Rattle.room_base.specs.Seen.{ShelfSeen, sink_seen};
+ghost use Rattle.room_base.specs.Task.{Told};
+
+use crate::dots::told;
+use drill_room::{SureRack, SureShelf};
+use job_gen::make_job;
+use plan_json::{Plan, PlanFault, read_plan};
+use pr_base::{NoMemory, PathText};
+use pr_ports::Sink;
+use press_feed::{Job, prepare};
+use ring_run::run_job;
+use room_base::{Status, Stop, put_text};
+use std::alloc::Global;
+use std::thread::Threads;
+
+/// A generated job to be run in memory.
+#[derive(Clone, Copy)]
+pub struct Drill {
+    /// The number of the job.
+    pub number: u32,
+    /// Places of the ring, 1 to 1024.
+    pub ring: u32,
+    /// How often a turn looks for a row in vain, 1 to 65,536.
+    pub patience: u32,
+}
+
+/// The folder of the job's files.
+const FILES: &str = "in";
+
+/// The folder of its plates.
+const PLATES: &str = "drill";
+
+/// Runs a generated job in memory, and prints the report and the dots of its plates. It answers the status
+/// of what was done.
+pub fn print_drill<T: Threads + Sync, S: Sink>(
+    rt: &T,
+    alloc: Global,
+    drill: Drill,
+    out: &mut S,
+) -> Result<u8, Stop>
+    requires ring { IsWithin 1 1024 drill.ring }
+    requires patience { IsWithin 1 65536 drill.patience }
+    ensures { (shelf : ShelfSeen) → Told drill_rules (PrintsDrill drill.number)
+        shelf (sink_seen S.Sink out.old out.new) result }
+{
+    let Ok(text) = drill_text(rt, alloc, drill) else {
+        return Err(Stop::Memory);
+    };
+    put_text(text.as_bytes(), Status::Done, out)
+}
+
+/// What a drill prints.
+fn drill_text<T: Threads + Sync>(rt: &T, alloc: Global, drill: Drill) -> Result<String, NoMemory>
+    requires ring { IsWithin 1 1024 drill.ring }
+    requires patience { IsWithin 1 65536 drill.patience }
+    ensures { IfOk result (λ text. string_bytes text ≡ text_for drill.number) }
+{
+    let job = job_of(alloc, drill.number)?;
+    let mut racks = empty_racks(alloc, job.plan().sites.len())?;
+    tell_run(rt, alloc, &job, racks.as_mut_slice(), drill)
+}
+
+/// Runs a job to empty racks, one for each of its sites, and tells of it.
+fn tell_run<T: Threads + Sync>(
+    rt: &T,
+    alloc: Global,
+    job: &Job,
+    racks: &mut [SureRack],
+    drill: Drill,
+) -> Result<String, NoMemory>
+    requires ring { IsWithin 1 1024 drill.ring }
+    requires patience { IsWithin 1 65536 drill.patience }
+    requires count { length racks.old ≡ length job.now.plan.sites }
+    requires slots { All (λ rack. rack.slots ≡ empty_slots) racks.old }
+    requires files { All (λ rack. rack.files ≡ []) racks.old }
+    ensures { IfOk result (λ text. string_bytes text ≡ told_of job.now) }
+{
+    let outcome = run_job(rt, alloc, job, racks, PLATES, drill.ring, drill.patience)?;
+    told(alloc, job, outcome.sites.as_slice(), racks)
+}
+
+/// The generated job with a number, prepared.
+fn job_of(alloc: Global, number: u32) -> Result<Job, NoMemory>
+    ensures { IfOk result (λ job. job ≡ drill_job number) }
+{
+    let made = make_job(alloc, number)?;
+    let plan = plan_in(alloc, made.plan.as_slice())?;
+    prepare_job(alloc, plan, made.files)
+}
+
+/// The plan that a text is.
+fn plan_in(alloc: Global, text: &[u8]) -> Result<Plan, NoMemory>
+    requires { IsOk (plan_of text.now) }
+    ensures { IfOk result (λ plan. plan_of text.now ≡ Ok plan) }
+{
+    match read_plan(alloc, text) {
+        Ok(plan) => Ok(plan),
+        Err(PlanFault::Memory) => Err(NoMemory),
+        Err(_) => unreachable!(),
+    }
+}
+
+/// The job of a plan with these files, which pass all tests. It can't be refused but for want of memory.
+fn prepare_job(alloc: Global, plan: Plan, files: Vec<(PathText, Vec<u8>)>) -> Result<Job, NoMemory>
+    requires paths { IsDistinct (pointwise nat_eq) (map (λ file. file.0) (files_of files.items)) }
+    requires passes { verdict_on_files plan (codes "in") (files_of files.items) ≡ None }
+    ensures { IfOk result (λ job. job
+        ≡ record { plan = plan; files = files_in plan (codes "in") (files_of files.items) }) }
+{
+    let mut shelf = SureShelf::new(alloc, files);
+    match prepare(alloc, plan, FILES, &mut shelf) {
+        Ok(job) => Ok(job),
+        Err(press_feed::Refusal::Memory) => Err(NoMemory),
+        Err(press_feed::Refusal::File(_fault)) => unreachable!(),
+        Err(press_feed::Refusal::Shelf(_path)) => {
+            shelf.lacks_what_it_missed();
+            unreachable!()
+        }
+    }
+}
+
+/// So many empty racks.
+fn empty_racks(alloc: Global, count: usize) -> Result<Vec<SureRack>, NoMemory>
+    ensures count { IfOk result (λ racks. length racks.items ≡ count) }
+    ensures slots { IfOk result (λ racks. All (λ rack. rack.slots ≡ empty_slots) racks.items) }
+    ensures files { IfOk result (λ racks. All (λ rack. rack.files ≡ []) racks.items) }
+{
+    let mut racks = Vec::new(alloc);
+    for _index in 0..count {
+        racks.push(SureRack::new(alloc))?;
+    }
+    Ok(racks)
+}

@@ -1,0 +1,16 @@
+// The commands over a run (ring_run): `run` delivers the plates of all sites of an edition and prints the
+// report, `keys` counts the ink keys beside it, and `drill` runs a generated job in memory and counts the
+// dots. What is said of any command stands in room_base.
+#![tactic(auto)]
+
+mod dots;
+mod drill;
+mod edition;
+mod keys;
+mod laws;
+mod report;
+
+pub use drill::{Drill, print_drill};
+pub use edition::{Edition, run_edition};
+pub use keys::run_with_keys;
+pub use laws::generated_jobs_pass;
