@@ -8,7 +8,7 @@ set -eu
 here=$(cd "$(dirname "$0")" && pwd)
 folder=${1:-$(mktemp -d)}
 program=$folder/crates/bench_picks
-mkdir -p "$program/src"
+mkdir -p "$program/src" "$program/proofs/files_of"
 cp "$here/../HANDLES" "$folder"
 lower='pr_base tif_dir tif_packbits tif_plate plan_words plan_parts plan_json plan_pages plan_rows'
 lower="$lower ring_core ring_rule ring_lanes pr_rack site_agent replate"
@@ -25,6 +25,7 @@ cat > "$program/src/main.rt" <<'CODE'
 #![tactic(auto)]
 
 ghost use Rattle.std.specs.Prelude.{◌≡◌, IfOk, length};
+ghost use Rattle.plan_rows.specs.Rows.{rows_of};
 ghost use Rattle.replate.specs.Inputs.{AreInputs};
 
 use anyhow::{Context, Result};
@@ -99,19 +100,41 @@ fn compare(rt: &(impl CpuClock + Print), one: &[Vec<u8>], other: &[Vec<u8>]) -> 
     Ok(())
 }
 
-fn times(rt: &(impl CpuClock + Print + AllocGlobal), plan: &Plan, size: usize) -> Result<()> {
-    let rows = RowPlan::of(rt.alloc(), plan)?;
+/// Times the picks of a plan with these old and new files.
+fn pick_files(
+    rt: &(impl CpuClock + Print + AllocGlobal),
+    kind: &str,
+    plan: &Plan,
+    rows: &RowPlan,
+    old: &[Vec<u8>],
+    new: &[Vec<u8>],
+) -> Result<()>
+    requires rows { rows.now ≡ rows_of plan.now }
+    requires old { length old.now ≡ length plan.now.files }
+    requires new { length new.now ≡ length plan.now.files }
+{
+    let before = Inputs { plan, rows, files: old };
+    let after = Inputs { plan, rows, files: new };
+    pick(rt, kind, &before, &after)
+}
+
+/// Times them for files of a size: the same ones, and others.
+fn times(rt: &(impl CpuClock + Print + AllocGlobal), plan: &Plan, rows: &RowPlan, size: usize) -> Result<()>
+    requires rows { rows.now ≡ rows_of plan.now }
+{
     let count = plan.files().len();
     let old = files_of(rt.alloc(), count, size, 1)?;
     let same = files_of(rt.alloc(), count, size, 1)?;
-    let before = Inputs { plan, rows: &rows, files: &old };
-    let after = Inputs { plan, rows: &rows, files: &same };
-    pick(rt, "same files", &before, &after)?;
+    pick_files(rt, "same files", plan, rows, &old, &same)?;
     compare(rt, &old, &same)?;
     drop(same);
     let new = files_of(rt.alloc(), count, size, 1 << 32)?;
-    let after = Inputs { plan, rows: &rows, files: &new };
-    pick(rt, "other files", &before, &after)
+    pick_files(rt, "other files", plan, rows, &old, &new)
+}
+
+fn rows_and_times(rt: &(impl CpuClock + Print + AllocGlobal), plan: &Plan, size: usize) -> Result<()> {
+    let rows = RowPlan::of(rt.alloc(), plan)?;
+    times(rt, plan, &rows, size)
 }
 
 fn run<R: Files + Env + CpuClock + Print + AllocGlobal>(rt: &R) -> Result<()> {
@@ -123,13 +146,20 @@ fn run<R: Files + Env + CpuClock + Print + AllocGlobal>(rt: &R) -> Result<()> {
     let plan = read_plan(rt.alloc(), text.as_slice())?;
     let took = microseconds(start, rt.process_cpu_time()?);
     println!(rt; "read_plan: {took} microseconds, {} files", plan.files().len())?;
-    times(rt, &plan, size)
+    rows_and_times(rt, &plan, size)
 }
 
 fn main(rt: HostRuntime) -> Result<()> {
     run(&rt)
 }
 CODE
+cat > "$program/proofs/files_of/Invariants.antt" <<'PROOF'
+use Rattle.std.proofs.Common.{◌≡◌, length}
+use Rattle.bench_picks.proofs.files_of.Given as goal
+
+abbrev pub invariant-loop-n : goal.invariant-loop-n
+invariant-loop-n l = length l.files.items ≡ l.n
+PROOF
 python3 - "$folder/pages.json" <<'PLAN'
 """128 pages of one image each, out of 16 files, for 16 sites."""
 import json
