@@ -30,6 +30,7 @@ impl SureRack {
     pub fn new(alloc: Global) -> SureRack
         ensures slots { result.slots ≡ empty_slots }
         ensures files { result.files ≡ [] }
+        ensures taken { result.taken ≡ [] }
     {
         SureRack {
             rack: MemRack::new(alloc, Vec::new(alloc)),

@@ -43,6 +43,7 @@ impl SureShelf {
     pub fn lacks_what_it_missed(&self)
         ensures { ForSome self.now.missed (λ path. held_at self.now.files path ≡ None) }
     {
+        // For what always holds of it.
         let _shelf = &self.shelf;
     }
 }

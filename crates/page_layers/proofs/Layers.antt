@@ -1,7 +1,10 @@
 -- What a layer's rows keep, from the begin on.
-use Rattle.std.proofs.Common.{◌≡◌, ℕ, Bool, true, false, if◌then◌else◌, ◌+◌, ◌*◌, ◌/◌, ◌<◌, ◌≤◌, List, length, get_or, replicate, slice_index, Option, option_map, refl, sym, ap, ◌∙◌, arith}
+use Rattle.std.proofs.Common.{◌≡◌, ℕ, Bool, true, false, if◌then◌else◌, ◌+◌, ◌*◌, ◌/◌, ◌<◌, ◌≤◌, List, length, get_or, replicate, slice_index, Option, Some, None, option_map, refl, subst, sym, ap, ◌∙◌, arith}
 use Rattle.std.proofs.lemmas.List.{get_or-replicate, length-replicate}
 use Rattle.std.specs.Prelude.{◌==◌}
+use Rattle.std.specs.Option.{ForSome}
+use Rattle.std.proofs.lemmas.Option.{same_Some}
+use Rattle.tif_image.specs.Image.{BilevelImage}
 use Rattle.pr_base.specs.Row.{row_size}
 use Rattle.tif_strips.specs.declared.shape.Shape.{Shape}
 use Rattle.tif_strips.specs.Strips.{Cursor, Image, image_row, row_length}
@@ -22,6 +25,26 @@ row_reaches shape = cases (shape.samples == 4) shape.width
     cases true width = omega arith
     cases false width = omega arith
 
+-- and at most four bytes for each
+pub row_most : (shape : Shape) → shape.width ≤ 65535 → row_length shape ≤ 262140
+row_most shape wide = cases (shape.samples == 4) shape.width wide
+  where
+    cases : (four : Bool) (width : ℕ) → width ≤ 65535 → (if four then 4 * width else row_size width) ≤ 262140
+    cases true width wide = omega arith
+    cases false width wide = omega arith
+
+-- so also of a mask
+pub mask_most : (layer : Layer) (next : ℕ) (mask : Option Cursor) (reader : Cursor) → mask ≡ option_map (mask_cursor next) layer.mask → IsLayer layer → (shape_of layer.art).width ≤ 65535
+    → mask ≡ Some reader → row_length reader.shape ≤ 262140
+mask_most layer next mask reader is fits wide there = cases layer.mask fits.mask_width (sym is ∙ there)
+  where
+    cases : (mask : Option BilevelImage) → ForSome mask (λ m. m.shape.width ≡ (shape_of layer.art).width) → option_map (mask_cursor next) mask ≡ Some reader → row_length reader.shape ≤ 262140
+    cases None same none = absurd (cc)
+    cases (Some m) same some =
+        let here : mask_cursor next m ≡ reader = same_Some (mask_cursor next m) reader some in
+        let long : (mask_cursor next m).shape.width ≤ 65535 = rw (sym (same m refl)) at wide in
+        subst {A = Cursor} (λ r. row_length r.shape ≤ 262140) here (row_most m.shape long)
+
 -- paint of the fixed inks has what is the same in each row
 fixed_paint : (art : Art) (span : ℕ) (paint : Planes) → paint.cyan ≡ replicate span (slice_index (fixed_of art) 0) → paint.magenta ≡ replicate span (slice_index (fixed_of art) 1)
     → paint.yellow ≡ replicate span (slice_index (fixed_of art) 2) → paint.black ≡ replicate span (slice_index (fixed_of art) 3) → paint.spot ≡ replicate span (slice_index (fixed_of art) 4)
@@ -34,15 +57,15 @@ pub inks_from : (plane inks fixed : List ℕ) (width i : ℕ) {span : ℕ} → p
 inks_from plane inks fixed width i is wide same = rw (is, wide, same) refl
 
 -- before the first row
-pub IsLayerRows-open : (layer : Layer) (width columns : ℕ) (painting : Painting) (image : Cursor) (mask : Option Cursor) (paint : Planes) (marks admitted : List ℕ)
+pub IsLayerRows-open : (layer : Layer) (width columns : ℕ) (painting : Painting) (image : Cursor) (mask : Option Cursor) (paint : Planes) (marks admitted : List ℕ) (marks_room admitted_room : ℕ)
     → IsLayer layer → painting ≡ painting_of layer → (shape_of layer.art).width ≤ 65535 → (shape_of layer.art).length ≤ 65535 → width ≤ 65535
     → image ≡ record { shape = shape_of layer.art; bytes = bytes_of layer.art; next = 0 } → mask ≡ option_map (mask_cursor 0) layer.mask
     → paint.cyan ≡ replicate (span_of width layer) (slice_index (fixed_of layer.art) 0) → paint.magenta ≡ replicate (span_of width layer) (slice_index (fixed_of layer.art) 1)
     → paint.yellow ≡ replicate (span_of width layer) (slice_index (fixed_of layer.art) 2) → paint.black ≡ replicate (span_of width layer) (slice_index (fixed_of layer.art) 3)
     → paint.spot ≡ replicate (span_of width layer) (slice_index (fixed_of layer.art) 4)
     → length marks ≡ columns → span_of width layer ≤ columns * layer.scale → columns ≤ layer.crop.width → admitted ≡ replicate (span_of width layer) 255
-    → IsLayerRows layer width painting image mask paint marks admitted
-IsLayerRows-open layer width columns painting image mask paint marks admitted is painting_is wide long page image_is mask_is c m y k s marks_are enough within admitted_is =
+    → 65535 ≤ marks_room → 65535 ≤ admitted_room → IsLayerRows layer width painting image mask paint marks admitted marks_room admitted_room
+IsLayerRows-open layer width columns painting image mask paint marks admitted marks_room admitted_room is painting_is wide long page image_is mask_is c m y k s marks_are enough within admitted_is marks_wide admitted_wide =
     let next : image.next ≡ 0 = ap (λ (cursor : Cursor). cursor.next) image_is in
     record {
       layer_is = is;
@@ -63,6 +86,8 @@ IsLayerRows-open layer width columns painting image mask paint marks admitted is
       columns = omega arith;
       bare = λ bare. admitted_is;
       expanded = λ read. absurd (omega arith);
+      marks_wide = marks_wide;
+      admitted_wide = admitted_wide;
     }
 
 -- the samples of a pixel of a contone image are its paint

@@ -3,12 +3,14 @@ use Rattle.std.specs.Prelude.{ℕ, ◌-◌, ◌==◌, ◌&&◌, nat_lt, not, if�
 use Rattle.page_layers.specs.declared.layer.Layer.{Layer}
 use Rattle.page_layers.specs.Layer.{covers_row, row_at}
 
--- a page before one of its rows: its layers, its sides in pixels, and the number of the next row
+-- a page before one of its rows: its layers, its sides in pixels, the number of the next row, and for how
+-- many layers it has room
 pub record Page : Type 0 where
   pub layers : List Layer
   pub width : ℕ
   pub height : ℕ
   pub next : ℕ
+  pub room : ℕ
 
 -- the layer shows on row y of a page of this width
 abbrev pub shows_on : ℕ → Layer → ℕ → Bool

@@ -1,15 +1,19 @@
 -- A cursor over an image, and the row that it gave last.
-use Rattle.std.specs.Prelude.{◌≡◌, ℕ, ◌-◌, ◌<◌, List, length}
+use Rattle.std.specs.Prelude.{◌≡◌, ℕ, ◌-◌, ◌≤◌, List, length, take}
 use Rattle.tif_strips.specs.Strips.{Cursor, image_row, row_length}
 use Rattle.tif_image.specs.Image.{BilevelImage}
 use Rattle.page_layers.specs.declared.layer.Art.{Art}
 use Rattle.page_layers.specs.Layer.{bytes_of, shape_of}
 
--- the row is the one before the cursor's next, if one was read
-pub record IsReader (rows : Cursor) (read : ℕ) (row : List ℕ) : Type 0 where
+-- the number of rows that were read, and of the bytes of a row
+pub record IsReader (rows : Cursor) (read len : ℕ) : Type 0 where
   pub read_is : read ≡ rows.next
-  pub long : length row ≡ row_length rows.shape
-  pub last : 0 < read → row ≡ image_row rows.shape rows.bytes (read - 1)
+  pub len_is : len ≡ row_length rows.shape
+
+-- at the front of a room stands the row before the cursor's next
+pub record Holds (rows : Cursor) (room : List ℕ) : Type 0 where
+  pub long : row_length rows.shape ≤ length room
+  pub row_is : take (row_length rows.shape) room ≡ image_row rows.shape rows.bytes (rows.next - 1)
 
 -- a cursor before another row
 abbrev pub at_row : ℕ → Cursor → Cursor

@@ -118,7 +118,8 @@ pub record IsExpanded (layer : Layer) (row span : ℕ) (paint : Planes) (admitte
 -- what a layer's rows keep: cursors that stand before the same row of the image and of its mask, and the
 -- paint of the row before it
 pub record IsLayerRows (layer : Layer) (width : ℕ) (painting : Painting) (image : Cursor)
-    (mask : Option Cursor) (paint : Planes) (marks admitted : List ℕ) : Type 0 where
+    (mask : Option Cursor) (paint : Planes) (marks admitted : List ℕ) (marks_room admitted_room : ℕ)
+    : Type 0 where
   pub layer_is : IsLayer layer
   pub painting_is : painting ≡ painting_of layer
   pub sides : ((shape_of layer.art).width ≤ 65535) × ((shape_of layer.art).length ≤ 65535) × (width ≤ 65535)
@@ -131,6 +132,9 @@ pub record IsLayerRows (layer : Layer) (width : ℕ) (painting : Painting) (imag
   pub columns : length marks ≤ layer.crop.width
   pub bare : IsTrue (is_bare layer) → admitted ≡ replicate (span_of width layer) 255
   pub expanded : 0 < image.next → IsExpanded layer (image.next - 1) (span_of width layer) paint admitted
+  -- both lie where any row has room
+  pub marks_wide : 65535 ≤ marks_room
+  pub admitted_wide : 65535 ≤ admitted_room
 
 -- what contracts see of a layer's rows: the layer, the page's width, and how many rows of the image were read
 pub record LayerState : Type 0 where
@@ -148,9 +152,13 @@ pub record IsReady (width y : ℕ) (state : LayerState) : Type 0 where
 abbrev pub layers_of : List LayerState → List Layer
 layers_of states = map (λ state. state.layer) states
 
--- what a page keeps: its layers are ready for its next row
-pub record IsPage (states : List LayerState) (width height next : ℕ) : Type 0 where
+-- what a page keeps: its layers are ready for its next row, and those and the rooms that no layer uses have
+-- places in the list of layers as in that of rooms
+pub record IsPage (states : List LayerState) (width height next rooms layer_places room_places : ℕ)
+    : Type 0 where
   pub wide : width ≤ 65535
   pub high : height ≤ 65535
   pub within : next ≤ height
   pub ready : All (IsReady width next) states
+  pub layers_fit : length states + rooms ≤ layer_places
+  pub rooms_fit : length states + rooms ≤ room_places

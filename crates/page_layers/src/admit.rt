@@ -2,7 +2,7 @@
 ghost use Rattle.std.specs.Prelude.{◌≡◌, ℕ, ◌+◌, ◌-◌, ◌*◌, ◌/◌, ◌<◌, ◌≤◌, if◌then◌else◌, IsTrue, length, option_map, replicate, slice_index};
 ghost use Rattle.std.specs.Option.{ForSome};
 ghost use Rattle.page_layers.specs.Layer.{IsLayer, admits, paints_at, shape_of, shows_through};
-ghost use Rattle.page_layers.specs.Reader.{IsOf, mask_cursor};
+ghost use Rattle.page_layers.specs.Reader.{Holds, IsOf, mask_cursor};
 ghost use Rattle.page_layers.specs.Rows.{IsAdmitted, IsMarked, is_bare};
 
 use crate::layer::{Art, Layer};
@@ -26,12 +26,16 @@ pub(crate) fn admit_row(
     layer: &Layer<'_>,
     image: &RowReader<'_>,
     mask: &Option<RowReader<'_>>,
+    image_row: &[u8],
+    mask_row: &[u8],
     marks: &mut [u8],
     admitted: &mut [u8],
 )
     requires image { IsOf layer.now.art image.now }
     requires mask { mask.now ≡ option_map (mask_cursor image.now.next) layer.now.mask }
     requires read { 0 < image.now.next }
+    requires image_row { Holds image.now image_row.now }
+    requires mask_row { ForSome mask.now (λ reader. Holds reader mask_row.now) }
     requires layer { IsLayer layer.now }
     requires width { (shape_of layer.now.art).width ≤ 65535 }
     requires columns { length marks.old ≤ layer.now.crop.width }
@@ -45,15 +49,16 @@ pub(crate) fn admit_row(
         return;
     }
     let first = layer.crop.x;
-    mark_art(&layer.art, image, first, marks);
-    mark_mask(&layer.mask, mask, first, image.read(), marks);
+    mark_art(&layer.art, image, image_row, first, marks);
+    mark_mask(&layer.mask, mask, mask_row, first, image.read(), marks);
     stretch(marks, 1, layer.scale as usize, admitted);
 }
 
 // 255 for the columns of the image that paint, from `first` on, and 0 for the others.
-fn mark_art(art: &Art<'_>, image: &RowReader<'_>, first: u32, marks: &mut [u8])
+fn mark_art(art: &Art<'_>, image: &RowReader<'_>, image_row: &[u8], first: u32, marks: &mut [u8])
     requires image { IsOf art.now image.now }
     requires read { 0 < image.now.next }
+    requires row { Holds image.now image_row.now }
     requires small { first + length marks.old ≤ 65535 }
     requires within { first + length marks.old ≤ (shape_of art.now).width }
     ensures { IsMarked
@@ -62,7 +67,7 @@ fn mark_art(art: &Art<'_>, image: &RowReader<'_>, first: u32, marks: &mut [u8])
 {
     marks.fill(255);
     if let Art::Line(line, _) = art {
-        keep_marked(line, image.row(), first, marks);
+        keep_marked(line, image.row(image_row), first, marks);
     }
 }
 
@@ -70,11 +75,13 @@ fn mark_art(art: &Art<'_>, image: &RowReader<'_>, first: u32, marks: &mut [u8])
 fn mark_mask(
     mask: &Option<Bilevel<'_>>,
     reader: &Option<RowReader<'_>>,
+    mask_row: &[u8],
     first: u32,
     next: u32,
     marks: &mut [u8],
 )
     requires reader { reader.now ≡ option_map (mask_cursor next) mask.now }
+    requires row { ForSome reader.now (λ reader. Holds reader mask_row.now) }
     requires read { 0 < next }
     requires small { first + length marks.old ≤ 65535 }
     requires within { ForSome mask.now (λ mask. first + length marks.old ≤ mask.shape.width) }
@@ -83,6 +90,6 @@ fn mark_mask(
         (slice_index marks.old) (length marks.old) marks.new }
 {
     if let (Some(mask), Some(reader)) = (mask, reader) {
-        keep_marked(mask, reader.row(), first, marks);
+        keep_marked(mask, reader.row(mask_row), first, marks);
     }
 }

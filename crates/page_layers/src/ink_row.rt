@@ -3,7 +3,7 @@ ghost use Rattle.std.specs.Prelude.{ℕ, ◌+◌, ◌*◌, ◌<◌, ◌≤◌, l
 ghost use Rattle.page_layers.specs.Rows.{HasSamples};
 
 use crate::lay::{Painting, lay_ink, lay_span};
-use crate::room::room;
+use crate::room::{refill, room};
 use crate::stretch::stretch;
 use pr_base::{Ink, NoMemory};
 use std::alloc::Global;
@@ -20,6 +20,8 @@ pub struct InkRow {
 }
 
 impl Model for InkRow {
+    ghost use Rattle.std.specs.Prelude.{◌≤◌};
+    ghost use Rattle.std.specs.Vec.{vec_capacity};
     ghost use Rattle.page_layers.specs.Inks.{Planes};
 
     ghost Value = { Planes };
@@ -31,6 +33,10 @@ impl Model for InkRow {
       black = r.black.items;
       spot = r.spot.items;
     } };
+
+    // A row of any page has room in each.
+    ghost invariant = { λ r. (65535 ≤ vec_capacity r.cyan) × (65535 ≤ vec_capacity r.magenta)
+        × (65535 ≤ vec_capacity r.yellow) × (65535 ≤ vec_capacity r.black) × (65535 ≤ vec_capacity r.spot) };
 }
 
 impl InkRow {
@@ -61,6 +67,23 @@ impl InkRow {
             black: room(alloc, width, black)?,
             spot: room(alloc, width, spot)?,
         })
+    }
+
+    /// Makes it a row of `width` pixels of these ink values, in the room that is there.
+    pub(crate) fn refill(&mut self, width: usize, inks: [u8; 5])
+        requires { width ≤ 65535 }
+        ensures cyan { self.new.cyan ≡ replicate width (slice_index inks 0) }
+        ensures magenta { self.new.magenta ≡ replicate width (slice_index inks 1) }
+        ensures yellow { self.new.yellow ≡ replicate width (slice_index inks 2) }
+        ensures black { self.new.black ≡ replicate width (slice_index inks 3) }
+        ensures spot { self.new.spot ≡ replicate width (slice_index inks 4) }
+    {
+        let [cyan, magenta, yellow, black, spot] = inks;
+        refill(&mut self.cyan, width, cyan);
+        refill(&mut self.magenta, width, magenta);
+        refill(&mut self.yellow, width, yellow);
+        refill(&mut self.black, width, black);
+        refill(&mut self.spot, width, spot);
     }
 
     /// The row of an ink.

@@ -1,19 +1,18 @@
 // The rows of one layer on a page.
-ghost use Rattle.std.specs.Prelude.{◌≡◌, ℕ, ◌+◌, ◌-◌, ◌*◌, ◌/◌, ◌<◌, ◌≤◌, IfOk, length, option_map};
+ghost use Rattle.std.specs.Prelude.{◌≡◌, ℕ, ◌+◌, ◌-◌, ◌*◌, ◌/◌, ◌<◌, ◌≤◌, length, option_map};
 ghost use Rattle.page_layers.specs.Inks.{HasWidth, inks_at};
 ghost use Rattle.page_layers.specs.Layer.{IsLayer, paint_at, shape_of};
-ghost use Rattle.page_layers.specs.Reader.{IsOf};
+ghost use Rattle.page_layers.specs.Reader.{Holds, IsOf};
 ghost use Rattle.page_layers.specs.Rows.{IsPaint, LaysSpan, fixed_of, painting_of, span_of, with_fixed};
 
 use crate::InkRow;
 use crate::admit::{admit_row, is_bare};
 use crate::lay::Painting;
 use crate::layer::{Art, Layer};
+use crate::layer_room::LayerRoom;
 use crate::mask_rows::{open_mask, reach_mask, restart_mask};
-use crate::room::room;
+use crate::room::{ReadRoom, refill};
 use crate::row_reader::RowReader;
-use pr_base::NoMemory;
-use std::alloc::Global;
 use std::marker::Model;
 
 /// A layer with the row of its image that shows last, as paint over the page's columns. Contracts see the
@@ -39,39 +38,41 @@ impl<'a> Model for LayerRows<'a> {
 
     ghost Value = { LayerState };
 
+    ghost use Rattle.std.specs.Vec.{vec_capacity};
     ghost use Rattle.page_layers.specs.Rows.{IsLayerRows};
 
     ghost view = { λ r. record { layer = r.layer; width = r.width; read = r.image.next } };
 
     ghost invariant = { λ r. IsLayerRows r.layer r.width r.painting r.image r.mask r.paint
-        r.marks.items r.admitted.items };
+        r.marks.items r.admitted.items (vec_capacity r.marks) (vec_capacity r.admitted) };
 }
 
 impl<'a> LayerRows<'a> {
-    ghost use Rattle.std.specs.Prelude.{◌≡◌, ℕ, ◌+◌, ◌<◌, ◌≤◌, IfOk, IsTrue};
+    ghost use Rattle.std.specs.Prelude.{◌≡◌, ℕ, ◌+◌, ◌<◌, ◌≤◌, IsTrue};
     ghost use Rattle.page_layers.specs.Inks.{HasWidth, inks_at};
     ghost use Rattle.page_layers.specs.Layer.{IsLayer, painted, row_at};
     ghost use Rattle.page_layers.specs.Page.{shows_alike, shows_on};
 
-    /// Takes the room for a layer's rows on a page of this width.
-    pub(crate) fn open(
-        alloc: Global,
-        layer: Layer<'a>,
-        width: u32,
-    ) -> Result<LayerRows<'a>, NoMemory>
+    /// The rows of a layer on a page of this width, before the first.
+    pub(crate) fn open(room: LayerRoom, layer: Layer<'a>, width: u32) -> LayerRows<'a>
         requires layer { IsLayer layer }
         requires width { width ≤ 65535 }
-        ensures { IfOk result (λ rows. rows ≡ record { layer = layer.entry; width = width; read = 0 }) }
+        ensures { result ≡ record { layer = layer.entry; width = width; read = 0 } }
     {
         let span = span_of(&layer, width);
         let columns = columns_of(&layer, span);
         let painting = painting_of(&layer);
-        let image = RowReader::new(alloc, layer.art.rows(), layer.art.row_len())?;
-        let mask = open_mask(alloc, &layer.mask)?;
-        let paint = InkRow::of(alloc, span, fixed_inks(&layer.art))?;
-        let marks = room(alloc, columns, 0)?;
-        let admitted = room(alloc, span, 255)?;
-        Ok(LayerRows {
+        let image = RowReader::new(layer.art.rows(), layer.art.row_len());
+        let mask = open_mask(&layer.mask);
+        let LayerRoom {
+            mut paint,
+            mut marks,
+            mut admitted,
+        } = room;
+        paint.refill(span, fixed_inks(&layer.art));
+        refill(&mut marks, columns, 0);
+        refill(&mut admitted, span, 255);
+        LayerRows {
             layer,
             width,
             painting,
@@ -80,7 +81,16 @@ impl<'a> LayerRows<'a> {
             paint,
             marks,
             admitted,
-        })
+        }
+    }
+
+    /// Gives its room back.
+    pub(crate) fn into_room(self) -> LayerRoom {
+        LayerRoom {
+            paint: self.paint,
+            marks: self.marks,
+            admitted: self.admitted,
+        }
     }
 
     /// The layer shows on row `y` of the page.
@@ -102,7 +112,7 @@ impl<'a> LayerRows<'a> {
     }
 
     /// Lays the layer over row `y` of the page.
-    pub(crate) fn paint(&mut self, y: u32, into: &mut InkRow)
+    pub(crate) fn paint(&mut self, y: u32, room: &mut ReadRoom, into: &mut InkRow)
         requires width { HasWidth into.old self.old.width }
         requires read { self.old.read ≤ row_at self.old.layer y + 1 }
         ensures inks { (x : ℕ) → x < self.old.width
@@ -115,7 +125,7 @@ impl<'a> LayerRows<'a> {
             return;
         }
         let row = self.row_at(y);
-        self.stand_behind(row);
+        self.stand_behind(row, room);
         let from = self.layer.x as usize;
         lay_paint(
             &self.layer.art,
@@ -128,7 +138,8 @@ impl<'a> LayerRows<'a> {
     }
 
     // Reads up to a row of the image that shows, and makes paint of it.
-    fn stand_behind(&mut self, row: u32)
+    #[tactic(auto, using(crate::proofs::Layers::row_most))]
+    fn stand_behind(&mut self, row: u32, room: &mut ReadRoom)
         requires before { self.old.read ≤ row + 1 }
         requires crop { self.old.layer.crop.y ≤ row }
         requires within { row < self.old.layer.crop.y + self.old.layer.crop.height }
@@ -137,15 +148,24 @@ impl<'a> LayerRows<'a> {
         if self.image.read() == row + 1 {
             return;
         }
-        self.image.reach(row);
-        reach_mask(&mut self.mask, row);
+        self.image.reach(row, &mut room.image);
+        reach_mask(&mut self.mask, row, &mut room.mask);
         let first = self.layer.crop.x;
         let scale = self.layer.scale;
-        paint_row(&self.layer.art, &self.image, first, scale, &mut self.paint);
+        paint_row(
+            &self.layer.art,
+            &self.image,
+            &room.image,
+            first,
+            scale,
+            &mut self.paint,
+        );
         admit_row(
             &self.layer,
             &self.image,
             &self.mask,
+            &room.image,
+            &room.mask,
             &mut self.marks,
             &mut self.admitted,
         );
@@ -174,9 +194,17 @@ impl<'a> LayerRows<'a> {
 
 // The paint of the row that was read last, at each column of the page.
 // What is the same in each row stands there already.
-fn paint_row(art: &Art<'_>, image: &RowReader<'_>, first: u32, scale: u32, paint: &mut InkRow)
+fn paint_row(
+    art: &Art<'_>,
+    image: &RowReader<'_>,
+    image_row: &[u8],
+    first: u32,
+    scale: u32,
+    paint: &mut InkRow,
+)
     requires image { IsOf art.now image.now }
     requires read { 0 < image.now.next }
+    requires row { Holds image.now image_row.now }
     requires first { first ≤ 65535 }
     requires scale { (1 ≤ scale) × (scale ≤ 64) }
     requires wide { HasWidth paint.old (length paint.old.cyan) }
@@ -190,7 +218,7 @@ fn paint_row(art: &Art<'_>, image: &RowReader<'_>, first: u32, scale: u32, paint
     if let Art::Contone(contone) = art {
         // For its clause: four bytes a pixel.
         let _len = contone.row_len();
-        paint.set_samples(image.row(), first as usize, scale as usize);
+        paint.set_samples(image.row(image_row), first as usize, scale as usize);
     }
 }
 

@@ -1,34 +1,33 @@
 // The rows of a mask, where a layer has one.
-ghost use Rattle.std.specs.Prelude.{◌≡◌, ◌+◌, ◌<◌, ◌≤◌, IfOk, option_map};
+ghost use Rattle.std.specs.Prelude.{◌≡◌, ◌+◌, ◌<◌, ◌≤◌, length, option_map};
 ghost use Rattle.std.specs.Option.{ForSome};
-ghost use Rattle.page_layers.specs.Reader.{at_row, mask_cursor};
+ghost use Rattle.tif_strips.specs.Strips.{row_length};
+ghost use Rattle.page_layers.specs.Reader.{Holds, at_row, mask_cursor};
 
 use crate::row_reader::RowReader;
-use pr_base::NoMemory;
-use std::alloc::Global;
 use tif_image::Bilevel;
 
-/// The room for the rows of the mask, if there is one.
-pub(crate) fn open_mask<'a>(
-    alloc: Global,
-    mask: &Option<Bilevel<'a>>,
-) -> Result<Option<RowReader<'a>>, NoMemory>
-    ensures { IfOk result (λ reader. reader ≡ option_map (mask_cursor 0) mask.now) }
+/// Stands before the first row of the mask, if there is one.
+pub(crate) fn open_mask<'a>(mask: &Option<Bilevel<'a>>) -> Option<RowReader<'a>>
+    ensures { result ≡ option_map (mask_cursor 0) mask.now }
 {
     match mask {
-        Some(mask) => Ok(Some(RowReader::new(alloc, mask.rows(), mask.row_len())?)),
-        None => Ok(None),
+        Some(mask) => Some(RowReader::new(mask.rows(), mask.row_len())),
+        None => None,
     }
 }
 
-/// Reads up to a row of the mask, if there is one.
-pub(crate) fn reach_mask(mask: &mut Option<RowReader<'_>>, row: u32)
+/// Reads up to a row of the mask, and that row, into the front of a room, if there is one.
+pub(crate) fn reach_mask(mask: &mut Option<RowReader<'_>>, row: u32, room: &mut [u8])
     requires small { row < 65535 }
-    requires within { ForSome mask.old (λ reader. (reader.next ≤ row + 1) × (row < reader.shape.length)) }
-    ensures { mask.new ≡ option_map (at_row (row + 1)) mask.old }
+    requires within { ForSome mask.old (λ reader. (reader.next ≤ row) × (row < reader.shape.length)) }
+    requires long { ForSome mask.old (λ reader. row_length reader.shape ≤ length room.old) }
+    ensures mask { mask.new ≡ option_map (at_row (row + 1)) mask.old }
+    ensures row { ForSome mask.new (λ reader. Holds reader room.new) }
+    ensures room { length room.new ≡ length room.old }
 {
     if let Some(reader) = mask {
-        reader.reach(row);
+        reader.reach(row, room);
     }
 }
 

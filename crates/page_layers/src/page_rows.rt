@@ -1,6 +1,7 @@
 // The rows of a page, its layers laid in order.
-ghost use Rattle.std.specs.Prelude.{◌≡◌, ℕ, ◌<◌, All, length};
+ghost use Rattle.std.specs.Prelude.{◌≡◌, ℕ, ◌<◌, ◌≤◌, All, IfOk, length};
 ghost use Rattle.std.specs.List.{fold, list_all};
+ghost use Rattle.std.specs.Vec.{vec_capacity};
 ghost use Rattle.page_layers.specs.Inks.{HasWidth, inks_at};
 ghost use Rattle.page_layers.specs.Layer.{painted};
 ghost use Rattle.page_layers.specs.Page.{shows_alike};
@@ -8,64 +9,100 @@ ghost use Rattle.page_layers.specs.Rows.{IsReady, layers_of};
 
 use crate::InkRow;
 use crate::layer::Layer;
+use crate::layer_room::LayerRoom;
 use crate::layer_rows::LayerRows;
+use crate::room::ReadRoom;
 use pr_base::NoMemory;
 use std::alloc::Global;
 use std::marker::Model;
 
-/// A page that gives its rows from the top. Contracts see its layers,
-/// its sides in pixels and the number of the next row.
+/// A page that gives its rows from the top, with room for so many layers: it is cleared, and becomes page
+/// after page. Contracts see its layers, its sides in pixels, the number of the next row, and for how many
+/// layers it has room.
 #[derive(Debug, Drop)]
 pub struct PageRows<'a> {
     layers: Vec<LayerRows<'a>>,
+    /// The rooms that no layer of the page uses.
+    rooms: Vec<LayerRoom>,
+    read: ReadRoom,
     width: u32,
     height: u32,
     next: u32,
 }
 
 impl<'a> Model for PageRows<'a> {
-    ghost use Rattle.std.specs.Prelude.{map};
+    ghost use Rattle.std.specs.Prelude.{◌+◌, length};
+    ghost use Rattle.std.specs.Vec.{vec_capacity};
     ghost use Rattle.page_layers.specs.Page.{Page};
 
     ghost Value = { Page };
 
     ghost use Rattle.page_layers.specs.Rows.{IsPage, layers_of};
 
-    ghost view = { λ p.
-        record { layers = layers_of p.layers.items; width = p.width; height = p.height; next = p.next } };
+    ghost view = { λ p. record {
+      layers = layers_of p.layers.items;
+      width = p.width;
+      height = p.height;
+      next = p.next;
+      room = length p.layers.items + length p.rooms.items;
+    } };
 
-    ghost invariant = { λ p. IsPage p.layers.items p.width p.height p.next };
+    ghost invariant = { λ p. IsPage p.layers.items p.width p.height p.next
+        (length p.rooms.items) (vec_capacity p.layers) (vec_capacity p.rooms) };
 }
 
 impl<'a> PageRows<'a> {
-    ghost use Rattle.std.specs.Prelude.{◌≡◌, ℕ, ◌+◌, ◌-◌, ◌<◌, ◌≤◌, All, IfOk, IsTrue};
+    ghost use Rattle.std.specs.Prelude.{◌≡◌, ℕ, ◌+◌, ◌-◌, ◌<◌, ◌≤◌, ◌∷◌, ◌++◌, [], All, IfOk, IsTrue, length};
     ghost use Rattle.page_layers.specs.Inks.{HasWidth, inks_at};
     ghost use Rattle.page_layers.specs.Layer.{IsLayer, ink_at};
     ghost use Rattle.page_layers.specs.Page.{shows_alike};
 
-    /// Takes the room for all rows. The first layer is at the bottom.
+    /// A page without layers. Takes the room for so many.
     pub fn open(
         alloc: Global,
-        layers: Vec<Layer<'a>>,
+        room: usize,
         width: u32,
         height: u32,
     ) -> Result<PageRows<'a>, NoMemory>
-        requires layers { All IsLayer layers.items }
         requires width { (1 ≤ width) × (width ≤ 65535) }
         requires height { (1 ≤ height) × (height ≤ 65535) }
         ensures { IfOk result (λ page. page ≡
-            record { layers = layers.entry.items; width = width; height = height; next = 0 }) }
+            record { layers = []; width = width; height = height; next = 0; room = room }) }
     {
-        let mut rows = Vec::with_capacity(alloc, layers.len())?;
-        for layer in layers {
-            rows.push(LayerRows::open(alloc, layer, width)?)?;
-        }
+        let layers = Vec::with_capacity(alloc, room)?;
+        let rooms = layer_rooms(alloc, room)?;
+        let read = ReadRoom::new(alloc)?;
         Ok(PageRows {
-            layers: rows,
+            layers,
+            rooms,
+            read,
             width,
             height,
             next: 0,
         })
+    }
+
+    /// Takes all layers from the page, and goes back to row 0.
+    pub fn clear(&mut self)
+        ensures { self.new ≡ record self.old { layers = []; next = 0 } }
+    {
+        while !self.layers.is_empty() {
+            let layer = self.layers.take_last();
+            self.rooms.push_reserved(layer.into_room());
+        }
+        self.next = 0;
+    }
+
+    /// Puts a layer on the others, of which the first is at the bottom.
+    pub fn put(&mut self, layer: Layer<'a>)
+        requires layer { IsLayer layer }
+        requires room { length self.old.layers < self.old.room }
+        requires top { self.old.next ≡ 0 }
+        ensures { self.new ≡ record self.old { layers = self.old.layers ++ layer.entry ∷ [] } }
+    {
+        let room = self.rooms.take_last();
+        self.layers
+            .push_reserved(LayerRows::open(room, layer, self.width));
     }
 
     /// The number of rows that are still to come.
@@ -86,7 +123,7 @@ impl<'a> PageRows<'a> {
     {
         let y = self.next;
         into.clear();
-        paint_layers(&mut self.layers, y, into);
+        paint_layers(&mut self.layers, y, &mut self.read, into);
         self.next = y + 1;
     }
 
@@ -121,8 +158,20 @@ impl<'a> PageRows<'a> {
     }
 }
 
+// The rooms of so many layers.
+fn layer_rooms(alloc: Global, count: usize) -> Result<Vec<LayerRoom>, NoMemory>
+    ensures count { IfOk result (λ rooms. length rooms.items ≡ count) }
+    ensures capacity { IfOk result (λ rooms. count ≤ vec_capacity rooms) }
+{
+    let mut rooms = Vec::with_capacity(alloc, count)?;
+    for _room in 0..count {
+        rooms.push_reserved(LayerRoom::new(alloc)?);
+    }
+    Ok(rooms)
+}
+
 // Lays the layers in order over row `y`.
-fn paint_layers(layers: &mut [LayerRows<'_>], y: u32, into: &mut InkRow)
+fn paint_layers(layers: &mut [LayerRows<'_>], y: u32, read: &mut ReadRoom, into: &mut InkRow)
     requires width { HasWidth into.old (length into.old.cyan) }
     requires ready { All (IsReady (length into.old.cyan) y) layers.old }
     ensures inks { (x : ℕ) → x < length into.old.cyan
@@ -133,7 +182,7 @@ fn paint_layers(layers: &mut [LayerRows<'_>], y: u32, into: &mut InkRow)
     ensures ready { All (IsReady (length into.old.cyan) y) layers.new }
 {
     for layer in layers.iter_mut() {
-        layer.paint(y, into);
+        layer.paint(y, read, into);
     }
 }
 

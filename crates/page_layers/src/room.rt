@@ -1,12 +1,64 @@
-// Room for bytes.
-ghost use Rattle.std.specs.Prelude.{◌≡◌, IfOk, replicate};
+// Rooms for bytes, which are taken once and used again and again.
+ghost use Rattle.std.specs.Prelude.{◌≡◌, ◌≤◌, IfOk, replicate};
+ghost use Rattle.std.specs.Vec.{vec_capacity};
 
 use pr_base::NoMemory;
 use std::alloc::Global;
+use std::marker::Model;
 
-/// `len` bytes, each this one.
+/// The longest side of an image and of a page, in pixels.
+const WIDEST: usize = 65_535;
+
+/// The bytes of the longest row of an image: four a pixel.
+const LONGEST: usize = 4 * WIDEST;
+
+/// `len` bytes, each this one, where a row of any page has room.
 pub(crate) fn room(alloc: Global, len: usize, byte: u8) -> Result<Vec<u8>, NoMemory>
-    ensures { IfOk result (λ bytes. bytes.items ≡ replicate len byte) }
+    ensures items { IfOk result (λ bytes. bytes.items ≡ replicate len byte) }
+    ensures widest { IfOk result (λ bytes. 65535 ≤ vec_capacity bytes) }
 {
-    Ok(vec![in alloc; byte; len]?)
+    let mut bytes = Vec::with_capacity(alloc, len.max(WIDEST))?;
+    refill(&mut bytes, len, byte);
+    Ok(bytes)
+}
+
+/// Makes it `len` bytes, each this one, in the room that is there.
+pub(crate) fn refill(bytes: &mut Vec<u8>, len: usize, byte: u8)
+    requires { len ≤ vec_capacity bytes.old }
+    ensures items { bytes.new.items ≡ replicate len byte }
+    ensures capacity { vec_capacity bytes.old ≤ vec_capacity bytes.new }
+{
+    bytes.clear();
+    match bytes.resize(len, byte) {
+        Ok(()) => (),
+        Err(_) => unreachable!(),
+    }
+}
+
+/// Where the rows of images and of masks are read, for all layers of a page one after the other.
+#[derive(Debug, Drop)]
+pub(crate) struct ReadRoom {
+    pub(crate) image: Vec<u8>,
+    pub(crate) mask: Vec<u8>,
+}
+
+impl Model for ReadRoom {
+    ghost use Rattle.std.specs.Prelude.{◌≡◌, length};
+    ghost use Rattle.std.specs.Bool.{⊤};
+
+    ghost Value = { ⊤ };
+
+    ghost view = { λ r. record {} };
+
+    ghost invariant = { λ r. (length r.image.items ≡ 262140) × (length r.mask.items ≡ 262140) };
+}
+
+impl ReadRoom {
+    /// Room for the longest rows.
+    pub(crate) fn new(alloc: Global) -> Result<ReadRoom, NoMemory> {
+        Ok(ReadRoom {
+            image: vec![in alloc; 0; LONGEST]?,
+            mask: vec![in alloc; 0; LONGEST]?,
+        })
+    }
 }

@@ -1,18 +1,15 @@
-// A cursor over an image, and the row that it gave last.
-use crate::room::room;
-use pr_base::NoMemory;
-use std::alloc::Global;
+// A cursor over an image, whose rows are read into a room that all images share.
 use std::marker::Model;
 use tif_strips::RowCursor;
 
-/// Reads the rows of an image into a room of its own. Contracts see the cursor;
-/// the row before its next is held.
+/// Reads the rows of an image. Contracts see the cursor.
 #[derive(Debug, Drop)]
 pub(crate) struct RowReader<'a> {
     rows: RowCursor<'a>,
     /// How many rows were read.
     read: u32,
-    row: Vec<u8>,
+    /// The bytes of a row.
+    len: usize,
 }
 
 impl<'a> Model for RowReader<'a> {
@@ -24,25 +21,21 @@ impl<'a> Model for RowReader<'a> {
 
     ghost view = { λ r. r.rows };
 
-    ghost invariant = { λ r. IsReader r.rows r.read r.row.items };
+    ghost invariant = { λ r. IsReader r.rows r.read r.len };
 }
 
 impl<'a> RowReader<'a> {
-    ghost use Rattle.std.specs.Prelude.{◌≡◌, ◌+◌, ◌-◌, ◌<◌, ◌≤◌, IfOk, length};
+    ghost use Rattle.std.specs.Prelude.{◌≡◌, ◌+◌, ◌-◌, ◌<◌, ◌≤◌, length};
     ghost use Rattle.tif_strips.specs.Strips.{image_row, row_length};
+    ghost use Rattle.page_layers.specs.Reader.{Holds};
 
-    /// Takes the room for a row of `len` bytes. The cursor stands before the first row.
-    pub(crate) fn new(
-        alloc: Global,
-        rows: RowCursor<'a>,
-        len: usize,
-    ) -> Result<RowReader<'a>, NoMemory>
+    /// The cursor stands before the first row, and a row has `len` bytes.
+    pub(crate) fn new(rows: RowCursor<'a>, len: usize) -> RowReader<'a>
         requires top { rows.next ≡ 0 }
         requires len { len ≡ row_length rows.shape }
-        ensures { IfOk result (λ reader. reader ≡ rows.entry) }
+        ensures { result ≡ rows.entry }
     {
-        let row = room(alloc, len, 0)?;
-        Ok(RowReader { rows, read: 0, row })
+        RowReader { rows, read: 0, len }
     }
 
     /// How many rows were read.
@@ -52,26 +45,31 @@ impl<'a> RowReader<'a> {
         self.read
     }
 
-    /// Reads up to row `y`, and that row.
-    pub(crate) fn reach(&mut self, y: u32)
-        requires before { self.old.next ≤ y + 1 }
+    /// Reads up to row `y`, and that row, into the front of a room.
+    pub(crate) fn reach(&mut self, y: u32, room: &mut [u8])
+        requires before { self.old.next ≤ y }
         requires small { y < 65535 }
         requires within { y < self.old.shape.length }
-        ensures { self.new ≡ record self.old { next = y + 1 } }
+        requires long { row_length self.old.shape ≤ length room.old }
+        ensures reader { self.new ≡ record self.old { next = y + 1 } }
+        ensures row { Holds self.new room.new }
+        ensures room { length room.new ≡ length room.old }
     {
+        let row = &mut room[..self.len];
         for _row in self.read..y + 1 {
-            self.rows.next_row(&mut self.row);
+            self.rows.next_row(row);
         }
         self.read = y + 1;
     }
 
-    /// The row that was read last.
-    pub(crate) fn row(&self) -> &[u8]
-        requires { 0 < self.now.next }
+    /// The row that was read last, in the room that it was read into.
+    pub(crate) fn row<'b>(&self, room: &'b [u8]) -> &'b [u8]
+        requires read { 0 < self.now.next }
+        requires holds { Holds self.now room.now }
         ensures row { result.now ≡ image_row self.now.shape self.now.bytes (self.now.next - 1) }
         ensures len { length result.now ≡ row_length self.now.shape }
     {
-        self.row.as_slice()
+        &room[..self.len]
     }
 
     /// Stands before the first row again, with a new cursor over the same image.

@@ -1,5 +1,5 @@
 // Small files, layers of them, and the pages that these make.
-ghost use Rattle.std.specs.Prelude.{◌≡◌, ◌-◌, ◌<◌, ◌≤◌, All, IfOk};
+ghost use Rattle.std.specs.Prelude.{◌≡◌, ◌-◌, ◌<◌, ◌≤◌, [], All, IfOk, length};
 ghost use Rattle.page_layers.specs.Inks.{HasWidth};
 ghost use Rattle.page_layers.specs.Layer.{IsLayer, shape_of};
 
@@ -77,11 +77,28 @@ pub fn whole(shown: Shown) -> Laid {
     }
 }
 
+// What stood on the page before: a masked photograph at scale 3.
+const BEFORE: Laid = Laid {
+    shown: Shown::Contone,
+    masked: true,
+    x: 1,
+    y: 0,
+    scale: 3,
+    crop: Crop {
+        x: 0,
+        y: 0,
+        width: 4,
+        height: 2,
+    },
+    overprint: true,
+};
+
 /// Whether a row repeats the one above it, and its cyan, magenta, yellow, black and spot. A row of which the
 /// values aren't given is passed.
 pub type Row<const W: usize> = (bool, Option<[[u8; W]; 5]>);
 
-/// The page of these layers, the first at the bottom, gives these rows. After each turn it starts again.
+/// The page of these layers, the first at the bottom, gives these rows, in room that another page used
+/// before. After each turn it starts again.
 pub fn assert_page<const W: usize, R: Abort + AllocGlobal>(
     rt: &R,
     layers: &[Laid],
@@ -92,28 +109,70 @@ pub fn assert_page<const W: usize, R: Abort + AllocGlobal>(
     let line = bilevel(rt.alloc())?;
     assert_turns(
         rt,
+        layer(image.as_slice(), line.as_slice(), &BEFORE)?,
         layers_of(rt, image.as_slice(), line.as_slice(), layers)?,
         height,
         turns,
     )
 }
 
-fn assert_turns<const W: usize, R: Abort + AllocGlobal>(
+fn assert_turns<'a, const W: usize, R: Abort + AllocGlobal>(
     rt: &R,
-    layers: Vec<Layer<'_>>,
+    before: Layer<'a>,
+    layers: Vec<Layer<'a>>,
     height: u32,
     turns: &[&[Row<W>]],
 ) -> Result<(), Fail>
     requires { All IsLayer layers.items }
 {
     assert!(rt; W >= 1 && W <= 65_535 && height >= 1 && height <= 65_535);
-    let mut page = PageRows::open(rt.alloc(), layers, W as u32, height)?;
     let mut room = InkRow::new(rt.alloc(), W as u32)?;
+    let mut page = used_page(rt, before, layers.len(), W as u32, height, &mut room)?;
+    put_all(&mut page, layers);
     for rows in turns {
         assert_rows(rt, &mut page, &mut room, height, rows);
         page.restart();
     }
     Ok(())
+}
+
+// A page without layers, in room that a page of one layer used before.
+fn used_page<'a, R: Abort + AllocGlobal>(
+    rt: &R,
+    before: Layer<'a>,
+    layers: usize,
+    width: u32,
+    height: u32,
+    room: &mut InkRow,
+) -> Result<PageRows<'a>, Fail>
+    requires width { (1 ≤ width) × (width ≤ 65535) }
+    requires height { (1 ≤ height) × (height ≤ 65535) }
+    requires row { HasWidth room.old width }
+    ensures width { IfOk result (λ page. page.width ≡ width) }
+    ensures row { HasWidth room.new width }
+    ensures top { IfOk result (λ page. page.next ≡ 0) }
+    ensures none { IfOk result (λ page. page.layers ≡ []) }
+    ensures room { IfOk result (λ page. layers ≤ page.room) }
+{
+    let mut page = PageRows::open(rt.alloc(), layers.max(1), width, height)?;
+    assert_layer(rt, &before);
+    page.put(before);
+    page.next(room);
+    page.clear();
+    Ok(page)
+}
+
+// Puts layers on a page without any.
+fn put_all<'a>(page: &mut PageRows<'a>, layers: Vec<Layer<'a>>)
+    requires layers { All IsLayer layers.items }
+    requires top { page.old.next ≡ 0 }
+    requires none { page.old.layers ≡ [] }
+    requires room { length layers.items ≤ page.old.room }
+    ensures width { page.new.width ≡ page.old.width }
+{
+    for layer in layers {
+        page.put(layer);
+    }
 }
 
 fn assert_rows<const W: usize>(
@@ -186,7 +245,7 @@ fn layers_of<'a, R: Abort + AllocGlobal>(
 }
 
 // Puts a layer on the others, once it is one that a page takes.
-pub fn put<'a, R: Abort>(rt: &R, layers: &mut Vec<Layer<'a>>, layer: Layer<'a>) -> Result<(), Fail>
+fn put<'a, R: Abort>(rt: &R, layers: &mut Vec<Layer<'a>>, layer: Layer<'a>) -> Result<(), Fail>
     requires { All IsLayer layers.old.items }
     ensures { IfOk result (λ done. All IsLayer layers.new.items) }
 {
@@ -221,7 +280,8 @@ fn mask(line: &[u8], masked: bool) -> Result<Option<Bilevel<'_>>, TagFault> {
     Ok(Some(Bilevel::check(line, BilevelUse::Mask)?))
 }
 
-fn assert_layer(rt: &impl Abort, layer: &Layer<'_>)
+// Stops unless a page takes this layer.
+pub fn assert_layer(rt: &impl Abort, layer: &Layer<'_>)
     ensures { IsLayer layer.now }
 {
     let (width, length) = sides(&layer.art);

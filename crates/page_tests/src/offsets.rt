@@ -1,7 +1,8 @@
 // Masked linework from each first column and in each width around a block of 64 pixels, beside a plain loop.
-ghost use Rattle.std.specs.Prelude.{◌≡◌, ◌<◌, length};
+ghost use Rattle.std.specs.Prelude.{◌≡◌, ◌<◌, [], IfOk, length};
+ghost use Rattle.page_layers.specs.Inks.{HasWidth};
 
-use crate::layers::put;
+use crate::layers::assert_layer;
 use page_layers::{Art, Crop, InkRow, Layer, PageRows};
 use pr_base::{Ink, NoMemory};
 use std::alloc::Global;
@@ -49,21 +50,45 @@ fn rows_begin_and_end_at_any_column(rt: HostRuntime) -> Result<(), Fail> {
     let line = file(rt.alloc(), &LINE)?;
     let mut mask = file(rt.alloc(), &MASK)?;
     mark_zeros(&rt, &mut mask);
-    for first in 0..64 {
-        for width in 1..131 {
-            assert_row(&rt, &line, &mask, first, width)?;
-        }
+    for width in 1..131 {
+        assert_columns(&rt, &line, &mask, width)?;
     }
     Ok(())
 }
 
-fn assert_row<R: Abort + AllocGlobal>(
+// One page of this width after the other, in one room.
+fn assert_columns<R: Abort + AllocGlobal>(
     rt: &R,
     line: &[u8],
     mask: &[u8],
-    first: u32,
     width: u32,
 ) -> Result<(), Fail> {
+    assert!(rt; width >= 1 && width <= 130);
+    let mut page = PageRows::open(rt.alloc(), 1, width, 1)?;
+    let mut room = InkRow::new(rt.alloc(), width)?;
+    for first in 0..64 {
+        assert_row(rt, line, mask, first, width, &mut page, &mut room)?;
+    }
+    Ok(())
+}
+
+// Leaves the page as it was, without layers.
+fn assert_row<'a>(
+    rt: &impl Abort,
+    line: &'a [u8],
+    mask: &'a [u8],
+    first: u32,
+    width: u32,
+    page: &mut PageRows<'a>,
+    room: &mut InkRow,
+) -> Result<(), Fail>
+    requires none { page.old.layers ≡ [] }
+    requires place { 0 < page.old.room }
+    requires top { (page.old.next ≡ 0) × (0 < page.old.height) }
+    requires width { HasWidth room.old page.old.width }
+    ensures page { IfOk result (λ done. page.new ≡ page.old) }
+    ensures width { IfOk result (λ done. HasWidth room.new page.old.width) }
+{
     let layer = Layer {
         art: Art::Line(Bilevel::check(line, BilevelUse::Line)?, [0, 0, 0, 255, 0]),
         mask: Some(Bilevel::check(mask, BilevelUse::Mask)?),
@@ -78,12 +103,10 @@ fn assert_row<R: Abort + AllocGlobal>(
         },
         overprint: false,
     };
-    let mut layers = Vec::new(rt.alloc());
-    put(rt, &mut layers, layer)?;
-    assert!(rt; width >= 1 && width <= 130);
-    let mut page = PageRows::open(rt.alloc(), layers, width, 1)?;
-    let mut room = InkRow::new(rt.alloc(), width)?;
-    page.next(&mut room);
+    assert_layer(rt, &layer);
+    page.put(layer);
+    page.next(room);
+    page.clear();
     assert_marks(rt, room.plane(Ink::K), first as usize);
     Ok(())
 }

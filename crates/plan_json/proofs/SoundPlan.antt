@@ -12,7 +12,7 @@ use Rattle.plan_parts.specs.declared.printing.Screen.{Screen}
 use Rattle.plan_words.specs.Forms.{is_name}
 use Rattle.plan_parts.specs.Data.{PageData, TileData, CurveData, MarkData}
 use Rattle.plan_json.specs.Data.{PlanData, SectionData, ZoneData, SiteData, width_over, height_over}
-use Rattle.plan_words.specs.Words.{IsWithin}
+use Rattle.pr_base.specs.Number.{IsWithin}
 use Rattle.plan_parts.specs.Parts.{IsMark}
 use Rattle.plan_json.specs.Plan.{IsPlan}
 use Rattle.plan_json.specs.Printed.{Inks, Layout}

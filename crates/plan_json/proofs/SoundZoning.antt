@@ -10,7 +10,8 @@ use Rattle.serde_json.specs.Data.{Data}
 use Rattle.plan_words.specs.declared.fault.PlanFault.{PlanFault}
 use Rattle.plan_words.specs.declared.fault.PlanFault.TheVariants.{Range}
 use Rattle.plan_json.specs.Data.{SectionData, ZoneData, ReplaceData, SiteData}
-use Rattle.plan_words.specs.Words.{IsWithin, AreDistinct}
+use Rattle.pr_base.specs.Number.{IsWithin}
+use Rattle.plan_words.specs.Words.{AreDistinct}
 use Rattle.plan_json.specs.Plan.{IsSection, IsReplace, ReplaceApart, IsZone, IsSite}
 use Rattle.plan_words.specs.Reading.{Read, ◌>>=◌, ◌>>◌, must, object_with, new_name, index_in, defined, count_of, items_within, each_after, required, optional}
 use Rattle.plan_parts.specs.Pages.{page}

@@ -3,7 +3,8 @@ use Rattle.std.specs.Prelude.{◌≡◌, ◌<◌, ◌≤◌, ℕ, ◌%◌, ◌==
 use Rattle.std.specs.List.{range_with_len}
 use Rattle.indexmap.specs.IndexSet.{insert_all}
 use Rattle.plan_words.specs.Forms.{is_name, is_file_name}
-use Rattle.plan_words.specs.Words.{IsWithin, AreDistinct}
+use Rattle.pr_base.specs.Number.{IsWithin}
+use Rattle.plan_words.specs.Words.{AreDistinct}
 use Rattle.plan_parts.specs.Parts.{IsTile, IsScreen, IsCurve, IsMark, IsPage}
 use Rattle.plan_json.specs.Data.{PlanData, SectionData, ZoneData, ReplaceData, SiteData, plate_width, plate_height, mentioned}
 

@@ -1,6 +1,6 @@
 // The sides of a plate and the places of its pages.
 ghost use Rattle.std.specs.Prelude.{◌≡◌};
-ghost use Rattle.plan_words.specs.Words.{IsWithin};
+ghost use Rattle.pr_base.specs.Number.{IsWithin};
 ghost use Rattle.plan_pages.specs.Plate.{shape_of_plate};
 
 use plan_json::Plan;

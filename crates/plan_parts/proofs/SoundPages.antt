@@ -9,7 +9,8 @@ use Rattle.plan_parts.specs.declared.named.NamedLayer.{NamedLayer}
 use Rattle.plan_parts.specs.declared.named.Painting.{Painting}
 use Rattle.plan_parts.specs.declared.named.Placing.{Placing}
 use Rattle.plan_words.specs.Forms.{is_name, is_file_name}
-use Rattle.plan_words.specs.Words.{IsWithin, AreDistinct}
+use Rattle.pr_base.specs.Number.{IsWithin}
+use Rattle.plan_words.specs.Words.{AreDistinct}
 use Rattle.plan_parts.specs.Parts.{IsCrop}
 use Rattle.plan_words.specs.Reading.{◌>>=◌, at_item, optional_in, object_with, new_name, file_name, number, index_in, items_within, required, optional, nth}
 use Rattle.plan_parts.specs.Pages.{PageText, layer_keys, page_keys, kind, paint, crop, mask, ink, black, placing, painting, layer, layers, page_inks, page, pages, page_names, fifth}

@@ -14,7 +14,8 @@ use Rattle.plan_words.specs.declared.fault.PlanFault.TheVariants.{Range, Unknown
 use Rattle.plan_parts.specs.declared.printing.Screen.{Screen}
 use Rattle.plan_parts.specs.declared.printing.Screen.TheVariants.{Bayer, Diffuse, Own}
 use Rattle.plan_parts.specs.Data.{TileData, CurveData, MarkData}
-use Rattle.plan_words.specs.Words.{IsWithin, AreDistinct}
+use Rattle.pr_base.specs.Number.{IsWithin}
+use Rattle.plan_words.specs.Words.{AreDistinct}
 use Rattle.plan_parts.specs.Parts.{IsTile, IsScreen, IsCurve, IsMark, place}
 use Rattle.plan_words.specs.Reading.{Read, ◌>>=◌, ◌>>◌, must, some_or, text, new_name, object_with, ink_keys, number, index_in, required, optional}
 use Rattle.plan_parts.specs.Printing.{tile_keys, mark_keys, bytes_of, tile, tiles, tile_names, screen_named, own_screen, screen, screens, bayer_screens, identity, identities, is_rising, spans, point, points, curve, curves, taken, flags_in, mark_inks, mark, marks}

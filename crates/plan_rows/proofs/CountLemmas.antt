@@ -5,7 +5,7 @@ use Rattle.std.proofs.lemmas.List.Elements.{All-get_or}
 use Rattle.std.specs.Option.{option_map_or}
 use Rattle.std.proofs.Common.{subst, sym}
 use Rattle.plan_json.specs.Data.{PlanData, SectionData}
-use Rattle.plan_words.specs.Words.{IsWithin}
+use Rattle.pr_base.specs.Number.{IsWithin}
 use Rattle.plan_json.specs.Plan.{IsPlan, IsSection}
 use Rattle.plan_pages.specs.Pages.{page_count}
 

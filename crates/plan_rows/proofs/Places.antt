@@ -13,7 +13,7 @@ use Rattle.std.proofs.Math.Nat.{mul-le-mul_right, div-add-mod, mul_comm}
 use Rattle.pr_base.specs.declared.ink.Ink.{Ink}
 use Rattle.pr_base.specs.declared.ink.Ink.TheVariants.{K}
 use Rattle.plan_json.specs.Data.{PlanData, plate_height}
-use Rattle.plan_words.specs.Words.{IsWithin}
+use Rattle.pr_base.specs.Number.{IsWithin}
 use Rattle.plan_json.specs.Plan.{IsPlan}
 use Rattle.pr_base.specs.Ink.{slot_of}
 use Rattle.plan_pages.specs.Pages.{page_count}

@@ -9,7 +9,7 @@ use Rattle.plan_rows.specs.declared.group.Group.{Group}
 use Rattle.plan_rows.specs.declared.place.RowPlace.{RowPlace}
 use Rattle.plan_rows.specs.Inks.{inks_of, ink_count, ink_place, has_site}
 use Rattle.plan_rows.specs.Groups.{groups_of, numbered, row_count}
-use Rattle.plan_words.specs.Words.{IsWithin}
+use Rattle.pr_base.specs.Number.{IsWithin}
 
 -- what contracts see of a row plan
 pub record RowPlanData : Type 0 where

@@ -1,5 +1,5 @@
 // The sites that print the same two pages on a plate.
-ghost use Rattle.std.specs.Prelude.{◌≡◌};
+ghost use Rattle.std.specs.Prelude.{◌≡◌, ◌<◌};
 
 use pr_base::Ink;
 
@@ -24,7 +24,7 @@ pub struct Group {
 }
 
 impl Group {
-    ghost use Rattle.plan_rows.specs.Inks.{inks_of};
+    ghost use Rattle.plan_rows.specs.Inks.{has_site as is_of_site, inks_of};
 
     /// The group's inks in order.
     pub fn inks(&self) -> &'static [Ink]
@@ -36,5 +36,13 @@ impl Group {
             (false, true) => &Ink::ALL[3..],
             (false, false) => &Ink::ALL[3..4],
         }
+    }
+
+    /// Whether a site is of the group.
+    pub fn has_site(&self, site: usize) -> bool
+        requires { site < 16 }
+        ensures { result ≡ is_of_site self.now site }
+    {
+        self.sites >> site & 1 == 1
     }
 }

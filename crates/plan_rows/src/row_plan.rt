@@ -37,7 +37,7 @@ impl Model for RowPlan {
 impl RowPlan {
     ghost use Rattle.pr_base.specs.declared.ink.Ink.{Ink};
     ghost use Rattle.pr_base.specs.Ink.{slot_of};
-    ghost use Rattle.plan_words.specs.Words.{IsWithin};
+    ghost use Rattle.pr_base.specs.Number.{IsWithin};
     ghost use Rattle.plan_pages.specs.Pages.{page_count};
     ghost use Rattle.plan_rows.specs.Groups.{pair_groups, section_groups};
     ghost use Rattle.plan_rows.specs.Rows.{IsGroupAt, added, keeps_in, places_in, rows_of};
@@ -154,7 +154,7 @@ impl RowPlan {
         ensures { result ≡ keeps_in self.now site n }
     {
         let index = self.group_at(n);
-        self.groups[index].sites >> site & 1 == 1
+        self.groups[index].has_site(site)
     }
 
     /// The index of the group of row `n`, found by halving.

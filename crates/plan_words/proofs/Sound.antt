@@ -10,7 +10,8 @@ use Rattle.serde_json.specs.Data.{Data, Items, no_items, item}
 use Rattle.serde_json.specs.Find.{get, get_item}
 use Rattle.plan_words.specs.declared.fault.PlanFault.{PlanFault}
 use Rattle.plan_words.specs.Forms.{is_name, is_file_name}
-use Rattle.plan_words.specs.Words.{IsWithin, AreDistinct}
+use Rattle.pr_base.specs.Number.{IsWithin}
+use Rattle.plan_words.specs.Words.{AreDistinct}
 use Rattle.plan_words.specs.Reading.{Read, Reader, ◌>>=◌, ◌>>◌, must, at_item, number, name, file_name, new_name, index_in, defined, count_of, items_within, each_after, list_of, required_in, required, optional_in, optional, nth, at_key}
 
 -- the value of a step that did not fail

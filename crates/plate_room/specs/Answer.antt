@@ -1,6 +1,6 @@
 -- What the code's words are. These are the contracts of private calls.
 use Rattle.std.specs.Prelude.{◌≡◌, Option, Some, None}
-use Rattle.plan_words.specs.Words.{IsWithin}
+use Rattle.pr_base.specs.Number.{IsWithin}
 use Rattle.plate_room.specs.Command as line
 use Rattle.plate_room.specs.declared.command.Command as asked_type
 use Rattle.plate_room.specs.declared.command.Command.TheVariants as asked

@@ -1,6 +1,6 @@
 // The words of a command line.
 ghost use Rattle.std.specs.Prelude.{◌≡◌, IfSome};
-ghost use Rattle.plan_words.specs.Words.{IsWithin};
+ghost use Rattle.pr_base.specs.Number.{IsWithin};
 ghost use Rattle.plate_room.specs.Command.{asked_of as asked_meant, change_of as change_meant, command_of as meant, drill_of as drill_meant, edition_in as edition_in_meant, edition_of as edition_meant, keys_of as keys_meant, numbers_of as numbers_meant, one_of as one_meant, words_of};
 ghost use Rattle.plate_room.specs.Answer.{HasNumbers, HasTurns, IfRun, IsAskedFor, IsChange, IsCommand, IsDrill, IsEdition};
 

@@ -1,6 +1,6 @@
 // A number among the words of a command line.
 ghost use Rattle.std.specs.Prelude.{◌≡◌, IfSome};
-ghost use Rattle.plan_words.specs.Words.{IsWithin};
+ghost use Rattle.pr_base.specs.Number.{IsWithin};
 ghost use Rattle.std.specs.Char.{is_ascii_digit};
 ghost use Rattle.std.specs.List.{list_all};
 ghost use Rattle.plate_room.specs.Number.{IsValue, is_number as is_number_lem, number_within as number_of};

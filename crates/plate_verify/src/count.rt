@@ -7,7 +7,7 @@ ghost use Rattle.plate_verify.specs.Looking.{group_sites};
 ghost use Rattle.plate_verify.specs.Order.{plates_in_order};
 
 use crate::edition::{group_at, group_number};
-use crate::look::{has, ink_number, site_count};
+use crate::look::{ink_number, site_count};
 use plan_json::Plan;
 use plan_rows::{Group, RowPlan};
 
@@ -19,7 +19,7 @@ fn sites_of(group: &Group, sites: usize) -> u32
 {
     let mut count = 0;
     for site in 0..sites {
-        if has(group, site) {
+        if group.has_site(site) {
             count += 1;
         }
     }

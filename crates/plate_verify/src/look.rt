@@ -3,7 +3,7 @@ ghost use Rattle.std.specs.Prelude.{◌≡◌, ◌<◌, ◌≤◌, ◌∷◌, []
 ghost use Rattle.plate_bytes.specs.Places.{row_ends, row_holding};
 ghost use Rattle.plate_verify.specs.Difference.{difference_of};
 ghost use Rattle.plate_verify.specs.Looking.{AreMade, IsMade, Looked, group_sites, plates_at, shelf_told, told};
-ghost use Rattle.plan_rows.specs.Inks.{has_site, ink_count, inks_of};
+ghost use Rattle.plan_rows.specs.Inks.{ink_count, inks_of};
 ghost use Rattle.plate_verify.specs.Order.{plate_sites};
 ghost use Rattle.plate_verify.specs.Wrong.{OtherAt};
 
@@ -62,14 +62,6 @@ fn look_at<H: Shelf>(
     }
 }
 
-/// Whether a site prints the plates of a group.
-pub(crate) fn has(group: &Group, site: usize) -> bool
-    requires { site < 16 }
-    ensures { result ≡ has_site group.now site }
-{
-    group.sites >> site & 1 == 1
-}
-
 /// The number of sites.
 pub(crate) fn site_count(plan: &Plan) -> usize
     ensures count { result ≡ length plan.now.sites }
@@ -96,7 +88,7 @@ fn look_at_site<H: Shelf>(
         Looked plan.now rows out.now (plates_at (group.now, ink) site)
         (shelf_told H.Shelf shelf.old) (shelf_told H.Shelf shelf.new) result }
 {
-    if !has(group, site) {
+    if !group.has_site(site) {
         return Ok(None);
     }
     look_at(alloc, plan, out, group, ink, site, made, shelf)

@@ -1,11 +1,11 @@
 -- How a feed goes from row to row.
-use Rattle.std.proofs.Common.{inl, inr, zero, suc, ◌≡◌, ◌≢◌, ℕ, ◌+◌, ◌-◌, ◌<◌, ◌≤◌, Bool, true, false, cond, ◌&&◌, nat_eq, nat_lt, nat_le, List, [], ◌∷◌, length, drop, map, get_or, set, refl, ap, sym, ◌∙◌, subst, arith, get_or-set_same, get_or-set_other}
-use Rattle.std.specs.Prelude.{◌⊎◌, Contains, Option, Some, None, min, slice_get, slice_index}
+use Rattle.std.proofs.Common.{inl, inr, zero, suc, ◌≡◌, ◌≢◌, ℕ, ◌+◌, ◌-◌, ◌<◌, ◌≤◌, Bool, true, false, cond, ◌&&◌, nat_eq, nat_lt, nat_le, List, [], ◌∷◌, length, drop, map, get_or, refl, ap, sym, ◌∙◌, subst, arith}
+use Rattle.std.specs.Prelude.{◌⊎◌, Option, Some, None, min, slice_get}
 use Rattle.std.specs.List.{All}
-use Rattle.std.specs.Option.{option_map_or}
+use Rattle.std.specs.Option.{ForSome, option_map_or}
 use Rattle.std.proofs.lemmas.Bool.{cases_lt}
 use Rattle.std.proofs.lemmas.Bool.Decides.{nat_tests}
-use Rattle.std.proofs.lemmas.List.{drop_more, get_or-map, length-map, length-set, get_or-replicate}
+use Rattle.std.proofs.lemmas.List.{drop_more, get_or-map, length-map}
 use Rattle.std.proofs.lemmas.List.Elements.{All-get_or, All-head, All-tail, Contains-get_or}
 use Rattle.std.proofs.lemmas.Option.{get_or_from_slice_get, same_Some, slice_get_within}
 use Rattle.pr_base.specs.Row.{FitsNext, row_size}
@@ -13,8 +13,6 @@ use Rattle.pr_base.specs.declared.ink.Ink.{Ink}
 use Rattle.tif_packbits.specs.Frame.{frame_of, frame_size}
 use Rattle.plan_json.specs.Data.{PlanData, plate_height, plate_width}
 use Rattle.plan_json.specs.Plan.{IsPlan}
-use Rattle.pr_base.specs.Ink.{slot_of}
-use Rattle.pr_base.proofs.Inks.{slot_below}
 use Rattle.plan_pages.specs.Plate.{shape_of_plate}
 use Rattle.plan_rows.specs.declared.group.Group.{Group}
 use Rattle.plan_rows.specs.declared.place.RowPlace.{RowPlace}
@@ -23,19 +21,19 @@ use Rattle.plan_rows.specs.Inks.{inks_of, ink_count, ink_place}
 use Rattle.plan_rows.specs.Rows.{RowPlanData, places_in, row_places, row_total, rows_of}
 use Rattle.plan_rows.proofs.RowLemmas.{ink_count-within, total_is, total-most}
 use Rattle.plan_rows.proofs.Places.{IsRowAt, ink_place-at, ink_place-within, plan_is, row_found, row_unique}
-use Rattle.plan_rows.proofs.Held.{below_next}
 use Rattle.press_feed.specs.declared.side.Side.{Side}
 use Rattle.press_feed.specs.declared.side.Side.TheVariants.{Left, Right}
 use Rattle.press_feed.specs.Feed.{IsFeed, IsOf, StandsAt, StandsBefore, one_if, rows_above}
 use Rattle.press_job.specs.Job.{JobData}
 use Rattle.press_feed.specs.Plates.{CanDraw, page_row, row_after}
 use Rattle.press_job.specs.Rows.{plate_frames, plate_row, plate_rows, row_at_place}
-use Rattle.press_feed.specs.Screener.{is_diffused}
+use Rattle.press_feed.specs.declared.screens.Screens.{Screens}
+use Rattle.press_feed.specs.Screens.{AreScreens, HaveDiffused, entered as entered_screens, from_top}
+use Rattle.press_feed.proofs.ScreensLemmas.{diffused-from_top, screens-from_top}
 use Rattle.press_feed.specs.SidePages.{opened_side}
-use Rattle.press_feed.specs.Sides.{SideData, at_top, behind_row, entered, page_on, screened_after, stands_in}
+use Rattle.press_feed.specs.Sides.{SideData, at_top, behind_row, entered, page_on, stands_in}
 use Rattle.press_feed.proofs.StandLemmas.{group_stands}
 use Rattle.press_job.proofs.FrameLemmas.{each-plate_frames, length-plate_frames}
-use Rattle.press_feed.proofs.ScreenerLemmas.{slots_apart}
 
 -- ---- the row before a row
 
@@ -86,14 +84,6 @@ next_row plan n index index' y y' group group' ink ink' is here there later =
           ] there
     ]
 
--- two inks of a row's group at one place are one
-place_tells : (plan : PlanData) (n index y : ℕ) (group : Group) (ink other : Ink) → IsPlan plan → IsRowAt plan n index group y ink → Contains (inks_of group) other
-    → ink_place group ink ≡ ink_place group other → ink ≡ other
-place_tells plan n index y group ink other is here among same =
-    let number = here.number in
-    let row : IsRowAt plan n index group y other = record { of = here.of; top = here.top; printed = among; number = omega arith } in
-    (row_unique plan n index index group group y y ink other is here row).same_ink
-
 -- ---- rows above a row of a plate
 
 above_at : (plan : PlanData) (y row : ℕ) → page_row plan y ≡ Some row → (rows_above plan y ≡ row) × (rows_above plan (y + 1) ≡ row + 1) × (row < plan.page_height)
@@ -129,9 +119,6 @@ pub stands_before : (job : JobData) (n : ℕ) (place : RowPlace) (group : Group)
     → slice_get (row_places job.plan) n ≡ Some place → StandsBefore group place.ink place.y (entered group n pages)
 stands_before job n place group pages is here stands there = by_first (nat_eq n group.first) refl
   where
-    none_below : (k : ℕ) → nat_lt k 0 ≡ false
-    none_below k = grind (arith, nat_tests)
-
     by_first : (first : Bool) → nat_eq n group.first ≡ first → StandsBefore group place.ink place.y (cond {A = SideData} first (at_top (page_on pages.side group) pages) pages)
     by_first true same =
         let zero_place = first_of job.plan n place.group place.y group place.ink here (grind (arith, nat_tests)) in
@@ -140,18 +127,13 @@ stands_before job n place group pages is here stands there = by_first (nat_eq n 
         let none_above : rows_above pages.plan (0 + one_if false) ≡ 0 = omega arith in
         record {
           page_is = refl;
-          five = refl;
           shown_is = sym (ap (λ k. rows_above pages.plan (place.y + one_if (nat_lt 0 k))) none ∙ ap (λ z. rows_above pages.plan (z + one_if false)) y_is ∙ none_above);
-          screened_is = λ other among diffused.
-              get_or-replicate 5 (slot_of other) 0 0 (slot_below other)
-              ∙ sym (ap (λ k. rows_above pages.plan (place.y + one_if (nat_lt (ink_place group other) k))) none ∙ ap (λ t. rows_above pages.plan (place.y + one_if t)) (none_below (ink_place group other))
-              ∙ ap (λ z. rows_above pages.plan (z + one_if false)) y_is ∙ none_above);
         }
     by_first false apart = stands.each place group there here.of (λ e. grind (arith, nat_tests))
 
 -- it can draw its part of the row
 pub can_draw : (job : JobData) (side : Side) (n index y : ℕ) (group : Group) (ink : Ink) (pages : SideData) → IsRowAt job.plan n index group y ink → IsOf job side pages
-    → StandsBefore group ink y pages → stands_in (groups_of job.plan) side (page_on side group) ≡ true → CanDraw job.plan side ink y pages
+    → StandsBefore group ink y pages → stands_in (groups_of job.plan) side (page_on side group) ≡ true → CanDraw job.plan side y pages
 can_draw job side n index y group ink pages here is stands among = record {
   plan_is = is.plan_is;
   side_is = is.side_is;
@@ -166,21 +148,14 @@ can_draw job side n index y group ink pages here is stands among = record {
       let high = between.1 in
       let tall : pages.plan.page_height ≡ job.plan.page_height = ap (λ p. p.page_height) plan_same in
       let below = above.2 in
-      let none : nat_lt (ink_place group ink) (ink_place group ink) ≡ false = not_below (ink_place group ink) in
-      let zero_more : y + one_if false ≡ y = omega arith in
       record {
         stands = stands_same plan_same stands.page_is is.side_is;
         within = omega arith;
         least = omega arith;
         most = omega arith;
-        screened = λ diffused. stands.screened_is ink here.printed diffused
-            ∙ ap (λ t. rows_above pages.plan (y + one_if t)) none ∙ ap (rows_above pages.plan) zero_more ∙ mine;
       });
 }
   where
-    not_below : (k : ℕ) → nat_lt k k ≡ false
-    not_below k = grind (arith, nat_tests)
-
     stands_same : pages.plan ≡ job.plan → pages.page ≡ page_on pages.side group → pages.side ≡ side → stands_in (groups_of pages.plan) pages.side pages.page ≡ true
     stands_same plan_same page_same side_same =
         ap (λ p. stands_in (groups_of p) pages.side pages.page) plan_same
@@ -191,10 +166,10 @@ can_draw job side n index y group ink pages here is stands among = record {
 -- ---- a side behind a row
 
 -- what it shows behind row y of a plate
-shown_after : (ink : Ink) (y : ℕ) (group : Group) (pages : SideData) → StandsBefore group ink y pages → (row_after ink y pages).shown ≡ rows_above pages.plan (y + 1)
+shown_after : (ink : Ink) (y : ℕ) (group : Group) (pages : SideData) → StandsBefore group ink y pages → (row_after y pages).shown ≡ rows_above pages.plan (y + 1)
 shown_after ink y group pages stands = by_row (page_row pages.plan y) refl
   where
-    by_row : (o : Option ℕ) → page_row pages.plan y ≡ o → (option_map_or (λ row. behind_row ink row pages) o pages).shown ≡ rows_above pages.plan (y + 1)
+    by_row : (o : Option ℕ) → page_row pages.plan y ≡ o → (option_map_or (λ row. behind_row row pages) o pages).shown ≡ rows_above pages.plan (y + 1)
     by_row (Some row) there = sym (above_at pages.plan y row there).1
     by_row None there =
         let between = above-one_if pages.plan y (nat_lt 0 (ink_place group ink)) in
@@ -204,162 +179,56 @@ shown_after ink y group pages stands = by_row (page_row pages.plan y) refl
         let shown = stands.shown_is in
         omega arith
 
--- a value of the list of rows that were screened, behind a row of an ink
-written : (plan : PlanData) (screened : List ℕ) (ink other : Ink) (row value : ℕ) → length screened ≡ 5 → is_diffused plan other ≡ true
-    → ((ink ≡ other) × (value ≡ row + 1)) ⊎ ((ink ≢ other) × (value ≡ slice_index screened (slot_of other))) → slice_index (screened_after plan ink row screened) (slot_of other) ≡ value
-written plan screened ink other row value five diffused (inl one) =
-    let below = slot_below other in
-    ap {A = Ink} (λ i. get_or (screened_after plan i row screened) (slot_of other) 0) one.0
-    ∙ ap (λ flag. get_or (cond {A = List ℕ} flag (set screened (slot_of other) (row + 1)) screened) (slot_of other) 0) diffused
-    ∙ get_or-set_same screened (slot_of other) (row + 1) 0 (omega arith) ∙ sym one.1
-written plan screened ink other row value five diffused (inr two) =
-    let far : slot_of other ≢ slot_of ink = λ e. slots_apart ink other two.0 (sym e) in
-    kept (is_diffused plan ink) far ∙ sym two.1
-  where
-    kept : (flag : Bool) → slot_of other ≢ slot_of ink → get_or (cond {A = List ℕ} flag (set screened (slot_of ink) (row + 1)) screened) (slot_of other) 0 ≡ get_or screened (slot_of other) 0
-    kept true far = get_or-set_other screened (slot_of ink) (slot_of other) (row + 1) 0 far
-    kept false far = refl
-
--- and how many rows of an ink of the group it has screened then
-screened_of : (ink other : Ink) (y : ℕ) (group : Group) (pages : SideData) → StandsBefore group ink y pages → Contains (inks_of group) other → is_diffused pages.plan other ≡ true → (test : Bool)
-    → ((ink ≡ other) × (test ≡ true)) ⊎ ((ink ≢ other) × (test ≡ nat_lt (ink_place group other) (ink_place group ink)))
-    → slice_index (row_after ink y pages).screened (slot_of other) ≡ rows_above pages.plan (y + one_if test)
-screened_of ink other y group pages stands among diffused test which = by_row (page_row pages.plan y) refl
-  where
-    old : slice_index pages.screened (slot_of other) ≡ rows_above pages.plan (y + one_if (nat_lt (ink_place group other) (ink_place group ink)))
-    old = stands.screened_is other among diffused
-
-    value : (row : ℕ) → rows_above pages.plan (y + 1) ≡ row + 1
-        → ((ink ≡ other) × (rows_above pages.plan (y + one_if test) ≡ row + 1)) ⊎ ((ink ≢ other) × (rows_above pages.plan (y + one_if test) ≡ slice_index pages.screened (slot_of other)))
-    value row next =
-        elim which [
-          | inl one ↦ inl (one.0, ap (λ t. rows_above pages.plan (y + one_if t)) one.1 ∙ next)
-          | inr two ↦ inr (two.0, ap (λ t. rows_above pages.plan (y + one_if t)) two.1 ∙ sym old)
-        ]
-
-    by_row : (o : Option ℕ) → page_row pages.plan y ≡ o
-        → slice_index (option_map_or (λ row. behind_row ink row pages) o pages).screened (slot_of other) ≡ rows_above pages.plan (y + one_if test)
-    by_row (Some row) there =
-        written pages.plan pages.screened ink other row (rows_above pages.plan (y + one_if test)) stands.five diffused (value row (above_at pages.plan y row there).1)
-    by_row None there =
-        let same = above_same pages.plan y there in
-        let mine = above-one_if pages.plan y test in
-        let before = above-one_if pages.plan y (nat_lt (ink_place group other) (ink_place group ink)) in
-        let mine_low = mine.0 in
-        let mine_high = mine.1 in
-        let before_low = before.0 in
-        let before_high = before.1 in
-        let start = old in
-        omega arith
-
-five_after : (ink : Ink) (y : ℕ) (pages : SideData) → length pages.screened ≡ 5 → length (row_after ink y pages).screened ≡ 5
-five_after ink y pages five = by_row (page_row pages.plan y)
-  where
-    written : (flag : Bool) (row : ℕ) → length (cond {A = List ℕ} flag (set pages.screened (slot_of ink) (row + 1)) pages.screened) ≡ 5
-    written true row = length-set pages.screened (slot_of ink) (row + 1) ∙ five
-    written false row = five
-
-    by_row : (o : Option ℕ) → length (option_map_or (λ row. behind_row ink row pages) o pages).screened ≡ 5
-    by_row (Some row) = written (is_diffused pages.plan ink) row
-    by_row None = five
-
 -- the rest stays
-pub kept_after : (ink : Ink) (y : ℕ) (pages : SideData) → ((row_after ink y pages).page ≡ pages.page) × ((row_after ink y pages).plan ≡ pages.plan) × ((row_after ink y pages).files ≡ pages.files)
-    × ((row_after ink y pages).side ≡ pages.side)
-kept_after ink y pages = by_row (page_row pages.plan y)
+pub kept_after : (y : ℕ) (pages : SideData) → ((row_after y pages).page ≡ pages.page) × ((row_after y pages).plan ≡ pages.plan) × ((row_after y pages).files ≡ pages.files)
+    × ((row_after y pages).side ≡ pages.side)
+kept_after y pages = by_row (page_row pages.plan y)
   where
-    by_row : (o : Option ℕ) → ((option_map_or (λ row. behind_row ink row pages) o pages).page ≡ pages.page) × ((option_map_or (λ row. behind_row ink row pages) o pages).plan ≡ pages.plan)
-        × ((option_map_or (λ row. behind_row ink row pages) o pages).files ≡ pages.files) × ((option_map_or (λ row. behind_row ink row pages) o pages).side ≡ pages.side)
+    by_row : (o : Option ℕ) → ((option_map_or (λ row. behind_row row pages) o pages).page ≡ pages.page) × ((option_map_or (λ row. behind_row row pages) o pages).plan ≡ pages.plan)
+        × ((option_map_or (λ row. behind_row row pages) o pages).files ≡ pages.files) × ((option_map_or (λ row. behind_row row pages) o pages).side ≡ pages.side)
     by_row (Some row) = (refl, refl, refl, refl)
     by_row None = (refl, refl, refl, refl)
 
--- two inks of a row's group are one, or stand at two places
-which_ink : (plan : PlanData) (n index y : ℕ) (group : Group) (ink other : Ink) → IsPlan plan → IsRowAt plan n index group y ink → Contains (inks_of group) other
-    → (ink ≡ other) ⊎ (ink_place group other ≢ ink_place group ink)
-which_ink plan n index y group ink other is here among =
-    elim (cases_lt (ink_place group ink) (ink_place group other)) [
-      | inl below ↦ inr (omega arith)
-      | inr above ↦
-          elim (cases_lt (ink_place group other) (ink_place group ink)) [
-            | inl below ↦ inr (omega arith)
-            | inr level ↦ inl (place_tells plan n index y group ink other is here among (omega arith))
-          ]
-    ]
-
--- it stands before a row where the rows above, with this one, were shown, and each ink was screened that a test tells
-stands_on : (plan : PlanData) (n index y y' : ℕ) (group : Group) (ink ink' : Ink) (pages : SideData) (test : Ink → Bool) → IsPlan plan → IsRowAt plan n index group y ink → pages.plan ≡ plan
-    → StandsBefore group ink y pages → rows_above plan (y + 1) ≡ rows_above plan (y' + one_if (nat_lt 0 (ink_place group ink')))
-    → ((other : Ink) → ink ≡ other → test other ≡ true)
-    → ((other : Ink) → Contains (inks_of group) other → ink_place group other ≢ ink_place group ink → test other ≡ nat_lt (ink_place group other) (ink_place group ink))
-    → ((other : Ink) → rows_above plan (y + one_if (test other)) ≡ rows_above plan (y' + one_if (nat_lt (ink_place group other) (ink_place group ink'))))
-    → StandsBefore group ink' y' (row_after ink y pages)
-stands_on plan n index y y' group ink ink' pages test is here plan_is stands shown same apart line =
-    let kept = kept_after ink y pages in
-    let new_plan : (row_after ink y pages).plan ≡ plan = kept.1 ∙ plan_is in
+-- it stands before a row where the rows above, with this one, were shown
+stands_on : (plan : PlanData) (y y' : ℕ) (group : Group) (ink ink' : Ink) (pages : SideData) → pages.plan ≡ plan → StandsBefore group ink y pages
+    → rows_above plan (y + 1) ≡ rows_above plan (y' + one_if (nat_lt 0 (ink_place group ink'))) → StandsBefore group ink' y' (row_after y pages)
+stands_on plan y y' group ink ink' pages plan_is stands shown =
+    let kept = kept_after y pages in
+    let new_plan : (row_after y pages).plan ≡ plan = kept.1 ∙ plan_is in
     record {
       page_is = kept.0 ∙ stands.page_is ∙ ap {A = Side} (λ s. page_on s group) (sym kept.3);
-      five = five_after ink y pages stands.five;
       shown_is = shown_after ink y group pages stands ∙ ap (λ p. rows_above p (y + 1)) plan_is ∙ shown
           ∙ ap (λ p. rows_above p (y' + one_if (nat_lt 0 (ink_place group ink')))) (sym new_plan);
-      screened_is = λ other among diffused.
-          (let mine : is_diffused pages.plan other ≡ true = ap (λ p. is_diffused p other) (sym kept.1) ∙ diffused in
-          elim (which_ink plan n index y group ink other is here among) [
-            | inl one ↦ screened_of ink other y group pages stands among mine (test other) (inl (one, same other one))
-            | inr two ↦ screened_of ink other y group pages stands among mine (test other) (inr ((λ e. two (ap {A = Ink} (λ i. ink_place group i) (sym e))), apart other among two))
-          ]
-          ∙ ap (λ p. rows_above p (y + one_if (test other))) plan_is ∙ line other
-          ∙ ap (λ p. rows_above p (y' + one_if (nat_lt (ink_place group other) (ink_place group ink')))) (sym new_plan));
     }
 
 -- the next ink of the same row of the plate
-stands_on_line : (plan : PlanData) (n index y y' : ℕ) (group : Group) (ink ink' : Ink) (pages : SideData) → IsPlan plan → IsRowAt plan n index group y ink → pages.plan ≡ plan
-    → StandsBefore group ink y pages → y' ≡ y → ink_place group ink' ≡ ink_place group ink + 1 → StandsBefore group ink' y' (row_after ink y pages)
-stands_on_line plan n index y y' group ink ink' pages is here plan_is stands same_y next =
-    stands_on plan n index y y' group ink ink' pages (λ other. nat_lt (ink_place group other) (ink_place group ink + 1)) is here plan_is stands
+stands_on_line : (plan : PlanData) (y y' : ℕ) (group : Group) (ink ink' : Ink) (pages : SideData) → pages.plan ≡ plan
+    → StandsBefore group ink y pages → y' ≡ y → ink_place group ink' ≡ ink_place group ink + 1 → StandsBefore group ink' y' (row_after y pages)
+stands_on_line plan y y' group ink ink' pages plan_is stands same_y next =
+    stands_on plan y y' group ink ink' pages plan_is stands
     (sym (ap (λ z. rows_above plan (z + one_if (nat_lt 0 (ink_place group ink')))) same_y ∙ ap (λ k. rows_above plan (y + one_if (nat_lt 0 k))) next
     ∙ ap (λ t. rows_above plan (y + one_if t)) (above_zero (ink_place group ink))))
-    (λ other one. below_it (ink_place group other) (ink_place group ink) (ap {A = Ink} (λ i. ink_place group i) (sym one)))
-    (λ other among two. below_next (ink_place group other) (ink_place group ink) two)
-    (λ other. sym (ap (λ z. rows_above plan (z + one_if (nat_lt (ink_place group other) (ink_place group ink')))) same_y
-    ∙ ap (λ k. rows_above plan (y + one_if (nat_lt (ink_place group other) k))) next))
   where
     above_zero : (k : ℕ) → nat_lt 0 (k + 1) ≡ true
     above_zero k = grind (arith, nat_tests)
 
-    below_it : (k m : ℕ) → k ≡ m → nat_lt k (m + 1) ≡ true
-    below_it k m e = grind (arith, nat_tests)
-
 -- the first ink of the next row of the plate
-stands_on_next_line : (plan : PlanData) (n index y y' : ℕ) (group : Group) (ink ink' : Ink) (pages : SideData) → IsPlan plan → IsRowAt plan n index group y ink → pages.plan ≡ plan
-    → StandsBefore group ink y pages → y' ≡ y + 1 → ink_place group ink' ≡ 0 → ink_place group ink + 1 ≡ ink_count group → StandsBefore group ink' y' (row_after ink y pages)
-stands_on_next_line plan n index y y' group ink ink' pages is here plan_is stands next_y first last =
-    stands_on plan n index y y' group ink ink' pages (λ _. true) is here plan_is stands
-    (sym (at_first (λ k. nat_lt 0 k) refl))
-    (λ other one. refl)
-    (λ other among two. (let below = ink_place-within group other among in sym (below_last (ink_place group other) (ink_place group ink) (omega arith))))
-    (λ other. sym (at_first (λ k. nat_lt (ink_place group other) k) (not_below (ink_place group other))))
+stands_on_next_line : (plan : PlanData) (y y' : ℕ) (group : Group) (ink ink' : Ink) (pages : SideData) → pages.plan ≡ plan
+    → StandsBefore group ink y pages → y' ≡ y + 1 → ink_place group ink' ≡ 0 → StandsBefore group ink' y' (row_after y pages)
+stands_on_next_line plan y y' group ink ink' pages plan_is stands next_y first =
+    stands_on plan y y' group ink ink' pages plan_is stands
+    (sym (ap (λ z. rows_above plan (z + one_if (nat_lt 0 (ink_place group ink')))) next_y ∙ ap (λ k. rows_above plan (y + 1 + one_if (nat_lt 0 k))) first ∙ ap (rows_above plan) none_more))
   where
-    below_last : (k m : ℕ) → k < m → nat_lt k m ≡ true
-    below_last k m less = grind (arith, nat_tests)
-
-    not_below : (k : ℕ) → nat_lt k 0 ≡ false
-    not_below k = grind (arith, nat_tests)
-
     none_more : y + 1 + one_if false ≡ y + 1
     none_more = omega arith
 
-    at_first : (test : ℕ → Bool) → test 0 ≡ false → rows_above plan (y' + one_if (test (ink_place group ink'))) ≡ rows_above plan (y + 1)
-    at_first test none =
-        ap (λ z. rows_above plan (z + one_if (test (ink_place group ink')))) next_y ∙ ap (λ k. rows_above plan (y + 1 + one_if (test k))) first
-        ∙ ap (λ t. rows_above plan (y + 1 + one_if t)) none ∙ ap (rows_above plan) none_more
-
 -- it stands before the next row, unless that is the first of its group
 pub stands_at_next : (job : JobData) (n index y : ℕ) (group : Group) (ink : Ink) (pages : SideData) → IsPlan job.plan → IsRowAt job.plan n index group y ink → pages.plan ≡ job.plan
-    → StandsBefore group ink y pages → StandsAt job (n + 1) (row_after ink y pages)
+    → StandsBefore group ink y pages → StandsAt job (n + 1) (row_after y pages)
 stands_at_next job n index y group ink pages is here plan_is stands = record { each = each }
   where
     each : (place : RowPlace) (group' : Group) → slice_get (row_places job.plan) (n + 1) ≡ Some place → slice_get (groups_of job.plan) place.group ≡ Some group' → n + 1 ≢ group'.first
-        → StandsBefore group' place.ink place.y (row_after ink y pages)
+        → StandsBefore group' place.ink place.y (row_after y pages)
     each place group' there of later =
         let found = row_found job.plan (n + 1) place is there in
         let same_as : found.0 ≡ group' = same_Some found.0 group' (sym found.1.of ∙ of) in
@@ -368,10 +237,10 @@ stands_at_next job n index y group ink pages is here plan_is stands = record { e
         let next = next_row job.plan n index place.group y place.y group group' ink place.ink is here row later in
         let own : group' ≡ group = same_Some group' group (sym of ∙ ap (slice_get (groups_of job.plan)) (sym next.same_group) ∙ here.of) in
         let line = subst {A = Group} (λ g. IsNextRow index place.group y place.y g ink place.ink) own next in
-        subst {A = Group} (λ g. StandsBefore g place.ink place.y (row_after ink y pages)) (sym own)
+        subst {A = Group} (λ g. StandsBefore g place.ink place.y (row_after y pages)) (sym own)
         (elim line.line [
-          | inl level ↦ stands_on_line job.plan n index y place.y group ink place.ink pages is here plan_is stands level.0 level.1
-          | inr lower ↦ stands_on_next_line job.plan n index y place.y group ink place.ink pages is here plan_is stands lower.0 lower.1 lower.2
+          | inl level ↦ stands_on_line job.plan y place.y group ink place.ink pages plan_is stands level.0 level.1
+          | inr lower ↦ stands_on_next_line job.plan y place.y group ink place.ink pages plan_is stands lower.0 lower.1
         ])
 
 -- ---- the frames that are left
@@ -426,19 +295,19 @@ entered_of job side n group pages is = by_first (nat_eq n group.first)
     by_first true = record { plan_is = is.plan_is; files_are = is.files_are; side_is = is.side_is }
     by_first false = is
 
-after_of : (job : JobData) (side : Side) (ink : Ink) (y : ℕ) (pages : SideData) → IsOf job side pages → IsOf job side (row_after ink y pages)
-after_of job side ink y pages is =
-    let kept = kept_after ink y pages in
+after_of : (job : JobData) (side : Side) (y : ℕ) (pages : SideData) → IsOf job side pages → IsOf job side (row_after y pages)
+after_of job side y pages is =
+    let kept = kept_after y pages in
     record { plan_is = kept.1 ∙ is.plan_is; files_are = kept.2 ∙ is.files_are; side_is = kept.3 ∙ is.side_is }
 
 -- what a side is told of the next row
 pub record SideRow (job : JobData) (side : Side) (n : ℕ) (place : RowPlace) (group : Group) (pages : SideData) : Type 0 where
   pub may_enter : stands_in (groups_of pages.plan) pages.side (page_on pages.side group) ≡ true
-  pub can : CanDraw job.plan side place.ink place.y (entered group n pages)
+  pub can : CanDraw job.plan side place.y (entered group n pages)
   pub files : (entered group n pages).files ≡ job.files
   pub page : (entered group n pages).page ≡ page_on side group
-  pub later_of : IsOf job side (row_after place.ink place.y (entered group n pages))
-  pub later_stands : StandsAt job (n + 1) (row_after place.ink place.y (entered group n pages))
+  pub later_of : IsOf job side (row_after place.y (entered group n pages))
+  pub later_stands : StandsAt job (n + 1) (row_after place.y (entered group n pages))
 
 side_row : (job : JobData) (side : Side) (n : ℕ) (place : RowPlace) (group : Group) (pages : SideData) → IsPlan job.plan → IsRowAt job.plan n place.group group place.y place.ink → IsOf job side pages
     → StandsAt job n pages → slice_get (row_places job.plan) n ≡ Some place → SideRow job side n place group pages
@@ -451,45 +320,84 @@ side_row job side n place group pages is here of stands there =
       can = can_draw job side n place.group place.y group place.ink (entered group n pages) here own before among;
       files = own.files_are;
       page = before.page_is ∙ ap {A = Side} (λ s. page_on s group) own.side_is;
-      later_of = after_of job side place.ink place.y (entered group n pages) own;
+      later_of = after_of job side place.y (entered group n pages) own;
       later_stands = stands_at_next job n place.group place.y group place.ink (entered group n pages) is here own.plan_is before;
     }
 
+-- what was shown of the pages of a group was diffused
+entered_diffused : (job : JobData) (n : ℕ) (group : Group) (left right : SideData) (screens : Screens) → left.shown ≡ right.shown → AreScreens job.plan screens
+    → HaveDiffused job.plan job.files left.page right.page left.shown screens → ((entered group n left).shown ≡ (entered group n right).shown) × AreScreens job.plan (entered_screens group n screens)
+    × HaveDiffused job.plan job.files (entered group n left).page (entered group n right).page (entered group n left).shown (entered_screens group n screens)
+entered_diffused job n group left right screens level are have = by_first (nat_eq n group.first)
+  where
+    by_first : (first : Bool) → ((cond {A = SideData} first (at_top (page_on left.side group) left) left).shown ≡ (cond {A = SideData} first (at_top (page_on right.side group) right) right).shown)
+        × AreScreens job.plan (cond {A = Screens} first (from_top screens) screens)
+        × HaveDiffused job.plan job.files (cond {A = SideData} first (at_top (page_on left.side group) left) left).page (cond {A = SideData} first (at_top (page_on right.side group) right) right).page
+        (cond {A = SideData} first (at_top (page_on left.side group) left) left).shown (cond {A = Screens} first (from_top screens) screens)
+    by_first true = (refl, screens-from_top job.plan screens are, diffused-from_top job.plan job.files left.page right.page (page_on left.side group) (page_on right.side group) left.shown screens have)
+    by_first false = (level, are, have)
+
+-- both sides of a plate go on together
+pub level_after : (y : ℕ) (plan : PlanData) (left right : SideData) → left.plan ≡ plan → right.plan ≡ plan → left.shown ≡ right.shown → (row_after y left).shown ≡ (row_after y right).shown
+level_after y plan left right left_plan right_plan level =
+    ap {A = PlanData} (λ p. (option_map_or (λ row. behind_row row left) (page_row p y) left).shown) left_plan ∙ by_row (page_row plan y)
+    ∙ ap {A = PlanData} (λ p. (option_map_or (λ row. behind_row row right) (page_row p y) right).shown) (sym right_plan)
+  where
+    by_row : (o : Option ℕ) → (option_map_or (λ row. behind_row row left) o left).shown ≡ (option_map_or (λ row. behind_row row right) o right).shown
+    by_row (Some row) = refl
+    by_row None = level
+
 -- what a feed is told of its next row
-pub record NextRow (job : JobData) (left right : SideData) (n : ℕ) (place : RowPlace) (group : Group) : Type 0 where
+pub record NextRow (job : JobData) (left right : SideData) (screens : Screens) (n : ℕ) (place : RowPlace) (group : Group) : Type 0 where
   pub there : slice_get (row_places job.plan) n ≡ Some place
   pub of : slice_get (groups_of job.plan) place.group ≡ Some group
   pub y : place.y < plate_height job.plan
   pub on_left : SideRow job Left n place group left
   pub on_right : SideRow job Right n place group right
+  pub level : (entered group n left).shown ≡ (entered group n right).shown
+  pub screens_are : AreScreens job.plan (entered_screens group n screens)
+  pub diffused : HaveDiffused job.plan job.files (entered group n left).page (entered group n right).page (entered group n left).shown (entered_screens group n screens)
+  pub later_level : (row_after place.y (entered group n left)).shown ≡ (row_after place.y (entered group n right)).shown
 
-pub next_row_is : (job : JobData) (left right : SideData) (bits : List ℕ) (n : ℕ) (rows : RowPlanData) (place : RowPlace) (group : Group) → IsFeed job left right bits n → rows ≡ rows_of job.plan
-    → slice_get (places_in rows) n ≡ Some place → slice_get rows.groups place.group ≡ Some group → NextRow job left right n place group
-next_row_is job left right bits n rows place group is rows_are there of =
+pub next_row_is : (job : JobData) (left right : SideData) (screens : Screens) (bits : List ℕ) (n : ℕ) (rows : RowPlanData) (place : RowPlace) (group : Group) → IsFeed job left right screens bits n → rows ≡ rows_of job.plan
+    → slice_get (places_in rows) n ≡ Some place → slice_get rows.groups place.group ≡ Some group → NextRow job left right screens n place group
+next_row_is job left right screens bits n rows place group is rows_are there of =
     let at : slice_get (row_places job.plan) n ≡ Some place = ap {A = RowPlanData} (λ r. slice_get (places_in r) n) (sym rows_are) ∙ there in
     let own : slice_get (groups_of job.plan) place.group ≡ Some group = ap {A = RowPlanData} (λ r. slice_get r.groups place.group) (sym rows_are) ∙ of in
     let found = row_found job.plan n place is.plan_is at in
     let here : IsRowAt job.plan n place.group group place.y place.ink =
     subst {A = Group} (λ g. IsRowAt job.plan n place.group g place.y place.ink) (same_Some found.0 group (sym found.1.of ∙ own)) found.1 in
+    let diffused = entered_diffused job n group left right screens is.level is.screens_are is.diffused in
     record {
       there = at;
       of = own;
       y = here.top;
       on_left = side_row job Left n place group left is.plan_is here is.left_is is.left_stands at;
       on_right = side_row job Right n place group right is.plan_is here is.right_is is.right_stands at;
+      level = diffused.0;
+      screens_are = diffused.1;
+      diffused = diffused.2;
+      later_level = level_after place.y job.plan (entered group n left) (entered group n right) (entered_of job Left n group left is.left_is).plan_is (entered_of job Right n group right is.right_is).plan_is diffused.0;
     }
 
 -- a feed behind that row
-pub IsFeed-next : (job : JobData) (left right left' right' : SideData) (bits new : List ℕ) (n : ℕ) (place : RowPlace) (group : Group) → IsFeed job left right bits n → NextRow job left right n place group
-    → left' ≡ row_after place.ink place.y (entered group n left) → right' ≡ row_after place.ink place.y (entered group n right) → length new ≡ row_size (plate_width job.plan)
-    → IsFeed job left' right' new (n + 1)
-IsFeed-next job left right left' right' bits new n place group is next left_is right_is long = record {
+pub IsFeed-next : (job : JobData) (left right left' right' : SideData) (screens screens' : Screens) (bits new : List ℕ) (n : ℕ) (place : RowPlace) (group : Group) → IsFeed job left right screens bits n
+    → NextRow job left right screens n place group
+    → left' ≡ row_after place.y (entered group n left) → right' ≡ row_after place.y (entered group n right) → length new ≡ row_size (plate_width job.plan)
+    → AreScreens job.plan screens' → HaveDiffused job.plan job.files (entered group n left).page (entered group n right).page left'.shown screens' → IsFeed job left' right' screens' new (n + 1)
+IsFeed-next job left right left' right' screens screens' bits new n place group is next left_is right_is long are have = record {
   plan_is = is.plan_is;
   left_is = subst {A = SideData} (IsOf job Left) (sym left_is) next.on_left.later_of;
   right_is = subst {A = SideData} (IsOf job Right) (sym right_is) next.on_right.later_of;
   bits_long = long;
   left_stands = subst {A = SideData} (StandsAt job (n + 1)) (sym left_is) next.on_left.later_stands;
   right_stands = subst {A = SideData} (StandsAt job (n + 1)) (sym right_is) next.on_right.later_stands;
+  level = ap {A = SideData} (λ s. s.shown) left_is ∙ next.later_level ∙ ap {A = SideData} (λ s. s.shown) (sym right_is);
+  screens_are = are;
+  diffused = subst {A = SideData} (λ l. HaveDiffused job.plan job.files l.page right'.page left'.shown screens') (sym left_is)
+      (subst {A = SideData} (λ r. HaveDiffused job.plan job.files (row_after place.y (entered group n left)).page r.page left'.shown screens') (sym right_is)
+      (subst {A = ℕ} (λ l. HaveDiffused job.plan job.files l (row_after place.y (entered group n right)).page left'.shown screens') (sym (kept_after place.y (entered group n left)).0)
+      (subst {A = ℕ} (λ r. HaveDiffused job.plan job.files (entered group n left).page r left'.shown screens') (sym (kept_after place.y (entered group n right)).0) have)));
 }
 
 -- a row of values fits the next row of a list of such rows
@@ -518,13 +426,17 @@ stands_at_start job pages is = record {
 opened_of : (job : JobData) (side : Side) (pages : SideData) → pages ≡ opened_side job side → IsOf job side pages
 opened_of job side pages is = record { plan_is = ap {A = SideData} (λ s. s.plan) is; files_are = ap {A = SideData} (λ s. s.files) is; side_is = ap {A = SideData} (λ s. s.side) is }
 
-pub IsFeed-open : (job : JobData) (left right : SideData) (bits : List ℕ) → IsPlan job.plan → left ≡ opened_side job Left → right ≡ opened_side job Right → length bits ≡ row_size (plate_width job.plan)
-    → IsFeed job left right bits 0
-IsFeed-open job left right bits is left_is right_is long = record {
+pub IsFeed-open : (job : JobData) (left right : SideData) (screens : Screens) (bits : List ℕ) → IsPlan job.plan → left ≡ opened_side job Left → right ≡ opened_side job Right → length bits ≡ row_size (plate_width job.plan)
+    → AreScreens job.plan screens → ForSome screens.process (λ front. front ≡ record { width = job.plan.page_width; rows = [] })
+    → ForSome screens.spot (λ front. front ≡ record { width = job.plan.page_width; rows = [] }) → IsFeed job left right screens bits 0
+IsFeed-open job left right screens bits is left_is right_is long are process spot = record {
   plan_is = is;
   left_is = opened_of job Left left left_is;
   right_is = opened_of job Right right right_is;
   bits_long = long;
   left_stands = stands_at_start job left is;
   right_stands = stands_at_start job right is;
+  level = ap {A = SideData} (λ s. s.shown) left_is ∙ ap {A = SideData} (λ s. s.shown) (sym right_is);
+  screens_are = are;
+  diffused = subst {A = SideData} (λ l. HaveDiffused job.plan job.files l.page right.page l.shown screens) (sym left_is) (record { process = process; spot = spot });
 }

@@ -162,7 +162,7 @@ row_is plan files left right ink y old new long bytes pages marks padding =
     marks_first false false false = refl
 
 -- the two sides of a plate that were drawn
-pub sides_drawn : (plan : PlanData) (ink : Ink) (y row n : ℕ) (left right : SideData) (zeros one two : List ℕ) → CanDraw plan Left ink y left → CanDraw plan Right ink y right → left.files ≡ right.files
+pub sides_drawn : (plan : PlanData) (ink : Ink) (y row n : ℕ) (left right : SideData) (zeros one two : List ℕ) → CanDraw plan Left y left → CanDraw plan Right y right → left.files ≡ right.files
     → zeros ≡ replicate {A = ℕ} n 0 → page_row plan y ≡ Some row → SetsBits (λ x. page_bit left.plan left.files left.page ink x row) (left_edge left.plan left.side) left.plan.page_width zeros one
     → SetsBits (λ x. page_bit right.plan right.files right.page ink x row) (left_edge right.plan right.side) right.plan.page_width one two → ShowsPages plan left.files left.page right.page ink y two
 sides_drawn plan ink y row n left right zeros one two can_left can_right files none there first second =

@@ -1,21 +1,21 @@
 -- What a feed is.
-use Rattle.std.specs.Prelude.{◌≡◌, ◌≢◌, ℕ, ◌+◌, ◌-◌, nat_lt, min, Bool, true, if◌then◌else◌, List, length, drop, Some, Contains, slice_get, slice_index}
+use Rattle.std.specs.Prelude.{◌≡◌, ◌≢◌, ℕ, ◌+◌, ◌-◌, nat_lt, min, Bool, if◌then◌else◌, List, length, drop, Some, slice_get}
 use Rattle.pr_base.specs.Row.{row_size}
 use Rattle.pr_base.specs.declared.ink.Ink.{Ink}
 use Rattle.plan_json.specs.Data.{PlanData, plate_width}
 use Rattle.plan_json.specs.Plan.{IsPlan}
-use Rattle.pr_base.specs.Ink.{slot_of}
 use Rattle.plan_pages.specs.Plate.{shape_of_plate}
 use Rattle.plan_rows.specs.declared.group.Group.{Group}
 use Rattle.plan_rows.specs.declared.place.RowPlace.{RowPlace}
 use Rattle.plan_rows.specs.Groups.{groups_of}
-use Rattle.plan_rows.specs.Inks.{inks_of, ink_place}
+use Rattle.plan_rows.specs.Inks.{ink_place}
 use Rattle.plan_rows.specs.Rows.{row_places}
 use Rattle.press_feed.specs.declared.side.Side.{Side}
 use Rattle.press_feed.specs.declared.side.Side.TheVariants.{Left, Right}
 use Rattle.press_job.specs.Job.{JobData}
 use Rattle.press_job.specs.Rows.{plate_frames}
-use Rattle.press_feed.specs.Screener.{is_diffused}
+use Rattle.press_feed.specs.Screens.{AreScreens, HaveDiffused}
+use Rattle.press_feed.specs.declared.screens.Screens.{Screens}
 use Rattle.press_feed.specs.Sides.{SideData, page_on}
 
 -- a job, and the number of the next row
@@ -38,15 +38,10 @@ abbrev pub one_if : Bool → ℕ
 one_if test = if test then 1 else 0
 
 -- a side stands before row y of a plate of a group in an ink: of the page of the group the rows above were
--- shown, and this one too where an ink of it was drawn; of each ink the rows above were screened, and this
--- one too where it was drawn
+-- shown, and this one too where an ink of it was drawn
 pub record StandsBefore (group : Group) (ink : Ink) (y : ℕ) (side : SideData) : Type 0 where
   pub page_is : side.page ≡ page_on side.side group
-  pub five : length side.screened ≡ 5
   pub shown_is : side.shown ≡ rows_above side.plan (y + one_if (nat_lt 0 (ink_place group ink)))
-  pub screened_is : (other : Ink) → Contains (inks_of group) other → is_diffused side.plan other ≡ true
-      → slice_index side.screened (slot_of other)
-      ≡ rows_above side.plan (y + one_if (nat_lt (ink_place group other) (ink_place group ink)))
 
 -- it stands before row n, unless that is the first of its group
 pub record StandsAt (job : JobData) (n : ℕ) (side : SideData) : Type 0 where
@@ -60,11 +55,15 @@ pub record IsOf (job : JobData) (side : Side) (pages : SideData) : Type 0 where
   pub files_are : pages.files ≡ job.files
   pub side_is : pages.side ≡ side
 
--- both sides stand before the next row
-pub record IsFeed (job : JobData) (left right : SideData) (bits : List ℕ) (next : ℕ) : Type 0 where
+-- both sides stand before the next row, and what was shown of their pages was diffused
+pub record IsFeed (job : JobData) (left right : SideData) (screens : Screens) (bits : List ℕ)
+    (next : ℕ) : Type 0 where
   pub plan_is : IsPlan job.plan
   pub left_is : IsOf job Left left
   pub right_is : IsOf job Right right
   pub bits_long : length bits ≡ row_size (plate_width job.plan)
   pub left_stands : StandsAt job next left
   pub right_stands : StandsAt job next right
+  pub level : left.shown ≡ right.shown
+  pub screens_are : AreScreens job.plan screens
+  pub diffused : HaveDiffused job.plan job.files left.page right.page left.shown screens

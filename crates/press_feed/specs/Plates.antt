@@ -22,12 +22,12 @@ pub record ShowsPages (plan : PlanData) (files : List (List ℕ)) (left right : 
       ≡ (placed_bit plan files left (shape_of_plate plan).left_x ink x y || placed_bit plan files right
       (shape_of_plate plan).right_x ink x y)
 
--- a side can draw its part of row y of a plate in an ink
-pub record CanDraw (plan : PlanData) (side : Side) (ink : Ink) (y : ℕ) (pages : SideData) : Type 0 where
+-- a side can draw its part of row y of a plate
+pub record CanDraw (plan : PlanData) (side : Side) (y : ℕ) (pages : SideData) : Type 0 where
   pub plan_is : pages.plan ≡ plan
   pub side_is : pages.side ≡ side
-  pub ready : ForSome (page_row plan y) (λ row. IsReady ink row pages)
+  pub ready : ForSome (page_row plan y) (λ row. IsReady row pages)
 
 -- the side behind row y of a plate
-abbrev pub row_after : Ink → ℕ → SideData → SideData
-row_after ink y pages = option_map_or (λ row. behind_row ink row pages) (page_row pages.plan y) pages
+abbrev pub row_after : ℕ → SideData → SideData
+row_after y pages = option_map_or (λ row. behind_row row pages) (page_row pages.plan y) pages

@@ -1,16 +1,15 @@
--- How an ink of a page is screened, row by row.
-use Rattle.std.specs.Prelude.{◌≡◌, ℕ, Bool, true, false, List, [], ◌∷◌, ◌++◌, length, take, slice_index}
+-- How an ink is screened.
+use Rattle.std.specs.Prelude.{◌≡◌, ℕ, Bool, true, false, List, length, slice_index_or}
 use Rattle.pr_base.specs.declared.ink.Ink.{Ink}
-use Rattle.scr_tile.specs.Tile.{threshold_at, tile_bit}
+use Rattle.pr_base.specs.Ink.{slot_of}
+use Rattle.scr_tile.specs.Tile.{threshold_at}
 use Rattle.scr_tile.specs.AnyTile.{threshold_of}
-use Rattle.scr_diffuse.specs.Diffusion.{diffused_bit}
-use Rattle.scr_diffuse.specs.Diffuser.{PageFront}
 use Rattle.plan_parts.specs.declared.printing.Screen.{Screen}
 use Rattle.plan_parts.specs.declared.printing.Screen.TheVariants.{Bayer, Diffuse, Own}
 use Rattle.plan_json.specs.Data.{PlanData}
 use Rattle.press_feed.specs.declared.screener.Screener.{Screener}
 use Rattle.press_feed.specs.declared.screener.Screener.TheVariants.{Tile, Diffusion}
-use Rattle.press_job.specs.Printing.{own_threshold, page_values, screen_of}
+use Rattle.press_job.specs.Printing.{own_threshold, screen_of}
 
 -- ---- what the plan says
 
@@ -31,45 +30,20 @@ threshold_under plan (Own tile) x y = own_threshold plan tile x y
 
 -- ---- a screener
 
--- the front of the page that is diffused; of a tile's page nothing is kept
-abbrev pub front_of : Screener → PageFront
-front_of (Tile tile) = record { width = 0; rows = [] }
-front_of (Diffusion front) = front
-
--- how many rows it keeps the errors of
-abbrev pub rows_in : Screener → ℕ
-rows_in screener = length (front_of screener).rows
-
 abbrev pub diffuses : Screener → Bool
 diffuses (Tile tile) = false
-diffuses (Diffusion front) = true
+diffuses Diffusion = true
 
 abbrev pub threshold_in : Screener → ℕ → ℕ → ℕ
 threshold_in (Tile tile) x y = threshold_of tile x y
-threshold_in (Diffusion front) x y = 0
-
--- the bit of column x of a row of values, which is row y under a tile and the next one to be diffused
-abbrev pub screened_bit : Screener → ℕ → List ℕ → ℕ → Bool
-screened_bit (Tile tile) y values x = tile_bit (slice_index values x) (threshold_of tile x y)
-screened_bit (Diffusion front) y values x = diffused_bit (front.rows ++ values ∷ []) x (length front.rows)
-
--- the screener behind a row of values
-abbrev pub behind_values : List ℕ → Screener → Screener
-behind_values values (Tile tile) = Tile tile
-behind_values values (Diffusion front) = Diffusion (record front { rows = front.rows ++ values ∷ [] })
-
--- the screener at the top of a page
-abbrev pub from_top : Screener → Screener
-from_top (Tile tile) = Tile tile
-from_top (Diffusion front) = Diffusion (record front { rows = [] })
+threshold_in Diffusion x y = 0
 
 -- it screens as the plan says of an ink
 pub record IsScreener (plan : PlanData) (ink : Ink) (screener : Screener) : Type 0 where
   pub kind : diffuses screener ≡ is_diffused plan ink
   pub thresholds : (x y : ℕ) → threshold_in screener x y ≡ threshold_under plan (screen_of plan ink) x y
-  pub width : diffuses screener ≡ true → (front_of screener).width ≡ plan.page_width
 
--- the rows that it keeps the errors of are the first of an ink of a page
-pub record HasScreened (plan : PlanData) (files : List (List ℕ)) (page : ℕ) (ink : Ink)
-    (screener : Screener) : Type 0 where
-  pub rows : (front_of screener).rows ≡ take (rows_in screener) (page_values plan files page ink)
+-- a screener for each ink of a plan
+pub record AreScreeners (plan : PlanData) (screeners : List Screener) : Type 0 where
+  pub five : length screeners ≡ 5
+  pub each : (ink : Ink) (d : Screener) → IsScreener plan ink (slice_index_or screeners (slot_of ink) d)

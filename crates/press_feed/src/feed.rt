@@ -1,12 +1,15 @@
 // The rows of a job in order, each made when it is asked for.
-ghost use Rattle.std.specs.Prelude.{◌≡◌, ◌<◌, IfOk, Some, length, replicate, slice_get};
+ghost use Rattle.std.specs.Prelude.{◌≡◌, ◌+◌, ◌<◌, IfOk, Some, length, replicate, slice_get};
 ghost use Rattle.pr_base.specs.Row.{row_size};
 ghost use Rattle.plan_json.specs.Data.{plate_height, plate_width};
 ghost use Rattle.plan_json.specs.Plan.{IsPlan};
 ghost use Rattle.press_job.specs.Rows.{plate_row};
 ghost use Rattle.press_feed.specs.Plates.{CanDraw, ShowsPages, page_row as row_of_pages, row_after};
+ghost use Rattle.press_feed.specs.Screens.{AreScreens, HaveDiffused};
+ghost use Rattle.press_feed.specs.Sides.{IsReady, behind_row};
 ghost use Rattle.press_feed.specs.declared.side.Side.TheVariants.{Left, Right};
 
+use crate::screens::Screens;
 use crate::side::Side;
 use crate::side_pages::SidePages;
 use plan_json::Plan;
@@ -26,6 +29,7 @@ pub struct Feed<'j> {
     job: &'j Job,
     left: SidePages<'j>,
     right: SidePages<'j>,
+    screens: Screens,
     /// A row of a plate, eight pixels a byte.
     bits: Vec<u8>,
     next: u64,
@@ -40,7 +44,7 @@ impl<'j> Model for Feed<'j> {
 
     ghost view = { λ f. record { job = f.job.now; next = f.next } };
 
-    ghost invariant = { λ f. IsFeed f.job.now f.left f.right f.bits.items f.next };
+    ghost invariant = { λ f. IsFeed f.job.now f.left f.right f.screens f.bits.items f.next };
 }
 
 impl<'j> Feed<'j> {
@@ -51,11 +55,13 @@ impl<'j> Feed<'j> {
         let plan = job.plan();
         let left = SidePages::open(alloc, job, Side::Left)?;
         let right = SidePages::open(alloc, job, Side::Right)?;
+        let screens = Screens::of(alloc, plan)?;
         let bits = vec![in alloc; 0; row_bytes(plate_shape(plan).width)]?;
         Ok(Feed {
             job,
             left,
             right,
+            screens,
             bits,
             next: 0,
         })
@@ -73,11 +79,13 @@ impl<'j> RowFeed for Feed<'j> {
         let group = group_at(rows, place.group);
         self.left.enter(group, self.next);
         self.right.enter(group, self.next);
+        self.screens.enter(group, self.next);
         draw_row(
             self.job.plan(),
             place,
             &mut self.left,
             &mut self.right,
+            &mut self.screens,
             &mut self.bits,
         );
         frame_row(&self.bits, row);
@@ -100,20 +108,28 @@ fn draw_row(
     place: RowPlace,
     left: &mut SidePages<'_>,
     right: &mut SidePages<'_>,
+    screens: &mut Screens,
     bits: &mut [u8],
 )
     requires plan { IsPlan plan.now }
-    requires left { CanDraw plan.now Left place.ink place.y left.old }
-    requires right { CanDraw plan.now Right place.ink place.y right.old }
+    requires left { CanDraw plan.now Left place.y left.old }
+    requires right { CanDraw plan.now Right place.y right.old }
     requires same { left.old.files ≡ right.old.files }
+    requires level { left.old.shown ≡ right.old.shown }
+    requires screens { AreScreens plan.now screens.old }
+    requires diffused { HaveDiffused plan.now left.old.files left.old.page right.old.page left.old.shown
+        screens.old }
     requires y { place.y < plate_height plan.now }
     requires row { length bits.old ≡ row_size (plate_width plan.now) }
     ensures row { bits.new
         ≡ plate_row plan.now left.old.files left.old.page right.old.page place.ink place.y }
-    ensures left { left.new ≡ row_after place.ink place.y left.old }
-    ensures right { right.new ≡ row_after place.ink place.y right.old }
+    ensures left { left.new ≡ row_after place.y left.old }
+    ensures right { right.new ≡ row_after place.y right.old }
+    ensures screens { AreScreens plan.now screens.new }
+    ensures diffused { HaveDiffused plan.now left.old.files left.old.page right.old.page left.new.shown
+        screens.new }
 {
-    draw_pages(plan, place, left, right, bits);
+    draw_pages(plan, place, left, right, screens, bits);
     mark_row(plan, place.ink, place.y, bits);
 }
 
@@ -123,24 +139,56 @@ fn draw_pages(
     place: RowPlace,
     left: &mut SidePages<'_>,
     right: &mut SidePages<'_>,
+    screens: &mut Screens,
     bits: &mut [u8],
 )
     requires plan { IsPlan plan.now }
-    requires left { CanDraw plan.now Left place.ink place.y left.old }
-    requires right { CanDraw plan.now Right place.ink place.y right.old }
+    requires left { CanDraw plan.now Left place.y left.old }
+    requires right { CanDraw plan.now Right place.y right.old }
     requires same { left.old.files ≡ right.old.files }
+    requires level { left.old.shown ≡ right.old.shown }
+    requires screens { AreScreens plan.now screens.old }
+    requires diffused { HaveDiffused plan.now left.old.files left.old.page right.old.page left.old.shown
+        screens.old }
     requires row { length bits.old ≡ row_size (plate_width plan.now) }
     ensures pages { ShowsPages plan.now left.old.files left.old.page right.old.page place.ink place.y
         bits.new }
-    ensures left { left.new ≡ row_after place.ink place.y left.old }
-    ensures right { right.new ≡ row_after place.ink place.y right.old }
+    ensures left { left.new ≡ row_after place.y left.old }
+    ensures right { right.new ≡ row_after place.y right.old }
+    ensures screens { AreScreens plan.now screens.new }
+    ensures diffused { HaveDiffused plan.now left.old.files left.old.page right.old.page left.new.shown
+        screens.new }
 {
     clear(bits);
     let Some(y) = page_row(plan, place.y) else {
         return;
     };
-    left.draw(place.ink, y, bits);
-    right.draw(place.ink, y, bits);
+    show_row(y, left, right, screens);
+    left.draw(screens, place.ink, y, bits);
+    right.draw(screens, place.ink, y, bits);
+}
+
+/// Shows row `y` of both pages and diffuses it in all inks, unless it stands here.
+fn show_row(y: u32, left: &mut SidePages<'_>, right: &mut SidePages<'_>, screens: &mut Screens)
+    requires left { IsReady y left.old }
+    requires right { IsReady y right.old }
+    requires plan { left.old.plan ≡ right.old.plan }
+    requires files { left.old.files ≡ right.old.files }
+    requires level { left.old.shown ≡ right.old.shown }
+    requires screens { AreScreens left.old.plan screens.old }
+    requires diffused { HaveDiffused left.old.plan left.old.files left.old.page right.old.page
+        left.old.shown screens.old }
+    ensures left { left.new ≡ behind_row y left.old }
+    ensures right { right.new ≡ behind_row y right.old }
+    ensures screens { AreScreens left.old.plan screens.new }
+    ensures diffused { HaveDiffused left.old.plan left.old.files left.old.page right.old.page
+        (y + 1) screens.new }
+{
+    if left.shown() == y {
+        left.show();
+        right.show();
+        screens.advance(left.row(), right.row());
+    }
 }
 
 /// No pixel of a row.

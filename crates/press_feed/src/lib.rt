@@ -6,6 +6,7 @@ mod feed;
 mod plane;
 mod printed_row;
 mod screener;
+mod screens;
 mod side;
 mod side_pages;
 mod tones;

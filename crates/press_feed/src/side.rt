@@ -24,13 +24,6 @@ impl Side {
         }
     }
 
-    /// Whether a page stands on this side of the plates of some group.
-    pub(crate) fn has(self, groups: &[Group], page: usize) -> bool
-        ensures { result ≡ stands_in groups.now self page }
-    {
-        groups.iter().any(|group| self.page_of(group) == page)
-    }
-
     /// Where its pages begin from the left.
     pub(crate) fn left_edge(self, plan: &Plan) -> u32
         ensures { result ≡ left_edge plan.now self }

@@ -7,3 +7,4 @@ pub mod LimitLemmas
 pub mod LoadLemmas
 pub mod SmallJob
 pub mod SpotlessLemmas
+pub mod UntoldLemmas

@@ -78,7 +78,7 @@ first_files-more : (plan : PlanData) (folder : List ℕ) (held : List (List ℕ 
 unfolding first_files
 first_files-more plan folder held n = map-range_with_len_more (held_bytes plan folder held) 0 n n (omega arith)
 
-first_more : (plan : PlanData) (folder : List ℕ) (held : List (List ℕ × List ℕ)) (files : List (List ℕ)) (bytes : List ℕ) (limit : ℕ) → AreFirst plan folder held files
+pub first_more : (plan : PlanData) (folder : List ℕ) (held : List (List ℕ × List ℕ)) (files : List (List ℕ)) (bytes : List ℕ) (limit : ℕ) → AreFirst plan folder held files
     → limit ≡ limit_behind (sum_by length files) → held_at held (path_of plan folder (length files)) ≡ Some bytes → length bytes ≤ limit → fault_of_file plan (length files) bytes ≡ None
     → AreFirst plan folder held (files ++ bytes ∷ [])
 first_more plan folder held files bytes limit are limit_is there within pass =

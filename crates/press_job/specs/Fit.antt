@@ -4,7 +4,7 @@ use Rattle.std.specs.Option.{ForSome}
 use Rattle.tif_image.specs.declared.usage.BilevelUse.TheVariants.{Mask}
 use Rattle.plan_parts.specs.Data.{LayerData}
 use Rattle.plan_json.specs.Data.{PlanData}
-use Rattle.plan_words.specs.Words.{IsWithin}
+use Rattle.pr_base.specs.Number.{IsWithin}
 use Rattle.plan_parts.specs.Parts.{IsCrop}
 use Rattle.plan_json.specs.Plan.{IsPlan}
 use Rattle.tif_image.specs.declared.usage.Usage.TheVariants.{Bilevel}

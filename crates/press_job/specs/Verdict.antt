@@ -83,6 +83,21 @@ pub record AreFirst (plan : PlanData) (folder : List ℕ) (held : List (List ℕ
   pub files_are : files ≡ first_files plan folder held (length files)
   pub pass : verdict_before plan folder held (length files) ≡ None
 
+-- P of the files that a shelf holds, where it tells them, and else of some files
+abbrev pub OfFiles : Option (List (List ℕ × List ℕ)) → (List (List ℕ × List ℕ) → Type 0) → Type 0
+OfFiles None P = (held : List (List ℕ × List ℕ)) × P held
+OfFiles (Some held) P = P held
+
+-- these are a plan's files as they are held, and nothing is wrong with them
+pub record AreSound (plan : PlanData) (folder : List ℕ) (files : List (List ℕ)) (held : List
+    (List ℕ × List ℕ)) : Type 0 where
+  pub files_are : files ≡ files_in plan folder held
+  pub pass : verdict_on_files plan folder held ≡ None
+
+-- this fault of a file is the first thing that is wrong
+abbrev pub IsFirstFault : PlanData → List ℕ → FileFault → List (List ℕ × List ℕ) → Type 0
+IsFirstFault plan folder fault held = verdict_on_files plan folder held ≡ Some (File fault)
+
 -- a load failed at this path: that of a file before which, where told, nothing is wrong
 pub record IsMissing (plan : PlanData) (folder : List ℕ) (held : Option (List (List ℕ × List ℕ)))
     (path : List ℕ) : Type 0 where
@@ -104,3 +119,12 @@ IfShelf (Ok value) P = Unit {0}
 IfShelf (Err (File fault)) P = Unit {0}
 IfShelf (Err (Shelf path)) P = P path
 IfShelf (Err Memory) P = Unit {0}
+
+-- ---- private calls
+
+-- what was found at the path of a file, which is what is held there, where told, has this fault
+pub record WasFound (plan : PlanData) (folder : List ℕ) (held : Option (List (List ℕ × List ℕ)))
+    (limit file : ℕ) (fault : FileFault) : Type 0 where
+  pub found : Option (List ℕ)
+  pub is_held : IfSome held (λ files. held_at files (path_of plan folder file) ≡ found)
+  pub refused : verdict_on plan folder limit file found ≡ Some (File fault)

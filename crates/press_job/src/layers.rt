@@ -1,7 +1,7 @@
 // The layers of a page with their images. Each was tested when the job was prepared, so no test fails here.
-ghost use Rattle.std.specs.Prelude.{◌≡◌, ◌<◌, All, IfOk, None, length, option_map};
+ghost use Rattle.std.specs.Prelude.{◌≡◌, ◌≤◌, ℕ, None, length, option_map};
 ghost use Rattle.std.specs.Option.{ForSome};
-ghost use Rattle.page_layers.specs.Layer.{IsLayer, shape_of};
+ghost use Rattle.page_layers.specs.Layer.{shape_of};
 ghost use Rattle.press_job.specs.Fit.{PassesTests};
 ghost use Rattle.press_job.specs.Layers.{art_in, bilevel_of, bytes_at, crop_of, layer_of, layers_of, planned_layers};
 ghost use Rattle.press_job.specs.Tests.{fault_for, use_of};
@@ -11,26 +11,36 @@ ghost use Rattle.tif_image.specs.declared.usage.BilevelUse.TheVariants as usages
 use crate::Job;
 use crate::files::Files;
 use crate::usage::layers_on;
-use page_layers::{Art, Crop, Layer};
+use page_layers::{Art, Crop, Layer, PageRows};
 use plan_json::{Plan, PlanLayer};
-use pr_base::NoMemory;
-use std::alloc::Global;
 use tif_image::{Bilevel, BilevelUse, Contone};
 
-/// The layers of a page of a job with their images and masks, the first at the bottom. The page is an index
-/// into the plan's pages. Their tests have passed, so want of memory is the one refusal.
-pub fn open_layers<'j>(alloc: Global, job: &'j Job, page: usize) -> Result<Vec<Layer<'j>>, NoMemory>
-    requires { page < length job.now.plan.pages }
-    ensures layers { IfOk result (λ layers. layers.items ≡ layers_of job.now.plan job.now.files page) }
-    ensures fit { IfOk result (λ layers. All IsLayer layers.items) }
+/// Makes `rows` a page of a job before its first row, with its layers, their images and their masks, the
+/// first at the bottom. The page is an index into the plan's pages. Their tests have passed, and nothing
+/// takes memory, so nothing is refused.
+pub fn put_layers<'j>(job: &'j Job, page: usize, rows: &mut PageRows<'j>)
+    requires room { length (planned_layers job.now.plan page) ≤ rows.old.room }
+    ensures { rows.new
+        ≡ record rows.old { layers = layers_of job.now.plan job.now.files page; next = 0 } }
 {
     let files = job.tested_files();
     let planned = planned_on(job.plan(), page);
-    let mut layers = Vec::with_capacity(alloc, planned.len())?;
+    rows.clear();
     for layer in planned {
-        layers.push(open_layer(files, layer))?;
+        rows.put(open_layer(files, layer));
     }
-    Ok(layers)
+}
+
+/// The most layers that a page of a job has.
+pub fn most_layers(job: &Job) -> usize
+    ensures { (page : ℕ) → length (planned_layers job.now.plan page) ≤ result }
+{
+    let plan = job.plan();
+    let mut most = 0;
+    for page in &plan.pages {
+        most = most.max(page.layers.len());
+    }
+    most
 }
 
 /// What the plan says of the layers of a page.

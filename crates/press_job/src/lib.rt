@@ -15,6 +15,6 @@ mod usage;
 
 pub use job::Job;
 pub use laws::spotless_law;
-pub use layers::open_layers;
+pub use layers::{most_layers, put_layers};
 pub use preparing::prepare;
 pub use refusal::Refusal;

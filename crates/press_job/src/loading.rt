@@ -5,7 +5,7 @@ ghost use Rattle.pr_base.specs.declared.fault.FaultKind.{FaultKind};
 ghost use Rattle.pr_base.specs.Count.{Rose};
 ghost use Rattle.pr_ports.specs.Shelf.{IsHeldAt, held_at};
 ghost use Rattle.press_job.specs.Tests.{ArePassed, fault_of_file};
-ghost use Rattle.press_job.specs.Verdict.{AreFirst, IfFile, IfShelf, IsMissing, limit_behind as limit_after, name_of, named_fault, path_of, verdict_before, verdict_on};
+ghost use Rattle.press_job.specs.Verdict.{AreFirst, IfFile, IfShelf, IsMissing, OfFiles, WasFound, limit_behind as limit_after, name_of, named_fault, path_of, verdict_before, verdict_on};
 
 use crate::Refusal;
 use crate::file_test::test_file;
@@ -83,6 +83,7 @@ fn load_file<H: Shelf>(
     ensures refused { IfFile result (λ fault. IfSome (H.held shelf.old) (λ held.
         verdict_on plan.now folder.now limit file (held_at held (path_of plan.now folder.now file))
         ≡ Some (Refusal.File fault))) }
+    ensures found { IfFile result (WasFound plan.now folder.now (H.held shelf.old) limit file) }
     ensures named { IfFile result (λ fault. Contains plan.now.files fault.file) }
     ensures too_long { IfFile result
         (λ fault. fault.kind ≡ FaultKind.TooLong → Rose (H.longs shelf.old) (H.longs shelf.new)) }
@@ -132,7 +133,12 @@ pub(crate) fn load_files<H: Shelf>(
     ensures room { IfOk result (λ files. sum_by length files ≤ 3221225472) }
     ensures first { IfOk result (λ files. IfSome (H.held shelf.old)
         (λ held. AreFirst plan.now folder.now held files)) }
+    ensures sound { IfOk result (λ files. OfFiles (H.held shelf.old)
+        (λ held. AreFirst plan.now folder.now held files)) }
     ensures refused { IfFile result (λ fault. IfSome (H.held shelf.old)
+        (λ held. verdict_before plan.now folder.now held (length plan.now.files)
+        ≡ Some (Refusal.File fault))) }
+    ensures faulty { IfFile result (λ fault. OfFiles (H.held shelf.old)
         (λ held. verdict_before plan.now folder.now held (length plan.now.files)
         ≡ Some (Refusal.File fault))) }
     ensures named { IfFile result (λ fault. Contains plan.now.files fault.file) }

@@ -2,7 +2,7 @@
 ghost use Rattle.std.specs.Prelude.{◌≡◌, ◌≤◌, Contains, IfOk, IfSome, IsErrOf, None, OnOk, Some, length, sum_by};
 ghost use Rattle.pr_base.specs.Count.{Rose};
 ghost use Rattle.pr_base.specs.declared.fault.FaultKind.{FaultKind};
-ghost use Rattle.press_job.specs.Verdict.{IfFile, IfShelf, IsMissing, files_in, verdict_on_files};
+ghost use Rattle.press_job.specs.Verdict.{AreSound, IfFile, IfShelf, IsFirstFault, IsMissing, OfFiles, files_in, verdict_on_files};
 
 use crate::fit::test_fit;
 use crate::loading::{fault_of, load_files};
@@ -32,6 +32,12 @@ pub fn prepare<H: Shelf>(
         (λ held. verdict_on_files plan files.now held ≡ None)) }
     ensures refused { IfFile result (λ fault. IfSome (H.held shelf.old)
         (λ held. verdict_on_files plan files.now held ≡ Some (Refusal.File fault))) }
+
+    // Where it tells none, there are files of which the same holds.
+    ensures sound { IfOk result (λ job. OfFiles (H.held shelf.old)
+        (AreSound plan files.now job.files)) }
+    ensures faulty { IfFile result (λ fault. OfFiles (H.held shelf.old)
+        (IsFirstFault plan files.now fault)) }
 
     // A file is told too long, or a path told as failed, only where the shelf counted that in this call.
     ensures named { IfFile result (λ fault. Contains plan.files fault.file) }

@@ -10,7 +10,7 @@ ghost use Rattle.replate.specs.Plates.{group_at, ink_plates, plates_in, plates_o
 ghost use Rattle.replate.specs.Standing.{StandsFor};
 
 use crate::alike::same_edition;
-use crate::standing::{counterpart, group_with, has_ink, has_site, site_count};
+use crate::standing::{counterpart, group_with, has_ink, site_count};
 use crate::{Inputs, OldPlate};
 use pr_base::NoMemory;
 use std::alloc::Global;
@@ -70,7 +70,7 @@ fn add_group(
         (plates_in site (index, group_at before.now.plan.now index))) }
 {
     let group = group_with(before.plan, before.rows, index);
-    if has_site(group, site) {
+    if group.has_site(site) {
         add_inks(plates, before, after, site, index)?;
     }
     Ok(())

@@ -13,7 +13,7 @@ ghost use Rattle.replate.specs.Standing.{AreAllKept, AreKept, IsOfPlan, SamePage
 use crate::Inputs;
 use crate::alike::same_page;
 use crate::classes::Classes;
-use crate::standing::{counterpart, group_with, has_site, site_count};
+use crate::standing::{counterpart, group_with, site_count};
 use plan_json::{Page, Plan};
 use plan_rows::Group;
 use pr_base::NoMemory;
@@ -93,7 +93,7 @@ fn is_kept(
     ensures each { (its index : ℕ) → IsTrue (is_of_site group.now site)
         → Stays (job_of before.now) (job_of after.now) site group.now its index → IsTrue result }
 {
-    has_site(group, site) && stays(before, after, classes, site, group)
+    group.has_site(site) && stays(before, after, classes, site, group)
 }
 
 /// Whether the old job has the same two pages at the place of a new group at a site.

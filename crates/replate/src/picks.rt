@@ -69,7 +69,7 @@ impl Picks {
         ensures { result ≡ is_made self.now site group ink }
     {
         let row = &self.kept[group];
-        !(self.alike[ink as usize] && row[site])
+        !(self.alike[ink.slot()] && row[site])
     }
 
     /// The old plates whose path no new plate has, by old site and then in the order of its files.

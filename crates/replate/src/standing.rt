@@ -82,15 +82,7 @@ fn is_group_of(group: &Group, section: usize, pair: u32, site: usize) -> bool
     ensures { IsTrue result ↔ ((group.now.section ≡ section) × (group.now.pair ≡ pair)
         × IsTrue (is_of_site group.now site)) }
 {
-    group.section as usize == section && group.pair == pair && has_site(group, site)
-}
-
-/// Whether a site is of a group.
-pub(crate) fn has_site(group: &Group, site: usize) -> bool
-    requires { site < 16 }
-    ensures { result ≡ is_of_site group.now site }
-{
-    group.sites >> site & 1 == 1
+    group.section as usize == section && group.pair == pair && group.has_site(site)
 }
 
 /// Whether a group has an ink.

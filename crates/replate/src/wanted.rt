@@ -7,7 +7,7 @@ ghost use Rattle.replate.specs.Inputs.{AreInputs};
 ghost use Rattle.replate.specs.Plates.{group_at, ink_plates, plates_in};
 ghost use Rattle.replate.specs.Remade.{is_picked, picked_bits};
 
-use crate::standing::{group_with, has_site, site_count};
+use crate::standing::{group_with, site_count};
 use crate::{Inputs, Picks};
 use pr_base::{Ink, NoMemory};
 use std::alloc::Global;
@@ -50,7 +50,7 @@ fn add_group(
         ++ map (is_picked picks.now) (plates_in site (index, group_at after.now.plan.now index))) }
 {
     let group = group_with(after.plan, after.rows, index);
-    if has_site(group, site) {
+    if group.has_site(site) {
         add_inks(bits, after, picks, site, index)?;
     }
     Ok(())

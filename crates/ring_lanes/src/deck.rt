@@ -32,6 +32,7 @@ impl<'d, D: Deal> Deck<'d, D> {
     pub fn open(alloc: Global, deal: &'d D) -> Result<Deck<'d, D>, NoMemory>
         ensures { IfOk result (λ deck. deck ≡ record { rows = D.rows deal.now; put = 0; out = false }) }
     {
+        // For its clause: a word can number the rows.
         let _total = deal.total();
         let place = vec![in alloc; 0; deal.row_len()].map_err(|_| NoMemory)?;
         Ok(Deck {

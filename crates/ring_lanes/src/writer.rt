@@ -148,6 +148,7 @@ impl<'r, D: Deal> Writer<'r, D> {
         requires row { slice_get self.old.ring.rows self.old.head ≡ Some row.now }
         ensures { self.new ≡ record self.old { head = self.old.head + 1 } }
     {
+        // A pass is good for one row.
         let _ = pass;
         fill_lanes(&mut self.seat, &self.known, self.numbers.readers, row);
         self.seat.store_head();

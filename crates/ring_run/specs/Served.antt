@@ -7,7 +7,7 @@ use Rattle.ring_lanes.specs.Reader.{ReaderState}
 use Rattle.ring_lanes.specs.declared.source.Source.TheVariants.{Ring}
 use Rattle.tif_packbits.specs.Frame.{AreFrames}
 use Rattle.pr_rack.specs.Told.{RackTells}
-use Rattle.plan_words.specs.Words.{IsWithin}
+use Rattle.pr_base.specs.Number.{IsWithin}
 use Rattle.plan_json.specs.Data.{PlanData, plate_width}
 use Rattle.plan_json.specs.Plan.{IsPlan}
 use Rattle.plan_rows.specs.declared.group.Group.{Group}

@@ -105,17 +105,9 @@ fn printed(group: &Group, site: usize) -> u32
     ensures count { result ≡ (if has_site group.now site then ink_count group.now else 0) }
     ensures most { result ≤ 5 }
 {
-    if prints(group, site) {
+    if group.has_site(site) {
         group.inks().len() as u32
     } else {
         0
     }
-}
-
-/// Whether a site prints a group.
-fn prints(group: &Group, site: usize) -> bool
-    requires { site < 16 }
-    ensures { result ≡ has_site group.now site }
-{
-    group.sites >> site & 1 == 1
 }

@@ -1,7 +1,7 @@
 // A run: all plates of a job, on the racks of its sites.
 ghost use Rattle.std.specs.Prelude.{◌≡◌, ◌+◌, ◌<◌, ◌≤◌, IfOk, OnErr, drop, length};
 ghost use Rattle.pr_rack.specs.Told.{all_told};
-ghost use Rattle.plan_words.specs.Words.{IsWithin};
+ghost use Rattle.pr_base.specs.Number.{IsWithin};
 ghost use Rattle.press_job.specs.Rows.{plate_frames, plate_rows};
 ghost use Rattle.site_agent.specs.Racks.{AreIdle, KeepCounts};
 ghost use Rattle.ring_run.specs.Fits.{RunFits, RunPart, by_ring};

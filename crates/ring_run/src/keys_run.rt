@@ -1,7 +1,7 @@
 // A run that also counts the ink keys of all plates, as one more reader of its ring.
 ghost use Rattle.std.specs.Prelude.{◌≡◌, ◌+◌, ◌<◌, ◌≤◌, [], ◌∷◌, IfOk, OnErr, Some, drop, length, slice_get};
 ghost use Rattle.pr_rack.specs.Told.{all_told};
-ghost use Rattle.plan_words.specs.Words.{IsWithin};
+ghost use Rattle.pr_base.specs.Number.{IsWithin};
 ghost use Rattle.press_job.specs.Rows.{plate_rows};
 ghost use Rattle.ink_keys.specs.Turn.{KeyReaderData};
 ghost use Rattle.site_agent.specs.Racks.{AreIdle, KeepCounts};
@@ -20,8 +20,8 @@ use press_feed::{Feed, Job};
 use std::alloc::Global;
 use std::thread::Threads;
 
-/// Delivers the plates of a job as `run_job` does, and counts the pixels that print in each of `keys` keys of
-/// each plate. The counts come from the rows of the run's own ring, by a reader with the number after the last
+/// Delivers the plates of a job as `run_job` does, and counts the pixels that print in each of `keys` keys
+/// of each plate. The counts come from the rows of the run's own ring, by a reader with the number after the last
 /// site; they are whole also where every site left. All counts are taken before the first row.
 pub fn run_keys<T: Threads + Sync, R: Rack + Send>(
     rt: &T,

@@ -166,6 +166,7 @@ impl Run<'_> {
         ensures counted { IfOk result (λ _. HaveCounted
             (ring_of self.now.ring self.now.readers (D.rows deal.now) (D.size deal.now)) keys.old keys.new) }
     {
+        // For its clause: each row has this length.
         let _size = deal.row_len();
         // A row's number is far below the word of a reader that left.
         let total = self.rows.total();

@@ -127,17 +127,27 @@ loads_rise old new (suc n) site each less more =
 
 -- ---- a turn so far
 
+-- each cursor was loaded at most once for each row that was published, and for each place that was found taken
+abbrev LooksAtMost : WriterState → WriterState → ℕ → Type 0
+LooksAtMost old new waits = (r : ℕ) → r < old.ring.readers → slice_index new.loads r + old.head ≤ slice_index old.loads r + waits + new.head
+
+looked_once : (mid new : WriterState) (r : ℕ) → LooksOnceAt mid new r → slice_index new.loads r ≤ slice_index mid.loads r + 1
+looked_once mid new r (inl passed) = let same = passed.loads in omega (arith, same)
+looked_once mid new r (inr look) = let more = look.loaded.counted in omega (arith, more)
+
 -- what a turn has left of the writer's end, where it found a place taken so often
 pub record HasFed (old new : WriterState) (waits : ℕ) : Type 0 where
   pub same : new ≡ record old { head = new.head; known = new.known; loads = new.loads }
   pub grows : Grows old new
   pub counted : loads_of old.loads old.ring.readers + waits ≤ loads_of new.loads old.ring.readers
+  pub looks : LooksAtMost old new waits
 
 pub fed_at_first : (w : WriterState) → HasFed w w 0
 fed_at_first w = record {
   same = refl;
   grows = grows_not w;
   counted = (let e : loads_of w.loads w.ring.readers + 0 ≤ loads_of w.loads w.ring.readers = omega arith in e);
+  looks = λ r less. (let e : slice_index w.loads r + w.head ≤ slice_index w.loads r + 0 + w.head = omega arith in e);
 }
 
 ring_same : (old new : WriterState) (waits : ℕ) → HasFed old new waits → new.ring ≡ old.ring
@@ -148,15 +158,19 @@ same_on : (old mid new : WriterState) → mid ≡ record old { head = mid.head; 
 same_on old mid new first after = after ∙ ap {A = WriterState} (λ w. record w { head = new.head; known = new.known; loads = new.loads }) first
 
 -- a row was published
-pub fed_on : (old mid new : WriterState) (waits : ℕ) → HasFed old mid waits → new ≡ record mid { head = new.head; known = new.known; loads = new.loads } → LooksOnce mid new → mid.head ≤ new.head → HasFed old new waits
+pub fed_on : (old mid new : WriterState) (waits : ℕ) → HasFed old mid waits → new ≡ record mid { head = new.head; known = new.known; loads = new.loads } → LooksOnce mid new → new.head ≡ mid.head + 1 → HasFed old new waits
 fed_on old mid new waits fed after looks head =
     let readers : mid.ring.readers ≡ old.ring.readers = ap (λ (r : _). r.readers) (ring_same old mid waits fed) in
     let more = loads_grow mid.loads new.loads old.ring.readers (λ r less. loads_stay mid new r (looks r (omega (arith, readers, less)))) in
     let counted = fed.counted in
     record {
       same = same_on old mid new fed.same after;
-      grows = grows_on old mid new fed.grows readers looks head;
+      grows = grows_on old mid new fed.grows readers looks (omega (arith, head));
       counted = omega (arith, more, counted);
+      looks = λ r less.
+          (let so_far = fed.looks r less in
+          let once = looked_once mid new r (looks r (omega (arith, readers, less))) in
+          omega (arith, so_far, once, head));
     }
 
 -- a place was found taken once more
@@ -172,6 +186,10 @@ fed_full old mid new waits full fed after looks head is =
       same = same_on old mid new fed.same after;
       grows = grows_on old mid new fed.grows readers looks (omega (arith, head));
       counted = omega (arith, more, counted);
+      looks = λ r less.
+          (let so_far = fed.looks r less in
+          let once = looked_once mid new r (looks r (omega (arith, readers, less))) in
+          omega (arith, so_far, once, head));
     }
 
 -- so often that the writer goes on later

@@ -58,6 +58,15 @@ pub record WaitsFor (old new : WriterState) (patience site at : ℕ) : Type 0 wh
   pub counted : loads_of old.loads old.ring.readers + patience ≤ loads_of new.loads old.ring.readers
   pub own : slice_index old.loads site < slice_index new.loads site
 
+-- how often a turn of this patience found a place taken: each cursor was loaded at most once for that, and
+-- once for each row that was published. Waiting comes at the last time that the patience allows, and Done
+-- before it
+abbrev pub WaitsNoMore : ℕ → WriterState → WriterState → FeedEnd → Type 0
+WaitsNoMore patience old new (Waiting site at) = (r : ℕ) → r < old.ring.readers
+    → slice_index new.loads r + old.head ≤ slice_index old.loads r + patience + new.head
+WaitsNoMore patience old new Done = (r : ℕ) → r < old.ring.readers
+    → slice_index new.loads r + old.head < slice_index old.loads r + patience + new.head
+
 -- the rows left of a feed are those that are yet to be published
 pub record MayFeed (left : List (List ℕ)) (w : WriterState) : Type 0 where
   pub feed : left ≡ drop w.head w.ring.rows

@@ -1,7 +1,7 @@
 // The turn of the writer at a ring: it publishes rows of a feed until it would wait too often.
 ghost use Rattle.std.specs.Prelude.{◌≡◌, ◌+◌, ◌<◌, ◌≤◌, ℕ, Some, drop, length, IfErr, OnErr, OnOk};
 ghost use Rattle.ring_lanes.specs.Writer.{HasRoom, IsFull, LooksOnce};
-ghost use Rattle.ring_turns.specs.Feeding.{Grows, HasRows, IfWaiting, IsFed, IsKnownWithin, OnDone, SomeJoined, WaitsFor};
+ghost use Rattle.ring_turns.specs.Feeding.{Grows, HasRows, IfWaiting, IsFed, IsKnownWithin, OnDone, SomeJoined, WaitsFor, WaitsNoMore};
 
 use crate::turn::TurnWith;
 use pr_base::{Deal, RowFeed};
@@ -34,6 +34,7 @@ pub fn feed_turn<D: Deal, F: RowFeed>(
     ensures done { OnDone result (IsFed writer.new) }
     ensures not_done { IfWaiting result (λ site at. IsFed writer.new → ⊥) }
     ensures waiting { IfWaiting result (WaitsFor writer.old writer.new patience) }
+    ensures waits { WaitsNoMore patience writer.old writer.new result }
     ensures grows { Grows writer.old writer.new }
     ensures known { IsKnownWithin writer.new }
     ensures within { writer.new.head ≤ writer.old.ring.total }

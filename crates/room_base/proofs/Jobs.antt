@@ -5,8 +5,7 @@ use Rattle.pr_ports.specs.Shelf.{held_at}
 use Rattle.plan_json.specs.Data.{PlanData}
 use Rattle.plan_json.specs.PlanOf.{plan_of}
 use Rattle.press_job.specs.Job.{JobData}
-use Rattle.press_job.specs.Verdict.{verdict_on_files}
-use Rattle.press_job.specs.declared.refusal.Refusal.TheVariants as filed_as
+use Rattle.press_job.specs.Verdict.{AreSound, IsFirstFault, OfFiles, verdict_on_files}
 use Rattle.room_base.specs.declared.refusal.Whose.{Whose}
 use Rattle.room_base.specs.declared.refusal.Refusal.{Refusal}
 use Rattle.room_base.specs.declared.refusal.Refusal.TheVariants.{Words, LongPlan, Plan, File, Shelf}
@@ -17,6 +16,10 @@ use Rattle.room_base.specs.Seen.{Files, ShelfSeen, LoadFailed}
 -- P of the files that a shelf tells
 pub of_told : (held : Option Files) (files : Files) (P : Files → Type 0) → held ≡ Some files → IfSome held P → P files
 of_told held files P told h = let Q : Option Files → Type 0 = λ o. IfSome o P in subst Q told h
+
+-- the same of files that there are in any case
+of_files : (held : Option Files) (files : Files) (P : Files → Type 0) → held ≡ Some files → OfFiles held P → P files
+of_files held files P told h = let Q : Option Files → Type 0 = λ o. OfFiles o P in subst Q told h
 
 module _ (whose : Whose) (path folder : List ℕ) (files : Files) where
   -- a plan that is held and not too long is read
@@ -54,7 +57,7 @@ module _ (whose : Whose) (path folder : List ℕ) (files : Files) where
   prepared_is held job told prepared =
       planned_is held job.plan told prepared.planned
       ∙ ap (option_and_then (files_refusal whose))
-      (of_told held files (λ all. verdict_on_files job.plan folder all ≡ None) told prepared.passed)
+      (of_files held files (AreSound job.plan folder job.files) told prepared.sound).pass
 
   -- a refusal that was met is the verdict, or a load failed
   pub job_met : (shelf : ShelfSeen) (refusal : Refusal) → shelf.held ≡ Some files → JobMeets whose path folder shelf refusal
@@ -70,7 +73,7 @@ module _ (whose : Whose) (path folder : List ℕ) (files : Files) where
   job_met shelf (File whose' fault) told (is, bad) =
       inl (planned_is shelf.held bad.plan told bad.planned
       ∙ ap (option_and_then (files_refusal whose))
-      (of_told shelf.held files (λ all. verdict_on_files bad.plan folder all ≡ Some (filed_as.File fault)) told bad.verdict)
+      (of_files shelf.held files (IsFirstFault bad.plan folder fault) told bad.faulty)
       ∙ ap (λ w. Some (File w fault)) (sym is))
   job_met shelf (Shelf missed) told (of, lost) = inr (refl, lost.counted)
 

@@ -11,7 +11,7 @@ use Rattle.plan_json.specs.PlanOf.{plan_of}
 use Rattle.press_job.specs.declared.refusal.Refusal as filed
 use Rattle.press_job.specs.declared.refusal.Refusal.TheVariants as filed_as
 use Rattle.press_job.specs.Job.{JobData}
-use Rattle.press_job.specs.Verdict.{files_in, verdict_on_files, IsMissing}
+use Rattle.press_job.specs.Verdict.{AreSound, IsFirstFault, IsMissing, OfFiles, verdict_on_files}
 use Rattle.room_base.specs.declared.refusal.Whose.{Whose}
 use Rattle.room_base.specs.declared.refusal.Refusal.{Refusal}
 use Rattle.room_base.specs.declared.refusal.Refusal.TheVariants.{Words, LongPlan, Plan, File, Shelf}
@@ -61,11 +61,10 @@ pub record IsPlanned (held : Option Files) (path : List ℕ) (plan : PlanData) :
   pub loaded : IsLoaded held plan_limit path bytes
   pub read : plan_of bytes ≡ Ok plan
 
--- the plan and its files, with nothing wrong with them, where told
+-- the plan and its files, with nothing wrong with them; where the shelf tells none, there are such files
 pub record IsPrepared (held : Option Files) (path folder : List ℕ) (job : JobData) : Type 0 where
   pub planned : IsPlanned held path job.plan
-  pub files : IfSome held (λ files. job.files ≡ files_in job.plan folder files)
-  pub passed : IfSome held (λ files. verdict_on_files job.plan folder files ≡ None)
+  pub sound : OfFiles held (AreSound job.plan folder job.files)
 
 -- ---- refusals with their causes
 
@@ -74,14 +73,13 @@ pub record HasMissed (shelf : ShelfSeen) (path : List ℕ) : Type 0 where
   pub counted : Rose shelf.faults shelf.faults'
   pub last : IfSome shelf.missed' (λ missed. missed ≡ Some path)
 
--- the plan at a path has a file with this fault, which is the first thing that is wrong with its files, where
--- told; a file is too long only where the shelf counted that
+-- the plan at a path has a file with this fault, which is the first thing that is wrong with its files; where
+-- the shelf tells none, there are such files; a file is too long only where the shelf counted that
 pub record HasBadFile (shelf : ShelfSeen) (path folder : List ℕ) (fault : FileFault) : Type 0 where
   pub plan : PlanData
   pub planned : IsPlanned shelf.held path plan
   pub named' : Contains plan.files fault.file
-  pub verdict : IfSome shelf.held (λ files.
-      verdict_on_files plan folder files ≡ Some (filed_as.File fault))
+  pub faulty : OfFiles shelf.held (IsFirstFault plan folder fault)
   pub long : fault.kind ≡ TooLong → Rose shelf.longs shelf.longs'
 
 -- what wasn't loaded is the plan, or one of its files, with nothing wrong before it, where told

@@ -1,5 +1,5 @@
 -- A run over racks that don't fail: each site finishes, and its rack has its files.
-use Rattle.std.proofs.Common.{◌≡◌, ℕ, ◌<◌, List, [], ◌++◌, length, map, get_or, is_some, All, codes, Some, option_map, sym, ap, ◌∙◌, inl, inr, arith}
+use Rattle.std.proofs.Common.{◌≡◌, ℕ, ◌<◌, List, [], ◌++◌, length, map, get_or, is_some, All, codes, Some, option_map, sym, ap, subst, ◌∙◌, inl, inr, arith}
 use Rattle.std.specs.Prelude.{slice_get}
 use Rattle.std.specs.List.{range_with_len}
 use Rattle.std.proofs.lemmas.List.{ext_get_or, length-map}
@@ -7,13 +7,12 @@ use Rattle.std.proofs.lemmas.List.FromFn.{get_or-map-range_with_len, length-rang
 use Rattle.std.proofs.lemmas.Option.{get_or_from_slice_get, same_Some, slice_get-get_or, slice_get-map, slice_get_within}
 use Rattle.pr_base.specs.Count.{Rose}
 use Rattle.pr_rack.specs.Mem.{MemState, empty_slots}
-use Rattle.ring_lanes.specs.declared.source.Source.{Source}
 use Rattle.pr_rack.specs.Told.{RackTells}
 use Rattle.plan_rows.specs.Plates.{site_plates}
 use Rattle.press_job.specs.Job.{JobData}
 use Rattle.site_agent.specs.Racks.{AreIdle}
-use Rattle.room_run.specs.Drill.{HaveFiles, finished_end, finished_ends, rows_in}
-use Rattle.ring_run.specs.Fits.{Delivery, FitsEnd, RunFits, files_for}
+use Rattle.room_run.specs.Drill.{HaveRun, finished_end, finished_ends, rows_in}
+use Rattle.ring_run.specs.Fits.{Delivery, FitsEnd, RunFits, by_ring, drawn_for, files_for}
 use Rattle.ring_run.specs.declared.site_end.SiteEnd.{SiteEnd}
 use Rattle.ring_run.specs.declared.site_end.SiteEnd.TheVariants.{Finished, Left}
 use Rattle.room_base.proofs.Owed.{there}
@@ -62,6 +61,13 @@ files_at delivery site old new (Finished plates rows) none fits =
     same_Some _ _ fits.finished ∙ ap (λ l. l ++ files_for delivery site) none
 files_at delivery site old new (Left cause) none fits = absurd (never fits.counted)
 
+-- and it took the rows of the site, where it had taken none
+taken_at : (delivery : Delivery) (site : ℕ) (old new : MemState) (end : SiteEnd) → old.taken ≡ []
+    → FitsEnd delivery site (sure_told old) (sure_told new) end → new.taken ≡ drawn_for delivery site
+taken_at delivery site old new (Finished plates rows) none fits =
+    same_Some _ _ fits.taken ∙ ap (λ l. l ++ drawn_for delivery site) none
+taken_at delivery site old new (Left cause) none fits = absurd (never fits.counted)
+
 -- the end of a site of a run
 module _ (delivery : Delivery) (racks racks' : List MemState) (ends : List SiteEnd)
     (count : length racks ≡ length delivery.plan.sites) (kept : length racks' ≡ length racks)
@@ -87,33 +93,37 @@ module _ (delivery : Delivery) (racks racks' : List MemState) (ends : List SiteE
       (fits_at k old.0 new.0 _ old.1 new.1 (slice_get-get_or ends k (Finished 0 0) less))
       ∙ sym (get_or-map-range_with_len (finished_end delivery.plan) 0 sites k k (Finished 0 0) within (omega arith)))
 
-  have_files : All (λ rack. rack.files ≡ []) racks → (site : ℕ) (rack : MemState) → slice_get racks' site ≡ Some rack
-      → rack.files ≡ files_for delivery site
-  have_files empty site rack at =
+  -- what holds of a rack that was empty, by its end, holds of each
+  each_was : (P : MemState → Type 0) (Q : ℕ → MemState → Type 0) → All P racks
+      → ((site : ℕ) (old new : MemState) (end : SiteEnd) → P old → FitsEnd delivery site (sure_told old) (sure_told new) end → Q site new)
+      → (site : ℕ) (rack : MemState) → slice_get racks' site ≡ Some rack → Q site rack
+  each_was P Q empty step site rack at =
       let inside : site < length racks' = slice_get_within racks' site rack at in
       let within : site < length racks = omega (arith, inside, kept) in
       let old = there racks site within in
       let less : site < length ends = omega (arith, within, count, fits.count) in
-      let none : old.0.files ≡ [] =
-      ap (λ (r : MemState). r.files) (sym (get_or_from_slice_get racks site old.0 old.0 old.1)) ∙ empty site old.0 within in
-      files_at delivery site old.0 rack (get_or ends site (Finished 0 0)) none
+      let was : P old.0 = subst P (get_or_from_slice_get racks site old.0 old.0 old.1) (empty site old.0 within) in
+      step site old.0 rack (get_or ends site (Finished 0 0)) was
       (fits_at site old.0 rack _ old.1 at (slice_get-get_or ends site (Finished 0 0) less))
 
--- the same of a job's run
-pub job_ends : (job : JobData) (source : ℕ → Source) (racks racks' : List MemState) (ends : List SiteEnd)
-    → length racks ≡ length job.plan.sites → length racks' ≡ length racks
-    → RunFits (record { plan = job.plan; rows = rows_in job; out = codes "drill"; source = source }) (map sure_told racks)
-    (map sure_told racks') ends
-    → ends ≡ finished_ends job.plan
-job_ends job source racks racks' ends count kept fits =
-    ends_are (record { plan = job.plan; rows = rows_in job; out = codes "drill"; source = source }) racks racks' ends count kept fits
+-- the same of a job's run over a ring
+module _ (job : JobData) (ring : ℕ) (racks racks' : List MemState) (ends : List SiteEnd)
+    (count : length racks ≡ length job.plan.sites) (kept : length racks' ≡ length racks)
+    (fits : RunFits (by_ring job.plan (rows_in job) (codes "drill") (length job.plan.sites) ring) (map sure_told racks)
+    (map sure_told racks') ends) where
+  abbrev delivery : Delivery
+  delivery = by_ring job.plan (rows_in job) (codes "drill") (length job.plan.sites) ring
 
-pub job_files : (job : JobData) (source : ℕ → Source) (racks racks' : List MemState) (ends : List SiteEnd)
-    → length racks ≡ length job.plan.sites → length racks' ≡ length racks
-    → RunFits (record { plan = job.plan; rows = rows_in job; out = codes "drill"; source = source }) (map sure_told racks)
-    (map sure_told racks') ends
-    → All (λ rack. rack.files ≡ []) racks → HaveFiles job racks'
-job_files job source racks racks' ends count kept fits empty = record {
-  count = kept ∙ count;
-  each = have_files (record { plan = job.plan; rows = rows_in job; out = codes "drill"; source = source }) racks racks' ends count kept fits empty;
-}
+  pub job_ends : ends ≡ finished_ends job.plan
+  job_ends = ends_are delivery racks racks' ends count kept fits
+
+  pub job_run : All (λ rack. rack.files ≡ []) racks → All (λ rack. rack.taken ≡ []) racks → HaveRun job ring racks'
+  job_run unfilled untaken = record {
+    files = record {
+      count = kept ∙ count;
+      each = each_was delivery racks racks' ends count kept fits (λ rack. rack.files ≡ [])
+          (λ site rack. rack.files ≡ files_for delivery site) unfilled (files_at delivery);
+    };
+    taken = each_was delivery racks racks' ends count kept fits (λ rack. rack.taken ≡ [])
+        (λ site rack. rack.taken ≡ drawn_for delivery site) untaken (taken_at delivery);
+  }

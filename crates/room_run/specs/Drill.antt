@@ -13,6 +13,8 @@ use Rattle.press_job.specs.Verdict.{files_in, verdict_on_files}
 use Rattle.job_gen.specs.Images.{files_of}
 use Rattle.job_gen.specs.Plan.{job_plan}
 use Rattle.drill_room.specs.Dots.{all_dots}
+use Rattle.ring_lanes.specs.declared.source.Source.TheVariants.{Ring}
+use Rattle.site_agent.specs.Plan.{drawn_rows}
 use Rattle.ring_run.specs.Fits.{kept_rows}
 use Rattle.room_run.specs.Report.{report_of}
 use Rattle.room_base.specs.Seen.{ShelfSeen}
@@ -81,10 +83,17 @@ drill_rules = record {
   Ends = λ files status. status ≡ 0;
 }
 
--- ---- private calls
+-- ---- the racks of a drill
 
 -- each rack has the files of its site, with paths below the folder `drill`
 pub record HaveFiles (job : JobData) (racks : List MemState) : Type 0 where
   pub count : length racks ≡ length job.plan.sites
   pub each : (site : ℕ) (rack : MemState) → slice_get racks site ≡ Some rack
       → rack.files ≡ site_files job.plan (rows_in job) (codes "drill") site
+
+-- each rack has the files of its site, and took the rows that the site keeps, from a ring of so many places
+-- with a reader for each site
+pub record HaveRun (job : JobData) (ring : ℕ) (racks : List MemState) : Type 0 where
+  pub files : HaveFiles job racks
+  pub taken : (site : ℕ) (rack : MemState) → slice_get racks site ≡ Some rack
+      → rack.taken ≡ drawn_rows job.plan site (Ring site (length job.plan.sites) ring)

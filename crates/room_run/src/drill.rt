@@ -1,13 +1,13 @@
 // The command `drill`: a generated job, run in memory.
-ghost use Rattle.std.specs.Prelude.{◌≡◌, All, IfOk, IsOk, None, Ok, [], codes, length, map, nat_eq, string_bytes};
+ghost use Rattle.std.specs.Prelude.{◌≡◌, All, IfOk, IsOk, None, Ok, OnOk, [], codes, length, map, nat_eq, string_bytes};
 ghost use Rattle.std.specs.Cmp.Lexicographic.{pointwise};
 ghost use Rattle.std.specs.List.{IsDistinct};
 ghost use Rattle.pr_ports.specs.Mem.{files_of};
 ghost use Rattle.pr_rack.specs.Mem.{empty_slots};
-ghost use Rattle.plan_words.specs.Words.{IsWithin};
+ghost use Rattle.pr_base.specs.Number.{IsWithin};
 ghost use Rattle.plan_json.specs.PlanOf.{plan_of};
 ghost use Rattle.press_job.specs.Verdict.{files_in, verdict_on_files};
-ghost use Rattle.room_run.specs.Drill.{PrintsDrill, drill_job, drill_rules, drill_text as text_for, told_of};
+ghost use Rattle.room_run.specs.Drill.{HaveRun, PrintsDrill, drill_job, drill_rules, drill_text as text_for, finished_ends};
 ghost use Rattle.room_base.specs.Seen.{ShelfSeen, sink_seen};
 ghost use Rattle.room_base.specs.Task.{Told};
 
@@ -18,7 +18,7 @@ use plan_json::{Plan, PlanFault, read_plan};
 use pr_base::{NoMemory, PathText};
 use pr_ports::Sink;
 use press_feed::{Job, prepare};
-use ring_run::run_job;
+use ring_run::{SiteEnd, run_job};
 use room_base::{Status, Stop, put_text};
 use std::alloc::Global;
 use std::thread::Threads;
@@ -32,6 +32,16 @@ pub struct Drill {
     pub ring: u32,
     /// How often a turn looks for a row in vain, 1 to 65,536.
     pub patience: u32,
+}
+
+/// A generated job that was run in memory.
+#[derive(Drop)]
+pub struct DrillRun {
+    pub job: Job,
+    /// How each site ended, in the plan's order.
+    pub ends: Vec<SiteEnd>,
+    /// The rack of each site, with its plates.
+    pub racks: Vec<SureRack>,
 }
 
 /// The folder of the job's files.
@@ -65,28 +75,63 @@ fn drill_text<T: Threads + Sync>(rt: &T, alloc: Global, drill: Drill) -> Result<
     requires patience { IsWithin 1 65536 drill.patience }
     ensures { IfOk result (λ text. string_bytes text ≡ text_for drill.number) }
 {
-    let job = job_of(alloc, drill.number)?;
-    let mut racks = empty_racks(alloc, job.plan().sites.len())?;
-    tell_run(rt, alloc, &job, racks.as_mut_slice(), drill)
+    let drilled = run_drill(rt, alloc, drill)?;
+    tell_drill(alloc, drill, &drilled)
 }
 
-/// Runs a job to empty racks, one for each of its sites, and tells of it.
-fn tell_run<T: Threads + Sync>(
+/// What is told of a drill that was run.
+#[tactic(auto, unfolding(crate::specs::Drill::drill_text))]
+fn tell_drill(alloc: Global, drill: Drill, drilled: &DrillRun) -> Result<String, NoMemory>
+    requires job { drilled.now.job ≡ drill_job drill.number }
+    requires ends { drilled.now.ends.items ≡ finished_ends drilled.now.job.plan }
+    requires racks { HaveRun drilled.now.job drill.ring drilled.now.racks.items }
+    ensures { IfOk result (λ text. string_bytes text ≡ text_for drill.number) }
+{
+    told(
+        alloc,
+        &drilled.job,
+        drilled.ends.as_slice(),
+        drilled.racks.as_slice(),
+    )
+}
+
+/// Runs the generated job of a drill in memory, each site's plates to an empty rack of its own.
+pub fn run_drill<T: Threads + Sync>(
+    rt: &T,
+    alloc: Global,
+    drill: Drill,
+) -> Result<DrillRun, NoMemory>
+    requires ring { IsWithin 1 1024 drill.ring }
+    requires patience { IsWithin 1 65536 drill.patience }
+    ensures job { IfOk result (λ drilled. drilled.job ≡ drill_job drill.number) }
+    ensures ends { IfOk result (λ drilled. drilled.ends.items ≡ finished_ends drilled.job.plan) }
+    ensures racks { IfOk result (λ drilled. HaveRun drilled.job drill.ring drilled.racks.items) }
+{
+    let job = job_of(alloc, drill.number)?;
+    let mut racks = empty_racks(alloc, job.plan().sites.len())?;
+    let ends = deliver_to(rt, alloc, &job, racks.as_mut_slice(), drill)?;
+    Ok(DrillRun { job, ends, racks })
+}
+
+/// Runs a job to empty racks, one for each of its sites, and says how each site ended.
+fn deliver_to<T: Threads + Sync>(
     rt: &T,
     alloc: Global,
     job: &Job,
     racks: &mut [SureRack],
     drill: Drill,
-) -> Result<String, NoMemory>
+) -> Result<Vec<SiteEnd>, NoMemory>
     requires ring { IsWithin 1 1024 drill.ring }
     requires patience { IsWithin 1 65536 drill.patience }
     requires count { length racks.old ≡ length job.now.plan.sites }
     requires slots { All (λ rack. rack.slots ≡ empty_slots) racks.old }
     requires files { All (λ rack. rack.files ≡ []) racks.old }
-    ensures { IfOk result (λ text. string_bytes text ≡ told_of job.now) }
+    requires taken { All (λ rack. rack.taken ≡ []) racks.old }
+    ensures ends { IfOk result (λ ends. ends.items ≡ finished_ends job.now.plan) }
+    ensures racks { OnOk result (HaveRun job.now drill.ring racks.new) }
 {
     let outcome = run_job(rt, alloc, job, racks, PLATES, drill.ring, drill.patience)?;
-    told(alloc, job, outcome.sites.as_slice(), racks)
+    Ok(outcome.sites)
 }
 
 /// The generated job with a number, prepared.
@@ -134,6 +179,7 @@ fn empty_racks(alloc: Global, count: usize) -> Result<Vec<SureRack>, NoMemory>
     ensures count { IfOk result (λ racks. length racks.items ≡ count) }
     ensures slots { IfOk result (λ racks. All (λ rack. rack.slots ≡ empty_slots) racks.items) }
     ensures files { IfOk result (λ racks. All (λ rack. rack.files ≡ []) racks.items) }
+    ensures taken { IfOk result (λ racks. All (λ rack. rack.taken ≡ []) racks.items) }
 {
     let mut racks = Vec::new(alloc);
     for _index in 0..count {

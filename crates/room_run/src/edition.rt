@@ -1,6 +1,6 @@
 // The command `run`: the plates of all sites of an edition.
 ghost use Rattle.std.specs.Prelude.{◌≡◌, ◌≤◌, OnOk, length};
-ghost use Rattle.plan_words.specs.Words.{IsWithin};
+ghost use Rattle.pr_base.specs.Number.{IsWithin};
 ghost use Rattle.room_run.specs.Edition.{edition_told, Delivered, none_further, run_makes, run_rules};
 ghost use Rattle.room_run.specs.Report.{is_finished as is_finished_lem, status_of_ends};
 ghost use Rattle.room_base.specs.Seen.{AreIdle, shelf_seen, sink_seen};
@@ -73,6 +73,7 @@ fn deliver<T: Threads + Sync, R: Rack + Send, S: Sink>(
         racks.old racks.new (sink_seen S.Sink out.old out.new) result }
 {
     let plan = job.plan();
+    // For its clause: what holds of each plan that was read.
     let _files = plan.files();
     let Ok(outcome) = run_job(
         rt,

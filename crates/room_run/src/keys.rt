@@ -1,6 +1,6 @@
 // The command `keys`: a run that counts the ink keys of all plates too, and tells them behind its report.
 ghost use Rattle.std.specs.Prelude.{◌≡◌, ◌<◌, ◌≤◌, ◌++◌, All, IfOk, OnOk, length, string_bytes};
-ghost use Rattle.plan_words.specs.Words.{IsWithin};
+ghost use Rattle.pr_base.specs.Number.{IsWithin};
 ghost use Rattle.plan_rows.specs.Groups.{groups_of};
 ghost use Rattle.press_job.specs.Rows.{plate_rows};
 ghost use Rattle.ink_keys.specs.Plates.{AreKeyCounts};
@@ -70,6 +70,7 @@ fn deliver<T: Threads + Sync, R: Rack + Send, S: Sink>(
         racks.old racks.new (sink_seen S.Sink out.old out.new) result }
 {
     let plan = job.plan();
+    // For its clause: what holds of each plan that was read.
     let _files = plan.files();
     let Ok((outcome, counts)) = run_keys(
         rt,

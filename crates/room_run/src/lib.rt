@@ -10,7 +10,7 @@ mod keys;
 mod laws;
 mod report;
 
-pub use drill::{Drill, print_drill};
+pub use drill::{Drill, DrillRun, print_drill, run_drill};
 pub use edition::{Edition, run_edition};
 pub use keys::run_with_keys;
 pub use laws::generated_jobs_pass;

@@ -1,5 +1,5 @@
-// Tests of the commands `run` and `keys`: editions, the sites that leave them, counts, and what is refused. They
-// use public names alone.
+// Tests of the commands `run` and `keys`: editions, the sites that leave them, counts, and what is refused.
+// They use public names alone.
 #![tactic(auto)]
 
 #[cfg(test)]

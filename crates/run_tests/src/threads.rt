@@ -292,15 +292,23 @@ fn assert_meet<R: Abort + AllocGlobal + Threads + Sync>(
 fn sites_run_side_by_side(rt: HostRuntime) {
     let stop = Stop::Meets { row: 0, calls: 1 };
     assert_meet(&rt, RUN_AT_64, [stop, stop]);
+}
+
+#[test]
+fn sites_run_side_by_side_of_key_counts(rt: HostRuntime) {
+    let stop = Stop::Meets { row: 0, calls: 1 };
     assert_meet(&rt, KEYS_AT_64, [stop, stop]);
 }
 
 // At two places no rack gets a row that is two further than what the other has begun, though it pauses.
 #[test]
 fn sites_share_one_ring(rt: HostRuntime) {
-    let stops = [Stop::Goes, Stop::Pauses];
-    assert_eq!(rt; times_alone(&rt, RUN_AT_2, stops), 0);
-    assert_eq!(rt; times_alone(&rt, KEYS_AT_2, stops), 0);
+    assert_eq!(rt; times_alone(&rt, RUN_AT_2, [Stop::Goes, Stop::Pauses]), 0);
+}
+
+#[test]
+fn sites_and_key_counts_share_one_ring(rt: HostRuntime) {
+    assert_eq!(rt; times_alone(&rt, KEYS_AT_2, [Stop::Goes, Stop::Pauses]), 0);
 }
 
 // The first rack waits in the call for row 10 until the other has begun that for row 70, which a writer whose

@@ -83,7 +83,7 @@ sixteenth-small : (z : ℤ) → neg_ℤ (pos 2032) ≤ℤ z → z ≤ℤ pos 611
 sixteenth-small (pos a) low high = record { low = grind (arith, ints); high = grind (arith, ints) }
 sixteenth-small (negsuc a) low high = record { low = grind (arith, ints); high = grind (arith, ints) }
 
-corrected-small : (value : ℕ) (left above_right above above_left : ℤ) → value ≤ 255 → IsError left → IsError above_right → IsError above → IsError above_left → IsError (error_of (corrected value left above_right above above_left))
+pub corrected-small : (value : ℕ) (left above_right above above_left : ℤ) → value ≤ 255 → IsError left → IsError above_right → IsError above → IsError above_left → IsError (error_of (corrected value left above_right above above_left))
 corrected-small value left above_right above above_left small l r a c =
     let z : ℤ = (pos (16 * value)) +ℤ (pos 7 *ℤ left) +ℤ (pos 3 *ℤ above_right) +ℤ (pos 5 *ℤ above) +ℤ above_left in
     sixteenth-small z (omega (arith, ints)) (omega (arith, ints))

@@ -1,5 +1,9 @@
 pub mod ByteLemmas
+pub mod ColumnLemmas
 pub mod DiffusionLemmas
+pub mod DotLemmas
+pub mod EightLemmas
+pub mod LaneLemmas
 pub mod NumberLemmas
 pub mod RowLemmas
 mod Rows

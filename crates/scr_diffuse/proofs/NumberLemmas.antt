@@ -1,5 +1,5 @@
 -- The number v of a pixel: a shift is the division that rounds down, what it gives stays small, and a dot is told before it.
-use Rattle.std.proofs.Common.{◌≡◌, ℤ, pos, negsuc, ◌+ℤ◌, ◌-ℤ◌, ◌*ℤ◌, ◌≤ℤ◌, neg_ℤ, cond, true, false, to_z, of_z, w32, refl, ap, ◌∙◌, sym, arith}
+use Rattle.std.proofs.Common.{◌≡◌, ℤ, pos, negsuc, ◌+ℤ◌, ◌-ℤ◌, ◌*ℤ◌, ◌≤ℤ◌, neg_ℤ, cond, true, false, to_z, of_z, w32, refl, ap, subst, ◌∙◌, sym, arith}
 use Rattle.std.specs.Int.{int_div_euclid}
 use Rattle.std.specs.Int.Signed.{le_z, shr_z}
 use Rattle.std.proofs.lemmas.Int.{ints, to_z-of_z}
@@ -7,7 +7,7 @@ use Rattle.std.proofs.lemmas.Bool.Decides.{nat_tests}
 use Rattle.scr_diffuse.specs.Diffusion.{error_of, prints}
 use Rattle.scr_diffuse.specs.Passes.{IsNumber, IsSum, floor_16}
 
-shifted : (z : ℤ) → shr_z z 16 ≡ int_div_euclid z (pos 16)
+pub shifted : (z : ℤ) → shr_z z 16 ≡ int_div_euclid z (pos 16)
 shifted (pos a) = refl
 shifted (negsuc a) = refl
 
@@ -15,6 +15,9 @@ shifted (negsuc a) = refl
 sixteenth-small : (z : ℤ) → neg_ℤ (pos 61440) ≤ℤ z → z ≤ℤ pos 61440 → IsNumber (shr_z z 16)
 sixteenth-small (pos a) low high = record { low = omega (arith, ints); high = omega (arith, ints) }
 sixteenth-small (negsuc a) low high = record { low = omega (arith, ints); high = omega (arith, ints) }
+
+pub number_small : (z : ℤ) → IsSum z → IsNumber (floor_16 z)
+number_small z sum = subst IsNumber (shifted z) (sixteenth-small z sum.low sum.high)
 
 -- a computed number that is shifted, told by the number
 kept : (z : ℤ) → IsSum z → to_z w32 (of_z w32 (shr_z z 16)) ≡ shr_z z 16

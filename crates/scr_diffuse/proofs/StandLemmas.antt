@@ -4,7 +4,7 @@ use Rattle.std.proofs.lemmas.List.{length-append}
 use Rattle.std.proofs.Math.Path.{fun_ext}
 use Rattle.std.proofs.Math.Seq.{take-append_seam}
 use Rattle.scr_diffuse.specs.Diffuser.{StandBelow}
-use Rattle.scr_diffuse.specs.Diffusion.{error_above, error_left, left_of, v_at, v_below}
+use Rattle.scr_diffuse.specs.Diffusion.{IsError, error_above, error_left, left_of, v_at, v_below}
 use Rattle.scr_diffuse.specs.Passes.{errors_in, number_at}
 use Rattle.scr_diffuse.proofs.DiffusionLemmas.{error-margin, error-outside, error_above-put, error_left-small, none-small, v_at-put}
 use Rattle.scr_diffuse.proofs.StepLemmas.{left-next}
@@ -37,21 +37,28 @@ next_margined rows values errors new stand made (suc x) =
     ∙ ap (error_left (λ k. error_above rows k (length rows)) values) (sym (add-one x))
     ∙ sym (error_above-put rows values x) ∙ ap (error_above (rows ++ values ∷ []) x) (sym count)
 
-pub stand_next : (rows all : List (List ℕ)) (values : List ℕ) (errors new : List ℤ) → StandBelow rows errors → all ≡ rows ++ values ∷ [] → length errors ≡ length values + 2 → length new ≡ length errors
-    → ((k : ℕ) → get_or values k 0 ≤ 255) → ((k : ℕ) → number_at new k ≡ error_left (errors_in errors) values k) → StandBelow all new
-stand_next rows all values errors new stand more size same bytes made =
+-- where the errors are known to be small
+pub stand_after : (rows all : List (List ℕ)) (values : List ℕ) (errors new : List ℤ) → StandBelow rows errors → all ≡ rows ++ values ∷ [] → length errors ≡ length values + 2 → length new ≡ length errors
+    → ((k : ℕ) → IsError (number_at new k)) → ((k : ℕ) → number_at new k ≡ error_left (errors_in errors) values k) → StandBelow all new
+stand_after rows all values errors new stand more size same small made =
     let end : length new - 1 ≡ suc (length values) = omega arith in
     rw more (record {
       room = (stand.room.0, same ∙ stand.room.1);
       margined = next_margined rows values errors new stand made;
       right = ap (number_at new) end ∙ made (suc (length values)) ∙ error-outside (errors_in errors) values (length values) (omega arith);
-      small = λ k. rw (made k) (error_left-small (errors_in errors) values (λ j. stand.small (j + 1)) bytes k);
+      small = small;
     })
+
+pub stand_next : (rows all : List (List ℕ)) (values : List ℕ) (errors new : List ℤ) → StandBelow rows errors → all ≡ rows ++ values ∷ [] → length errors ≡ length values + 2 → length new ≡ length errors
+    → ((k : ℕ) → get_or values k 0 ≤ 255) → ((k : ℕ) → number_at new k ≡ error_left (errors_in errors) values k) → StandBelow all new
+stand_next rows all values errors new stand more size same bytes made =
+    stand_after rows all values errors new stand more size same
+    (λ k. rw (made k) (error_left-small (errors_in errors) values (λ j. stand.small (j + 1)) bytes k)) made
 
 -- the numbers v of the next row
 pub v_next : (rows : List (List ℕ)) (values : List ℕ) (errors : List ℤ) (x : ℕ) → StandBelow rows errors → v_below (errors_in errors) values x ≡ v_at (rows ++ values ∷ []) x (length rows)
 v_next rows values errors x stand = ap (λ (f : ℕ → ℤ). v_below f values x) (above_is rows errors stand) ∙ sym (v_at-put rows values x)
 
 -- a list that was lent whole and comes back
-pub lent_whole : (n : ℕ) (new old : List ℤ) → n ≡ length new → take n (new ++ drop (length new) old) ≡ new
+pub lent_whole : {A : Type 0} (n : ℕ) (new old : List A) → n ≡ length new → take n (new ++ drop (length new) old) ≡ new
 lent_whole n new old whole = rw whole (take-append_seam new (drop (length new) old))

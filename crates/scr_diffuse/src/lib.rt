@@ -3,11 +3,17 @@
 #![tactic(auto)]
 
 mod bits;
+mod columns;
 mod diffuser;
+mod diffusers;
+mod dots;
+mod histories;
 mod history;
+mod lanes;
 mod laws;
 mod passes;
 mod row;
 
 pub use diffuser::Diffuser;
+pub use diffusers::Diffusers;
 pub use laws::{error_law, row_law};

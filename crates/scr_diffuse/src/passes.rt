@@ -5,7 +5,7 @@ ghost use Rattle.scr_diffuse.specs.Diffusion.{error_of, IsError};
 ghost use Rattle.scr_diffuse.specs.Passes.{AreWords, IsNumber, IsSum, number_at, sum_above, floor_16, v_from, weighted};
 
 /// What a dot takes from the number of its pixel.
-const DOT: i16 = 255;
+pub(crate) const DOT: i16 = 255;
 
 /// The least number that prints.
 pub(crate) const MIDDLE: i16 = 128;

@@ -70,6 +70,10 @@ closes-row reader opened closed held home is sees given-back =
           (λ (less : reader.cursor < reader.seen). let same : opened.loads ≡ reader.loads = sees.loads less in omega arith)
           (λ (most : reader.seen ≤ reader.cursor). let more : opened.loads ≡ reader.loads + 1 = sees.counted most in omega arith)
           (cases_lt reader.cursor reader.seen);
+      found = ⊎_elim
+          (λ (less : reader.cursor < reader.seen). let same : opened.loads ≡ reader.loads = sees.loads less in let still : opened.seen ≡ reader.seen = sees.seen less in omega arith)
+          (λ (most : reader.seen ≤ reader.cursor). let more : opened.loads ≡ reader.loads + 1 = sees.counted most in omega arith)
+          (cases_lt reader.cursor reader.seen);
     }
 
 -- ---- what keeping it makes of the site and its rack

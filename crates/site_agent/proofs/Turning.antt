@@ -34,6 +34,8 @@ goes-on first now next waits less goes draws =
     let more : now.reader.seen ≤ next.reader.seen = draws.closes.grows in
     let counted : first.reader.loads + waits ≤ now.reader.loads = goes.counted in
     let loads : now.reader.loads ≤ next.reader.loads = draws.closes.loads in
+    let found : now.reader.loads + first.reader.seen ≤ first.reader.loads + waits + now.reader.seen = goes.found in
+    let once : next.reader.loads + now.reader.seen ≤ now.reader.loads + next.reader.seen = draws.closes.found in
     let stay : first.told.faults ≤ now.told.faults = goes.faults in
     let faults : now.told.faults ≤ next.told.faults = draws.faults in
     record {
@@ -43,6 +45,7 @@ goes-on first now next waits less goes draws =
       within = omega arith;
       seen = omega arith;
       counted = omega arith;
+      found = omega arith;
       job = draws.job ∙ goes.job;
       stands = λ before going.
           subst (λ (r : ReaderState). IsGoingBy r before next.told.tells next.site) goes.reader (draws.stands before (going-there first now waits before goes going));
@@ -63,6 +66,7 @@ goes-awaiting first now next waits answer goes awaits =
     let high : now.reader.cursor ≤ first.reader.ring.total = goes.within in
     let known : first.reader.seen ≤ now.reader.seen = goes.seen in
     let counted : first.reader.loads + waits ≤ now.reader.loads = goes.counted in
+    let found : now.reader.loads + first.reader.seen ≤ first.reader.loads + waits + now.reader.seen = goes.found in
     let stay : first.told.faults ≤ now.told.faults = goes.faults in
     let faults : next.told.faults ≡ now.told.faults = ap (λ (t : RackTells). t.faults) awaits.told in
     let site : now.site ≡ next.site = sym awaits.site in
@@ -90,6 +94,7 @@ goes-awaiting first now next waits answer goes awaits =
       within = omega arith;
       seen = omega arith;
       counted = omega arith;
+      found = omega arith;
       job = ap (λ s. s.job) awaits.site ∙ goes.job;
       stands = λ before going.
           subst (λ (t : Tells). IsGoingBy first.reader before t next.site) told

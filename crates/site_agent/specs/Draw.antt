@@ -40,6 +40,8 @@ pub record Closes (old new : ReaderState) : Type 0 where
   pub grows : old.seen ≤ new.seen
   pub within : new.seen ≤ old.ring.total
   pub loads : old.loads ≤ new.loads
+  -- a load found a row more
+  pub found : new.loads + old.seen ≤ old.loads + new.seen
 
 -- the row was kept
 pub record DrawsOn (old new : Stage) : Type 0 where
@@ -101,6 +103,7 @@ pub record Goes (first now : Stage) (waits : ℕ) : Type 0 where
   pub within : now.reader.cursor ≤ first.reader.ring.total
   pub seen : first.reader.seen ≤ now.reader.seen
   pub counted : first.reader.loads + waits ≤ now.reader.loads
+  pub found : now.reader.loads + first.reader.seen ≤ first.reader.loads + waits + now.reader.seen
   pub job : now.site.job ≡ first.site.job
   pub stands : (before : Tells) → IsGoingBy first.reader before first.told.tells first.site
       → IsGoingBy first.reader before now.told.tells now.site

@@ -1,5 +1,5 @@
 -- What an answer of a turn says, and the rows that a site takes from a ring.
-use Rattle.std.specs.Prelude.{◌≡◌, ℕ, true, false, List, length, map}
+use Rattle.std.specs.Prelude.{◌≡◌, ℕ, ◌+◌, ◌<◌, ◌≤◌, true, false, List, length, map}
 use Rattle.ring_rule.specs.declared.view.RingNumbers.{RingNumbers}
 use Rattle.ring_lanes.specs.declared.source.Source.{Source}
 use Rattle.ring_lanes.specs.Reader.{ReaderState, source_of}
@@ -58,6 +58,14 @@ OnMemory (Waiting head) P = Unit {0}
 OnMemory Finished P = Unit {0}
 OnMemory (Left cause) P = Unit {0}
 OnMemory Memory P = P
+
+-- how often a turn of this patience looked in vain: each other load found a row more. Waiting comes at the
+-- last look that the patience allows, and each other answer before it
+abbrev pub WaitsNoMore : ℕ → ReaderState → ReaderState → TurnEnd → Type 0
+WaitsNoMore patience old new (Waiting head) = new.loads + old.seen ≤ old.loads + patience + new.seen
+WaitsNoMore patience old new Finished = new.loads + old.seen < old.loads + patience + new.seen
+WaitsNoMore patience old new (Left cause) = new.loads + old.seen < old.loads + patience + new.seen
+WaitsNoMore patience old new Memory = new.loads + old.seen < old.loads + patience + new.seen
 
 -- the rows of a ring are frames of rows for a job, as many as the job has
 pub record AreRowsFor (job : SiteJob) (ring : RingNumbers) : Type 0 where

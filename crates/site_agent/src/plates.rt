@@ -41,14 +41,6 @@ pub(crate) fn plates_of(
     Ok(plates)
 }
 
-/// Whether the site prints the group.
-fn prints(group: &Group, site: usize) -> bool
-    requires { site < 16 }
-    ensures { result ≡ has_site group.now site }
-{
-    group.sites >> site & 1 == 1
-}
-
 /// Adds the plates of a group where the site prints it.
 fn add_printed(
     alloc: Global,
@@ -68,7 +60,7 @@ fn add_printed(
         then plates.old.items ++ map (plate_of plan.now out.now site) (group_plates group.now)
         else plates.old.items)) }
 {
-    if !prints(group, site) {
+    if !group.has_site(site) {
         return Ok(());
     }
     add_plates(alloc, plan, out, site, group, plates)
@@ -121,7 +113,7 @@ fn plate(
         path,
         first: group.first + place as u64,
         step: group.inks().len() as u32,
-        slot: ink as usize,
+        slot: ink.slot(),
     })
 }
 

@@ -7,7 +7,7 @@ ghost use Rattle.pr_rack.specs.Told.{Tells, told};
 ghost use Rattle.site_agent.specs.Draw.{Draws, IsReady, stage};
 ghost use Rattle.site_agent.specs.Kept.{IsCauseAt};
 ghost use Rattle.site_agent.specs.Stands.{AreAsLong, AreBegun};
-ghost use Rattle.site_agent.specs.Turn.{AreRowsFor, GoesOnTo, IfLeft, IfWaiting, IsGoingBy, LeavesAt, OnEnd, OnFinished, OnGoing, OnMemory, StopsAt};
+ghost use Rattle.site_agent.specs.Turn.{AreRowsFor, GoesOnTo, IfLeft, IfWaiting, IsGoingBy, LeavesAt, OnEnd, OnFinished, OnGoing, OnMemory, StopsAt, WaitsNoMore};
 
 use crate::{Kept, Site, TurnEnd};
 use pr_base::Deal;
@@ -50,6 +50,7 @@ impl Site {
         ensures known { reader.new.cursor ≤ reader.new.seen }
         ensures seen_grows { reader.old.seen ≤ reader.new.seen }
         ensures gets_on { reader.old.cursor < reader.old.seen → reader.old.cursor < reader.new.cursor }
+        ensures waits { WaitsNoMore patience reader.old reader.new result }
 
         // Waiting and Finished: the rows below the cursor are dealt with.
         ensures stands { OnGoing result ((before : Tells) →

@@ -2,7 +2,9 @@ pub mod Expansion
 pub mod Nothings
 pub mod Packing
 pub mod Pieces
+pub mod Few
 pub mod Fronts
+pub mod Pairs
 pub mod Rows
 pub mod Frames
 pub mod Framing

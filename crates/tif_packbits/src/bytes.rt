@@ -1,6 +1,14 @@
 // Copies and fills of few bytes. A call of the C library's takes longer than most packets, so up to
 // 32 bytes are written in place: a front and a back of a fixed length, which may overlap.
-ghost use Rattle.std.specs.Prelude.{◌≡◌, ◌+◌, ◌≤◌, length, replicate};
+ghost use Rattle.std.specs.Prelude.{◌≡◌, ◌+◌, ◌≤◌, ◌++◌, length, take, drop, replicate};
+
+use std::simd::prelude::*;
+
+/// How many bytes go at once where they are few.
+const FEW: usize = 16;
+
+/// The places of that many.
+const PLACES: [u8; FEW] = [0, 1, 2, 3, 4, 5, 6, 7, 8, 9, 10, 11, 12, 13, 14, 15];
 
 /// Copies `from` over `into`.
 pub fn copy(from: &[u8], into: &mut [u8])
@@ -16,6 +24,33 @@ pub fn copy(from: &[u8], into: &mut [u8])
         17..=32 => copy_ends::<16>(from, into),
         _ => into.copy_from_slice(from),
     }
+}
+
+/// Copies the first `n` bytes of `from` to the front of `into`.
+pub fn copy_front(from: &[u8], n: usize, into: &mut [u8])
+    requires from { n ≤ length from.now }
+    requires into { n ≤ length into.old }
+    ensures { into.new ≡ take n from.now ++ drop n into.old }
+{
+    if n <= FEW && from.len() >= FEW && into.len() >= FEW {
+        copy_few(from, n, into);
+    } else {
+        copy(&from[..n], &mut into[..n]);
+    }
+}
+
+/// The same of few bytes. Which of them stay is chosen by lanes, since a branch on `n` would often be
+/// guessed wrong.
+fn copy_few(from: &[u8], n: usize, into: &mut [u8])
+    requires few { n ≤ FEW }
+    requires from { FEW ≤ length from.now }
+    requires into { FEW ≤ length into.old }
+    ensures { into.new ≡ take n from.now ++ drop n into.old }
+{
+    u8x16::from_array(PLACES)
+        .simd_lt(u8x16::splat(n as u8))
+        .select(u8x16::from_slice(from), u8x16::from_slice(into))
+        .copy_to_slice(into);
 }
 
 /// Writes `byte` over all of `into`.

@@ -7,6 +7,7 @@ mod frame;
 mod laws;
 mod pack;
 mod packet;
+mod row_front;
 mod unpacker;
 
 pub use frame::{frame_len, frame_row, framed};

@@ -1,10 +1,24 @@
-use Rattle.std.proofs.Common.{◌≢◌, ap, sym, subst, ◌∙◌}
+use Rattle.std.proofs.Common.{rules, ◌≡◌, ◌≢◌, ℕ, List, ap, sym, subst, ◌∙◌}
 use Rattle.std.specs.Prelude.{IfSome, Option}
 use Rattle.pr_base.specs.declared.fault.FileFault.{FileFault}
 use Rattle.pr_base.specs.declared.fault.TagFault.{TagFault}
 use Rattle.pr_base.specs.declared.fault.FaultKind.TheVariants.{TooLong}
+use Rattle.pr_ports.specs.Shelf.{IsLongerAt}
+use Rattle.press_job.specs.Verdict.{path_of}
 use Rattle.press_job.proofs.FaultLemmas.{file_never_long}
+use Rattle.press_job.proofs.UntoldLemmas.{fault_found, long_found}
 use Rattle.press_job.proofs.loading.load_file.Goals as goal
+
+pub returns-in-Err-TooLong-clause-found : goal.returns-in-Err-TooLong-clause-found
+returns-in-Err-TooLong-clause-found g c =
+    let held = g.H.Shelf.held c.args.shelf.now in
+    let at : c.as_str.result.now ≡ path_of c.args.plan.now c.args.folder.now c.args.file = search rules in
+    let P : List ℕ → Type 0 = λ path. IsLongerAt held path c.args.limit in
+    long_found c.args.plan.now c.args.folder.now (g.H.Shelf.held c.args.shelf.now) c.args.limit c.args.file c.in-Ok-fault_of.fault (subst P at (rw c.in-Err-TooLong.field-0-is at c.in-Err-TooLong.ensures.longer)) c.in-Ok-fault_of.ensures
+
+pub returns-in-Err-clause-found : goal.returns-in-Err-clause-found
+returns-in-Err-clause-found g c =
+    fault_found c.args.plan.now c.args.folder.now (g.H.Shelf.held c.args.shelf.now) c.args.limit c.args.file c.as_slice.result.now c.in-Err.fault c.in-Ok-fault_of-2.fault (search rules) (search rules) (sym c.in-Err.ensures) c.in-Ok-fault_of-2.ensures
 
 pub returns-in-Err-clause-too_long : goal.returns-in-Err-clause-too_long
 returns-in-Err-clause-too_long g c =

@@ -1,10 +1,12 @@
 use Rattle.std.proofs.Common.{◌≡◌, ◌≤◌}
 use Rattle.press_job.proofs.LoadLemmas.{AreLoaded}
+use Rattle.press_job.proofs.UntoldLemmas.{AreWithin}
 use Rattle.press_job.proofs.loading.load_files.Given as goal
 
 abbrev pub invariant-loop-file : goal.invariant-loop-file
 invariant-loop-file g l = record {
   loaded : AreLoaded l.plan l.folder (g.H.Shelf.held l.initial.shelf) l.files l.file l.loaded;
+  limits : AreWithin l.files;
   held : g.H.Shelf.held l.shelf ≡ g.H.Shelf.held l.initial.shelf;
   missed : g.H.Shelf.missed l.shelf ≡ g.H.Shelf.missed l.initial.shelf;
   faults_stay : g.H.Shelf.faults l.initial.shelf ≤ g.H.Shelf.faults l.shelf;

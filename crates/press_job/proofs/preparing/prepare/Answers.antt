@@ -1,9 +1,12 @@
-use Rattle.std.proofs.Common.{ap, sym, subst, ◌∙◌, length}
+use Rattle.std.proofs.Common.{◌≡◌, ℕ, List, ap, sym, subst, ◌∙◌, length}
 use Rattle.std.specs.Prelude.{Contains, IfSome, Option}
 use Rattle.std.proofs.lemmas.List.Elements.{Contains-get_or}
 use Rattle.pr_base.specs.declared.fault.FileFault.{FileFault}
 use Rattle.press_job.specs.declared.fit.Misfit.{Misfit}
+use Rattle.press_job.specs.Job.{JobData}
+use Rattle.press_job.specs.Verdict.{AreSound, OfFiles}
 use Rattle.press_job.proofs.FaultLemmas.{IsMisfit, layers_fit}
+use Rattle.press_job.proofs.UntoldLemmas.{misfit_of, sound_of}
 use Rattle.press_job.proofs.preparing.prepare.Goals as goal
 
 pub fault_of-requires : goal.fault_of-requires
@@ -19,3 +22,17 @@ pub returns-in-Err-clause-too_long : goal.returns-in-Err-clause-too_long
 returns-in-Err-clause-too_long g c =
     let misfit = subst {A = Option Misfit} (λ o. IfSome o (IsMisfit (length c.args.plan.files))) (sym c.in-Err.ensures) (layers_fit c.args.plan c.in_ok-loaded.loaded c.in_ok-loaded.ensures.plan) in
     λ long. absurd (misfit.short (sym (ap {A = FileFault} (λ f. f.kind) c.in-Ok.ensures) ∙ long))
+
+pub returns-clause-sound : goal.returns-clause-sound
+returns-clause-sound g c =
+    let held = g.H.Shelf.held c.args.shelf.now in
+    let loaded = c.in_ok-loaded.loaded in
+    let job = c.of-2.result in
+    let is : loaded ≡ job.files = sym (ap {A = JobData} (λ j. j.files) c.of-2.ensures) in
+    let P : List (List ℕ) → Type 0 = λ files. OfFiles held (AreSound c.args.plan c.args.files.now files) in
+    subst P is (sound_of c.args.plan c.args.files.now held loaded c.in_ok-loaded.ensures.count c.in_ok-loaded.ensures.sound (sym c.in_default.ensures))
+
+pub returns-in-Err-clause-faulty : goal.returns-in-Err-clause-faulty
+returns-in-Err-clause-faulty g c =
+    misfit_of c.args.plan c.args.files.now (g.H.Shelf.held c.args.shelf.now) c.in_ok-loaded.loaded c.in-Err.misfit c.in-Ok.fault c.in_ok-loaded.ensures.count c.in_ok-loaded.ensures.sound
+    (sym c.in-Err.ensures) c.in-Ok.ensures

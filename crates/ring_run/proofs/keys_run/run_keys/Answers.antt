@@ -1,6 +1,8 @@
-use Rattle.std.proofs.Common.{◌≡◌, ◌+◌, ℕ, length, map, ap, refl, subst, ◌∙◌, rules}
+use Rattle.std.proofs.Common.{◌≡◌, ◌+◌, ℕ, length, map, ap, refl, subst, sym, ◌∙◌, rules, arith}
 use Rattle.std.proofs.lemmas.List.{take_at}
-use Rattle.plan_json.specs.Data.{plate_width}
+use Rattle.plan_json.specs.Data.{PlanData, plate_width}
+use Rattle.plan_json.specs.Plan.{IsPlan}
+use Rattle.plan_rows.specs.Rows.{rows_of}
 use Rattle.pr_rack.specs.Told.{RackTells, told}
 use Rattle.press_job.specs.Rows.{plate_rows}
 use Rattle.ink_keys.specs.Counts.{CountsData}
@@ -19,6 +21,17 @@ returns-in_err-feed-clause-part g c = on_err c.from_residual-in_err-feed.result 
 
 pub returns-in_err-readers-clause-part : goal.returns-in_err-readers-clause-part
 returns-in_err-readers-clause-part g c = on_err c.from_residual-in_err-readers.result _ (none_part _ _)
+
+pub run_fed-requires-clause-run : goal.run_fed-requires-clause-run
+run_fed-requires-clause-run g c κs within =
+    let same = sym c.plan-plan.ensures.plan in
+    let least = c.requires.patience.least in
+    record {
+      plan_is = subst {A = PlanData} IsPlan same c.plan-plan.ensures.valid;
+      rows_are = c.rows-rows.ensures ∙ ap rows_of same;
+      places = c.requires.ring;
+      some = omega arith;
+    }
 
 pub run_fed-requires-clause-zeros : goal.run_fed-requires-clause-zeros
 run_fed-requires-clause-zeros g c κs within =

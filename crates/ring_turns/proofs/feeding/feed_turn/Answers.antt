@@ -7,7 +7,7 @@ loop-writer-preserved-in_default g c =
     let more = c.in_default.ensures.published in
     let grew = c.loop-writer.invariant.1.grows.head in (
       c.publish_next.ensures.feed,
-      fed_on c.args.writer.now c.loop-writer.writer c.publish_next.new.writer c.loop-writer.waits c.loop-writer.invariant.1 c.publish_next.ensures.same c.publish_next.ensures.looks (omega (arith, more)),
+      fed_on c.args.writer.now c.loop-writer.writer c.publish_next.new.writer c.loop-writer.waits c.loop-writer.invariant.1 c.publish_next.ensures.same c.publish_next.ensures.looks more,
       c.loop-writer.invariant.2,
       refl,
       inr (λ room. omega (arith, more, grew)),
@@ -40,3 +40,9 @@ loop-writer-preserved g c =
       refl,
       inr (stuck c.args.writer.now c.loop-writer.writer c.publish_next.new.writer c.loop-writer.invariant.4 c.in-Err.ensures.gets_on c.in-Err.ensures.head),
     )
+
+pub returns-then-waits-patience-clause-waits : goal.returns-then-waits-patience-clause-waits
+returns-then-waits-patience-clause-waits g c =
+    let last : c.loop-writer.waits + 1 ≡ c.args.patience = let t = c.if-waits-patience.true in omega (arith, t) in
+    let fed = fed_full c.args.writer.now c.loop-writer.writer c.publish_next.new.writer c.loop-writer.waits c.in-Err.field-0 c.loop-writer.invariant.1 c.publish_next.ensures.same c.publish_next.ensures.looks c.in-Err.ensures.head c.in-Err.ensures.full in
+    λ r less. (let most = fed.looks r less in omega (arith, most, last))

@@ -6,5 +6,6 @@ abbrev pub invariant-loop-index : goal.invariant-loop-index
 invariant-loop-index l = record {
   count : length l.racks.items ≡ l._index;
   slots : All (λ rack. rack.slots ≡ empty_slots) l.racks.items;
+  taken : All (λ rack. rack.taken ≡ []) l.racks.items;
   files : All (λ rack. rack.files ≡ []) l.racks.items;
 }

@@ -11,5 +11,7 @@ invariant_of-self c =
       wide = c.self.invariant.wide;
       high = c.self.invariant.high;
       within = omega arith;
+      layers_fit = omega (arith, c.self.invariant.layers_fit);
+      rooms_fit = omega (arith, c.self.invariant.rooms_fit);
       ready = c.restart_layers.ensures.ready c.self.inside.width c.self.inside.next (rw c.deref_mut.ensures.value c.self.invariant.ready);
     })

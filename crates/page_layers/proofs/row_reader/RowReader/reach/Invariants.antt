@@ -7,6 +7,7 @@ invariant-loop-row l = record {
   next : l.self-inside.rows.next ≡ l._row;
   shape : l.self-inside.rows.shape ≡ l.initial.self-inside.rows.shape;
   bytes : l.self-inside.rows.bytes ≡ l.initial.self-inside.rows.bytes;
-  long : length l.self-inside.row.items ≡ row_length l.initial.self-inside.rows.shape;
-  last : 0 < l._row → l.self-inside.row.items ≡ image_row l.initial.self-inside.rows.shape l.initial.self-inside.rows.bytes (l._row - 1);
+  len : l.self-inside.len ≡ l.initial.self-inside.len;
+  long : length l.row ≡ row_length l.initial.self-inside.rows.shape;
+  last : l.initial.self-inside.read < l._row → l.row ≡ image_row l.initial.self-inside.rows.shape l.initial.self-inside.rows.bytes (l._row - 1);
 }

@@ -1,9 +1,8 @@
-use Rattle.std.proofs.Common.{◌∙◌, nat_eq, ap, sym}
-use Rattle.std.proofs.lemmas.Nat.Bits.{shr_and_one}
+use Rattle.std.proofs.Common.{◌∙◌, sym}
 use Rattle.plan_rows.proofs.RowLemmas.{keeps_is}
 use Rattle.plan_rows.proofs.row_plan.RowPlan.keeps.Goals as goal
 
 pub returns : goal.returns
 returns c =
-    ap (λ b. nat_eq b 1) (shr_and_one c.index.result.now.sites c.args.site)
+    c.has_site.ensures
     ∙ sym (keeps_is c.self.inside.total _ c.args.self.now c.args.n _ c.args.site c.index.result.now c.self.invariant c.self.view_is c.group_at-index.ensures c.index.ensures)

@@ -1,52 +1,63 @@
-use Rattle.std.proofs.Common.{◌≡◌, ◌<◌, true, map, ap, sym, subst, ◌∙◌, arith}
-use Rattle.std.specs.Prelude.{slice_index}
-use Rattle.std.proofs.lemmas.List.{take_at, with_items_is}
+-- The screener and the diffusers of the ink draw the row that was shown last.
+use Rattle.std.proofs.Common.{◌≡◌, ◌∙◌, ◌+◌, ◌*◌, ◌<◌, ◌≤◌, length, ap, sym, subst, arith}
+use Rattle.std.specs.Option.{ForSome}
 use Rattle.pr_base.specs.Bits.{SetsBits}
+use Rattle.pr_base.proofs.Inks.{slot_below}
 use Rattle.plan_json.specs.Data.{PlanData}
-use Rattle.pr_base.specs.Ink.{slot_of}
 use Rattle.press_job.specs.Printing.{page_bit}
-use Rattle.press_feed.specs.Screener.{is_diffused, rows_in}
-use Rattle.press_feed.specs.Sides.{SideData, left_edge, screened_after}
-use Rattle.press_feed.proofs.SideLemmas.{IsSide-draw, page_drawn}
+use Rattle.press_feed.specs.Screens.{AreScreens, IsFrontOf, bank_of, lane_of}
+use Rattle.press_feed.specs.Sides.{SideData, left_edge}
+use Rattle.press_feed.proofs.ScreenerLemmas.{sets_page}
+use Rattle.press_feed.proofs.SideLemmas.{found_screener, own_screener, values_are}
 use Rattle.press_feed.proofs.side_pages.SidePages.draw.Goals as goal
 
-pub invariant_of-self : goal.invariant_of-self
-invariant_of-self c =
-    let e = c.self.view_is ∙ c.reach.ensures in
-    (IsSide-draw c.self.inside.job.now c.self.inside.side c.self.inside.pages.items c.self.inside.page c.self.inside.shown c.self.inside.tones c.self.inside.row c.self.inside.screeners.items c.deref_mut.result.now _ c.args.ink c.args.y
-    c.values-values.result.now c.self.invariant (ap {A = SideData} (λ s. s.shown) e)
-    (subst {A = SideData} (λ s. c.args.y < s.plan.page_height) (sym e) c.requires.ready.within) c.values-values.ensures
-    (subst {A = SideData} (λ s. is_diffused s.plan c.args.ink ≡ true → slice_index s.screened (slot_of c.args.ink) ≡ c.args.y) (sym e) c.requires.ready.screened) c.deref_mut.ensures.value
-    (λ screener there. take_at c.screen.new.screeners _ c.self.inside.screeners.len (omega arith) ∙ c.screen.ensures.behind screener there)).0
+pub draw-requires-clause-slot : goal.draw-requires-clause-slot
+draw-requires-clause-slot c =
+    let five = c.requires.screens.screeners.five in
+    let below = slot_below c.args.ink in
+    omega arith
 
-pub returns-clause-bits : goal.returns-clause-bits
-returns-clause-bits c =
-    let e = c.self.view_is ∙ c.reach.ensures in
+pub draw-requires-clause-some : goal.draw-requires-clause-some
+draw-requires-clause-some c = λ screener there on.
+    c.requires.screens.diffused c.args.ink (sym (found_screener c.args.self.now.plan c.args.ink c.args.screens.now.screeners.items screener c.requires.screens.screeners there).kind ∙ on)
+
+pub draw-requires-clause-bank : goal.draw-requires-clause-bank
+draw-requires-clause-bank c = λ front there.
+    let e = c.self.view_is in
+    let job = c.self.inside.job.now in
+    (c.requires.bank front there).width_is ∙ ap {A = SideData} (λ s. s.plan.page_width) (sym e)
+    ∙ sym (values_are job c.self.inside.page_rows c.self.inside.page c.self.inside.shown c.args.y c.self.inside.tones c.self.inside.row c.args.ink c.values-values.result.now c.self.invariant
+    (ap {A = SideData} (λ s. s.shown) e ∙ c.requires.shown) c.values-values.ensures).1
+
+pub draw-requires-clause-handed : goal.draw-requires-clause-handed
+draw-requires-clause-handed c = λ front there. let count = (c.requires.bank front there).count in omega arith
+
+pub draw-requires-clause-room : goal.draw-requires-clause-room
+draw-requires-clause-room c =
+    let e = c.self.view_is in
+    let job = c.self.inside.job.now in
     let from = c.left_edge-from.result in
-    let at : from ≡ left_edge c.self.inside.job.now.plan c.self.inside.side = c.left_edge-from.ensures ∙ ap {A = PlanData} (λ p. left_edge p c.self.inside.side) c.plan.ensures.plan in
-    subst {A = SideData} (λ s. SetsBits (λ x. page_bit s.plan s.files s.page c.args.ink x c.args.y) (left_edge s.plan s.side) s.plan.page_width c.args.bits.now c.screen.new.bits) e
-    (subst (λ f. SetsBits (λ x. page_bit c.self.inside.job.now.plan c.self.inside.job.now.files c.self.inside.page c.args.ink x c.args.y) f c.self.inside.job.now.plan.page_width c.args.bits.now c.screen.new.bits) at
-    (page_drawn c.self.inside.job.now c.self.inside.side c.self.inside.pages.items c.self.inside.page c.self.inside.shown c.self.inside.tones c.self.inside.row c.self.inside.screeners.items c.deref_mut.result.now c.args.ink c.args.y from
-    c.values-values.result.now c.args.bits.now c.screen.new.bits c.self.invariant (ap {A = SideData} (λ s. s.shown) e)
-    (subst {A = SideData} (λ s. c.args.y < s.plan.page_height) (sym e) c.requires.ready.within) c.values-values.ensures
-    (subst {A = SideData} (λ s. is_diffused s.plan c.args.ink ≡ true → slice_index s.screened (slot_of c.args.ink) ≡ c.args.y) (sym e) c.requires.ready.screened) c.deref_mut.ensures.value
-    c.screen.ensures.bits))
+    let at : from ≡ left_edge job.plan c.self.inside.side = c.left_edge-from.ensures ∙ ap {A = PlanData} (λ p. left_edge p c.self.inside.side) c.plan.ensures.plan in
+    let wide = (values_are job c.self.inside.page_rows c.self.inside.page c.self.inside.shown c.args.y c.self.inside.tones c.self.inside.row c.args.ink c.values-values.result.now c.self.invariant
+    (ap {A = SideData} (λ s. s.shown) e ∙ c.requires.shown) c.values-values.ensures).1 in
+    let room : left_edge job.plan c.self.inside.side + job.plan.page_width ≤ 8 * length c.args.bits.now =
+    subst {A = SideData} (λ s. left_edge s.plan s.side + s.plan.page_width ≤ 8 * length c.args.bits.now) (sym e) c.requires.room in
+    omega arith
 
-pub returns-clause-behind : goal.returns-clause-behind
-returns-clause-behind c =
-    let e = c.self.view_is ∙ c.reach.ensures in
-    let drawn =
-    IsSide-draw c.self.inside.job.now c.self.inside.side c.self.inside.pages.items c.self.inside.page c.self.inside.shown c.self.inside.tones c.self.inside.row c.self.inside.screeners.items c.deref_mut.result.now c.screen.new.screeners
-    c.args.ink c.args.y c.values-values.result.now c.self.invariant (ap {A = SideData} (λ s. s.shown) e)
-    (subst {A = SideData} (λ s. c.args.y < s.plan.page_height) (sym e) c.requires.ready.within) c.values-values.ensures
-    (subst {A = SideData} (λ s. is_diffused s.plan c.args.ink ≡ true → slice_index s.screened (slot_of c.args.ink) ≡ c.args.y) (sym e) c.requires.ready.screened) c.deref_mut.ensures.value
-    c.screen.ensures.behind in
-    ap (λ ns. record {
-      plan = c.self.inside.job.now.plan;
-      files = c.self.inside.job.now.files;
-      side = c.self.inside.side;
-      page = c.self.inside.page;
-      shown = c.self.inside.shown;
-      screened = ns;
-    }) (ap (map rows_in) (with_items_is c.self.inside.screeners c.screen.new.screeners (omega arith)) ∙ drawn.1)
-    ∙ ap {A = SideData} (λ s. record s { screened = screened_after s.plan c.args.ink c.args.y s.screened }) e
+pub returns : goal.returns
+returns c =
+    let e = c.self.view_is in
+    let job = c.self.inside.job.now in
+    let from = c.left_edge-from.result in
+    let at : from ≡ left_edge job.plan c.self.inside.side = c.left_edge-from.ensures ∙ ap {A = PlanData} (λ p. left_edge p c.self.inside.side) c.plan.ensures.plan in
+    let own = values_are job c.self.inside.page_rows c.self.inside.page c.self.inside.shown c.args.y c.self.inside.tones c.self.inside.row c.args.ink c.values-values.result.now c.self.invariant
+    (ap {A = SideData} (λ s. s.shown) e ∙ c.requires.shown) c.values-values.ensures in
+    let are : AreScreens job.plan c.args.screens.now = subst {A = SideData} (λ s. AreScreens s.plan c.args.screens.now) (sym e) c.requires.screens in
+    let front : ForSome (bank_of c.args.screens.now c.args.ink) (IsFrontOf job.plan job.files c.self.inside.page c.args.ink (lane_of c.self.inside.side c.args.ink) (c.args.y + 1)) =
+    subst {A = SideData} (λ s. ForSome (bank_of c.args.screens.now c.args.ink) (IsFrontOf s.plan s.files s.page c.args.ink (lane_of s.side c.args.ink) (c.args.y + 1))) (sym e) c.requires.bank in
+    let screener = own_screener job.plan c.args.ink c.args.screens.now.screeners.items are.screeners in
+    subst {A = SideData} (λ s. SetsBits (λ x. page_bit s.plan s.files s.page c.args.ink x c.args.y) (left_edge s.plan s.side) s.plan.page_width c.args.bits.now c.draw.new.bits) e
+    (subst (λ f. SetsBits (λ x. page_bit job.plan job.files c.self.inside.page c.args.ink x c.args.y) f job.plan.page_width c.args.bits.now c.draw.new.bits) at
+    (sets_page job.plan job.files c.self.inside.page c.args.ink c.args.y (lane_of c.self.inside.side c.args.ink) from (length c.values-values.result.now) screener.0 (bank_of c.args.screens.now c.args.ink)
+    c.values-values.result.now c.args.bits.now c.draw.new.bits screener.2 (are.diffused c.args.ink) front (subst {A = SideData} (λ s. c.args.y < s.plan.page_height) (sym e) c.requires.within) own.0 own.1
+    (c.draw.ensures screener.0 screener.1)))

@@ -1,0 +1,136 @@
+-- One column of eight pages, lane by lane, is what is defined.
+use Rattle.std.proofs.Common.{◌≡◌, ℕ, zero, suc, ◌+◌, ◌<◌, ◌≤◌, Bool, ℤ, pos, ◌≤ℤ◌, ◌+ℤ◌, ◌*ℤ◌, FitsSigned, to_z, of_z, List, [], length, map, get_or, ap, sym, subst, ◌∙◌, inl, inr, arith, add-one, w16}
+use Rattle.std.proofs.lemmas.Bool.{cases_eq, cases_lt}
+use Rattle.std.proofs.lemmas.Int.{ints}
+use Rattle.std.proofs.lemmas.List.{get_or-map, get_or_past, length-map}
+use Rattle.scr_diffuse.specs.Diffusers.{AreErrors, AreValues, lane_at, lane_of}
+use Rattle.scr_diffuse.specs.Diffusion.{IsError, error_left, error_of, left_of, prints, v_below}
+use Rattle.scr_diffuse.specs.Passes.{IsNumber, IsSum, errors_in, floor_16, number_at}
+use Rattle.scr_diffuse.proofs.DiffusionLemmas.{corrected-small, error-inside, error-outside}
+use Rattle.scr_diffuse.proofs.LaneLemmas.{fits_number, kept, kept_is}
+use Rattle.scr_diffuse.proofs.NumberLemmas.{number_small}
+use Rattle.scr_diffuse.proofs.RowLemmas.{margined}
+
+-- what a lane holds, told by its list
+pub lane_is : (places : List (List ℤ)) (k p : ℕ) → number_at (lane_of places k) p ≡ lane_at places p k
+lane_is places k p =
+    elim (cases_lt p (length places)) [
+      | inl inside ↦ get_or-map (λ place. number_at place k) places p [] (pos 0) inside
+      | inr outside ↦
+          get_or_past (lane_of places k) p (pos 0) (omega (arith, length-map places (λ place. number_at place k)))
+          ∙ ap (λ place. number_at place k) (sym (get_or_past places p [] outside))
+    ]
+
+pub fits_error : (e : ℤ) → IsError e → FitsSigned w16 e
+fits_error e small = omega (arith, ints)
+
+-- lanes that were put in and taken out again
+pub kept_length : (a : List ℤ) → length a ≡ 8 → length (kept a) ≡ 8
+kept_length a eight = length-map (map (of_z w16) a) (to_z w16) ∙ length-map a (of_z w16) ∙ eight
+
+pub bits_length : (bits : List ℕ) → length bits ≡ 8 → length (map (to_z w16) bits) ≡ 8
+bits_length bits eight = length-map bits (to_z w16) ∙ eight
+
+-- errors that are loaded
+pub loaded : (numbers : List ℤ) (f : ℕ → ℤ) → length numbers ≡ 8 → ((k : ℕ) → k < 8 → FitsSigned w16 (f k) → number_at numbers k ≡ f k) → ((k : ℕ) → k < 8 → IsError (f k)) → (k : ℕ) → k < 8 → number_at (kept numbers) k ≡ f k
+loaded numbers f eight same small k within =
+    let fits : FitsSigned w16 (f k) = fits_error (f k) (small k within) in
+    kept_is numbers k (f k) eight within (same k within fits) fits
+
+pub errors_are : (numbers : List ℤ) (f : ℕ → ℤ) → length numbers ≡ 8 → ((k : ℕ) → k < 8 → number_at numbers k ≡ f k) → ((k : ℕ) → k < 8 → IsError (f k)) → AreErrors numbers
+errors_are numbers f eight same small = record { eight = eight; each = λ k within. rw (same k within) (small k within) }
+
+fits_value : (n : ℕ) → n ≤ 255 → FitsSigned w16 (pos n)
+fits_value n byte = omega (arith, ints)
+
+pub loaded_values : (numbers : List ℤ) (f : ℕ → ℕ) → length numbers ≡ 8 → ((k : ℕ) → k < 8 → number_at numbers k ≡ pos (f k)) → ((k : ℕ) → k < 8 → f k ≤ 255) → (k : ℕ) → k < 8 → number_at (kept numbers) k ≡ pos (f k)
+loaded_values numbers f eight same bytes k within = kept_is numbers k (pos (f k)) eight within (same k within) (fits_value (f k) (bytes k within))
+
+value_least : (n : ℕ) → pos 0 ≤ℤ pos n
+value_least n = omega (arith, ints)
+
+value_most : (n : ℕ) → n ≤ 255 → pos n ≤ℤ pos 255
+value_most n byte = omega (arith, ints)
+
+pub values_are : (numbers : List ℤ) (f : ℕ → ℕ) → length numbers ≡ 8 → ((k : ℕ) → k < 8 → number_at numbers k ≡ pos (f k)) → ((k : ℕ) → k < 8 → f k ≤ 255) → AreValues numbers
+values_are numbers f eight same bytes = record {
+  eight = eight;
+  least = λ k within. rw (same k within) (value_least (f k));
+  most = λ k within. rw (same k within) (value_most (f k) (bytes k within));
+}
+
+-- the whole sum of a pixel
+abbrev pub whole : ℤ → ℤ → ℤ → ℤ → ℤ → ℤ
+whole v l r a b = (pos 16 *ℤ v) +ℤ (pos 7 *ℤ l) +ℤ (pos 3 *ℤ r) +ℤ (pos 5 *ℤ a) +ℤ b
+
+whole_small : (n : ℕ) (l r a b : ℤ) → n ≤ 255 → IsError l → IsError r → IsError a → IsError b → IsSum (whole (pos n) l r a b)
+whole_small n l r a b byte small_l small_r small_a small_b = record { low = omega (arith, ints); high = omega (arith, ints) }
+
+whole_fits : (n : ℕ) (l r a b : ℤ) → n ≤ 255 → IsError l → IsError r → IsError a → IsError b → FitsSigned w16 (whole (pos n) l r a b)
+whole_fits n l r a b byte small_l small_r small_a small_b = omega (arith, ints)
+
+-- v of a pixel by its whole sum
+pub column_is : (places : List (List ℤ)) (row : List ℕ) (k x : ℕ) (l r a b : ℤ) → lane_at places 0 k ≡ pos 0
+    → l ≡ error_left (errors_in (lane_of places k)) row x → r ≡ lane_at places (x + 1 + 1) k → a ≡ lane_at places (x + 1) k → b ≡ lane_at places x k
+    → floor_16 (whole (pos (get_or row x 0)) l r a b) ≡ v_below (errors_in (lane_of places k)) row x
+column_is places row k x l r a b margin left right here corner =
+    let n : ℕ = get_or row x 0 in
+    let lane : List ℤ = lane_of places k in
+    let e : ℤ = error_left (errors_in lane) row x in
+    ap (λ z. floor_16 (whole (pos n) z r a b)) left
+    ∙ ap (λ z. floor_16 (whole (pos n) e z a b)) (right ∙ sym (lane_is places k (x + 1 + 1)))
+    ∙ ap (λ z. floor_16 (whole (pos n) e (number_at lane (x + 1 + 1)) z b)) (here ∙ sym (lane_is places k (x + 1)))
+    ∙ ap (λ z. floor_16 (whole (pos n) e (number_at lane (x + 1 + 1)) (number_at lane (x + 1)) z)) (corner ∙ sym (lane_is places k x) ∙ margined lane x (lane_is places k 0 ∙ margin))
+
+-- v and the error of a pixel, of one lane of vectors that are passed on
+pub record IsPixel (above : ℕ → ℤ) (row : List ℕ) (x k : ℕ) (numbers left : List ℤ) (dots : ℕ → Bool) : Type 0 where
+  pub error_is : number_at (kept left) k ≡ error_left above row (x + 1)
+  pub small : IsError (error_left above row (x + 1))
+  pub dot_is : dots k ≡ prints (v_below above row x)
+
+pub pixel_is : (places : List (List ℤ)) (row : List ℕ) (k x : ℕ) (values before right above corner sums numbers left : List ℤ) (dots : ℕ → Bool) → k < 8 → x < length row → get_or row x 0 ≤ 255 → lane_at places 0 k ≡ pos 0
+    → number_at values k ≡ pos (get_or row x 0) → number_at before k ≡ error_left (errors_in (lane_of places k)) row x
+    → number_at right k ≡ lane_at places (x + 1 + 1) k → number_at above k ≡ lane_at places (x + 1) k → number_at corner k ≡ lane_at places x k
+    → IsError (number_at before k) → IsError (number_at right k) → IsError (number_at above k) → IsError (number_at corner k)
+    → length sums ≡ 8 → number_at sums k ≡ whole (number_at values k) (number_at before k) (number_at right k) (number_at above k) (number_at corner k)
+    → length numbers ≡ 8 → (FitsSigned w16 (number_at (kept sums) k) → number_at numbers k ≡ floor_16 (number_at (kept sums) k))
+    → length left ≡ 8 → (IsNumber (number_at (kept numbers) k) → number_at left k ≡ error_of (number_at (kept numbers) k))
+    → (FitsSigned w16 (number_at (kept numbers) k) → dots k ≡ prints (number_at (kept numbers) k))
+    → IsPixel (errors_in (lane_of places k)) row x k numbers left dots
+pixel_is places row k x values before right above corner sums numbers left dots lanes within byte margin value_is before_is right_is above_is corner_is small_l small_r small_a small_b
+    sums_long sums_are numbers_long numbers_are left_long left_are dots_are =
+    let n : ℕ = get_or row x 0 in
+    let errors : ℕ → ℤ = errors_in (lane_of places k) in
+    let l : ℤ = number_at before k in
+    let r : ℤ = number_at right k in
+    let a : ℤ = number_at above k in
+    let b : ℤ = number_at corner k in
+    let z : ℤ = whole (pos n) l r a b in
+    let v : ℤ = v_below errors row x in
+    let sum : number_at sums k ≡ z = sums_are ∙ ap (λ w. whole w l r a b) value_is in
+    let sum_fits : FitsSigned w16 z = whole_fits n l r a b byte small_l small_r small_a small_b in
+    let kept_sum : number_at (kept sums) k ≡ z = kept_is sums k z sums_long lanes sum sum_fits in
+    let same : floor_16 z ≡ v = column_is places row k x l r a b margin before_is right_is above_is corner_is in
+    let number : number_at numbers k ≡ v = numbers_are (rw kept_sum sum_fits) ∙ ap floor_16 kept_sum ∙ same in
+    let number_low : IsNumber v = subst IsNumber same (number_small z (whole_small n l r a b byte small_l small_r small_a small_b)) in
+    let kept_number : number_at (kept numbers) k ≡ v = kept_is numbers k v numbers_long lanes number (fits_number v number_low) in
+    let error : number_at left k ≡ error_of v = left_are (rw kept_number number_low) ∙ ap error_of kept_number in
+    let error_small : IsError (error_of v) =
+    corrected-small n (error_left errors row x) (errors (x + 1)) (errors x) (left_of errors x) byte (subst IsError before_is small_l)
+    (subst IsError (right_is ∙ sym (lane_is places k (x + 1 + 1))) small_r) (subst IsError (above_is ∙ sym (lane_is places k (x + 1))) small_a)
+    (subst IsError (corner_is ∙ sym (lane_is places k x) ∙ margined (lane_of places k) x (lane_is places k 0 ∙ margin)) small_b) in
+    let next : error_of v ≡ error_left errors row (x + 1) = sym (error-inside errors row x within) ∙ ap (error_left errors row) (sym (add-one x)) in
+    record {
+      error_is = kept_is left k (error_left errors row (x + 1)) left_long lanes (error ∙ next) (fits_error _ (subst IsError next error_small));
+      small = subst IsError next error_small;
+      dot_is = dots_are (rw kept_number (fits_number v number_low)) ∙ ap prints kept_number;
+    }
+
+-- behind the last column, and past it, no error stands
+pub behind : (places : List (List ℤ)) (above : ℕ → ℤ) (row : List ℕ) (k p : ℕ) → length places ≡ length row + 2 → lane_at places (length row + 1) k ≡ pos 0 → length row < p → lane_at places p k ≡ error_left above row p
+behind places above row k zero long right after = absurd (omega arith)
+behind places above row k (suc y) long right after =
+    elim (cases_eq y (length row)) [
+      | inl last ↦ (let place : suc y ≡ length row + 1 = omega arith in ap (λ p. lane_at places p k) place ∙ right ∙ sym (error-outside above row y (omega arith)))
+      | inr past ↦ ap (λ place. number_at place k) (get_or_past places (suc y) [] (omega arith)) ∙ sym (error-outside above row y (omega arith))
+    ]

@@ -1,0 +1,53 @@
+-- What eight diffusers show, and what they keep.
+use Rattle.std.specs.Prelude.{◌≡◌, ℕ, ◌+◌, ◌-◌, ◌<◌, ◌/◌, ◌%◌, ◌^◌, ◌==◌, Bool, ℤ, pos, ◌≤ℤ◌, List, [], length, map, slice_index, slice_index_or}
+use Rattle.std.specs.Borrow.{Bor}
+use Rattle.scr_diffuse.specs.Diffuser.{StandBelow}
+use Rattle.scr_diffuse.specs.Diffusion.{IsError, diffused_bit}
+use Rattle.scr_diffuse.specs.Passes.{number_at}
+
+-- the fronts of eight pages: their width, and the rows that were handed in, eight at a time
+pub record EightFronts : Type 0 where
+  pub width : ℕ
+  pub rows : List (List (List ℕ))
+
+-- the rows of one of the pages
+abbrev pub page_in : List (List (List ℕ)) → ℕ → List (List ℕ)
+page_in rows k = map (λ row. slice_index_or row k []) rows
+
+-- the rows that stand in a list of slices
+abbrev pub rows_in : List (Bor (List ℕ)) → List (List ℕ)
+rows_in rows = map (λ row. row.now) rows
+
+-- one of them
+abbrev pub row_in : List (Bor (List ℕ)) → ℕ → List ℕ
+row_in rows k = slice_index_or (rows_in rows) k []
+
+-- bit k of a number
+abbrev pub bit_of : ℕ → ℕ → Bool
+bit_of n k = n / 2 ^ k % 2 == 1
+
+-- what lane k holds at a place; past the end 0
+abbrev pub lane_at : List (List ℤ) → ℕ → ℕ → ℤ
+lane_at places p k = number_at (slice_index_or places p []) k
+
+-- all that lane k holds
+abbrev pub lane_of : List (List ℤ) → ℕ → List ℤ
+lane_of places k = map (λ place. number_at place k) places
+
+-- eight lanes, each an error
+pub record AreErrors (numbers : List ℤ) : Type 0 where
+  pub eight : length numbers ≡ 8
+  pub each : (k : ℕ) → k < 8 → IsError (number_at numbers k)
+
+-- eight lanes, each an ink value
+pub record AreValues (numbers : List ℤ) : Type 0 where
+  pub eight : length numbers ≡ 8
+  pub least : (k : ℕ) → k < 8 → pos 0 ≤ℤ number_at numbers k
+  pub most : (k : ℕ) → k < 8 → number_at numbers k ≤ℤ pos 255
+
+-- the errors below the last rows of eight pages stand in lanes, and the pixels of these rows in bits
+pub record StandBelowAll (rows : List (List (List ℕ))) (errors : List (List ℤ)) (dots : List ℕ) : Type 0 where
+  pub room : length errors ≡ length dots + 2
+  pub errors_are : (k : ℕ) → k < 8 → StandBelow (page_in rows k) (lane_of errors k)
+  pub dots_are : (k x : ℕ) → k < 8 → x < length dots → 0 < length rows
+      → bit_of (slice_index dots x) k ≡ diffused_bit (page_in rows k) x (length rows - 1)

@@ -1,0 +1,62 @@
+// One row of eight pages, column by column, from the errors of the rows above to the pixels and the errors.
+ghost use Rattle.std.specs.Prelude.{◌≡◌, ℕ, ◌+◌, ◌<◌, ◌≤◌, ◌+ℤ◌, ◌*ℤ◌, length, pos, slice_index};
+ghost use Rattle.scr_diffuse.specs.Diffusers.{AreErrors, AreValues, bit_of, lane_at, lane_of, row_in};
+ghost use Rattle.scr_diffuse.specs.Diffusion.{IsError, error_left, prints, v_below};
+ghost use Rattle.scr_diffuse.specs.Passes.{errors_in, number_at};
+
+use crate::lanes::{dots_of, less_dots, load, plus, sixteenths, store, times, values_at};
+use std::simd::prelude::*;
+
+/// Makes of eight rows of values the pixels, bit k of a byte for row k. `errors` are those of the rows above,
+/// in lane k those of row k, with a margin of one place on both sides, and become those of these rows.
+pub(crate) fn diffuse_rows(values: &[&[u8]; 8], errors: &mut [[i16; 8]], dots: &mut [u8])
+    requires room { length errors.old ≡ length dots.old + 2 }
+    requires values { (k : ℕ) → k < 8 → length (row_in values.now k) ≡ length dots.old }
+    requires errors { (p k : ℕ) → k < 8 → IsError (lane_at errors.old p k) }
+    requires left { (k : ℕ) → k < 8 → lane_at errors.old 0 k ≡ pos 0 }
+    requires right { (k : ℕ) → k < 8 → lane_at errors.old (length dots.old + 1) k ≡ pos 0 }
+    ensures dots { (k x : ℕ) → k < 8 → x < length dots.old →
+        bit_of (slice_index dots.new x) k
+        ≡ prints (v_below (errors_in (lane_of errors.old k)) (row_in values.now k) x) }
+    ensures errors { (k p : ℕ) → k < 8 →
+        lane_at errors.new p k ≡ error_left (errors_in (lane_of errors.old k)) (row_in values.now k) p }
+    ensures small { (p k : ℕ) → k < 8 → IsError (lane_at errors.new p k) }
+{
+    let mut above_left = load(errors, 0);
+    let mut above = load(errors, 1);
+    let mut left = load(errors, 0);
+    for x in 0..dots.len() {
+        let above_right = load(errors, x + 2);
+        let sums = whole_sums(values_at(values, x), left, above_right, above, above_left);
+        let numbers = sixteenths(sums);
+        left = less_dots(numbers);
+        dots[x] = dots_of(numbers);
+        store(errors, x + 1, left);
+        above_left = above;
+        above = above_right;
+    }
+}
+
+/// The whole sums of a column.
+#[inline(always)]
+fn whole_sums(
+    values: i16x8,
+    left: i16x8,
+    above_right: i16x8,
+    above: i16x8,
+    above_left: i16x8,
+) -> i16x8
+    requires values { AreValues values }
+    requires left { AreErrors left }
+    requires above_right { AreErrors above_right }
+    requires above { AreErrors above }
+    requires above_left { AreErrors above_left }
+    ensures eight { length result ≡ 8 }
+    ensures sums { (k : ℕ) → k < 8 → number_at result k
+        ≡ ((pos 16 *ℤ number_at values k) +ℤ (pos 7 *ℤ number_at left k)
+        +ℤ (pos 3 *ℤ number_at above_right k) +ℤ (pos 5 *ℤ number_at above k) +ℤ number_at above_left k) }
+{
+    let right = plus(times(16, values), times(3, above_right));
+    let corner = plus(times(5, above), above_left);
+    plus(plus(right, corner), times(7, left))
+}
