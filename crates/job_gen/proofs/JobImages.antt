@@ -1,5 +1,5 @@
 -- The images of a job pass the tests of their uses, and have its pixels.
-use Rattle.std.proofs.Common.{◌≡◌, ℕ, zero, suc, ◌+◌, ◌*◌, ◌/◌, ◌%◌, ◌<◌, ◌≤◌, Bool, true, false, ◌&&◌, ◌==◌, nat_lt, if◌then◌else◌, List, length, map, slice_index, Some, Ok, Result, IfOk, refl, sym, ap, subst, ◌∙◌, arith}
+use Rattle.std.proofs.Common.{◌≡◌, ℕ, zero, suc, ◌+◌, ◌*◌, ◌/◌, ◌%◌, ◌<◌, ◌≤◌, Bool, true, false, ◌&&◌, ◌==◌, nat_lt, if◌then◌else◌, List, length, map, slice_index, Ok, Result, IfOk, refl, sym, ap, subst, ◌∙◌, arith}
 use Rattle.std.specs.Global.{Vec}
 use Rattle.std.specs.List.{flat_map, range_with_len}
 use Rattle.pr_base.specs.declared.memory.NoMemory.{NoMemory}
@@ -10,6 +10,7 @@ use Rattle.pr_base.specs.Bits.{bit_at, bit_number, byte_bit, packed_byte, packed
 use Rattle.pr_base.specs.Row.{row_size}
 use Rattle.pr_base.proofs.Bits.{length-packed_row}
 use Rattle.tif_strips.specs.Strips.{image_row}
+use Rattle.tif_image.specs.declared.usage.BilevelUse.TheVariants.{Line as LineUse, Mask as MaskUse}
 use Rattle.tif_image.specs.Image.{is_marked}
 use Rattle.tif_make.specs.declared.form.ImageForm.{ImageForm}
 use Rattle.tif_make.specs.declared.form.Planar.TheVariants.{Chunky, Separate}
@@ -21,8 +22,9 @@ use Rattle.job_gen.specs.Images.{contone_bytes, contone_form, contone_pixel, con
 use Rattle.job_gen.specs.Made.{planar_number, shape_for}
 use Rattle.job_gen.specs.Numbers.{image_length, image_width, size_of}
 use Rattle.job_gen.specs.Passes.{ArePassing, IsContoneFile, IsLineFile, IsMaskFile, contone_shape_of, line_shape_of, mask_shape_of}
-use Rattle.job_gen.proofs.MadeImage.{IsMakeable, contone-back, contone-row-back, file-within, line-back, line-row-back, mask-back, mask-row-back, order-of, photometric-of}
+use Rattle.job_gen.proofs.MadeImage.{IsMakeable, bilevel-back, bilevel-row-back, contone-back, contone-row-back, file-within, order-of, photometric-of}
 use Rattle.job_gen.proofs.MadeStrips.{item-at, row-cut}
+use Rattle.job_gen.proofs.MadeTests.{line_is_bilevel, mask_is_bilevel}
 use Rattle.job_gen.proofs.ImageRows.{contone_row-length, rows-length}
 
 -- ---- the bits of a packed row
@@ -237,11 +239,11 @@ line-file n =
     let file = image_file (line_form n) (line_rows n) in
     let s = sides n in
     record {
-      passes = line-back (line_form n) (line_rows n) refl can;
+      passes = bilevel-back LineUse (line_form n) (line_rows n) line_is_bilevel can;
       pixels = λ x y wide high.
           ap (λ p. is_marked p (image_row (line_shape_of n) file y) x) (photometric-of (line_form n) (line_rows n) can)
           ∙ ap (λ row. bit_at row x)
-          (line-row-back (line_form n) (line_rows n) y refl can high
+          (bilevel-row-back LineUse (line_form n) (line_rows n) y line_is_bilevel can high
           ∙ cut-row (line_row (image_width n)) (row_size (image_width n)) (image_length n) y (λ k. line-row-length (image_width n) k) high)
           ∙ line-bit (image_width n) x y wide;
       small = few-all (line_form n) (line_rows n) can
@@ -255,11 +257,11 @@ mask-file n =
     let file = image_file (mask_form n) (mask_rows n) in
     let s = sides n in
     record {
-      passes = mask-back (mask_form n) (mask_rows n) refl can;
+      passes = bilevel-back MaskUse (mask_form n) (mask_rows n) mask_is_bilevel can;
       pixels = λ x y wide high.
           ap (λ p. is_marked p (image_row (mask_shape_of n) file y) x) (photometric-of (mask_form n) (mask_rows n) can)
           ∙ ap (λ row. bit_at row x)
-          (mask-row-back (mask_form n) (mask_rows n) y refl can high
+          (bilevel-row-back MaskUse (mask_form n) (mask_rows n) y mask_is_bilevel can high
           ∙ cut-row (mask_row (image_width n)) (row_size (image_width n)) (image_length n) y (λ k. mask-row-length (image_width n) k) high)
           ∙ mask-bit (image_width n) x y wide;
       small = few-all (mask_form n) (mask_rows n) can

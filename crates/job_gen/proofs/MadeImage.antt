@@ -4,10 +4,10 @@ use Rattle.std.proofs.lemmas.List.{length-append}
 use Rattle.tif_dir.specs.Directory.{header_of}
 use Rattle.tif_strips.specs.declared.shape.Shape.{Shape}
 use Rattle.tif_strips.specs.Strips.{image_row, plane_row_length as read_row_length, planes as read_planes}
-use Rattle.tif_image.specs.declared.usage.BilevelUse.TheVariants.{Line as LineUse, Mask as MaskUse}
+use Rattle.tif_image.specs.declared.usage.BilevelUse.{BilevelUse}
 use Rattle.tif_image.specs.Image.{bilevel_shape, contone_shape, photometric}
 use Rattle.tif_make.specs.declared.form.ImageForm.{ImageForm}
-use Rattle.tif_make.specs.declared.form.Kind.TheVariants.{Contone, Line, Mask}
+use Rattle.tif_make.specs.declared.form.Kind.TheVariants.{Contone}
 use Rattle.tif_make.specs.declared.form.Planar.{Planar}
 use Rattle.tif_make.specs.declared.form.Planar.TheVariants.{Chunky, Separate}
 use Rattle.tif_make.specs.Fields.{front}
@@ -20,7 +20,7 @@ use Rattle.job_gen.specs.Made.{planar_number, shape_for}
 use Rattle.job_gen.proofs.MadeDirectory.{header-back}
 use Rattle.job_gen.proofs.MadeFields.{directory-found, first-within, front-length, looks, made_counts, made_places}
 use Rattle.job_gen.proofs.MadeStrips.{HasStrips, IsShapeOf, image-row-is, strips-pass}
-use Rattle.job_gen.proofs.MadeTests.{contone-passes, line-passes, mask-passes, photometric-back}
+use Rattle.job_gen.proofs.MadeTests.{IsBilevelKind, bilevel-passes, contone-passes, photometric-back}
 
 -- what an image needs to be made
 pub record IsMakeable (form : ImageForm) (rows : List ℕ) : Type 0 where
@@ -64,22 +64,11 @@ contone-same form is = record {
   packed_is = refl;
 }
 
-line-same : (form : ImageForm) → form.kind ≡ Line → IsShapeOf form (shape_for 1 1 form)
+bilevel-same : (usage : BilevelUse) (form : ImageForm) → IsBilevelKind usage form.kind → IsShapeOf form (shape_for 1 1 form)
 unfolding read_planes read_row_length
-line-same form is = record {
-  planes_are = ap (λ kind. planes_of kind form.planar) (sym is);
-  row_is = ap (λ kind. plane_row_bytes kind form.planar form.width) (sym is);
-  width_is = refl;
-  length_is = refl;
-  rows_are = refl;
-  packed_is = refl;
-}
-
-mask-same : (form : ImageForm) → form.kind ≡ Mask → IsShapeOf form (shape_for 1 1 form)
-unfolding read_planes read_row_length
-mask-same form is = record {
-  planes_are = ap (λ kind. planes_of kind form.planar) (sym is);
-  row_is = ap (λ kind. plane_row_bytes kind form.planar form.width) (sym is);
+bilevel-same usage form kind = record {
+  planes_are = sym (kind.planes form.planar);
+  row_is = sym (kind.row form.planar form.width);
   width_is = refl;
   length_is = refl;
   rows_are = refl;
@@ -99,27 +88,17 @@ pub contone-row-back : (form : ImageForm) (rows : List ℕ) (y : ℕ) → form.k
 contone-row-back form rows y is can below =
     image-row-is form rows (image_file form rows) (shape_for 4 8 form) (made-strips form rows (shape_for 4 8 form) can (contone-same form is)) y below
 
-pub line-back : (form : ImageForm) (rows : List ℕ) → form.kind ≡ Line → IsMakeable form rows → bilevel_shape LineUse (image_file form rows) ≡ Ok (shape_for 1 1 form)
-line-back form rows is can =
-    line-passes form (made_places form rows) (made_counts form rows) (image_file form rows) is can.form_is can.small
+pub bilevel-back : (usage : BilevelUse) (form : ImageForm) (rows : List ℕ) → IsBilevelKind usage form.kind → IsMakeable form rows
+    → bilevel_shape usage (image_file form rows) ≡ Ok (shape_for 1 1 form)
+bilevel-back usage form rows kind can =
+    bilevel-passes usage form (made_places form rows) (made_counts form rows) (image_file form rows) kind can.form_is can.small
     (looks form rows can.form_is can.has (omega (arith, can.small))) (directory-found form rows can.form_is)
-    (strips-pass form rows (image_file form rows) (shape_for 1 1 form) (made-strips form rows (shape_for 1 1 form) can (line-same form is)))
+    (strips-pass form rows (image_file form rows) (shape_for 1 1 form) (made-strips form rows (shape_for 1 1 form) can (bilevel-same usage form kind)))
 
-pub line-row-back : (form : ImageForm) (rows : List ℕ) (y : ℕ) → form.kind ≡ Line → IsMakeable form rows → y < form.length
+pub bilevel-row-back : (usage : BilevelUse) (form : ImageForm) (rows : List ℕ) (y : ℕ) → IsBilevelKind usage form.kind → IsMakeable form rows → y < form.length
     → image_row (shape_for 1 1 form) (image_file form rows) y ≡ row_at (row_length form) rows y
-line-row-back form rows y is can below =
-    image-row-is form rows (image_file form rows) (shape_for 1 1 form) (made-strips form rows (shape_for 1 1 form) can (line-same form is)) y below
-
-pub mask-back : (form : ImageForm) (rows : List ℕ) → form.kind ≡ Mask → IsMakeable form rows → bilevel_shape MaskUse (image_file form rows) ≡ Ok (shape_for 1 1 form)
-mask-back form rows is can =
-    mask-passes form (made_places form rows) (made_counts form rows) (image_file form rows) is can.form_is can.small
-    (looks form rows can.form_is can.has (omega (arith, can.small))) (directory-found form rows can.form_is)
-    (strips-pass form rows (image_file form rows) (shape_for 1 1 form) (made-strips form rows (shape_for 1 1 form) can (mask-same form is)))
-
-pub mask-row-back : (form : ImageForm) (rows : List ℕ) (y : ℕ) → form.kind ≡ Mask → IsMakeable form rows → y < form.length
-    → image_row (shape_for 1 1 form) (image_file form rows) y ≡ row_at (row_length form) rows y
-mask-row-back form rows y is can below =
-    image-row-is form rows (image_file form rows) (shape_for 1 1 form) (made-strips form rows (shape_for 1 1 form) can (mask-same form is)) y below
+bilevel-row-back usage form rows y kind can below =
+    image-row-is form rows (image_file form rows) (shape_for 1 1 form) (made-strips form rows (shape_for 1 1 form) can (bilevel-same usage form kind)) y below
 
 -- PhotometricInterpretation and the byte order
 pub photometric-of : (form : ImageForm) (rows : List ℕ) → IsMakeable form rows → photometric (image_file form rows) ≡ photometric_of form.kind

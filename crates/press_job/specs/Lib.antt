@@ -8,3 +8,4 @@ pub mod Fit
 pub mod Job
 pub mod Tested
 pub mod Spotless
+pub mod Told

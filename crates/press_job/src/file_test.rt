@@ -96,34 +96,34 @@ pub(crate) fn test_file(plan: &Plan, file: usize, bytes: &[u8]) -> Result<(), Ta
         line: false,
         mask: false,
     };
-    test_pages(&mut test, file, plan.pages.as_slice())
+    test_uses_on_pages(&mut test, file, plan.pages.as_slice())
 }
 
 /// Tests it for its uses on these pages.
-fn test_pages(test: &mut FileTest<'_>, file: usize, pages: &[Page]) -> Result<(), TagFault>
+fn test_uses_on_pages(test: &mut FileTest<'_>, file: usize, pages: &[Page]) -> Result<(), TagFault>
     ensures first { result_err result ≡ first_some (page_fault file test.old) pages.now }
     ensures file { test.new ≡ test.old }
 {
     for page in pages {
-        test_layers(test, file, layers_on(page))?;
+        test_uses_in_layers(test, file, layers_on(page))?;
     }
     Ok(())
 }
 
 /// Tests it for its uses in these layers.
-fn test_layers(test: &mut FileTest<'_>, file: usize, layers: &[PlanLayer]) -> Result<(), TagFault>
+fn test_uses_in_layers(test: &mut FileTest<'_>, file: usize, layers: &[PlanLayer]) -> Result<(), TagFault>
     ensures first { result_err result ≡ first_some (layer_fault file test.old) layers.now }
     ensures file { test.new ≡ test.old }
 {
     for layer in layers {
-        test_layer(test, file, layer)?;
+        test_uses_in_layer(test, file, layer)?;
     }
     Ok(())
 }
 
 /// Tests it for its uses in this layer.
 #[tactic(auto, unfolding(crate::specs::Tests::layer_fault))]
-fn test_layer(test: &mut FileTest<'_>, file: usize, layer: &PlanLayer) -> Result<(), TagFault>
+fn test_uses_in_layer(test: &mut FileTest<'_>, file: usize, layer: &PlanLayer) -> Result<(), TagFault>
     ensures first { result_err result ≡ layer_fault file test.old layer.now }
     ensures file { test.new ≡ test.old }
 {

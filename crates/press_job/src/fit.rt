@@ -23,30 +23,30 @@ pub(crate) struct Misfit {
 pub(crate) fn test_fit(plan: &Plan, files: &Files) -> Result<(), Misfit>
     ensures { result_err result ≡ fault_of_layers plan.now files.now }
 {
-    test_pages(plan.pages.as_slice(), files)
+    test_fit_on_pages(plan.pages.as_slice(), files)
 }
 
-fn test_pages(pages: &[Page], files: &Files) -> Result<(), Misfit>
+fn test_fit_on_pages(pages: &[Page], files: &Files) -> Result<(), Misfit>
     ensures { result_err result ≡ first_some (page_fit_fault files.now) pages.now }
 {
     for page in pages {
-        test_layers(layers_on(page), files)?;
+        test_fit_of_layers(layers_on(page), files)?;
     }
     Ok(())
 }
 
-fn test_layers(layers: &[PlanLayer], files: &Files) -> Result<(), Misfit>
+fn test_fit_of_layers(layers: &[PlanLayer], files: &Files) -> Result<(), Misfit>
     ensures { result_err result ≡ first_some (fit_fault files.now) layers.now }
 {
     for layer in layers {
-        test_layer(layer, files)?;
+        test_fit_of_layer(layer, files)?;
     }
     Ok(())
 }
 
 /// Tests the crop of a layer, and then its mask.
 #[tactic(auto, unfolding(crate::specs::Tests::fit_fault))]
-fn test_layer(layer: &PlanLayer, files: &Files) -> Result<(), Misfit>
+fn test_fit_of_layer(layer: &PlanLayer, files: &Files) -> Result<(), Misfit>
     ensures { result_err result ≡ fit_fault files.now layer.now }
 {
     let bytes = files.bytes(layer.file);

@@ -1,10 +1,9 @@
 // Loading the files of a plan, each tested as soon as it is loaded.
-ghost use Rattle.std.specs.Prelude.{◌≡◌, ◌+◌, ◌<◌, ◌≤◌, Contains, Some, None, IfOk, IfSome, IsErrOf, OnOk, length, sum_by};
+ghost use Rattle.std.specs.Prelude.{◌≡◌, ◌+◌, ◌<◌, ◌≤◌, Some, None, IfOk, IfSome, OnOk, length, sum_by};
 ghost use Rattle.plan_json.specs.Plan.{IsPlan};
-ghost use Rattle.pr_base.specs.declared.fault.FaultKind.{FaultKind};
-ghost use Rattle.pr_base.specs.Count.{Rose};
 ghost use Rattle.pr_ports.specs.Shelf.{IsHeldAt, held_at};
 ghost use Rattle.press_job.specs.Tests.{ArePassed, fault_of_file};
+ghost use Rattle.press_job.specs.Told.{TellsShelf};
 ghost use Rattle.press_job.specs.Verdict.{AreFirst, IfFile, IfShelf, IsMissing, OfFiles, WasFound, limit_behind as limit_after, name_of, named_fault, path_of, verdict_before, verdict_on};
 
 use crate::Refusal;
@@ -84,37 +83,21 @@ fn load_file<H: Shelf>(
         verdict_on plan.now folder.now limit file (held_at held (path_of plan.now folder.now file))
         ≡ Some (Refusal.File fault))) }
     ensures found { IfFile result (WasFound plan.now folder.now (H.held shelf.old) limit file) }
-    ensures named { IfFile result (λ fault. Contains plan.now.files fault.file) }
-    ensures too_long { IfFile result
-        (λ fault. fault.kind ≡ FaultKind.TooLong → Rose (H.longs shelf.old) (H.longs shelf.new)) }
     ensures path { IfShelf result (λ path. path ≡ path_of plan.now folder.now file) }
-    ensures counted { IfShelf result (λ _. Rose (H.faults shelf.old) (H.faults shelf.new)) }
-    ensures missed { IfShelf result (λ path. IfSome (H.missed shelf.new) (λ last. last ≡ Some path)) }
-    ensures done_missed { OnOk result (H.missed shelf.new ≡ H.missed shelf.old) }
-    ensures file_missed { IfFile result (λ _. H.missed shelf.new ≡ H.missed shelf.old) }
-    ensures memory_missed { IsErrOf result Refusal.Memory → H.missed shelf.new ≡ H.missed shelf.old }
-    ensures held { H.held shelf.new ≡ H.held shelf.old }
-    ensures faults_stay { H.faults shelf.old ≤ H.faults shelf.new }
-    ensures longs_stay { H.longs shelf.old ≤ H.longs shelf.new }
+    ensures shelf { TellsShelf H.Shelf plan.now shelf.old shelf.new result }
 {
-    let Ok(path) = file_path(alloc, plan, folder, file) else {
-        return Err(Refusal::Memory);
-    };
+    let path = file_path(alloc, plan, folder, file)?;
     let bytes = match shelf.load(path.as_str(), limit) {
         Ok(bytes) => bytes,
         Err(LoadFault::Failed) => return Err(Refusal::Shelf(path)),
         Err(LoadFault::TooLong { .. }) => {
-            let Ok(fault) = fault_of(alloc, plan, file, 0, FaultKind::TooLong) else {
-                return Err(Refusal::Memory);
-            };
+            let fault = fault_of(alloc, plan, file, 0, FaultKind::TooLong)?;
             return Err(Refusal::File(fault));
         }
         Err(LoadFault::Memory) => return Err(Refusal::Memory),
     };
     if let Err(fault) = test_file(plan, file, bytes.as_slice()) {
-        let Ok(fault) = fault_of(alloc, plan, file, fault.tag, fault.kind) else {
-            return Err(Refusal::Memory);
-        };
+        let fault = fault_of(alloc, plan, file, fault.tag, fault.kind)?;
         return Err(Refusal::File(fault));
     }
     Ok(bytes)
@@ -141,32 +124,17 @@ pub(crate) fn load_files<H: Shelf>(
     ensures faulty { IfFile result (λ fault. OfFiles (H.held shelf.old)
         (λ held. verdict_before plan.now folder.now held (length plan.now.files)
         ≡ Some (Refusal.File fault))) }
-    ensures named { IfFile result (λ fault. Contains plan.now.files fault.file) }
-    ensures too_long { IfFile result
-        (λ fault. fault.kind ≡ FaultKind.TooLong → Rose (H.longs shelf.old) (H.longs shelf.new)) }
     ensures path { IfShelf result (IsMissing plan.now folder.now (H.held shelf.old)) }
-    ensures counted { IfShelf result (λ _. Rose (H.faults shelf.old) (H.faults shelf.new)) }
-    ensures missed { IfShelf result (λ path. IfSome (H.missed shelf.new) (λ last. last ≡ Some path)) }
-    ensures done_missed { OnOk result (H.missed shelf.new ≡ H.missed shelf.old) }
-    ensures file_missed { IfFile result (λ _. H.missed shelf.new ≡ H.missed shelf.old) }
-    ensures memory_missed { IsErrOf result Refusal.Memory → H.missed shelf.new ≡ H.missed shelf.old }
-    ensures held { H.held shelf.new ≡ H.held shelf.old }
-    ensures faults_stay { H.faults shelf.old ≤ H.faults shelf.new }
-    ensures longs_stay { H.longs shelf.old ≤ H.longs shelf.new }
+    ensures shelf { TellsShelf H.Shelf plan.now shelf.old shelf.new result }
 {
     let count = plan.files().len();
     let mut files = Files::new(alloc);
     let mut loaded = 0;
     for file in 0..count {
         let limit = limit_behind(loaded);
-        let bytes = match load_file(alloc, plan, folder, limit, file, shelf) {
-            Ok(bytes) => bytes,
-            Err(refusal) => return Err(refusal),
-        };
+        let bytes = load_file(alloc, plan, folder, limit, file, shelf)?;
         loaded += bytes.len() as u64;
-        let Ok(()) = files.push(bytes) else {
-            return Err(Refusal::Memory);
-        };
+        files.push(bytes)?;
     }
     Ok(files)
 }

@@ -1,7 +1,6 @@
 // From a plan and a shelf to a job.
-ghost use Rattle.std.specs.Prelude.{◌≡◌, ◌≤◌, Contains, IfOk, IfSome, IsErrOf, None, OnOk, Some, length, sum_by};
-ghost use Rattle.pr_base.specs.Count.{Rose};
-ghost use Rattle.pr_base.specs.declared.fault.FaultKind.{FaultKind};
+ghost use Rattle.std.specs.Prelude.{◌≡◌, ◌≤◌, IfOk, IfSome, None, OnOk, Some, length, sum_by};
+ghost use Rattle.press_job.specs.Told.{TellsShelf};
 ghost use Rattle.press_job.specs.Verdict.{AreSound, IfFile, IfShelf, IsFirstFault, IsMissing, OfFiles, files_in, verdict_on_files};
 
 use crate::fit::test_fit;
@@ -39,31 +38,16 @@ pub fn prepare<H: Shelf>(
     ensures faulty { IfFile result (λ fault. OfFiles (H.held shelf.old)
         (IsFirstFault plan files.now fault)) }
 
-    // A file is told too long, or a path told as failed, only where the shelf counted that in this call.
-    ensures named { IfFile result (λ fault. Contains plan.files fault.file) }
-    ensures too_long { IfFile result
-        (λ fault. fault.kind ≡ FaultKind.TooLong → Rose (H.longs shelf.old) (H.longs shelf.new)) }
+    // And what the shelf tells.
     ensures path { IfShelf result (IsMissing plan files.now (H.held shelf.old)) }
-    ensures counted { IfShelf result (λ _. Rose (H.faults shelf.old) (H.faults shelf.new)) }
-    ensures missed { IfShelf result (λ path. IfSome (H.missed shelf.new) (λ last. last ≡ Some path)) }
-    ensures done_missed { OnOk result (H.missed shelf.new ≡ H.missed shelf.old) }
-    ensures file_missed { IfFile result (λ _. H.missed shelf.new ≡ H.missed shelf.old) }
-    ensures memory_missed { IsErrOf result Refusal.Memory → H.missed shelf.new ≡ H.missed shelf.old }
-
-    ensures held { H.held shelf.new ≡ H.held shelf.old }
-    ensures faults_stay { H.faults shelf.old ≤ H.faults shelf.new }
-    ensures longs_stay { H.longs shelf.old ≤ H.longs shelf.new }
+    ensures shelf { TellsShelf H.Shelf plan shelf.old shelf.new result }
 {
     let loaded = load_files(alloc, &plan, files, shelf)?;
     if let Err(misfit) = test_fit(&plan, &loaded) {
-        let Ok(fault) = fault_of(alloc, &plan, misfit.file, misfit.tag, misfit.kind) else {
-            return Err(Refusal::Memory);
-        };
+        let fault = fault_of(alloc, &plan, misfit.file, misfit.tag, misfit.kind)?;
         return Err(Refusal::File(fault));
     }
-    let Ok(rows) = RowPlan::of(alloc, &plan) else {
-        return Err(Refusal::Memory);
-    };
+    let rows = RowPlan::of(alloc, &plan)?;
     let shape = plate_shape(&plan);
     Ok(Job::of(plan, rows, shape, loaded))
 }

@@ -1,7 +1,8 @@
 // Why a job wasn't prepared.
+ghost use Rattle.std.specs.Prelude.{◌≡◌};
+ghost use Rattle.press_job.specs.declared.refusal.Refusal.TheVariants.{Memory};
 
 use pr_base::{FileFault, NoMemory, PathText};
-use std::alloc::{AllocError, AllocFailed};
 use thiserror::Error;
 
 /// Why a plan's files don't make a job.
@@ -18,31 +19,9 @@ pub enum Refusal {
 }
 
 impl From<NoMemory> for Refusal {
-    ghost use Rattle.std.specs.Prelude.{◌≡◌};
+    ghost from_gives = { λ _ refusal. refusal ≡ Memory };
 
-    fn from(_error: NoMemory) -> Refusal
-        ensures { result ≡ Refusal.Memory }
-    {
-        Refusal::Memory
-    }
-}
-
-impl From<AllocError> for Refusal {
-    ghost use Rattle.std.specs.Prelude.{◌≡◌};
-
-    fn from(_error: AllocError) -> Refusal
-        ensures { result ≡ Refusal.Memory }
-    {
-        Refusal::Memory
-    }
-}
-
-impl<T: Drop> From<AllocFailed<T>> for Refusal {
-    ghost use Rattle.std.specs.Prelude.{◌≡◌};
-
-    fn from(_error: AllocFailed<T>) -> Refusal
-        ensures { result ≡ Refusal.Memory }
-    {
+    fn from(_error: NoMemory) -> Refusal {
         Refusal::Memory
     }
 }

@@ -2,17 +2,17 @@ use Rattle.std.proofs.Common.{arith}
 use Rattle.std.proofs.lemmas.Result.{err_from_is_err_and}
 use Rattle.press_job.specs.Tests.{fit_fault}
 use Rattle.press_job.proofs.Firsts.{first_some-on, first_some-found, first_some-end}
-use Rattle.press_job.proofs.fit.test_layers.Goals as goal
+use Rattle.press_job.proofs.fit.test_fit_of_layers.Goals as goal
 
 pub loop-layer-preserved : goal.loop-layer-preserved
 loop-layer-preserved c =
-    first_some-on (fit_fault c.args.files.now) c.args.layers.now c.loop-layer.layer-index _ (omega arith) c.loop-layer.invariant (c.in_ok-test_layer.ensures)
+    first_some-on (fit_fault c.args.files.now) c.args.layers.now c.loop-layer.layer-index _ (omega arith) c.loop-layer.invariant (c.in_ok-test_fit_of_layer.ensures)
 
-pub returns-in_err-test_layer : goal.returns-in_err-test_layer
-returns-in_err-test_layer c =
+pub returns-in_err-test_fit_of_layer : goal.returns-in_err-test_fit_of_layer
+returns-in_err-test_fit_of_layer c =
     let p = err_from_is_err_and c.from_residual.result c.from_residual.ensures.1 in
     rw (p.1, p.2)
-    (first_some-found (fit_fault c.args.files.now) c.args.layers.now c.loop-layer.layer-index _ _ (omega arith) c.loop-layer.invariant (c.in_err-test_layer.ensures))
+    (first_some-found (fit_fault c.args.files.now) c.args.layers.now c.loop-layer.layer-index _ _ (omega arith) c.loop-layer.invariant (c.in_err-test_fit_of_layer.ensures))
 
 pub returns : goal.returns
 returns c = first_some-end (fit_fault c.args.files.now) c.args.layers.now c.loop-layer.layer-index (omega arith) (omega arith) c.loop-layer.invariant

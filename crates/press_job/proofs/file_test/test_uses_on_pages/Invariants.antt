@@ -1,7 +1,7 @@
 use Rattle.std.proofs.Common.{◌≡◌, drop}
 use Rattle.press_job.specs.First.{first_some}
 use Rattle.press_job.specs.Tests.{page_fault}
-use Rattle.press_job.proofs.file_test.test_pages.Given as goal
+use Rattle.press_job.proofs.file_test.test_uses_on_pages.Given as goal
 
 abbrev pub invariant-loop-page : goal.invariant-loop-page
 invariant-loop-page l = record {

@@ -1,7 +1,7 @@
 use Rattle.std.proofs.Common.{◌≡◌, drop}
 use Rattle.press_job.specs.First.{first_some}
 use Rattle.press_job.specs.Tests.{layer_fault}
-use Rattle.press_job.proofs.file_test.test_layers.Given as goal
+use Rattle.press_job.proofs.file_test.test_uses_in_layers.Given as goal
 
 abbrev pub invariant-loop-layer : goal.invariant-loop-layer
 invariant-loop-layer l = record {

@@ -1,7 +1,7 @@
 use Rattle.std.proofs.Common.{◌≡◌, drop}
 use Rattle.press_job.specs.First.{first_some}
 use Rattle.press_job.specs.Tests.{page_fit_fault}
-use Rattle.press_job.proofs.fit.test_pages.Given as goal
+use Rattle.press_job.proofs.fit.test_fit_on_pages.Given as goal
 
 abbrev pub invariant-loop-page : goal.invariant-loop-page
 invariant-loop-page l = first_some (page_fit_fault l.files) l.pages ≡ first_some (page_fit_fault l.files) (drop l.page-index l.pages)

@@ -1,0 +1,19 @@
+use Rattle.std.proofs.Common.{◌∙◌, ap, arith}
+use Rattle.std.proofs.lemmas.Result.{err_from_is_err_and}
+use Rattle.press_job.specs.First.{first_some}
+use Rattle.press_job.specs.Tests.{fit_fault, page_fit_fault}
+use Rattle.press_job.proofs.Firsts.{first_some-on, first_some-found, first_some-end}
+use Rattle.press_job.proofs.fit.test_fit_on_pages.Goals as goal
+
+pub loop-page-preserved : goal.loop-page-preserved
+loop-page-preserved c =
+    first_some-on (page_fit_fault c.args.files.now) c.args.pages.now c.loop-page.page-index c.page-item.result (omega arith) c.loop-page.invariant (c.in_ok-test_fit_of_layers.ensures ∙ ap (first_some (fit_fault c.args.files.now)) c.layers_on.ensures ∙ ap (page_fit_fault c.args.files.now) c.page-item.is)
+
+pub returns-in_err-test_fit_of_layers : goal.returns-in_err-test_fit_of_layers
+returns-in_err-test_fit_of_layers c =
+    let p = err_from_is_err_and c.from_residual.result c.from_residual.ensures.1 in
+    rw (p.1, p.2)
+    (first_some-found (page_fit_fault c.args.files.now) c.args.pages.now c.loop-page.page-index c.page-item.result _ (omega arith) c.loop-page.invariant (c.in_err-test_fit_of_layers.ensures ∙ ap (first_some (fit_fault c.args.files.now)) c.layers_on.ensures ∙ ap (page_fit_fault c.args.files.now) c.page-item.is))
+
+pub returns : goal.returns
+returns c = first_some-end (page_fit_fault c.args.files.now) c.args.pages.now c.loop-page.page-index (omega arith) (omega arith) c.loop-page.invariant
