@@ -10,23 +10,14 @@ folder=${1:-$(mktemp -d)}
 program=$folder/crates/bench_plan
 mkdir -p "$program/src"
 cp "$here/../HANDLES" "$folder"
+: > "$folder/crates.txt"
 for crate in pr_base tif_dir tif_packbits tif_plate plan_words plan_parts plan_json plan_pages plan_rows; do
     rm -rf "$folder/crates/$crate"
     mkdir "$folder/crates/$crate"
     (cd "$here/../crates/$crate" && tar cf - --exclude=out .) | tar xf - -C "$folder/crates/$crate"
+    grep "^$crate:" "$here/../crates.txt" >> "$folder/crates.txt"
 done
-cat > "$folder/crates.txt" <<'LIST'
-pr_base: byteorder thiserror
-tif_dir: pr_base byteorder
-tif_packbits: byteorder thiserror
-tif_plate: pr_base tif_dir tif_packbits byteorder
-plan_words: pr_base serde_json thiserror
-plan_parts: plan_words pr_base serde_json
-plan_json: plan_parts plan_words pr_base serde_json indexmap
-plan_pages: plan_json plan_parts plan_words pr_base
-plan_rows: plan_pages plan_json plan_parts plan_words tif_plate tif_packbits pr_base
-bench_plan: plan_rows plan_json pr_base anyhow
-LIST
+echo 'bench_plan: plan_rows plan_json pr_base anyhow' >> "$folder/crates.txt"
 cat > "$program/src/main.rt" <<'CODE'
 // Times the reading of a plan, and its row plan's calls.
 #![tactic(auto)]
