@@ -8,7 +8,6 @@ use Rattle.std.proofs.lemmas.Bool.Decides.{nat_tests}
 use Rattle.std.proofs.lemmas.List.{get_or_append_left, get_or_push, length_push, map-id}
 use Rattle.std.proofs.lemmas.List.FromFn.{map-range_with_len_more}
 use Rattle.std.proofs.lemmas.List.Sums.{sum_by-cons}
-use Rattle.pr_base.specs.Count.{Rose}
 use Rattle.pr_base.specs.declared.fault.FileFault.{FileFault}
 use Rattle.pr_base.specs.declared.fault.TagFault.{TagFault}
 use Rattle.pr_ports.specs.Shelf.{held_at}
@@ -17,7 +16,7 @@ use Rattle.press_job.specs.declared.refusal.Refusal.{Refusal}
 use Rattle.press_job.specs.declared.refusal.Refusal.TheVariants.{File, Shelf, Memory}
 use Rattle.press_job.specs.First.{first_some}
 use Rattle.press_job.specs.Tests.{ArePassed, fault_of_file}
-use Rattle.press_job.specs.Verdict.{AreFirst, IfFile, IfShelf, IsMissing, first_files, held_bytes, limit_behind, path_of, verdict_at, verdict_before, verdict_on}
+use Rattle.press_job.specs.Verdict.{AreFirst, IfFile, first_files, held_bytes, limit_behind, path_of, verdict_at, verdict_before, verdict_on}
 
 -- ---- one more question
 
@@ -132,12 +131,6 @@ IfFile-weaker A B (File fault) P Q step h = step fault h
 IfFile-weaker A B (Shelf path) P Q step h = tt
 IfFile-weaker A B Memory P Q step h = tt
 
--- and for the path of a failed load
-pub IfShelf-weaker : (A B : Type 0) (refusal : Refusal) (P Q : List ℕ → Type 0) → ((path : List ℕ) → P path → Q path) → IfShelf {T = A} (Err refusal) P → IfShelf {T = B} (Err refusal) Q
-IfShelf-weaker A B (File fault) P Q step h = tt
-IfShelf-weaker A B (Shelf path) P Q step h = step path h
-IfShelf-weaker A B Memory P Q step h = tt
-
 -- a file that is refused is the verdict on all
 pub refused_told : (plan : PlanData) (folder : List ℕ) (held : Option (List (List ℕ × List ℕ))) (files : List (List ℕ)) (file limit : ℕ) (fault : FileFault) → length files ≡ file
     → file < length plan.files → IfSome held (λ all. AreFirst plan folder all files) → limit ≡ limit_behind (sum_by length files)
@@ -149,20 +142,6 @@ refused_told plan folder (Some held) files file limit fault count within are lim
     (ap (verdict_before plan folder held) (sym count) ∙ are.pass)
     (ap (verdict_at plan folder held) (sym count) ∙ at_first plan folder held files limit are limit_is
     ∙ ap (λ n. verdict_on plan folder limit n (held_at held (path_of plan folder n))) count ∙ refused)
-
--- a load that failed is that of a file before which nothing is wrong
-pub missing_told : (plan : PlanData) (folder : List ℕ) (held : Option (List (List ℕ × List ℕ))) (files : List (List ℕ)) (file : ℕ) (path : List ℕ) → length files ≡ file → file < length plan.files
-    → IfSome held (λ all. AreFirst plan folder all files) → path ≡ path_of plan folder file → IsMissing plan folder held path
-missing_told plan folder held files file path count within are path_is = record {
-  file = file;
-  within = within;
-  is_path = path_is;
-  before = pass held are;
-}
-  where
-    pass : (held : Option (List (List ℕ × List ℕ))) → IfSome held (λ all. AreFirst plan folder all files) → IfSome held (λ all. verdict_before plan folder all file ≡ None)
-    pass None are = tt
-    pass (Some all) are = ap (verdict_before plan folder all) (sym count) ∙ are.pass
 
 -- ---- what loading keeps
 
@@ -206,7 +185,3 @@ loaded_more plan folder held files new file loaded limit size bytes are new_is l
       first = subst {A = List (List ℕ)} (λ fs. IfSome held (λ all. AreFirst plan folder all fs)) (sym new_is)
           (first_more_told plan folder held files bytes file limit count are.first limit_at there within pass);
     }
-
--- a count that rose behind an earlier one rose behind that
-pub rose_from : (before now new : ℕ) → before ≤ now → Rose now new → Rose before new
-rose_from before now new stays rose = elim rose [ inl above ↦ inl (omega arith) | inr last ↦ inr last ]

@@ -111,7 +111,11 @@ fn test_uses_on_pages(test: &mut FileTest<'_>, file: usize, pages: &[Page]) -> R
 }
 
 /// Tests it for its uses in these layers.
-fn test_uses_in_layers(test: &mut FileTest<'_>, file: usize, layers: &[PlanLayer]) -> Result<(), TagFault>
+fn test_uses_in_layers(
+    test: &mut FileTest<'_>,
+    file: usize,
+    layers: &[PlanLayer],
+) -> Result<(), TagFault>
     ensures first { result_err result ≡ first_some (layer_fault file test.old) layers.now }
     ensures file { test.new ≡ test.old }
 {
@@ -123,7 +127,11 @@ fn test_uses_in_layers(test: &mut FileTest<'_>, file: usize, layers: &[PlanLayer
 
 /// Tests it for its uses in this layer.
 #[tactic(auto, unfolding(crate::specs::Tests::layer_fault))]
-fn test_uses_in_layer(test: &mut FileTest<'_>, file: usize, layer: &PlanLayer) -> Result<(), TagFault>
+fn test_uses_in_layer(
+    test: &mut FileTest<'_>,
+    file: usize,
+    layer: &PlanLayer,
+) -> Result<(), TagFault>
     ensures first { result_err result ≡ layer_fault file test.old layer.now }
     ensures file { test.new ≡ test.old }
 {

@@ -14,14 +14,25 @@ returns-in-Err-TooLong-clause-found g c =
     let held = g.H.Shelf.held c.args.shelf.now in
     let at : c.as_str.result.now ≡ path_of c.args.plan.now c.args.folder.now c.args.file = search rules in
     let P : List ℕ → Type 0 = λ path. IsLongerAt held path c.args.limit in
-    long_found c.args.plan.now c.args.folder.now (g.H.Shelf.held c.args.shelf.now) c.args.limit c.args.file c.in-Ok-fault_of.fault (subst P at (rw c.in-Err-TooLong.field-0-is at c.in-Err-TooLong.ensures.longer)) c.in-Ok-fault_of.ensures
+    long_found c.args.plan.now c.args.folder.now (g.H.Shelf.held c.args.shelf.now) c.args.limit c.args.file c.in_ok-fault-in-Err-TooLong.fault (subst P at (rw c.in-Err-TooLong.field-0-is at c.in-Err-TooLong.ensures.longer)) c.in_ok-fault-in-Err-TooLong.ensures
 
 pub returns-in-Err-clause-found : goal.returns-in-Err-clause-found
 returns-in-Err-clause-found g c =
-    fault_found c.args.plan.now c.args.folder.now (g.H.Shelf.held c.args.shelf.now) c.args.limit c.args.file c.as_slice.result.now c.in-Err.fault c.in-Ok-fault_of-2.fault (search rules) (search rules) (sym c.in-Err.ensures) c.in-Ok-fault_of-2.ensures
+    fault_found c.args.plan.now c.args.folder.now (g.H.Shelf.held c.args.shelf.now) c.args.limit c.args.file c.as_slice.result.now c.in-Err.fault c.in_ok-fault.fault (search rules) (search rules) (sym c.in-Err.ensures) c.in_ok-fault.ensures
 
-pub returns-in-Err-clause-too_long : goal.returns-in-Err-clause-too_long
-returns-in-Err-clause-too_long g c =
+pub returns-in-Err-clause-shelf : goal.returns-in-Err-clause-shelf
+returns-in-Err-clause-shelf g c =
     let never : c.in-Err.fault.kind ≢ TooLong =
     subst {A = Option TagFault} (λ o. IfSome o (λ fault. fault.kind ≢ TooLong)) (sym c.in-Err.ensures) (file_never_long c.args.plan.now c.args.file c.as_slice.result.now) in
-    λ long. absurd (never (sym (ap {A = FileFault} (λ f. f.kind) c.in-Ok-fault_of-2.ensures) ∙ long))
+    record {
+      named = search rules;
+      too_long = λ long. absurd (never (sym (ap {A = FileFault} (λ f. f.kind) c.in_ok-fault.ensures) ∙ long));
+      counted = search rules;
+      missed = search rules;
+      done_missed = search rules;
+      file_missed = search rules;
+      memory_missed = search rules;
+      held = search rules;
+      faults_stay = search rules;
+      longs_stay = search rules;
+    }

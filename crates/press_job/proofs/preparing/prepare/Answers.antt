@@ -1,4 +1,4 @@
-use Rattle.std.proofs.Common.{◌≡◌, ℕ, List, ap, sym, subst, ◌∙◌, length}
+use Rattle.std.proofs.Common.{rules, ◌≡◌, ℕ, List, ap, sym, subst, ◌∙◌, length}
 use Rattle.std.specs.Prelude.{Contains, IfSome, Option}
 use Rattle.std.proofs.lemmas.List.Elements.{Contains-get_or}
 use Rattle.pr_base.specs.declared.fault.FileFault.{FileFault}
@@ -13,15 +13,21 @@ pub fault_of-requires : goal.fault_of-requires
 fault_of-requires g c =
     (subst {A = Option Misfit} (λ o. IfSome o (IsMisfit (length c.args.plan.files))) (sym c.in-Err.ensures) (layers_fit c.args.plan c.in_ok-loaded.loaded c.in_ok-loaded.ensures.plan)).within
 
-pub returns-in-Err-clause-named : goal.returns-in-Err-clause-named
-returns-in-Err-clause-named g c =
+pub returns-in-Err-clause-shelf : goal.returns-in-Err-clause-shelf
+returns-in-Err-clause-shelf g c =
     let misfit = subst {A = Option Misfit} (λ o. IfSome o (IsMisfit (length c.args.plan.files))) (sym c.in-Err.ensures) (layers_fit c.args.plan c.in_ok-loaded.loaded c.in_ok-loaded.ensures.plan) in
-    subst (Contains c.args.plan.files) (sym (ap {A = FileFault} (λ f. f.file) c.in-Ok.ensures)) (Contains-get_or c.args.plan.files c.in-Err.misfit.file _ misfit.within)
-
-pub returns-in-Err-clause-too_long : goal.returns-in-Err-clause-too_long
-returns-in-Err-clause-too_long g c =
-    let misfit = subst {A = Option Misfit} (λ o. IfSome o (IsMisfit (length c.args.plan.files))) (sym c.in-Err.ensures) (layers_fit c.args.plan c.in_ok-loaded.loaded c.in_ok-loaded.ensures.plan) in
-    λ long. absurd (misfit.short (sym (ap {A = FileFault} (λ f. f.kind) c.in-Ok.ensures) ∙ long))
+    record {
+      named = subst (Contains c.args.plan.files) (sym (ap {A = FileFault} (λ f. f.file) c.in_ok-fault.ensures)) (Contains-get_or c.args.plan.files c.in-Err.misfit.file _ misfit.within);
+      too_long = λ long. absurd (misfit.short (sym (ap {A = FileFault} (λ f. f.kind) c.in_ok-fault.ensures) ∙ long));
+      counted = search rules;
+      missed = search rules;
+      done_missed = search rules;
+      file_missed = search rules;
+      memory_missed = search rules;
+      held = search rules;
+      faults_stay = search rules;
+      longs_stay = search rules;
+    }
 
 pub returns-clause-sound : goal.returns-clause-sound
 returns-clause-sound g c =
@@ -34,5 +40,5 @@ returns-clause-sound g c =
 
 pub returns-in-Err-clause-faulty : goal.returns-in-Err-clause-faulty
 returns-in-Err-clause-faulty g c =
-    misfit_of c.args.plan c.args.files.now (g.H.Shelf.held c.args.shelf.now) c.in_ok-loaded.loaded c.in-Err.misfit c.in-Ok.fault c.in_ok-loaded.ensures.count c.in_ok-loaded.ensures.sound
-    (sym c.in-Err.ensures) c.in-Ok.ensures
+    misfit_of c.args.plan c.args.files.now (g.H.Shelf.held c.args.shelf.now) c.in_ok-loaded.loaded c.in-Err.misfit c.in_ok-fault.fault c.in_ok-loaded.ensures.count c.in_ok-loaded.ensures.sound
+    (sym c.in-Err.ensures) c.in_ok-fault.ensures
