@@ -1,4 +1,4 @@
-// The law of replating.
+// The law of replating, and the law of parts.
 ghost use Rattle.std.specs.Prelude.{◌≡◌, ◌<◌, ◌↔◌, ℕ, Bool, IsTrue, List, length};
 ghost use Rattle.plan_json.specs.Plan.{IsPlan};
 ghost use Rattle.plan_rows.specs.Paths.{site_name};
@@ -6,6 +6,7 @@ ghost use Rattle.replate.specs.Inputs.{JobData};
 ghost use Rattle.replate.specs.Picks.{MustMake};
 ghost use Rattle.replate.specs.Plates.{PlateAt, IsPlateOf, has_path, path_below};
 ghost use Rattle.replate_law.specs.Law.{bytes_of_plate, files_of_site, held_in, remade_at};
+ghost use Rattle.replate_law.specs.Part.{HasPlate, IsPlateIn, IsSectionAt, PrintAlike, SectionAt};
 
 /// A new plate that need not be made is there: the old job has a plate of its path, and its file has the
 /// bytes of the new one. Nothing is asked of the files of either job.
@@ -24,4 +25,15 @@ pub fn replate_law()
         → site_name before.plan old_site ≡ site_name after.plan site
         → ((new : PlateAt) → IsPlateOf after.plan new → IsTrue (made new) ↔ MustMake before after new)
         → remade_at before after out old_site site made path ≡ held_in (files_of_site after out site) path }
+{}
+
+/// Where two jobs print a section alike at a site, each of its plates there is the same file in both, whatever
+/// other sections, sites and zones either has: so the plates of a part are those of the whole, and back.
+/// Nothing is asked of the files of either job.
+pub fn part_law()
+    ensures turned { (a b : SectionAt) → PrintAlike a b → PrintAlike b a }
+    ensures unmade { (whole part : SectionAt) (plate : PlateAt) → IsSectionAt whole → IsSectionAt part
+        → PrintAlike whole part → IsPlateIn part plate → ¬ (MustMake whole.job part.job plate) }
+    ensures same { (whole part : SectionAt) (plate : PlateAt) → IsSectionAt whole → IsSectionAt part
+        → PrintAlike whole part → IsPlateIn part plate → HasPlate whole part.job plate }
 {}

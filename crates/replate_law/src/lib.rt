@@ -3,4 +3,4 @@
 
 mod laws;
 
-pub use laws::replate_law;
+pub use laws::{part_law, replate_law};
