@@ -53,10 +53,10 @@ impl<'j> Feed<'j> {
         ensures { IfOk result (λ feed. feed ≡ record { job = job.now; next = 0 }) }
     {
         let plan = job.plan();
+        let bits = vec![in alloc; 0; row_bytes(plate_shape(plan).width)]?;
+        let screens = Screens::of(alloc, plan)?;
         let left = SidePages::open(alloc, job, Side::Left)?;
         let right = SidePages::open(alloc, job, Side::Right)?;
-        let screens = Screens::of(alloc, plan)?;
-        let bits = vec![in alloc; 0; row_bytes(plate_shape(plan).width)]?;
         Ok(Feed {
             job,
             left,

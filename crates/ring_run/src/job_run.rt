@@ -48,7 +48,6 @@ pub fn run_job<T: Threads + Sync, R: Rack + Send>(
     ensures counts { KeepCounts (all_told R.Rack racks.old) (all_told R.Rack racks.new) }
     ensures others { drop (length job.now.plan.sites) racks.new ≡ drop (length job.now.plan.sites) racks.old }
 {
-    let mut feed = Feed::open(alloc, job)?;
     let plan = job.plan();
     let run = Run {
         alloc,
@@ -59,11 +58,44 @@ pub fn run_job<T: Threads + Sync, R: Rack + Send>(
         ring,
         patience,
     };
-    run_fed(rt, &run, job, &mut feed, racks, &mut [])
+    run_all(rt, &run, job, racks, &mut [])
 }
 
-/// The same with a feed that has all rows of the job to come, and with key readers that count them.
-pub(crate) fn run_fed<T: Threads + Sync, F: RowFeed + Send, R: Rack + Send>(
+/// The same with key readers that count the rows. A feed is dropped nowhere else, since what a function drops on each
+/// of its paths is proved for each.
+pub(crate) fn run_all<T: Threads + Sync, R: Rack + Send>(
+    rt: &T,
+    run: &Run<'_>,
+    job: &Job,
+    racks: &mut [R],
+    keys: &mut [RunKeyReader<'_>],
+) -> Result<Outcome, NoMemory>
+    requires run { IsRun run.now.plan.now run.now.rows.now run.now.ring run.now.patience }
+    requires plan { run.now.plan.now ≡ job.now.plan }
+    requires readers { run.now.readers ≡ length job.now.plan.sites + length keys.old }
+    requires few_keys { length keys.old ≤ 1 }
+    requires zeros { AreFreshKeys job.now.plan keys.old }
+    requires racks { length job.now.plan.sites ≤ length racks.old }
+    requires idle { AreIdle (length job.now.plan.sites) (all_told R.Rack racks.old) }
+    ensures fits { IfOk result (λ outcome. RunFits
+        (by_ring job.now.plan (plate_rows job.now.plan job.now.files) run.now.out.now
+        run.now.readers run.now.ring)
+        (all_told R.Rack racks.old) (all_told R.Rack racks.new) outcome.sites.items) }
+    ensures part { OnErr result (RunPart
+        (by_ring job.now.plan (plate_rows job.now.plan job.now.files) run.now.out.now
+        run.now.readers run.now.ring)
+        (all_told R.Rack racks.old) (all_told R.Rack racks.new)) }
+    ensures counts { KeepCounts (all_told R.Rack racks.old) (all_told R.Rack racks.new) }
+    ensures others { drop (length job.now.plan.sites) racks.new ≡ drop (length job.now.plan.sites) racks.old }
+    ensures keys { IfOk result (λ _. AllKeysFit job.now.plan
+        (plate_rows job.now.plan job.now.files) keys.old keys.new) }
+{
+    let mut feed = Feed::open(run.alloc, job)?;
+    run_fed(rt, run, job, &mut feed, racks, keys)
+}
+
+/// The same with a feed that has all rows of the job to come.
+fn run_fed<T: Threads + Sync, F: RowFeed + Send, R: Rack + Send>(
     rt: &T,
     run: &Run<'_>,
     job: &Job,

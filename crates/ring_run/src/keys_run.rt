@@ -10,13 +10,13 @@ ghost use Rattle.ring_run.specs.Keyed.{KeysFit};
 
 use crate::Outcome;
 use crate::counting::RunKeyReader;
-use crate::job_run::run_fed;
+use crate::job_run::run_all;
 use crate::rows::Run;
 use ink_keys::{Counts, KeyReader};
 use plan_rows::RowPlan;
 use pr_base::NoMemory;
 use pr_rack::Rack;
-use press_feed::{Feed, Job};
+use press_feed::Job;
 use std::alloc::Global;
 use std::thread::Threads;
 
@@ -59,7 +59,6 @@ pub fn run_keys<T: Threads + Sync, R: Rack + Send>(
     let rows = job.rows();
     let counts = Counts::new(alloc, rows, job.shape().width, keys)?;
     let mut readers = one_reader(alloc, rows, counts)?;
-    let mut feed = Feed::open(alloc, job)?;
     let run = Run {
         alloc,
         plan,
@@ -69,7 +68,7 @@ pub fn run_keys<T: Threads + Sync, R: Rack + Send>(
         ring,
         patience,
     };
-    let outcome = run_fed(rt, &run, job, &mut feed, racks, readers.as_mut_slice())?;
+    let outcome = run_all(rt, &run, job, racks, readers.as_mut_slice())?;
     Ok((outcome, counts_of(readers)))
 }
 

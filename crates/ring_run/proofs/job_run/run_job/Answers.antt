@@ -6,12 +6,9 @@ use Rattle.ring_run.proofs.Results.{if_ok, on_err}
 use Rattle.ring_run.proofs.Running.{none_part}
 use Rattle.ring_run.proofs.job_run.run_job.Goals as goal
 
-pub returns-in_err-feed-clause-part : goal.returns-in_err-feed-clause-part
-returns-in_err-feed-clause-part g c = on_err c.from_residual.result _ (none_part _ _)
-
 pub returns-clause-fits : goal.returns-clause-fits
 returns-clause-fits g c =
     let tell : g.row.R.Denot → RackTells = told g.R.Rack in
     let plan = c.args.job.now.plan in
     let readers : c.len.result ≡ length plan.sites = search rules in
-    if_ok c.run_fed.result _ _ (λ outcome fits. subst (λ (n : ℕ). RunFits (by_ring plan (plate_rows plan c.args.job.now.files) c.args.out.now n c.args.ring) (map tell c.args.racks.now) (map tell c.run_fed.new.racks) outcome.sites.items) readers fits) c.run_fed.ensures.fits
+    if_ok c.run_all.result _ _ (λ outcome fits. subst (λ (n : ℕ). RunFits (by_ring plan (plate_rows plan c.args.job.now.files) c.args.out.now n c.args.ring) (map tell c.args.racks.now) (map tell c.run_all.new.racks) outcome.sites.items) readers fits) c.run_all.ensures.fits

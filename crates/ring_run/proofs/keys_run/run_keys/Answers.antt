@@ -16,14 +16,11 @@ use Rattle.ring_run.proofs.keys_run.run_keys.Goals as goal
 pub returns-in_err-counts-clause-part : goal.returns-in_err-counts-clause-part
 returns-in_err-counts-clause-part g c = on_err c.from_residual.result _ (none_part _ _)
 
-pub returns-in_err-feed-clause-part : goal.returns-in_err-feed-clause-part
-returns-in_err-feed-clause-part g c = on_err c.from_residual-in_err-feed.result _ (none_part _ _)
-
 pub returns-in_err-readers-clause-part : goal.returns-in_err-readers-clause-part
 returns-in_err-readers-clause-part g c = on_err c.from_residual-in_err-readers.result _ (none_part _ _)
 
-pub run_fed-requires-clause-run : goal.run_fed-requires-clause-run
-run_fed-requires-clause-run g c κs within =
+pub run_all-requires-clause-run : goal.run_all-requires-clause-run
+run_all-requires-clause-run g c κs within =
     let same = sym c.plan-plan.ensures.plan in
     let least = c.requires.patience.least in
     record {
@@ -33,8 +30,8 @@ run_fed-requires-clause-run g c κs within =
       some = omega arith;
     }
 
-pub run_fed-requires-clause-zeros : goal.run_fed-requires-clause-zeros
-run_fed-requires-clause-zeros g c κs within =
+pub run_all-requires-clause-zeros : goal.run_all-requires-clause-zeros
+run_all-requires-clause-zeros g c κs within =
     let width : c.shape.result.width ≡ plate_width c.args.job.now.plan = search rules in
     let key : KeyReaderData = record { rows = c.rows-rows.result.now; counts = c.in_ok-counts.counts } in
     fresh_one c.args.job.now.plan key c.as_mut_slice.result.now (c.as_mut_slice.ensures.value ∙ c.in_ok-readers.ensures)
@@ -46,16 +43,16 @@ returns-in_err-outcome-clause-part g c =
     let plan = c.args.job.now.plan in
     let readers : c.len.result ≡ length plan.sites = search rules in
     on_err c.from_residual-in_err-outcome.result _
-    (subst (λ (n : ℕ). RunPart (by_ring plan (plate_rows plan c.args.job.now.files) c.args.out.now (n + 1) c.args.ring) (map tell c.args.racks.now) (map tell c.run_fed.new.racks)) readers c.in_err-outcome.ensures.part)
+    (subst (λ (n : ℕ). RunPart (by_ring plan (plate_rows plan c.args.job.now.files) c.args.out.now (n + 1) c.args.ring) (map tell c.args.racks.now) (map tell c.run_all.new.racks)) readers c.in_err-outcome.ensures.part)
 
 pub counts_of-requires : goal.counts_of-requires
 counts_of-requires g c = record {
-  one = ap length (take_at c.run_fed.new.keys _ _ (c.run_fed.auto.keys ∙ c.as_mut_slice.ensures.len)) ∙ c.run_fed.auto.keys ∙ ap length (c.as_mut_slice.ensures.value ∙ c.in_ok-readers.ensures);
+  one = ap length (take_at c.run_all.new.keys _ _ (c.run_all.auto.keys ∙ c.as_mut_slice.ensures.len)) ∙ c.run_all.auto.keys ∙ ap length (c.as_mut_slice.ensures.value ∙ c.in_ok-readers.ensures);
 }
 
 pub returns-clause-keys : goal.returns-clause-keys
 returns-clause-keys g c =
     let plan = c.args.job.now.plan in
     let key : KeyReaderData = record { rows = c.rows-rows.result.now; counts = c.in_ok-counts.counts } in
-    keys_one plan (plate_rows plan c.args.job.now.files) c.as_mut_slice.result.now c.run_fed.new.keys _ key c.args.keys c.counts_of.result (c.as_mut_slice.ensures.value ∙ c.in_ok-readers.ensures) c.run_fed.auto.keys
-    (take_at c.run_fed.new.keys _ _ (c.run_fed.auto.keys ∙ c.as_mut_slice.ensures.len)) (ap (λ (x : CountsData). x.keys) c.in_ok-counts.ensures.zero) c.in_ok-outcome.ensures.keys c.counts_of.ensures.its
+    keys_one plan (plate_rows plan c.args.job.now.files) c.as_mut_slice.result.now c.run_all.new.keys _ key c.args.keys c.counts_of.result (c.as_mut_slice.ensures.value ∙ c.in_ok-readers.ensures) c.run_all.auto.keys
+    (take_at c.run_all.new.keys _ _ (c.run_all.auto.keys ∙ c.as_mut_slice.ensures.len)) (ap (λ (x : CountsData). x.keys) c.in_ok-counts.ensures.zero) c.in_ok-outcome.ensures.keys c.counts_of.ensures.its
