@@ -6,8 +6,8 @@ usage: bench/busy.py PROGRAM [--jobs NAMES] [--loops N] [--nice N] [--processors
 
 Prints for each job the seconds by the clock and of processor time, the best of three runs, and beside them those
 of plain C on one thread that makes the same plates: bench/run.c for the large pair, bench/small.c for small pages.
-The jobs are rows, small, large1, large4, large16, ring1 and newspaper; NAMES stand between commas. The loops run at
-niceness 0, both programs at N. With --processors all of them share so many processors.
+The jobs are rows, small, short, large1, large4, large16, ring1 and newspaper; NAMES stand between commas. The loops
+run at niceness 0, both programs at N. With --processors all of them share so many processors.
 Images and plates go to a new folder below FOLDER (/dev/shm), which is deleted at the end.
 """
 import argparse
@@ -103,6 +103,19 @@ def newspaper():
     }
 
 
+def short():
+    """3,276,800 rows of a few bytes: 40 pairs of pages of 28 by 16,384 pixels without layers, in five inks."""
+    pages = [{"name": f"p{number}", "inks": "CMYKS", "layers": []} for number in range(80)]
+    return run.plan("bayer8") | {
+        "plan": 2, "page": [28, 16384], "pages": pages, "sites": sites.sites(1),
+        "sections": [{"name": "A", "pages": [page["name"] for page in pages]}],
+    }
+
+
+def make_none(files):
+    """No image."""
+
+
 def make_pair(files):
     for name, phase in (("left", 3), ("right", 5)):
         run.make(os.path.join(files, f"{name}.tif"), phase)
@@ -112,6 +125,7 @@ def make_pair(files):
 JOBS = {
     "rows": ("the 432 rows, 4 sites", editions.write_images, editions.rows, None),
     "small": ("8 pages of 400 by 600, 3 sites", make_pair, sites.small, None),
+    "short": ("40 pairs of short rows, 1 site", make_none, short, None),
     "large1": ("large pair, 1 site", make_pair, lambda: sites.large("bayer8", 1), None),
     "large4": ("large pair, 4 sites", make_pair, lambda: sites.large("bayer8", 4), None),
     "large16": ("large pair, 16 sites", make_pair, lambda: sites.large("bayer8", 16), None),
@@ -159,7 +173,7 @@ def said(seconds, options):
 
 def plain(name, plan, files, out, folder):
     """The command of plain C that makes the plates of a job, where there is one."""
-    if name == "newspaper":
+    if name in ("newspaper", "short"):
         return None
     source = "run" if name in ("large1", "large4", "large16", "ring1") else "small"
     program = os.path.join(folder, source)
@@ -210,7 +224,7 @@ def measure(options, folder):
 def main():
     words = argparse.ArgumentParser(description=__doc__, formatter_class=argparse.RawDescriptionHelpFormatter)
     words.add_argument("program")
-    words.add_argument("--jobs", default="rows,small,large1,large4,large16,ring1,newspaper")
+    words.add_argument("--jobs", default="rows,small,short,large1,large4,large16,ring1,newspaper")
     words.add_argument("--loops", type=int, default=0)
     words.add_argument("--nice", type=int, default=0)
     words.add_argument("--processors", type=int, default=0)

@@ -15,6 +15,9 @@ PAGES = [{"name": "w", "inks": "K", "layers": []},
 PLAN = {"plan": 1, "edition": "E1", "dpi": 1200, "page": [40, 30], "pages": PAGES,
         "sections": [{"name": "A", "pages": ["w", "p"]}], "sites": [{"name": "OSLO"}]}
 
+# Bare paper of a hundred bytes a packed row, so that a plate is longer than what waits for the disk at a time.
+LONG = dict(PLAN, page=[32000, 1000], pages=[{"name": name, "inks": "K", "layers": []} for name in "wp"])
+
 
 def layer(**keys):
     """A plan whose one layer has these keys."""
@@ -227,10 +230,14 @@ def racks_that_fail(trial, folder, edition):
     for name in ("OUT", "/dev/null"):
         trial.answers([*words[:3], name], 1, edition.report(name, every).encode(), b"", folder=folder)
     os.remove(out)
-    status, report, note = trial.run(words, folder=folder, limits=[(FILES, 100)])
-    line = r"site {0} left plates 0 row \d+ call row file OUT/{0}/FIVE_5-A-001-[CMYKS].tif\n"
-    form = "".join(map(line.format, spans)) + r"total rows \d+ sites 5\n"
-    is_told = status == 1 and note == b"" and re.fullmatch(form, report.decode())
-    trial.holds("files that can't grow", "" if is_told else f"{status}, {shown(report)}, {shown(note)}")
-    shutil.rmtree(out)
+    calls = [("five.json", "FIVE_5", list(spans), "finish"), ("long.json", "E1", ["OSLO"], "row")]
+    editions.write_plan(os.path.join(folder, "long.json"), LONG)
+    for plan, name, sites, call in calls:
+        # A plate goes to its file by blocks: a short one as it is finished, a long one at some row.
+        status, report, note = trial.run(["run", plan, "images", "OUT"], folder=folder, limits=[(FILES, 100)])
+        line = rf"site {{0}} left plates 0 row \d+ call {call} file OUT/{{0}}/{name}-A-001-[CMYKS].tif\n"
+        form = "".join(map(line.format, sites)) + rf"total rows \d+ sites {len(sites)}\n"
+        is_told = status == 1 and note == b"" and re.fullmatch(form, report.decode())
+        trial.holds(f"files of {plan} that can't grow", "" if is_told else f"{status}, {shown(report)}, {shown(note)}")
+        shutil.rmtree(out)
     trial.part("racks that fail")

@@ -5,28 +5,29 @@ ghost use Rattle.pr_base.specs.Count.{Rose, count_unless};
 ghost use Rattle.pr_rack.specs.Rack.{OthersBegun, none_begun};
 
 use crate::open_files::OpenFiles;
-use crate::plate_file::complete;
+use crate::plate_file::{BLOCK, append_row, complete};
 use crate::{Rack, RackFault};
 use pr_base::{Counted, raised};
 use ring_lanes::Held;
 use std::fs::File;
+use std::io::BufWriter;
 use std::marker::Model;
 use std::path::Path;
 use std::rt::Files;
 use std::{fs, io};
-use tif_packbits::framed;
 
-/// The files of the machine. A plate's file is written as its rows come, and a file that stood at its path is
-/// replaced; the folders of the path are made. An error of the machine is a counted `Failed`. The partial
-/// file of a plate that isn't finished stays. It tells nothing but which slots are begun, and its count.
+/// The files of the machine. A plate's file is written by blocks as its rows come, and a file that stood at its
+/// path is replaced; the folders of the path are made. An error of the machine is a counted `Failed` of the
+/// call that wrote the block. The partial file of a plate that isn't finished stays. It tells nothing but which
+/// slots are begun, and its count.
 #[derive(Drop)]
-pub struct HostRack<R: Files<File = File>> {
+pub struct HostRack<R: Files<File = File> + AllocGlobal> {
     rt: R,
     files: OpenFiles,
     faults: u64,
 }
 
-impl<R: Files<File = File>> Model for HostRack<R> {
+impl<R: Files<File = File> + AllocGlobal> Model for HostRack<R> {
     ghost use Rattle.pr_rack.specs.Mem.{HostState};
 
     ghost Value = { HostState };
@@ -34,7 +35,7 @@ impl<R: Files<File = File>> Model for HostRack<R> {
     ghost view = { λ r. record { begun = r.files; faults = r.faults } };
 }
 
-impl<R: Files<File = File>> HostRack<R> {
+impl<R: Files<File = File> + AllocGlobal> HostRack<R> {
     /// A rack of the machine's files with no begun slot, and no failure counted yet.
     pub fn new(rt: R) -> HostRack<R>
         ensures { result ≡ record { begun = none_begun; faults = 0 } }
@@ -55,7 +56,18 @@ fn create<R: Files<File = File>>(rt: &R, path: &str) -> io::Result<File> {
     fs::create(rt, path)
 }
 
-impl<R: Files<File = File>> Rack for HostRack<R> {
+/// The same with a block for its bytes. Where there is no memory for one they go to the machine as they come.
+fn create_plate<R: Files<File = File> + AllocGlobal>(
+    rt: &R,
+    path: &str,
+) -> io::Result<BufWriter<File>> {
+    match BufWriter::with_capacity(rt.alloc(), BLOCK, create(rt, path)?) {
+        Ok(file) => Ok(file),
+        Err(_) => BufWriter::with_capacity(rt.alloc(), 0, create(rt, path)?),
+    }
+}
+
+impl<R: Files<File = File> + AllocGlobal> Rack for HostRack<R> {
     ghost finished = { λ _. None };
 
     ghost working = { λ _. None };
@@ -85,12 +97,12 @@ impl<R: Files<File = File>> Rack for HostRack<R> {
         ensures count { self.new.faults ≡ count_unless (is_ok result) self.old.faults }
         ensures failed { IfErr result (λ fault. fault ≡ RackFault.Failed) }
     {
-        let Ok(file) = create(&self.rt, path) else {
+        let Ok(file) = create_plate(&self.rt, path) else {
             self.faults = raised(self.faults);
             return Err(RackFault::Failed);
         };
         let mut file = Counted::new(file, self.faults);
-        let written = file.append(head);
+        let written = file.append(head) && file.flush();
         self.faults = file.faults();
         if !written {
             return Err(RackFault::Failed);
@@ -111,7 +123,7 @@ impl<R: Files<File = File>> Rack for HostRack<R> {
         ensures failed { IfErr result (λ fault. fault ≡ RackFault.Failed) }
     {
         let mut file = Counted::new(self.files.take(slot), self.faults);
-        let written = file.append(framed(held.bytes()));
+        let written = append_row(&mut file, held);
         self.faults = file.faults();
         if !written {
             return Err(RackFault::Failed);
@@ -130,13 +142,11 @@ impl<R: Files<File = File>> Rack for HostRack<R> {
         ensures count { self.new.faults ≡ count_unless (is_ok result) self.old.faults }
         ensures failed { IfErr result (λ fault. fault ≡ RackFault.Failed) }
     {
-        let mut file = Counted::new(self.files.take(slot), self.faults);
-        let closed = complete(&mut file, tail, at);
-        self.faults = file.faults();
-        if closed {
-            Ok(())
-        } else {
-            Err(RackFault::Failed)
+        let file = self.files.take(slot);
+        let closed = complete(file, tail, at, &mut self.faults);
+        if !closed {
+            return Err(RackFault::Failed);
         }
+        Ok(())
     }
 }

@@ -3,12 +3,13 @@ ghost use Rattle.std.specs.Prelude.{◌≡◌, ◌<◌, true, false, Some, lengt
 ghost use Rattle.pr_rack.specs.Rack.{none_begun};
 
 use std::fs::File;
+use std::io::BufWriter;
 use std::marker::Model;
 
-/// The file of each slot where a plate is begun. Contracts see which slots are begun.
+/// The file of each slot where a plate is begun, with its block. Contracts see which slots are begun.
 #[derive(Drop)]
 pub(crate) struct OpenFiles {
-    files: [Option<File>; 5],
+    files: [Option<BufWriter<File>>; 5],
 }
 
 impl Model for OpenFiles {
@@ -30,7 +31,7 @@ impl OpenFiles {
     }
 
     /// Takes the file of a slot.
-    pub(crate) fn take(&mut self, slot: usize) -> File
+    pub(crate) fn take(&mut self, slot: usize) -> BufWriter<File>
         requires { slice_get self.old slot ≡ Some true }
         ensures { self.new ≡ slice_set self.old slot false }
     {
@@ -42,7 +43,7 @@ impl OpenFiles {
     }
 
     /// Puts a file into a slot.
-    pub(crate) fn put(&mut self, slot: usize, file: File)
+    pub(crate) fn put(&mut self, slot: usize, file: BufWriter<File>)
         requires { slot < length self.old }
         ensures { self.new ≡ slice_set self.old slot true }
     {
