@@ -1,14 +1,13 @@
 // Texts, inks, and how faults print and compare.
-use pr_base::{FaultKind, FileFault, Ink, NoMemory, PathText, TagFault};
-use std::alloc::Global;
+use crate::checks::check;
+use pr_base::{FaultKind, FileFault, Ink, PathText, TagFault};
+use std::fmt::Display;
 use std::process::Abort;
-use std::test::Fail;
 
 #[test]
-fn a_path_keeps_its_text(rt: HostRuntime) -> Result<(), Fail> {
-    let path = PathText::of(rt.alloc(), "in/a.tif")?;
-    assert_eq!(rt; path.as_str(), "in/a.tif");
-    Ok(())
+fn a_path_keeps_its_text(rt: HostRuntime) {
+    let path = PathText::of(rt.alloc(), "in/a.tif").expect(&rt, "memory");
+    check(&rt, &[path.as_str() == "in/a.tif"]);
 }
 
 #[test]
@@ -22,57 +21,56 @@ fn inks_stand_in_the_order_of_the_samples(rt: HostRuntime) {
 }
 
 fn assert_order(rt: &impl Abort, one: Ink, other: Ink, below: bool, same: bool) {
-    assert!(rt; (one < other) == below);
-    assert!(rt; (one == other) == same);
+    check(rt, &[(one < other) == below, (one == other) == same]);
 }
+
+fn prints<R: Abort + AllocGlobal, T: Display>(rt: &R, fault: &T, text: &str) -> bool {
+    let printed = format!(in rt.alloc(); "{fault}").expect(rt, "memory");
+    printed.as_str() == text
+}
+
+const OF_BITS: TagFault = TagFault {
+    tag: 258,
+    kind: FaultKind::Bits,
+};
 
 #[test]
-fn faults_print_and_compare_by_their_fields(rt: HostRuntime) -> Result<(), Fail> {
-    let of_type = tag_fault(258, FaultKind::FieldType);
-    assert_eq!(rt;
-        format!(in rt.alloc(); "{of_type}")?.as_str(),
-        "tag 258: field type"
-    );
-    assert_equal(&rt, (258, FaultKind::Bits), (258, FaultKind::Bits), true);
-    assert_equal(
-        &rt,
-        (258, FaultKind::Bits),
-        (258, FaultKind::FieldType),
-        false,
-    );
-    assert_equal(&rt, (258, FaultKind::Bits), (256, FaultKind::Bits), false);
-    Ok(())
+fn faults_print_and_compare_by_their_fields(rt: HostRuntime) {
+    let same = OF_BITS;
+    let kind = FaultKind::FieldType;
+    let of_type = TagFault { tag: 258, kind };
+    let kind = FaultKind::Bits;
+    let of_width = TagFault { tag: 256, kind };
+    let compared = [
+        OF_BITS == same,
+        OF_BITS != of_type,
+        OF_BITS != of_width,
+        prints(&rt, &of_type, "tag 258: field type"),
+    ];
+    check(&rt, &compared);
 }
 
-fn tag_fault(tag: u16, kind: FaultKind) -> TagFault {
-    TagFault { tag, kind }
-}
-
-fn assert_equal(rt: &impl Abort, one: (u16, FaultKind), other: (u16, FaultKind), equal: bool) {
-    assert_eq!(rt;
-        tag_fault(one.0, one.1) == tag_fault(other.0, other.1),
-        equal
-    );
-}
-
-#[test]
-fn a_file_fault_names_its_file(rt: HostRuntime) -> Result<(), Fail> {
-    let first = file_fault(rt.alloc(), "a.tif", 0)?;
-    assert_eq!(rt;
-        format!(in rt.alloc(); "{first}")?.as_str(),
-        "file a.tif: tag 0: too long"
-    );
-    for (file, tag, equal) in [("a.tif", 0, true), ("b.tif", 0, false), ("a.tif", 1, false)] {
-        let other = file_fault(rt.alloc(), file, tag)?;
-        assert!(rt; (first == other) == equal);
-    }
-    Ok(())
-}
-
-fn file_fault(alloc: Global, file: &str, tag: u16) -> Result<FileFault, NoMemory> {
-    Ok(FileFault {
-        file: PathText::of(alloc, file)?,
+fn file_fault<R: Abort + AllocGlobal>(rt: &R, file: &str, tag: u16) -> FileFault {
+    FileFault {
+        file: PathText::of(rt.alloc(), file).expect(rt, "memory"),
         tag,
         kind: FaultKind::TooLong,
-    })
+    }
+}
+
+// Whether a fault is that of this file and tag.
+fn is_of<R: Abort + AllocGlobal>(rt: &R, fault: &FileFault, file: &str, tag: u16) -> bool {
+    *fault == file_fault(rt, file, tag)
+}
+
+#[test]
+fn a_file_fault_names_its_file(rt: HostRuntime) {
+    let fault = file_fault(&rt, "a.tif", 0);
+    let compared = [
+        prints(&rt, &fault, "file a.tif: tag 0: too long"),
+        is_of(&rt, &fault, "a.tif", 0),
+        !is_of(&rt, &fault, "b.tif", 0),
+        !is_of(&rt, &fault, "a.tif", 1),
+    ];
+    check(&rt, &compared);
 }

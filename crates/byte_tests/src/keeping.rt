@@ -1,4 +1,5 @@
 // What is to be kept is flushed, and then synced.
+use crate::checks::check;
 use pr_base::Counted;
 use std::fs::{Metadata, OpenFile};
 use std::io;
@@ -53,8 +54,8 @@ impl OpenFile for Unsure {
 fn assert_keeps(rt: &impl Abort, flushes: bool, syncs: bool) {
     let kept = flushes && syncs;
     let mut file = Counted::new(Unsure { flushes, syncs }, 4);
-    assert!(rt; file.keep() == kept);
-    assert!(rt; file.faults() == 4 + u64::from(!kept));
+    let keeps = file.keep() == kept;
+    check(rt, &[keeps, file.faults() == 4 + u64::from(!kept)]);
 }
 
 #[test]

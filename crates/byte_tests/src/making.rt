@@ -1,6 +1,10 @@
 // Made files beside their bytes, worked by hand from TIFF 6.0: one of a strip, one of planes, one that is
 // packed.
-use std::test::Fail;
+ghost use Rattle.tif_make.specs.Form.{IsForm};
+ghost use Rattle.tif_make.specs.Made.{HasRows};
+
+use crate::checks::check;
+use std::process::Abort;
 use tif_make::{Compression, ImageForm, Kind, Order, Planar, make_image};
 
 // Four pixels in a row with 1, 127, 31 and 255 of black.
@@ -73,16 +77,22 @@ const CONTONE: ImageForm = ImageForm {
     rows_per_strip: 1,
 };
 
-#[test]
-fn lays_samples_side_by_side(rt: HostRuntime) -> Result<(), Fail> {
-    let row = [0, 0, 0, 1, 0, 0, 0, 127, 0, 0, 0, 31, 0, 0, 0, 255];
-    let file = make_image(rt.alloc(), &CONTONE, &row)?;
-    assert_eq!(rt; file.as_slice(), FOUR_PIXELS.as_slice());
-    Ok(())
+fn made<R: Abort + AllocGlobal>(rt: &R, form: &ImageForm, rows: &[u8]) -> Vec<u8>
+    requires form { IsForm form.now }
+    requires rows { HasRows form.now rows.now }
+{
+    make_image(rt.alloc(), form, rows).expect(rt, "memory")
 }
 
 #[test]
-fn lays_a_plane_for_each_ink(rt: HostRuntime) -> Result<(), Fail> {
+fn lays_samples_side_by_side(rt: HostRuntime) {
+    let row = [0, 0, 0, 1, 0, 0, 0, 127, 0, 0, 0, 31, 0, 0, 0, 255];
+    let file = made(&rt, &CONTONE, &row);
+    check(&rt, &[file.as_slice() == FOUR_PIXELS.as_slice()]);
+}
+
+#[test]
+fn lays_a_plane_for_each_ink(rt: HostRuntime) {
     let form = ImageForm {
         width: 1,
         length: 2,
@@ -90,13 +100,12 @@ fn lays_a_plane_for_each_ink(rt: HostRuntime) -> Result<(), Fail> {
         planar: Planar::Separate,
         ..CONTONE
     };
-    let file = make_image(rt.alloc(), &form, &[1, 2, 3, 4, 5, 6, 7, 8])?;
-    assert_eq!(rt; file.as_slice(), PLANES.as_slice());
-    Ok(())
+    let file = made(&rt, &form, &[1, 2, 3, 4, 5, 6, 7, 8]);
+    check(&rt, &[file.as_slice() == PLANES.as_slice()]);
 }
 
 #[test]
-fn packs_each_row(rt: HostRuntime) -> Result<(), Fail> {
+fn packs_each_row(rt: HostRuntime) {
     let form = ImageForm {
         kind: Kind::Line,
         width: 24,
@@ -104,20 +113,20 @@ fn packs_each_row(rt: HostRuntime) -> Result<(), Fail> {
         compression: Compression::PackBits,
         ..CONTONE
     };
-    let file = make_image(rt.alloc(), &form, &[0xAA, 0xAA, 0xAA, 0x80, 0, 0x2A])?;
-    assert_eq!(rt; file.as_slice(), PACKED.as_slice());
-    Ok(())
+    let file = made(&rt, &form, &[0xAA, 0xAA, 0xAA, 0x80, 0, 0x2A]);
+    check(&rt, &[file.as_slice() == PACKED.as_slice()]);
 }
 
 #[test]
-fn a_mask_has_photometric_interpretation_four(rt: HostRuntime) -> Result<(), Fail> {
+fn a_mask_has_photometric_interpretation_four(rt: HostRuntime) {
     let form = ImageForm {
         kind: Kind::Mask,
         width: 8,
         ..CONTONE
     };
-    let file = make_image(rt.alloc(), &form, &[0xF0])?;
-    assert_eq!(rt; file.len(), 123);
-    assert_eq!(rt; file.as_slice().get(66), Some(&4));
-    Ok(())
+    let file = made(&rt, &form, &[0xF0]);
+    check(
+        &rt,
+        &[file.len() == 123, file.as_slice().get(66) == Some(&4)],
+    );
 }

@@ -1,147 +1,171 @@
 // PackBits both ways: worked rows, awkward streams, and frames.
-use std::process::Abort;
+use crate::checks::check;
 use tif_packbits::{Short, Unpacker, frame_len, frame_row, framed, pack_bound, pack_row};
 
-/// Asked for more, `packed` gives exactly `row`, and what lies past it is unchanged.
-fn assert_expands(rt: &impl Abort, packed: &[u8], row: &[u8]) {
-    let mut into = [0xEE; 300];
-    let mut unpacker = Unpacker::new(packed);
-    assert_eq!(rt; fill(&mut unpacker, &mut into), Err(Short));
-    assert_begins(rt, &into, row);
-    assert_eq!(rt; byte(&mut unpacker), None);
+// The bytes begin so, and behind that nothing was written.
+fn begin(bytes: &[u8; 300], front: &[u8]) -> bool {
+    if front.len() > 300 {
+        return false;
+    }
+    let (written, rest) = bytes.split_at(front.len());
+    written == front && rest.iter().all(|byte| *byte == 0xEE)
 }
 
-/// The bytes are these, and behind them nothing was written.
-fn assert_begins(rt: &impl Abort, bytes: &[u8; 300], front: &[u8]) {
-    assert!(rt; front.len() <= 300);
-    let (written, rest) = bytes.split_at(front.len());
-    assert!(rt; written == front);
-    assert!(rt; rest.iter().all(|byte| *byte == 0xEE));
+/// Asked for more, `packed` gives exactly `row`, and what lies past it is unchanged.
+fn expands(packed: &[u8], row: &[u8]) -> bool {
+    let mut into = [0xEE; 300];
+    let mut unpacker = Unpacker::new(packed);
+    unpacker.fill(&mut into) == Err(Short) && begin(&into, row) && ends(&mut unpacker)
 }
 
 /// The packing of `row` is `packed`, and what lies past it is unchanged.
-fn assert_packs(rt: &impl Abort, row: &[u8], packed: &[u8]) {
+fn packs(row: &[u8], packed: &[u8]) -> bool {
     let mut into = [0xEE; 300];
-    assert!(rt; row.len() <= 256);
-    assert_eq!(rt; pack_row(row, &mut into), packed.len());
-    assert_begins(rt, &into, packed);
+    row.len() <= 256 && pack_row(row, &mut into) == packed.len() && begin(&into, packed)
 }
 
-// Calls of an unpacker.
-fn byte(unpacker: &mut Unpacker<'_>) -> Option<u8> {
-    unpacker.byte()
+// No byte is left.
+fn ends(unpacker: &mut Unpacker<'_>) -> bool {
+    unpacker.byte().is_none()
 }
 
-fn fill(unpacker: &mut Unpacker<'_>, into: &mut [u8]) -> Result<(), Short> {
-    unpacker.fill(into)
+// The next bytes, one by one, are these.
+fn gives(unpacker: &mut Unpacker<'_>, bytes: &[u8]) -> bool {
+    for byte in bytes {
+        if unpacker.byte() != Some(*byte) {
+            return false;
+        }
+    }
+    true
 }
 
-fn skip(unpacker: &mut Unpacker<'_>, n: u64) -> Result<(), Short> {
-    unpacker.skip(n)
+// The next two bytes at once are these.
+fn fills(unpacker: &mut Unpacker<'_>, bytes: [u8; 2]) -> bool {
+    let mut into = [0; 2];
+    unpacker.fill(&mut into).is_ok() && into == bytes
+}
+
+// So many bytes can be passed over.
+fn skips(unpacker: &mut Unpacker<'_>, n: u64) -> bool {
+    unpacker.skip(n).is_ok()
 }
 
 #[test]
 fn gives_byte_by_byte(rt: HostRuntime) {
     let packed = [0xFE, 0xAA, 0x02, 0x80, 0x00, 0x2A, 0x80];
     let mut unpacker = Unpacker::new(&packed);
-    for want in [0xAA, 0xAA, 0xAA, 0x80, 0x00, 0x2A] {
-        assert_eq!(&rt; byte(&mut unpacker), Some(want));
-    }
-    assert_eq!(&rt; byte(&mut unpacker), None);
-    assert_eq!(&rt; fill(&mut unpacker, &mut [0]), Err(Short));
+    let given = gives(&mut unpacker, &[0xAA, 0xAA, 0xAA, 0x80, 0x00, 0x2A]);
+    let ended = ends(&mut unpacker);
+    let short = unpacker.fill(&mut [0]) == Err(Short);
+    check(&rt, &[given, ended, short]);
 }
 
 #[test]
 fn expands_awkward_streams(rt: HostRuntime) {
-    assert_expands(&rt, &[], &[]);
-    assert_expands(&rt, &[0x80, 0x80, 0x80], &[]);
-    assert_expands(&rt, &[0x80, 0x00, 1, 0x80, 0xFF, 2], &[1, 2, 2]);
-    assert_expands(&rt, &[0x00], &[]);
-    assert_expands(&rt, &[0x00, 9, 0x03, 1, 2, 3], &[9]);
-    assert_expands(&rt, &[0x00, 9, 0xFE], &[9]);
-    assert_expands(&rt, &[0x00, 1, 0x00, 2, 0x00, 3], &[1, 2, 3]);
-    assert_expands(&rt, &[0x81, 5], &[5; 128]);
     let mut nothings = [0x80; 150];
     nothings[148] = 0x00;
     nothings[149] = 7;
-    assert_expands(&rt, &nothings, &[7]);
     let mut literal = [7; 129];
     literal[0] = 0x7F;
     literal[128] = 8;
-    assert_expands(&rt, &literal, &literal[1..]);
+    let expanded = [
+        expands(&[], &[]),
+        expands(&[0x80, 0x80, 0x80], &[]),
+        expands(&[0x80, 0x00, 1, 0x80, 0xFF, 2], &[1, 2, 2]),
+        expands(&[0x00], &[]),
+        expands(&[0x00, 9, 0x03, 1, 2, 3], &[9]),
+        expands(&[0x00, 9, 0xFE], &[9]),
+        expands(&[0x00, 1, 0x00, 2, 0x00, 3], &[1, 2, 3]),
+        expands(&[0x81, 5], &[5; 128]),
+        expands(&nothings, &[7]),
+        expands(&literal, &literal[1..]),
+    ];
+    check(&rt, &expanded);
 }
 
 #[test]
 fn skips_into_packets(rt: HostRuntime) {
     let packed = [0xFE, 0xAA, 0x80, 0x02, 0x80, 0x00, 0x2A];
     let mut unpacker = Unpacker::new(&packed);
-    assert_eq!(&rt; skip(&mut unpacker, 2), Ok(()));
-    let mut two = [0; 2];
-    assert_eq!(&rt; fill(&mut unpacker, &mut two), Ok(()));
-    assert_eq!(&rt; two, [0xAA, 0x80]);
-    assert_eq!(&rt; skip(&mut unpacker, 1), Ok(()));
-    assert_eq!(&rt; byte(&mut unpacker), Some(0x2A));
-    assert_eq!(&rt; skip(&mut unpacker, 0), Ok(()));
-    assert_eq!(&rt; skip(&mut unpacker, 1), Err(Short));
     let mut again = Unpacker::new(&packed);
-    assert_eq!(&rt; skip(&mut again, 7), Err(Short));
-    assert_eq!(&rt; byte(&mut again), None);
+    let passed = [
+        skips(&mut unpacker, 2),
+        fills(&mut unpacker, [0xAA, 0x80]),
+        skips(&mut unpacker, 1),
+        gives(&mut unpacker, &[0x2A]),
+        skips(&mut unpacker, 0),
+        !skips(&mut unpacker, 1),
+        !skips(&mut again, 7),
+        ends(&mut again),
+    ];
+    check(&rt, &passed);
 }
 
 #[test]
 fn packs_rows(rt: HostRuntime) {
-    assert_packs(
-        &rt,
-        &[0xAA, 0xAA, 0xAA, 0x80, 0x00, 0x2A],
-        &[0xFE, 0xAA, 0x02, 0x80, 0x00, 0x2A],
-    );
-    assert_packs(&rt, &[], &[]);
-    assert_packs(&rt, &[0xAA; 130], &[0x81, 0xAA, 0x01, 0xAA, 0xAA]);
-    assert_packs(&rt, &[0xAA; 131], &[0x81, 0xAA, 0xFE, 0xAA]);
-    assert_packs(&rt, &[1, 1, 2, 2], &[3, 1, 1, 2, 2]);
-    assert_packs(&rt, &[1, 2, 2, 2, 3], &[0, 1, 0xFE, 2, 0, 3]);
+    let packed = [
+        packs(
+            &[0xAA, 0xAA, 0xAA, 0x80, 0x00, 0x2A],
+            &[0xFE, 0xAA, 0x02, 0x80, 0x00, 0x2A],
+        ),
+        packs(&[], &[]),
+        packs(&[0xAA; 130], &[0x81, 0xAA, 0x01, 0xAA, 0xAA]),
+        packs(&[0xAA; 131], &[0x81, 0xAA, 0xFE, 0xAA]),
+        packs(&[1, 1, 2, 2], &[3, 1, 1, 2, 2]),
+        packs(&[1, 2, 2, 2, 3], &[0, 1, 0xFE, 2, 0, 3]),
+    ];
+    check(&rt, &packed);
+}
+
+// Bytes 0 and 1 in turn.
+fn alternate(row: &mut [u8]) {
+    for (i, byte) in row.iter_mut().enumerate() {
+        *byte = (i % 2) as u8;
+    }
 }
 
 #[test]
 fn cuts_literals(rt: HostRuntime) {
     let mut row = [1; 129];
-    for (i, byte) in row.iter_mut().enumerate() {
-        *byte = (i % 2) as u8;
-    }
+    alternate(&mut row);
     let mut packed = [0xEE; 131];
-    assert_eq!(&rt; pack_row(&row, &mut packed), 131);
-    let (first, last) = (&packed[..3], &packed[127..]);
-    assert_eq!(&rt; first, [0x7F, 0, 1].as_slice());
-    assert_eq!(&rt; last, [0, 1, 0, 0].as_slice());
+    let len = pack_row(&row, &mut packed);
+    let front = packed.starts_with(&[0x7F, 0, 1]);
+    check(&rt, &[len == 131, front, packed.ends_with(&[0, 1, 0, 0])]);
+}
+
+// The bound of a row of so many bytes, which are 65,535 at most.
+fn is_bound(n: usize, bound: usize) -> bool {
+    n <= 65_535 && pack_bound(n) == bound
 }
 
 #[test]
 fn bounds_packings(rt: HostRuntime) {
-    for (n, bound) in [(0, 0), (1, 2), (128, 129), (129, 131), (65_535, 66_047)] {
-        assert!(&rt; n <= 65_535);
-        assert_eq!(&rt; pack_bound(n), bound);
-    }
+    let bounds = [
+        is_bound(0, 0),
+        is_bound(1, 2),
+        is_bound(128, 129),
+        is_bound(129, 131),
+        is_bound(65_535, 66_047),
+    ];
+    check(&rt, &bounds);
 }
 
 #[test]
 fn frames_rows(rt: HostRuntime) {
     let mut frame = [0xEE; 9];
-    assert_eq!(&rt; frame_len(6), 9);
     frame_row(&[0xAA, 0xAA, 0xAA, 0x80, 0x00, 0x2A], &mut frame);
-    assert_eq!(&rt; frame, [6, 0, 0xFE, 0xAA, 0x02, 0x80, 0x00, 0x2A, 0]);
-    let packed = framed(&frame);
-    assert_eq!(&rt; packed, [0xFE, 0xAA, 0x02, 0x80, 0x00, 0x2A].as_slice());
+    let packed = [6, 0, 0xFE, 0xAA, 0x02, 0x80, 0x00, 0x2A, 0];
+    let row = framed(&frame) == &packed[2..8];
+    check(&rt, &[frame_len(6) == 9, frame == packed, row]);
 }
 
 #[test]
 fn frames_a_long_row(rt: HostRuntime) {
     let mut row = [1; 300];
-    for (i, byte) in row.iter_mut().enumerate() {
-        *byte = (i % 2) as u8;
-    }
+    alternate(&mut row);
     let mut frame = [0xEE; 305];
     frame_row(&row, &mut frame);
-    let header = &frame[..4];
-    assert_eq!(&rt; header, [0x2F, 0x01, 0x7F, 0].as_slice());
-    assert_eq!(&rt; frame_len(8192), 8258);
+    let header = frame.starts_with(&[0x2F, 0x01, 0x7F, 0]);
+    check(&rt, &[header, frame_len(8192) == 8258]);
 }

@@ -4,6 +4,7 @@ ghost use Rattle.std.specs.Prelude.{◌≡◌, ◌≤◌, length};
 ghost use Rattle.tif_plate.specs.Plate.{IsSide, strip_count};
 ghost use Rattle.tif_plate.specs.Tail.{IsPlaceable, tail_room};
 
+use crate::checks::check;
 use std::process::Abort;
 use tif_plate::{Tail, plate_front, plate_tail, rows_per_strip, strips};
 
@@ -45,32 +46,36 @@ fn tail_of(rt: &impl Abort, width: u32, height: u32, counts: &[u32], want: Tail)
 
 #[test]
 fn begins_with_the_mark_of_its_byte_order(rt: HostRuntime) {
-    assert_eq!(&rt; plate_front(), [0x49, 0x49, 0x2A, 0, 0, 0, 0, 0]);
+    check(&rt, &[plate_front() == [0x49, 0x49, 0x2A, 0, 0, 0, 0, 0]]);
 }
 
 #[test]
 fn cuts_rows_into_strips(rt: HostRuntime) {
-    assert_eq!(&rt; strips(4, 1), 1);
-    assert_eq!(&rt; strips(32768, 3), 2);
-    assert_eq!(&rt; rows_per_strip(9), 4096);
-    assert_eq!(&rt; rows_per_strip(32768), 2);
+    let cut = [
+        strips(4, 1) == 1,
+        strips(32768, 3) == 2,
+        rows_per_strip(9) == 4096,
+        rows_per_strip(32768) == 2,
+    ];
+    check(&rt, &cut);
 }
 
 #[test]
 fn writes_the_tail_of_one_strip(rt: HostRuntime) {
     let tail = tail_of(&rt, 4, 1, &[2], Tail { len: 166, at: 10 });
-    assert!(&rt; tail.starts_with(&FOUR_BY_ONE));
+    check(&rt, &[tail.starts_with(&FOUR_BY_ONE)]);
 }
 
 #[test]
 fn begins_at_an_even_place(rt: HostRuntime) {
     let tail = tail_of(&rt, 9, 1, &[3], Tail { len: 167, at: 12 });
-    assert!(&rt; tail.starts_with(&[0, 0x0C, 0, 0x00, 1]));
+    check(&rt, &[tail.starts_with(&[0, 0x0C, 0, 0x00, 1])]);
 }
 
 #[test]
 fn writes_the_table_of_two_strips(rt: HostRuntime) {
     let tail = tail_of(&rt, 32768, 3, &[128, 64], Tail { len: 182, at: 200 });
-    assert!(&rt; tail[62..].starts_with(&[0x11, 1, 4, 0, 2, 0, 0, 0, 0x6E, 1, 0, 0]));
-    assert!(&rt; tail[166..] == [8, 0, 0, 0, 136, 0, 0, 0, 128, 0, 0, 0, 64, 0, 0, 0, 0xEE]);
+    let offsets = tail[62..].starts_with(&[0x11, 1, 4, 0, 2, 0, 0, 0, 0x6E, 1, 0, 0]);
+    let values = tail[166..] == [8, 0, 0, 0, 136, 0, 0, 0, 128, 0, 0, 0, 64, 0, 0, 0, 0xEE];
+    check(&rt, &[offsets, values]);
 }

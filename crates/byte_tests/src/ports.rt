@@ -1,7 +1,7 @@
 // Shelves and sinks, in memory and on the machine, and streams whose calls fail.
-use pr_base::{Counted, NoMemory, PathText};
+use crate::checks::check;
+use pr_base::{Counted, PathText};
 use pr_ports::{HostShelf, LoadFault, MemShelf, MemSink, Shelf, Sink, SinkFault, WriterSink};
-use std::alloc::Global;
 use std::io::{Read, Write};
 use std::path::PathBuf;
 use std::process::Abort;
@@ -9,36 +9,35 @@ use std::test::Fail;
 use std::{env, fs, io, process};
 
 /// A call of `load` gives these bytes, or fails in this way.
-fn assert_loads<S: Shelf>(
-    rt: &impl Abort,
-    shelf: &mut S,
-    path: &str,
-    limit: u64,
-    want: Result<&[u8], LoadFault>,
-) {
+fn loads<S: Shelf>(shelf: &mut S, path: &str, limit: u64, want: Result<&[u8], LoadFault>) -> bool {
     match shelf.load(path, limit) {
-        Ok(bytes) => assert!(rt; Ok(bytes.as_slice()) == want),
-        Err(fault) => assert!(rt; Err(fault) == want),
+        Ok(bytes) => Ok(bytes.as_slice()) == want,
+        Err(fault) => Err(fault) == want,
     }
 }
 
 #[test]
-fn a_shelf_in_memory_loads_what_it_holds(rt: HostRuntime) -> Result<(), Fail> {
-    let mut shelf = shelf_of(rt.alloc())?;
+fn a_shelf_in_memory_loads_what_it_holds(rt: HostRuntime) {
+    let mut shelf = shelf_of(&rt);
     let too_long = LoadFault::TooLong { limit: 4 };
-    assert_loads(&rt, &mut shelf, "in/a.tif", 5, Ok(b"plate"));
-    assert_loads(&rt, &mut shelf, "in/a.tif", 4, Err(too_long));
-    assert_loads(&rt, &mut shelf, "in/b.tif", 5, Err(LoadFault::Failed));
-    assert_loads(&rt, &mut shelf, "in/a.tif", 5, Err(LoadFault::Failed));
-    Ok(())
+    let loaded = [
+        loads(&mut shelf, "in/a.tif", 5, Ok(b"plate")),
+        loads(&mut shelf, "in/a.tif", 4, Err(too_long)),
+        loads(&mut shelf, "in/b.tif", 5, Err(LoadFault::Failed)),
+        loads(&mut shelf, "in/a.tif", 5, Err(LoadFault::Failed)),
+    ];
+    check(&rt, &loaded);
 }
 
 // A shelf of one file whose fourth call fails.
-fn shelf_of(alloc: Global) -> Result<MemShelf, NoMemory> {
+fn shelf_of<R: Abort + AllocGlobal>(rt: &R) -> MemShelf {
+    let alloc = rt.alloc();
+    let path = PathText::of(alloc, "in/a.tif").expect(rt, "memory");
+    let bytes = b"plate".to_vec(alloc).expect(rt, "memory");
     let mut files = Vec::new(alloc);
-    let bytes = b"plate".to_vec(alloc)?;
-    files.push((PathText::of(alloc, "in/a.tif")?, bytes))?;
-    Ok(MemShelf::new(alloc, files, vec![in alloc; 3]?))
+    files.push((path, bytes)).expect(rt, "memory");
+    let failing = vec![in alloc; 3].expect(rt, "memory");
+    MemShelf::new(alloc, files, failing)
 }
 
 /// A file of this test process in the folder for such files.
@@ -47,25 +46,32 @@ fn own_file(rt: &HostRuntime, name: &str) -> Result<PathBuf, Fail> {
     Ok(env::temp_dir(rt)?.join(rt.alloc(), name)?)
 }
 
+// A file of so many bytes, and the next smaller limit.
+fn reads<S: Shelf>(rt: &HostRuntime, shelf: &mut S, path: &str, bytes: &[u8]) -> bool {
+    let limit = bytes.len() as u64;
+    let less = limit.saturating_sub(1);
+    fs::write(rt, path, bytes).is_ok()
+        && loads(shelf, path, limit, Ok(bytes))
+        && loads(shelf, path, less, Err(LoadFault::TooLong { limit: less }))
+}
+
+// The longer file takes more than one read, and the folder / opens and can't be read.
+fn reads_and_refuses<S: Shelf>(rt: &HostRuntime, shelf: &mut S, path: &str) -> [bool; 5] {
+    [
+        reads(rt, shelf, path, b"plate"),
+        reads(rt, shelf, path, &[0x4B; 70_000]),
+        fs::remove_file(rt, path).is_ok(),
+        loads(shelf, path, 5, Err(LoadFault::Failed)),
+        loads(shelf, "/", 5, Err(LoadFault::Failed)),
+    ]
+}
+
 #[test]
 fn the_machines_shelf_reads_a_file_and_refuses_others(rt: HostRuntime) -> Result<(), Fail> {
     let path = own_file(&rt, "shelf")?;
-    let mut shelf = HostShelf::new(rt.clone()?);
     let text = path.as_path().to_str().ok_or("no text")?;
-    fs::write(&rt, path.as_path(), b"plate")?;
-    let too_long = LoadFault::TooLong { limit: 4 };
-    assert_loads(&rt, &mut shelf, text, 5, Ok(b"plate"));
-    assert_loads(&rt, &mut shelf, text, 4, Err(too_long));
-    // A file that takes more than one read.
-    let long = [0x4B; 70_000];
-    fs::write(&rt, path.as_path(), &long)?;
-    let too_long = LoadFault::TooLong { limit: 69_999 };
-    assert_loads(&rt, &mut shelf, text, 70_000, Ok(&long));
-    assert_loads(&rt, &mut shelf, text, 69_999, Err(too_long));
-    fs::remove_file(&rt, path.as_path())?;
-    assert_loads(&rt, &mut shelf, text, 5, Err(LoadFault::Failed));
-    // A folder opens and can't be read.
-    assert_loads(&rt, &mut shelf, "/", 5, Err(LoadFault::Failed));
+    let mut shelf = HostShelf::new(rt.clone()?);
+    check(&rt, &reads_and_refuses(&rt, &mut shelf, text));
     Ok(())
 }
 
@@ -85,43 +91,73 @@ impl Read for Broken {
     }
 }
 
+// A read gives so many bytes, and so many calls have failed then.
+fn counts(file: &mut Counted<Broken>, read: Option<usize>, faults: u64) -> bool {
+    file.read(&mut [0; 9]) == read && file.faults() == faults
+}
+
 #[test]
 fn a_read_that_fails_midway_is_counted(rt: HostRuntime) {
     let mut file = Counted::new(Broken { reads: 0 }, 4);
-    for (read, faults) in [(Some(3), 4), (Some(3), 4), (None, 5), (None, 6)] {
-        assert_eq!(rt; file.read(&mut [0; 9]), read);
-        assert_eq!(rt; file.faults(), faults);
-    }
+    let counted = [
+        counts(&mut file, Some(3), 4),
+        counts(&mut file, Some(3), 4),
+        counts(&mut file, None, 5),
+        counts(&mut file, None, 6),
+    ];
+    check(&rt, &counted);
 }
 
 /// A call of `put` is taken, or fails in this way.
-fn assert_puts<S: Sink>(rt: &impl Abort, sink: &mut S, bytes: &[u8], want: Result<(), SinkFault>) {
-    assert!(rt; sink.put(bytes) == want);
+fn puts<S: Sink>(sink: &mut S, bytes: &[u8], want: Result<(), SinkFault>) -> bool {
+    sink.put(bytes) == want
 }
 
 #[test]
-fn a_sink_in_memory_fails_where_told(rt: HostRuntime) -> Result<(), Fail> {
-    let mut sink = MemSink::new(rt.alloc(), vec![in rt.alloc(); 1]?);
-    assert_puts(&rt, &mut sink, b"ab", Ok(()));
-    assert_puts(&rt, &mut sink, b"cd", Err(SinkFault::Failed));
-    assert_puts(&rt, &mut sink, b"e", Ok(()));
-    assert_eq!(rt; sink.bytes(), b"abe".as_slice());
-    Ok(())
+fn a_sink_in_memory_fails_where_told(rt: HostRuntime) {
+    let failing = vec![in rt.alloc(); 1].expect(&rt, "memory");
+    let mut sink = MemSink::new(rt.alloc(), failing);
+    let put = [
+        puts(&mut sink, b"ab", Ok(())),
+        puts(&mut sink, b"cd", Err(SinkFault::Failed)),
+        puts(&mut sink, b"e", Ok(())),
+        sink.bytes() == b"abe".as_slice(),
+    ];
+    check(&rt, &put);
+}
+
+// Makes this file, and each of these pieces is put into it with this answer.
+fn writes(rt: &HostRuntime, path: &str, pieces: &[&[u8]], want: Result<(), SinkFault>) -> bool {
+    let Ok(file) = fs::create(rt, path) else {
+        return false;
+    };
+    let mut sink = WriterSink::new(file);
+    for piece in pieces {
+        if !puts(&mut sink, piece, want) {
+            return false;
+        }
+    }
+    true
+}
+
+// The file has these bytes, and then goes.
+fn has(rt: &HostRuntime, path: &str, bytes: &[u8]) -> bool {
+    let Ok(written) = fs::read(rt, path) else {
+        return false;
+    };
+    fs::remove_file(rt, path).is_ok() && written.as_slice() == bytes
 }
 
 #[test]
 fn a_writer_sink_writes_a_file_and_tells_a_full_device(rt: HostRuntime) -> Result<(), Fail> {
     let path = own_file(&rt, "sink")?;
-    let mut sink = WriterSink::new(fs::create(&rt, path.as_path())?);
-    assert_puts(&rt, &mut sink, b"ab", Ok(()));
-    assert_puts(&rt, &mut sink, b"", Ok(()));
-    assert_puts(&rt, &mut sink, b"c", Ok(()));
-    let written = fs::read(&rt, path.as_path())?;
-    fs::remove_file(&rt, path.as_path())?;
-    assert_eq!(rt; written.as_slice(), b"abc".as_slice());
-
-    let mut full = WriterSink::new(fs::create(&rt, "/dev/full")?);
-    assert_puts(&rt, &mut full, b"abc", Err(SinkFault::Failed));
+    let text = path.as_path().to_str().ok_or("no text")?;
+    let written = [
+        writes(&rt, text, &[b"ab", b"", b"c"], Ok(())),
+        has(&rt, text, b"abc"),
+        writes(&rt, "/dev/full", &[b"abc"], Err(SinkFault::Failed)),
+    ];
+    check(&rt, &written);
     Ok(())
 }
 
@@ -148,21 +184,21 @@ impl Write for Slow<'_> {
     }
 }
 
-fn assert_puts_slowly(
-    rt: &impl Abort,
+fn puts_slowly(
     into: &mut Vec<u8>,
     flushes: bool,
     bytes: &[u8],
     want: Result<(), SinkFault>,
-) {
+) -> bool {
     let mut sink = WriterSink::new(Slow { into, flushes });
-    assert_puts(rt, &mut sink, bytes, want);
+    puts(&mut sink, bytes, want)
 }
 
 #[test]
 fn a_writer_sink_writes_again_and_tells_a_failed_flush(rt: HostRuntime) {
     let mut into = Vec::new(rt.alloc());
-    assert_puts_slowly(&rt, &mut into, true, b"plate", Ok(()));
-    assert_eq!(rt; into.as_slice(), b"plate".as_slice());
-    assert_puts_slowly(&rt, &mut into, false, b"s", Err(SinkFault::Failed));
+    let put = puts_slowly(&mut into, true, b"plate", Ok(()));
+    let written = into.as_slice() == b"plate".as_slice();
+    let flushed = puts_slowly(&mut into, false, b"s", Err(SinkFault::Failed));
+    check(&rt, &[put, written, flushed]);
 }
