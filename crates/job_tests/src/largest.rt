@@ -61,14 +61,14 @@ fn draw<F: RowFeed + Drop>(feed: F, row: &mut [u8])
     feed.next(row);
 }
 
-// A row of 8,192 bytes is packed as 64 repeats of 128 zeros, 128 bytes that are counted before them.
-fn check_row(rt: &impl Abort, row: &[u8]) {
-    assert_eq!(rt; row.len(), 8_258);
-    assert_eq!(rt; &row[..2], [0x80, 0].as_slice());
-    for packet in row[2..130].chunks(2) {
-        assert_eq!(rt; packet, [0x81, 0].as_slice());
-    }
-    assert!(rt; row[130..].iter().all(|byte| *byte == 0));
+// Whether a row of 8,192 bytes is packed as 64 repeats of 128 zeros, 128 bytes that are counted before them.
+fn is_blank(row: &[u8]) -> bool {
+    row.len() == 8_258
+        && row.starts_with(&[0x80, 0])
+        && row[2..130]
+            .chunks(2)
+            .all(|packet| packet == [0x81, 0].as_slice())
+        && row[130..].iter().all(|byte| *byte == 0)
 }
 
 // The end of a value.
@@ -76,9 +76,9 @@ fn end<T: Drop>(_value: T) {}
 
 // What is asked of a job of the largest pages.
 fn check_job(rt: &impl Abort, alloc: Global, job: &Job) -> Result<(), NoMemory> {
-    assert_eq!(rt; job.total(), 64 * 65_535);
+    assert!(rt; job.total() == 64 * 65_535);
     let row = first_row(alloc, job)?;
-    check_row(rt, &row);
+    assert!(rt; is_blank(&row));
     Ok(())
 }
 

@@ -1,9 +1,7 @@
 // Jobs of some numbers beside what the definition of a generated job says of them, worked by hand.
 use job_gen::{GenJob, make_job};
-use plan_json::{Plan, read_plan};
-use std::alloc::Global;
+use plan_json::read_plan;
 use std::process::Abort;
-use std::test::Fail;
 
 // The number, its sites and pages, the sides of a page, and how many files there are.
 const JOBS: [(u32, [usize; 2], [u32; 2], usize); 4] = [
@@ -32,37 +30,36 @@ const BYTES: [(usize, usize, u8); 10] = [
 ];
 
 #[test]
-fn plans_are_read(rt: HostRuntime) -> Result<(), Fail> {
+fn plans_are_read(rt: HostRuntime) {
     for (n, lists, sides, files) in JOBS {
-        let job = job_of(rt.alloc(), n)?;
-        check_plan(
-            &rt,
-            &read_plan(rt.alloc(), job.plan.as_slice())?,
-            lists,
-            sides,
-        );
-        assert_eq!(rt; job.files.len(), files);
+        let job = job_of(&rt, n);
+        assert!(rt; is_plan(&rt, &job, lists, sides), "plan {n}");
+        assert!(rt; job.files.len() == files, "files of {n}");
     }
-    Ok(())
 }
 
 // The job of a number.
-fn job_of(alloc: Global, n: u32) -> Result<GenJob, Fail> {
-    Ok(make_job(alloc, n)?)
+fn job_of<R: Abort + AllocGlobal>(rt: &R, n: u32) -> GenJob {
+    make_job(rt.alloc(), n).expect(rt, "memory")
 }
 
-fn check_plan(rt: &impl Abort, plan: &Plan, lists: [usize; 2], sides: [u32; 2]) {
-    assert_eq!(rt; [plan.sites.len(), plan.pages.len()], lists);
-    assert_eq!(rt; [plan.page_width, plan.page_height], sides);
+// Whether the plan of a job is read, and has so many sites and pages with these sides.
+fn is_plan<R: AllocGlobal>(rt: &R, job: &GenJob, lists: [usize; 2], sides: [u32; 2]) -> bool {
+    let Ok(plan) = read_plan(rt.alloc(), job.plan.as_slice()) else {
+        return false;
+    };
+    [plan.sites.len(), plan.pages.len()] == lists && [plan.page_width, plan.page_height] == sides
 }
 
 #[test]
-fn files_hold_their_pixels(rt: HostRuntime) -> Result<(), Fail> {
-    let job = job_of(rt.alloc(), 7)?;
+fn files_hold_their_pixels(rt: HostRuntime) {
+    let job = job_of(&rt, 7);
     for (file, place, byte) in BYTES {
-        assert_eq!(rt; byte_of(&job, file, place), Some(byte));
+        assert!(rt;
+            byte_of(&job, file, place) == Some(byte),
+            "byte {place} of file {file}"
+        );
     }
-    Ok(())
 }
 
 fn byte_of(job: &GenJob, file: usize, place: usize) -> Option<u8> {
