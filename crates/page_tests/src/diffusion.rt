@@ -1,10 +1,8 @@
 // Error diffusion: worked rows, and a page whose bits another program made.
 ghost use Rattle.std.specs.Prelude.{◌≡◌, ◌≤◌};
 
-use pr_base::NoMemory;
 use scr_diffuse::Diffuser;
 use std::process::Abort;
-use std::test::Fail;
 
 /// A page of 61 by 17 values from a linear congruential generator. A Python program of ten lines, which keeps
 /// the errors of the whole page in a table and reads the formula as it stands, made these bits.
@@ -35,13 +33,14 @@ fn assert_drawn<const W: usize, R: Abort + AllocGlobal>(
     rows: &[([u8; W], u32)],
     before: [u8; 4],
     want: [u8; 4],
-) -> Result<(), NoMemory> {
+) {
     assert!(rt; W <= 32);
-    let mut diffuser = Diffuser::new(rt.alloc(), W as u32)?;
-    assert_eq!(rt; drawn(rt, &mut diffuser, rows, before), want);
+    let mut diffuser = Diffuser::new(rt.alloc(), W as u32).expect(rt, "memory");
+    let first = drawn(rt, &mut diffuser, rows, before);
     diffuser.restart();
-    assert_eq!(rt; drawn(rt, &mut diffuser, rows, before), want);
-    Ok(())
+    let second = drawn(rt, &mut diffuser, rows, before);
+    assert!(rt; first == want, "at first");
+    assert!(rt; second == want, "again");
 }
 
 fn drawn<const W: usize>(
@@ -63,17 +62,16 @@ fn drawn<const W: usize>(
 }
 
 #[test]
-fn seeded_page(rt: HostRuntime) -> Result<(), Fail> {
-    let mut diffuser = Diffuser::new(rt.alloc(), 61)?;
+fn seeded_page(rt: HostRuntime) {
+    let mut diffuser = Diffuser::new(rt.alloc(), 61).expect(&rt, "memory");
     let mut seed = 1976;
     for expected in SEEDED {
         let (values, next) = seeded(seed);
         seed = next;
         let mut bits = [0; 8];
         diffuser.row(&values, &mut bits, 0);
-        assert_eq!(rt; bits, expected);
+        assert!(rt; bits == expected);
     }
-    Ok(())
 }
 
 /// The next values of the generator, and where it then stands.
@@ -89,23 +87,21 @@ fn seeded(seed: u32) -> ([u8; 61], u32) {
 
 // All 128: v is 128, 72, 159, 86 and then 101, 168, 80, 183. A page that begins again is drawn as the first.
 #[test]
-fn four_by_two(rt: HostRuntime) -> Result<(), Fail> {
+fn four_by_two(rt: HostRuntime) {
     let row = [128; 4];
-    assert_drawn(&rt, &[(row, 0), (row, 8)], [0; 4], [0xA0, 0x50, 0, 0])?;
-    assert_drawn(&rt, &[(row, 12)], [0xA0, 0x50, 0, 0], [0xA0, 0x5A, 0, 0])?;
-    Ok(())
+    assert_drawn(&rt, &[(row, 0), (row, 8)], [0; 4], [0xA0, 0x50, 0, 0]);
+    assert_drawn(&rt, &[(row, 12)], [0xA0, 0x50, 0, 0], [0xA0, 0x5A, 0, 0]);
 }
 
 #[test]
-fn one_pixel(rt: HostRuntime) -> Result<(), Fail> {
-    assert_drawn(&rt, &[([127], 0)], [0; 4], [0; 4])?;
-    assert_drawn(&rt, &[([128], 0)], [0; 4], [0x80, 0, 0, 0])?;
-    Ok(())
+fn one_pixel(rt: HostRuntime) {
+    assert_drawn(&rt, &[([127], 0)], [0; 4], [0; 4]);
+    assert_drawn(&rt, &[([128], 0)], [0; 4], [0x80, 0, 0, 0]);
 }
 
 // The errors are -55, 82, 75, 48, -60, 71, -105 and 94, of which five sixteenths go down.
 #[test]
-fn one_column(rt: HostRuntime) -> Result<(), Fail> {
+fn one_column(rt: HostRuntime) {
     let rows = [
         ([200], 0),
         ([100], 1),
@@ -116,25 +112,22 @@ fn one_column(rt: HostRuntime) -> Result<(), Fail> {
         ([128], 6),
         ([127], 7),
     ];
-    assert_drawn(&rt, &rows, [0; 4], [0x8A, 0, 0, 0])?;
-    Ok(())
+    assert_drawn(&rt, &rows, [0; 4], [0x8A, 0, 0, 0]);
 }
 
 // The errors are -55, 75, 82, 60, -49, 68, -98, 84, 39, 12 and 104,
 // of which seven sixteenths go to the right.
 #[test]
-fn one_row(rt: HostRuntime) -> Result<(), Fail> {
+fn one_row(rt: HostRuntime) {
     let row = [200, 100, 50, 25, 180, 90, 128, 127, 3, 250, 99];
-    assert_drawn(&rt, &[(row, 0)], [0; 4], [0x8A, 0x40, 0, 0])?;
-    Ok(())
+    assert_drawn(&rt, &[(row, 0)], [0; 4], [0x8A, 0x40, 0, 0]);
 }
 
 // Twenty pixels from bit 5 on: three up to a whole byte, two bytes, and one more. Bits outside stay.
 #[test]
-fn white_and_full(rt: HostRuntime) -> Result<(), Fail> {
+fn white_and_full(rt: HostRuntime) {
     let white = ([0; 20], 5);
     let full = ([255; 20], 5);
-    assert_drawn(&rt, &[white, white], [0xFF; 4], [0xF8, 0, 0, 0x7F])?;
-    assert_drawn(&rt, &[full, full], [0; 4], [0x07, 0xFF, 0xFF, 0x80])?;
-    Ok(())
+    assert_drawn(&rt, &[white, white], [0xFF; 4], [0xF8, 0, 0, 0x7F]);
+    assert_drawn(&rt, &[full, full], [0; 4], [0x07, 0xFF, 0xFF, 0x80]);
 }

@@ -1,13 +1,11 @@
 // Small files, layers of them, and the pages that these make.
-ghost use Rattle.std.specs.Prelude.{◌≡◌, ◌-◌, ◌<◌, ◌≤◌, [], All, IfOk, length};
+ghost use Rattle.std.specs.Prelude.{◌≡◌, ◌-◌, ◌<◌, ◌≤◌, [], All, length};
 ghost use Rattle.page_layers.specs.Inks.{HasWidth};
 ghost use Rattle.page_layers.specs.Layer.{IsLayer, shape_of};
 
 use page_layers::{Art, Crop, InkRow, Layer, PageRows};
-use pr_base::{Ink, NoMemory, TagFault};
-use std::alloc::Global;
+use pr_base::Ink;
 use std::process::Abort;
-use std::test::Fail;
 use tif_image::{Bilevel, BilevelUse, Contone};
 use tif_make::{Compression, ImageForm, Kind, Order, Planar, make_image};
 
@@ -23,21 +21,21 @@ const FORM: ImageForm = ImageForm {
 };
 
 // A file of four inks: sample i of pixel x of row y is 10 y + x + 40 i + 1.
-fn contone(alloc: Global) -> Result<Vec<u8>, NoMemory> {
+fn contone<R: Abort + AllocGlobal>(rt: &R) -> Vec<u8> {
     let rows = [
         1, 41, 81, 121, 2, 42, 82, 122, 3, 43, 83, 123, 4, 44, 84, 124, //
         11, 51, 91, 131, 12, 52, 92, 132, 13, 53, 93, 133, 14, 54, 94, 134, //
     ];
-    make_image(alloc, &FORM, &rows)
+    make_image(rt.alloc(), &FORM, &rows).expect(rt, "memory")
 }
 
 // A file of one bit a pixel: marked are the pixels 0 and 2 of row 0, and 1 to 3 of row 1.
-fn bilevel(alloc: Global) -> Result<Vec<u8>, NoMemory> {
+fn bilevel<R: Abort + AllocGlobal>(rt: &R) -> Vec<u8> {
     let form = ImageForm {
         kind: Kind::Line,
         ..FORM
     };
-    make_image(alloc, &form, &[0xA0, 0x70])
+    make_image(rt.alloc(), &form, &[0xA0, 0x70]).expect(rt, "memory")
 }
 
 /// What a layer shows: the file of four inks, or that of one bit a pixel in these inks.
@@ -104,16 +102,16 @@ pub fn assert_page<const W: usize, R: Abort + AllocGlobal>(
     layers: &[Laid],
     height: u32,
     turns: &[&[Row<W>]],
-) -> Result<(), Fail> {
-    let image = contone(rt.alloc())?;
-    let line = bilevel(rt.alloc())?;
+) {
+    let image = contone(rt);
+    let line = bilevel(rt);
     assert_turns(
         rt,
-        layer(image.as_slice(), line.as_slice(), &BEFORE)?,
-        layers_of(rt, image.as_slice(), line.as_slice(), layers)?,
+        layer(rt, image.as_slice(), line.as_slice(), &BEFORE),
+        layers_of(rt, image.as_slice(), line.as_slice(), layers),
         height,
         turns,
-    )
+    );
 }
 
 fn assert_turns<'a, const W: usize, R: Abort + AllocGlobal>(
@@ -122,18 +120,17 @@ fn assert_turns<'a, const W: usize, R: Abort + AllocGlobal>(
     layers: Vec<Layer<'a>>,
     height: u32,
     turns: &[&[Row<W>]],
-) -> Result<(), Fail>
+)
     requires { All IsLayer layers.items }
 {
     assert!(rt; W >= 1 && W <= 65_535 && height >= 1 && height <= 65_535);
-    let mut room = InkRow::new(rt.alloc(), W as u32)?;
-    let mut page = used_page(rt, before, layers.len(), W as u32, height, &mut room)?;
+    let mut room = InkRow::new(rt.alloc(), W as u32).expect(rt, "memory");
+    let mut page = used_page(rt, before, layers.len(), W as u32, height, &mut room);
     put_all(&mut page, layers);
     for rows in turns {
         assert_rows(rt, &mut page, &mut room, height, rows);
         page.restart();
     }
-    Ok(())
 }
 
 // A page without layers, in room that a page of one layer used before.
@@ -144,22 +141,22 @@ fn used_page<'a, R: Abort + AllocGlobal>(
     width: u32,
     height: u32,
     room: &mut InkRow,
-) -> Result<PageRows<'a>, Fail>
+) -> PageRows<'a>
     requires width { (1 ≤ width) × (width ≤ 65535) }
     requires height { (1 ≤ height) × (height ≤ 65535) }
     requires row { HasWidth room.old width }
-    ensures width { IfOk result (λ page. page.width ≡ width) }
+    ensures width { result.width ≡ width }
     ensures row { HasWidth room.new width }
-    ensures top { IfOk result (λ page. page.next ≡ 0) }
-    ensures none { IfOk result (λ page. page.layers ≡ []) }
-    ensures room { IfOk result (λ page. layers ≤ page.room) }
+    ensures top { result.next ≡ 0 }
+    ensures none { result.layers ≡ [] }
+    ensures room { layers ≤ result.room }
 {
-    let mut page = PageRows::open(rt.alloc(), layers.max(1), width, height)?;
+    let mut page = PageRows::open(rt.alloc(), layers.max(1), width, height).expect(rt, "memory");
     assert_layer(rt, &before);
     page.put(before);
     page.next(room);
     page.clear();
-    Ok(page)
+    page
 }
 
 // Puts layers on a page without any.
@@ -192,7 +189,7 @@ fn assert_rows<const W: usize>(
         assert_next(rt, page, room, row);
         left -= 1;
     }
-    assert_eq!(rt; page.left(), left);
+    assert!(rt; page.left() == left);
 }
 
 fn assert_stands(rt: &impl Abort, page: &PageRows<'_>, left: u32, repeats: bool)
@@ -234,50 +231,54 @@ fn layers_of<'a, R: Abort + AllocGlobal>(
     image: &'a [u8],
     line: &'a [u8],
     laid: &[Laid],
-) -> Result<Vec<Layer<'a>>, Fail>
-    ensures { IfOk result (λ layers. All IsLayer layers.items) }
+) -> Vec<Layer<'a>>
+    ensures { All IsLayer result.items }
 {
     let mut layers = Vec::new(rt.alloc());
     for laid in laid {
-        put(rt, &mut layers, layer(image, line, laid)?)?;
+        put(rt, &mut layers, layer(rt, image, line, laid));
     }
-    Ok(layers)
+    layers
 }
 
 // Puts a layer on the others, once it is one that a page takes.
-fn put<'a, R: Abort>(rt: &R, layers: &mut Vec<Layer<'a>>, layer: Layer<'a>) -> Result<(), Fail>
+fn put<'a, R: Abort>(rt: &R, layers: &mut Vec<Layer<'a>>, layer: Layer<'a>)
     requires { All IsLayer layers.old.items }
-    ensures { IfOk result (λ done. All IsLayer layers.new.items) }
+    ensures { All IsLayer layers.new.items }
 {
     assert_layer(rt, &layer);
-    layers.push(layer)?;
-    Ok(())
+    layers.push(layer).expect(rt, "memory");
 }
 
-fn layer<'a>(image: &'a [u8], line: &'a [u8], laid: &Laid) -> Result<Layer<'a>, TagFault> {
-    Ok(Layer {
-        art: art(image, line, laid.shown)?,
-        mask: mask(line, laid.masked)?,
+fn layer<'a, R: Abort>(rt: &R, image: &'a [u8], line: &'a [u8], laid: &Laid) -> Layer<'a> {
+    Layer {
+        art: art(rt, image, line, laid.shown),
+        mask: mask(rt, line, laid.masked),
         x: laid.x,
         y: laid.y,
         scale: laid.scale,
         crop: laid.crop,
         overprint: laid.overprint,
-    })
+    }
 }
 
-fn art<'a>(image: &'a [u8], line: &'a [u8], shown: Shown) -> Result<Art<'a>, TagFault> {
+fn art<'a, R: Abort>(rt: &R, image: &'a [u8], line: &'a [u8], shown: Shown) -> Art<'a> {
     match shown {
-        Shown::Contone => Ok(Art::Contone(Contone::check(image)?)),
-        Shown::Line(inks) => Ok(Art::Line(Bilevel::check(line, BilevelUse::Line)?, inks)),
+        Shown::Contone => Art::Contone(Contone::check(image).expect(rt, "no image")),
+        Shown::Line(inks) => Art::Line(linework(rt, line, BilevelUse::Line), inks),
     }
 }
 
-fn mask(line: &[u8], masked: bool) -> Result<Option<Bilevel<'_>>, TagFault> {
+fn mask<'a, R: Abort>(rt: &R, line: &'a [u8], masked: bool) -> Option<Bilevel<'a>> {
     if !masked {
-        return Ok(None);
+        return None;
     }
-    Ok(Some(Bilevel::check(line, BilevelUse::Mask)?))
+    Some(linework(rt, line, BilevelUse::Mask))
+}
+
+/// An image of one bit a pixel.
+pub fn linework<'a, R: Abort>(rt: &R, file: &'a [u8], usage: BilevelUse) -> Bilevel<'a> {
+    Bilevel::check(file, usage).expect(rt, "no image")
 }
 
 // Stops unless a page takes this layer.

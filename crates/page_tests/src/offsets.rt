@@ -1,14 +1,12 @@
 // Masked linework from each first column and in each width around a block of 64 pixels, beside a plain loop.
-ghost use Rattle.std.specs.Prelude.{◌≡◌, ◌<◌, [], IfOk, length};
+ghost use Rattle.std.specs.Prelude.{◌≡◌, ◌<◌, [], length};
 ghost use Rattle.page_layers.specs.Inks.{HasWidth};
 
-use crate::layers::assert_layer;
+use crate::layers::{assert_layer, linework};
 use page_layers::{Art, Crop, InkRow, Layer, PageRows};
-use pr_base::{Ink, NoMemory};
-use std::alloc::Global;
+use pr_base::Ink;
 use std::process::Abort;
-use std::test::Fail;
-use tif_image::{Bilevel, BilevelUse};
+use tif_image::BilevelUse;
 use tif_make::{Compression, ImageForm, Kind, Order, Planar, make_image};
 
 // A row of 200 pixels, of which the ones are marked.
@@ -23,7 +21,7 @@ const MASK: [u8; 25] = [
     0x24, 0x00, 0xC9, 0x05, 0x10, 0xFF, 0xA0, 0x00, 0x42,
 ];
 
-fn file(alloc: Global, row: &[u8]) -> Result<Vec<u8>, NoMemory>
+fn file<R: Abort + AllocGlobal>(rt: &R, row: &[u8]) -> Vec<u8>
     requires { length row.now ≡ 25 }
 {
     let form = ImageForm {
@@ -35,7 +33,7 @@ fn file(alloc: Global, row: &[u8]) -> Result<Vec<u8>, NoMemory>
         compression: Compression::Uncompressed,
         rows_per_strip: 1,
     };
-    make_image(alloc, &form, row)
+    make_image(rt.alloc(), &form, row).expect(rt, "memory")
 }
 
 // Makes PhotometricInterpretation 1, in the fifth of the fields, which begin at byte 10.
@@ -46,30 +44,23 @@ fn mark_zeros(rt: &impl Abort, file: &mut [u8]) {
 }
 
 #[test]
-fn rows_begin_and_end_at_any_column(rt: HostRuntime) -> Result<(), Fail> {
-    let line = file(rt.alloc(), &LINE)?;
-    let mut mask = file(rt.alloc(), &MASK)?;
+fn rows_begin_and_end_at_any_column(rt: HostRuntime) {
+    let line = file(&rt, &LINE);
+    let mut mask = file(&rt, &MASK);
     mark_zeros(&rt, &mut mask);
     for width in 1..131 {
-        assert_columns(&rt, &line, &mask, width)?;
+        assert_columns(&rt, &line, &mask, width);
     }
-    Ok(())
 }
 
 // One page of this width after the other, in one room.
-fn assert_columns<R: Abort + AllocGlobal>(
-    rt: &R,
-    line: &[u8],
-    mask: &[u8],
-    width: u32,
-) -> Result<(), Fail> {
+fn assert_columns<R: Abort + AllocGlobal>(rt: &R, line: &[u8], mask: &[u8], width: u32) {
     assert!(rt; width >= 1 && width <= 130);
-    let mut page = PageRows::open(rt.alloc(), 1, width, 1)?;
-    let mut room = InkRow::new(rt.alloc(), width)?;
+    let mut page = PageRows::open(rt.alloc(), 1, width, 1).expect(rt, "memory");
+    let mut room = InkRow::new(rt.alloc(), width).expect(rt, "memory");
     for first in 0..64 {
-        assert_row(rt, line, mask, first, width, &mut page, &mut room)?;
+        assert_row(rt, line, mask, first, width, &mut page, &mut room);
     }
-    Ok(())
 }
 
 // Leaves the page as it was, without layers.
@@ -81,17 +72,17 @@ fn assert_row<'a>(
     width: u32,
     page: &mut PageRows<'a>,
     room: &mut InkRow,
-) -> Result<(), Fail>
+)
     requires none { page.old.layers ≡ [] }
     requires place { 0 < page.old.room }
     requires top { (page.old.next ≡ 0) × (0 < page.old.height) }
     requires width { HasWidth room.old page.old.width }
-    ensures page { IfOk result (λ done. page.new ≡ page.old) }
-    ensures width { IfOk result (λ done. HasWidth room.new page.old.width) }
+    ensures page { page.new ≡ page.old }
+    ensures width { HasWidth room.new page.old.width }
 {
     let layer = Layer {
-        art: Art::Line(Bilevel::check(line, BilevelUse::Line)?, [0, 0, 0, 255, 0]),
-        mask: Some(Bilevel::check(mask, BilevelUse::Mask)?),
+        art: Art::Line(linework(rt, line, BilevelUse::Line), [0, 0, 0, 255, 0]),
+        mask: Some(linework(rt, mask, BilevelUse::Mask)),
         x: 0,
         y: 0,
         scale: 1,
@@ -108,7 +99,6 @@ fn assert_row<'a>(
     page.next(room);
     page.clear();
     assert_marks(rt, room.plane(Ink::K), first as usize);
-    Ok(())
 }
 
 fn assert_marks(rt: &impl Abort, values: &[u8], first: usize) {

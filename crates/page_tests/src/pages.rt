@@ -1,26 +1,25 @@
 // Pages of small layers: one over another, at places, in crops, behind masks, at larger scales, and again.
 use crate::layers::{Laid, Row, Shown, assert_page, whole};
 use page_layers::Crop;
-use std::test::Fail;
 
 const NONE: [u8; 4] = [0; 4];
 
 #[test]
-fn overprint_keeps_inks_and_knockout_replaces_them(rt: HostRuntime) -> Result<(), Fail> {
+fn overprint_keeps_inks_and_knockout_replaces_them(rt: HostRuntime) {
     let cyan = whole(Shown::Line([100, 0, 0, 0, 7]));
     let black = whole(Shown::Line([0, 0, 0, 255, 0]));
     let row = [NONE, NONE, NONE, [255, 0, 255, 0], NONE];
-    assert_page(&rt, &[cyan, black], 1, &[&[(false, Some(row))]])?;
+    assert_page(&rt, &[cyan, black], 1, &[&[(false, Some(row))]]);
     let over = Laid {
         overprint: true,
         ..black
     };
     let row = [[100, 0, 100, 0], NONE, NONE, [255, 0, 255, 0], [7, 0, 7, 0]];
-    assert_page(&rt, &[cyan, over], 1, &[&[(false, Some(row))]])
+    assert_page(&rt, &[cyan, over], 1, &[&[(false, Some(row))]]);
 }
 
 #[test]
-fn edges_cut_layers(rt: HostRuntime) -> Result<(), Fail> {
+fn edges_cut_layers(rt: HostRuntime) {
     let image = whole(Shown::Contone);
     // The last three stand wholly outside.
     let places = [(2, 1), (4, 0), (0, 2), (4_000_000_000, 4_000_000_000)];
@@ -41,7 +40,7 @@ fn edges_cut_layers(rt: HostRuntime) -> Result<(), Fail> {
 }
 
 #[test]
-fn masks_go_with_the_image(rt: HostRuntime) -> Result<(), Fail> {
+fn masks_go_with_the_image(rt: HostRuntime) {
     let layer = Laid {
         masked: true,
         crop: Crop {
@@ -71,11 +70,11 @@ fn masks_go_with_the_image(rt: HostRuntime) -> Result<(), Fail> {
         &[layer],
         2,
         &[&[(false, Some(first)), (false, Some(second))]],
-    )
+    );
 }
 
 #[test]
-fn contone_takes_the_spot_ink_away(rt: HostRuntime) -> Result<(), Fail> {
+fn contone_takes_the_spot_ink_away(rt: HostRuntime) {
     let spot = whole(Shown::Line([0, 0, 0, 0, 9]));
     for (overprint, left) in [(false, [9, 0, 0, 0]), (true, [9, 0, 9, 0])] {
         let image = Laid {
@@ -90,19 +89,18 @@ fn contone_takes_the_spot_ink_away(rt: HostRuntime) -> Result<(), Fail> {
             [0, 0, 121, 122],
             left,
         ];
-        assert_page(&rt, &[spot, image], 1, &[&[(false, Some(row))]])?;
+        assert_page(&rt, &[spot, image], 1, &[&[(false, Some(row))]]);
     }
-    Ok(())
 }
 
 #[test]
-fn no_layers_no_ink(rt: HostRuntime) -> Result<(), Fail> {
+fn no_layers_no_ink(rt: HostRuntime) {
     let row = Some([NONE; 5]);
-    assert_page(&rt, &[], 2, &[&[(false, row), (true, row)]])
+    assert_page(&rt, &[], 2, &[&[(false, row), (true, row)]]);
 }
 
 #[test]
-fn crop_shows_three_times_at_an_odd_place(rt: HostRuntime) -> Result<(), Fail> {
+fn crop_shows_three_times_at_an_odd_place(rt: HostRuntime) {
     let layer = Laid {
         x: 1,
         y: 1,
@@ -130,7 +128,7 @@ fn crop_shows_three_times_at_an_odd_place(rt: HostRuntime) -> Result<(), Fail> {
         (true, row),
         (false, none),
     ];
-    assert_page(&rt, &[layer], 5, &[&rows])
+    assert_page(&rt, &[layer], 5, &[&rows]);
 }
 
 const FIRST: Option<[[u8; 1]; 5]> = Some([[1], [41], [81], [121], [0]]);
@@ -138,18 +136,18 @@ const FIRST: Option<[[u8; 1]; 5]> = Some([[1], [41], [81], [121], [0]]);
 const SECOND: Option<[[u8; 1]; 5]> = Some([[11], [51], [91], [131], [0]]);
 
 #[test]
-fn rows_at_scale_1_do_not_repeat(rt: HostRuntime) -> Result<(), Fail> {
+fn rows_at_scale_1_do_not_repeat(rt: HostRuntime) {
     let rows = [(false, FIRST), (false, SECOND)];
     assert_page(
         &rt,
         &[whole(Shown::Contone)],
         2,
         &[&[(false, FIRST)], &rows, &rows],
-    )
+    );
 }
 
 #[test]
-fn rows_at_scale_4_repeat_and_are_passed(rt: HostRuntime) -> Result<(), Fail> {
+fn rows_at_scale_4_repeat_and_are_passed(rt: HostRuntime) {
     let layer = Laid {
         scale: 4,
         ..whole(Shown::Contone)
@@ -162,5 +160,5 @@ fn rows_at_scale_4_repeat_and_are_passed(rt: HostRuntime) -> Result<(), Fail> {
         (false, SECOND),
         (true, None),
     ];
-    assert_page(&rt, &[layer], 8, &[&rows, &[(false, FIRST)]])
+    assert_page(&rt, &[layer], 8, &[&rows, &[(false, FIRST)]]);
 }

@@ -6,7 +6,8 @@ use Rattle.page_tests.proofs.layers.put.Goals as goal
 
 pub returns : goal.returns
 returns g c =
+    let items = rw c.expect.ensures at c.push.ensures.items in
     let L : List Layer → Type 0 = λ layers. All IsLayer layers in
-    subst L (sym c.in_ok-push.ensures.items)
+    subst L (sym items)
     (All-append IsLayer c.args.layers.now.items (c.args.layer ∷ []) c.requires
     (All-cons IsLayer c.args.layer [] c.assert_layer.ensures (All-nil IsLayer)))
