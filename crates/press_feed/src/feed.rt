@@ -3,6 +3,7 @@ ghost use Rattle.std.specs.Prelude.{◌≡◌, ◌+◌, ◌<◌, IfOk, Some, len
 ghost use Rattle.pr_base.specs.Row.{row_size};
 ghost use Rattle.plan_json.specs.Data.{plate_height, plate_width};
 ghost use Rattle.plan_json.specs.Plan.{IsPlan};
+ghost use Rattle.plan_pages.specs.Plate.{shape_of_plate};
 ghost use Rattle.press_job.specs.Rows.{plate_row};
 ghost use Rattle.press_feed.specs.Plates.{CanDraw, ShowsPages, page_row as row_of_pages, row_after};
 ghost use Rattle.press_feed.specs.Screens.{AreScreens, HaveDiffused};
@@ -13,7 +14,7 @@ use crate::screens::Screens;
 use crate::side::Side;
 use crate::side_pages::SidePages;
 use plan_json::Plan;
-use plan_pages::{mark_row, plate_shape};
+use plan_pages::{PlateShape, mark_row};
 use plan_rows::{Group, RowPlace, RowPlan};
 use pr_base::{NoMemory, RowFeed, row_bytes};
 use press_job::Job;
@@ -53,7 +54,7 @@ impl<'j> Feed<'j> {
         ensures { IfOk result (λ feed. feed ≡ record { job = job.now; next = 0 }) }
     {
         let plan = job.plan();
-        let bits = vec![in alloc; 0; row_bytes(plate_shape(plan).width)]?;
+        let bits = vec![in alloc; 0; row_bytes(job.shape().width)]?;
         let screens = Screens::of(alloc, plan)?;
         let left = SidePages::open(alloc, job, Side::Left)?;
         let right = SidePages::open(alloc, job, Side::Right)?;
@@ -82,6 +83,7 @@ impl<'j> RowFeed for Feed<'j> {
         self.screens.enter(group, self.next);
         draw_row(
             self.job.plan(),
+            self.job.shape(),
             place,
             &mut self.left,
             &mut self.right,
@@ -105,6 +107,7 @@ fn group_at(rows: &RowPlan, index: usize) -> &Group
 /// Draws a row of a plate: the two pages where they stand, the marks, and nothing else.
 fn draw_row(
     plan: &Plan,
+    shape: PlateShape,
     place: RowPlace,
     left: &mut SidePages<'_>,
     right: &mut SidePages<'_>,
@@ -112,6 +115,7 @@ fn draw_row(
     bits: &mut [u8],
 )
     requires plan { IsPlan plan.now }
+    requires shape { shape ≡ shape_of_plate plan.now }
     requires left { CanDraw plan.now Left place.y left.old }
     requires right { CanDraw plan.now Right place.y right.old }
     requires same { left.old.files ≡ right.old.files }
@@ -129,13 +133,14 @@ fn draw_row(
     ensures diffused { HaveDiffused plan.now left.old.files left.old.page right.old.page left.new.shown
         screens.new }
 {
-    draw_pages(plan, place, left, right, screens, bits);
+    draw_pages(plan, shape, place, left, right, screens, bits);
     mark_row(plan, place.ink, place.y, bits);
 }
 
 /// Draws the two pages where they stand on a row of a plate, and nothing else.
 fn draw_pages(
     plan: &Plan,
+    shape: PlateShape,
     place: RowPlace,
     left: &mut SidePages<'_>,
     right: &mut SidePages<'_>,
@@ -143,6 +148,7 @@ fn draw_pages(
     bits: &mut [u8],
 )
     requires plan { IsPlan plan.now }
+    requires shape { shape ≡ shape_of_plate plan.now }
     requires left { CanDraw plan.now Left place.y left.old }
     requires right { CanDraw plan.now Right place.y right.old }
     requires same { left.old.files ≡ right.old.files }
@@ -160,7 +166,7 @@ fn draw_pages(
         screens.new }
 {
     clear(bits);
-    let Some(y) = page_row(plan, place.y) else {
+    let Some(y) = page_row(plan, shape, place.y) else {
         return;
     };
     show_row(y, left, right, screens);
@@ -199,10 +205,11 @@ fn clear(bits: &mut [u8])
 }
 
 /// Which row of its pages row `y` of a plate shows, if it shows one.
-fn page_row(plan: &Plan, y: u32) -> Option<u32>
+fn page_row(plan: &Plan, shape: PlateShape, y: u32) -> Option<u32>
+    requires { shape ≡ shape_of_plate plan.now }
     ensures { result ≡ row_of_pages plan.now y }
 {
-    let top = plate_shape(plan).top_y;
+    let top = shape.top_y;
     if top <= y && y - top < plan.page_height {
         Some(y - top)
     } else {

@@ -2,9 +2,8 @@
 ghost use Rattle.std.specs.Prelude.{◌≡◌};
 ghost use Rattle.press_feed.specs.Sides.{left_edge, page_on, stands_in};
 
-use plan_json::Plan;
-use plan_pages::plate_shape;
 use plan_rows::Group;
+use press_job::Job;
 
 /// A side of a plate, on which one of its two pages stands.
 #[derive(Clone, Copy, Debug, PartialEq, Eq)]
@@ -25,10 +24,10 @@ impl Side {
     }
 
     /// Where its pages begin from the left.
-    pub(crate) fn left_edge(self, plan: &Plan) -> u32
-        ensures { result ≡ left_edge plan.now self }
+    pub(crate) fn left_edge(self, job: &Job) -> u32
+        ensures { result ≡ left_edge job.now.plan self }
     {
-        let shape = plate_shape(plan);
+        let shape = job.shape();
         match self {
             Side::Left => shape.left_x,
             Side::Right => shape.right_x,

@@ -130,7 +130,7 @@ impl<'j> SidePages<'j> {
         ensures { SetsBits (λ x. page_bit self.now.plan self.now.files self.now.page ink x y)
             (left_edge self.now.plan self.now.side) self.now.plan.page_width bits.old bits.new }
     {
-        let from = self.side.left_edge(self.job.plan());
+        let from = self.side.left_edge(self.job);
         let values = self.row.values(ink);
         screens.draw(self.side, ink, y, values, bits, from);
     }

@@ -1,4 +1,4 @@
-use Rattle.std.proofs.Common.{◌≡◌, ◌<◌, ◌+◌, ◌∷◌, ℕ, List, drop, length, ap, sym, subst, ◌∙◌, arith}
+use Rattle.std.proofs.Common.{rules, ◌≡◌, ◌<◌, ◌+◌, ◌∷◌, ℕ, List, drop, length, ap, sym, subst, ◌∙◌, arith}
 use Rattle.std.proofs.lemmas.List.{take_at, with_items_is}
 use Rattle.pr_base.specs.Row.{FitsNext}
 use Rattle.plan_json.specs.Data.{PlanData}
@@ -19,6 +19,9 @@ row_at-place-requires c =
     let job = c.self.inside.job.now in
     let fits = subst {A = FeedData} (λ f. FitsNext (rows_left f) (length c.args.row.now)) (sym c.self.view_is) c.requires in
     subst {A = RowPlanData} (λ r. c.self.inside.next < length (places_in r)) (sym c.rows-rows.ensures) (place_within job.plan job.files c.self.inside.next (length c.args.row.now) fits)
+
+pub draw_row-requires-clause-shape : goal.draw_row-requires-clause-shape
+draw_row-requires-clause-shape c = first_of (cc, search rules)
 
 pub draw_row-requires-clause-left : goal.draw_row-requires-clause-left
 draw_row-requires-clause-left c =

@@ -3,7 +3,6 @@ use Rattle.std.proofs.Common.{◌≡◌, ◌∙◌, ◌+◌, ◌*◌, ◌<◌, �
 use Rattle.std.specs.Option.{ForSome}
 use Rattle.pr_base.specs.Bits.{SetsBits}
 use Rattle.pr_base.proofs.Inks.{slot_below}
-use Rattle.plan_json.specs.Data.{PlanData}
 use Rattle.press_job.specs.Printing.{page_bit}
 use Rattle.press_feed.specs.Screens.{AreScreens, IsFrontOf, bank_of, lane_of}
 use Rattle.press_feed.specs.Sides.{SideData, left_edge}
@@ -37,7 +36,7 @@ draw-requires-clause-room c =
     let e = c.self.view_is in
     let job = c.self.inside.job.now in
     let from = c.left_edge-from.result in
-    let at : from ≡ left_edge job.plan c.self.inside.side = c.left_edge-from.ensures ∙ ap {A = PlanData} (λ p. left_edge p c.self.inside.side) c.plan.ensures.plan in
+    let at : from ≡ left_edge job.plan c.self.inside.side = c.left_edge-from.ensures in
     let wide = (values_are job c.self.inside.page_rows c.self.inside.page c.self.inside.shown c.args.y c.self.inside.tones c.self.inside.row c.args.ink c.values-values.result.now c.self.invariant
     (ap {A = SideData} (λ s. s.shown) e ∙ c.requires.shown) c.values-values.ensures).1 in
     let room : left_edge job.plan c.self.inside.side + job.plan.page_width ≤ 8 * length c.args.bits.now =
@@ -49,7 +48,7 @@ returns c =
     let e = c.self.view_is in
     let job = c.self.inside.job.now in
     let from = c.left_edge-from.result in
-    let at : from ≡ left_edge job.plan c.self.inside.side = c.left_edge-from.ensures ∙ ap {A = PlanData} (λ p. left_edge p c.self.inside.side) c.plan.ensures.plan in
+    let at : from ≡ left_edge job.plan c.self.inside.side = c.left_edge-from.ensures in
     let own = values_are job c.self.inside.page_rows c.self.inside.page c.self.inside.shown c.args.y c.self.inside.tones c.self.inside.row c.args.ink c.values-values.result.now c.self.invariant
     (ap {A = SideData} (λ s. s.shown) e ∙ c.requires.shown) c.values-values.ensures in
     let are : AreScreens job.plan c.args.screens.now = subst {A = SideData} (λ s. AreScreens s.plan c.args.screens.now) (sym e) c.requires.screens in
