@@ -1,6 +1,6 @@
 -- The command `keys`: a run whose ring has one reader more, which counts the ink keys of all plates, and the
 -- counts behind its report.
-use Rattle.std.specs.Prelude.{ℕ, List, ◌++◌, codes, map}
+use Rattle.std.specs.Prelude.{ℕ, List, ◌++◌, Result, codes, map}
 use Rattle.std.specs.Fmt.{decimal}
 use Rattle.std.specs.List.{enumerate_from, flat_map, range_with_len}
 use Rattle.pr_base.specs.declared.ink.Ink.{Ink}
@@ -14,8 +14,10 @@ use Rattle.press_job.specs.Job.{JobData}
 use Rattle.press_job.specs.Rows.{plate_rows}
 use Rattle.ink_keys.specs.Counts.{CountsData, number_at}
 use Rattle.ink_keys.specs.Keys.{key_count}
-use Rattle.room_run.specs.Edition.{Edition, Further, makes_with}
-use Rattle.room_base.specs.Task.{Makes}
+use Rattle.room_run.specs.Edition.{Edition, Further, makes_with, run_rules}
+use Rattle.room_base.specs.declared.refusal.Stop.{Stop}
+use Rattle.room_base.specs.Seen.{ShelfSeen, SinkSeen}
+use Rattle.room_base.specs.Task.{Answers, Makes}
 
 -- ---- the lines
 
@@ -59,6 +61,11 @@ further_keys keys = record { readers = 1; told = keys_lines keys }
 
 abbrev pub keys_makes : {R : Type 0} → Ghosts R → Edition → ℕ → Makes R
 keys_makes g edition keys = makes_with g edition (further_keys keys)
+
+-- what `keys` leaves
+abbrev pub KeysAnswers : {R : Type 0} → Ghosts R → Edition → ℕ → ShelfSeen → List R → List R → SinkSeen
+    → Result ℕ Stop → Type 0
+KeysAnswers g edition keys = Answers (run_rules edition) (keys_makes g edition keys)
 
 -- ---- private calls
 

@@ -4,11 +4,10 @@ ghost use Rattle.pr_base.specs.Number.{IsWithin};
 ghost use Rattle.plan_rows.specs.Groups.{groups_of};
 ghost use Rattle.press_job.specs.Rows.{plate_rows};
 ghost use Rattle.ink_keys.specs.Plates.{AreKeyCounts};
-ghost use Rattle.room_run.specs.Edition.{edition_told, Delivered, run_rules};
-ghost use Rattle.room_run.specs.Keys.{further_keys, group_lines, key_line as key_line_lem, keys_lines, keys_makes, lines_with, numbers_at, numbers_for, plate_line as plate_line_lem};
+ghost use Rattle.room_run.specs.Edition.{edition_told, Delivered};
+ghost use Rattle.room_run.specs.Keys.{KeysAnswers, further_keys, group_lines, key_line as key_line_lem, keys_lines, lines_with, numbers_at, numbers_for, plate_line as plate_line_lem};
 ghost use Rattle.room_run.specs.Report.{report_of};
 ghost use Rattle.room_base.specs.Seen.{AreIdle, shelf_seen, sink_seen};
-ghost use Rattle.room_base.specs.Task.{Answers};
 
 use crate::edition::{Edition, status_of};
 use crate::report::report;
@@ -40,8 +39,7 @@ pub fn run_with_keys<T: Threads + Sync, H: Shelf, R: Rack + Send, S: Sink>(
     requires keys { IsWithin 1 64 keys }
     requires ring { IsWithin 1 1024 edition.ring }
     requires patience { IsWithin 1 65536 edition.patience }
-    ensures answered { Answers
-        (run_rules (edition_told edition.entry)) (keys_makes R.Rack (edition_told edition.entry) keys)
+    ensures answered { KeysAnswers R.Rack (edition_told edition.entry) keys
         (shelf_seen H.Shelf shelf.old shelf.new)
         racks.old racks.new (sink_seen S.Sink out.old out.new) result }
     ensures held { H.held shelf.new ≡ H.held shelf.old }
