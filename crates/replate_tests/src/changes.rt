@@ -5,9 +5,7 @@ use plan_json::{Plan, read_plan};
 use plan_rows::RowPlan;
 use pr_base::Ink;
 use replate::{Inputs, Picks};
-use std::alloc::{AllocError, Global};
 use std::process::Abort;
-use std::test::Fail;
 
 // Two sites, of which the second prints another page 3. Pair 1 is group 0 of both, with the pages s and p; pair
 // 2 is group 1 of OSLO, with q and r, and group 2 of BERGEN, with q and z.
@@ -65,70 +63,75 @@ const CHANGES: [(&str, &str, [&[u8]; 3], &str, &str); 16] = [
 ];
 
 #[test]
-fn each_change_has_its_plates(rt: HostRuntime) -> Result<(), Fail> {
-    for (old, new, files, made, dropped) in CHANGES {
-        let text = changed(rt.alloc(), old, new)?;
-        check(&rt, rt.alloc(), text.as_str(), files, made, dropped)?;
+fn each_change_has_its_plates(rt: HostRuntime) {
+    for (n, (old, new, files, made, dropped)) in CHANGES.iter().enumerate() {
+        let text = changed(&rt, old, new);
+        assert!(rt;
+            tells(&rt, text.as_str(), files, made, dropped),
+            "change {n}"
+        );
     }
-    Ok(())
 }
 
 // The plan with one text in it, which has to be there, in the place of another.
-fn changed(alloc: Global, old: &str, new: &str) -> Result<String, Fail> {
-    match BASE.split_once(old) {
-        Some((front, back)) => Ok(format!(in alloc; "{front}{new}{back}")?),
-        None => Err("what is to be changed isn't in the plan".into()),
-    }
+fn changed<R: Abort + AllocGlobal>(rt: &R, old: &str, new: &str) -> String {
+    let (front, back) = BASE.split_once(old).expect(rt, "what is to be changed");
+    format!(in rt.alloc(); "{front}{new}{back}").expect(rt, "memory")
 }
 
-// Quotes in the place of apostrophes.
-fn quoted(alloc: Global, text: &str) -> Result<Vec<u8>, AllocError> {
-    let mut bytes = Vec::new(alloc);
+// The plan of a text with quotes in the place of apostrophes.
+fn plan_of<R: Abort + AllocGlobal>(rt: &R, text: &str) -> Plan {
+    let mut bytes = Vec::new(rt.alloc());
     for byte in text.as_bytes() {
-        bytes.push(if *byte == b'\'' { b'"' } else { *byte })?;
+        let quoted = if *byte == b'\'' { b'"' } else { *byte };
+        bytes.push(quoted).expect(rt, "memory");
     }
-    Ok(bytes)
+    read_plan(rt.alloc(), bytes.as_slice()).expect(rt, "no plan")
 }
 
-fn whole(alloc: Global, files: &[&[u8]]) -> Result<Vec<Vec<u8>>, AllocError> {
-    let mut all = Vec::new(alloc);
+fn whole<R: Abort + AllocGlobal>(rt: &R, files: &[&[u8]]) -> Vec<Vec<u8>> {
+    let mut all = Vec::new(rt.alloc());
     for file in files {
-        all.push(file.to_vec(alloc)?)?;
+        all.push(file.to_vec(rt.alloc()).expect(rt, "memory"))
+            .expect(rt, "memory");
     }
-    Ok(all)
+    all
 }
 
-fn check(
-    rt: &impl Abort,
-    alloc: Global,
+// Whether these plates are made and dropped where the old plan becomes this one, over these files.
+fn tells<R: Abort + AllocGlobal>(
+    rt: &R,
     text: &str,
-    files: [&[u8]; 3],
+    files: &[&[u8]],
     made: &str,
     dropped: &str,
-) -> Result<(), Fail> {
-    let old_plan = read_plan(alloc, quoted(alloc, BASE)?.as_slice())?;
-    let old_files = whole(alloc, &FILES)?;
-    let new_plan = read_plan(alloc, quoted(alloc, text)?.as_slice())?;
-    let new_files = whole(alloc, &files)?;
-    compare(
-        rt, alloc, &old_plan, &old_files, &new_plan, &new_files, made, dropped,
+) -> bool {
+    let old_plan = plan_of(rt, BASE);
+    let old_files = whole(rt, &FILES);
+    let new_plan = plan_of(rt, text);
+    let new_files = whole(rt, files);
+    if old_files.len() != old_plan.files().len() || new_files.len() != new_plan.files().len() {
+        return false;
+    }
+    picks(
+        rt, &old_plan, &old_files, &new_plan, &new_files, made, dropped,
     )
 }
 
-fn compare(
-    rt: &impl Abort,
-    alloc: Global,
+fn picks<R: Abort + AllocGlobal>(
+    rt: &R,
     old_plan: &Plan,
     old_files: &[Vec<u8>],
     new_plan: &Plan,
     new_files: &[Vec<u8>],
     made: &str,
     dropped: &str,
-) -> Result<(), Fail> {
-    let old_rows = RowPlan::of(alloc, old_plan)?;
-    let new_rows = RowPlan::of(alloc, new_plan)?;
-    assert_eq!(rt; old_files.len(), old_plan.files().len());
-    assert_eq!(rt; new_files.len(), new_plan.files().len());
+) -> bool
+    requires old { length old_files.now ≡ length old_plan.now.files }
+    requires new { length new_files.now ≡ length new_plan.now.files }
+{
+    let old_rows = RowPlan::of(rt.alloc(), old_plan).expect(rt, "memory");
+    let new_rows = RowPlan::of(rt.alloc(), new_plan).expect(rt, "memory");
     let before = Inputs {
         plan: old_plan,
         rows: &old_rows,
@@ -139,47 +142,39 @@ fn compare(
         rows: &new_rows,
         files: new_files,
     };
-    let picks = Picks::of(alloc, &before, &after)?;
-    assert_eq!(rt; told(alloc, &picks, new_plan, &new_rows)?.as_str(), made);
-    assert_eq!(rt; left(alloc, &picks)?.as_str(), dropped);
-    Ok(())
+    let picks = Picks::of(rt.alloc(), &before, &after).expect(rt, "memory");
+    told(rt, &picks, new_plan, &new_rows).as_str() == made && left(rt, &picks).as_str() == dropped
 }
 
 // The plates that must be made.
-fn told(alloc: Global, picks: &Picks, plan: &Plan, rows: &RowPlan) -> Result<String, AllocError>
+fn told<R: Abort + AllocGlobal>(rt: &R, picks: &Picks, plan: &Plan, rows: &RowPlan) -> String
     requires { length picks.now.kept ≡ length rows.now.groups }
 {
-    let mut text = String::new(alloc);
+    let mut text = String::new(rt.alloc());
     for site in 0..plan.sites.len() {
         for (index, group) in rows.groups().iter().enumerate() {
             if group.sites >> site & 1 == 1 {
                 for ink in group.inks() {
                     if picks.made(site, index, *ink) {
-                        add(alloc, &mut text, site, index, *ink)?;
+                        add(rt, &mut text, site, index, *ink);
                     }
                 }
             }
         }
     }
-    Ok(text)
+    text
 }
 
 // The plates that are dropped.
-fn left(alloc: Global, picks: &Picks) -> Result<String, AllocError> {
-    let mut text = String::new(alloc);
+fn left<R: Abort + AllocGlobal>(rt: &R, picks: &Picks) -> String {
+    let mut text = String::new(rt.alloc());
     for plate in picks.dropped() {
-        add(alloc, &mut text, plate.site, plate.group, plate.ink)?;
+        add(rt, &mut text, plate.site, plate.group, plate.ink);
     }
-    Ok(text)
+    text
 }
 
-fn add(
-    alloc: Global,
-    text: &mut String,
-    site: usize,
-    group: usize,
-    ink: Ink,
-) -> Result<(), AllocError> {
-    let plate = format!(in alloc; "{site}{group}{ink:?} ")?;
-    text.push_str(plate.as_str())
+fn add<R: Abort + AllocGlobal>(rt: &R, text: &mut String, site: usize, group: usize, ink: Ink) {
+    let plate = format!(in rt.alloc(); "{site}{group}{ink:?} ").expect(rt, "memory");
+    text.push_str(plate.as_str()).expect(rt, "memory");
 }
