@@ -1,7 +1,6 @@
 // Single changes of a full sample plan 2, with the fault that each is refused by. Texts stand with `'` in the
 // place of `"`.
 use crate::faults::check_changes;
-use std::test::Fail;
 
 const SAMPLE: &str =
     "{'plan':2,'edition':'E1','dpi':1200,'page':[8,4],'margins':[1,2,3,4],'gutter':5,'limit':300,\
@@ -261,7 +260,6 @@ const CHANGES: &str = " |  | ok
 'zone':'N' | 'Zone':'N' | /sites/0/Zone: unknown";
 
 #[test]
-fn each_change_has_its_fault(rt: HostRuntime) -> Result<(), Fail> {
-    check_changes(&rt, rt.alloc(), SAMPLE, CHANGES)?;
-    Ok(())
+fn each_change_has_its_fault(rt: HostRuntime) {
+    check_changes(&rt, SAMPLE, CHANGES);
 }

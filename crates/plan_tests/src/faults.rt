@@ -2,7 +2,6 @@
 use plan_json::read_plan;
 use std::alloc::{AllocError, Global};
 use std::process::Abort;
-use std::test::Fail;
 
 // Texts that are no plan, and why.
 const OTHERS: [(&str, &str); 4] = [
@@ -20,28 +19,36 @@ const OTHERS: [(&str, &str); 4] = [
 ];
 
 // A text with `"` in the place of `'`.
-pub(crate) fn quoted(alloc: Global, text: &str) -> Result<String, AllocError> {
-    let mut out = String::new(alloc);
+pub(crate) fn quoted<R: Abort + AllocGlobal>(rt: &R, text: &str) -> String {
+    let mut out = String::new(rt.alloc());
     for c in text.chars() {
-        out.push(if c == '\'' { '"' } else { c })?;
+        let quoted = if c == '\'' { '"' } else { c };
+        out.push(quoted).expect(rt, "memory");
     }
-    Ok(out)
+    out
 }
 
 // The fault of a text, or `ok`.
-pub(crate) fn fault_of(alloc: Global, text: &str) -> Result<String, AllocError> {
+fn fault_of(alloc: Global, text: &str) -> Result<String, AllocError> {
     match read_plan(alloc, text.as_bytes()) {
         Ok(_plan) => String::from_str(alloc, "ok"),
         Err(fault) => format!(in alloc; "{fault}"),
     }
 }
 
+// Whether this is the fault of a text in which `'` stands for `"`.
+fn has_fault<R: Abort + AllocGlobal>(rt: &R, text: &str, wanted: &str) -> bool {
+    let text = quoted(rt, text);
+    fault_of(rt.alloc(), text.as_str())
+        .expect(rt, "memory")
+        .as_str()
+        == wanted
+}
+
 // A sample with its first `old` replaced.
-fn changed(alloc: Global, sample: &str, old: &str, new: &str) -> Result<String, AllocError> {
-    match sample.split_once(old) {
-        Some((front, back)) => quoted(alloc, format!(in alloc; "{front}{new}{back}")?.as_str()),
-        None => quoted(alloc, "not in the sample"),
-    }
+fn changed<R: Abort + AllocGlobal>(rt: &R, sample: &str, old: &str, new: &str) -> String {
+    let (front, back) = sample.split_once(old).expect(rt, "not in the sample");
+    format!(in rt.alloc(); "{front}{new}{back}").expect(rt, "memory")
 }
 
 // The three parts of a row.
@@ -51,32 +58,24 @@ fn parts(row: &str) -> Option<(&str, &str, &str)> {
     Some((old, new, fault))
 }
 
-// Tries each row of a table, one a line; a line that begins with `#` is none.
-pub(crate) fn check_changes(
-    rt: &impl Abort,
-    alloc: Global,
-    sample: &str,
-    rows: &str,
-) -> Result<(), AllocError> {
-    for row in rows.split('\n') {
-        match parts(row) {
-            Some((old, new, wanted)) => {
-                let text = changed(alloc, sample, old, new)?;
-                let found = fault_of(alloc, text.as_str())?;
-                assert_eq!(rt; found.as_str(), wanted, "{old} -> {new}");
-            }
-            None => assert!(rt; row.starts_with('#'), "{row}"),
-        }
+// Whether the change of a row has its fault. A line that begins with `#` is none.
+fn holds<R: Abort + AllocGlobal>(rt: &R, sample: &str, row: &str) -> bool {
+    match parts(row) {
+        Some((old, new, wanted)) => has_fault(rt, changed(rt, sample, old, new).as_str(), wanted),
+        None => row.starts_with('#'),
     }
-    Ok(())
+}
+
+// Tries each row of a table, one a line.
+pub(crate) fn check_changes<R: Abort + AllocGlobal>(rt: &R, sample: &str, rows: &str) {
+    for row in rows.split('\n') {
+        assert!(rt; holds(rt, sample, row), "{row}");
+    }
 }
 
 #[test]
-fn other_texts_have_their_faults(rt: HostRuntime) -> Result<(), Fail> {
-    for (text, wanted) in OTHERS {
-        let text = quoted(rt.alloc(), text)?;
-        let found = fault_of(rt.alloc(), text.as_str())?;
-        assert_eq!(rt; found.as_str(), wanted);
+fn other_texts_have_their_faults(rt: HostRuntime) {
+    for (text, wanted) in &OTHERS {
+        assert!(rt; has_fault(&rt, text, wanted), "{wanted}");
     }
-    Ok(())
 }

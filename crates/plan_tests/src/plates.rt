@@ -6,7 +6,6 @@ use plan_json::{Plan, read_plan};
 use plan_pages::{PlateShape, chosen, mark_row, plate_shape};
 use pr_base::Ink;
 use std::process::Abort;
-use std::test::Fail;
 
 const PLAN: &[u8] =
     br#"{"plan": 1, "edition": "E1", "dpi": 1200, "page": [8, 2], "margins": [4, 2, 5, 1], "gutter": 3,
@@ -44,37 +43,38 @@ const CHOSEN: [(usize, usize, u32, usize); 4] = [
 ];
 
 #[test]
-fn marks_are_set_and_all_else_stays(rt: HostRuntime) -> Result<(), Fail> {
-    let plan = read_plan(rt.alloc(), PLAN)?;
+fn marks_are_set_and_all_else_stays(rt: HostRuntime) {
+    let plan = read_plan(rt.alloc(), PLAN).expect(&rt, "no plan");
     for (ink, y, row) in ROWS {
         expect_row(&rt, &plan, ink, y, row);
     }
-    Ok(())
 }
 
 fn expect_row(rt: &impl Abort, plan: &Plan, ink: Ink, y: u32, wanted: [u8; 4]) {
     let shape = plate_shape(plan);
-    assert_eq!(rt; shape, SHAPE);
+    assert!(rt; shape == SHAPE);
     assert!(rt; y < 5);
     let mut row = [0x80, 0x00, 0x00, 0x01];
     mark_row(plan, ink, y, &mut row);
-    assert_eq!(rt; row, wanted, "row {y} of {ink:?}");
+    assert!(rt; row == wanted, "row {y} of {ink:?}");
 }
 
 #[test]
-fn a_zone_replaces_a_page_of_its_section(rt: HostRuntime) -> Result<(), Fail> {
-    let plan = read_plan(rt.alloc(), PLAN)?;
+fn a_zone_replaces_a_page_of_its_section(rt: HostRuntime) {
+    let plan = read_plan(rt.alloc(), PLAN).expect(&rt, "no plan");
     for (site, section, page, wanted) in CHOSEN {
         expect_chosen(&rt, &plan, [site, section], page, wanted);
     }
-    Ok(())
 }
 
 fn expect_chosen(rt: &impl Abort, plan: &Plan, at: [usize; 2], page: u32, wanted: usize) {
     let [site, section] = at;
     assert!(rt; site < plan.sites.len() && section < plan.sections.len());
     assert!(rt; 1 <= page && page as usize <= own_pages(plan, section).len());
-    assert_eq!(rt; chosen(plan, site, section, page), wanted);
+    assert!(rt;
+        chosen(plan, site, section, page) == wanted,
+        "page {page} of {site}"
+    );
 }
 
 // The pages of a section.

@@ -1,10 +1,8 @@
 // Row plans of plans that are read from texts.
 use plan_json::{Plan, read_plan};
 use plan_rows::{Group, RowPlace, RowPlan, plate_path};
-use pr_base::{Ink, NoMemory};
-use std::alloc::Global;
+use pr_base::Ink;
 use std::process::Abort;
-use std::test::Fail;
 
 // Two sites, of which the second prints another page 3.
 const TWO_SITES: &[u8] = br#"{"plan": 1, "edition": "E1", "dpi": 1200, "page": [8, 2],
@@ -37,8 +35,8 @@ const PLACES: [(u64, usize, u32, Ink, usize); 16] = [
 ];
 
 #[test]
-fn two_sites_share_a_pair(rt: HostRuntime) -> Result<(), Fail> {
-    let rows = row_plan(rt.alloc(), TWO_SITES)?;
+fn two_sites_share_a_pair(rt: HostRuntime) {
+    let rows = row_plan(&rt, TWO_SITES);
     expect_groups(
         &rt,
         &rows,
@@ -48,27 +46,26 @@ fn two_sites_share_a_pair(rt: HostRuntime) -> Result<(), Fail> {
             black(2, 1, 4, 2, 4),
         ],
     );
-    assert_eq!(rt; rows.total(), 6);
+    assert!(rt; rows.total() == 6);
     for n in 0..6 {
         expect_kept(&rt, &rows, 0, n, n < 4);
         expect_kept(&rt, &rows, 1, n, n < 2 || n >= 4);
     }
-    Ok(())
 }
 
 // The row plan of a plan's text.
-fn row_plan(alloc: Global, text: &[u8]) -> Result<RowPlan, Fail> {
-    let plan = read_plan(alloc, text)?;
-    Ok(RowPlan::of(alloc, &plan)?)
+fn row_plan<R: Abort + AllocGlobal>(rt: &R, text: &[u8]) -> RowPlan {
+    let plan = read_plan(rt.alloc(), text).expect(rt, "no plan");
+    RowPlan::of(rt.alloc(), &plan).expect(rt, "memory")
 }
 
 fn expect_groups(rt: &impl Abort, rows: &RowPlan, groups: &[Group]) {
-    assert_eq!(rt; rows.groups(), groups);
+    assert!(rt; rows.groups() == groups);
 }
 
 fn expect_kept(rt: &impl Abort, rows: &RowPlan, site: usize, n: u64, kept: bool) {
     assert!(rt; site < 16 && n < rows.total());
-    assert_eq!(rt; rows.keeps(site, n), kept);
+    assert!(rt; rows.keeps(site, n) == kept, "row {n} of site {site}");
 }
 
 // A group of section 0 in black alone.
@@ -77,8 +74,8 @@ fn black(pair: u32, left: usize, right: usize, sites: u16, first: u64) -> Group 
 }
 
 #[test]
-fn three_sites_are_parted_by_their_pages(rt: HostRuntime) -> Result<(), Fail> {
-    let rows = row_plan(rt.alloc(), THREE_SITES)?;
+fn three_sites_are_parted_by_their_pages(rt: HostRuntime) {
+    let rows = row_plan(&rt, THREE_SITES);
     expect_groups(
         &rt,
         &rows,
@@ -91,7 +88,6 @@ fn three_sites_are_parted_by_their_pages(rt: HostRuntime) -> Result<(), Fail> {
         ],
     );
     shared(&rows);
-    Ok(())
 }
 
 // Row plans are moved to threads and lent there.
@@ -119,9 +115,9 @@ fn group(
 }
 
 #[test]
-fn rows_stand_at_their_places(rt: HostRuntime) -> Result<(), Fail> {
-    let rows = row_plan(rt.alloc(), THREE_SITES)?;
-    assert_eq!(rt; rows.total(), 26);
+fn rows_stand_at_their_places(rt: HostRuntime) {
+    let rows = row_plan(&rt, THREE_SITES);
+    assert!(rt; rows.total() == 26);
     for (n, group, y, ink, slot) in PLACES {
         let place = RowPlace {
             group,
@@ -131,53 +127,33 @@ fn rows_stand_at_their_places(rt: HostRuntime) -> Result<(), Fail> {
         };
         expect_place(&rt, &rows, n, place);
     }
-    Ok(())
 }
 
 fn expect_place(rt: &impl Abort, rows: &RowPlan, n: u64, place: RowPlace) {
     assert!(rt; n < rows.total());
-    assert_eq!(rt; rows.row_at(n), place);
+    assert!(rt; rows.row_at(n) == place, "row {n}");
 }
 
 #[test]
-fn plates_have_paths(rt: HostRuntime) -> Result<(), Fail> {
-    let plan = read_plan(rt.alloc(), THREE_SITES)?;
+fn plates_have_paths(rt: HostRuntime) {
+    let plan = read_plan(rt.alloc(), THREE_SITES).expect(&rt, "no plan");
     let colour = group(0, 1, [1, 4], 6, [true, false], 8);
-    expect_path(
-        &rt,
-        rt.alloc(),
-        &plan,
-        1,
-        &colour,
-        Ink::C,
-        "OUT/S1/E1-A-001-C.tif",
-    )?;
+    expect_path(&rt, &plan, 1, &colour, Ink::C, "OUT/S1/E1-A-001-C.tif");
     let spot = group(1, 2, [4, 3], 4, [false, true], 22);
-    expect_path(
-        &rt,
-        rt.alloc(),
-        &plan,
-        2,
-        &spot,
-        Ink::S,
-        "OUT/S2/E1-B-002-S.tif",
-    )?;
-    Ok(())
+    expect_path(&rt, &plan, 2, &spot, Ink::S, "OUT/S2/E1-B-002-S.tif");
 }
 
-fn expect_path(
-    rt: &impl Abort,
-    alloc: Global,
+fn expect_path<R: Abort + AllocGlobal>(
+    rt: &R,
     plan: &Plan,
     site: usize,
     group: &Group,
     ink: Ink,
     path: &str,
-) -> Result<(), NoMemory> {
+) {
     let section = group.section as usize;
     assert!(rt; site < plan.sites.len());
     assert!(rt; section < plan.sections.len());
-    let made = plate_path(alloc, plan, "OUT", site, group, ink)?;
-    assert_eq!(rt; made.as_str(), path);
-    Ok(())
+    let made = plate_path(rt.alloc(), plan, "OUT", site, group, ink).expect(rt, "memory");
+    assert!(rt; made.as_str() == path, "{path}");
 }

@@ -2,9 +2,7 @@
 use crate::faults::{check_changes, quoted};
 use plan_json::{Page, PlanLayer, Screen, read_plan};
 use pr_base::PathText;
-use std::alloc::{AllocError, Global};
 use std::process::Abort;
-use std::test::Fail;
 
 // Its files are told once each, in the order of their first mention.
 const SMALL: &str = "{'plan':1,'edition':'E1','dpi':1200,'page':[8,2],\
@@ -35,38 +33,30 @@ const SECOND: PlanLayer = PlanLayer {
 };
 
 #[test]
-fn each_change_of_a_plan_1_has_its_fault(rt: HostRuntime) -> Result<(), Fail> {
-    check_changes(&rt, rt.alloc(), SMALL, CHANGES)?;
-    Ok(())
+fn each_change_of_a_plan_1_has_its_fault(rt: HostRuntime) {
+    check_changes(&rt, SMALL, CHANGES);
 }
 
 #[test]
-fn a_small_plan_is_read(rt: HostRuntime) -> Result<(), Fail> {
-    let text = quoted(rt.alloc(), SMALL)?;
-    let plan = read_plan(rt.alloc(), text.as_bytes())?;
-    assert_eq!(rt; joined(rt.alloc(), plan.files())?.as_str(), "b a c ");
-    check_defaults(&rt, plan.limit, plan.screens[4]);
-    check_page(&rt, &plan.pages[0]);
-    Ok(())
+fn a_small_plan_is_read(rt: HostRuntime) {
+    let text = quoted(&rt, SMALL);
+    let plan = read_plan(rt.alloc(), text.as_bytes()).expect(&rt, "no plan");
+    assert!(rt; joined(&rt, plan.files()).as_str() == "b a c ");
+    assert!(rt; plan.limit == 1020 && plan.screens[4] == Screen::Bayer(8));
+    assert!(rt; is_page(&plan.pages[0]));
 }
 
 // Names, each with a space behind it.
-fn joined(alloc: Global, names: &[PathText]) -> Result<String, AllocError> {
-    let mut out = String::new(alloc);
+fn joined<R: Abort + AllocGlobal>(rt: &R, names: &[PathText]) -> String {
+    let mut out = String::new(rt.alloc());
     for name in names {
-        out.push_str(name.as_str())?;
-        out.push(' ')?;
+        out.push_str(name.as_str()).expect(rt, "memory");
+        out.push(' ').expect(rt, "memory");
     }
-    Ok(out)
+    out
 }
 
-fn check_defaults(rt: &impl Abort, limit: u16, screen: Screen) {
-    assert_eq!(rt; limit, 1020);
-    assert_eq!(rt; screen, Screen::Bayer(8));
-}
-
-fn check_page(rt: &impl Abort, page: &Page) {
-    assert_eq!(rt; (page.colour, page.spot), (true, false));
-    assert_eq!(rt; page.layers.len(), 3);
-    assert_eq!(rt; page.layers.get(1), Some(&SECOND));
+// Whether a page is that of the three layers.
+fn is_page(page: &Page) -> bool {
+    page.colour && !page.spot && page.layers.len() == 3 && page.layers.get(1) == Some(&SECOND)
 }
