@@ -1,4 +1,5 @@
 pub mod Parts
 pub mod Printed
 pub mod Remade
+pub mod Sites
 pub mod Unmade

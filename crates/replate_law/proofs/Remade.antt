@@ -93,6 +93,10 @@ files_are : (job : JobData) (out : List ℕ) (site : ℕ) → files_of_site job 
 unfolding site_plates plates_of
 files_are job out site = sym (entries_are job out site 0 (groups_of job.plan) (λ k low. ap (group_at job.plan) (zero-add k)))
 
+-- no plate of a site has the path
+pub none_at : (job : JobData) (out path : List ℕ) (site : ℕ) → list_any (λ p. bytes_eq (entry_of job out p).0 path) (plates_of job.plan site) ≡ false → held_in (files_of_site job out site) path ≡ None
+none_at job out path site none = ap (λ files. held_in files path) (files_are job out site) ∙ held_none (entry_of job out) path (plates_of job.plan site) none
+
 -- ---- paths and bytes of plates
 
 path_out : (job : JobData) (out : List ℕ) (plate : PlateAt) → (entry_of job out plate).0 ≡ out ++ path_below job.plan plate
@@ -101,7 +105,7 @@ path_out job out plate = path_under job.plan out plate.site (group_at job.plan p
 paths_below : (a b : JobData) (out : List ℕ) (p q : PlateAt) → (entry_of a out p).0 ≡ (entry_of b out q).0 → path_below a.plan p ≡ path_below b.plan q
 paths_below a b out p q is = append_cancel_left out (path_below a.plan p) (path_below b.plan q) (sym (path_out a out p) ∙ is ∙ path_out b out q)
 
-paths_above : (a b : JobData) (out : List ℕ) (p q : PlateAt) → path_below a.plan p ≡ path_below b.plan q → (entry_of a out p).0 ≡ (entry_of b out q).0
+pub paths_above : (a b : JobData) (out : List ℕ) (p q : PlateAt) → path_below a.plan p ≡ path_below b.plan q → (entry_of a out p).0 ≡ (entry_of b out q).0
 paths_above a b out p q is = path_out a out p ∙ ap (λ l. out ++ l) is ∙ sym (path_out b out q)
 
 -- plates of one path have one site, where the names of their sites are those of one site
@@ -135,7 +139,7 @@ module _ (before after : JobData) (out path : List ℕ) (old_site site : ℕ) (m
 
   -- a plate of the site among the new ones
   module _ (new : PlateAt) (new_is : IsPlateOf after.plan new) (at_site : new.site ≡ site) (at_path : (entry_of after out new).0 ≡ path) where
-    new_held : held_in (files_of_site after out site) path ≡ Some (bytes_of_plate after new)
+    pub new_held : held_in (files_of_site after out site) path ≡ Some (bytes_of_plate after new)
     unfolding is_new
     new_held =
         let at : list_any is_new (plates_of after.plan site) ≡ true =
@@ -215,7 +219,7 @@ module _ (before after : JobData) (out path : List ℕ) (old_site site : ℕ) (m
   module _ (none : list_any is_new (plates_of after.plan site) ≡ false) where
     none_held : held_in (files_of_site after out site) path ≡ None
     unfolding is_new
-    none_held = ap (λ files. held_in files path) (files_are after out site) ∙ held_none (entry_of after out) path (plates_of after.plan site) none
+    none_held = none_at after out path site none
 
     none_made : held_in (picked_files after out site made) path ≡ None
     unfolding is_new

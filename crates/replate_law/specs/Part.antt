@@ -46,6 +46,12 @@ pub record PrintAlike (a b : SectionAt) : Type 0 where
   pub right : (pair : ℕ) → 1 ≤ pair → 2 * pair ≤ page_count a.job.plan a.section
       → right_page a pair ≡ right_page b pair
 
+-- each section that a job prints at a site of its own, another one prints alike at this site
+pub record SitePrints (a : JobData) (site : ℕ) (b : JobData) (its : ℕ) : Type 0 where
+  pub each : (section : ℕ) → section < length b.plan.sections → (own : ℕ) × (own < length a.plan.sections)
+      × PrintAlike (record { job = a; site = site; section = own })
+      (record { job = b; site = its; section = section })
+
 -- a plate of the section at the site
 pub record IsPlateIn (at : SectionAt) (plate : PlateAt) : Type 0 where
   pub is : IsPlateOf at.job.plan plate

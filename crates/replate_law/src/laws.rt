@@ -6,7 +6,7 @@ ghost use Rattle.replate.specs.Inputs.{JobData};
 ghost use Rattle.replate.specs.Picks.{MustMake};
 ghost use Rattle.replate.specs.Plates.{PlateAt, IsPlateOf, has_path, path_below};
 ghost use Rattle.replate_law.specs.Law.{bytes_of_plate, files_of_site, held_in, remade_at};
-ghost use Rattle.replate_law.specs.Part.{HasPlate, IsPlateIn, IsSectionAt, PrintAlike, SectionAt};
+ghost use Rattle.replate_law.specs.Part.{HasPlate, IsPlateIn, IsSectionAt, PrintAlike, SectionAt, SitePrints};
 
 /// A new plate that need not be made is there: the old job has a plate of its path, and its file has the
 /// bytes of the new one. Nothing is asked of the files of either job.
@@ -36,4 +36,9 @@ pub fn part_law()
         → PrintAlike whole part → IsPlateIn part plate → ¬ (MustMake whole.job part.job plate) }
     ensures same { (whole part : SectionAt) (plate : PlateAt) → IsSectionAt whole → IsSectionAt part
         → PrintAlike whole part → IsPlateIn part plate → HasPlate whole part.job plate }
+    // Where both print all sections alike, the site's files are the same, path by path.
+    ensures files { (a b : JobData) (out path : List ℕ) (site its : ℕ) → IsPlan a.plan → IsPlan b.plan
+        → site < length a.plan.sites → its < length b.plan.sites
+        → SitePrints a site b its → SitePrints b its a site
+        → held_in (files_of_site a out site) path ≡ held_in (files_of_site b out its) path }
 {}
