@@ -16,10 +16,10 @@ use std::path::Path;
 use std::rt::Files;
 use std::{fs, io};
 
-/// The files of the machine. A plate's file is written by blocks as its rows come, and a file that stood at its
-/// path is replaced; the folders of the path are made. An error of the machine is a counted `Failed` of the
-/// call that wrote the block. The partial file of a plate that isn't finished stays. It tells nothing but which
-/// slots are begun, and its count.
+/// The files of the machine. A plate's file is written by blocks as its rows come, and a file that stood at
+/// its path is replaced; the folders of the path are made. An error of the machine is a counted `Failed` of
+/// the call that wrote the block. The partial file of a plate that isn't finished stays. It tells nothing
+/// but which slots are begun, and its count.
 #[derive(Drop)]
 pub struct HostRack<R: Files<File = File> + AllocGlobal> {
     rt: R,
