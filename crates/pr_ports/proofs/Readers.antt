@@ -1,20 +1,25 @@
--- How much a reader gave over calls.
-use Rattle.std.proofs.Common.{ℕ, ◌+◌, ◌≤◌, List, [], ◌++◌, length, Option, arith}
-use Rattle.std.specs.Io.KnownBytes.{Consumes, Keeps}
-use Rattle.std.proofs.KnownBytes.{Consumes-kept, Consumes-nil, Consumes-trans}
-use Rattle.std.proofs.lemmas.List.{length-append}
-use Rattle.pr_ports.specs.Shelf.{GaveAtMost}
+-- What a reader gave.
+use Rattle.std.proofs.Common.{◌≡◌, ℕ, ◌+◌, ◌-◌, ◌<◌, ◌≤◌, List, ◌++◌, length, take, drop, replicate, Option, ap, ◌∙◌, arith}
+use Rattle.std.specs.Io.KnownBytes.{Consumes, IsAtEnd}
+use Rattle.std.proofs.Math.Seq.{take-add, take-append_seam}
+use Rattle.std.proofs.lemmas.List.{length-append, length-drop, length-replicate, length-take-le}
+use Rattle.pr_ports.specs.Shelf.{HasCome}
 
--- nothing so far
-pub gave_none : (most : ℕ) (now : Option (List ℕ)) → GaveAtMost most now now
-gave_none most now = ([], Consumes-nil now, omega arith)
-
--- what it gave before a read that failed
-pub gave_before : (most : ℕ) (old mid new : Option (List ℕ)) (given : List ℕ) → Consumes old mid given → Keeps mid new → length given ≤ most → GaveAtMost most old new
-gave_before most old mid new given before kept few = (given, Consumes-kept old mid new given before kept, few)
-
--- and a read more
-pub gave_more : (most : ℕ) (old mid new : Option (List ℕ)) (given more : List ℕ) → Consumes old mid given → Consumes mid new more → length given + length more ≤ most
-    → GaveAtMost most old new
-gave_more most old mid new given more before read few =
-    (given ++ more, Consumes-trans old mid new given more before read, omega (arith, length-append given more))
+-- a piece that was read into the room behind some bytes, once the rest of that room is cut off
+pub piece_came : (old new : Option (List ℕ)) (before resized into after : List ℕ) (most count : ℕ) → 0 < most → resized ≡ before ++ replicate most 0
+    → length into ≡ length resized → take (length before) into ≡ take (length before) resized → length before + count ≤ length into
+    → Consumes old new (take count (drop (length before) into)) → (count ≡ 0 → 0 < length (drop (length before) into) → IsAtEnd new)
+    → after ≡ take (length before + count) into → HasCome old new before after count
+piece_came old new before resized into after most count some room long front within given end cut =
+    let stands : take (length before) into ≡ before =
+    front ∙ ap (take (length before)) room ∙ take-append_seam before (replicate most 0) in
+    let behind : length (drop (length before) into) ≡ length into - length before = length-drop (length before) into in
+    let whole : length into ≡ length before + most =
+    long ∙ ap length room ∙ length-append before (replicate most 0) ∙ ap (λ n. length before + n) (length-replicate most 0) in
+    record {
+      came = take count (drop (length before) into);
+      joined = cut ∙ take-add (length before) count into ∙ ap (λ l. l ++ take count (drop (length before) into)) stands;
+      long = length-take-le count (drop (length before) into) (omega arith);
+      given = given;
+      end = λ none. end none (omega arith);
+    }

@@ -1,8 +1,8 @@
 -- What a shelf holds, and what a call of load tells of it.
-use Rattle.std.specs.Prelude.{◌≡◌, ℕ, ◌<◌, ◌≤◌, Bool, true, false, if◌then◌else◌, List, length, Option, Some, IfSome, IsSomeAnd, Result, Ok, Err, nat_eq}
+use Rattle.std.specs.Prelude.{◌≡◌, ℕ, ◌<◌, ◌≤◌, Bool, true, false, if◌then◌else◌, List, ◌++◌, length, Option, Some, IfSome, IsSomeAnd, Result, Ok, Err, nat_eq}
 use Rattle.std.specs.Option.{option_map}
 use Rattle.std.specs.Map.{lookup}
-use Rattle.std.specs.Io.KnownBytes.{Consumes}
+use Rattle.std.specs.Io.KnownBytes.{Consumes, IsAtEnd}
 use Rattle.std.specs.Cmp.Lexicographic.{pointwise}
 use Rattle.pr_ports.specs.declared.shelf.LoadFault.{LoadFault}
 use Rattle.pr_ports.specs.declared.shelf.LoadFault.TheVariants.{Failed, TooLong, Memory}
@@ -41,3 +41,11 @@ missed_after failed path missed = option_map (λ last. if failed then Some path 
 -- where a reader tells what it has left, it gave at most so many bytes
 abbrev pub GaveAtMost : ℕ → Option (List ℕ) → Option (List ℕ) → Type 0
 GaveAtMost most old new = (given : List ℕ) × Consumes old new given × (length given ≤ most)
+
+-- where a reader tells what it has left, so many bytes of it came behind those before, none at the end alone
+pub record HasCome (old new : Option (List ℕ)) (before after : List ℕ) (count : ℕ) : Type 0 where
+  pub came : List ℕ
+  pub joined : after ≡ before ++ came
+  pub long : length came ≡ count
+  pub given : Consumes old new came
+  pub end : count ≡ 0 → IsAtEnd new

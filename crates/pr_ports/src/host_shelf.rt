@@ -1,7 +1,9 @@
 // The shelf of the machine's files.
-ghost use Rattle.std.specs.Prelude.{◌≡◌, ◌+◌, ◌<◌, ◌≤◌, None, IfOk, IfSome, IsErrOf, length, not};
+ghost use Rattle.std.specs.Prelude.{◌≡◌, ◌+◌, ◌<◌, ◌≤◌, None, IfOk, IfSome, IsErrOf, OnErr, drop, is_some, length, not, take};
+ghost use Rattle.std.specs.Io.KnownBytes.{Keeps};
 ghost use Rattle.pr_base.specs.Count.{Rose, count_unless};
-ghost use Rattle.pr_ports.specs.Shelf.{has_failed, GaveAtMost, IfTooLong};
+ghost use Rattle.pr_base.specs.Stream.{ReadsSome};
+ghost use Rattle.pr_ports.specs.Shelf.{has_failed, GaveAtMost, HasCome, IfTooLong};
 ghost use Rattle.pr_ports.specs.Mem.{Counts, counts_after};
 
 use crate::{LoadFault, Shelf};
@@ -41,11 +43,51 @@ impl<R: Files + AllocGlobal> HostShelf<R> {
     }
 }
 
-/// The bytes of one read.
+/// The most bytes of one read.
 const PIECE: usize = 65_536;
 
+/// Reads behind the first `at` bytes of `into`, as far as it has room, and answers how many bytes came.
+fn read_behind<F: Read>(file: &mut Counted<F>, into: &mut [u8], at: usize) -> Option<usize>
+    requires { at < length into.old }
+    ensures front { take at into.new ≡ take at into.old }
+    ensures within { IfSome result (λ count. at + count ≤ length into.new) }
+    ensures bytes { ReadsSome (F.remaining file.old.stream) (F.remaining file.new.stream)
+        result (drop at into.new) }
+    ensures count { file.new.faults ≡ count_unless (is_some result) file.old.faults }
+{
+    file.read(&mut into[at..])
+}
+
+/// Reads a piece of at most `most` bytes into the room behind `bytes`, and puts what came behind them.
+/// Answers how many bytes came, 0 at the end of the file alone.
+fn read_piece<F: Read>(
+    file: &mut Counted<F>,
+    bytes: &mut Vec<u8>,
+    most: usize,
+) -> Result<usize, LoadFault>
+    requires { 0 < most }
+    ensures within { IfOk result (λ count. count ≤ most) }
+    ensures came { IfOk result (HasCome (F.remaining file.old.stream) (F.remaining file.new.stream)
+        bytes.old.items bytes.new.items) }
+    ensures kept { OnErr result (Keeps (F.remaining file.old.stream) (F.remaining file.new.stream)) }
+    ensures short { IfTooLong result (λ _. ⊥) }
+    ensures count { file.new.faults ≡ count_unless (not (has_failed result)) file.old.faults }
+{
+    let len = bytes.len();
+    if most > usize::MAX - len || bytes.resize(len + most, 0).is_err() {
+        return Err(LoadFault::Memory);
+    }
+    match read_behind(file, bytes.as_mut_slice(), len) {
+        None => Err(LoadFault::Failed),
+        Some(count) => {
+            bytes.truncate(len + count);
+            Ok(count)
+        }
+    }
+}
+
 /// Reads a file to its end, and no more than one byte beyond `limit`. `size` is what the file says of its
-/// length, for which memory is taken beforehand.
+/// length, for which memory is taken beforehand, with a byte more for the read that finds the end.
 fn read_whole<F: Read>(
     alloc: Global,
     file: &mut Counted<F>,
@@ -60,30 +102,36 @@ fn read_whole<F: Read>(
     ensures most { GaveAtMost (limit + 1) (F.remaining file.old.stream) (F.remaining file.new.stream) }
     ensures count { file.new.faults ≡ count_unless (not (has_failed result)) file.old.faults }
 {
-    let Ok(mut bytes) = Vec::with_capacity(alloc, size.min(limit) as usize) else {
+    let expected = (size.min(limit) as usize).saturating_add(1);
+    let Ok(mut bytes) = Vec::with_capacity(alloc, expected) else {
         return Err(LoadFault::Memory);
     };
-    let mut piece = [0u8; PIECE];
     'pieces: loop {
         let room = limit - bytes.len() as u64;
-        let most = if room < PIECE as u64 {
-            room as usize + 1
-        } else {
-            PIECE
-        };
-        match file.read(&mut piece[..most]) {
-            None => return Err(LoadFault::Failed),
-            Some(0) => return Ok(bytes),
-            Some(count) => {
-                if count as u64 > room {
-                    return Err(LoadFault::TooLong { limit });
-                }
-                if bytes.extend_from_slice(&piece[..count]).is_err() {
-                    return Err(LoadFault::Memory);
-                }
-            }
+        let most = piece_len(room, bytes.capacity() - bytes.len());
+        let count = read_piece(file, &mut bytes, most)?;
+        if count == 0 {
+            return Ok(bytes);
+        }
+        if count as u64 > room {
+            return Err(LoadFault::TooLong { limit });
         }
     }
+}
+
+/// The bytes of the next read, where there are `room` to the limit and memory for `spare` is taken: one
+/// beyond the limit at most, and no further than the memory where there is some.
+fn piece_len(room: u64, spare: usize) -> usize
+    ensures some { 0 < result }
+    ensures within { result ≤ room + 1 }
+    ensures spare { 0 < spare → result ≤ spare }
+{
+    let most = if room < PIECE as u64 {
+        room as usize + 1
+    } else {
+        PIECE
+    };
+    if spare == 0 { most } else { most.min(spare) }
 }
 
 impl<R: Files + AllocGlobal> Shelf for HostShelf<R> {
