@@ -1,5 +1,5 @@
 // The shelf of the machine's files.
-ghost use Rattle.std.specs.Prelude.{◌≡◌, ◌+◌, ◌<◌, ◌≤◌, None, IfOk, IfSome, IsErrOf, OnErr, drop, is_some, length, not, take};
+ghost use Rattle.std.specs.Prelude.{◌≡◌, ◌+◌, ◌<◌, ◌≤◌, None, IfOk, IfSome, IsErrOf, OnErr, ◌==◌, drop, if◌then◌else◌, is_some, length, min, not, take};
 ghost use Rattle.std.specs.Io.KnownBytes.{Keeps};
 ghost use Rattle.pr_base.specs.Count.{Rose, count_unless};
 ghost use Rattle.pr_base.specs.Stream.{ReadsSome};
@@ -122,9 +122,10 @@ fn read_whole<F: Read>(
 /// The bytes of the next read, where there are `room` to the limit and memory for `spare` is taken: one
 /// beyond the limit at most, and no further than the memory where there is some.
 fn piece_len(room: u64, spare: usize) -> usize
+    ensures value { let most = min (room + 1) PIECE in
+        result ≡ (if spare == 0 then most else min most spare) }
     ensures some { 0 < result }
     ensures within { result ≤ room + 1 }
-    ensures spare { 0 < spare → result ≤ spare }
 {
     let most = if room < PIECE as u64 {
         room as usize + 1
