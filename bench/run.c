@@ -1,10 +1,15 @@
-/* The four plates of one pair of pages, each page one uncompressed CMYK file of one strip at scale 4, by straightforward
- * loops: what `plateroom run` is measured against. It reads ImageWidth, ImageLength and StripOffsets and tests nothing.
- * Then it prints how many pixels of each plate print in each of 32 keys, counted pixel by pixel, where KEYS is set.
+/* The four plates of one pair of pages, each page one uncompressed CMYK file of one strip at scale 4, or at the SCALE that
+ * it is compiled with, by straightforward loops: what `plateroom run` is measured against. It reads ImageWidth, ImageLength
+ * and StripOffsets and tests nothing. Then it prints how many pixels of each plate print in each of 32 keys, counted pixel
+ * by pixel, where KEYS is set.
  * usage: run LEFT RIGHT bayer8|diffuse PLATES..; the plate of ink I becomes PLATES-I.tif, for each PLATES */
 #include "plate.h"
 
-enum { SCALE = 4, KEYS = 32 };
+#ifndef SCALE
+#define SCALE 4
+#endif
+
+enum { KEYS = 32 };
 
 static uint64_t counts[INKS][KEYS];
 

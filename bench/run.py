@@ -1,4 +1,5 @@
-"""Makes two images, runs both programs in turn for each screen, compares their plates, and prints what each took."""
+"""Makes two images for a scale, runs both programs in turn for each screen, compares their plates, and prints what each
+took."""
 import filecmp
 import json
 import os
@@ -8,6 +9,8 @@ import subprocess
 import sys
 
 WIDTH, LENGTH, SCALE, RUNS = 4000, 6000, 4, 3
+# The sides of the images at each scale.
+SIZES = {SCALE: (WIDTH, LENGTH), 1: (2 * WIDTH, 2 * LENGTH)}
 SCREENS = ("bayer8", "diffuse")
 
 
@@ -29,13 +32,14 @@ def make(path, phase, width=WIDTH, length=LENGTH):
             file.write(pattern[at:at + 4 * width])
 
 
-def plan(screen):
+def plan(screen, scale=SCALE):
+    width, length = SIZES[scale]
     pages = [
-        {"name": name, "inks": "CMYK", "layers": [{"kind": "contone", "file": f"{name}.tif", "scale": SCALE}]}
+        {"name": name, "inks": "CMYK", "layers": [{"kind": "contone", "file": f"{name}.tif", "scale": scale}]}
         for name in ("right", "left")
     ]
     return {
-        "plan": 1, "edition": "E1", "dpi": 1200, "page": [SCALE * WIDTH, SCALE * LENGTH],
+        "plan": 1, "edition": "E1", "dpi": 1200, "page": [scale * width, scale * length],
         "screens": {ink: screen for ink in "CMYK"}, "pages": pages,
         "sections": [{"name": "A", "pages": ["right", "left"]}], "sites": [{"name": "OSLO"}],
     }
@@ -52,15 +56,17 @@ def run(command):
 
 def main():
     plateroom, plain, folder = sys.argv[1:4]
+    scale = int(sys.argv[4])
+    width, length = SIZES[scale]
     files = os.path.join(folder, "files")
     os.makedirs(files, exist_ok=True)
     for name, phase in (("left", 3), ("right", 5)):
-        make(os.path.join(files, f"{name}.tif"), phase)
-    pixels = 2 * 4 * SCALE * WIDTH * SCALE * LENGTH
+        make(os.path.join(files, f"{name}.tif"), phase, width, length)
+    pixels = 2 * 4 * scale * width * scale * length
     for screen in SCREENS:
         text, out, plates = (os.path.join(folder, name) for name in (f"{screen}.json", "out", "plain"))
         with open(text, "w") as file:
-            json.dump(plan(screen), file)
+            json.dump(plan(screen, scale), file)
         images = [os.path.join(files, f"{name}.tif") for name in ("left", "right")]
         best = [(float("inf"), 0, 0)] * 2
         for _ in range(RUNS):
@@ -71,7 +77,7 @@ def main():
             if not filecmp.cmp(f"{out}/OSLO/E1-A-001-{ink}.tif", f"{plates}-{ink}.tif", shallow=False):
                 sys.exit(f"the {screen} plates of {ink} differ")
         for name, (own, system, memory) in zip(("plateroom", "plain C"), best):
-            print(f"{screen} {name}: {own:.2f} s of its own and {system:.2f} s of the system's, "
+            print(f"{screen}, scale {scale}, {name}: {own:.2f} s of its own and {system:.2f} s of the system's, "
                   f"{pixels / own / 1e6:.0f} million pixels a second of its own, {memory} KiB")
     size = sum(os.path.getsize(os.path.join(files, name)) for name in os.listdir(files)) // 1024
     print(f"the files have {size} KiB together; the plates of both programs are the same bytes")

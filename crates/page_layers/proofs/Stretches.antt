@@ -1,10 +1,17 @@
--- Runs of one value, one after the other.
-use Rattle.std.proofs.Common.{◌≡◌, ℕ, ◌+◌, ◌-◌, ◌*◌, ◌/◌, ◌<◌, ◌≤◌, List, length, take, get_or, replicate, inl, inr, sym, ap, ◌∙◌, arith}
+-- Runs of one value, one after the other, and blocks of samples.
+use Rattle.std.proofs.Common.{◌≡◌, ℕ, ◌+◌, ◌-◌, ◌*◌, ◌/◌, ◌<◌, ◌≤◌, List, ◌++◌, length, take, drop, map, get_or, replicate, slice_range, inl, inr, sym, ap, ◌∙◌, arith}
+use Rattle.std.specs.List.{range_with_len}
 use Rattle.std.proofs.lemmas.Bool.{cases_lt}
-use Rattle.std.proofs.lemmas.List.{get_or-append_right, get_or-replicate, get_or-take, get_or_append_left, length-replicate, length-take-le}
-use Rattle.std.proofs.lemmas.Nat.{div-mul-add}
+use Rattle.std.proofs.lemmas.List.{get_or-append_right, get_or-replicate, get_or-take, get_or_append_left, length-drop, length-replicate, length-take, length-take-le}
+use Rattle.std.proofs.lemmas.List.Edits.{get_or-between}
+use Rattle.std.proofs.lemmas.List.FromFn.{get_or-map-range_with_len, length-map-range_with_len}
+use Rattle.std.proofs.lemmas.Nat.{div_below, div-mul-add}
+use Rattle.std.proofs.Math.Nat.{mul-add-div}
+use Rattle.std.proofs.lemmas.Simd.{put_chunk_whole}
+use lib.Lanes.{put_chunk}
 use borrow.Rule.Slice.PartMut.{put_mid}
 use Rattle.page_layers.specs.Rows.{IsStretched}
+use Rattle.page_layers.proofs.Blocks.{part_below, part_here}
 
 -- run n, or its front, behind those before it
 pub IsStretched-run : (source : List ℕ) (step scale n count cut size value : ℕ) (into part : List ℕ) → IsStretched source step scale (scale * n) into → size ≤ scale → count ≡ scale * n + size
@@ -31,3 +38,47 @@ IsStretched-run source step scale n count cut size value into part has small who
 
     long : length part ≡ size
     long = ap length run ∙ length-replicate size value
+
+-- no value is filled yet
+pub IsStretched_none : (source : List ℕ) (step scale count : ℕ) (into : List ℕ) → count ≡ 0 → IsStretched source step scale count into
+IsStretched_none source step scale count into none = record { each = λ j below. absurd (omega arith) }
+
+-- a sample of a block of sixteen pixels that was loaded whole, and joined to itself
+abbrev pub sample_in : List ℕ → ℕ → ℕ → ℕ
+sample_in pixels scale x = get_or (take 64 pixels ++ take 64 pixels) (4 * (x / scale)) 0
+
+loaded : (pixels : List ℕ) (i : ℕ) → length pixels ≡ 64 → i < 64 → get_or (take 64 pixels ++ take 64 pixels) i 0 ≡ get_or pixels i 0
+loaded pixels i whole within = get_or_append_left (take 64 pixels) (take 64 pixels) 0 i (omega (arith, length-take 64 pixels)) ∙ get_or-take 64 pixels i 0 within
+
+-- block k behind those before it
+pub IsStretched-block : (source : List ℕ) (scale size k at to count cut : ℕ) (into : List ℕ) → IsStretched source 4 scale at into → 0 < scale → at ≡ scale * (16 * k) → size ≡ scale * 16 → to ≡ at + size → count ≡ at + size → cut ≡ size
+    → count ≤ length into → 64 * k + 64 ≤ length source
+    → IsStretched source 4 scale count (put_mid at cut into (put_chunk 0 (slice_range into at to) (map (sample_in (slice_range source (64 * k) (64 * k + 64)) scale) (range_with_len 0 size))))
+IsStretched-block source scale size k at to count cut into has above at_is size_is to_is count_is cut_is room enough =
+    let pixels = slice_range source (64 * k) (64 * k + 64) in
+    let lanes = map (sample_in pixels scale) (range_with_len 0 size) in
+    let part = put_chunk 0 (slice_range into at to) lanes in
+    let lanes_long : length lanes ≡ size = length-map-range_with_len (sample_in pixels scale) 0 size in
+    let pixels_long : length pixels ≡ 64 = omega (arith, length-take (64 * k + 64 - 64 * k) (drop (64 * k) source), length-drop (64 * k) source) in
+    let slice_long : length (slice_range into at to) ≡ size = omega (arith, length-take (to - at) (drop at into), length-drop at into) in
+    let part_is : part ≡ lanes = put_chunk_whole (slice_range into at to) lanes (slice_long ∙ sym lanes_long) in
+    let part_long : length part ≡ cut = ap length part_is ∙ lanes_long ∙ sym cut_is in
+    record {
+      each = λ j below.
+          elim (cases_lt j at) [
+            | inl before ↦ part_below at cut into part j (omega arith) before ∙ has.each j before
+            | inr behind ↦
+                let x = j - at in
+                let inside : x < size = omega arith in
+                let pixel : x / scale < 16 = div_below x scale 16 above (omega arith) in
+                let whole : scale * (16 * k) + x ≡ j = omega arith in
+                let column : 16 * k + x / scale ≡ j / scale = sym (mul-add-div above (16 * k) x) ∙ ap (λ n. n / scale) whole in
+                let place : 64 * k + 4 * (x / scale) ≡ 4 * (j / scale) = omega arith in
+                part_here at cut into part j (omega arith) part_long behind (omega arith)
+                ∙ ap (λ list. get_or list x 0) part_is
+                ∙ get_or-map-range_with_len (sample_in pixels scale) 0 size x x 0 inside (omega arith)
+                ∙ loaded pixels (4 * (x / scale)) pixels_long (omega arith)
+                ∙ get_or-between source (64 * k) (64 * k + 64) (4 * (x / scale)) 0 (omega arith)
+                ∙ ap (λ n. get_or source n 0) place
+          ];
+    }

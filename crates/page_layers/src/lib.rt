@@ -13,6 +13,7 @@ mod mask_rows;
 mod page_rows;
 mod room;
 mod row_reader;
+mod samples;
 mod stretch;
 
 pub use ink_row::InkRow;

@@ -1,8 +1,11 @@
 // Values that stand several times side by side.
-ghost use Rattle.std.specs.Prelude.{◌≡◌, ℕ, ◌+◌, ◌*◌, ◌<◌, ◌≤◌, length, slice_index};
+ghost use Rattle.std.specs.Prelude.{◌≡◌, ℕ, ◌+◌, ◌*◌, ◌/◌, ◌<◌, ◌≤◌, length, slice_index};
 ghost use Rattle.page_layers.specs.Rows.{IsStretched};
 
+use crate::samples::{samples_four_times, samples_once, samples_twice};
+
 /// Fills `into` with each value of the source, `step` apart, `scale` times.
+#[tactic(auto, using(crate::proofs::Stretches::IsStretched_none))]
 pub(crate) fn stretch(source: &[u8], step: usize, scale: usize, into: &mut [u8])
     requires step { (1 ≤ step) × (step ≤ 4) }
     requires scale { (1 ≤ scale) × (scale ≤ 64) }
@@ -11,40 +14,41 @@ pub(crate) fn stretch(source: &[u8], step: usize, scale: usize, into: &mut [u8])
     ensures { IsStretched source.now step scale (length into.old) into.new }
 {
     match (step, scale) {
-        (1, 1) => copy(source, 1, into),
-        (4, 1) => copy(source, 4, into),
-        (1, 2) => runs(source, 1, 2, into),
-        (4, 2) => runs(source, 4, 2, into),
-        (1, 4) => runs(source, 1, 4, into),
-        (4, 4) => runs(source, 4, 4, into),
-        _ => runs(source, step, scale, into),
+        (1, 1) => copy(source, into),
+        (4, 1) => samples_once(source, into),
+        (1, 2) => runs(source, 1, 2, 0, into),
+        (4, 2) => samples_twice(source, into),
+        (1, 4) => runs(source, 1, 4, 0, into),
+        (4, 4) => samples_four_times(source, into),
+        _ => runs(source, step, scale, 0, into),
     }
 }
 
-// The same, once each.
+// The same, of values that stand side by side, once each.
 #[inline(always)]
-fn copy(source: &[u8], step: usize, into: &mut [u8])
-    requires step { step ≤ 4 }
-    requires small { length into.old ≤ 65535 }
-    requires enough { (n : ℕ) → n < length into.old → step * n < length source.now }
-    ensures { (n : ℕ) → n < length into.old → slice_index into.new n ≡ slice_index source.now (step * n) }
+fn copy(source: &[u8], into: &mut [u8])
+    requires { (n : ℕ) → n < length into.old → n < length source.now }
+    ensures { (n : ℕ) → n < length into.old → slice_index into.new n ≡ slice_index source.now n }
 {
     for n in 0..into.len() {
-        into[n] = source[step * n];
+        into[n] = source[n];
     }
 }
 
-// Whole runs, and a front of one more. The caller's numbers are put in, so that a run is a single store.
+// Whole runs behind those that are done, and a front of one more. The caller's numbers are put in, so that a
+// run is a single store.
 #[inline(always)]
-fn runs(source: &[u8], step: usize, scale: usize, into: &mut [u8])
+pub(crate) fn runs(source: &[u8], step: usize, scale: usize, done: usize, into: &mut [u8])
     requires step { step ≤ 4 }
     requires scale { (1 ≤ scale) × (scale ≤ 64) }
     requires small { length into.old ≤ 65535 }
     requires enough { (n : ℕ) → scale * n < length into.old → step * n < length source.now }
+    requires within { done ≤ length into.old / scale }
+    requires done { IsStretched source.now step scale (scale * done) into.old }
     ensures { IsStretched source.now step scale (length into.old) into.new }
 {
     let whole = into.len() / scale;
-    for n in 0..whole {
+    for n in done..whole {
         into[scale * n..scale * n + scale].fill(source[step * n]);
     }
     if scale * whole < into.len() {

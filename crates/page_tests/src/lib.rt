@@ -10,6 +10,8 @@ mod offsets;
 #[cfg(test)]
 mod pages;
 #[cfg(test)]
+mod samples;
+#[cfg(test)]
 mod tiles;
 #[cfg(test)]
 mod tones;

@@ -1,0 +1,6 @@
+use Rattle.std.proofs.Common.{◌*◌}
+use Rattle.page_layers.specs.Rows.{IsStretched}
+use Rattle.page_layers.proofs.samples.samples_once.Given as goal
+
+abbrev pub invariant-loop-k : goal.invariant-loop-k
+invariant-loop-k l = IsStretched l.source 4 1 (16 * l.k) l.into
