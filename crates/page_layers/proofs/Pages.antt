@@ -202,3 +202,10 @@ all_alike (state ∷ states) width y ready each =
     let P : Layer → Type 0 = λ layer. IsTrue (shows_alike width layer y) in
     let first : shows_alike state.width state.layer y ≡ true = rw own (All-head P state.layer (layers_of states) each) in
     together _ _ first (all_alike states width y (All-tail (IsReady width y) state states ready) (All-tail P state.layer (layers_of states) each))
+
+-- where the layer at the bottom covers all, what stands below doesn't matter
+pub covered_inks : (states : List LayerState) (x y : ℕ) (first : LayerState) (under : Planes) → 0 < length states → painted (get_or states 0 first).layer x y (inks_at under x) ≡ painted (get_or states 0 first).layer x y blank
+    → fold (λ under layer. painted layer x y under) (inks_at under x) (layers_of states) ≡ ink_at (layers_of states) x y
+covered_inks [] x y first under some same = absurd (omega arith)
+covered_inks (state ∷ states) x y first under some same =
+    ap (λ ink. fold (λ under layer. painted layer x y under) ink (layers_of states)) same ∙ ink_at-is (layers_of (state ∷ states)) x y

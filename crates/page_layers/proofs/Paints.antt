@@ -7,7 +7,7 @@ use Rattle.page_layers.specs.declared.layer.Art.TheVariants.{Contone, Line}
 use Rattle.page_layers.specs.declared.layer.Layer.{Layer}
 use Rattle.page_layers.specs.declared.lay.Painting.{Painting}
 use Rattle.page_layers.specs.declared.lay.Painting.TheVariants.{Whole, Knockout, Overprint}
-use Rattle.page_layers.specs.Inks.{Planes, inks_at, laid, laid_value}
+use Rattle.page_layers.specs.Inks.{Planes, blank, inks_at, laid, laid_value}
 use Rattle.page_layers.specs.Layer.{admits, column_at, covers_column, covers_row, paint_at, painted, paints_at, row_at, shows_through}
 use Rattle.page_layers.specs.Page.{shows_on}
 use Rattle.page_layers.specs.Rows.{IsExpanded, LaysSpan, bare_art, is_bare, laid_where, no_mask, painting_of, span_of}
@@ -129,3 +129,29 @@ painted-row layer width y painting paint admitted old new painting_is long row e
         (five ∙ ap (λ paint. if shows then laid layer.overprint paint (inks_at old (layer.x + j)) else inks_at old (layer.x + j)) (expanded.paint_is.each j inside)
         ∙ ap (λ column. if admits layer column (row_at layer y) then laid layer.overprint (paint_at layer.art column (row_at layer y)) (inks_at old (layer.x + j)) else inks_at old (layer.x + j)) (sym (column_is layer j))
         ∙ sym whole)
+
+-- a layer that is painted whole knocks out, and each of its pixels shows
+whole_is : (overprint bare : Bool) → (if overprint then Overprint else if bare then Whole else Knockout) ≡ Whole → (overprint ≡ false) × (bare ≡ true)
+whole_is false true is = (refl, refl)
+whole_is false false is = absurd (cc)
+whole_is true true is = absurd (cc)
+whole_is true false is = absurd (cc)
+
+-- so that what stands below doesn't matter
+knocked_out : (art : Art) (column row x : ℕ) (under : Planes) → laid false (paint_at art column row) (inks_at under x) ≡ laid false (paint_at art column row) blank
+knocked_out (Contone image) column row x under = refl
+knocked_out (Line image inks) column row x under = refl
+
+pub covers_all : (layer : Layer) (width x y : ℕ) (painting : Painting) (admitted : List ℕ) (under : Planes) → painting ≡ painting_of layer → painting ≡ Whole → layer.x ≡ 0 → length admitted ≡ span_of width layer → length admitted ≡ width
+    → shows_on width layer y ≡ true → x < width → painted layer x y (inks_at under x) ≡ painted layer x y blank
+covers_all layer width x y painting admitted under painting_is whole left long wide shows within =
+    let both = whole_is layer.overprint (is_bare layer) (sym painting_is ∙ whole) in
+    let place : layer.x + x ≡ x = omega arith in
+    let column : covers_column layer x ≡ true = rw place at (inside_column layer width x (omega arith)) in
+    let row = shown_row width layer y shows in
+    let at = column_at layer x in
+    let all : admits layer at (row_at layer y) ≡ true = bare_admits layer.mask layer.art at (row_at layer y) both.1 in
+    let on : (ink : List ℕ) → painted layer x y ink ≡ laid false (paint_at layer.art at (row_at layer y)) ink = λ ink.
+    covered layer x y ink column row ∙ ap (λ shows. if shows then laid layer.overprint (paint_at layer.art at (row_at layer y)) ink else ink) all
+    ∙ ap (λ overprint. laid overprint (paint_at layer.art at (row_at layer y)) ink) both.0 in
+    on (inks_at under x) ∙ knocked_out layer.art at (row_at layer y) x under ∙ sym (on blank)

@@ -49,7 +49,7 @@ impl<'a> Model for LayerRows<'a> {
 
 impl<'a> LayerRows<'a> {
     ghost use Rattle.std.specs.Prelude.{◌≡◌, ℕ, ◌+◌, ◌<◌, ◌≤◌, IsTrue};
-    ghost use Rattle.page_layers.specs.Inks.{HasWidth, inks_at};
+    ghost use Rattle.page_layers.specs.Inks.{HasWidth, Planes, blank, inks_at};
     ghost use Rattle.page_layers.specs.Layer.{IsLayer, painted, row_at};
     ghost use Rattle.page_layers.specs.Page.{shows_alike, shows_on};
 
@@ -135,6 +135,17 @@ impl<'a> LayerRows<'a> {
             &self.admitted,
             into,
         );
+    }
+
+    /// The layer shows at each column of row `y` of the page and replaces what stands below, spot ink too.
+    pub(crate) fn covers(&self, y: u32) -> bool
+        ensures { IsTrue result → (x : ℕ) → x < self.now.width → (under : Planes)
+            → painted self.now.layer x y (inks_at under x) ≡ painted self.now.layer x y blank }
+    {
+        self.painting == Painting::Whole
+            && self.layer.x == 0
+            && self.admitted.len() == self.width as usize
+            && self.shows(y)
     }
 
     // Reads up to a row of the image that shows, and makes paint of it.

@@ -3,7 +3,7 @@ ghost use Rattle.std.specs.Prelude.{◌≡◌, ℕ, ◌<◌, ◌≤◌, All, IfO
 ghost use Rattle.std.specs.List.{fold, list_all};
 ghost use Rattle.std.specs.Vec.{vec_capacity};
 ghost use Rattle.page_layers.specs.Inks.{HasWidth, inks_at};
-ghost use Rattle.page_layers.specs.Layer.{painted};
+ghost use Rattle.page_layers.specs.Layer.{ink_at, painted};
 ghost use Rattle.page_layers.specs.Page.{shows_alike};
 ghost use Rattle.page_layers.specs.Rows.{IsReady, layers_of};
 
@@ -122,7 +122,7 @@ impl<'a> PageRows<'a> {
         ensures page { self.new ≡ record self.old { next = self.old.next + 1 } }
     {
         let y = self.next;
-        into.clear();
+        clear_under(&self.layers, y, into);
         paint_layers(&mut self.layers, y, &mut self.read, into);
         self.next = y + 1;
     }
@@ -168,6 +168,21 @@ fn layer_rooms(alloc: Global, count: usize) -> Result<Vec<LayerRoom>, NoMemory>
         rooms.push_reserved(LayerRoom::new(alloc)?);
     }
     Ok(rooms)
+}
+
+// Takes all ink away before row `y` is laid, unless the layer at the bottom replaces all of it.
+fn clear_under(layers: &[LayerRows<'_>], y: u32, into: &mut InkRow)
+    requires width { HasWidth into.old (length into.old.cyan) }
+    requires ready { All (IsReady (length into.old.cyan) y) layers.now }
+    ensures width { HasWidth into.new (length into.old.cyan) }
+    ensures under { (x : ℕ) → x < length into.old.cyan
+        → fold (λ under layer. painted layer x y under) (inks_at into.new x) (layers_of layers.now)
+        ≡ ink_at (layers_of layers.now) x y }
+{
+    if !layers.is_empty() && layers[0].covers(y) {
+        return;
+    }
+    into.clear();
 }
 
 // Lays the layers in order over row `y`.
