@@ -34,7 +34,8 @@ const RENAMED_SECTION: &str = "'name':'B','pages':['p','q','r','s']}],\
 const ONE_PAIR: &str = "'name':'A','pages':['p','s']}],\
 'zones':[{'name':'N','replace':[{'section':'A','page':1,'with':'p'}";
 
-const FILES: [&[u8]; 3] = [b"abc", b"de", b"f"];
+// The files, with a space between them.
+const FILES: &str = "abc de f";
 
 const ALL: &str = "00K 01C 01M 01Y 01K 10K 12C 12M 12Y 12K ";
 
@@ -43,13 +44,13 @@ const BLACK: &str = "00K 01K 10K 12K ";
 // What is changed in the plan and to what, the new files, the plates that must be made, and those that are
 // dropped: each by the index of its site, the index of its group and its ink.
 #[rattlefmt::skip]
-const CHANGES: [(&str, &str, [&[u8]; 3], &str, &str); 16] = [
+const CHANGES: [(&str, &str, &str, &str, &str); 16] = [
     ("'edition':'E1'", "'edition':'E1'", FILES, "", ""),
     ("'K':'tile:t1'", "'K':'bayer8'", FILES, BLACK, ""),
     ("'page':[8,2]", "'page':[8,2],'curves':{'S':[[0,0],[255,9]]}", FILES, ALL, ""),
     ("'page':[8,2]", "'page':[8,2],'marks':[{'inks':'C','x':0,'y':0,'w':1,'h':1}]", FILES, ALL, ""),
-    ("'edition':'E1'", "'edition':'E1'", [b"abd", b"de", b"f"], "00K 10K ", ""),
-    ("'edition':'E1'", "'edition':'E1'", [b"abc", b"de", b"g"], "01C 01M 01Y 01K 12C 12M 12Y 12K ", ""),
+    ("'edition':'E1'", "'edition':'E1'", "abd de f", "00K 10K ", ""),
+    ("'edition':'E1'", "'edition':'E1'", "abc de g", "01C 01M 01Y 01K 12C 12M 12Y 12K ", ""),
     ("'at':[7,9]", "'at':[7,8]", FILES, BLACK, ""),
     ("'file':'a'", "'file':'n'", FILES, "", ""),
     ("'file':'a'", "'file':'a','crop':[0,0,1,1]", FILES, "00K 10K ", ""),
@@ -64,13 +65,21 @@ const CHANGES: [(&str, &str, [&[u8]; 3], &str, &str); 16] = [
 
 #[test]
 fn each_change_has_its_plates(rt: HostRuntime) {
-    for (n, (old, new, files, made, dropped)) in CHANGES.iter().enumerate() {
-        let text = changed(&rt, old, new);
-        assert!(rt;
-            tells(&rt, text.as_str(), files, made, dropped),
-            "change {n}"
-        );
+    for (n, change) in CHANGES.iter().enumerate() {
+        check(&rt, n, holds(&rt, change));
     }
+}
+
+fn check(rt: &impl Abort, n: usize, holds: bool) {
+    assert!(rt; holds, "change {n}");
+}
+
+// Whether these plates are made and dropped where the plan becomes this one, over these files.
+fn holds<R: Abort + AllocGlobal>(rt: &R, change: &(&str, &str, &str, &str, &str)) -> bool {
+    let (old, new, files, made, dropped) = *change;
+    let old_plan = plan_of(rt, BASE);
+    let new_plan = plan_of(rt, changed(rt, old, new).as_str());
+    tells(rt, &old_plan, &new_plan, files, made, dropped)
 }
 
 // The plan with one text in it, which has to be there, in the place of another.
@@ -89,33 +98,30 @@ fn plan_of<R: Abort + AllocGlobal>(rt: &R, text: &str) -> Plan {
     read_plan(rt.alloc(), bytes.as_slice()).expect(rt, "no plan")
 }
 
-fn whole<R: Abort + AllocGlobal>(rt: &R, files: &[&[u8]]) -> Vec<Vec<u8>> {
+fn whole<R: Abort + AllocGlobal>(rt: &R, files: &str) -> Vec<Vec<u8>> {
     let mut all = Vec::new(rt.alloc());
-    for file in files {
-        all.push(file.to_vec(rt.alloc()).expect(rt, "memory"))
-            .expect(rt, "memory");
+    for file in files.split(' ') {
+        let bytes = file.as_bytes().to_vec(rt.alloc()).expect(rt, "memory");
+        all.push(bytes).expect(rt, "memory");
     }
     all
 }
 
-// Whether these plates are made and dropped where the old plan becomes this one, over these files.
 fn tells<R: Abort + AllocGlobal>(
     rt: &R,
-    text: &str,
-    files: &[&[u8]],
+    old_plan: &Plan,
+    new_plan: &Plan,
+    files: &str,
     made: &str,
     dropped: &str,
 ) -> bool {
-    let old_plan = plan_of(rt, BASE);
-    let old_files = whole(rt, &FILES);
-    let new_plan = plan_of(rt, text);
+    let old_files = whole(rt, FILES);
     let new_files = whole(rt, files);
-    if old_files.len() != old_plan.files().len() || new_files.len() != new_plan.files().len() {
-        return false;
-    }
-    picks(
-        rt, &old_plan, &old_files, &new_plan, &new_files, made, dropped,
-    )
+    old_files.len() == old_plan.files().len()
+        && new_files.len() == new_plan.files().len()
+        && picks(
+            rt, old_plan, &old_files, new_plan, &new_files, made, dropped,
+        )
 }
 
 fn picks<R: Abort + AllocGlobal>(
