@@ -1,24 +1,23 @@
 // Ink keys: the keys of columns, the rows of a small edition, and the turns of a key reader at a ring of two
 // places.
 ghost use Rattle.std.specs.Prelude.{◌≡◌, ◌+◌, ◌<◌, ◌≤◌, false, IfOk, OnOk, length, slice_get};
-ghost use Rattle.plan_rows.specs.Rows.{places_in};
+ghost use Rattle.plan_rows.specs.Rows.{places_in, rows_of};
 ghost use Rattle.ink_keys.specs.Counts.{IsBounded, no_counts};
 ghost use Rattle.ink_keys.specs.Turn.{IfWaiting};
 ghost use Rattle.rack_tests.specs.Counting.{IsCounting, small_rows};
 ghost use Rattle.rack_tests.specs.Numbered.{IsFeeding};
 
-use crate::rows::{Numbered, frame};
+use crate::rows::{Numbered, frame, plan_of, plan_rows};
 use crate::site::sent;
 use crate::turn::publish;
 use ink_keys::{Counts, KeyEnd, KeyReader, key_of};
-use plan_json::read_plan;
+use plan_json::Plan;
 use plan_pages::plate_shape;
 use plan_rows::RowPlan;
 use pr_base::{Deal, Ink, NoMemory};
 use ring_lanes::{Deck, Ends, Full, Reader, Writer, open_ring};
 use std::alloc::Global;
 use std::process::Abort;
-use std::test::Fail;
 
 // ---- columns
 
@@ -53,7 +52,10 @@ fn assert_key(rt: &impl Abort, width: u32, keys: u32, column: u32, key: u32) {
     assert!(rt; keys >= 1);
     assert!(rt; keys <= 64);
     assert!(rt; column < width);
-    assert_eq!(rt; key_of(width, keys, column), key);
+    assert!(rt;
+        key_of(width, keys, column) == key,
+        "column {column} of {width}"
+    );
 }
 
 // ---- counts
@@ -123,10 +125,10 @@ fn count_small(alloc: Global, rows: &RowPlan, keys: u32) -> Result<Counts, NoMem
     Ok(counts)
 }
 
-fn assert_counts(rt: &impl Abort, counts: &Counts, group: usize, wanted: &[u64])
+fn counted(counts: &Counts, group: usize, wanted: &[u64]) -> bool
     requires { group < counts.now.groups }
 {
-    assert_eq!(rt; counts.of(group, Ink::K), wanted);
+    counts.of(group, Ink::K) == wanted
 }
 
 const SMALL: &[u8] = br#"{"plan": 1, "edition": "E1", "dpi": 1200, "page": [8, 2],
@@ -134,22 +136,36 @@ const SMALL: &[u8] = br#"{"plan": 1, "edition": "E1", "dpi": 1200, "page": [8, 2
     "sections": [{"name": "A", "pages": ["p", "p"]}],
     "sites": [{"name": "OSLO"}]}"#;
 
+// The rows of the small edition have these counts in so many keys.
+fn check_small(rt: &impl Abort, alloc: Global, rows: &RowPlan, keys: u32, wanted: &[u64])
+    requires least { 1 ≤ keys }
+    requires most { keys ≤ 64 }
+    requires total { length (places_in rows.now) ≡ 2 }
+    requires group { 0 < length rows.now.groups }
+{
+    let counts = count_small(alloc, rows, keys).expect(rt, "memory");
+    sent(&counts);
+    assert!(rt; counted(&counts, 0, wanted), "{keys} keys");
+}
+
 // 171 and 19 are 10101011 and 00010011. Of four keys each has four columns: 2 and 1 dots in the first four, 3
 // and 2 in the next. Of three the first has columns 0 to 5, the second 6 to 10: 3 and 1 dots there, 2 and 2
 // here.
 #[test]
-fn rows_are_counted(rt: HostRuntime) -> Result<(), Fail> {
-    let plan = read_plan(rt.alloc(), SMALL)?;
-    let rows = RowPlan::of(rt.alloc(), &plan)?;
-    assert!(rt; plate_shape(&plan).width == 16);
+fn rows_are_counted(rt: HostRuntime) {
+    let plan = plan_of(&rt, SMALL);
+    let rows = plan_rows(&rt, &plan);
+    check_counts(&rt, rt.alloc(), &plan, &rows);
+}
+
+fn check_counts(rt: &impl Abort, alloc: Global, plan: &Plan, rows: &RowPlan)
+    requires { rows.now ≡ rows_of plan.now }
+{
+    assert!(rt; plate_shape(plan).width == 16);
     assert!(rt; rows.total() == 2);
     assert!(rt; rows.groups().len() == 1);
-    let counts = count_small(rt.alloc(), &rows, 4)?;
-    assert_counts(&rt, &counts, 0, &[3, 5, 0, 0]);
-    sent(&counts);
-    let counts = count_small(rt.alloc(), &rows, 3)?;
-    assert_counts(&rt, &counts, 0, &[4, 4, 0]);
-    Ok(())
+    check_small(rt, alloc, rows, 4, &[3, 5, 0, 0]);
+    check_small(rt, alloc, rows, 3, &[4, 4, 0]);
 }
 
 // ---- turns
@@ -194,21 +210,22 @@ fn take_turns(
 }
 
 // How three turns of a key reader end that count all rows of a ring, and its counts by three keys.
-fn count_all(alloc: Global, rows: &RowPlan) -> Result<([KeyEnd; 3], Counts), Fail>
+fn count_all<R: Abort + AllocGlobal>(rt: &R, rows: &RowPlan) -> ([KeyEnd; 3], Counts)
     requires { length (places_in rows.now) ≡ 4 }
-    ensures { IfOk result (λ (ends, counts). counts.groups ≡ length rows.now.groups) }
+    ensures { result.1.groups ≡ length rows.now.groups }
 {
     let deal = Numbered { count: 4 };
-    let mut ring = open_ring(alloc, &deal, 2, 1)?;
+    let mut ring = open_ring(rt.alloc(), &deal, 2, 1).expect(rt, "no ring");
     let Ends {
         mut writer,
         mut readers,
-    } = ring.ends(alloc)?;
-    let mut reader = readers.pop().ok_or("no reader")?;
-    let mut key = KeyReader::new(rows, zeros(alloc, rows, 3)?);
+    } = ring.ends(rt.alloc()).expect(rt, "no ends");
+    let mut reader = readers.pop().expect(rt, "no reader");
+    let counts = zeros(rt.alloc(), rows, 3).expect(rt, "memory");
+    let mut key = KeyReader::new(rows, counts);
     sent(&key);
-    let ends = take_turns(&mut writer, &mut key, &mut reader)?;
-    Ok((ends, key.into_counts()))
+    let ends = take_turns(&mut writer, &mut key, &mut reader).expect(rt, "no room");
+    (ends, key.into_counts())
 }
 
 const TWO_PAIRS: &[u8] = br#"{"plan": 1, "edition": "E1", "dpi": 1200, "page": [8, 2],
@@ -216,19 +233,27 @@ const TWO_PAIRS: &[u8] = br#"{"plan": 1, "edition": "E1", "dpi": 1200, "page": [
     "sections": [{"name": "A", "pages": ["p", "p", "p", "p"]}],
     "sites": [{"name": "OSLO"}]}"#;
 
+// A turn that waits at this row.
+fn waits(end: KeyEnd, row: u64) -> bool {
+    end == KeyEnd::Waiting { head: row }
+}
+
 // The first bytes of the rows are 1 to 4, with dots at columns 7, 6, 6 and 7, and 5. Columns 0 to 5 are of
 // key 0, 6 to 10 of key 1. Two rows are of each pair.
 #[test]
-fn a_turn_counts_rows_of_a_ring(rt: HostRuntime) -> Result<(), Fail> {
-    let plan = read_plan(rt.alloc(), TWO_PAIRS)?;
-    let rows = RowPlan::of(rt.alloc(), &plan)?;
-    assert!(rt; plate_shape(&plan).width == 16);
+fn a_turn_counts_rows_of_a_ring(rt: HostRuntime) {
+    let plan = plan_of(&rt, TWO_PAIRS);
+    let rows = plan_rows(&rt, &plan);
+    check_turns(&rt, &plan, &rows);
+}
+
+fn check_turns<R: Abort + AllocGlobal>(rt: &R, plan: &Plan, rows: &RowPlan)
+    requires { rows.now ≡ rows_of plan.now }
+{
+    assert!(rt; plate_shape(plan).width == 16);
     assert!(rt; rows.total() == 4);
     assert!(rt; rows.groups().len() == 2);
-    let (ends, counts) = count_all(rt.alloc(), &rows)?;
-    let waits = |head| KeyEnd::Waiting { head };
-    assert_eq!(rt; ends, [waits(0), waits(2), KeyEnd::Finished]);
-    assert_counts(&rt, &counts, 0, &[0, 2, 0]);
-    assert_counts(&rt, &counts, 1, &[1, 2, 0]);
-    Ok(())
+    let ([first, second, last], counts) = count_all(rt, rows);
+    assert!(rt; waits(first, 0) && waits(second, 2) && last == KeyEnd::Finished);
+    assert!(rt; counted(&counts, 0, &[0, 2, 0]) && counted(&counts, 1, &[1, 2, 0]));
 }

@@ -1,7 +1,10 @@
 // The rows that the tests hand to a site, and the plates that it makes of them.
 ghost use Rattle.std.specs.Prelude.{◌≡◌, ◌∷◌, ◌+◌, ◌<◌, []};
 ghost use Rattle.tif_packbits.specs.Frame.{frame_of};
+ghost use Rattle.plan_rows.specs.Rows.{rows_of};
 
+use plan_json::{Plan, read_plan};
+use plan_rows::RowPlan;
 use pr_base::Deal;
 use pr_rack::MemRack;
 use ring_lanes::Source;
@@ -65,27 +68,60 @@ const PLATE: [u8; 180] = [
     0xB0, 0x04, 0, 0, 1, 0, 0, 0,
 ];
 
-/// Compares what a rack has with these plates, each a path and the numbers of its rows, and with so many rows
-/// taken at this source.
-pub fn compare(
+// The plate file whose two rows are these.
+fn is_plate(bytes: &[u8], top: u8, last: u8) -> bool {
+    let mut plate = PLATE;
+    plate[9] = top.wrapping_add(1);
+    plate[12] = last.wrapping_add(1);
+    bytes == plate.as_slice()
+}
+
+fn has_plates(rack: &MemRack, plates: &[(&str, u8, u8)]) -> bool {
+    let files = rack.files();
+    if files.len() != plates.len() {
+        return false;
+    }
+    for (file, (path, top, last)) in files.iter().zip(plates) {
+        if file.0.as_str() != *path || !is_plate(&file.1, *top, *last) {
+            return false;
+        }
+    }
+    true
+}
+
+fn took(rack: &MemRack, source: Source, count: usize) -> bool {
+    let rows = rack.taken();
+    if rows.len() != count {
+        return false;
+    }
+    for (n, row) in rows.iter().enumerate() {
+        if *row != (n as u64, source) {
+            return false;
+        }
+    }
+    true
+}
+
+/// A rack has these plates, each a path and the numbers of its rows, and took so many rows at this source.
+pub fn check_rack(
     rt: &impl Abort,
     rack: &MemRack,
     source: Source,
     plates: &[(&str, u8, u8)],
     taken: usize,
 ) {
-    let files = rack.files();
-    assert_eq!(rt; files.len(), plates.len());
-    for (file, (path, top, last)) in files.iter().zip(plates) {
-        let mut bytes = PLATE;
-        bytes[9] = top.wrapping_add(1);
-        bytes[12] = last.wrapping_add(1);
-        assert_eq!(rt; file.0.as_str(), *path);
-        assert_eq!(rt; file.1.as_slice(), bytes.as_slice());
-    }
-    let rows = rack.taken();
-    assert_eq!(rt; rows.len(), taken);
-    for (n, row) in rows.iter().enumerate() {
-        assert_eq!(rt; *row, (n as u64, source));
-    }
+    assert!(rt; has_plates(rack, plates), "plates");
+    assert!(rt; took(rack, source, taken), "rows taken");
+}
+
+/// The plan of a text.
+pub fn plan_of<R: Abort + AllocGlobal>(rt: &R, text: &[u8]) -> Plan {
+    read_plan(rt.alloc(), text).expect(rt, "no plan")
+}
+
+/// The rows of a plan.
+pub fn plan_rows<R: Abort + AllocGlobal>(rt: &R, plan: &Plan) -> RowPlan
+    ensures { result ≡ rows_of plan.now }
+{
+    RowPlan::of(rt.alloc(), plan).expect(rt, "memory")
 }

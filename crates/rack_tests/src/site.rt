@@ -8,8 +8,8 @@ ghost use Rattle.site_agent.specs.Going.{IsGoing};
 ghost use Rattle.site_agent.specs.Kept.{OnDone};
 ghost use Rattle.rack_tests.specs.Numbered.{Takes, numbered, told_first};
 
-use crate::rows::{Numbered, compare, frame};
-use plan_json::{Plan, read_plan};
+use crate::rows::{Numbered, check_rack, frame, plan_of, plan_rows};
+use plan_json::Plan;
 use plan_pages::plate_shape;
 use plan_rows::RowPlan;
 use pr_base::NoMemory;
@@ -17,7 +17,7 @@ use pr_rack::MemRack;
 use ring_lanes::{Deck, Source};
 use site_agent::{Kept, Site};
 use std::alloc::Global;
-use std::test::Fail;
+use std::process::Abort;
 
 // Hands the row that was put last to a site whose last answer this is, and gives its answer. One that
 // ended takes no more rows.
@@ -102,14 +102,19 @@ const INKS: [(&str, u8, u8); 5] = [
 
 // Each of the five has a row before the first of them is finished.
 #[test]
-fn five_plates_are_open_at_once(rt: HostRuntime) -> Result<(), Fail> {
-    let plan = read_plan(rt.alloc(), FIVE_INKS)?;
-    let rows = RowPlan::of(rt.alloc(), &plan)?;
+fn five_plates_are_open_at_once(rt: HostRuntime) {
+    let plan = plan_of(&rt, FIVE_INKS);
+    let rows = plan_rows(&rt, &plan);
+    check_inks(&rt, &plan, &rows);
+}
+
+fn check_inks<R: Abort + AllocGlobal>(rt: &R, plan: &Plan, rows: &RowPlan)
+    requires { rows.now ≡ rows_of plan.now }
+{
     assert!(rt; plan.sites.len() > 0);
-    assert!(rt; plate_shape(&plan).width == 16);
+    assert!(rt; plate_shape(plan).width == 16);
     assert!(rt; rows.total() == 10);
-    let (last, rack) = run(rt.alloc(), &plan, &rows)?;
-    assert_eq!(rt; last, Kept::Done);
-    compare(&rt, &rack, Source::Deck, &INKS, 10);
-    Ok(())
+    let (last, rack) = run(rt.alloc(), plan, rows).expect(rt, "memory");
+    assert!(rt; last == Kept::Done);
+    check_rack(rt, &rack, Source::Deck, &INKS, 10);
 }

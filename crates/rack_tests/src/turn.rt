@@ -6,16 +6,16 @@ ghost use Rattle.plan_rows.specs.Rows.{row_places, rows_of};
 ghost use Rattle.site_agent.specs.Turn.{IfWaiting};
 ghost use Rattle.rack_tests.specs.Numbered.{IsFeeding, IsTurning};
 
-use crate::rows::{Numbered, compare, frame};
+use crate::rows::{Numbered, check_rack, frame, plan_of, plan_rows};
 use crate::site::site_of;
-use plan_json::{Plan, read_plan};
+use plan_json::Plan;
 use plan_pages::plate_shape;
 use plan_rows::RowPlan;
 use pr_rack::MemRack;
 use ring_lanes::{Ends, Full, Reader, Source, Writer, open_ring};
 use site_agent::{Site, TurnEnd};
 use std::alloc::Global;
-use std::test::Fail;
+use std::process::Abort;
 
 /// Publishes row `n`, where there is room for it.
 pub fn publish(writer: &mut Writer<'_, Numbered>, count: u8, n: u8) -> Result<(), Full>
@@ -80,28 +80,29 @@ fn take_turns(
 
 // What the site with this index makes of all rows of a ring by three turns: where it waited, its last answer,
 // and its rack.
-fn take_all(
-    alloc: Global,
+fn take_all<R: Abort + AllocGlobal>(
+    rt: &R,
     plan: &Plan,
     rows: &RowPlan,
     index: usize,
-) -> Result<([Option<u64>; 2], TurnEnd, MemRack), Fail>
+) -> ([Option<u64>; 2], TurnEnd, MemRack)
     requires rows { rows.now ≡ rows_of plan.now }
     requires site { index < length plan.now.sites }
     requires sides { row_size (plate_width plan.now) ≡ 2 }
     requires total { length (row_places plan.now) ≡ 4 }
 {
     let deal = Numbered { count: 4 };
-    let mut ring = open_ring(alloc, &deal, 2, 1)?;
+    let mut ring = open_ring(rt.alloc(), &deal, 2, 1).expect(rt, "no ring");
     let Ends {
         mut writer,
         mut readers,
-    } = ring.ends(alloc)?;
-    let mut reader = readers.pop().ok_or("no reader")?;
-    let mut site = site_of(alloc, plan, rows, index)?;
-    let mut rack = MemRack::new(alloc, Vec::new(alloc));
-    let (heads, last) = take_turns(&mut writer, &mut site, &mut reader, &mut rack)?;
-    Ok((heads, last, rack))
+    } = ring.ends(rt.alloc()).expect(rt, "no ends");
+    let mut reader = readers.pop().expect(rt, "no reader");
+    let mut site = site_of(rt.alloc(), plan, rows, index).expect(rt, "memory");
+    let mut rack = MemRack::new(rt.alloc(), Vec::new(rt.alloc()));
+    let taken = take_turns(&mut writer, &mut site, &mut reader, &mut rack);
+    let (heads, last) = taken.expect(rt, "no room");
+    (heads, last, rack)
 }
 
 const TWO_PAIRS: &[u8] = br#"{"plan": 1, "edition": "E1", "dpi": 1200, "page": [8, 2],
@@ -121,16 +122,19 @@ const RING: Source = Source::Ring {
 };
 
 #[test]
-fn a_turn_waits_for_rows_and_finishes(rt: HostRuntime) -> Result<(), Fail> {
-    let plan = read_plan(rt.alloc(), TWO_PAIRS)?;
-    let rows = RowPlan::of(rt.alloc(), &plan)?;
-    let sites = plan.sites.len();
-    assert!(rt; sites == 2);
-    assert!(rt; plate_shape(&plan).width == 16);
+fn a_turn_waits_for_rows_and_finishes(rt: HostRuntime) {
+    let plan = plan_of(&rt, TWO_PAIRS);
+    let rows = plan_rows(&rt, &plan);
+    check_turns(&rt, &plan, &rows);
+}
+
+fn check_turns<R: Abort + AllocGlobal>(rt: &R, plan: &Plan, rows: &RowPlan)
+    requires { rows.now ≡ rows_of plan.now }
+{
+    assert!(rt; plan.sites.len() == 2);
+    assert!(rt; plate_shape(plan).width == 16);
     assert!(rt; rows.total() == 4);
-    let (heads, last, rack) = take_all(rt.alloc(), &plan, &rows, 1)?;
-    assert_eq!(rt; heads, [Some(0), Some(2)]);
-    assert_eq!(rt; last, TurnEnd::Finished);
-    compare(&rt, &rack, RING, &BERGEN, 4);
-    Ok(())
+    let (heads, last, rack) = take_all(rt, plan, rows, 1);
+    assert!(rt; heads == [Some(0), Some(2)] && last == TurnEnd::Finished);
+    check_rack(rt, &rack, RING, &BERGEN, 4);
 }

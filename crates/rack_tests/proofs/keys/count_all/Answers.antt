@@ -5,10 +5,11 @@ use Rattle.rack_tests.proofs.Numbered.{length-numbered}
 use Rattle.rack_tests.proofs.keys.count_all.Goals as goal
 
 pub open_ring-requires-clause-total : goal.open_ring-requires-clause-total
-open_ring-requires-clause-total c = omega (arith, length-numbered 4)
+open_ring-requires-clause-total g c = omega (arith, length-numbered 4)
 
 pub take_turns-requires-clause-counting : goal.take_turns-requires-clause-counting
-take_turns-requires-clause-counting c =
-    counting-first 4 (length c.args.rows.now.groups) 3 c.args.rows.now c.in_ok-reader.reader c.new-key.result (omega arith) c.requires
-    (c.new-key.ensures ∙ ap {A = CountsData} (λ n. key_data c.args.rows.now n) c.in_ok-zeros.ensures.zero)
+take_turns-requires-clause-counting g c =
+    let zero = rw c.expect-counts.ensures at c.zeros.ensures.zero in
+    counting-first 4 (length c.args.rows.now.groups) 3 c.args.rows.now c.expect-reader.result c.new-key.result (omega arith) c.requires
+    (c.new-key.ensures ∙ ap {A = CountsData} (λ n. key_data c.args.rows.now n) zero)
     (search rules) (search rules) (search rules) (search rules)

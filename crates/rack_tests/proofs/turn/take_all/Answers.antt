@@ -7,10 +7,12 @@ use Rattle.rack_tests.proofs.Numbered.{length-numbered, turning-first}
 use Rattle.rack_tests.proofs.turn.take_all.Goals as goal
 
 pub open_ring-requires-clause-total : goal.open_ring-requires-clause-total
-open_ring-requires-clause-total c = omega (arith, length-numbered 4)
+open_ring-requires-clause-total g c = omega (arith, length-numbered 4)
 
-pub take_turns-requires-clause-turning : goal.take_turns-requires-clause-turning
-take_turns-requires-clause-turning c =
-    turning-first 4 Deck c.in_ok-reader.reader c.new-rack.result c.in_ok-site.site (omega arith)
-    (subst (λ (count : ℕ). IsGoing (map framed_row (numbered count)) Deck told_first told_first c.in_ok-site.site) c.requires.total c.in_ok-site.ensures.takes)
-    c.in_ok-site.ensures.next (search rules) (search rules) (search rules) (search rules) (search rules)
+pub take_turns-taken-requires-clause-turning : goal.take_turns-requires-clause-turning
+take_turns-taken-requires-clause-turning g c =
+    let takes = rw c.expect-site.ensures at c.site_of.ensures.takes in
+    let first = rw c.expect-site.ensures at c.site_of.ensures.next in
+    turning-first 4 Deck c.expect-reader.result c.new-rack.result c.expect-site.result (omega arith)
+    (subst (λ (count : ℕ). IsGoing (map framed_row (numbered count)) Deck told_first told_first c.expect-site.result) c.requires.total takes)
+    first (search rules) (search rules) (search rules) (search rules) (search rules)
