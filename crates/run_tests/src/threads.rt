@@ -161,14 +161,22 @@ fn watched_racks<'c, R: Abort + AllocGlobal>(
 }
 
 // Two pairs of empty pages for two sites: 1024 rows, which both keep.
-const PLAN: &str = r#"{"plan":1,"edition":"E1","dpi":1200,"page":[8,512],
+const LONG: &str = r#"{"plan":1,"edition":"E1","dpi":1200,"page":[8,512],
 "pages":[{"name":"w","inks":"K","layers":[]}],
 "sections":[{"name":"A","pages":["w","w","w","w"]}],"sites":[{"name":"OSLO"},{"name":"BERGEN"}]}"#;
 
-/// A command over a ring of so many readers and places, and what it reports.
+// The same in 64 rows. A ring of two places is handed on at each of them, and where other work takes the
+// processors that may last as long as a thread's share of one.
+const SHORT: &str = r#"{"plan":1,"edition":"E1","dpi":1200,"page":[8,32],
+"pages":[{"name":"w","inks":"K","layers":[]}],
+"sections":[{"name":"A","pages":["w","w","w","w"]}],"sites":[{"name":"OSLO"},{"name":"BERGEN"}]}"#;
+
+/// A command over a plan of so many rows and a ring of so many readers and places, and what it reports.
 #[derive(Clone, Copy)]
 struct Order<'a> {
     words: &'a [&'a str],
+    plan: &'a str,
+    rows: usize,
     report: &'a str,
     readers: u32,
     places: u32,
@@ -179,6 +187,11 @@ site BERGEN finished plates 2 rows 1024
 total rows 1024 sites 2
 ";
 
+const SHORT_REPORT: &str = "site OSLO finished plates 2 rows 64
+site BERGEN finished plates 2 rows 64
+total rows 64 sites 2
+";
+
 const KEYS_REPORT: &str = "site OSLO finished plates 2 rows 1024
 site BERGEN finished plates 2 rows 1024
 total rows 1024 sites 2
@@ -186,8 +199,17 @@ keys 0 A-001-K 0
 keys 1 A-002-K 0
 ";
 
+const SHORT_KEYS_REPORT: &str = "site OSLO finished plates 2 rows 64
+site BERGEN finished plates 2 rows 64
+total rows 64 sites 2
+keys 0 A-001-K 0
+keys 1 A-002-K 0
+";
+
 const RUN_AT_64: Order<'static> = Order {
     words: &["run", "plan.json", "FILES", "OUT", "64", "65536"],
+    plan: LONG,
+    rows: 1024,
     report: REPORT,
     readers: 2,
     places: 64,
@@ -195,13 +217,17 @@ const RUN_AT_64: Order<'static> = Order {
 
 const RUN_AT_2: Order<'static> = Order {
     words: &["run", "plan.json", "FILES", "OUT", "2", "65536"],
-    report: REPORT,
+    plan: SHORT,
+    rows: 64,
+    report: SHORT_REPORT,
     readers: 2,
     places: 2,
 };
 
 const KEYS_AT_64: Order<'static> = Order {
     words: &["keys", "plan.json", "FILES", "OUT", "1", "64", "65536"],
+    plan: LONG,
+    rows: 1024,
     report: KEYS_REPORT,
     readers: 3,
     places: 64,
@@ -209,7 +235,9 @@ const KEYS_AT_64: Order<'static> = Order {
 
 const KEYS_AT_2: Order<'static> = Order {
     words: &["keys", "plan.json", "FILES", "OUT", "1", "2", "65536"],
-    report: KEYS_REPORT,
+    plan: SHORT,
+    rows: 64,
+    report: SHORT_KEYS_REPORT,
     readers: 3,
     places: 2,
 };
@@ -223,7 +251,7 @@ fn took_all(racks: &[Watched<'_>], order: Order<'_>) -> bool {
             places: order.places,
         };
         let taken = rack.rack.taken();
-        if taken.len() != 1024 || !taken.iter().all(|row| row.1 == source) {
+        if taken.len() != order.rows || !taken.iter().all(|row| row.1 == source) {
             return false;
         }
     }
@@ -239,7 +267,7 @@ fn reports<'c, R: Abort + AllocGlobal + Threads + Sync>(
     requires racks { 16 ≤ length racks.old }
     requires idle { AreIdle ⟦<Watched<'c> as Rack>⟧ racks.old }
 {
-    let mut shelf = shelf(rt, PLAN, &[], &[], None);
+    let mut shelf = shelf(rt, order.plan, &[], &[], None);
     let mut out = sink(rt, None);
     let mut note = sink(rt, None);
     let status = command(rt, order.words, &mut shelf, racks, &mut out, &mut note);
