@@ -5,16 +5,19 @@ use Rattle.tif_packbits.specs.Packbits.{run_len, literal_len, packing}
 use Rattle.tif_packbits.specs.declared.row_front.Front.{Front}
 use Rattle.tif_packbits.specs.declared.row_front.Front.TheVariants.{Run, Literal, Both}
 
--- this is the run or the literal that the first packet of a row stands for, or the literal and the run behind it
+-- this is the run or the literal that the first packet of a row stands for, or the literal and the run
+-- behind it
 abbrev pub IsFront : List ℕ → Front → Type 0
 IsFront row (Run n) = (3 ≤ n) × (n ≡ run_len row)
 IsFront row (Literal n) = (run_len row < 3) × (n ≡ literal_len row)
-IsFront row (Both n run) = (run_len row < 3) × (n ≡ literal_len row) × (3 ≤ run) × (run ≡ run_len (drop n row))
+IsFront row (Both n run) = (run_len row < 3) × (n ≡ literal_len row) × (3 ≤ run)
+    × (run ≡ run_len (drop n row))
 
 -- a word whose lowest bits, as many as told, are set where a byte of a row equals the next
 pub record HasPairs (row : List ℕ) (count pairs : ℕ) : Type 0 where
   pub word : pairs < 2 ^ count
-  pub bits : (k : ℕ) → k < count → bit_at pairs k ≡ (if slice_index row k == slice_index row (k + 1) then 1 else 0)
+  pub bits : (k : ℕ) → k < count
+      → bit_at pairs k ≡ (if slice_index row k == slice_index row (k + 1) then 1 else 0)
 
 -- packets that stand for the first bytes of a row, as many as told
 pub record StandFor (bytes row : List ℕ) (taken : ℕ) : Type 0 where

@@ -20,8 +20,8 @@ pub(crate) enum Front {
     Both(usize, usize),
 }
 
-/// What `row` begins with. Its first block tells nearly always, and mostly tells the run behind a literal too,
-/// which saves a second look.
+/// What `row` begins with. Its first block tells nearly always, and mostly tells the run behind a literal
+/// too, which saves a second look.
 pub(crate) fn front_of(row: &[u8]) -> Front
     requires { 0 < length row.now }
     ensures { IsFront row.now result }
