@@ -1,4 +1,5 @@
-// A bilevel image of 8 by 2 pixels as linework and as a mask, and what its tests answer once a byte is another.
+// A bilevel image of 8 by 2 pixels as linework and as a mask, and what its tests answer once a byte is
+// another.
 ghost use Rattle.std.specs.Prelude.{◌≡◌};
 ghost use Rattle.tif_strips.specs.Strips.{row_length};
 

@@ -1,5 +1,5 @@
-// The samples of one ink of a row of pixels, taken out of them sixteen pixels at a time: whole blocks, and then
-// the rest one by one.
+// The samples of one ink of a row of pixels, taken out of them sixteen pixels at a time: whole blocks, and
+// then the rest one by one.
 ghost use Rattle.std.specs.Prelude.{ℕ, ◌*◌, ◌<◌, ◌≤◌, length};
 ghost use Rattle.page_layers.specs.Rows.{IsStretched};
 

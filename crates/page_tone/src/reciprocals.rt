@@ -23,8 +23,8 @@ macro_rules! reciprocals {
     };
 }
 
-/// 2^28 over each sum of three inks, rounded down, and one more, in rows of eight that are named by their first
-/// sum. Nothing is made of the entry of 0.
+/// 2^28 over each sum of three inks, rounded down, and one more, in rows of eight that are named by their
+/// first sum. Nothing is made of the entry of 0.
 static RECIPROCALS: [[u32; 8]; 96] = reciprocals!(
     0 8 16 24 32 40 48 56 64 72 80 88 96 104 112 120 128 136 144 152 160 168 176 184
     192 200 208 216 224 232 240 248 256 264 272 280 288 296 304 312 320 328 336 344 352 360 368 376

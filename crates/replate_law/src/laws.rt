@@ -27,8 +27,9 @@ pub fn replate_law()
         → remade_at before after out old_site site made path ≡ held_in (files_of_site after out site) path }
 {}
 
-/// Where two jobs print a section alike at a site, each of its plates there is the same file in both, whatever
-/// other sections, sites and zones either has: so the plates of a part are those of the whole, and back.
+/// Where two jobs print a section alike at a site, each of its plates there is the same file in both,
+/// whatever other sections, sites and zones either has: so the plates of a part are those of the whole, and
+/// back.
 /// Nothing is asked of the files of either job.
 pub fn part_law()
     ensures turned { (a b : SectionAt) → PrintAlike a b → PrintAlike b a }

@@ -7,8 +7,8 @@ use pr_base::Ink;
 use replate::{Inputs, Picks};
 use std::process::Abort;
 
-// Two sites, of which the second prints another page 3. Pair 1 is group 0 of both, with the pages s and p; pair
-// 2 is group 1 of OSLO, with q and r, and group 2 of BERGEN, with q and z.
+// Two sites, of which the second prints another page 3. Pair 1 is group 0 of both, with the pages s and p;
+// pair 2 is group 1 of OSLO, with q and r, and group 2 of BERGEN, with q and z.
 const BASE: &str = "{'plan':2,'edition':'E1','dpi':1200,'page':[8,2],\
 'tiles':[{'name':'t1','width':2,'height':1,'at':[7,9]}],'screens':{'K':'tile:t1'},\
 'pages':[{'name':'p','inks':'K','layers':[{'kind':'contone','file':'a'}]},\

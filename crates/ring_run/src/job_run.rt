@@ -61,8 +61,8 @@ pub fn run_job<T: Threads + Sync, R: Rack + Send>(
     run_all(rt, &run, job, racks, &mut [])
 }
 
-/// The same with key readers that count the rows. A feed is dropped nowhere else, since what a function drops on each
-/// of its paths is proved for each.
+/// The same with key readers that count the rows. A feed is dropped nowhere else, since what a function drops
+/// on each of its paths is proved for each.
 pub(crate) fn run_all<T: Threads + Sync, R: Rack + Send>(
     rt: &T,
     run: &Run<'_>,

@@ -8,7 +8,8 @@ use std::thread::Threads;
 const PATH: &str = "OUT/OSLO/E1-A-001-K.tif";
 
 // Whether a look at the one plate of a plan, in whose place this is held, ends with this status and this
-// text: at 5 the line of the note, else the output. There are three loads: of the plan, the image and the plate.
+// text: at 5 the line of the note, else the output. There are three loads: of the plan, the image and the
+// plate.
 fn finds<R: Abort + AllocGlobal + Threads + Sync>(
     rt: &R,
     plan: &str,
