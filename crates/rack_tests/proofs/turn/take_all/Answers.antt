@@ -9,7 +9,7 @@ use Rattle.rack_tests.proofs.turn.take_all.Goals as goal
 pub open_ring-requires-clause-total : goal.open_ring-requires-clause-total
 open_ring-requires-clause-total g c = omega (arith, length-numbered 4)
 
-pub take_turns-taken-requires-clause-turning : goal.take_turns-requires-clause-turning
+pub take_turns-taken-requires-clause-turning : goal.take_turns-taken-requires-clause-turning
 take_turns-taken-requires-clause-turning g c =
     let takes = rw c.expect-site.ensures at c.site_of.ensures.takes in
     let first = rw c.expect-site.ensures at c.site_of.ensures.next in
