@@ -196,6 +196,18 @@ def wide():
     )
 
 
+def banded():
+    """The five inks on wider pages and under tiles alone, so that several threads make the frames of a band."""
+    pages = [dict(page, layers=[dict(layer, scale=min(64, layer.get("scale", 1) * 5), x=layer.get("x", 0) * 5)
+                                if layer.get("x") != 65535 else layer for layer in page["layers"]])
+             for page in five_pages()]
+    return dict(
+        five(), edition="BANDS", page=[409, 390], pages=pages,
+        screens={"C": "bayer16", "M": "tile:T", "Y": "bayer2", "K": "bayer8", "S": "tile:ring_2"},
+        marks=[{"inks": "CMYKS", "x": 0, "y": 0, "w": 4, "h": 4}, {"inks": "K", "x": 60, "y": 404, "w": 700, "h": 1}],
+    )
+
+
 def rows():
     """432 rows for four sites: six pairs in four inks, 18 rows a plate. By plan 1."""
     pages = [{"name": f"p{number}", "inks": "CMYK", "layers": [

@@ -50,6 +50,19 @@ def runs(tried, folder, name, edition, rings):
     tried.part(f"the edition {name}, {edition.spans()[1]} rows")
 
 
+def bands(tried, folder, edition):
+    """Rows that several threads make: over rings of any size, on one processor, two and all, and without threads."""
+    runs(tried, folder, "of bands", edition, [[], ["1", "1"], ["2", "65536"], ["1024", "7"]])
+    plates, report = dict(edition.plates()), edition.report("OUT").encode()
+    path, out = os.path.join(folder, "edition.json"), os.path.join(folder, "OUT")
+    here = sorted(os.sched_getaffinity(0))
+    for count in sorted({1, min(2, len(here))}):
+        shutil.rmtree(out, ignore_errors=True)
+        tried.answers(["run", path, edition.folder, "OUT"], 0, report, b"", folder=folder, processors=here[:count])
+        tried.holds(f"plates of bands on {count} processors", compared(plates, out))
+    tried.part("bands on fewer processors")
+
+
 def runs_by_chance(tried, folder, files, seeds):
     """Small editions in which everything is by chance, the ring and the patience too."""
     path, out = os.path.join(folder, "edition.json"), os.path.join(folder, "OUT")
@@ -150,6 +163,7 @@ def trials(tried, folder):
     runs(tried, folder, "of sixteen sites", Edition(editions.wide(), files), [[], ["1", "1"]])
     runs_by_chance(tried, folder, files, range(1, 31))
     runs(tried, folder, "of six pairs", Edition(editions.rows(), files), [["1"], ["2", "65536"]])
+    bands(tried, folder, Edition(editions.banded(), files))
     runs(tried, folder, "of five inks", five, [[], ["16", "7"], ["1024", "7"]])
     read_by_others(tried, five, os.path.join(folder, "OUT"))
     held.trials(tried, folder, five)

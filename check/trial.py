@@ -45,8 +45,9 @@ class Trial:
                 faults.append(f"{name} is {shown(given)} and not {shown(wanted)}")
         self.holds(told(words, how) + f" ({where})" * bool(where), "; ".join(faults))
 
-    def run(self, words, folder=None, streams=("", ""), limits=(), seconds=MOST_SECONDS):
-        """Status and what was written to both streams. A stream is a path, `closed`, `unread` or kept here."""
+    def run(self, words, folder=None, streams=("", ""), limits=(), processors=(), seconds=MOST_SECONDS):
+        """Status and what was written to both streams. A stream is a path, `closed`, `unread` or kept here.
+        The program runs on these processors alone, if some are named."""
         kept, closing, opened = [subprocess.PIPE] * 2, [], []
         for number, stream in enumerate(streams):
             if stream == "closed":
@@ -65,6 +66,8 @@ class Trial:
                 os.close(stream)
             for kind, most in limits:
                 resource.setrlimit(kind, (most, most))
+            if processors:
+                os.sched_setaffinity(0, processors)
             if any(kind == resource.RLIMIT_FSIZE for kind, _ in limits):
                 signal.signal(signal.SIGXFSZ, signal.SIG_IGN)
 
@@ -92,6 +95,8 @@ def told(words, how):
         line += f" {name} {stream}" if stream else ""
     for kind, most in how.get("limits", ()):
         line += f" with {'files' if kind == resource.RLIMIT_FSIZE else 'memory'} of {most} bytes"
+    if how.get("processors"):
+        line += f" on {len(how['processors'])} processors"
     return line
 
 

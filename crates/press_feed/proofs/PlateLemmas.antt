@@ -12,7 +12,9 @@ use Rattle.plan_pages.specs.Plate.{is_marked_at, shape_of_plate}
 use Rattle.plan_pages.specs.Span.{in_span}
 use Rattle.press_feed.specs.declared.side.Side.{Side}
 use Rattle.press_feed.specs.declared.side.Side.TheVariants.{Left, Right}
-use Rattle.press_feed.specs.Plates.{CanDraw, ShowsPages, page_row}
+use Rattle.press_feed.specs.Pair.{IsOf}
+use Rattle.press_feed.specs.Plates.{ShowsPages, page_row}
+use Rattle.press_job.specs.Job.{JobData}
 use Rattle.press_job.specs.Printing.{page_bit}
 use Rattle.press_job.specs.Rows.{placed_bit, plate_bit, plate_row}
 use Rattle.press_feed.specs.Sides.{SideData, left_edge}
@@ -162,13 +164,13 @@ row_is plan files left right ink y old new long bytes pages marks padding =
     marks_first false false false = refl
 
 -- the two sides of a plate that were drawn
-pub sides_drawn : (plan : PlanData) (ink : Ink) (y row n : ℕ) (left right : SideData) (zeros one two : List ℕ) → CanDraw plan Left y left → CanDraw plan Right y right → left.files ≡ right.files
-    → zeros ≡ replicate {A = ℕ} n 0 → page_row plan y ≡ Some row → SetsBits (λ x. page_bit left.plan left.files left.page ink x row) (left_edge left.plan left.side) left.plan.page_width zeros one
-    → SetsBits (λ x. page_bit right.plan right.files right.page ink x row) (left_edge right.plan right.side) right.plan.page_width one two → ShowsPages plan left.files left.page right.page ink y two
-sides_drawn plan ink y row n left right zeros one two can_left can_right files none there first second =
-    pages_set plan left.files left.page right.page ink y row n zeros one two none there
-    (at_side plan left.plan Left left.side left.files left.files left.page ink row zeros one can_left.plan_is can_left.side_is refl first)
-    (at_side plan right.plan Right right.side left.files right.files right.page ink row one two can_right.plan_is can_right.side_is (sym files) second)
+pub sides_drawn : (job : JobData) (ink : Ink) (y row n : ℕ) (left right : SideData) (zeros one two : List ℕ) → IsOf job Left left → IsOf job Right right
+    → zeros ≡ replicate {A = ℕ} n 0 → page_row job.plan y ≡ Some row → SetsBits (λ x. page_bit left.plan left.files left.page ink x row) (left_edge left.plan left.side) left.plan.page_width zeros one
+    → SetsBits (λ x. page_bit right.plan right.files right.page ink x row) (left_edge right.plan right.side) right.plan.page_width one two → ShowsPages job.plan job.files left.page right.page ink y two
+sides_drawn job ink y row n left right zeros one two on_left on_right none there first second =
+    pages_set job.plan job.files left.page right.page ink y row n zeros one two none there
+    (at_side job.plan left.plan Left left.side job.files left.files left.page ink row zeros one on_left.plan_is on_left.side_is on_left.files_are first)
+    (at_side job.plan right.plan Right right.side job.files right.files right.page ink row one two on_right.plan_is on_right.side_is on_right.files_are second)
   where
     at_side : (plan own : PlanData) (side own_side : Side) (files own_files : List (List ℕ)) (page : ℕ) (ink : Ink) (row : ℕ) (old new : List ℕ) → own ≡ plan → own_side ≡ side → own_files ≡ files
         → SetsBits (λ x. page_bit own own_files page ink x row) (left_edge own own_side) own.page_width old new

@@ -81,26 +81,36 @@ before_next job rows page shown tones planes colour spot is colour_is spot_is =
     (λ above. at_inks job.plan tones (page_colour job.plan page) colour (page_spot job.plan page) spot (layers_of job.plan job.files page) job.plan.page_width (shown - 1) planes
     (sym is.tones_are) (sym colour_is) (sym spot_is) (shows_printed job.plan job.files page (shown - 1) planes (is.shows above)))
 
+-- row y is painted, and the rows above were passed over
+pub IsSide-painted : (job : JobData) (rows passed new : Page) (page shown y : ℕ) (tones : PlanData) (planes row : Planes) (colour spot : Bool)
+    → IsSide job rows page shown tones planes → y < job.plan.page_height → colour ≡ page_colour job.plan page → spot ≡ page_spot job.plan page
+    → passed ≡ record rows { next = y } → new ≡ record passed { next = passed.next + 1 } → ShowsInks tones colour spot passed.layers passed.width passed.next row
+    → HasWidth row passed.width → IsSide job new page (y + 1) tones row
+IsSide-painted job rows passed new page shown y tones planes row colour spot is within colour_is spot_is passed_is new_is shows wide =
+    let there : passed ≡ page_before job.plan job.files rows.room page y = passed_is ∙ ap {A = Page} (λ p. record p { next = y }) is.rows_are in
+    let room : new.room ≡ rows.room = ap (λ (p : Page). p.room) new_is ∙ ap (λ (p : Page). p.room) passed_is in
+    let width : HasWidth row job.plan.page_width = subst {A = Page} (λ p. HasWidth row p.width) there wide in
+    let inks : ShowsInks job.plan (page_colour job.plan page) (page_spot job.plan page) (layers_of job.plan job.files page) job.plan.page_width y row =
+    at_inks tones job.plan colour (page_colour job.plan page) spot (page_spot job.plan page) (layers_of job.plan job.files page) job.plan.page_width y row is.tones_are colour_is spot_is
+    (subst {A = Page} (λ p. ShowsInks tones colour spot p.layers p.width p.next row) there shows) in
+    let back : y + 1 - 1 ≡ y = omega arith in
+    record {
+      plan_is = is.plan_is;
+      rows_are = new_is ∙ ap {A = Page} (λ p. record p { next = p.next + 1 }) there ∙ ap (λ n. page_before job.plan job.files n page (y + 1)) (sym room);
+      room = λ other. rw room (is.room other);
+      within = omega arith;
+      tones_are = is.tones_are;
+      wide = width;
+      shows = λ _ ink. plane_is job.plan job.files page y row ink width inks ∙ ap (printed_row job.plan job.files page ink) (sym back);
+    }
+
 pub IsSide-show : (job : JobData) (rows new : Page) (page shown : ℕ) (tones : PlanData) (planes row : Planes) (colour spot : Bool)
     → IsSide job rows page shown tones planes → shown < job.plan.page_height → colour ≡ page_colour job.plan page → spot ≡ page_spot job.plan page
     → new ≡ record rows { next = rows.next + 1 } → ShowsInks tones colour spot rows.layers rows.width rows.next row → HasWidth row rows.width
     → IsSide job new page (shown + 1) tones row
 IsSide-show job rows new page shown tones planes row colour spot is within colour_is spot_is new_is shows wide =
-    let room : new.room ≡ rows.room = ap (λ (p : Page). p.room) new_is in
-    let width : HasWidth row job.plan.page_width = subst {A = Page} (λ p. HasWidth row p.width) is.rows_are wide in
-    let inks : ShowsInks job.plan (page_colour job.plan page) (page_spot job.plan page) (layers_of job.plan job.files page) job.plan.page_width shown row =
-    at_inks tones job.plan colour (page_colour job.plan page) spot (page_spot job.plan page) (layers_of job.plan job.files page) job.plan.page_width shown row is.tones_are colour_is spot_is
-    (subst {A = Page} (λ p. ShowsInks tones colour spot p.layers p.width p.next row) is.rows_are shows) in
-    let back : shown + 1 - 1 ≡ shown = omega arith in
-    record {
-      plan_is = is.plan_is;
-      rows_are = new_is ∙ ap {A = Page} (λ p. record p { next = p.next + 1 }) is.rows_are ∙ ap (λ n. page_before job.plan job.files n page (shown + 1)) (sym room);
-      room = λ other. rw room (is.room other);
-      within = omega arith;
-      tones_are = is.tones_are;
-      wide = width;
-      shows = λ _ ink. plane_is job.plan job.files page shown row ink width inks ∙ ap (printed_row job.plan job.files page ink) (sym back);
-    }
+    let here : rows ≡ record rows { next = shown } = ap (λ n. record rows { next = n }) (ap (λ (p : Page). p.next) is.rows_are) in
+    IsSide-painted job rows rows new page shown shown tones planes row colour spot is within colour_is spot_is here new_is shows wide
 
 -- ---- a row that is drawn
 

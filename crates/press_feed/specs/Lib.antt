@@ -5,4 +5,6 @@ pub mod Screens
 pub mod Sides
 pub mod SidePages
 pub mod Plates
+pub mod Pair
+pub mod Band
 pub mod Feed

@@ -1,12 +1,11 @@
 -- How the two pages of a plate are screened, row by row.
-use Rattle.std.specs.Prelude.{◌≡◌, ◌≢◌, ℕ, ◌-◌, ◌==◌, Bool, true, false, if◌then◌else◌, List, [], ◌∷◌, ◌++◌, length, map, take, Option, None, slice_index}
+use Rattle.std.specs.Prelude.{◌≡◌, ◌≢◌, ℕ, ◌-◌, Bool, true, false, List, [], ◌∷◌, ◌++◌, length, map, take, Option, None, slice_index}
 use Rattle.std.specs.List.{range_with_len}
 use Rattle.std.specs.Option.{ForSome, option_map, option_map_or}
 use Rattle.pr_base.specs.declared.ink.Ink.{Ink}
 use Rattle.pr_base.specs.declared.ink.Ink.TheVariants.{C, M, Y, K, S}
 use Rattle.page_layers.specs.Inks.{Planes}
 use Rattle.plan_json.specs.Data.{PlanData}
-use Rattle.plan_rows.specs.declared.group.Group.{Group}
 use Rattle.scr_diffuse.specs.Diffusers.{EightFronts, page_in}
 use Rattle.scr_diffuse.specs.Diffusion.{diffused_bit}
 use Rattle.scr_tile.specs.AnyTile.{threshold_of}
@@ -76,10 +75,6 @@ behind_planes left right screens = record screens {
   process = option_map (behind_rows (process_rows left right)) screens.process;
   spot = option_map (behind_rows (spot_rows left right)) screens.spot;
 }
-
--- at the top of the pages of a group, where row n is the group's first
-abbrev pub entered : Group → ℕ → Screens → Screens
-entered group n screens = if n == group.first then from_top screens else screens
 
 -- the bit of column x of the last row of eight pages
 abbrev pub last_bit : ℕ → EightFronts → ℕ → Bool

@@ -1,5 +1,5 @@
 -- What the code of a side keeps.
-use Rattle.std.specs.Prelude.{◌≡◌, ℕ, ◌-◌, ◌<◌, ◌≤◌, List, length}
+use Rattle.std.specs.Prelude.{◌≡◌, ℕ, ◌-◌, ◌<◌, ◌≤◌, length}
 use Rattle.pr_base.specs.declared.ink.Ink.{Ink}
 use Rattle.page_layers.specs.Inks.{HasWidth, Planes, plane_of}
 use Rattle.page_layers.specs.Page.{Page}

@@ -1,11 +1,9 @@
 -- The pages that stand on one side of the plates: which they are, and what is shown of them.
-use Rattle.std.specs.Prelude.{◌≡◌, ℕ, ◌+◌, ◌<◌, ◌≤◌, ◌==◌, Bool, true, if◌then◌else◌, List}
-use Rattle.std.specs.List.{list_any}
+use Rattle.std.specs.Prelude.{ℕ, ◌+◌, List}
 use Rattle.page_layers.specs.Page.{Page}
 use Rattle.plan_json.specs.Data.{PlanData}
 use Rattle.plan_pages.specs.Plate.{shape_of_plate}
 use Rattle.plan_rows.specs.declared.group.Group.{Group}
-use Rattle.plan_rows.specs.Groups.{groups_of}
 use Rattle.press_feed.specs.declared.side.Side.{Side}
 use Rattle.press_feed.specs.declared.side.Side.TheVariants.{Left, Right}
 use Rattle.press_job.specs.Layers.{layers_of}
@@ -14,10 +12,6 @@ use Rattle.press_job.specs.Layers.{layers_of}
 abbrev pub page_on : Side → Group → ℕ
 page_on Left group = group.left
 page_on Right group = group.right
-
--- whether a page stands on this side of the plates of some group
-abbrev pub stands_in : List Group → Side → ℕ → Bool
-stands_in groups side page = list_any (λ group. page_on side group == page) groups
 
 -- where the pages of a side begin from the left
 abbrev pub left_edge : PlanData → Side → ℕ
@@ -38,20 +32,9 @@ pub record SideData : Type 0 where
 abbrev pub at_top : ℕ → SideData → SideData
 at_top page side = record side { page = page; shown = 0 }
 
--- the same side at the top of the page of a group, where row n is the first of the group
-abbrev pub entered : Group → ℕ → SideData → SideData
-entered group n side = if n == group.first then at_top (page_on side.side group) side else side
-
 -- the same side behind a row of its page
 abbrev pub behind_row : ℕ → SideData → SideData
 behind_row y side = record side { shown = y + 1 }
-
--- a side can show row y of its page: the page stands on it, and the rows above were shown
-pub record IsReady (y : ℕ) (side : SideData) : Type 0 where
-  pub stands : stands_in (groups_of side.plan) side.side side.page ≡ true
-  pub within : y < side.plan.page_height
-  pub least : y ≤ side.shown
-  pub most : side.shown ≤ y + 1
 
 -- ---- what the code of a side keeps
 

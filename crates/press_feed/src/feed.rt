@@ -1,38 +1,45 @@
-// The rows of a job in order, each made when it is asked for.
-ghost use Rattle.std.specs.Prelude.{◌≡◌, ◌+◌, ◌<◌, IfOk, Some, length, replicate, slice_get};
-ghost use Rattle.pr_base.specs.Row.{row_size};
-ghost use Rattle.plan_json.specs.Data.{plate_height, plate_width};
-ghost use Rattle.plan_json.specs.Plan.{IsPlan};
-ghost use Rattle.plan_pages.specs.Plate.{shape_of_plate};
-ghost use Rattle.press_job.specs.Rows.{plate_row};
-ghost use Rattle.press_feed.specs.Plates.{CanDraw, ShowsPages, page_row as row_of_pages, row_after};
-ghost use Rattle.press_feed.specs.Screens.{AreScreens, HaveDiffused};
-ghost use Rattle.press_feed.specs.Sides.{IsReady, behind_row};
-ghost use Rattle.press_feed.specs.declared.side.Side.TheVariants.{Left, Right};
+// The rows of a job in order.
+ghost use Rattle.std.specs.Prelude.{◌≡◌, ◌<◌, ◌≤◌, IfOk, Some, length, slice_get};
+ghost use Rattle.std.specs.Thread.{IsSync};
+ghost use Rattle.press_feed.specs.Band.{frame_bytes};
+ghost use Rattle.press_job.specs.Rows.{plate_frames};
 
-use crate::screens::Screens;
-use crate::side::Side;
-use crate::side_pages::SidePages;
-use plan_json::Plan;
-use plan_pages::{PlateShape, mark_row};
-use plan_rows::{Group, RowPlace, RowPlan};
-use pr_base::{NoMemory, RowFeed, row_bytes};
+use crate::band::Band;
+use crate::row_maker::RowMaker;
+use plan_json::{Plan, Screen};
+use pr_base::{Deal, NoMemory, RowFeed};
 use press_job::Job;
 use std::alloc::Global;
 use std::marker::Model;
-use tif_packbits::frame_row;
+use std::thread::{Threads, available_parallelism};
 
-/// The rows of a job from the first on. It holds one row of each page that it shows and one row of a plate,
-/// and no whole page. After `open` nothing takes memory, and nothing fails. Contracts see the job, and the
+/// The most threads that make a band.
+const MOST_THREADS: usize = 8;
+
+/// The frames that a thread makes of a band have about so many bytes.
+const SHARE_BYTES: usize = 1 << 19;
+
+/// A job whose frames have fewer bytes together isn't worth a second thread.
+const FEW_BYTES: u64 = 1 << 20;
+
+/// A feed that may make rows before they are asked for.
+///
+/// Implementers make them in threads of their own, and say that the rows still to come stay what they are.
+pub trait BandFeed: RowFeed {
+    /// Makes the next rows side by side, if none stands ready. No call takes memory.
+    fn make_band<T: Threads + Sync>(&mut self, rt: &T)
+        requires { IsSync T.row }
+        ensures { Self.left self.new ≡ Self.left self.old };
+}
+
+/// The rows of a job from the first on, each made when it is asked for, or before, in a band. It holds no
+/// whole page. After it is opened nothing takes memory, and nothing fails. Contracts see the job, and the
 /// number of the next row.
 #[derive(Debug, Drop)]
 pub struct Feed<'j> {
     job: &'j Job,
-    left: SidePages<'j>,
-    right: SidePages<'j>,
-    screens: Screens,
-    /// A row of a plate, eight pixels a byte.
-    bits: Vec<u8>,
+    maker: RowMaker<'j>,
+    band: Band<'j>,
     next: u64,
 }
 
@@ -45,25 +52,36 @@ impl<'j> Model for Feed<'j> {
 
     ghost view = { λ f. record { job = f.job.now; next = f.next } };
 
-    ghost invariant = { λ f. IsFeed f.job.now f.left f.right f.screens f.bits.items f.next };
+    ghost invariant = { λ f. IsFeed f.job.now f.maker f.band f.next };
 }
 
 impl<'j> Feed<'j> {
-    /// Takes all buffers. Each image is tested again, and passes as it did when the job was prepared.
+    /// Takes all buffers. Each image is tested again, and passes as it did when the job was prepared. Rows are
+    /// made in the thread that asks for them.
     pub fn open(alloc: Global, job: &'j Job) -> Result<Feed<'j>, NoMemory>
         ensures { IfOk result (λ feed. feed ≡ record { job = job.now; next = 0 }) }
     {
-        let plan = job.plan();
-        let bits = vec![in alloc; 0; row_bytes(job.shape().width)]?;
-        let screens = Screens::of(alloc, plan)?;
-        let left = SidePages::open(alloc, job, Side::Left)?;
-        let right = SidePages::open(alloc, job, Side::Right)?;
+        Feed::with_threads(alloc, job, 0)
+    }
+
+    /// The same with bands that as many threads make as there are processors.
+    pub fn open_wide<T: Threads>(rt: &T, alloc: Global, job: &'j Job) -> Result<Feed<'j>, NoMemory>
+        ensures { IfOk result (λ feed. feed ≡ record { job = job.now; next = 0 }) }
+    {
+        Feed::with_threads(alloc, job, threads_for(rt, job))
+    }
+
+    /// The same with bands that so many threads make.
+    fn with_threads(alloc: Global, job: &'j Job, threads: usize) -> Result<Feed<'j>, NoMemory>
+        requires { threads ≤ 8 }
+        ensures { IfOk result (λ feed. feed ≡ record { job = job.now; next = 0 }) }
+    {
+        let band = Band::open(alloc, job, threads, share_len(job))?;
+        let maker = RowMaker::open(alloc, job)?;
         Ok(Feed {
             job,
-            left,
-            right,
-            screens,
-            bits,
+            maker,
+            band,
             next: 0,
         })
     }
@@ -75,144 +93,60 @@ impl<'j> RowFeed for Feed<'j> {
     ghost left = { rows_left };
 
     fn next(&mut self, row: &mut [u8]) {
-        let rows = self.job.rows();
-        let place = rows.row_at(self.next);
-        let group = group_at(rows, place.group);
-        self.left.enter(group, self.next);
-        self.right.enter(group, self.next);
-        self.screens.enter(group, self.next);
-        draw_row(
-            self.job.plan(),
-            self.job.shape(),
-            place,
-            &mut self.left,
-            &mut self.right,
-            &mut self.screens,
-            &mut self.bits,
-        );
-        frame_row(&self.bits, row);
+        make_row(&mut self.maker, &self.band, self.next, row);
         self.next += 1;
     }
 }
 
-/// The group with this index.
-fn group_at(rows: &RowPlan, index: usize) -> &Group
-    requires { index < length rows.now.groups }
-    ensures { slice_get rows.now.groups index ≡ Some result.now }
-{
-    let groups = rows.groups();
-    &groups[index]
-}
-
-/// Draws a row of a plate: the two pages where they stand, the marks, and nothing else.
-fn draw_row(
-    plan: &Plan,
-    shape: PlateShape,
-    place: RowPlace,
-    left: &mut SidePages<'_>,
-    right: &mut SidePages<'_>,
-    screens: &mut Screens,
-    bits: &mut [u8],
-)
-    requires plan { IsPlan plan.now }
-    requires shape { shape ≡ shape_of_plate plan.now }
-    requires left { CanDraw plan.now Left place.y left.old }
-    requires right { CanDraw plan.now Right place.y right.old }
-    requires same { left.old.files ≡ right.old.files }
-    requires level { left.old.shown ≡ right.old.shown }
-    requires screens { AreScreens plan.now screens.old }
-    requires diffused { HaveDiffused plan.now left.old.files left.old.page right.old.page left.old.shown
-        screens.old }
-    requires y { place.y < plate_height plan.now }
-    requires row { length bits.old ≡ row_size (plate_width plan.now) }
-    ensures row { bits.new
-        ≡ plate_row plan.now left.old.files left.old.page right.old.page place.ink place.y }
-    ensures left { left.new ≡ row_after place.y left.old }
-    ensures right { right.new ≡ row_after place.y right.old }
-    ensures screens { AreScreens plan.now screens.new }
-    ensures diffused { HaveDiffused plan.now left.old.files left.old.page right.old.page left.new.shown
-        screens.new }
-{
-    draw_pages(plan, shape, place, left, right, screens, bits);
-    mark_row(plan, place.ink, place.y, bits);
-}
-
-/// Draws the two pages where they stand on a row of a plate, and nothing else.
-fn draw_pages(
-    plan: &Plan,
-    shape: PlateShape,
-    place: RowPlace,
-    left: &mut SidePages<'_>,
-    right: &mut SidePages<'_>,
-    screens: &mut Screens,
-    bits: &mut [u8],
-)
-    requires plan { IsPlan plan.now }
-    requires shape { shape ≡ shape_of_plate plan.now }
-    requires left { CanDraw plan.now Left place.y left.old }
-    requires right { CanDraw plan.now Right place.y right.old }
-    requires same { left.old.files ≡ right.old.files }
-    requires level { left.old.shown ≡ right.old.shown }
-    requires screens { AreScreens plan.now screens.old }
-    requires diffused { HaveDiffused plan.now left.old.files left.old.page right.old.page left.old.shown
-        screens.old }
-    requires row { length bits.old ≡ row_size (plate_width plan.now) }
-    ensures pages { ShowsPages plan.now left.old.files left.old.page right.old.page place.ink place.y
-        bits.new }
-    ensures left { left.new ≡ row_after place.y left.old }
-    ensures right { right.new ≡ row_after place.y right.old }
-    ensures screens { AreScreens plan.now screens.new }
-    ensures diffused { HaveDiffused plan.now left.old.files left.old.page right.old.page left.new.shown
-        screens.new }
-{
-    clear(bits);
-    let Some(y) = page_row(plan, shape, place.y) else {
-        return;
-    };
-    show_row(y, left, right, screens);
-    left.draw(screens, place.ink, y, bits);
-    right.draw(screens, place.ink, y, bits);
-}
-
-/// Shows row `y` of both pages and diffuses it in all inks, unless it stands here.
-fn show_row(y: u32, left: &mut SidePages<'_>, right: &mut SidePages<'_>, screens: &mut Screens)
-    requires left { IsReady y left.old }
-    requires right { IsReady y right.old }
-    requires plan { left.old.plan ≡ right.old.plan }
-    requires files { left.old.files ≡ right.old.files }
-    requires level { left.old.shown ≡ right.old.shown }
-    requires screens { AreScreens left.old.plan screens.old }
-    requires diffused { HaveDiffused left.old.plan left.old.files left.old.page right.old.page
-        left.old.shown screens.old }
-    ensures left { left.new ≡ behind_row y left.old }
-    ensures right { right.new ≡ behind_row y right.old }
-    ensures screens { AreScreens left.old.plan screens.new }
-    ensures diffused { HaveDiffused left.old.plan left.old.files left.old.page right.old.page
-        (y + 1) screens.new }
-{
-    if left.shown() == y {
-        left.show();
-        right.show();
-        screens.advance(left.row(), right.row());
+impl<'j> BandFeed for Feed<'j> {
+    fn make_band<T: Threads + Sync>(&mut self, rt: &T) {
+        if !self.band.has(self.next) && self.next < self.maker.total() {
+            self.band.make(rt, self.next);
+        }
     }
 }
 
-/// No pixel of a row.
-fn clear(bits: &mut [u8])
-    ensures { bits.new ≡ replicate (length bits.old) 0 }
+/// Makes frame `n`, or gives that of the band.
+fn make_row(maker: &mut RowMaker<'_>, band: &Band<'_>, n: u64, row: &mut [u8])
+    requires job { band.now.job ≡ maker.old }
+    requires n { n < length (plate_frames maker.old.plan maker.old.files) }
+    requires row { length row.old ≡ frame_bytes maker.old }
+    ensures frame { slice_get (plate_frames maker.old.plan maker.old.files) n ≡ Some row.new }
+    ensures maker { maker.new ≡ maker.old }
 {
-    bits.fill(0);
-}
-
-/// Which row of its pages row `y` of a plate shows, if it shows one.
-fn page_row(plan: &Plan, shape: PlateShape, y: u32) -> Option<u32>
-    requires { shape ≡ shape_of_plate plan.now }
-    ensures { result ≡ row_of_pages plan.now y }
-{
-    let top = shape.top_y;
-    if top <= y && y - top < plan.page_height {
-        Some(y - top)
+    if band.has(n) {
+        row.copy_from_slice(band.frame(n));
     } else {
-        None
+        maker.make(n, row);
     }
+}
+
+/// How many threads make the bands of a job: none, where each row is as well made when it is asked for. Where
+/// an ink is diffused a row waits for the row above.
+fn threads_for<T: Threads>(rt: &T, job: &Job) -> usize
+    ensures { result ≤ 8 }
+{
+    let bytes = job.total().saturating_mul(job.row_len() as u64);
+    if is_diffused(job.plan()) || bytes < FEW_BYTES {
+        return 0;
+    }
+    match available_parallelism(rt) {
+        Ok(processors) if processors.get() > 1 => processors.get().min(MOST_THREADS),
+        _ => 0,
+    }
+}
+
+/// Whether the plan has some ink diffused.
+fn is_diffused(plan: &Plan) -> bool {
+    plan.screens
+        .iter()
+        .any(|screen| matches!(screen, Screen::Diffuse))
+}
+
+/// How many frames a thread makes of a band: whole rows of its pages, in one to five inks.
+fn share_len(job: &Job) -> usize
+    ensures { (1 ≤ result) × (result ≤ 65536) }
+{
+    let lines = SHARE_BYTES / job.row_len().max(1) / 20;
+    lines.clamp(1, 100) * 20
 }

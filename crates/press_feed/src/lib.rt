@@ -1,15 +1,21 @@
-// The feed of a job: all its plate rows in order, each painted, toned, limited and screened when it is asked
-// for. What a job is, its tests and what its rows are stand in press_job.
+// The feed of a job: all its plate rows in order, painted, toned, limited, screened and packed a band at a
+// time, by as many threads as there are processors. What a job is, its tests and what its rows are stand in
+// press_job.
 #![tactic(auto)]
 
+mod band;
 mod feed;
+mod frame;
+mod page_pair;
 mod plane;
 mod printed_row;
+mod row_maker;
 mod screener;
 mod screens;
+mod share;
 mod side;
 mod side_pages;
 mod tones;
 
-pub use feed::Feed;
+pub use feed::{BandFeed, Feed};
 pub use press_job::{Job, Refusal, prepare, spotless_law};

@@ -79,7 +79,13 @@ impl PrintedRow {
     }
 
     /// Paints the next row of a page.
-    fn paint(&mut self, page: &mut PageRows<'_>, tones: &Tones<'_>, colour: bool, spot: bool)
+    pub(crate) fn paint(
+        &mut self,
+        page: &mut PageRows<'_>,
+        tones: &Tones<'_>,
+        colour: bool,
+        spot: bool,
+    )
         requires left { page.old.next < page.old.height }
         requires width { HasWidth self.old page.old.width }
         ensures shows { ShowsInks tones.now colour spot page.old.layers page.old.width page.old.next

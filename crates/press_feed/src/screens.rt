@@ -1,6 +1,6 @@
 // How the two pages of a plate are screened in each ink: by a tile, or by error diffusion of both pages at
 // once.
-ghost use Rattle.std.specs.Prelude.{◌≡◌, ◌≢◌, ℕ, ◌+◌, ◌*◌, ◌<◌, ◌≤◌, IfOk, None, Some, [], true, length, slice_get};
+ghost use Rattle.std.specs.Prelude.{◌≡◌, ◌≢◌, ℕ, ◌+◌, ◌*◌, ◌<◌, ◌≤◌, IfOk, None, Some, [], false, true, length, slice_get};
 ghost use Rattle.std.specs.Option.{ForSome, option_map};
 ghost use Rattle.pr_base.specs.Bits.{SetsBits};
 ghost use Rattle.pr_base.specs.Ink.{slot_of};
@@ -10,13 +10,12 @@ ghost use Rattle.page_layers.specs.Inks.{HasWidth};
 ghost use Rattle.scr_diffuse.specs.Diffusers.{EightFronts};
 ghost use Rattle.press_feed.specs.declared.screener.Screener.{Screener as ScreenerData};
 ghost use Rattle.press_feed.specs.Screener.{AreScreeners, diffuses, is_diffused};
-ghost use Rattle.press_feed.specs.Screens.{AreScreens, behind_planes, behind_rows, bank_of, bit_by, entered, from_top, front_at, lane_of, last_bit, process_rows, spot_rows, without_rows};
+ghost use Rattle.press_feed.specs.Screens.{AreScreens, behind_planes, behind_rows, bank_of, bit_by, from_top, front_at, lane_of, last_bit, process_rows, spot_rows, without_rows};
 
 use crate::printed_row::PrintedRow;
 use crate::screener::Screener;
 use crate::side::Side;
 use plan_json::{Plan, Screen};
-use plan_rows::Group;
 use pr_base::{Ink, NoMemory};
 use scr_diffuse::Diffusers;
 use scr_tile::screen_row;
@@ -52,14 +51,20 @@ impl Screens {
         })
     }
 
-    /// Goes to the top of the pages of a group, where row `n` is the group's first.
-    pub(crate) fn enter(&mut self, group: &Group, n: u64)
-        ensures { self.new ≡ entered group.now n self.old }
+    /// Goes to the top of two pages.
+    pub(crate) fn restart(&mut self)
+        ensures { self.new ≡ from_top self.old }
     {
-        if n == group.first {
-            restart(&mut self.process);
-            restart(&mut self.spot);
-        }
+        restart(&mut self.process);
+        restart(&mut self.spot);
+    }
+
+    /// Whether some ink is diffused, so that no row of the pages may be passed over.
+    pub(crate) fn diffuse(&self) -> bool
+        ensures process { result ≡ false → self.now.process ≡ None }
+        ensures spot { result ≡ false → self.now.spot ≡ None }
+    {
+        self.process.is_some() || self.spot.is_some()
     }
 
     /// Takes the next row of both pages.

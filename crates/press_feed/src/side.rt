@@ -1,6 +1,6 @@
 // The two sides of a plate, and which pages stand on them.
 ghost use Rattle.std.specs.Prelude.{◌≡◌};
-ghost use Rattle.press_feed.specs.Sides.{left_edge, page_on, stands_in};
+ghost use Rattle.press_feed.specs.Sides.{left_edge, page_on};
 
 use plan_rows::Group;
 use press_job::Job;

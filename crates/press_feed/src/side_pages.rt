@@ -1,14 +1,14 @@
 // The pages that stand on one side of the plates, each read row by row.
-ghost use Rattle.std.specs.Prelude.{◌≡◌, ℕ, ◌+◌, ◌-◌, ◌*◌, ◌<◌, ◌≤◌, IfOk, length, true};
+ghost use Rattle.std.specs.Prelude.{◌≡◌, ℕ, ◌+◌, ◌-◌, ◌*◌, ◌<◌, ◌≤◌, IfOk, length};
 ghost use Rattle.std.specs.Option.{ForSome};
 ghost use Rattle.pr_base.specs.Bits.{SetsBits};
 ghost use Rattle.page_layers.specs.Inks.{HasWidth, plane_of};
-ghost use Rattle.plan_rows.specs.Groups.{groups_of, page_colour, page_spot};
+ghost use Rattle.plan_rows.specs.Groups.{page_colour, page_spot};
 ghost use Rattle.pr_base.specs.declared.ink.Ink.{Ink as InkData};
 ghost use Rattle.press_job.specs.Layers.{layers_of, planned_layers};
 ghost use Rattle.press_job.specs.Printing.{page_bit, printed_row};
 ghost use Rattle.press_feed.specs.Screens.{AreScreens, IsFrontOf, bank_of, lane_of};
-ghost use Rattle.press_feed.specs.Sides.{left_edge, page_before, page_on, stands_in};
+ghost use Rattle.press_feed.specs.Sides.{left_edge, page_before};
 
 use crate::printed_row::PrintedRow;
 use crate::screens::Screens;
@@ -16,7 +16,6 @@ use crate::side::Side;
 use crate::tones::Tones;
 use page_layers::PageRows;
 use plan_json::Plan;
-use plan_rows::Group;
 use pr_base::{Ink, NoMemory};
 use press_job::{Job, most_layers, put_layers};
 use std::alloc::Global;
@@ -57,7 +56,7 @@ impl<'j> Model for SidePages<'j> {
 }
 
 impl<'j> SidePages<'j> {
-    ghost use Rattle.press_feed.specs.Sides.{at_top, entered};
+    ghost use Rattle.press_feed.specs.Sides.{at_top, behind_row};
     ghost use Rattle.press_feed.specs.SidePages.{opened_side};
 
     /// Takes the room for its pages. The first of the plan stands there until another is entered.
@@ -79,27 +78,20 @@ impl<'j> SidePages<'j> {
         })
     }
 
-    /// Goes to the top of the page of a group, where row `n` is the group's first.
-    pub(crate) fn enter(&mut self, group: &Group, n: u64)
-        requires { stands_in (groups_of self.old.plan) self.old.side (page_on self.old.side group.now)
-            ≡ true }
-        ensures { self.new ≡ entered group.now n self.old }
-    {
-        if n != group.first {
-            return;
-        }
-        let page = self.side.page_of(group);
-        self.begin(page);
-    }
-
     /// Goes to the top of a page.
-    fn begin(&mut self, page: usize)
-        requires { stands_in (groups_of self.old.plan) self.old.side page ≡ true }
+    pub(crate) fn begin(&mut self, page: usize)
         ensures { self.new ≡ at_top page self.old }
     {
         turn_to(self.job, self.page, page, &mut self.page_rows);
         self.page = page;
         self.shown = 0;
+    }
+
+    /// The page that is shown.
+    pub(crate) fn page(&self) -> usize
+        ensures { result ≡ self.now.page }
+    {
+        self.page
     }
 
     /// How many rows of the page were shown.
@@ -137,14 +129,49 @@ impl<'j> SidePages<'j> {
 
     /// Shows the next row of the page.
     pub(crate) fn show(&mut self)
-        requires stands { stands_in (groups_of self.old.plan) self.old.side self.old.page ≡ true }
-        requires within { self.old.shown < self.old.plan.page_height }
+        requires { self.old.shown < self.old.plan.page_height }
         ensures { self.new ≡ record self.old { shown = self.old.shown + 1 } }
     {
         let (colour, spot) = inks_of(self.job.plan(), self.page);
         self.row
             .advance(&mut self.page_rows, &self.tones, colour, spot);
         self.shown += 1;
+    }
+
+    /// Shows row `y` of the page, which is still to come. The rows above are passed over.
+    pub(crate) fn show_at(&mut self, y: u32)
+        requires next { self.old.shown ≤ y }
+        requires within { y < self.old.plan.page_height }
+        ensures { self.new ≡ behind_row y self.old }
+    {
+        if self.shown == y {
+            self.show();
+        } else {
+            self.show_below(y);
+        }
+    }
+
+    /// The same where rows above are still to come, so that the row is painted whatever stands here.
+    fn show_below(&mut self, y: u32)
+        requires next { self.old.shown ≤ y }
+        requires within { y < self.old.plan.page_height }
+        ensures { self.new ≡ behind_row y self.old }
+    {
+        let (colour, spot) = inks_of(self.job.plan(), self.page);
+        pass_rows(y - self.shown, &mut self.page_rows);
+        self.row
+            .paint(&mut self.page_rows, &self.tones, colour, spot);
+        self.shown = y + 1;
+    }
+}
+
+/// Goes over so many rows of a page.
+fn pass_rows(count: u32, rows: &mut PageRows<'_>)
+    requires { rows.old.next + count ≤ rows.old.height }
+    ensures { rows.new ≡ record rows.old { next = rows.old.next + count } }
+{
+    for _row in 0..count {
+        rows.pass();
     }
 }
 

@@ -15,6 +15,6 @@ pub invariant_of-self : goal.invariant_of-self
 invariant_of-self c =
     IsSide-show c.self.inside.job.now c.self.inside.page_rows c.advance.new.page c.self.inside.page c.self.inside.shown c.self.inside.tones c.self.inside.row c.advance.new.self
     c.inks_of-colour.result.0 c.inks_of-colour.result.1 c.self.invariant
-    (subst {A = SideData} (λ s. s.shown < s.plan.page_height) (sym c.self.view_is) c.requires.within)
+    (subst {A = SideData} (λ s. s.shown < s.plan.page_height) (sym c.self.view_is) c.requires)
     (c.inks_of-colour.ensures.colour ∙ ap {A = PlanData} (λ p. page_colour p c.self.inside.page) c.plan.ensures.plan) (c.inks_of-colour.ensures.spot ∙ ap {A = PlanData} (λ p. page_spot p c.self.inside.page) c.plan.ensures.plan)
     c.advance.ensures.page c.advance.ensures.shows c.advance.ensures.width

@@ -1,15 +1,15 @@
-use Rattle.std.proofs.Common.{rules, subst, ◌≡◌, []}
+use Rattle.std.proofs.Common.{◌≡◌, [], subst}
 use Rattle.std.specs.Option.{ForSome}
 use Rattle.plan_json.specs.Data.{PlanData}
 use Rattle.press_feed.specs.Screens.{AreScreens}
-use Rattle.press_feed.proofs.FeedLemmas.{IsFeed-open}
-use Rattle.press_feed.proofs.feed.Feed.open.Goals as goal
+use Rattle.press_feed.proofs.PairLemmas.{IsPair-open}
+use Rattle.press_feed.proofs.page_pair.PagePair.open.Goals as goal
 
 pub invariant_of-result : goal.invariant_of-result
 invariant_of-result c =
-    let same = c.plan-plan.ensures.plan in
+    let same = c.plan.ensures.plan in
     let screens = c.in_ok-screens.screens in
-    IsFeed-open c.args.job.now c.in_ok-left.left c.in_ok-right.right screens c.in_ok-bits.bits.items c.plan-plan.ensures.valid c.in_ok-left.ensures c.in_ok-right.ensures (search rules)
+    IsPair-open c.args.job.now c.in_ok-left.left c.in_ok-right.right screens c.plan.ensures.valid c.in_ok-left.ensures c.in_ok-right.ensures
     (subst {A = PlanData} (λ p. AreScreens p screens) same c.in_ok-screens.ensures.screens)
     (subst {A = PlanData} (λ p. ForSome screens.process (λ front. front ≡ record { width = p.page_width; rows = [] })) same c.in_ok-screens.ensures.process)
     (subst {A = PlanData} (λ p. ForSome screens.spot (λ front. front ≡ record { width = p.page_width; rows = [] })) same c.in_ok-screens.ensures.spot)

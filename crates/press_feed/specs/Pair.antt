@@ -1,0 +1,38 @@
+-- The two pages of a plate, shown side by side.
+use Rattle.std.specs.Prelude.{◌≡◌, ℕ}
+use Rattle.plan_json.specs.Plan.{IsPlan}
+use Rattle.plan_rows.specs.declared.group.Group.{Group}
+use Rattle.press_feed.specs.declared.screens.Screens.{Screens}
+use Rattle.press_feed.specs.declared.side.Side.{Side}
+use Rattle.press_feed.specs.declared.side.Side.TheVariants.{Left, Right}
+use Rattle.press_feed.specs.Screens.{AreScreens, HaveDiffused}
+use Rattle.press_feed.specs.Sides.{SideData}
+use Rattle.press_job.specs.Job.{JobData}
+
+-- two pages of a job, and how many of their rows were shown
+pub record PairData : Type 0 where
+  pub job : JobData
+  pub left : ℕ
+  pub right : ℕ
+  pub shown : ℕ
+
+-- the pages of a group, of which so many rows were shown
+abbrev pub of_group : Group → ℕ → PairData → PairData
+of_group group shown pair = record pair { left = group.left; right = group.right; shown = shown }
+
+-- ---- what the code of two pages keeps
+
+-- a side is one of a job
+pub record IsOf (job : JobData) (side : Side) (pages : SideData) : Type 0 where
+  pub plan_is : pages.plan ≡ job.plan
+  pub files_are : pages.files ≡ job.files
+  pub side_is : pages.side ≡ side
+
+-- as many rows were shown on both sides, and these were diffused where an ink is
+pub record IsPair (job : JobData) (left right : SideData) (screens : Screens) : Type 0 where
+  pub plan_is : IsPlan job.plan
+  pub left_is : IsOf job Left left
+  pub right_is : IsOf job Right right
+  pub level : left.shown ≡ right.shown
+  pub screens_are : AreScreens job.plan screens
+  pub diffused : HaveDiffused job.plan job.files left.page right.page left.shown screens

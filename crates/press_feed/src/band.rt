@@ -1,0 +1,133 @@
+// A band of frames, which as many threads make as there are shares.
+ghost use Rattle.std.specs.Prelude.{All, ◌≡◌, ℕ, ◌+◌, ◌*◌, ◌<◌, ◌≤◌, ◌^◌, IfOk, IsTrue, ◌↔◌, length, slice_index_or};
+ghost use Rattle.press_feed.specs.Band.{AreMade, HoldsFrom, IsShareOf, ShareData};
+
+use crate::share::Share;
+use pr_base::NoMemory;
+use press_job::Job;
+use std::alloc::Global;
+use std::marker::Model;
+use std::thread::{Threads, for_each_mut};
+
+/// Frames of a job that stand behind one another. Contracts see the job, for how many there is room, the
+/// number of the first one, and that behind the last.
+#[derive(Debug, Drop)]
+pub(crate) struct Band<'j> {
+    job: &'j Job,
+    shares: Vec<Share<'j>>,
+    /// How many frames a share has.
+    each: usize,
+    first: u64,
+    end: u64,
+}
+
+impl<'j> Model for Band<'j> {
+    ghost use Rattle.std.specs.Prelude.{◌*◌, length};
+    ghost use Rattle.press_feed.specs.Band.{BandData, IsBand};
+
+    ghost Value = { BandData };
+
+    ghost view = { λ b. record {
+      job = b.job.now;
+      size = length b.shares.items * b.each;
+      first = b.first;
+      end = b.end;
+    } };
+
+    ghost invariant = { λ b. IsBand b.job.now b.each b.first b.end b.shares.items };
+}
+
+impl<'j> Band<'j> {
+    ghost use Rattle.press_feed.specs.Band.{IsFrameAt, frame_bytes};
+
+    /// A band without frames, which so many threads will make. Without threads it stays so. Takes all buffers.
+    pub(crate) fn open(
+        alloc: Global,
+        job: &'j Job,
+        threads: usize,
+        each: usize,
+    ) -> Result<Band<'j>, NoMemory>
+        requires threads { threads ≤ 65536 }
+        requires each { (1 ≤ each) × (each ≤ 65536) }
+        ensures { IfOk result (λ band. band ≡
+            record { job = job.now; size = threads * each; first = 0; end = 0 }) }
+    {
+        let shares = open_shares(alloc, job, threads, each)?;
+        Ok(Band {
+            job,
+            shares,
+            each,
+            first: 0,
+            end: 0,
+        })
+    }
+
+    /// Makes as many frames as there is room for, from this number on, as far as the job has some. Where a
+    /// thread can't be started this one makes its share.
+    pub(crate) fn make<T: Threads + Sync>(&mut self, rt: &T, first: u64)
+        requires { first ≤ 2684313600 }
+        ensures { self.new ≡ record self.old { first = first; end = first + self.old.size } }
+    {
+        make_shares(rt, first, self.each, &mut self.shares);
+        self.first = first;
+        self.end = first + (self.shares.len() * self.each) as u64;
+    }
+
+    /// Whether frame `n` stands in the band.
+    pub(crate) fn has(&self, n: u64) -> bool
+        ensures { IsTrue result ↔ ((self.now.first ≤ n) × (n < self.now.end)) }
+    {
+        self.first <= n && n < self.end
+    }
+
+    /// Frame `n`, which stands in the band.
+    pub(crate) fn frame(&self, n: u64) -> &[u8]
+        requires first { self.now.first ≤ n }
+        requires end { n < self.now.end }
+        ensures frame { IsFrameAt self.now.job n result.now }
+        ensures len { length result.now ≡ frame_bytes self.now.job }
+    {
+        let place = (n - self.first) as usize;
+        let share = &self.shares[place / self.each];
+        share.frame(place % self.each)
+    }
+}
+
+/// So many shares.
+fn open_shares<'j>(
+    alloc: Global,
+    job: &'j Job,
+    count: usize,
+    each: usize,
+) -> Result<Vec<Share<'j>>, NoMemory>
+    ensures count { IfOk result (λ shares. length shares.items ≡ count) }
+    ensures own { IfOk result (λ shares. All (IsShareOf job.now each) shares.items) }
+{
+    let mut shares = Vec::with_capacity(alloc, count)?;
+    for _share in 0..count {
+        shares.push(Share::open(alloc, job, each)?)?;
+    }
+    Ok(shares)
+}
+
+/// Makes all shares of a band, each in a thread of its own, from this frame on.
+fn make_shares<T: Threads + Sync>(rt: &T, first: u64, each: usize, shares: &mut [Share<'_>])
+    requires first { first ≤ 2684313600 }
+    requires each { each ≤ 65536 }
+    requires most { length shares.old ≤ 65536 }
+    requires own { (k : ℕ) (d : ShareData) → k < length shares.old →
+        length (slice_index_or shares.old k d).frames ≡ each }
+    ensures made { AreMade first each shares.old shares.new }
+{
+    for_each_mut(
+        rt,
+        shares,
+        shares.len().max(1),
+        &|k: usize, share: &mut Share<'_>|
+            requires few { (k < 65536) × (each ≤ 65536) × (first ≤ 2684313600) }
+            requires own { length share.now.frames ≡ each }
+            ensures made { HoldsFrom share.entry.now.job (first + k * each) share.exit.now.frames }
+            ensures same { IsShareOf share.entry.now.job each share.exit.now }
+        { share.make_from(first + (k * each) as u64) },
+    );
+}

@@ -1,0 +1,132 @@
+// The frames of a job, each made when it is asked for.
+ghost use Rattle.std.specs.Prelude.{◌≡◌, ◌+◌, ◌<◌, ◌≤◌, IfOk, Some, length, replicate, slice_get};
+ghost use Rattle.pr_base.specs.Row.{row_size};
+ghost use Rattle.plan_json.specs.Data.{plate_height, plate_width};
+ghost use Rattle.plan_pages.specs.Plate.{shape_of_plate};
+ghost use Rattle.press_job.specs.Rows.{plate_row};
+ghost use Rattle.press_feed.specs.Plates.{ShowsPages, page_row as row_of_pages};
+
+use crate::page_pair::PagePair;
+use plan_json::Plan;
+use plan_pages::{PlateShape, mark_row};
+use plan_rows::{Group, RowPlace, RowPlan};
+use pr_base::{Deal, Ink, NoMemory, row_bytes};
+use press_job::Job;
+use std::alloc::Global;
+use std::marker::Model;
+use tif_packbits::frame_row;
+
+/// Makes any frame of a job. In order it costs least: then each row of a page is painted once for all its
+/// inks. Contracts see the job.
+#[derive(Debug, Drop)]
+pub(crate) struct RowMaker<'j> {
+    job: &'j Job,
+    pages: PagePair<'j>,
+    /// A row of a plate, eight pixels a byte.
+    bits: Vec<u8>,
+}
+
+impl<'j> Model for RowMaker<'j> {
+    ghost use Rattle.press_job.specs.Job.{JobData};
+
+    ghost Value = { JobData };
+
+    ghost use Rattle.press_feed.specs.Plates.{IsMaker};
+
+    ghost view = { λ m. m.job.now };
+
+    ghost invariant = { λ m. IsMaker m.job.now m.pages m.bits.items };
+}
+
+impl<'j> RowMaker<'j> {
+    ghost use Rattle.press_feed.specs.Band.{IsFrameAt, frame_bytes};
+    ghost use Rattle.press_job.specs.Rows.{plate_frames};
+
+    /// Takes all buffers.
+    pub(crate) fn open(alloc: Global, job: &'j Job) -> Result<RowMaker<'j>, NoMemory>
+        ensures { IfOk result (λ maker. maker ≡ job.now) }
+    {
+        let bits = vec![in alloc; 0; row_bytes(job.shape().width)]?;
+        let pages = PagePair::open(alloc, job)?;
+        Ok(RowMaker { job, pages, bits })
+    }
+
+    /// The number of frames.
+    pub(crate) fn total(&self) -> u64
+        ensures total { result ≡ length (plate_frames self.now.plan self.now.files) }
+    {
+        self.job.total()
+    }
+
+    /// Makes frame `n`.
+    pub(crate) fn make(&mut self, n: u64, frame: &mut [u8])
+        requires n { n < length (plate_frames self.old.plan self.old.files) }
+        requires frame { length frame.old ≡ frame_bytes self.old }
+        ensures frame { slice_get (plate_frames self.old.plan self.old.files) n ≡ Some frame.new }
+        ensures job { self.new ≡ self.old }
+    {
+        let rows = self.job.rows();
+        let place = rows.row_at(n);
+        let group = group_at(rows, place.group);
+        draw_row(self.job, group, place, &mut self.pages, &mut self.bits);
+        frame_row(&self.bits, frame);
+    }
+}
+
+/// The group with this index.
+fn group_at(rows: &RowPlan, index: usize) -> &Group
+    requires { index < length rows.now.groups }
+    ensures { slice_get rows.now.groups index ≡ Some result.now }
+{
+    let groups = rows.groups();
+    &groups[index]
+}
+
+/// Draws a row of a plate of a group: the two pages where they stand, the marks, and nothing else.
+fn draw_row(job: &Job, group: &Group, place: RowPlace, pages: &mut PagePair<'_>, bits: &mut [u8])
+    requires job { pages.old.job ≡ job.now }
+    requires y { place.y < plate_height job.now.plan }
+    requires row { length bits.old ≡ row_size (plate_width job.now.plan) }
+    ensures row { bits.new
+        ≡ plate_row job.now.plan job.now.files group.now.left group.now.right place.ink place.y }
+    ensures job { pages.new.job ≡ job.now }
+{
+    draw_pages(job, group, place, pages, bits);
+    mark_row(job.plan(), place.ink, place.y, bits);
+}
+
+/// Draws the two pages where they stand on a row of a plate, and nothing else.
+fn draw_pages(job: &Job, group: &Group, place: RowPlace, pages: &mut PagePair<'_>, bits: &mut [u8])
+    requires job { pages.old.job ≡ job.now }
+    requires row { length bits.old ≡ row_size (plate_width job.now.plan) }
+    ensures pages { ShowsPages job.now.plan job.now.files group.now.left group.now.right
+        place.ink place.y bits.new }
+    ensures job { pages.new.job ≡ job.now }
+{
+    clear(bits);
+    let Some(y) = page_row(job.plan(), job.shape(), place.y) else {
+        return;
+    };
+    pages.show(group, y);
+    pages.draw(place.ink, y, bits);
+}
+
+/// No pixel of a row.
+fn clear(bits: &mut [u8])
+    ensures { bits.new ≡ replicate (length bits.old) 0 }
+{
+    bits.fill(0);
+}
+
+/// Which row of its pages row `y` of a plate shows, if it shows one.
+fn page_row(plan: &Plan, shape: PlateShape, y: u32) -> Option<u32>
+    requires { shape ≡ shape_of_plate plan.now }
+    ensures { result ≡ row_of_pages plan.now y }
+{
+    let top = shape.top_y;
+    if top <= y && y - top < plan.page_height {
+        Some(y - top)
+    } else {
+        None
+    }
+}

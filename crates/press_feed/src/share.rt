@@ -1,0 +1,85 @@
+// A thread's share of a band: room for some frames that stand behind one another, and what makes them.
+ghost use Rattle.std.specs.Prelude.{All, ◌≡◌, ◌+◌, ◌<◌, ◌≤◌, ◌^◌, IfOk, Some, length, slice_get};
+ghost use Rattle.press_feed.specs.Band.{HoldsFrom, IsShare, frame_bytes};
+
+use crate::frame::Frame;
+use crate::row_maker::RowMaker;
+use pr_base::{Deal, NoMemory};
+use press_job::Job;
+use std::alloc::Global;
+use std::marker::Model;
+
+/// Some frames of a job. Contracts see the job and the frames.
+#[derive(Debug, Drop)]
+pub(crate) struct Share<'j> {
+    maker: RowMaker<'j>,
+    frames: Vec<Frame>,
+}
+
+impl<'j> Model for Share<'j> {
+    ghost use Rattle.press_feed.specs.Band.{IsShare, ShareData};
+
+    ghost Value = { ShareData };
+
+    ghost view = { λ s. record { job = s.maker; frames = s.frames.items } };
+
+    ghost invariant = { λ s. IsShare s.maker s.frames.items };
+}
+
+impl<'j> Share<'j> {
+    ghost use Rattle.press_feed.specs.Band.{HoldsFrom, IsShareOf, frame_bytes};
+
+    /// Takes the room for so many frames.
+    pub(crate) fn open(alloc: Global, job: &'j Job, count: usize) -> Result<Share<'j>, NoMemory>
+        ensures { IfOk result (IsShareOf job.now count) }
+    {
+        let frames = open_frames(alloc, job.row_len(), count)?;
+        let maker = RowMaker::open(alloc, job)?;
+        Ok(Share { maker, frames })
+    }
+
+    /// Makes the frames from this number on, as far as the job has some.
+    pub(crate) fn make_from(&mut self, first: u64)
+        requires { first + length self.old.frames < 2 ^ 63 }
+        ensures made { HoldsFrom self.old.job first self.new.frames }
+        ensures same { IsShareOf self.old.job (length self.old.frames) self.new }
+    {
+        make_frames(&mut self.maker, first, &mut self.frames);
+    }
+
+    /// The frame at a place.
+    pub(crate) fn frame(&self, place: usize) -> &[u8]
+        requires { place < length self.now.frames }
+        ensures frame { slice_get self.now.frames place ≡ Some result.now }
+        ensures len { length result.now ≡ frame_bytes self.now.job }
+    {
+        let frame = &self.frames[place];
+        frame.bytes()
+    }
+}
+
+/// Room for so many frames.
+fn open_frames(alloc: Global, len: usize, count: usize) -> Result<Vec<Frame>, NoMemory>
+    ensures count { IfOk result (λ frames. length frames.items ≡ count) }
+    ensures each { IfOk result (λ frames. All (λ frame. length frame ≡ len) frames.items) }
+{
+    let mut frames = Vec::with_capacity(alloc, count)?;
+    for _frame in 0..count {
+        frames.push(Frame::new(alloc, len)?)?;
+    }
+    Ok(frames)
+}
+
+/// Makes the frames from this number on, as far as the job has some.
+fn make_frames(maker: &mut RowMaker<'_>, first: u64, frames: &mut [Frame])
+    requires first { first + length frames.old < 2 ^ 63 }
+    requires each { IsShare maker.old frames.old }
+    ensures made { HoldsFrom maker.old first frames.new }
+    ensures each { IsShare maker.old frames.new }
+    ensures count { length frames.new ≡ length frames.old }
+    ensures maker { maker.new ≡ maker.old }
+{
+    for place in 0..frames.len() {
+        frames[place].make(first + place as u64, maker);
+    }
+}
