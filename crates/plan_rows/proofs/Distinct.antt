@@ -1,10 +1,10 @@
 -- The plates of a site have distinct paths, since no two of its groups are of one pair.
 use Rattle.std.proofs.Common.{◌≡◌, ◌≢◌, ℕ, zero, suc, ◌+◌, ◌*◌, ◌/◌, ◌<◌, ◌≤◌, Bool, true, false, cond, List, [], ◌∷◌, ◌++◌, length, map, get_or, refl, ap, sym, ◌∙◌, subst, add-zero, arith}
-use Rattle.std.specs.Prelude.{All, AllPairs, filter}
+use Rattle.std.specs.Prelude.{AllPairs, filter}
 use Rattle.std.specs.List.{flat_map, range_with_len}
 use Rattle.std.proofs.lemmas.List.{length-map, map-append, get_or-map}
-use Rattle.std.proofs.lemmas.List.Elements.{All-nil, All-cons, All-head, All-tail, All-append, All-get_or, All-filter, filter-append}
-use Rattle.std.proofs.lemmas.List.FromFn.{length-map-range_with_len}
+use Rattle.std.proofs.lemmas.List.Elements.{All-get_or, All-filter, filter-append}
+use Rattle.std.proofs.lemmas.Simd.{map-map}
 use Rattle.pr_base.specs.declared.ink.Ink.TheVariants.{K}
 use Rattle.plan_json.specs.Data.{PlanData, plate_height}
 use Rattle.plan_json.specs.Plan.{IsPlan}
@@ -16,6 +16,7 @@ use Rattle.plan_rows.specs.Groups.{pages_at, site_pages, is_first, group_of, pai
 use Rattle.plan_rows.specs.Plates.{PlateOf, group_plates, site_plates}
 use Rattle.plan_rows.specs.Paths.{path_of}
 use Rattle.plan_rows.proofs.CountLemmas.{section_count}
+use Rattle.plan_rows.proofs.GroupLemmas.{InPlan, groups_in_plan, plates_each, site_pages-size}
 use Rattle.plan_rows.proofs.Names.{paths_tell_plates}
 use Rattle.plan_rows.proofs.SitesOf.{has_site_is, first_apart, filter-map, one_of}
 
@@ -65,14 +66,6 @@ one_runs : (f : ℕ → ℕ) (k : ℕ) (xs : List ℕ) → length xs ≤ 1 → (
 one_runs f k [] few each = omega arith
 one_runs f k (x ∷ []) few each = (let here = each x in (omega arith, omega arith))
 one_runs f k (x ∷ y ∷ xs) few each = absurd (omega arith)
-
-map-map : {X Y Z : Type 0} (f : Y → Z) (g : X → Y) (xs : List X) → map f (map g xs) ≡ map (λ x. f (g x)) xs
-map-map f g [] = refl
-map-map f g (x ∷ xs) = ap (λ ys. f (g x) ∷ ys) (map-map f g xs)
-
-site_pages-size : (plan : PlanData) (section pair : ℕ) → length (site_pages plan section pair) ≡ length plan.sites
-unfolding site_pages
-site_pages-size plan section pair = length-map-range_with_len (pages_at plan section pair) 0 (length plan.sites)
 
 key_is : (plan : PlanData) (section pair : ℕ) (pages : List (ℕ × ℕ)) (site : ℕ) → pair_key (group_of plan section pair pages site) ≡ section * 1000 + pair
 unfolding group_of
@@ -167,55 +160,6 @@ plates_run low high (group ∷ groups) up =
     (runs-lower (low * 8) (k * 8) (high * 8) _ (omega arith)
     (runs-append (k * 8) (suc k * 8) (high * 8) (map (λ ink. k * 8 + slot_of ink) (inks_of group)) others (inks_run group.colour group.spot k) (plates_run (suc k) high groups up.1)))
 
--- ---- groups lie in the plan
-
-pub record InPlan (plan : PlanData) (group : Group) : Type 0 where
-  pub section : group.section < length plan.sections
-  pub pair : group.pair ≤ 64
-
-all_map : {X Y : Type 0} (P : Y → Type 0) (f : X → Y) (xs : List X) → ((x : X) → P (f x)) → All P (map f xs)
-all_map P f [] each = All-nil P
-all_map P f (x ∷ xs) each = All-cons P (f x) (map f xs) (each x) (all_map P f xs each)
-
-all_pieces : {X : Type 0} (P : X → Type 0) (f : ℕ → List X) (from n : ℕ) → ((k : ℕ) → from ≤ k → k < from + n → All P (f k)) → All P (flat_map f (range_with_len from n))
-all_pieces P f from zero each = All-nil P
-all_pieces P f from (suc n) each =
-    All-append P (f from) (flat_map f (range_with_len (from + 1) n)) (each from (omega arith) (omega arith))
-    (all_pieces P f (from + 1) n (λ k low high. each k (omega arith) (omega arith)))
-
-all_numbered : (plan : PlanData) (height first : ℕ) (groups : List Group) → All (InPlan plan) groups → All (InPlan plan) (numbered height first groups)
-all_numbered plan height first [] each = All-nil (InPlan plan)
-all_numbered plan height first (group ∷ groups) each =
-    let here = All-head (InPlan plan) group groups each in
-    All-cons (InPlan plan) (record group { first = first }) (numbered height (first + row_count height group) groups) (record { section = here.section; pair = here.pair })
-    (all_numbered plan height (first + row_count height group) groups (All-tail (InPlan plan) group groups each))
-
-pair_in : (plan : PlanData) (section pair : ℕ) → section < length plan.sections → pair ≤ 64 → All (InPlan plan) (pair_groups plan section pair)
-unfolding pair_groups group_of
-pair_in plan section pair within few =
-    all_map (InPlan plan) (group_of plan section pair (site_pages plan section pair)) (filter (is_first (site_pages plan section pair)) (range_with_len 0 (length plan.sites)))
-    (λ site. record { section = within; pair = few })
-
-section_in : (plan : PlanData) (section : ℕ) → IsPlan plan → section < length plan.sections → All (InPlan plan) (section_groups plan section)
-unfolding section_groups
-section_in plan section is within =
-    let most = (section_count plan section is within).within.most in
-    all_pieces (InPlan plan) (pair_groups plan section) 1 (page_count plan section / 2) (λ pair _ high. pair_in plan section pair within (omega arith))
-
--- each group is of a pair of a section of the plan
-pub groups_in_plan : (plan : PlanData) → IsPlan plan → All (InPlan plan) (groups_of plan)
-unfolding groups_of
-groups_in_plan plan is =
-    all_numbered plan (plate_height plan) 0 (flat_map (section_groups plan) (range_with_len 0 (length plan.sections)))
-    (all_pieces (InPlan plan) (section_groups plan) 0 (length plan.sections) (λ section _ high. section_in plan section is (omega arith)))
-
-plates_in : (plan : PlanData) (groups : List Group) → All (InPlan plan) groups → All (λ (plate : PlateOf). InPlan plan plate.0) (flat_map group_plates groups)
-plates_in plan [] each = All-nil (λ (plate : PlateOf). InPlan plan plate.0)
-plates_in plan (group ∷ groups) each =
-    All-append (λ (plate : PlateOf). InPlan plan plate.0) (group_plates group) (flat_map group_plates groups)
-    (all_map (λ (plate : PlateOf). InPlan plan plate.0) (λ ink. (group, ink)) (inks_of group) (λ ink. All-head (InPlan plan) group groups each))
-    (plates_in plan groups (All-tail (InPlan plan) group groups each))
-
 -- no two plates of a site have one path
 pub paths_distinct : (plan : PlanData) (out : List ℕ) (site : ℕ) → IsPlan plan → site < length plan.sites → AllPairs (λ a b. a ≢ b) (map (λ (plate : PlateOf). path_of plan out site plate.0 plate.1) (site_plates plan site))
 unfolding site_plates
@@ -224,7 +168,8 @@ paths_distinct plan out site is within i j d before behind same =
     let plates : List PlateOf = flat_map group_plates groups in
     let path : PlateOf → List ℕ = λ plate. path_of plan out site plate.0 plate.1 in
     let any : PlateOf = (record { section = 0; pair = 0; left = 0; right = 0; sites = 0; colour = false; spot = false; first = 0 }, K) in
-    let each = plates_in plan groups (All-filter (λ group. has_site group site) (InPlan plan) (groups_of plan) (groups_in_plan plan is)) in
+    let in_plan = All-filter (λ group. has_site group site) (InPlan plan) (groups_of plan) (groups_in_plan plan is) in
+    let each = plates_each (λ (plate : PlateOf). InPlan plan plate.0) groups (λ k d less. λ _ _ _. in_plan k d less) in
     let size : length (map path plates) ≡ length plates = length-map plates path in
     let a : PlateOf = get_or plates i any in
     let b : PlateOf = get_or plates j any in

@@ -1,6 +1,7 @@
 pub mod AddLemmas
 pub mod CountLemmas
 pub mod Distinct
+pub mod GroupLemmas
 pub mod Held
 pub mod Kept
 pub mod Names

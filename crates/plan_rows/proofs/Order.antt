@@ -6,6 +6,7 @@ use Rattle.std.proofs.lemmas.Bool.{cond_both, lt-ltb, le-ltb}
 use Rattle.std.proofs.lemmas.List.{map-append, get_or-map, length-map}
 use Rattle.std.proofs.lemmas.List.Elements.{All-head, All-tail}
 use Rattle.std.proofs.lemmas.Option.{slice_get_within, get_or_from_slice_get}
+use Rattle.std.proofs.lemmas.Simd.{map-map}
 use Rattle.plan_json.specs.Data.{PlanData, plate_height}
 use Rattle.plan_json.specs.Plan.{IsPlan}
 use Rattle.pr_base.specs.Ink.{slot_of}
@@ -81,10 +82,6 @@ inks_ascend true true from base others low up = (omega arith, (omega arith, (ome
 inks_ascend true false from base others low up = (omega arith, (omega arith, (omega arith, (omega arith, ascends-lower _ (base + 4) others (omega arith) up))))
 inks_ascend false true from base others low up = (omega arith, (omega arith, ascends-lower _ (base + 2) others (omega arith) up))
 inks_ascend false false from base others low up = (omega arith, ascends-lower _ (base + 1) others (omega arith) up)
-
-map-map : {X Y Z : Type 0} (f : Y → Z) (g : X → Y) (xs : List X) → map f (map g xs) ≡ map (λ x. f (g x)) xs
-map-map f g [] = refl
-map-map f g (x ∷ xs) = ap (λ ys. f (g x) ∷ ys) (map-map f g xs)
 
 lasts_ascend : (height from : ℕ) (test : Group → Bool) (groups : List Group) → 1 ≤ height → Ascends from (map (λ plate. row_number plate.0 (height - 1) plate.1) (flat_map group_plates (filter test (numbered height from groups))))
 lasts_ascend height from test [] least = tt

@@ -1,8 +1,10 @@
 -- Which sites are of a group, and that a site is of one group of a pair at most.
 use Rattle.std.proofs.Common.{◌≡◌, ℕ, zero, suc, ◌+◌, ◌-◌, ◌*◌, ◌/◌, ◌%◌, ◌^◌, ◌<◌, ◌≤◌, Bool, true, false, cond, List, [], ◌∷◌, length, map, take, get_or, refl, ap, sym, ◌∙◌, inl, inr, eqb, arith}
-use Rattle.std.specs.Prelude.{filter, sum_by}
+use Rattle.std.specs.Prelude.{◌&&◌, filter, sum_by}
+use Rattle.std.specs.Bool.{Decides}
 use Rattle.std.specs.List.{enumerate_from, list_any, range_with_len}
-use Rattle.std.proofs.lemmas.Bool.{cond_both, cases_eq, both_ways, not-true, eq-eqb, and_parts, and_from, eqb-true}
+use Rattle.std.proofs.lemmas.Bool.{cond_both, cases_eq, both_ways, not-true}
+use Rattle.std.proofs.lemmas.Bool.Decides.{Decides-and, Decides-eqb, Decides-like}
 use Rattle.std.proofs.lemmas.List.{take_all, get_or-take, length-take}
 use Rattle.std.proofs.lemmas.List.Folds.{list_any_at}
 use Rattle.std.proofs.lemmas.List.FromFn.{length-enumerate_from}
@@ -73,15 +75,16 @@ has_site_is plan section pair pages first site within =
 
 -- ---- one group of a pair
 
+-- two pairs of numbers are the same where their parts are
+pub pair_decides : (p q : ℕ × ℕ) → Decides (eqb p.0 q.0 && eqb p.1 q.1) (p ≡ q)
+pair_decides p q =
+    Decides-like (eqb p.0 q.0 && eqb p.1 q.1) (λ both. λ i. (both.0 i, both.1 i))
+    (λ same. (ap {A = ℕ × ℕ} (λ r. r.0) same, ap {A = ℕ × ℕ} (λ r. r.1) same))
+    (Decides-and (eqb p.0 q.0) (eqb p.1 q.1) (Decides-eqb p.0 q.0) (Decides-eqb p.1 q.1))
+
 same_pages-both : (a b c : ℕ × ℕ) → same_pages a c ≡ true → same_pages b c ≡ true → same_pages b a ≡ true
 same_pages-both a b c left right =
-    let l = and_parts (eqb a.0 c.0) (eqb a.1 c.1) left in
-    let r = and_parts (eqb b.0 c.0) (eqb b.1 c.1) right in
-    let first : a.0 ≡ c.0 = eqb-true a.0 c.0 l.0 in
-    let second : a.1 ≡ c.1 = eqb-true a.1 c.1 l.1 in
-    let third : b.0 ≡ c.0 = eqb-true b.0 c.0 r.0 in
-    let fourth : b.1 ≡ c.1 = eqb-true b.1 c.1 r.1 in
-    and_from (eqb b.0 a.0) (eqb b.1 a.1) (eq-eqb b.0 a.0 cc) (eq-eqb b.1 a.1 cc)
+    (pair_decides b a).1 ((pair_decides b c).0 right ∙ sym ((pair_decides a c).0 left))
 
 -- two first sites do not both print what a site prints
 pub first_apart : (pages : List (ℕ × ℕ)) (a b site : ℕ) → a < b → b < length pages → is_first pages b ≡ true

@@ -15,7 +15,7 @@ use Rattle.plan_rows.specs.Paths.{path_of}
 use Rattle.plan_rows.specs.Plates.{group_plates, site_plates, file_of, site_files}
 use Rattle.plan_rows.specs.Spot.{spotless_page, without_spot, SameButSpot}
 
-map-same : {X Y : Type 0} (f g : X → Y) (xs : List X) → ((x : X) → f x ≡ g x) → map f xs ≡ map g xs
+pub map-same : {X Y : Type 0} (f g : X → Y) (xs : List X) → ((x : X) → f x ≡ g x) → map f xs ≡ map g xs
 map-same f g [] same = refl
 map-same f g (x ∷ xs) same = ap (λ y. y ∷ map f xs) (same x) ∙ ap (λ ys. g x ∷ ys) (map-same f g xs same)
 
@@ -23,21 +23,24 @@ flat_map-same : {X Y : Type 0} (f g : X → List Y) (xs : List X) → ((x : X) �
 flat_map-same f g [] same = refl
 flat_map-same f g (x ∷ xs) same = ap (λ ys. ys ++ flat_map f xs) (same x) ∙ ap (λ ys. g x ++ ys) (flat_map-same f g xs same)
 
--- a page keeps its inks
-of_page : (f : PageData → Bool) (pages : List PageData) (page : ℕ) → ((p : PageData) → f (spotless_page p) ≡ f p) → option_map_or f (slice_get (map spotless_page pages) page) false ≡ option_map_or f (slice_get pages page) false
-of_page f pages page same = ap (λ o. option_map_or f o false) (slice_get-map spotless_page pages page) ∙ each (slice_get pages page)
+-- pages that are changed keep what each of them keeps, as its inks
+pub of_page : (other : PageData → PageData) (f : PageData → Bool) (pages : List PageData) (page : ℕ)
+    → ((p : PageData) → f (other p) ≡ f p)
+    → option_map_or f (slice_get (map other pages) page) false ≡ option_map_or f (slice_get pages page) false
+of_page other f pages page same =
+    ap (λ o. option_map_or f o false) (slice_get-map other pages page) ∙ each (slice_get pages page)
   where
-    each : (o : Option PageData) → option_map_or f (option_map spotless_page o) false ≡ option_map_or f o false
+    each : (o : Option PageData) → option_map_or f (option_map other o) false ≡ option_map_or f o false
     each None = refl
     each (Some p) = same p
 
 colour_same : (plan : PlanData) (page : ℕ) → page_colour (without_spot plan) page ≡ page_colour plan page
 unfolding without_spot
-colour_same plan page = of_page (λ p. p.colour) plan.pages page (λ p. refl)
+colour_same plan page = of_page spotless_page (λ p. p.colour) plan.pages page (λ p. refl)
 
 spot_same : (plan : PlanData) (page : ℕ) → page_spot (without_spot plan) page ≡ page_spot plan page
 unfolding without_spot
-spot_same plan page = of_page (λ p. p.spot) plan.pages page (λ p. refl)
+spot_same plan page = of_page spotless_page (λ p. p.spot) plan.pages page (λ p. refl)
 
 group_same : (plan : PlanData) (section pair : ℕ) (pages : List (ℕ × ℕ)) (site : ℕ) → group_of (without_spot plan) section pair pages site ≡ group_of plan section pair pages site
 unfolding group_of

@@ -12,6 +12,6 @@ mod row_plan;
 
 pub use group::Group;
 pub use laws::spot_law;
-pub use path::{plate_name, plate_path};
+pub use path::{plate_name, plate_path, section_name, site_name};
 pub use place::RowPlace;
 pub use row_plan::RowPlan;

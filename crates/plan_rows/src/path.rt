@@ -63,7 +63,7 @@ fn name_of(alloc: Global, section: &str, pair: u32, letter: &str) -> Result<Stri
 }
 
 /// The name of a site.
-fn site_name(plan: &Plan, site: usize) -> &str
+pub fn site_name(plan: &Plan, site: usize) -> &str
     requires { site < length plan.now.sites }
     ensures { result.now ≡ name_of_site plan.now site }
 {
@@ -71,7 +71,7 @@ fn site_name(plan: &Plan, site: usize) -> &str
 }
 
 /// The name of a section.
-fn section_name(plan: &Plan, section: usize) -> &str
+pub fn section_name(plan: &Plan, section: usize) -> &str
     requires { section < length plan.now.sections }
     ensures { result.now ≡ name_of_section plan.now section }
 {

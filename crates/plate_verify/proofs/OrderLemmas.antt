@@ -14,7 +14,7 @@ use Rattle.plan_rows.specs.Groups.{groups_of, row_count}
 use Rattle.plan_rows.specs.Inks.{inks_of, ink_count}
 use Rattle.plan_rows.specs.Plates.{group_plates}
 use Rattle.plan_rows.specs.Rows.{rows_of, row_total, rows_before}
-use Rattle.plan_rows.proofs.Distinct.{InPlan, groups_in_plan}
+use Rattle.plan_rows.proofs.GroupLemmas.{InPlan, groups_in_plan}
 use Rattle.plan_rows.proofs.Places.{plan_is}
 use Rattle.plan_rows.proofs.RowLemmas.{first_is, rows_before-more, rows_before-within}
 use Rattle.plate_bytes.specs.Made.{PlateState, so_far}

@@ -2,7 +2,6 @@ pub mod FaultLemmas
 pub mod Firsts
 pub mod FitLemmas
 pub mod FrameLemmas
-pub mod GroupLemmas
 pub mod LimitLemmas
 pub mod LoadLemmas
 pub mod SmallJob

@@ -1,6 +1,6 @@
 -- Without a spot, what a plan says of the spot ink has no part in its rows. A plan without the last of each of
 -- its lists of five is what the other inks see of it.
-use Rattle.std.proofs.Common.{zero, suc, ◌≡◌, ◌≢◌, ℕ, ◌+◌, ◌-◌, ◌*◌, ◌<◌, ◌≤◌, Bool, true, false, cond, ◌&&◌, ◌||◌, List, [], ◌∷◌, ◌++◌, length, map, take, refl, ap, sym, ◌∙◌, arith}
+use Rattle.std.proofs.Common.{zero, suc, ◌≡◌, ◌≢◌, ℕ, ◌+◌, ◌-◌, ◌<◌, Bool, true, false, cond, ◌&&◌, ◌||◌, List, [], ◌∷◌, ◌++◌, map, take, refl, ap, sym, ◌∙◌, arith}
 use Rattle.std.specs.Prelude.{All, Option, Some, None, slice_get, slice_index}
 use Rattle.std.specs.List.{enumerate_from, flat_map, fold, list_any, range_with_len}
 use Rattle.std.specs.Option.{option_map, option_map_or}
@@ -21,7 +21,6 @@ use Rattle.plan_parts.specs.declared.printing.Screen.TheVariants.{Bayer, Diffuse
 use Rattle.plan_parts.specs.Data.{CurveData, LayerData, MarkData, PageData}
 use Rattle.plan_json.specs.Data.{PlanData, plate_height, plate_width}
 use Rattle.pr_base.specs.Ink.{slot_of}
-use Rattle.plan_pages.specs.Pages.{page_count}
 use Rattle.plan_pages.specs.Plate.{covers, has_ink, is_marked_at, shape_of_plate}
 use Rattle.plan_rows.specs.declared.group.Group.{Group}
 use Rattle.plan_rows.specs.declared.place.RowPlace.{RowPlace}
@@ -30,12 +29,12 @@ use Rattle.plan_rows.specs.Inks.{inks_of, process_inks, spot_inks}
 use Rattle.plan_rows.specs.Rows.{group_rows, place_of, places_in, row_places}
 use Rattle.plan_rows.specs.Plates.{site_files}
 use Rattle.plan_rows.specs.Spot.{SameButSpot, plain_curve, spotless_layer, spotless_mark, spotless_page, without_spot}
-use Rattle.plan_rows.proofs.SpotLemmas.{files_alike, groups_alike, places_alike}
+use Rattle.plan_rows.proofs.GroupLemmas.{all_groups, all_pieces}
+use Rattle.plan_rows.proofs.SpotLemmas.{files_alike, groups_alike, map-same, of_page, places_alike}
 use Rattle.press_job.specs.Layers.{layer_of, layers_of, planned_layers}
 use Rattle.press_job.specs.Printing.{bit_under, limited_inks, own_threshold, page_bit, page_values, printed_at, printed_ink, printed_row, prints_ink, screen_of, toned, toned_ink}
 use Rattle.press_job.specs.Rows.{covers_pixel, left_of, placed_bit, plate_bit, plate_row, plate_rows, right_of, row_at_place}
 use Rattle.press_job.specs.Spotless.{IsSpotless}
-use Rattle.press_job.proofs.GroupLemmas.{all_groups, all_pieces}
 use Rattle.press_job.proofs.LimitLemmas.{limited-same}
 
 -- ---- lists
@@ -52,10 +51,6 @@ map-on P f g (x ∷ xs) all same =
 any-map : {X Y : Type 0} (f : Y → Bool) (g : X → Y) (h : X → Bool) (xs : List X) → ((x : X) → f (g x) ≡ h x) → list_any f (map g xs) ≡ list_any h xs
 any-map f g h [] each = refl
 any-map f g h (x ∷ xs) each = ap (λ t. t || list_any f (map g xs)) (each x) ∙ ap (λ t. h x || t) (any-map f g h xs each)
-
-map-same : {X Y : Type 0} (f g : X → Y) (xs : List X) → ((x : X) → f x ≡ g x) → map f xs ≡ map g xs
-map-same f g [] same = refl
-map-same f g (x ∷ xs) same = ap (λ y. y ∷ map f xs) (same x) ∙ ap (λ ys. g x ∷ ys) (map-same f g xs same)
 
 -- all but the last
 abbrev front : {X : Type 0} → List X → List X
@@ -132,14 +127,6 @@ slot-within M other = omega arith
 slot-within Y other = omega arith
 slot-within K other = omega arith
 slot-within S other = absurd (other refl)
-
-of_page : (f : PageData → Bool) (pages : List PageData) (page : ℕ) → ((p : PageData) → f (process_page p) ≡ f p)
-    → option_map_or f (slice_get (map process_page pages) page) false ≡ option_map_or f (slice_get pages page) false
-of_page f pages page same = ap (λ o. option_map_or f o false) (slice_get-map process_page pages page) ∙ each (slice_get pages page)
-  where
-    each : (o : Option PageData) → option_map_or f (option_map process_page o) false ≡ option_map_or f o false
-    each None = refl
-    each (Some p) = same p
 
 -- values laid one over the other, and the first of them
 take-laid : (n : ℕ) (overprint : Bool) (paints unders : List ℕ) → take n (laid overprint paints unders) ≡ laid overprint (take n paints) (take n unders)
@@ -227,8 +214,8 @@ value-alike : (plan : PlanData) (files : List (List ℕ)) (page : ℕ) (ink : In
 unfolding printed_at
 value-alike plan files page ink x y other =
     let inks = ink_at (layers_of (process_plan plan) files page) x y in
-    let colour : page_colour (process_plan plan) page ≡ page_colour plan page = unfold process_plan in of_page (λ p. p.colour) plan.pages page (λ p. refl) in
-    let spot : page_spot (process_plan plan) page ≡ page_spot plan page = unfold process_plan in of_page (λ p. p.spot) plan.pages page (λ p. refl) in
+    let colour : page_colour (process_plan plan) page ≡ page_colour plan page = unfold process_plan in of_page process_page (λ p. p.colour) plan.pages page (λ p. refl) in
+    let spot : page_spot (process_plan plan) page ≡ page_spot plan page = unfold process_plan in of_page process_page (λ p. p.spot) plan.pages page (λ p. refl) in
     ap (λ c. printed_ink (process_plan plan) c (page_spot (process_plan plan) page) inks ink) colour
     ∙ ap (λ s. printed_ink (process_plan plan) (page_colour plan page) s inks ink) spot
     ∙ printed-alike plan (page_colour plan page) (page_spot plan page) inks (ink_at (layers_of plan files page) x y) ink other (ink-alike plan files page x y)
@@ -291,10 +278,15 @@ no_spot false false none = All-cons IsNotSpot K [] (λ e. cc) (All-nil IsNotSpot
 
 groups_spotless : (plan : PlanData) → IsSpotless plan → All (λ group. group.spot ≡ false) (groups_of plan)
 unfolding group_of
-groups_spotless plan none = all_groups plan (λ group. group.spot ≡ false) (λ group first here. here) each
+groups_spotless plan none =
+    all_groups plan (λ group. group.spot ≡ false) (record {
+      stays = λ group first here. here;
+      each = λ section pair site _ _ _ _. each section pair site;
+    })
   where
-    each : (section pair site : ℕ) → 1 ≤ pair → 2 * pair ≤ page_count plan section → site < length plan.sites → (group_of plan section pair (site_pages plan section pair) site).spot ≡ false
-    each section pair site _ _ _ =
+    each : (section pair site : ℕ)
+        → (group_of plan section pair (site_pages plan section pair) site).spot ≡ false
+    each section pair site =
         let pages = pages_of (site_pages plan section pair) site in
         ap (λ l. l || page_spot plan pages.1) (none pages.0) ∙ none pages.1
 

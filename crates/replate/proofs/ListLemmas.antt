@@ -1,17 +1,11 @@
 -- Lists that are compared element by element.
-use Rattle.std.proofs.Common.{◌≡◌, ℕ, ◌+◌, ◌<◌, Bool, true, false, List, [], ◌∷◌, ◌++◌, length, map, get_or, take, append_assoc, append-nil, refl, ap, sym, ◌∙◌, eqb, arith}
-use Rattle.std.specs.Prelude.{◌&&◌, filter}
+use Rattle.std.proofs.Common.{◌≡◌, ℕ, ◌+◌, ◌<◌, Bool, true, false, List, [], ◌∷◌, ◌++◌, length, map, get_or, take, append_assoc, append-nil, refl, ap, sym, ◌∙◌, arith}
+use Rattle.std.specs.Prelude.{filter}
 use Rattle.std.specs.List.{flat_map}
 use Rattle.std.specs.Bool.{Decides, beq}
-use Rattle.std.proofs.lemmas.Bool.Decides.{Decides-and, Decides-eqb, Decides-like}
 use Rattle.std.proofs.lemmas.List.{take_more, get_or-map, length-map, map-append}
 use Rattle.std.proofs.lemmas.List.Concat.{flat_map-append}
 use Rattle.std.proofs.lemmas.List.Elements.{filter-append}
-
-pub pair_decides : (p q : ℕ × ℕ) → Decides (eqb p.0 q.0 && eqb p.1 q.1) (p ≡ q)
-pair_decides p q =
-    Decides-like (eqb p.0 q.0 && eqb p.1 q.1) (λ both. λ i. (both.0 i, both.1 i)) (λ same. (ap {A = ℕ × ℕ} (λ r. r.0) same, ap {A = ℕ × ℕ} (λ r. r.1) same))
-    (Decides-and (eqb p.0 q.0) (eqb p.1 q.1) (Decides-eqb p.0 q.0) (Decides-eqb p.1 q.1))
 
 -- where two elements differ the lists do
 pub maps_differ : {X Y : Type 0} (f g : X → Y) (xs ys : List X) (i : ℕ) (d : X) → i < length xs → i < length ys

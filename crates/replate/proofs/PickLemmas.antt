@@ -1,29 +1,22 @@
 -- What the picks tell is what must be made.
-use Rattle.std.proofs.Common.{◌≡◌, ℕ, ◌<◌, true, false, eqb, [], ◌++◌, length, ap, sym, ◌∙◌, inl, inr, refl, arith}
+use Rattle.std.proofs.Common.{◌≡◌, ℕ, ◌<◌, true, false, eqb, [], length, ap, sym, ◌∙◌, inl, inr, refl}
 use Rattle.std.specs.Prelude.{◌↔◌, ◌&&◌, ◌||◌, IsTrue, slice_index_or}
 use Rattle.std.specs.List.{list_any}
 use Rattle.std.proofs.lemmas.Bool.{and_from, and_parts, both_ways, cases_Bool, not-true, not_from_false}
-use Rattle.pr_base.specs.declared.ink.Ink.{Ink}
-use Rattle.pr_base.specs.declared.ink.Ink.TheVariants.{C, M, Y, K, S}
+use Rattle.pr_base.proofs.Inks.{slot_below}
 use Rattle.plan_json.specs.Plan.{IsPlan}
 use Rattle.plan_pages.specs.Ink.{slot_of}
 use Rattle.plan_rows.specs.Groups.{groups_of, page_colour, page_spot}
-use Rattle.plan_rows.specs.Inks.{inks_of, process_inks, spot_inks}
+use Rattle.plan_rows.specs.Inks.{inks_of}
+use Rattle.plan_rows.proofs.GroupLemmas.{inks_by}
 use Rattle.replate.specs.Inputs.{JobData}
 use Rattle.replate.specs.Picks.{MustMake, PicksData, is_made, recipe_at}
 use Rattle.replate.specs.Plates.{IsPlateOf, PlateAt, group_at, has_ink, path_below}
 use Rattle.replate.specs.Recipe.{Recipe, page_recipe, recipe_of, screen_of, screen_recipe}
 use Rattle.replate.specs.Standing.{AreAllKept, IsAlike, SamePages, StandsFor}
-use Rattle.replate.proofs.GroupLemmas.{group_tells}
+use Rattle.replate.proofs.GroupLemmas.{group_in_plan}
 use Rattle.replate.proofs.NameLemmas.{paths_same, paths_tell}
 use Rattle.replate.proofs.PlateLemmas.{can_tell}
-
-slot_below : (ink : Ink) → slot_of ink < 5
-slot_below C = omega arith
-slot_below M = omega arith
-slot_below Y = omega arith
-slot_below K = omega arith
-slot_below S = omega arith
 
 -- groups of two jobs that print the same pages have the same inks
 page_inks : (before after : JobData) (i j : ℕ) → IsPlan before.plan → IsPlan after.plan → i < length (groups_of before.plan) → j < length (groups_of after.plan)
@@ -32,13 +25,13 @@ unfolding page_recipe
 page_inks before after i j before_is after_is left right same =
     let a = group_at before.plan i in
     let b = group_at after.plan j in
-    let first = group_tells before.plan i before_is left in
-    let second = group_tells after.plan j after_is right in
+    let first = group_in_plan before.plan i before_is left in
+    let second = group_in_plan after.plan j after_is right in
     let colours : (page_colour before.plan a.left || page_colour before.plan a.right) ≡ (page_colour after.plan b.left || page_colour after.plan b.right) =
     λ k. (same.left k).colour || (same.right k).colour in
     let spots : (page_spot before.plan a.left || page_spot before.plan a.right) ≡ (page_spot after.plan b.left || page_spot after.plan b.right) =
     λ k. (same.left k).spot || (same.right k).spot in
-    ap (λ c. process_inks c ++ spot_inks a.spot) (first.colour ∙ colours ∙ sym second.colour) ∙ ap (λ s. process_inks b.colour ++ spot_inks s) (first.spot ∙ spots ∙ sym second.spot)
+    inks_by a b (first.colour ∙ colours ∙ sym second.colour) (first.spot ∙ spots ∙ sym second.spot)
 
 -- equal recipes
 recipes_tell : (before after : JobData) (old new : PlateAt) → recipe_at before old ≡ recipe_at after new → before.plan.edition ≡ after.plan.edition → old.ink ≡ new.ink

@@ -1,15 +1,16 @@
 -- Which plates a plan has, and which of them has a path.
-use Rattle.std.proofs.Common.{◌≡◌, ◌≢◌, ℕ, suc, ◌<◌, Bool, true, false, cond, eqb, List, [], ◌∷◌, length, get_or, refl, ap, sym, zero-add, ◌∙◌, inl, inr, arith}
+use Rattle.std.proofs.Common.{◌≡◌, ◌≢◌, ℕ, ◌<◌, Bool, true, false, cond, eqb, List, [], ◌∷◌, length, get_or, refl, ap, sym, zero-add, ◌∙◌, inl, inr, arith}
 use Rattle.std.specs.Prelude.{◌||◌, Contains}
 use Rattle.std.specs.List.{enumerate_from, flat_map, list_any, range_with_len}
 use Rattle.std.specs.Str.{bytes_eq}
 use Rattle.std.specs.Cmp.Lexicographic.{bytes_decides}
-use Rattle.std.proofs.lemmas.Bool.{cases_Bool, or_cases, false≢true, both_ways, false_from_ne_true, eq-eqb, eqb-true}
-use Rattle.std.proofs.lemmas.List.{length-map, get_or-map}
-use Rattle.std.proofs.lemmas.List.Folds.{list_any-append, list_any_at}
+use Rattle.std.proofs.lemmas.Bool.{cases_Bool, false≢true, both_ways, false_from_ne_true, eq-eqb, eqb-true}
+use Rattle.std.proofs.lemmas.List.{length-map, get_or-map, get_or_default}
+use Rattle.std.proofs.lemmas.List.Folds.{Any-from_list_any, list_any-append, list_any_at}
 use Rattle.std.proofs.lemmas.List.FromFn.{length-range_with_len, get_or-range_with_len, length-enumerate_from, get_or-enumerate_from}
 use Rattle.pr_base.specs.declared.ink.Ink.{Ink}
-use Rattle.pr_base.specs.declared.ink.Ink.TheVariants.{C, M, Y, K, S}
+use Rattle.pr_base.specs.declared.ink.Ink.TheVariants.{K}
+use Rattle.pr_base.proofs.Inks.{slot_tells}
 use Rattle.plan_json.specs.Data.{PlanData}
 use Rattle.plan_json.specs.Plan.{IsPlan}
 use Rattle.plan_pages.specs.Ink.{slot_of}
@@ -23,33 +24,22 @@ use Rattle.replate.proofs.NameLemmas.{CanTell, paths_same, paths_tell}
 
 -- ---- some element
 
-some_at : {X : Type 0} (p : X → Bool) (xs : List X) (d : X) → list_any p xs ≡ true → (i : ℕ) × (i < length xs) × (p (get_or xs i d) ≡ true)
-some_at p [] d is = absurd (false≢true is)
-some_at p (x ∷ xs) d is =
-    elim (or_cases (p x) (list_any p xs) is) [
-      | inl here ↦ (0, omega arith, here)
-      | inr there ↦ (let rest = some_at p xs d there in (suc rest.0, (let low = rest.1 in omega arith), rest.2))
-    ]
+pub some_at : {X : Type 0} (p : X → Bool) (xs : List X) (d : X) → list_any p xs ≡ true
+    → (i : ℕ) × (i < length xs) × (p (get_or xs i d) ≡ true)
+some_at p xs d is =
+    let at = Any-from_list_any p xs is in
+    (at.0, at.2, ap p (sym (get_or_default xs at.0 at.1 d at.2) ∙ at.3) ∙ at.4)
 
-any-flat_map : {X Y : Type 0} (p : Y → Bool) (f : X → List Y) (xs : List X) → list_any p (flat_map f xs) ≡ list_any (λ x. list_any p (f x)) xs
+pub any-flat_map : {X Y : Type 0} (p : Y → Bool) (f : X → List Y) (xs : List X)
+    → list_any p (flat_map f xs) ≡ list_any (λ x. list_any p (f x)) xs
 any-flat_map p f [] = refl
-any-flat_map p f (x ∷ xs) = list_any-append p (f x) (flat_map f xs) ∙ ap (λ b. list_any p (f x) || b) (any-flat_map p f xs)
+any-flat_map p f (x ∷ xs) =
+    list_any-append p (f x) (flat_map f xs) ∙ ap (λ b. list_any p (f x) || b) (any-flat_map p f xs)
 
 -- ---- inks
 
-ink_in : ℕ → Ink
-ink_in slot = cond (eqb slot 0) C (cond (eqb slot 1) M (cond (eqb slot 2) Y (cond (eqb slot 3) K S)))
-
-ink_in-slot : (ink : Ink) → ink_in (slot_of ink) ≡ ink
-unfolding ink_in
-ink_in-slot C = refl
-ink_in-slot M = refl
-ink_in-slot Y = refl
-ink_in-slot K = refl
-ink_in-slot S = refl
-
 slots_apart : (a b : Ink) → eqb (slot_of a) (slot_of b) ≡ true → a ≡ b
-slots_apart a b same = sym (ink_in-slot a) ∙ ap ink_in (eqb-true (slot_of a) (slot_of b) same) ∙ ink_in-slot b
+slots_apart a b same = slot_tells a b (eqb-true (slot_of a) (slot_of b) same)
 
 pub has_ink-at : (group : Group) (i : ℕ) (ink : Ink) → i < length (inks_of group) → ink ≡ get_or (inks_of group) i K → has_ink group ink ≡ true
 has_ink-at group i ink within is =

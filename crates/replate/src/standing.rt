@@ -9,7 +9,7 @@ ghost use Rattle.replate.specs.Plates.{group_at, has_ink as prints};
 ghost use Rattle.replate.specs.Standing.{IsGroupOf, IsOfPlan, StandsFor};
 
 use plan_json::Plan;
-use plan_rows::{Group, RowPlan};
+use plan_rows::{Group, RowPlan, section_name, site_name};
 use pr_base::Ink;
 
 /// The site and the group of another plan whose plates have, but for the edition, the paths of the plates of
@@ -124,20 +124,4 @@ fn section_named(plan: &Plan, name: &str) -> Option<usize>
         }
     }
     None
-}
-
-/// The name of a site.
-fn site_name(plan: &Plan, site: usize) -> &str
-    requires { site < length plan.now.sites }
-    ensures { result.now ≡ name_of_site plan.now site }
-{
-    plan.sites[site].name.as_str()
-}
-
-/// The name of a section.
-fn section_name(plan: &Plan, section: usize) -> &str
-    requires { section < length plan.now.sections }
-    ensures { result.now ≡ name_of_section plan.now section }
-{
-    plan.sections[section].name.as_str()
 }

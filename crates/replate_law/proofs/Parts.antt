@@ -1,40 +1,29 @@
 -- A section that two jobs print alike at a site: each of its plates there has one of the same path and recipe.
-use Rattle.std.proofs.Common.{◌≡◌, ℕ, zero, suc, ◌+◌, ◌-◌, ◌*◌, ◌/◌, ◌<◌, ◌≤◌, Bool, true, false, cond, eqb, List, [], ◌∷◌, ◌++◌, length, map, get_or, take, refl, ap, sym, subst, ◌∙◌, inl, inr, zero-add, length-take, get_or-take, arith}
-use Rattle.std.specs.Prelude.{All, filter, ◌&&◌, ◌||◌}
+use Rattle.std.proofs.Common.{◌≡◌, ℕ, zero, suc, ◌+◌, ◌-◌, ◌*◌, ◌/◌, ◌<◌, ◌≤◌, Bool, true, false, cond, eqb, List, [], ◌∷◌, length, map, get_or, take, refl, ap, sym, subst, ◌∙◌, inl, inr, zero-add, length-take, get_or-take, arith}
+use Rattle.std.specs.Prelude.{filter, ◌&&◌, ◌||◌}
 use Rattle.std.specs.List.{flat_map, list_any, range_with_len}
 use Rattle.std.proofs.lemmas.Bool.{and_from, and_parts, cases_Bool, eq-eqb, eqb-true, not_from_false}
-use Rattle.std.proofs.lemmas.List.{get_or_default}
-use Rattle.std.proofs.lemmas.List.Elements.{All-get_or}
-use Rattle.std.proofs.lemmas.List.Folds.{Any-from_list_any, list_any-append, list_any_at}
-use Rattle.std.proofs.lemmas.List.FromFn.{get_or-range_with_len, length-map-range_with_len, length-range_with_len}
+use Rattle.std.proofs.lemmas.List.Folds.{list_any_at}
+use Rattle.std.proofs.lemmas.List.FromFn.{get_or-range_with_len, length-range_with_len}
 use Rattle.plan_json.specs.Data.{PlanData, plate_height}
 use Rattle.plan_pages.specs.Ink.{slot_of}
 use Rattle.plan_pages.specs.Pages.{page_count}
 use Rattle.plan_rows.specs.declared.group.Group.{Group}
 use Rattle.plan_rows.specs.Groups.{group_of, groups_of, is_first, numbered, page_colour, page_spot, pages_at, pages_of, pair_groups, row_count, same_pages, section_groups, site_pages}
-use Rattle.plan_rows.specs.Inks.{has_site, inks_of, process_inks, spot_inks}
+use Rattle.plan_rows.specs.Inks.{has_site, inks_of}
 use Rattle.plan_rows.specs.Paths.{section_name, site_name}
-use Rattle.plan_rows.proofs.SitesOf.{has_site_is}
-use Rattle.press_job.proofs.GroupLemmas.{all_groups}
+use Rattle.plan_rows.proofs.GroupLemmas.{inks_by, site_pages-size}
+use Rattle.plan_rows.proofs.SitesOf.{has_site_is, pair_decides}
 use Rattle.replate.specs.Picks.{MustMake, recipe_at}
 use Rattle.replate.specs.Plates.{PlateAt, group_at, group_in, path_below}
 use Rattle.replate.specs.Recipe.{PageRecipe, page_recipe, recipe_of}
-use Rattle.replate.proofs.GroupLemmas.{group_tells}
-use Rattle.replate.proofs.ListLemmas.{pair_decides}
+use Rattle.replate.proofs.GroupLemmas.{group_in_plan}
 use Rattle.replate.proofs.NameLemmas.{paths_same}
+use Rattle.replate.proofs.PlateLemmas.{any-flat_map, some_at}
 use Rattle.replate_law.specs.Part.{HasPlate, IsPlateIn, IsSectionAt, PrintAlike, SectionAt}
 use Rattle.replate_law.proofs.Printed.{file_by, file_is}
 
--- ---- some element
-
-some_at : {X : Type 0} (p : X → Bool) (xs : List X) (d : X) → list_any p xs ≡ true → (i : ℕ) × (i < length xs) × (p (get_or xs i d) ≡ true)
-some_at p xs d is =
-    let at = Any-from_list_any p xs is in
-    (at.0, at.2, ap p (sym (get_or_default xs at.0 at.1 d at.2) ∙ at.3) ∙ at.4)
-
-any_flat : {X Y : Type 0} (p : Y → Bool) (f : X → List Y) (xs : List X) → list_any p (flat_map f xs) ≡ list_any (λ x. list_any p (f x)) xs
-any_flat p f [] = refl
-any_flat p f (x ∷ xs) = list_any-append p (f x) (flat_map f xs) ∙ ap (λ b. list_any p (f x) || b) (any_flat p f xs)
+-- ---- each site has a group of each pair
 
 any_kept : {X Y : Type 0} (p : Y → Bool) (test : X → Bool) (f : X → Y) (xs : List X) → list_any p (map f (filter test xs)) ≡ list_any (λ x. test x && p (f x)) xs
 any_kept p test f [] = refl
@@ -44,8 +33,6 @@ any_kept p test f (x ∷ xs) = go (test x) (any_kept p test f xs)
         → list_any p (map f (cond b (x ∷ filter test xs) (filter test xs))) ≡ ((b && p (f x)) || list_any (λ z. test z && p (f z)) xs)
     go true rest = ap (λ b. p (f x) || b) rest
     go false rest = rest
-
--- ---- each site has a group of each pair
 
 -- the first site that prints what a site prints
 record FirstLike (pages : List (ℕ × ℕ)) (site : ℕ) : Type 0 where
@@ -78,10 +65,6 @@ first_like pages (suc most) site low =
 abbrev is_at : ℕ → ℕ → ℕ → Group → Bool
 is_at section pair site group = (eqb group.section section && eqb group.pair pair) && has_site group site
 
-pages-size : (plan : PlanData) (section pair : ℕ) → length (site_pages plan section pair) ≡ length plan.sites
-unfolding site_pages
-pages-size plan section pair = length-map-range_with_len (pages_at plan section pair) 0 (length plan.sites)
-
 group_is_at : (plan : PlanData) (section pair : ℕ) (pages : List (ℕ × ℕ)) (first site : ℕ) → site < length pages → same_pages (pages_of pages first) (pages_of pages site) ≡ true
     → is_at section pair site (group_of plan section pair pages first) ≡ true
 unfolding group_of
@@ -100,7 +83,7 @@ in_pair plan section pair site low =
     let before = first.before in
     let test : ℕ → Bool = λ s. is_first pages s && is_at section pair site (of s) in
     let here : test first.at ≡ true =
-    and_from (is_first pages first.at) (is_at section pair site (of first.at)) first.first (group_is_at plan section pair pages first.at site (omega (arith, pages-size plan section pair)) first.alike) in
+    and_from (is_first pages first.at) (is_at section pair site (of first.at)) first.first (group_is_at plan section pair pages first.at site (omega (arith, site_pages-size plan section pair)) first.alike) in
     any_kept (is_at section pair site) (is_first pages) of sites
     ∙ list_any_at test sites first.at 0 (omega (arith, length-range_with_len 0 (length plan.sites)))
     (ap test (get_or-range_with_len 0 (length plan.sites) first.at 0 (omega arith) ∙ zero-add first.at) ∙ here)
@@ -113,7 +96,7 @@ in_section plan section pair site first last low =
     let pairs = page_count plan section / 2 in
     let at : get_or (range_with_len 1 pairs) (pair - 1) 0 ≡ 1 + (pair - 1) = get_or-range_with_len 1 pairs (pair - 1) 0 (omega arith) in
     let is : get_or (range_with_len 1 pairs) (pair - 1) 0 ≡ pair = omega arith in
-    any_flat (is_at section pair site) (pair_groups plan section) (range_with_len 1 pairs)
+    any-flat_map (is_at section pair site) (pair_groups plan section) (range_with_len 1 pairs)
     ∙ list_any_at test (range_with_len 1 pairs) (pair - 1) 0 (omega (arith, length-range_with_len 1 pairs))
     (ap test is ∙ in_pair plan section pair site low)
 
@@ -130,7 +113,7 @@ in_groups plan section pair site within first last low =
     let test : ℕ → Bool = λ s. list_any (is_at section pair site) (section_groups plan s) in
     let sections = range_with_len 0 (length plan.sections) in
     any_numbered section pair site (plate_height plan) 0 (flat_map (section_groups plan) sections)
-    ∙ any_flat (is_at section pair site) (section_groups plan) sections
+    ∙ any-flat_map (is_at section pair site) (section_groups plan) sections
     ∙ list_any_at test sections section 0 (omega (arith, length-range_with_len 0 (length plan.sections)))
     (ap test (get_or-range_with_len 0 (length plan.sections) section 0 within ∙ zero-add section) ∙ in_section plan section pair site first last low)
 
@@ -157,18 +140,6 @@ group_for plan section pair site within first last low =
       of_site = parts.1;
     }
 
--- ---- the pair of a group is one of its section
-
-record IsOfPair (plan : PlanData) (group : Group) : Type 0 where
-  first : 1 ≤ group.pair
-  last : 2 * group.pair ≤ page_count plan group.section
-
-groups_of_pairs : (plan : PlanData) → All (IsOfPair plan) (groups_of plan)
-unfolding group_of
-groups_of_pairs plan =
-    all_groups plan (IsOfPair plan) (λ group n is. record { first = is.first; last = is.last })
-    (λ section pair site first last _. record { first = first; last = last })
-
 -- ---- plates of a section at a site
 
 -- the plate of the same path, which is made alike
@@ -185,15 +156,15 @@ twin a b plate a_is b_is alike is =
     let whole = a.job.plan in
     let part = b.job.plan in
     let new = group_at part plate.group in
-    let of : IsOfPair part new = All-get_or (IsOfPair part) (groups_of part) plate.group _ is.is.group (groups_of_pairs part) in
-    let first = of.first in
-    let within : 2 * new.pair ≤ page_count part b.section = subst {A = ℕ} (λ s. 2 * new.pair ≤ page_count part s) is.section of.last in
+    let new_tells = group_in_plan part plate.group b_is.plan is.is.group in
+    let first = new_tells.first in
+    let within : 2 * new.pair ≤ page_count part b.section =
+    subst {A = ℕ} (λ s. 2 * new.pair ≤ page_count part s) is.section new_tells.last in
     let count = alike.count in
     let last : 2 * new.pair ≤ page_count whole a.section = omega arith in
     let found = group_for whole a.section new.pair a.site a_is.section first last a_is.site in
     let old = group_at whole found.index in
-    let old_tells = group_tells whole found.index a_is.plan found.within in
-    let new_tells = group_tells part plate.group b_is.plan is.is.group in
+    let old_tells = group_in_plan whole found.index a_is.plan found.within in
     let of_site : has_site new b.site ≡ true = subst {A = ℕ} (λ s. has_site new s ≡ true) is.site is.is.of_site in
     let old_pages : pages_at whole a.section new.pair a.site ≡ (old.left, old.right) =
     ap (λ s. pages_at whole s new.pair a.site) (sym found.section_is) ∙ ap (λ p. pages_at whole old.section p a.site) (sym found.pair_is)
@@ -208,7 +179,7 @@ twin a b plate a_is b_is alike is =
     old_tells.colour ∙ ap {A = PageRecipe} (λ l. l.colour || page_colour whole old.right) left ∙ ap {A = PageRecipe} (λ r. page_colour part new.left || r.colour) right ∙ sym new_tells.colour in
     let spot : old.spot ≡ new.spot =
     old_tells.spot ∙ ap {A = PageRecipe} (λ l. l.spot || page_spot whole old.right) left ∙ ap {A = PageRecipe} (λ r. page_spot part new.left || r.spot) right ∙ sym new_tells.spot in
-    let inks : inks_of old ≡ inks_of new = ap (λ c. process_inks c ++ spot_inks old.spot) colour ∙ ap (λ s. process_inks new.colour ++ spot_inks s) spot in
+    let inks : inks_of old ≡ inks_of new = inks_by old new colour spot in
     let ink = alike.inks plate.ink in
     record {
       own = record { site = a.site; group = found.index; ink = plate.ink };

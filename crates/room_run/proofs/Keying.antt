@@ -13,7 +13,7 @@ use Rattle.plan_rows.specs.declared.group.Group.{Group}
 use Rattle.plan_rows.specs.Groups.{groups_of}
 use Rattle.plan_rows.specs.Inks.{inks_of}
 use Rattle.plan_rows.specs.Paths.{plate_name_of}
-use Rattle.plan_rows.proofs.Distinct.{groups_in_plan}
+use Rattle.plan_rows.proofs.GroupLemmas.{groups_in_plan}
 use Rattle.ink_keys.specs.Counts.{CountsData, number_at}
 use Rattle.ink_keys.specs.Keys.{key_count}
 use Rattle.ink_keys.specs.Plates.{AreKeyCounts}

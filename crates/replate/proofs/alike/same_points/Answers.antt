@@ -1,6 +1,6 @@
 use Rattle.std.proofs.lemmas.Bool.Decides.{Decides-at}
 use Rattle.std.specs.Cmp.Lexicographic.{pointwise_decides}
-use Rattle.replate.proofs.ListLemmas.{pair_decides}
+use Rattle.plan_rows.proofs.SitesOf.{pair_decides}
 use Rattle.replate.proofs.alike.same_points.Goals as goal
 
 pub returns : goal.returns
