@@ -2,7 +2,7 @@
 use Rattle.std.proofs.Common.{◌≡◌, ◌≢◌, ℕ, zero, suc, ◌+◌, ◌*◌, ◌/◌, ◌<◌, ◌≤◌, Bool, true, false, cond, List, [], ◌∷◌, ◌++◌, length, map, get_or, refl, ap, sym, ◌∙◌, subst, add-zero, arith}
 use Rattle.std.specs.Prelude.{AllPairs, filter}
 use Rattle.std.specs.List.{flat_map, range_with_len}
-use Rattle.std.proofs.lemmas.List.{length-map, map-append, get_or-map}
+use Rattle.std.proofs.lemmas.List.{append_cancel_left, length-map, map-append, get_or-map}
 use Rattle.std.proofs.lemmas.List.Elements.{All-get_or, All-filter, filter-append}
 use Rattle.std.proofs.lemmas.Simd.{map-map}
 use Rattle.pr_base.specs.declared.ink.Ink.TheVariants.{K}
@@ -12,12 +12,12 @@ use Rattle.pr_base.specs.Ink.{slot_of}
 use Rattle.plan_pages.specs.Pages.{page_count}
 use Rattle.plan_rows.specs.declared.group.Group.{Group}
 use Rattle.plan_rows.specs.Inks.{process_inks, spot_inks, inks_of, has_site}
-use Rattle.plan_rows.specs.Groups.{pages_at, site_pages, is_first, group_of, pair_groups, section_groups, groups_of, numbered, row_count}
+use Rattle.plan_rows.specs.Groups.{site_pages, is_first, group_of, pair_groups, section_groups, groups_of, numbered, row_count}
 use Rattle.plan_rows.specs.Plates.{PlateOf, group_plates, site_plates}
 use Rattle.plan_rows.specs.Paths.{path_of}
 use Rattle.plan_rows.proofs.CountLemmas.{section_count}
 use Rattle.plan_rows.proofs.GroupLemmas.{InPlan, groups_in_plan, plates_each, site_pages-size}
-use Rattle.plan_rows.proofs.Names.{paths_tell_plates}
+use Rattle.plan_rows.proofs.Names.{path_under, paths_tell, sections_apart}
 use Rattle.plan_rows.proofs.SitesOf.{has_site_is, first_apart, filter-map, one_of}
 
 -- ---- keys that ascend from one number up to another
@@ -177,10 +177,17 @@ paths_distinct plan out site is within i j d before behind same =
     let is_b = All-get_or (λ (plate : PlateOf). InPlan plan plate.0) plates j any (omega arith) each in
     let few_a = is_a.pair in
     let few_b = is_b.pair in
-    let tells = paths_tell_plates plan out site a.0 b.0 a.1 b.1 is is_a.section is_b.section (omega arith) (omega arith)
-    (sym (get_or-map path plates i any d (omega arith)) ∙ same ∙ get_or-map path plates j any d (omega arith)) in
-    let keys : plate_key a ≡ plate_key b = (let section = tells.section in let pair = tells.pair in
-    ap (λ s. (s * 1000 + a.0.pair) * 8 + slot_of a.1) section ∙ ap (λ p. (b.0.section * 1000 + p) * 8 + slot_of a.1) pair ∙ ap (λ k. (b.0.section * 1000 + b.0.pair) * 8 + slot_of k) tells.same_ink) in
+    let here : path a ≡ path b =
+    sym (get_or-map path plates i any d (omega arith)) ∙ same ∙ get_or-map path plates j any d (omega arith) in
+    let tells = paths_tell plan plan site site a.0 b.0 a.1 b.1
+    (record { plan_is = is; of_site = within; of_section = is_a.section; digits = omega arith })
+    (record { plan_is = is; of_site = within; of_section = is_b.section; digits = omega arith })
+    (append_cancel_left out _ _ (sym (path_under plan out site a.0 a.1) ∙ here ∙ path_under plan out site b.0 b.1)) in
+    let section = sections_apart plan a.0.section b.0.section is is_a.section is_b.section tells.section_named in
+    let keys : plate_key a ≡ plate_key b =
+    ap (λ s. (s * 1000 + a.0.pair) * 8 + slot_of a.1) section
+    ∙ ap (λ p. (b.0.section * 1000 + p) * 8 + slot_of a.1) tells.pair_is
+    ∙ ap (λ k. (b.0.section * 1000 + b.0.pair) * 8 + slot_of k) tells.ink_is in
     let run = plates_run 0 (length plan.sections * 1000) groups (groups_run plan site is within) in
     let apart : get_or (map plate_key plates) i 0 < get_or (map plate_key plates) j 0 =
     runs-lt (0 * 8) (length plan.sections * 1000 * 8) (map plate_key plates) i j 0 before (omega (arith, length-map plates plate_key)) run in

@@ -1,4 +1,4 @@
--- Paths of plates tell the site, the section, the pair and the ink.
+-- Paths of plates tell the site, the edition, the section, the pair and the ink, also those of two plans.
 use Rattle.std.proofs.Common.{◌≡◌, ◌≢◌, ℕ, zero, suc, ◌+◌, ◌/◌, ◌%◌, ◌<◌, Bool, true, false, cond, nat_eq, List, [], ◌∷◌, ◌++◌, length, map, get_or, refl, ap, sym, ◌∙◌, inl, inr, append_assoc, arith}
 use Rattle.std.specs.Prelude.{All, AllPairs, IsTrue, codes, slice_get}
 use Rattle.std.specs.List.{list_all}
@@ -12,7 +12,7 @@ use Rattle.plan_json.specs.Data.{PlanData, SiteData, SectionData}
 use Rattle.plan_words.specs.Forms.{is_name, is_name_byte}
 use Rattle.plan_json.specs.Plan.{IsPlan, IsSite, IsSection}
 use Rattle.plan_rows.specs.declared.group.Group.{Group}
-use Rattle.plan_rows.specs.Paths.{letter_of, three_digits, site_name, section_name, path_of}
+use Rattle.plan_rows.specs.Paths.{letter_of, three_digits, site_name, section_name, path_of, path_text, name_text}
 
 -- ---- texts without a byte
 
@@ -68,6 +68,14 @@ named-holds P f [] i within each = absurd (omega arith)
 named-holds P f (x ∷ xs) zero within each = All-head (λ y. P (f y)) x xs each
 named-holds P f (x ∷ xs) (suc i) within each = named-holds P f xs i (omega arith) (All-tail (λ y. P (f y)) x xs each)
 
+-- no two sites have one name, and no two sections
+pub sites_apart : (plan : PlanData) (i j : ℕ) → IsPlan plan → i < length plan.sites → j < length plan.sites → site_name plan i ≡ site_name plan j → i ≡ j
+sites_apart plan i j is left right same = named-distinct (λ (s : SiteData). s.name) plan.sites i j is.site_names left right same
+
+pub sections_apart : (plan : PlanData) (i j : ℕ) → IsPlan plan → i < length plan.sections → j < length plan.sections → section_name plan i ≡ section_name plan j → i ≡ j
+sections_apart plan i j is left right same = named-distinct (λ (s : SectionData). s.name) plan.sections i j is.section_names left right same
+
+-- names lack what no name has
 pub site_lacks : (plan : PlanData) (c site : ℕ) → is_name_byte c ≡ false → IsPlan plan → site < length plan.sites → Lacks c (site_name plan site)
 site_lacks plan c site other is within =
     named-holds (Lacks c) (λ (s : SiteData). s.name) plan.sites site within
@@ -93,12 +101,17 @@ unfolding path_of
 path_is plan out site group ink =
     regroup out (codes "/") (site_name plan site) plan.edition (codes "-") (section_name plan group.section) (three_digits group.pair) (letter_of ink) (codes ".tif")
 
+-- the folder stands in front, whichever it is
+pub path_under : (plan : PlanData) (out : List ℕ) (site : ℕ) (group : Group) (ink : Ink) → path_of plan out site group ink ≡ out ++ path_of plan [] site group ink
+path_under plan out site group ink = path_is plan out site group ink ∙ ap (λ l. out ++ l) (sym (path_is plan [] site group ink))
+
 -- behind the folder
-path_behind : (plan : PlanData) (out : List ℕ) (site other : ℕ) (group group' : Group) (ink ink' : Ink) → path_of plan out site group ink ≡ path_of plan out other group' ink'
-    → site_name plan site ++ (47 ∷ (plan.edition ++ (45 ∷ (section_name plan group.section ++ (45 ∷ behind_section group.pair ink)))))
-    ≡ site_name plan other ++ (47 ∷ (plan.edition ++ (45 ∷ (section_name plan group'.section ++ (45 ∷ behind_section group'.pair ink')))))
-path_behind plan out site other group group' ink ink' same =
-    let both = append_cancel_left out _ _ (sym (path_is plan out site group ink) ∙ same ∙ path_is plan out other group' ink') in
+path_behind : (a b : PlanData) (out : List ℕ) (site site' : ℕ) (group group' : Group) (ink ink' : Ink)
+    → path_of a out site group ink ≡ path_of b out site' group' ink'
+    → site_name a site ++ (47 ∷ (a.edition ++ (45 ∷ (section_name a group.section ++ (45 ∷ behind_section group.pair ink)))))
+    ≡ site_name b site' ++ (47 ∷ (b.edition ++ (45 ∷ (section_name b group'.section ++ (45 ∷ behind_section group'.pair ink')))))
+path_behind a b out site site' group group' ink ink' same =
+    let both = append_cancel_left out _ _ (sym (path_is a out site group ink) ∙ same ∙ path_is b out site' group' ink') in
     cc
 
 -- plates of two sites have two paths
@@ -106,7 +119,7 @@ pub paths_tell_sites : (plan : PlanData) (out : List ℕ) (site other : ℕ) (gr
     → path_of plan out site group ink ≡ path_of plan out other group' ink' → site ≡ other
 unfolding is_name_byte
 paths_tell_sites plan out site other group group' ink ink' is left right same =
-    let parts = split_at 47 (site_name plan site) (site_name plan other) _ _ (site_lacks plan 47 site refl is left) (site_lacks plan 47 other refl is right) (path_behind plan out site other group group' ink ink' same) in
+    let parts = split_at 47 (site_name plan site) (site_name plan other) _ _ (site_lacks plan 47 site refl is left) (site_lacks plan 47 other refl is right) (path_behind plan plan out site other group group' ink ink' same) in
     named-distinct (λ (s : SiteData). s.name) plan.sites site other is.site_names left right parts.0
 
 pub digits_tell : (a b : ℕ) (x y : List ℕ) → a < 1000 → b < 1000 → three_digits a ++ x ≡ three_digits b ++ y → (a ≡ b) × (x ≡ y)
@@ -130,25 +143,47 @@ ink_of-letter Y = refl
 ink_of-letter K = refl
 ink_of-letter S = refl
 
--- what a path tells of a plate
-pub record IsSamePlate (group group' : Group) (ink ink' : Ink) : Type 0 where
-  pub section : group.section ≡ group'.section
-  pub pair : group.pair ≡ group'.pair
-  pub same_ink : ink ≡ ink'
+-- two plates of two plans have one edition, sites and sections of the same names, one pair and one ink
+pub record SameNames (a : PlanData) (site : ℕ) (group : Group) (ink : Ink) (b : PlanData) (site' : ℕ) (group' : Group) (ink' : Ink) : Type 0 where
+  pub site_named : site_name a site ≡ site_name b site'
+  pub edition : a.edition ≡ b.edition
+  pub section_named : section_name a group.section ≡ section_name b group'.section
+  pub pair_is : group.pair ≡ group'.pair
+  pub ink_is : ink ≡ ink'
 
-pub paths_tell_plates : (plan : PlanData) (out : List ℕ) (site : ℕ) (group group' : Group) (ink ink' : Ink) → IsPlan plan → group.section < length plan.sections → group'.section < length plan.sections
-    → group.pair < 1000 → group'.pair < 1000 → path_of plan out site group ink ≡ path_of plan out site group' ink' → IsSamePlate group group' ink ink'
+-- a plate whose path can be told: its site and its section are the plan's, and its pair has three digits
+pub record CanTell (plan : PlanData) (site : ℕ) (group : Group) : Type 0 where
+  pub plan_is : IsPlan plan
+  pub of_site : site < length plan.sites
+  pub of_section : group.section < length plan.sections
+  pub digits : group.pair < 1000
+
+-- one path has one edition, one name of a site and a section, one pair and one ink, since no name has `-` or `/`
+pub paths_tell : (a b : PlanData) (site site' : ℕ) (group group' : Group) (ink ink' : Ink) → CanTell a site group → CanTell b site' group'
+    → path_of a [] site group ink ≡ path_of b [] site' group' ink' → SameNames a site group ink b site' group' ink'
 unfolding is_name_byte
-paths_tell_plates plan out site group group' ink ink' is left right few few' same =
-    let behind = append_cancel_left (site_name plan site) _ _ (path_behind plan out site site group group' ink ink' same) in
-    let edition : plan.edition ++ (45 ∷ (section_name plan group.section ++ (45 ∷ behind_section group.pair ink))) ≡ plan.edition ++ (45 ∷ (section_name plan group'.section ++ (45 ∷ behind_section group'.pair ink'))) = cc in
-    let names = append_cancel_left plan.edition _ _ edition in
-    let sections : section_name plan group.section ++ (45 ∷ behind_section group.pair ink) ≡ section_name plan group'.section ++ (45 ∷ behind_section group'.pair ink') = cc in
-    let parts = split_at 45 (section_name plan group.section) (section_name plan group'.section) _ _ (section_lacks plan 45 group.section refl is left) (section_lacks plan 45 group'.section refl is right) sections in
-    let tail = digits_tell group.pair group'.pair _ _ few few' parts.1 in
+paths_tell a b site site' group group' ink ink' left right same =
+    let behind = path_behind a b [] site site' group group' ink ink' same in
+    let sites = split_at 47 (site_name a site) (site_name b site') _ _ (site_lacks a 47 site refl left.plan_is left.of_site) (site_lacks b 47 site' refl right.plan_is right.of_site) behind in
+    let editions = split_at 45 a.edition b.edition _ _ (name_lacks 45 a.edition refl left.plan_is.edition) (name_lacks 45 b.edition refl right.plan_is.edition) sites.1 in
+    let sections = split_at 45 (section_name a group.section) (section_name b group'.section) _ _ (section_lacks a 45 group.section refl left.plan_is left.of_section) (section_lacks b 45 group'.section refl right.plan_is right.of_section) editions.1 in
+    let tail = digits_tell group.pair group'.pair _ _ left.digits right.digits sections.1 in
     let letters : letter_of ink ++ codes ".tif" ≡ letter_of ink' ++ codes ".tif" = (let all = tail.1 in cc) in
     record {
-      section = named-distinct (λ (s : SectionData). s.name) plan.sections group.section group'.section is.section_names left right parts.0;
-      pair = tail.0;
-      same_ink = sym (ink_of-letter ink) ∙ ap ink_of letters ∙ ink_of-letter ink';
+      site_named = sites.0;
+      edition = editions.0;
+      section_named = sections.0;
+      pair_is = tail.0;
+      ink_is = sym (ink_of-letter ink) ∙ ap ink_of letters ∙ ink_of-letter ink';
     }
+
+-- and plates that have these have one path
+pub paths_same : (a b : PlanData) (site site' : ℕ) (group group' : Group) (ink ink' : Ink) → SameNames a site group ink b site' group' ink'
+    → path_of a [] site group ink ≡ path_of b [] site' group' ink'
+unfolding path_of
+paths_same a b site site' group group' ink ink' same =
+    ap (λ name. path_text [] name (name_text a.edition (section_name a group.section) group.pair (letter_of ink))) same.site_named
+    ∙ ap (λ edition. path_text [] (site_name b site') (name_text edition (section_name a group.section) group.pair (letter_of ink))) same.edition
+    ∙ ap (λ name. path_text [] (site_name b site') (name_text b.edition name group.pair (letter_of ink))) same.section_named
+    ∙ ap (λ pair. path_text [] (site_name b site') (name_text b.edition (section_name b group'.section) pair (letter_of ink))) same.pair_is
+    ∙ ap (λ i. path_text [] (site_name b site') (name_text b.edition (section_name b group'.section) group'.pair (letter_of i))) same.ink_is

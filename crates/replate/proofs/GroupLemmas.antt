@@ -10,7 +10,7 @@ use Rattle.plan_rows.specs.Groups.{groups_of, page_colour, page_spot, pages_at}
 use Rattle.plan_rows.proofs.GroupLemmas.{InPlan, groups_in_plan, inks_by}
 use Rattle.replate.specs.Plates.{group_at}
 use Rattle.replate.specs.Standing.{IsOfPlan, StandsFor}
-use Rattle.replate.proofs.NameLemmas.{sites_apart, sections_apart}
+use Rattle.plan_rows.proofs.Names.{sites_apart, sections_apart}
 
 pub group_in_plan : (plan : PlanData) (index : ℕ) → IsPlan plan → index < length (groups_of plan) → InPlan plan (group_at plan index)
 group_in_plan plan index is within = All-get_or (InPlan plan) (groups_of plan) index _ within (groups_in_plan plan is)

@@ -15,7 +15,7 @@ use Rattle.replate.specs.Plates.{IsPlateOf, PlateAt, group_at, has_ink, path_bel
 use Rattle.replate.specs.Recipe.{Recipe, page_recipe, recipe_of, screen_of, screen_recipe}
 use Rattle.replate.specs.Standing.{AreAllKept, IsAlike, SamePages, StandsFor}
 use Rattle.replate.proofs.GroupLemmas.{group_in_plan}
-use Rattle.replate.proofs.NameLemmas.{paths_same, paths_tell}
+use Rattle.plan_rows.proofs.Names.{paths_same, paths_tell}
 use Rattle.replate.proofs.PlateLemmas.{can_tell}
 
 -- groups of two jobs that print the same pages have the same inks

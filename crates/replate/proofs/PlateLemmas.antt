@@ -20,7 +20,7 @@ use Rattle.plan_rows.specs.Groups.{groups_of}
 use Rattle.replate.specs.Plates.{PlateAt, IsPlateOf, all_plates, group_at, has_ink, has_path, ink_plates, group_in, path_below, plates_in, plates_of}
 use Rattle.replate.specs.Standing.{StandsFor}
 use Rattle.replate.proofs.GroupLemmas.{group_in_plan, inks_alike, stand_alike}
-use Rattle.replate.proofs.NameLemmas.{CanTell, paths_same, paths_tell}
+use Rattle.plan_rows.proofs.Names.{CanTell, paths_same, paths_tell}
 
 -- ---- some element
 

@@ -18,7 +18,7 @@ use Rattle.replate.specs.Picks.{MustMake, recipe_at}
 use Rattle.replate.specs.Plates.{PlateAt, group_at, group_in, path_below}
 use Rattle.replate.specs.Recipe.{PageRecipe, page_recipe, recipe_of}
 use Rattle.replate.proofs.GroupLemmas.{group_in_plan}
-use Rattle.replate.proofs.NameLemmas.{paths_same}
+use Rattle.plan_rows.proofs.Names.{paths_same}
 use Rattle.replate.proofs.PlateLemmas.{any-flat_map, some_at}
 use Rattle.replate_law.specs.Part.{HasPlate, IsPlateIn, IsSectionAt, PrintAlike, SectionAt}
 use Rattle.replate_law.proofs.Printed.{file_by, file_is}

@@ -19,7 +19,7 @@ use Rattle.press_job.specs.Rows.{plate_rows}
 use Rattle.replate.specs.Inputs.{JobData}
 use Rattle.replate.specs.Picks.{MustMake, dropped_of, is_dropped, recipe_at}
 use Rattle.replate.specs.Plates.{IsPlateOf, PlateAt, all_plates, group_at, group_in, has_path, ink_plates, path_below, plates_in, plates_of}
-use Rattle.replate.proofs.NameLemmas.{path_under, paths_tell, sites_apart}
+use Rattle.plan_rows.proofs.Names.{path_under, paths_tell, sites_apart}
 use Rattle.replate.proofs.PlateLemmas.{any_of_site, any_plate, can_tell, some_of_site, some_plate}
 use Rattle.replate_law.specs.Law.{File, bytes_of_plate, entry_of, files_of_site, held_in, is_dropped_path, picked_files, remade_at}
 use Rattle.replate_law.proofs.Printed.{file_by, file_is}

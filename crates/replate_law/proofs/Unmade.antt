@@ -11,7 +11,7 @@ use Rattle.replate.specs.Plates.{IsPlateOf, PlateAt, group_at, has_path, path_be
 use Rattle.replate.specs.Recipe.{recipe_of}
 use Rattle.replate.specs.Standing.{StandsFor}
 use Rattle.replate.proofs.GroupLemmas.{stand_alike}
-use Rattle.replate.proofs.NameLemmas.{paths_tell}
+use Rattle.plan_rows.proofs.Names.{paths_tell}
 use Rattle.replate.proofs.PlateLemmas.{any_plate, can_tell}
 use Rattle.replate_law.specs.Law.{bytes_of_plate}
 use Rattle.replate_law.proofs.Printed.{file_by, file_is}

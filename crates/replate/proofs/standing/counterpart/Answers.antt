@@ -6,7 +6,7 @@ use Rattle.plan_rows.specs.Groups.{groups_of}
 use Rattle.plan_rows.specs.Rows.{RowPlanData}
 use Rattle.replate.specs.Plates.{group_at}
 use Rattle.replate.specs.Standing.{IsGroupOf}
-use Rattle.replate.proofs.NameLemmas.{sites_apart, sections_apart}
+use Rattle.plan_rows.proofs.Names.{sites_apart, sections_apart}
 use Rattle.replate.proofs.GroupLemmas.{group_in_plan}
 use Rattle.replate.proofs.standing.counterpart.Goals as goal
 
