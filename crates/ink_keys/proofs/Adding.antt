@@ -10,8 +10,8 @@ use Rattle.std.proofs.Math.Nat.{mul-le-mul_right}
 use Rattle.pr_base.specs.Bits.{bit_at, byte_bit}
 use Rattle.pr_base.specs.Row.{row_size}
 use Rattle.pr_base.specs.declared.ink.Ink.{Ink}
-use Rattle.pr_base.specs.declared.ink.Ink.TheVariants.{C, M, Y, K, S}
 use Rattle.pr_base.specs.Ink.{slot_of}
+use Rattle.pr_base.proofs.Inks.{slot_below}
 use Rattle.tif_packbits.specs.Frame.{framed_row, packed_in}
 use Rattle.tif_packbits.specs.Packbits.{expansion}
 use Rattle.ink_keys.specs.Keys.{key_dots, dots_between, first_column}
@@ -68,13 +68,6 @@ unpacked frame packed ahead old new (Err short) held all size filled front =
     front ∙ ap (λ rest. ahead ++ rest) (drop_all (length ahead) old (omega (arith, ap length row, size))) ∙ append-nil ahead ∙ row
 
 -- ---- which keys a row adds to
-
-pub slot-small : (ink : Ink) → slot_of ink < 5
-slot-small C = omega arith
-slot-small M = omega arith
-slot-small Y = omega arith
-slot-small K = omega arith
-slot-small S = omega arith
 
 both : (a b c d x : ℕ) → a ≡ b → c ≡ d → (if (a == b) && (c == d) then x else 0) ≡ x
 both a b c d x one other = grind (arith, nat_tests)
@@ -140,8 +133,8 @@ adds-row counts group ink row room room' firsts numbers is front adds =
                   let stays = adds.above (q * keys + k) (omega arith) in
                   omega arith
               | inr other ↦ let equal : p ≡ q = omega arith in
-                  let one = slot-small ink in
-                  let two = slot-small i in
+                  let one = slot_below ink in
+                  let two = slot_below i in
                   let own = adds-own width keys group ink row g i k (omega arith) (omega arith) in
                   let place : q * keys + k ≡ start + k = ap (λ n. n * keys + k) (sym equal) in
                   ap (λ n. get_or numbers n 0) place ∙ dots k less ∙ ap (λ n. get_or counts.numbers n 0 + key_dots width keys row k) (sym place)

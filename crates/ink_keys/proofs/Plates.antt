@@ -11,7 +11,7 @@ use Rattle.pr_base.specs.declared.ink.Ink.TheVariants.{C, M, Y, K, S}
 use Rattle.plan_json.specs.Data.{PlanData, plate_height, plate_width}
 use Rattle.plan_json.specs.Plan.{IsPlan}
 use Rattle.pr_base.specs.Ink.{slot_of}
-use Rattle.pr_base.proofs.Inks.{slot_tells}
+use Rattle.pr_base.proofs.Inks.{slot_below, slot_tells}
 use Rattle.plan_rows.specs.declared.group.Group.{Group}
 use Rattle.plan_rows.specs.declared.place.RowPlace.{RowPlace}
 use Rattle.plan_rows.specs.Groups.{groups_of}
@@ -24,7 +24,7 @@ use Rattle.ink_keys.specs.Keys.{key_dots}
 use Rattle.ink_keys.specs.Counts.{CountsData, IsBounded, no_counts, row_adds}
 use Rattle.ink_keys.specs.Turn.{row_part}
 use Rattle.ink_keys.specs.Plates.{AreKeyCounts, CountsPlan}
-use Rattle.ink_keys.proofs.Adding.{adds-none, adds-own, slot-small}
+use Rattle.ink_keys.proofs.Adding.{adds-none, adds-own}
 use Rattle.ink_keys.proofs.Ranges.{sum-moved, sum-none, sum-parts, sum-same}
 use Rattle.ink_keys.proofs.Turning.{part-is}
 
@@ -113,8 +113,8 @@ other-part plan ring width keys index group ink k n is count of within other =
     apart : (plan : PlanData) (index : ℕ) (group : Group) (ink : Ink) (n index' y : ℕ) (group' : Group) (ink' : Ink) → slice_get (groups_of plan) index ≡ Some group
         → IsRowAt plan n index' group' y ink' → ((z : ℕ) → z < plate_height plan → n ≡ row_number group z ink → ⊥) → index' * 5 + slot_of ink' ≡ index * 5 + slot_of ink → ⊥
     apart plan index group ink n index' y group' ink' of at other same =
-        let one = slot-small ink in
-        let two = slot-small ink' in
+        let one = slot_below ink in
+        let two = slot_below ink' in
         let of' = at.of in
         let inks : ink' ≡ ink = slot_tells ink' ink (omega arith) in
         let indexes : index' ≡ index = omega arith in
