@@ -29,9 +29,9 @@ use Rattle.plan_rows.specs.Plates.{PlateOf, file_of, group_plates, plate_rows as
 use Rattle.plan_rows.specs.Rows.{row_number, row_places}
 use Rattle.plan_rows.proofs.Places.{IsRowAt, groups_count, row_placed}
 use Rattle.press_job.specs.Rows.{plate_rows}
+use Rattle.press_job.proofs.FrameLemmas.{rows-long}
 use Rattle.drill_room.specs.Dots.{HasSides, all_dots, bytes_of}
 use Rattle.room_run.specs.Drill.{dots_line, dots_lines, finished_end, finished_ends, site_dots}
-use Rattle.room_base.proofs.Rows.{rows-long}
 
 -- ---- how many plates a site has
 
