@@ -25,7 +25,7 @@ use Rattle.site_agent.specs.Plan.{job_of, FitsLeft}
 use Rattle.site_agent.specs.Refused.{taken_at}
 use Rattle.site_agent.specs.Site.{SiteData}
 use Rattle.site_agent.specs.Stands.{StandsAfter, files_below, grown, plate_below, taken_below}
-use Rattle.site_agent.specs.Turn.{AreRowsFor, GoesOnTo, IsGoingBy, LeavesAt, StopsAt}
+use Rattle.site_agent.specs.Turn.{AreRowsFor, GoesOnBy, GoesOnTo, IsGoingBy, LeavesAt, LeavesBy, StopsAt, StopsBy}
 use Rattle.site_agent.proofs.Counting.{any}
 use Rattle.site_agent.proofs.Givens.{given-all}
 use Rattle.site_agent.proofs.Jobs.{job_is}
@@ -218,7 +218,7 @@ going_at delivery before told reader going seated = seated.is
 
 -- it goes on
 pub turned_on : (old new : RackTells) (was is : ReaderState) (going next : SiteData) → StaysBut was is → is.left ≡ false → was.left ≡ false → was.cursor ≤ is.cursor → is.cursor ≤ was.ring.total → (was.cursor < was.seen → was.cursor < is.cursor)
-    → ((before : Tells) → IsGoingBy was before old.tells going → IsGoingBy was before new.tells next) → GoesOnTo going next is.cursor → old.faults ≤ new.faults
+    → GoesOnBy was going next old new → GoesOnTo going next is.cursor → old.faults ≤ new.faults
     → Turned old new (record { reader = was; site = Going going }) (record { reader = is; site = Going next })
 turned_on old new was is going next stays joined' joined grows within gets_on stands goes faults =
     let ring : is.ring ≡ was.ring = ap (λ (x : ReaderState). x.ring) stays in
@@ -246,7 +246,7 @@ turned_on old new was is going next stays joined' joined grows within gets_on st
 -- it leaves
 pub turned_left : (old new : RackTells) (was is : ReaderState) (going : SiteData) (cause : LeftCause) → StaysBut was is → is.left ≡ true → was.left ≡ false → was.cursor < is.cursor → is.cursor ≤ was.ring.total
     → IsCauseAt going.job cause.row cause → cause.row + 1 ≡ is.cursor → Rose old.faults new.faults → IfSome new.missed (λ last. last ≡ Some (cause.call, cause.path))
-    → ((before : Tells) → IsGoingBy was before old.tells going → LeavesAt going.job (map framed_row was.ring.rows) (source_of was) before new.tells cause) → old.faults ≤ new.faults
+    → LeavesBy was going old new cause → old.faults ≤ new.faults
     → Turned old new (record { reader = was; site = Going going }) (record { reader = is; site = Left cause })
 turned_left old new was is going cause stays out joined grows within by row rose missed leaves' faults =
     let ring : is.ring ≡ was.ring = ap (λ (x : ReaderState). x.ring) stays in
@@ -270,7 +270,7 @@ turned_left old new was is going cause stays out joined grows within by row rose
 
 -- want of memory stops it
 pub turned_out : (old new : RackTells) (was is : ReaderState) (going : SiteData) → StaysBut was is → is.left ≡ true → was.left ≡ false → was.cursor < is.cursor → is.cursor ≤ was.ring.total
-    → ((before : Tells) (n : ℕ) → n + 1 ≡ is.cursor → IsGoingBy was before old.tells going → StopsAt going.job (map framed_row was.ring.rows) (source_of was) n before new.tells) → old.faults ≤ new.faults
+    → ((n : ℕ) → n + 1 ≡ is.cursor → StopsBy was going old new n) → old.faults ≤ new.faults
     → Turned old new (record { reader = was; site = Going going }) (record { reader = is; site = Stopped })
 turned_out old new was is going stays out joined grows within stops' faults =
     let ring : is.ring ≡ was.ring = ap (λ (x : ReaderState). x.ring) stays in
@@ -284,7 +284,7 @@ turned_out old new was is going stays out joined grows within stops' faults =
             within = subst (λ (r : RingNumbers). is.cursor ≤ r.total) (sym ring) within;
             left = out;
             is = stops delivery was was.cursor (is.cursor - 1) before old new going carries (omega (arith, total, last, within)) at
-                (stops' before.tells (is.cursor - 1) last (going_by delivery was before.tells old.tells going carries at.is)) faults;
+                (stops' (is.cursor - 1) last before.tells (going_by delivery was before.tells old.tells going carries at.is)) faults;
           };
       end = record {
         stays = stays;

@@ -20,7 +20,7 @@ use Rattle.site_agent.specs.declared.kept.LeftCause.{LeftCause}
 use Rattle.site_agent.specs.Draw.{Closes, Draws, IsReady, stage}
 use Rattle.site_agent.specs.Given.{is_kept}
 use Rattle.site_agent.specs.Job.{SiteJob}
-use Rattle.site_agent.specs.Kept.{GoesOn, IfLeft, IsCauseAt, OnDone, OnEnd, OnMemory, TakenOnce}
+use Rattle.site_agent.specs.Kept.{GoesOn, IfLeft, IsCauseAt, KeepsRow, OnDone, OnEnd, OnMemory, TakenOnce}
 use Rattle.site_agent.specs.Refused.{taken_at}
 use Rattle.site_agent.specs.Site.{SiteData}
 use Rattle.site_agent.specs.Stands.{AreAsLong, AreBegun, StandsAfter, files_below, grown, taken_below}
@@ -80,9 +80,7 @@ closes-row reader opened closed held home is sees given-back =
 
 -- the clauses of Site::keep
 pub record Keeps (site site' : SiteData) (held : HeldRow) (old new : RackTells) (kept : Kept) : Type 0 where
-  pub keeps : OnDone kept
-      ((rows : List (List ℕ)) (before : Tells) → slice_get rows site.next ≡ Some (framed_row held.bytes) → StandsAfter site.job rows held.source site.next before old.tells site.counts
-      → StandsAfter site.job rows held.source (site.next + 1) before new.tells site'.counts)
+  pub keeps : OnDone kept (KeepsRow site site' held old.tells new.tells)
   pub goes_on : OnDone kept (GoesOn site site')
   pub begun_on : OnDone kept (AreBegun site'.job site'.next new.tells.begun)
   pub working_on : OnDone kept (IfSome new.tells.working (AreAsLong site'.job site'.next site'.counts))
@@ -99,9 +97,7 @@ pub record Keeps (site site' : SiteData) (held : HeldRow) (old new : RackTells) 
   pub faults_stay : old.faults ≤ new.faults
 
 going-on : (site site' : SiteData) (reader : ReaderState) (held : HeldRow) (old new before : Tells) → slice_get (map framed_row reader.ring.rows) site.next ≡ Some (framed_row held.bytes) → held.source ≡ source_of reader
-    → ((rows : List (List ℕ)) (before' : Tells) → slice_get rows site.next ≡ Some (framed_row held.bytes) → StandsAfter site.job rows held.source site.next before' old site.counts
-    → StandsAfter site.job rows held.source (site.next + 1) before' new site'.counts)
-    → GoesOn site site' → IsGoingBy reader before old site → IsGoingBy reader before new site'
+    → KeepsRow site site' held old new → GoesOn site site' → IsGoingBy reader before old site → IsGoingBy reader before new site'
 going-on site site' reader held old new before here from keeps goes going =
     let rows : List (List ℕ) = map framed_row reader.ring.rows in
     going_further rows (source_of reader) before old new site site' going goes

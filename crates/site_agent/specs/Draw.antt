@@ -1,18 +1,17 @@
 -- What one row at a reader's cursor makes of a site, the reader and the rack. This is the contract of a
 -- private call.
-use Rattle.std.specs.Prelude.{◌≡◌, ℕ, ◌+◌, ◌<◌, ◌≤◌, true, false, Some, IfSome, Result, Ok, Err, map}
+use Rattle.std.specs.Prelude.{◌≡◌, ℕ, ◌+◌, ◌<◌, ◌≤◌, true, false, Some, IfSome, Result, Ok, Err}
 use Rattle.pr_base.specs.Count.{Rose}
-use Rattle.tif_packbits.specs.Frame.{framed_row}
 use Rattle.ring_lanes.specs.declared.answer.NotYet.{NotYet}
-use Rattle.ring_lanes.specs.Reader.{ReaderState, IsNotYet, source_of}
-use Rattle.pr_rack.specs.Told.{RackTells, Tells}
+use Rattle.ring_lanes.specs.Reader.{ReaderState, IsNotYet}
+use Rattle.pr_rack.specs.Told.{RackTells}
 use Rattle.site_agent.specs.declared.kept.Kept.{Kept}
 use Rattle.site_agent.specs.declared.kept.Kept.TheVariants.{Done, Left, Memory}
 use Rattle.site_agent.specs.declared.kept.LeftCause.{LeftCause}
 use Rattle.site_agent.specs.Kept.{IsCauseAt}
 use Rattle.site_agent.specs.Site.{SiteData}
 use Rattle.site_agent.specs.Stands.{AreAsLong, AreBegun}
-use Rattle.site_agent.specs.Turn.{AreRowsFor, IsGoingBy, LeavesAt, StopsAt}
+use Rattle.site_agent.specs.Turn.{AreRowsFor, GoesOnBy, LeavesBy, StopsBy}
 
 -- a site, its reader, and what its rack tells
 pub record Stage : Type 0 where
@@ -48,8 +47,7 @@ pub record DrawsOn (old new : Stage) : Type 0 where
   pub closes : Closes old.reader new.reader
   pub ready : IsReady new
   pub job : new.site.job ≡ old.site.job
-  pub stands : (before : Tells) → IsGoingBy old.reader before old.told.tells old.site
-      → IsGoingBy old.reader before new.told.tells new.site
+  pub stands : GoesOnBy old.reader old.site new.site old.told new.told
   pub missed : new.told.missed ≡ old.told.missed
   pub faults : old.told.faults ≤ new.told.faults
 
@@ -57,9 +55,7 @@ pub record DrawsOn (old new : Stage) : Type 0 where
 pub record DrawsLast (old new : Stage) (cause : LeftCause) : Type 0 where
   pub closes : Closes old.reader new.reader
   pub is : IsCauseAt old.site.job old.reader.cursor cause
-  pub stands : (before : Tells) → IsGoingBy old.reader before old.told.tells old.site
-      → LeavesAt old.site.job (map framed_row old.reader.ring.rows) (source_of old.reader) before
-      new.told.tells cause
+  pub stands : LeavesBy old.reader old.site old.told new.told cause
   pub missed : IfSome new.told.missed (λ last. last ≡ Some (cause.call, cause.path))
   pub counted : Rose old.told.faults new.told.faults
   pub faults : old.told.faults ≤ new.told.faults
@@ -68,9 +64,7 @@ pub record DrawsLast (old new : Stage) (cause : LeftCause) : Type 0 where
 -- a call of the rack wanted memory
 pub record DrawsNone (old new : Stage) : Type 0 where
   pub closes : Closes old.reader new.reader
-  pub stands : (before : Tells) → IsGoingBy old.reader before old.told.tells old.site
-      → StopsAt old.site.job (map framed_row old.reader.ring.rows) (source_of old.reader) old.reader.cursor
-      before new.told.tells
+  pub stands : StopsBy old.reader old.site old.told new.told old.reader.cursor
   pub missed : new.told.missed ≡ old.told.missed
   pub faults : old.told.faults ≤ new.told.faults
   pub ended : new.site.ended ≡ true
@@ -105,7 +99,6 @@ pub record Goes (first now : Stage) (waits : ℕ) : Type 0 where
   pub counted : first.reader.loads + waits ≤ now.reader.loads
   pub found : now.reader.loads + first.reader.seen ≤ first.reader.loads + waits + now.reader.seen
   pub job : now.site.job ≡ first.site.job
-  pub stands : (before : Tells) → IsGoingBy first.reader before first.told.tells first.site
-      → IsGoingBy first.reader before now.told.tells now.site
+  pub stands : GoesOnBy first.reader first.site now.site first.told now.told
   pub missed : now.told.missed ≡ first.told.missed
   pub faults : first.told.faults ≤ now.told.faults

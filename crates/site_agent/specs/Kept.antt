@@ -1,10 +1,13 @@
 -- What an answer of a site says of its row.
-use Rattle.std.specs.Prelude.{◌≡◌, ℕ, ◌+◌, ◌⊎◌, false, List, Option, slice_index_or}
+use Rattle.std.specs.Prelude.{◌≡◌, ℕ, ◌+◌, ◌⊎◌, false, List, Option, Some, slice_get, slice_index_or}
+use Rattle.ring_lanes.specs.Held.{HeldRow}
 use Rattle.ring_lanes.specs.declared.source.Source.{Source}
+use Rattle.tif_packbits.specs.Frame.{framed_row}
 use Rattle.pr_rack.specs.declared.rack.RackCall.TheVariants.{Begin, Finish}
 use Rattle.pr_rack.specs.declared.rack.RackFault.{RackFault}
 use Rattle.pr_rack.specs.declared.rack.RackFault.TheVariants as rack_faults
 use Rattle.pr_rack.specs.Rack.{with_row}
+use Rattle.pr_rack.specs.Told.{Tells}
 use Rattle.site_agent.specs.declared.plate.SitePlate.{SitePlate}
 use Rattle.site_agent.specs.declared.kept.Kept.{Kept}
 use Rattle.site_agent.specs.declared.kept.Kept.TheVariants.{Done, Left, Memory}
@@ -12,6 +15,7 @@ use Rattle.site_agent.specs.declared.kept.LeftCause.{LeftCause}
 use Rattle.site_agent.specs.Job.{SiteJob}
 use Rattle.site_agent.specs.Given.{finished_count, IsRowOf}
 use Rattle.site_agent.specs.Site.{SiteData}
+use Rattle.site_agent.specs.Stands.{StandsAfter}
 
 -- P where the answer is Done
 abbrev pub OnDone : Kept → Type 0 → Type 0
@@ -47,6 +51,13 @@ pub record GoesOn (old new : SiteData) : Type 0 where
   pub job : new.job ≡ old.job
   pub next : new.next ≡ old.next + 1
   pub going : new.ended ≡ false
+
+-- of any rows among which this one comes next: where those below it were dealt with, it is now dealt with too
+abbrev pub KeepsRow : SiteData → SiteData → HeldRow → Tells → Tells → Type 0
+KeepsRow site site' held old new = (rows : List (List ℕ)) (before : Tells)
+    → slice_get rows site.next ≡ Some (framed_row held.bytes)
+    → StandsAfter site.job rows held.source site.next before old site.counts
+    → StandsAfter site.job rows held.source (site.next + 1) before new site'.counts
 
 -- why a site left at row n: the row is one of its plate at this path, the call begins the plate only at its
 -- first row and finishes it only at its last, and so many plates have their last row below row n

@@ -1,5 +1,6 @@
 -- What a site knows where its rack refused a call.
-use Rattle.std.specs.Prelude.{◌≡◌, ℕ, ◌+◌, List, Option, Some, IfSome}
+use Rattle.std.specs.Prelude.{◌≡◌, ℕ, ◌+◌, List, Option, Some, IfSome, slice_index_or}
+use Rattle.ring_lanes.specs.Held.{HeldRow}
 use Rattle.ring_lanes.specs.declared.source.Source.{Source}
 use Rattle.pr_rack.specs.declared.rack.RackCall.{RackCall}
 use Rattle.pr_rack.specs.declared.rack.RackCall.TheVariants.{Begin, Row, Finish}
@@ -8,6 +9,9 @@ use Rattle.pr_base.specs.Count.{Rose}
 use Rattle.pr_rack.specs.Rack.{with_row}
 use Rattle.pr_rack.specs.Told.{RackTells}
 use Rattle.site_agent.specs.declared.calls.Refusal.{Refusal}
+use Rattle.site_agent.specs.declared.place.Place.{Place}
+use Rattle.site_agent.specs.declared.plate.SitePlate.{SitePlate}
+use Rattle.site_agent.specs.Job.{SiteJob}
 
 -- this call for the plate at this path was refused
 pub record IsRefused (call' : RackCall) (path : List ℕ) (old new : RackTells) (refusal : Refusal)
@@ -37,3 +41,8 @@ pub record IsStopped (height y number : ℕ) (source : Source) (path : List ℕ)
   pub counted : refusal.fault ≡ Failed → Rose old.faults new.faults
   pub missed : refusal.fault ≡ Failed → IfSome new.missed (λ last. last ≡ Some (refusal.call, path))
   pub unmissed : refusal.fault ≡ Memory → new.missed ≡ old.missed
+
+-- so it is of this row, at its place of a job
+abbrev pub IsStoppedAt : SiteJob → Place → HeldRow → RackTells → RackTells → Refusal → Type 0
+IsStoppedAt job place held old new refusal = (d : SitePlate) → IsStopped job.height place.y held.number
+    held.source (slice_index_or job.plates place.plate d).path old new refusal

@@ -1,12 +1,15 @@
 -- What the calls for one row make of what a rack tells of its plates.
-use Rattle.std.specs.Prelude.{ℕ, ◌+◌, ◌==◌, true, false, if◌then◌else◌, List, Some, None, length, replicate, slice_index, slice_set}
+use Rattle.std.specs.Prelude.{◌≡◌, ℕ, ◌+◌, ◌/◌, ◌==◌, true, false, if◌then◌else◌, List, [], Some, None, length, replicate, slice_index, slice_index_or, slice_set}
+use Rattle.ring_lanes.specs.Held.{HeldRow}
 use Rattle.ring_lanes.specs.declared.source.Source.{Source}
 use Rattle.tif_packbits.specs.Frame.{packed_in}
+use Rattle.tif_plate.specs.Plate.{rows_each}
 use Rattle.tif_plate.specs.Tail.{front_bytes, tail_bytes, tail_place}
 use Rattle.pr_rack.specs.Rack.{with_plate, with_more, with_row, finished_with}
 use Rattle.pr_rack.specs.Told.{Tells}
+use Rattle.site_agent.specs.declared.place.Place.{Place}
 use Rattle.site_agent.specs.declared.plate.SitePlate.{SitePlate}
-use Rattle.site_agent.specs.Job.{Shape}
+use Rattle.site_agent.specs.Job.{Shape, SiteJob, shape_of}
 
 -- the byte counts of a plate's strips once its row y has gone to a strip: a plate begins with zeros
 abbrev pub counted : ℕ → ℕ → ℕ → List ℕ → List ℕ
@@ -62,3 +65,16 @@ finished_at shape y plate counts old =
 abbrev pub after_row : Shape → SitePlate → ℕ → ℕ → List ℕ → Source → List ℕ → Tells → Tells
 after_row shape plate y number frame source counts old =
     finished_at shape y plate counts (with_taken plate.slot number frame source (begun_at y plate old))
+
+-- ---- the row at a place of a job
+
+-- a rack tells what it told before with this row, where the strips have these byte counts
+abbrev pub TellsRow : SiteJob → Place → HeldRow → List (List ℕ) → Tells → Tells → Type 0
+TellsRow job place held counts old new = (d : SitePlate) → new ≡ after_row (shape_of job)
+    (slice_index_or job.plates place.plate d) place.y held.number held.bytes held.source
+    (slice_index_or counts place.slot []) old
+
+-- the byte counts of its slot are those from before with this row
+abbrev pub CountsRow : SiteJob → Place → HeldRow → List (List ℕ) → List (List ℕ) → Type 0
+CountsRow job place held old new = slice_index_or new place.slot [] ≡ counted place.y
+    (place.y / rows_each job.width) (length (packed_in held.bytes)) (slice_index_or old place.slot [])

@@ -5,7 +5,7 @@ use Rattle.ring_lanes.specs.declared.source.Source.{Source}
 use Rattle.ring_lanes.specs.Reader.{ReaderState, source_of}
 use Rattle.pr_base.specs.Row.{row_size}
 use Rattle.tif_packbits.specs.Frame.{AreFrames, framed_row}
-use Rattle.pr_rack.specs.Told.{Tells}
+use Rattle.pr_rack.specs.Told.{RackTells, Tells}
 use Rattle.site_agent.specs.declared.kept.LeftCause.{LeftCause}
 use Rattle.site_agent.specs.declared.turn_end.TurnEnd.{TurnEnd}
 use Rattle.site_agent.specs.declared.turn_end.TurnEnd.TheVariants.{Waiting, Finished, Left, Memory}
@@ -100,3 +100,20 @@ pub record StopsAt (job : SiteJob) (rows : List (List ℕ)) (source : Source) (n
   pub kept : is_kept job n ≡ true
   pub finished : now.finished ≡ grown (files_below job rows n) before.finished
   pub taken : TakenOnce n source (grown (taken_below job source n) before.taken) now.taken
+
+-- ---- of each run that a site was in, whose rows this reader takes
+
+-- the site is in it still
+abbrev pub GoesOnBy : ReaderState → SiteData → SiteData → RackTells → RackTells → Type 0
+GoesOnBy reader site site' old new = (before : Tells) → IsGoingBy reader before old.tells site
+    → IsGoingBy reader before new.tells site'
+
+-- the site left for this cause
+abbrev pub LeavesBy : ReaderState → SiteData → RackTells → RackTells → LeftCause → Type 0
+LeavesBy reader site old new cause = (before : Tells) → IsGoingBy reader before old.tells site
+    → LeavesAt site.job (map framed_row reader.ring.rows) (source_of reader) before new.tells cause
+
+-- the rack wanted memory for the site's row n
+abbrev pub StopsBy : ReaderState → SiteData → RackTells → RackTells → ℕ → Type 0
+StopsBy reader site old new n = (before : Tells) → IsGoingBy reader before old.tells site
+    → StopsAt site.job (map framed_row reader.ring.rows) (source_of reader) n before new.tells

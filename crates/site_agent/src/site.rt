@@ -1,21 +1,20 @@
 // A print site and its turn for a row.
-ghost use Rattle.std.specs.Prelude.{◌≡◌, ◌≢◌, ◌+◌, ◌/◌, ◌==◌, ◌<◌, ◌≤◌, ℕ, List, [], Some, false, true, IfErr, IfNone, IfOk, IfSome, OnErr, OnOk, length, slice_get, slice_index_or};
+ghost use Rattle.std.specs.Prelude.{◌≡◌, ◌≢◌, ◌==◌, ◌<◌, ◌≤◌, ℕ, [], Some, false, true, IfErr, IfNone, IfOk, IfSome, OnErr, OnOk, length, slice_index_or};
 ghost use Rattle.pr_base.specs.Row.{row_size};
-ghost use Rattle.tif_packbits.specs.Frame.{IsFrame, framed_row, packed_in};
-ghost use Rattle.tif_plate.specs.Plate.{rows_each};
+ghost use Rattle.tif_packbits.specs.Frame.{IsFrame, framed_row};
 ghost use Rattle.pr_base.specs.Count.{Rose};
-ghost use Rattle.pr_rack.specs.Told.{Tells, told};
+ghost use Rattle.pr_rack.specs.Told.{told};
 ghost use Rattle.site_agent.specs.declared.plate.SitePlate.{SitePlate as SitePlateData};
-ghost use Rattle.site_agent.specs.Job.{IsJob, shape_of};
+ghost use Rattle.site_agent.specs.Job.{IsJob};
 ghost use Rattle.site_agent.specs.Given.{IsNoRow, finished_count, is_kept};
-ghost use Rattle.site_agent.specs.Kept.{GoesOn, IfLeft, IsCauseAt, OnDone, OnEnd, OnMemory, TakenOnce, kept_of};
+ghost use Rattle.site_agent.specs.Kept.{GoesOn, IfLeft, IsCauseAt, KeepsRow, OnDone, OnEnd, OnMemory, TakenOnce, kept_of};
 ghost use Rattle.plan_json.specs.Plan.{IsPlan};
 ghost use Rattle.plan_rows.specs.Rows.{rows_of};
 ghost use Rattle.site_agent.specs.Picked.{job_over, site_over};
-ghost use Rattle.site_agent.specs.Refused.{IsStopped, taken_at};
+ghost use Rattle.site_agent.specs.Refused.{IsStoppedAt, taken_at};
 ghost use Rattle.site_agent.specs.Site.{IsPlaceOf};
-ghost use Rattle.site_agent.specs.Stands.{AreAsLong, AreBegun, StandsAfter};
-ghost use Rattle.site_agent.specs.Tells.{after_row, counted};
+ghost use Rattle.site_agent.specs.Stands.{AreAsLong, AreBegun};
+ghost use Rattle.site_agent.specs.Tells.{CountsRow, TellsRow};
 
 use crate::calls::{Refusal, deliver};
 use crate::place::Place;
@@ -134,23 +133,15 @@ impl Site {
         requires begun { AreBegun self.old.job self.old.next (R.begun rack.old) }
         requires working { IfSome (R.working rack.old)
             (AreAsLong self.old.job self.old.next self.old.counts) }
-        ensures rack { OnOk result ((d : SitePlateData) →
-            (told R.Rack rack.new).tells
-            ≡ after_row (shape_of self.old.job) (slice_index_or self.old.job.plates place.plate d) place.y
-            held.now.number held.now.bytes held.now.source (slice_index_or self.new.counts place.slot [])
-            (told R.Rack rack.old).tells) }
-        ensures own { OnOk result (
-            slice_index_or self.new.counts place.slot []
-            ≡ counted place.y (place.y / rows_each self.old.job.width) (length (packed_in held.now.bytes))
-            (slice_index_or self.old.counts place.slot [])) }
+        ensures rack { OnOk result (TellsRow self.old.job place held.now self.new.counts
+            (told R.Rack rack.old).tells (told R.Rack rack.new).tells) }
+        ensures own { OnOk result (CountsRow self.old.job place held.now self.old.counts self.new.counts) }
         ensures others { OnOk result ((s : ℕ) → s < 5 → s ≢ place.slot →
             slice_index_or self.new.counts s [] ≡ slice_index_or self.old.counts s []) }
         ensures goes_on { OnOk result (GoesOn self.old self.new) }
         ensures missed_stay { OnOk result (R.missed rack.new ≡ R.missed rack.old) }
-        ensures stopped { IfErr result (λ refusal. (d : SitePlateData) →
-            IsStopped self.old.job.height place.y held.now.number held.now.source
-            (slice_index_or self.old.job.plates place.plate d).path
-            (told R.Rack rack.old) (told R.Rack rack.new) refusal) }
+        ensures stopped { IfErr result (IsStoppedAt self.old.job place held.now
+            (told R.Rack rack.old) (told R.Rack rack.new)) }
         ensures ended { OnErr result (self.new.ended ≡ true) }
         ensures job { self.new.job ≡ self.old.job }
         ensures faults_stay { R.faults rack.old ≤ R.faults rack.new }
@@ -216,15 +207,8 @@ impl Site {
             (AreAsLong self.old.job self.old.next self.old.counts) }
 
         // Done: the rows up to this one are dealt with.
-        ensures keeps { OnDone result (
-            (rows : List (List ℕ)) (before : Tells)
-            → slice_get rows self.old.next ≡ Some (framed_row held.now.bytes)
-            → StandsAfter self.old.job rows held.now.source self.old.next before
-            (told R.Rack rack.old).tells
-            self.old.counts
-            → StandsAfter self.old.job rows held.now.source (self.old.next + 1) before
-            (told R.Rack rack.new).tells
-            self.new.counts) }
+        ensures keeps { OnDone result (KeepsRow self.old self.new held.now
+            (told R.Rack rack.old).tells (told R.Rack rack.new).tells) }
         ensures goes_on { OnDone result (GoesOn self.old self.new) }
         ensures begun_on { OnDone result (AreBegun self.new.job self.new.next (R.begun rack.new)) }
         ensures working_on { OnDone result (IfSome (R.working rack.new)

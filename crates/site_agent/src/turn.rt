@@ -1,13 +1,12 @@
 // The turn of a site at a ring: it takes rows until it would wait too often.
-ghost use Rattle.std.specs.Prelude.{◌≡◌, ◌+◌, ◌<◌, ◌≤◌, ℕ, Some, false, true, IfSome, map};
+ghost use Rattle.std.specs.Prelude.{◌≡◌, ◌+◌, ◌<◌, ◌≤◌, ℕ, Some, false, true, IfSome};
 ghost use Rattle.pr_base.specs.Count.{Rose};
-ghost use Rattle.tif_packbits.specs.Frame.{framed_row};
-ghost use Rattle.ring_lanes.specs.Reader.{Waits, source_of};
-ghost use Rattle.pr_rack.specs.Told.{Tells, told};
+ghost use Rattle.ring_lanes.specs.Reader.{Waits};
+ghost use Rattle.pr_rack.specs.Told.{told};
 ghost use Rattle.site_agent.specs.Draw.{Draws, IsReady, stage};
 ghost use Rattle.site_agent.specs.Kept.{IsCauseAt};
 ghost use Rattle.site_agent.specs.Stands.{AreAsLong, AreBegun};
-ghost use Rattle.site_agent.specs.Turn.{AreRowsFor, GoesOnTo, IfLeft, IfWaiting, IsGoingBy, LeavesAt, OnEnd, OnFinished, OnGoing, OnMemory, StopsAt, WaitsNoMore};
+ghost use Rattle.site_agent.specs.Turn.{AreRowsFor, GoesOnBy, GoesOnTo, IfLeft, IfWaiting, LeavesBy, OnEnd, OnFinished, OnGoing, OnMemory, StopsBy, WaitsNoMore};
 
 use crate::{Kept, Site, TurnEnd};
 use pr_base::Deal;
@@ -53,12 +52,8 @@ impl Site {
         ensures waits { WaitsNoMore patience reader.old reader.new result }
 
         // Waiting and Finished: the rows below the cursor are dealt with.
-        ensures stands { OnGoing result ((before : Tells) →
-            IsGoingBy reader.old before
-            (told R.Rack rack.old).tells self.old
-            → IsGoingBy reader.old before
-            (told R.Rack rack.new).tells
-            self.new) }
+        ensures stands { OnGoing result (GoesOnBy reader.old self.old self.new
+            (told R.Rack rack.old) (told R.Rack rack.new)) }
         ensures goes_on { OnGoing result (GoesOnTo self.old self.new reader.new.cursor) }
         ensures begun_on { OnGoing result (AreBegun self.new.job self.new.next (R.begun rack.new)) }
         ensures working_on { OnGoing result (IfSome (R.working rack.new)
@@ -73,20 +68,13 @@ impl Site {
         ensures left_counted { IfLeft result (λ _. Rose (R.faults rack.old) (R.faults rack.new)) }
         ensures left_missed { IfLeft result (λ cause.
             IfSome (R.missed rack.new) (λ last. last ≡ Some (cause.call, cause.path))) }
-        ensures left_stands { IfLeft result (λ cause. (before : Tells) →
-            IsGoingBy reader.old before
-            (told R.Rack rack.old).tells self.old
-            → LeavesAt self.old.job (map framed_row reader.old.ring.rows) (source_of reader.old) before
-            (told R.Rack rack.new).tells
-            cause) }
+        ensures left_stands { IfLeft result (LeavesBy reader.old self.old
+            (told R.Rack rack.old) (told R.Rack rack.new)) }
 
         // Memory: a call of the rack wanted it, for that row, and none failed.
         ensures memory_missed { OnMemory result (R.missed rack.new ≡ R.missed rack.old) }
-        ensures memory_stands { OnMemory result ((before : Tells) (n : ℕ) → n + 1 ≡ reader.new.cursor →
-            IsGoingBy reader.old before
-            (told R.Rack rack.old).tells self.old
-            → StopsAt self.old.job (map framed_row reader.old.ring.rows) (source_of reader.old) n before
-            (told R.Rack rack.new).tells) }
+        ensures memory_stands { OnMemory result ((n : ℕ) → n + 1 ≡ reader.new.cursor →
+            StopsBy reader.old self.old (told R.Rack rack.old) (told R.Rack rack.new) n) }
 
         ensures ended { OnEnd result (self.new.ended ≡ true) }
         ensures faults_stay { R.faults rack.old ≤ R.faults rack.new }
@@ -121,14 +109,10 @@ impl Site {
         reader: &mut Reader<'_, D>,
         rack: &mut R,
     ) -> Result<Kept, NotYet>
-        requires ready { IsReady (stage self.old reader.old
-            (told R.Rack rack.old)) }
+        requires ready { IsReady (stage self.old reader.old (told R.Rack rack.old)) }
         requires some_row { reader.old.cursor < reader.old.ring.total }
-        ensures { Draws
-            (stage self.old reader.old
-            (told R.Rack rack.old))
-            (stage self.new reader.new
-            (told R.Rack rack.new)) result }
+        ensures { Draws (stage self.old reader.old (told R.Rack rack.old))
+            (stage self.new reader.new (told R.Rack rack.new)) result }
     {
         let held = reader.open()?;
         let kept = self.keep(&held, rack);

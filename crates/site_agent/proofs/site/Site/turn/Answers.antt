@@ -16,7 +16,7 @@ returns-in-Ok-Left-clause-left_stands g c =
 
 pub returns-in-Ok-Memory-clause-memory_stands : goal.returns-in-Ok-Memory-clause-memory_stands
 returns-in-Ok-Memory-clause-memory_stands g c =
-    λ before n last going. goes-stops (stage c.args.self.now c.args.reader.now (told g.R.Rack c.args.rack.now)) (stage c.loop-self.self c.loop-self.reader (told g.R.Rack c.loop-self.rack)) (stage c.draw.new.self c.draw.new.reader (told g.R.Rack c.draw.new.rack)) c.loop-self.waits n before (last ∙ ap (λ r. r.cursor) c.leave-in-Ok-Memory.ensures) c.loop-self.invariant.goes (rw c.in-Ok-Memory.field-0-is at c.in-Ok-Memory.ensures) going
+    λ n last before going. goes-stops (stage c.args.self.now c.args.reader.now (told g.R.Rack c.args.rack.now)) (stage c.loop-self.self c.loop-self.reader (told g.R.Rack c.loop-self.rack)) (stage c.draw.new.self c.draw.new.reader (told g.R.Rack c.draw.new.rack)) c.loop-self.waits n before (last ∙ ap (λ r. r.cursor) c.leave-in-Ok-Memory.ensures) c.loop-self.invariant.goes (rw c.in-Ok-Memory.field-0-is at c.in-Ok-Memory.ensures) going
 
 pub returns-then-waits-patience-clause-stands : goal.returns-then-waits-patience-clause-stands
 returns-then-waits-patience-clause-stands g c =
