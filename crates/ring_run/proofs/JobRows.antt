@@ -1,5 +1,5 @@
 -- The rows of a job, and a run's contract over them.
-use Rattle.std.proofs.Common.{◌≡◌, ℕ, List, [], ◌∷◌, ◌++◌, length, map, drop, get_or, ap, refl, sym, subst, ◌∙◌, arith}
+use Rattle.std.proofs.Common.{◌≡◌, ℕ, Result, List, [], ◌∷◌, ◌++◌, length, map, drop, get_or, ap, refl, sym, subst, ◌∙◌, arith}
 use Rattle.std.specs.Prelude.{All}
 use Rattle.std.proofs.lemmas.List.{length-map, map-append}
 use Rattle.std.proofs.lemmas.List.Elements.{All-map}
@@ -18,9 +18,11 @@ use Rattle.press_job.proofs.FrameLemmas.{length-plate_frames}
 use Rattle.ring_rule.specs.Views.{ring_of}
 use Rattle.site_agent.specs.Racks.{AreIdle, KeepCounts}
 use Rattle.site_agent.proofs.Racks.{counts_wide, idle_front}
+use Rattle.ring_run.specs.declared.site_end.Outcome.{Outcome}
 use Rattle.ring_run.specs.declared.site_end.SiteEnd.{SiteEnd}
-use Rattle.ring_run.specs.Fits.{Delivery, RunFits, RunPart, by_ring}
+use Rattle.ring_run.specs.Fits.{Delivery, RunFits, RunLeaves, RunPart, by_ring}
 use Rattle.ring_run.specs.Served.{Carries}
+use Rattle.ring_run.proofs.Results.{if_err, if_ok}
 use Rattle.ring_run.proofs.Running.{fits_wide, part_wide}
 
 row-long : (plan : PlanData) (files : List (List ℕ)) (place : RowPlace) → length (row_at_place plan files (groups_of plan) place) ≡ row_size (plate_width plan)
@@ -68,7 +70,7 @@ over_job P own plan files out readers ring same is p =
 wide : {X : Type 0} (tell : X → RackTells) (racks front rest : List X) → racks ≡ front ++ rest → map tell racks ≡ map tell front ++ map tell rest
 wide tell racks front rest is = ap (map tell) is ∙ map-append tell front rest
 
-pub job_fits : {X : Type 0} (tell : X → RackTells) (own plan : PlanData) (files : List (List ℕ)) (out : List ℕ) (readers ring : ℕ) (racks racks' front front' rest : List X) (ends : List SiteEnd) → racks ≡ front ++ rest → racks' ≡ front' ++ rest
+job_fits : {X : Type 0} (tell : X → RackTells) (own plan : PlanData) (files : List (List ℕ)) (out : List ℕ) (readers ring : ℕ) (racks racks' front front' rest : List X) (ends : List SiteEnd) → racks ≡ front ++ rest → racks' ≡ front' ++ rest
     → length front ≡ length own.sites → length front' ≡ length front → own ≡ plan → IsPlan own → RunFits (by_ring own (map framed_row (plate_frames plan files)) out readers ring) (map tell front) (map tell front') ends
     → RunFits (by_ring plan (plate_rows plan files) out readers ring) (map tell racks) (map tell racks') ends
 job_fits tell own plan files out readers ring racks racks' front front' rest ends is is' long same plan-is is-plan fits =
@@ -77,7 +79,7 @@ job_fits tell own plan files out readers ring racks racks' front front' rest end
     (subst (λ (old : List RackTells). RunFits (by_ring own (map framed_row (plate_frames plan files)) out readers ring) old (map tell front' ++ map tell rest) ends) (sym (wide tell racks front rest is))
     (fits_wide (by_ring own (map framed_row (plate_frames plan files)) out readers ring) (map tell front) (map tell front') (map tell rest) ends (length-map front tell ∙ long) (length-map front' tell ∙ same ∙ long) fits)))
 
-pub job_part : {X : Type 0} (tell : X → RackTells) (own plan : PlanData) (files : List (List ℕ)) (out : List ℕ) (readers ring : ℕ) (racks racks' front front' rest : List X) → racks ≡ front ++ rest → racks' ≡ front' ++ rest
+job_part : {X : Type 0} (tell : X → RackTells) (own plan : PlanData) (files : List (List ℕ)) (out : List ℕ) (readers ring : ℕ) (racks racks' front front' rest : List X) → racks ≡ front ++ rest → racks' ≡ front' ++ rest
     → length front ≡ length own.sites → length front' ≡ length front → own ≡ plan → IsPlan own → RunPart (by_ring own (map framed_row (plate_frames plan files)) out readers ring) (map tell front) (map tell front')
     → RunPart (by_ring plan (plate_rows plan files) out readers ring) (map tell racks) (map tell racks')
 job_part tell own plan files out readers ring racks racks' front front' rest is is' long same plan-is is-plan part =
@@ -86,12 +88,22 @@ job_part tell own plan files out readers ring racks racks' front front' rest is 
     (subst (λ (old : List RackTells). RunPart (by_ring own (map framed_row (plate_frames plan files)) out readers ring) old (map tell front' ++ map tell rest)) (sym (wide tell racks front rest is))
     (part_wide (by_ring own (map framed_row (plate_frames plan files)) out readers ring) (map tell front) (map tell front') (map tell rest) (length-map front tell ∙ long) (length-map front' tell ∙ same ∙ long) part)))
 
-pub job_counts : {X : Type 0} (tell : X → RackTells) (racks racks' front front' rest : List X) → racks ≡ front ++ rest → racks' ≡ front' ++ rest → length front' ≡ length front → KeepCounts (map tell front) (map tell front')
+job_counts : {X : Type 0} (tell : X → RackTells) (racks racks' front front' rest : List X) → racks ≡ front ++ rest → racks' ≡ front' ++ rest → length front' ≡ length front → KeepCounts (map tell front) (map tell front')
     → KeepCounts (map tell racks) (map tell racks')
 job_counts tell racks racks' front front' rest is is' same keep =
     subst (λ (new : List RackTells). KeepCounts (map tell racks) new) (sym (wide tell racks' front' rest is'))
     (subst (λ (old : List RackTells). KeepCounts old (map tell front' ++ map tell rest)) (sym (wide tell racks front rest is))
     (counts_wide (map tell front) (map tell front') (map tell rest) (length-map front' tell ∙ same ∙ sym (length-map front tell)) keep))
+
+-- so what a run leaves by the racks of its sites it leaves by all
+pub job_leaves : {X E : Type 0} (tell : X → RackTells) (own plan : PlanData) (files : List (List ℕ)) (out : List ℕ) (readers ring : ℕ) (racks racks' front front' rest : List X) (answer : Result Outcome E) → racks ≡ front ++ rest → racks' ≡ front' ++ rest
+    → length front ≡ length own.sites → length front' ≡ length front → own ≡ plan → IsPlan own → RunLeaves (by_ring own (map framed_row (plate_frames plan files)) out readers ring) (map tell front) (map tell front') answer
+    → RunLeaves (by_ring plan (plate_rows plan files) out readers ring) (map tell racks) (map tell racks') answer
+job_leaves tell own plan files out readers ring racks racks' front front' rest answer is is' long same plan-is is-plan leaves = record {
+  fits = if_ok answer _ _ (λ outcome fits. job_fits tell own plan files out readers ring racks racks' front front' rest outcome.sites.items is is' long same plan-is is-plan fits) leaves.fits;
+  part = if_err answer _ _ (λ part. job_part tell own plan files out readers ring racks racks' front front' rest is is' long same plan-is is-plan part) leaves.part;
+  counts = job_counts tell racks racks' front front' rest is is' same leaves.counts;
+}
 
 pub job_idle : {X : Type 0} (tell : X → RackTells) (count : ℕ) (racks front rest : List X) → racks ≡ front ++ rest → length front ≡ count → AreIdle count (map tell racks) → AreIdle count (map tell front)
 job_idle tell count racks front rest is long idle =

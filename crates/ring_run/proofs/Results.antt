@@ -10,3 +10,8 @@ if_ok (Err fault) P Q f p = tt
 pub on_err : {T E : Type 0} (result : Result T E) (P : Type 0) → P → OnErr result P
 on_err (Ok value) P p = tt
 on_err (Err fault) P p = p
+
+-- what holds where the answer is a refusal, if what it follows from does
+pub if_err : {T E : Type 0} (result : Result T E) (P Q : Type 0) → (P → Q) → OnErr result P → OnErr result Q
+if_err (Ok value) P Q f p = tt
+if_err (Err fault) P Q f p = f p

@@ -1,6 +1,6 @@
 -- A run from its first round to its last.
-use Rattle.std.proofs.Common.{◌≡◌, ℕ, zero, suc, ◌+◌, ◌-◌, ◌<◌, ◌≤◌, ◌⊎◌, Bool, true, false, not, ◌&&◌, ◌||◌, List, [], ◌∷◌, ◌++◌, length, map, take, drop, get_or, Option, Some, None, refl, sym, ap, subst, ◌∙◌, inl, inr, ⊎_elim, zero-add, append-nil, arith}
-use Rattle.std.specs.Prelude.{nat_lt, slice_get}
+use Rattle.std.proofs.Common.{◌≡◌, ℕ, zero, suc, ◌+◌, ◌-◌, ◌<◌, ◌≤◌, ◌⊎◌, Bool, true, false, not, ◌&&◌, ◌||◌, List, [], ◌∷◌, ◌++◌, length, map, take, drop, get_or, Result, Ok, Err, Option, Some, None, refl, sym, ap, subst, ◌∙◌, inl, inr, ⊎_elim, zero-add, append-nil, arith}
+use Rattle.std.specs.Prelude.{IsErr, nat_lt, slice_get}
 use Rattle.std.specs.List.{enumerate_from, list_any}
 use Rattle.std.proofs.lemmas.Bool.{cases_lt, ltb-false}
 use Rattle.std.proofs.lemmas.List.{take-append-drop, length-append, length-take-le, get_or-append_right, get_or_append_left, get_or-map, length-map, map-append}
@@ -21,13 +21,14 @@ use Rattle.site_agent.specs.Plan.{fresh_site}
 use Rattle.site_agent.specs.Stands.{grown}
 use Rattle.site_agent.proofs.Going.{going_at_start}
 use Rattle.site_agent.specs.Racks.{AreIdle, KeepCounts, TellsSlots, AllTellSlots}
-use Rattle.site_agent.proofs.Racks.{idle_is, slice_get-behind, slice_get-front}
+use Rattle.site_agent.proofs.Racks.{counts_stay, idle_is, slice_get-behind, slice_get-front}
 use Rattle.ring_run.specs.declared.site.RunSite.{RunSite}
 use Rattle.ring_run.specs.declared.site.RunSite.TheVariants.{Going, Left, Stopped}
+use Rattle.ring_run.specs.declared.site_end.Outcome.{Outcome}
 use Rattle.ring_run.specs.declared.site_end.SiteEnd.{SiteEnd}
 use Rattle.ring_run.specs.declared.site_end.SiteEnd.TheVariants.{Finished}
 use Rattle.ring_run.specs.declared.site_end.SiteEnd.TheVariants as Ended
-use Rattle.ring_run.specs.Fits.{Delivery, FitsEnd, FitsPart, RunFits, RunPart, kept_rows}
+use Rattle.ring_run.specs.Fits.{Delivery, FitsEnd, FitsPart, RunFits, RunLeaves, RunPart, kept_rows}
 use Rattle.ring_run.specs.Round.{AreEndsOf, StaySeated}
 use Rattle.ring_run.specs.Seat.{SeatData, all_readers, are_going, is_going, is_stopped}
 use Rattle.ring_run.specs.Served.{AreSeated, AreSomeSeated, AreStopped, Carries, GoesOnAt, HasStopped, IsSeated, IsServed, end_of, ends_in, fresh_seat, fresh_seats, is_out}
@@ -290,6 +291,11 @@ none_part delivery before = record {
       subst (λ (now : RackTells). FitsPart delivery site old now) (same_Some old new (sym b ∙ r))
       (record { files = 0; rows' = 0; finished = grown-nothing old.tells.finished; taken = grown-nothing old.tells.taken });
 }
+
+-- so it is of what is left where nothing was made for want of memory
+pub none_leaves : {E : Type 0} (delivery : Delivery) (before : List RackTells) (answer : Result Outcome E) → IsErr answer → RunLeaves delivery before before answer
+none_leaves delivery before (Ok outcome) is = absurd (let no : false ≡ true = is in cc)
+none_leaves delivery before (Err fault) is = record { fits = tt; part = none_part delivery before; counts = counts_stay before }
 
 -- ---- counts
 

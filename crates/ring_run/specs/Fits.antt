@@ -1,17 +1,23 @@
 -- What a run leaves on the racks of its sites, by what each of them told before and tells now.
-use Rattle.std.specs.Prelude.{◌≡◌, ℕ, ◌<◌, false, List, length, take, count_by, Some, IfSome, slice_get}
+use Rattle.std.specs.Prelude.{◌≡◌, ℕ, ◌<◌, false, List, length, map, take, count_by, Some, IfSome, IfOk, OnErr, Result, slice_get}
 use Rattle.std.specs.List.{range_with_len}
 use Rattle.pr_base.specs.Count.{Rose}
+use Rattle.ring_rule.specs.declared.view.RingNumbers.{RingNumbers}
 use Rattle.ring_lanes.specs.declared.source.Source.{Source}
 use Rattle.ring_lanes.specs.declared.source.Source.TheVariants.{Ring}
+use Rattle.tif_packbits.specs.Frame.{framed_row}
 use Rattle.pr_rack.specs.Rack.{Plate}
 use Rattle.pr_rack.specs.Told.{RackTells}
 use Rattle.plan_json.specs.Data.{PlanData}
 use Rattle.plan_rows.specs.Plates.{site_plates, site_files}
 use Rattle.plan_rows.specs.Rows.{row_places, keeps_row}
+use Rattle.press_job.specs.Job.{JobData}
+use Rattle.press_job.specs.Rows.{plate_rows}
 use Rattle.site_agent.specs.declared.kept.LeftCause.{LeftCause}
 use Rattle.site_agent.specs.Plan.{drawn_rows, rows_up_to, FitsLeft}
+use Rattle.site_agent.specs.Racks.{KeepCounts}
 use Rattle.site_agent.specs.Stands.{grown}
+use Rattle.ring_run.specs.declared.site_end.Outcome.{Outcome}
 use Rattle.ring_run.specs.declared.site_end.SiteEnd.{SiteEnd}
 use Rattle.ring_run.specs.declared.site_end.SiteEnd.TheVariants.{Finished, Left}
 
@@ -33,6 +39,14 @@ by_ring plan rows out readers ring = record {
   out = out;
   source = λ site. Ring site readers ring;
 }
+
+-- the same of the rows of a job
+abbrev pub by_job : JobData → List ℕ → ℕ → ℕ → Delivery
+by_job job out readers ring = by_ring job.plan (plate_rows job.plan job.files) out readers ring
+
+-- the same of the rows whose frames a ring has
+abbrev pub on_ring : PlanData → List ℕ → RingNumbers → Delivery
+on_ring plan out ring = by_ring plan (map framed_row ring.rows) out ring.readers ring.places
 
 -- the files of a site in order
 abbrev pub files_for : Delivery → ℕ → List Plate
@@ -102,3 +116,13 @@ pub record RunFits (delivery : Delivery) (before now : List RackTells) (ends : L
 pub record RunPart (delivery : Delivery) (before now : List RackTells) : Type 0 where
   pub each : (site : ℕ) (old new : RackTells) → site < length delivery.plan.sites
       → slice_get before site ≡ Some old → slice_get now site ≡ Some new → FitsPart delivery site old new
+
+-- what a run leaves of what the racks of its sites tell, by its answer
+pub record RunLeaves {E : Type 0} (delivery : Delivery) (before now : List RackTells)
+    (answer : Result Outcome E) : Type 0 where
+  -- each site's end fits what its rack has more than before
+  pub fits : IfOk answer (λ outcome. RunFits delivery before now outcome.sites.items)
+  -- want of memory: each rack has the first of its site's files more, and the first of its rows
+  pub part : OnErr answer (RunPart delivery before now)
+  -- no count of failures falls, whatever the answer
+  pub counts : KeepCounts before now

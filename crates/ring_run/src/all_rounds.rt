@@ -15,39 +15,59 @@ use crate::seats::are_going;
 use pr_base::{Deal, RowFeed};
 use pr_rack::Rack;
 use ring_lanes::{Reader, Writer};
-use ring_turns::Pace;
+use ring_turns::{Pace, Pairs};
 use std::thread::Threads;
+
+/// The writer of a run and the feed of its rows.
+pub(crate) struct WriterAndFeed<'a, 'r, D: Deal, F> {
+    pub(crate) writer: &'a mut Writer<'r, D>,
+    pub(crate) feed: &'a mut F,
+}
+
+/// What the readers of a run take their turns with: the racks of its sites, and its key readers.
+pub(crate) struct RacksAndKeys<'a, 'p, R> {
+    pub(crate) racks: &'a mut [R],
+    pub(crate) keys: &'a mut [RunKeyReader<'p>],
+}
 
 /// Round after round, until each site has finished or left and each further reader has all rows, or want of
 /// memory stopped a site.
 pub(crate) fn run_rounds<T: Threads + Sync, D: Deal + Sync, F: RowFeed + Send, R: Rack + Send>(
     rt: &T,
-    writer: &mut Writer<'_, D>,
-    feed: &mut F,
+    one: WriterAndFeed<'_, '_, D, F>,
     seats: &mut [Seat<'_, D>],
-    racks: &mut [R],
     more: &mut [Reader<'_, D>],
-    keys: &mut [RunKeyReader<'_>],
+    theirs: RacksAndKeys<'_, '_, R>,
     patience: u32,
 )
-    requires feed { MayFeed (F.left feed.old) writer.old }
-    requires places { 0 < writer.old.ring.places }
-    requires ends { AreEndsOf writer.old (all_readers seats.old more.old) }
-    requires count { length seats.old ≡ length racks.old }
-    requires some { AreSomeSeated (all_told R.Rack racks.old) seats.old }
-    requires more { length more.old ≡ length keys.old }
-    requires counting { MayAllTurn IsCounting more.old keys.old }
+    requires feed { MayFeed (F.left one.feed.now) one.writer.now }
+    requires places { 0 < one.writer.now.ring.places }
+    requires ends { AreEndsOf one.writer.now (all_readers seats.old more.old) }
+    requires count { length seats.old ≡ length theirs.racks.now }
+    requires some { AreSomeSeated (all_told R.Rack theirs.racks.now) seats.old }
+    requires more { length more.old ≡ length theirs.keys.now }
+    requires counting { MayAllTurn IsCounting more.old theirs.keys.now }
     requires patience { 0 < patience }
     ensures over { are_going_lem seats.new more.new ≡ false }
-    ensures ring { writer.new.ring ≡ writer.old.ring }
-    ensures ends { AreEndsOf writer.new (all_readers seats.new more.new) }
-    ensures seated { StaySeated (all_told R.Rack racks.old) (all_told R.Rack racks.new)
-        seats.old seats.new }
-    ensures counting { MayAllTurn IsCounting more.new keys.new }
-    ensures keys { AreSameKeys keys.old keys.new }
+    ensures ring { one.exit.0.now.ring ≡ one.entry.writer.now.ring }
+    ensures ends { AreEndsOf one.exit.0.now (all_readers seats.new more.new) }
+    ensures seated { StaySeated
+        (all_told R.Rack theirs.entry.racks.now) (all_told R.Rack theirs.exit.0.now) seats.old seats.new }
+    ensures counting { MayAllTurn IsCounting more.new theirs.exit.1.0.now }
+    ensures keys { AreSameKeys theirs.entry.keys.now theirs.exit.1.0.now }
 {
+    let WriterAndFeed { writer, feed } = one;
+    let RacksAndKeys { racks, keys } = theirs;
     let pace = Pace::of(rt, patience);
     while are_going(seats, more) {
-        round(rt, writer, feed, seats, racks, more, keys, pace);
+        let sites = Pairs {
+            all: &mut *seats,
+            others: &mut *racks,
+        };
+        let further = Pairs {
+            all: &mut *more,
+            others: &mut *keys,
+        };
+        round(rt, writer, feed, sites, further, pace);
     }
 }

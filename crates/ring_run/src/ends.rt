@@ -7,9 +7,9 @@ ghost use Rattle.plan_rows.specs.Rows.{rows_of};
 ghost use Rattle.ring_run.specs.Fits.{kept_rows};
 ghost use Rattle.ring_run.specs.Served.{end_of, ends_in, fresh_seats, plates_in};
 
-use crate::SiteEnd;
 use crate::seat::Seat;
 use crate::site::RunSite;
+use crate::{Outcome, SiteEnd};
 use plan_json::Plan;
 use plan_pages::plate_shape;
 use plan_rows::{Group, RowPlan};
@@ -44,18 +44,18 @@ pub(crate) fn ends_of<D: Deal>(
     plan: &Plan,
     rows: &RowPlan,
     seats: Vec<Seat<'_, D>>,
-) -> Result<Vec<SiteEnd>, NoMemory>
+) -> Result<Outcome, NoMemory>
     requires plan { IsPlan plan.now }
     requires rows { rows.now ≡ rows_of plan.now }
     requires seats { length seats.items ≡ length plan.now.sites }
-    ensures { IfOk result (λ ends. map Some ends.items ≡ ends_in plan.now seats.entry.items) }
+    ensures { IfOk result (λ outcome. map Some outcome.sites.items ≡ ends_in plan.now seats.entry.items) }
 {
     let mut ends = Vec::new(alloc);
     for seat in seats {
         let end = end_at(plan, rows, ends.len(), seat.into_site()).ok_or(NoMemory)?;
         ends.push(end)?;
     }
-    Ok(ends)
+    Ok(Outcome { sites: ends })
 }
 
 /// How a site ended, unless want of memory stopped it.

@@ -4,7 +4,7 @@ ghost use Rattle.pr_rack.specs.Told.{all_told};
 ghost use Rattle.pr_base.specs.Number.{IsWithin};
 ghost use Rattle.press_job.specs.Rows.{plate_frames, plate_rows};
 ghost use Rattle.site_agent.specs.Racks.{AreIdle, KeepCounts};
-ghost use Rattle.ring_run.specs.Fits.{RunFits, RunPart, by_ring};
+ghost use Rattle.ring_run.specs.Fits.{RunFits, RunLeaves, RunPart, by_job};
 ghost use Rattle.ring_run.specs.Keyed.{AllKeysFit, AreFreshKeys};
 ghost use Rattle.ring_run.specs.Served.{IsRun};
 
@@ -36,13 +36,11 @@ pub fn run_job<T: Threads + Sync, R: Rack + Send>(
     requires patience { IsWithin 1 65536 patience }
     // Each site's end fits what its rack has more than before.
     ensures fits { IfOk result (λ outcome. RunFits
-        (by_ring job.now.plan (plate_rows job.now.plan job.now.files) out.now
-        (length job.now.plan.sites) ring)
+        (by_job job.now out.now (length job.now.plan.sites) ring)
         (all_told R.Rack racks.old) (all_told R.Rack racks.new) outcome.sites.items) }
     // Want of memory: each rack has the first of its site's files more, and the first of its rows.
     ensures part { OnErr result (RunPart
-        (by_ring job.now.plan (plate_rows job.now.plan job.now.files) out.now
-        (length job.now.plan.sites) ring)
+        (by_job job.now out.now (length job.now.plan.sites) ring)
         (all_told R.Rack racks.old) (all_told R.Rack racks.new)) }
     // What stands of the racks, whatever the answer.
     ensures counts { KeepCounts (all_told R.Rack racks.old) (all_told R.Rack racks.new) }
@@ -77,15 +75,8 @@ pub(crate) fn run_all<T: Threads + Sync, R: Rack + Send>(
     requires zeros { AreFreshKeys job.now.plan keys.old }
     requires racks { length job.now.plan.sites ≤ length racks.old }
     requires idle { AreIdle (length job.now.plan.sites) (all_told R.Rack racks.old) }
-    ensures fits { IfOk result (λ outcome. RunFits
-        (by_ring job.now.plan (plate_rows job.now.plan job.now.files) run.now.out.now
-        run.now.readers run.now.ring)
-        (all_told R.Rack racks.old) (all_told R.Rack racks.new) outcome.sites.items) }
-    ensures part { OnErr result (RunPart
-        (by_ring job.now.plan (plate_rows job.now.plan job.now.files) run.now.out.now
-        run.now.readers run.now.ring)
-        (all_told R.Rack racks.old) (all_told R.Rack racks.new)) }
-    ensures counts { KeepCounts (all_told R.Rack racks.old) (all_told R.Rack racks.new) }
+    ensures leaves { RunLeaves (by_job job.now run.now.out.now run.now.readers run.now.ring)
+        (all_told R.Rack racks.old) (all_told R.Rack racks.new) result }
     ensures others { drop (length job.now.plan.sites) racks.new ≡ drop (length job.now.plan.sites) racks.old }
     ensures keys { IfOk result (λ _. AllKeysFit job.now.plan
         (plate_rows job.now.plan job.now.files) keys.old keys.new) }
@@ -111,21 +102,13 @@ fn run_fed<T: Threads + Sync, F: RowFeed + Send, R: Rack + Send>(
     requires feed { F.left feed.old ≡ plate_frames job.now.plan job.now.files }
     requires racks { length job.now.plan.sites ≤ length racks.old }
     requires idle { AreIdle (length job.now.plan.sites) (all_told R.Rack racks.old) }
-    ensures fits { IfOk result (λ outcome. RunFits
-        (by_ring job.now.plan (plate_rows job.now.plan job.now.files) run.now.out.now
-        run.now.readers run.now.ring)
-        (all_told R.Rack racks.old) (all_told R.Rack racks.new) outcome.sites.items) }
-    ensures part { OnErr result (RunPart
-        (by_ring job.now.plan (plate_rows job.now.plan job.now.files) run.now.out.now
-        run.now.readers run.now.ring)
-        (all_told R.Rack racks.old) (all_told R.Rack racks.new)) }
-    ensures counts { KeepCounts (all_told R.Rack racks.old) (all_told R.Rack racks.new) }
+    ensures leaves { RunLeaves (by_job job.now run.now.out.now run.now.readers run.now.ring)
+        (all_told R.Rack racks.old) (all_told R.Rack racks.new) result }
     ensures others { drop (length job.now.plan.sites) racks.new ≡ drop (length job.now.plan.sites) racks.old }
     ensures keys { IfOk result (λ _. AllKeysFit job.now.plan
         (plate_rows job.now.plan job.now.files) keys.old keys.new) }
 {
     let plan = run.plan;
     let (racks, _others) = racks.split_at_mut(plan.sites.len());
-    let sites = run.run_rows(rt, job, feed, racks, keys)?;
-    Ok(Outcome { sites })
+    run.run_rows(rt, job, feed, racks, keys)
 }

@@ -5,7 +5,7 @@ ghost use Rattle.pr_base.specs.Number.{IsWithin};
 ghost use Rattle.press_job.specs.Rows.{plate_rows};
 ghost use Rattle.ink_keys.specs.Turn.{KeyReaderData};
 ghost use Rattle.site_agent.specs.Racks.{AreIdle, KeepCounts};
-ghost use Rattle.ring_run.specs.Fits.{RunFits, RunPart, by_ring};
+ghost use Rattle.ring_run.specs.Fits.{RunFits, RunPart, by_job};
 ghost use Rattle.ring_run.specs.Keyed.{KeysFit};
 
 use crate::Outcome;
@@ -40,16 +40,14 @@ pub fn run_keys<T: Threads + Sync, R: Rack + Send>(
     requires patience { IsWithin 1 65536 patience }
     // Each site's end fits what its rack has more than before, at a ring with one reader more.
     ensures fits { IfOk result (λ pair. RunFits
-        (by_ring job.now.plan (plate_rows job.now.plan job.now.files) out.now
-        (length job.now.plan.sites + 1) ring)
+        (by_job job.now out.now (length job.now.plan.sites + 1) ring)
         (all_told R.Rack racks.old) (all_told R.Rack racks.new) pair.0.sites.items) }
     // Each count is that of its plate's rows, out of all rows of the job.
     ensures keys { IfOk result (λ pair.
         KeysFit job.now.plan (plate_rows job.now.plan job.now.files) keys pair.1) }
     // Want of memory: each rack has the first of its site's files more, and the first of its rows.
     ensures part { OnErr result (RunPart
-        (by_ring job.now.plan (plate_rows job.now.plan job.now.files) out.now
-        (length job.now.plan.sites + 1) ring)
+        (by_job job.now out.now (length job.now.plan.sites + 1) ring)
         (all_told R.Rack racks.old) (all_told R.Rack racks.new)) }
     // What stands of the racks, whatever the answer.
     ensures counts { KeepCounts (all_told R.Rack racks.old) (all_told R.Rack racks.new) }

@@ -17,7 +17,7 @@ use crate::seat::Seat;
 use pr_base::{Deal, RowFeed};
 use pr_rack::Rack;
 use ring_lanes::{Reader, Writer};
-use ring_turns::{Pace, turn_all};
+use ring_turns::{Pace, Pairs, turn_all};
 use std::thread::Threads;
 
 /// Hands a note of each reader to the writer, also of one that has left.
@@ -50,34 +50,49 @@ pub(crate) fn round<T: Threads + Sync, D: Deal + Sync, F: RowFeed + Send, R: Rac
     rt: &T,
     writer: &mut Writer<'_, D>,
     feed: &mut F,
-    seats: &mut [Seat<'_, D>],
-    racks: &mut [R],
-    more: &mut [Reader<'_, D>],
-    keys: &mut [RunKeyReader<'_>],
+    sites: Pairs<'_, Seat<'_, D>, R>,
+    further: Pairs<'_, Reader<'_, D>, RunKeyReader<'_>>,
     pace: Pace,
 )
     requires feed { MayFeed (F.left feed.old) writer.old }
     requires places { 0 < writer.old.ring.places }
-    requires ends { AreEndsOf writer.old (all_readers seats.old more.old) }
-    requires count { length seats.old ≡ length racks.old }
-    requires some { AreSomeSeated (all_told R.Rack racks.old) seats.old }
-    requires more { length more.old ≡ length keys.old }
-    requires counting { MayAllTurn IsCounting more.old keys.old }
+    requires ends { AreEndsOf writer.old (all_readers sites.all.now further.all.now) }
+    requires count { length sites.all.now ≡ length sites.others.now }
+    requires some { AreSomeSeated (all_told R.Rack sites.others.now) sites.all.now }
+    requires more { length further.all.now ≡ length further.others.now }
+    requires counting { MayAllTurn IsCounting further.all.now further.others.now }
     requires patience { 0 < pace.patience }
     ensures feed { MayFeed (F.left feed.new) writer.new }
     ensures ring { writer.new.ring ≡ writer.old.ring }
-    ensures ends { AreEndsOf writer.new (all_readers seats.new more.new) }
-    ensures seated { StaySeated (all_told R.Rack racks.old) (all_told R.Rack racks.new)
-        seats.old seats.new }
-    ensures counting { MayAllTurn IsCounting more.new keys.new }
-    ensures keys { AreSameKeys keys.old keys.new }
-    ensures falls { list_any is_going (all_readers seats.old more.old) ≡ true →
-        to_do writer.new (all_readers seats.new more.new)
-        < to_do writer.old (all_readers seats.old more.old) }
+    ensures ends { AreEndsOf writer.new (all_readers sites.exit.0.now further.exit.0.now) }
+    ensures seated { StaySeated
+        (all_told R.Rack sites.entry.others.now) (all_told R.Rack sites.exit.1.0.now)
+        sites.entry.all.now sites.exit.0.now }
+    ensures counting { MayAllTurn IsCounting further.exit.0.now further.exit.1.0.now }
+    ensures keys { AreSameKeys further.entry.others.now further.exit.1.0.now }
+    ensures falls { list_any is_going (all_readers sites.entry.all.now further.entry.all.now) ≡ true →
+        to_do writer.new (all_readers sites.exit.0.now further.exit.0.now)
+        < to_do writer.old (all_readers sites.entry.all.now further.entry.all.now) }
 {
+    let Pairs {
+        all: seats,
+        others: racks,
+    } = sites;
+    let Pairs {
+        all: more,
+        others: keys,
+    } = further;
     tell_writer(writer, seats);
     tell_writer(writer, more);
     tell_readers(writer, seats);
     tell_readers(writer, more);
-    turn_all(rt, pace, feed, writer, racks, seats, keys, more);
+    let sites = Pairs {
+        all: seats,
+        others: racks,
+    };
+    let further = Pairs {
+        all: more,
+        others: keys,
+    };
+    turn_all(rt, pace, feed, writer, sites, further);
 }

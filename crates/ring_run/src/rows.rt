@@ -1,19 +1,19 @@
 // A run over a ring, and what stays the same while it goes on.
-ghost use Rattle.std.specs.Prelude.{◌≡◌, ◌+◌, ◌<◌, ◌≤◌, length, map, true, OnErr, IfOk};
+ghost use Rattle.std.specs.Prelude.{◌≡◌, ◌+◌, ◌<◌, ◌≤◌, length, map, true, IfOk};
 ghost use Rattle.tif_packbits.specs.Frame.{framed_row};
 ghost use Rattle.pr_rack.specs.Told.{all_told};
 ghost use Rattle.ring_rule.specs.Views.{ring_of};
-ghost use Rattle.site_agent.specs.Racks.{AllTellSlots, AreIdle, KeepCounts};
+ghost use Rattle.site_agent.specs.Racks.{AllTellSlots, AreIdle};
 ghost use Rattle.ring_turns.specs.Feeding.{HasRows, MayFeed};
 ghost use Rattle.ring_turns.specs.Pairs.{MayAllTurn};
 ghost use Rattle.ring_run.specs.Counting.{HaveCounted, IsCounting, MayAllCount};
-ghost use Rattle.ring_run.specs.Fits.{RunFits, RunPart, by_ring};
+ghost use Rattle.ring_run.specs.Fits.{RunLeaves, by_ring, on_ring};
 ghost use Rattle.ring_run.specs.Round.{AreEndsOf};
 ghost use Rattle.ring_run.specs.Seat.{all_readers};
 ghost use Rattle.ring_run.specs.Served.{AreSomeSeated, Carries, FitsFrom, IsRun, StopsFrom};
 
-use crate::SiteEnd;
-use crate::all_rounds::run_rounds;
+use crate::Outcome;
+use crate::all_rounds::{RacksAndKeys, WriterAndFeed, run_rounds};
 use crate::counting::RunKeyReader;
 use crate::ends::{ends_of, seats_of};
 use crate::seat::Seat;
@@ -45,44 +45,52 @@ pub(crate) struct Run<'p> {
     pub(crate) patience: u32,
 }
 
+/// The ends of a run's ring: the writer's, those of the sites, and those of the further readers.
+#[derive(Drop)]
+struct RunEnds<'r, D: Deal> {
+    writer: Writer<'r, D>,
+    seats: Vec<Seat<'r, D>>,
+    more: Vec<Reader<'r, D>>,
+}
+
 impl Run<'_> {
     /// Round after round, and how each site ended.
     fn run_seats<T: Threads + Sync, D: Deal + Sync, F: RowFeed + Send, R: Rack + Send>(
         &self,
         rt: &T,
-        writer: &mut Writer<'_, D>,
+        ends: RunEnds<'_, D>,
         feed: &mut F,
-        mut seats: Vec<Seat<'_, D>>,
         racks: &mut [R],
-        mut more: Vec<Reader<'_, D>>,
         keys: &mut [RunKeyReader<'_>],
-    ) -> Result<Vec<SiteEnd>, NoMemory>
+    ) -> Result<Outcome, NoMemory>
         requires run { IsRun self.now.plan.now self.now.rows.now self.now.ring self.now.patience }
-        requires feed { MayFeed (F.left feed.old) writer.old }
-        requires places { 0 < writer.old.ring.places }
-        requires ends { AreEndsOf writer.old (all_readers seats.items more.items) }
-        requires sites { length seats.items ≡ length self.now.plan.now.sites }
-        requires count { length seats.items ≡ length racks.old }
-        requires some { AreSomeSeated (all_told R.Rack racks.old) seats.items }
-        requires more { length more.items ≡ length keys.old }
-        requires counting { MayAllTurn IsCounting more.items keys.old }
-        ensures fits { IfOk result (λ ends. FitsFrom self.now.plan.now writer.old.ring
-            (all_told R.Rack racks.old) (all_told R.Rack racks.new) seats.entry.items ends.items) }
-        ensures stopped { StopsFrom self.now.plan.now writer.old.ring
-            (all_told R.Rack racks.old) (all_told R.Rack racks.new) seats.entry.items }
-        ensures counted { IfOk result (λ _. HaveCounted writer.old.ring keys.old keys.new) }
+        requires feed { MayFeed (F.left feed.old) ends.writer }
+        requires places { 0 < ends.writer.ring.places }
+        requires ends { AreEndsOf ends.writer (all_readers ends.seats.items ends.more.items) }
+        requires sites { length ends.seats.items ≡ length self.now.plan.now.sites }
+        requires count { length ends.seats.items ≡ length racks.old }
+        requires some { AreSomeSeated (all_told R.Rack racks.old) ends.seats.items }
+        requires more { length ends.more.items ≡ length keys.old }
+        requires counting { MayAllTurn IsCounting ends.more.items keys.old }
+        ensures fits { IfOk result (λ outcome. FitsFrom self.now.plan.now ends.entry.writer.ring
+            (all_told R.Rack racks.old) (all_told R.Rack racks.new)
+            ends.entry.seats.items outcome.sites.items) }
+        ensures stopped { StopsFrom self.now.plan.now ends.entry.writer.ring
+            (all_told R.Rack racks.old) (all_told R.Rack racks.new) ends.entry.seats.items }
+        ensures counted { IfOk result (λ _. HaveCounted ends.entry.writer.ring keys.old keys.new) }
     {
-        let sites = seats.as_mut_slice();
-        run_rounds(
-            rt,
-            writer,
+        let RunEnds {
+            mut writer,
+            mut seats,
+            mut more,
+        } = ends;
+        let one = WriterAndFeed {
+            writer: &mut writer,
             feed,
-            sites,
-            racks,
-            more.as_mut_slice(),
-            keys,
-            self.patience,
-        );
+        };
+        let sites = seats.as_mut_slice();
+        let theirs = RacksAndKeys { racks, keys };
+        run_rounds(rt, one, sites, more.as_mut_slice(), theirs, self.patience);
         ends_of(self.alloc, self.plan, self.rows, seats)
     }
 
@@ -94,7 +102,7 @@ impl Run<'_> {
         feed: &mut F,
         racks: &mut [R],
         keys: &mut [RunKeyReader<'_>],
-    ) -> Result<Vec<SiteEnd>, NoMemory>
+    ) -> Result<Outcome, NoMemory>
         requires run { IsRun self.now.plan.now self.now.rows.now self.now.ring self.now.patience }
         requires fresh { table.old.fresh ≡ true }
         requires places { 0 < table.old.ring.places }
@@ -102,32 +110,28 @@ impl Run<'_> {
         requires has_rows { HasRows table.old.ring }
         requires feed { F.left feed.old ≡ table.old.ring.rows }
         requires racks { length self.now.plan.now.sites ≡ length racks.old }
-        requires carries { Carries
-            (by_ring self.now.plan.now (map framed_row table.old.ring.rows) self.now.out.now
-            table.old.ring.readers table.old.ring.places)
+        requires carries { Carries (on_ring self.now.plan.now self.now.out.now table.old.ring)
             table.old.ring }
         requires idle { AreIdle (length self.now.plan.now.sites) (all_told R.Rack racks.old) }
         requires zeros { MayAllCount table.old.ring keys.old }
-        ensures fits { IfOk result (λ ends. RunFits
-            (by_ring self.now.plan.now (map framed_row table.old.ring.rows) self.now.out.now
-            table.old.ring.readers table.old.ring.places)
-            (all_told R.Rack racks.old) (all_told R.Rack racks.new) ends.items) }
-        ensures part { OnErr result (RunPart
-            (by_ring self.now.plan.now (map framed_row table.old.ring.rows) self.now.out.now
-            table.old.ring.readers table.old.ring.places)
-            (all_told R.Rack racks.old) (all_told R.Rack racks.new)) }
-        ensures counts { KeepCounts (all_told R.Rack racks.old) (all_told R.Rack racks.new) }
+        ensures leaves { RunLeaves (on_ring self.now.plan.now self.now.out.now table.old.ring)
+            (all_told R.Rack racks.old) (all_told R.Rack racks.new) result }
         ensures counted { IfOk result (λ _. HaveCounted table.old.ring keys.old keys.new) }
     {
         tell_slots(racks);
         let Ends {
-            mut writer,
+            writer,
             mut readers,
         } = table.ends(self.alloc)?;
         let plan = self.plan;
         let more = readers.split_off(plan.sites.len())?;
         let seats = seats_of(self.alloc, plan, self.rows, self.out, readers)?;
-        self.run_seats(rt, &mut writer, feed, seats, racks, more, keys)
+        let ends = RunEnds {
+            writer,
+            seats,
+            more,
+        };
+        self.run_seats(rt, ends, feed, racks, keys)
     }
 
     /// Delivers the rows of a deal, which the feed gives in order, to the racks of the plan's sites, over a
@@ -139,7 +143,7 @@ impl Run<'_> {
         feed: &mut F,
         racks: &mut [R],
         keys: &mut [RunKeyReader<'_>],
-    ) -> Result<Vec<SiteEnd>, NoMemory>
+    ) -> Result<Outcome, NoMemory>
         requires run { IsRun self.now.plan.now self.now.rows.now self.now.ring self.now.patience }
         requires carries { Carries
             (by_ring self.now.plan.now (map framed_row (D.rows deal.now)) self.now.out.now
@@ -154,15 +158,10 @@ impl Run<'_> {
         requires feed { F.left feed.old ≡ D.rows deal.now }
         requires racks { length self.now.plan.now.sites ≡ length racks.old }
         requires idle { AreIdle (length self.now.plan.now.sites) (all_told R.Rack racks.old) }
-        ensures fits { IfOk result (λ ends. RunFits
+        ensures leaves { RunLeaves
             (by_ring self.now.plan.now (map framed_row (D.rows deal.now)) self.now.out.now
             self.now.readers self.now.ring)
-            (all_told R.Rack racks.old) (all_told R.Rack racks.new) ends.items) }
-        ensures part { OnErr result (RunPart
-            (by_ring self.now.plan.now (map framed_row (D.rows deal.now)) self.now.out.now
-            self.now.readers self.now.ring)
-            (all_told R.Rack racks.old) (all_told R.Rack racks.new)) }
-        ensures counts { KeepCounts (all_told R.Rack racks.old) (all_told R.Rack racks.new) }
+            (all_told R.Rack racks.old) (all_told R.Rack racks.new) result }
         ensures counted { IfOk result (λ _. HaveCounted
             (ring_of self.now.ring self.now.readers (D.rows deal.now) (D.size deal.now)) keys.old keys.new) }
     {

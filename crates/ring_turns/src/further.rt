@@ -4,6 +4,7 @@ ghost use Rattle.std.specs.Thread.{IsSync};
 ghost use Rattle.ring_turns.specs.Pairs.{AreTurned, MayAllTurn};
 
 use crate::pace::Pace;
+use crate::pairs::Pairs;
 use crate::side_by_side::{turn_beside, turns};
 use crate::turn::TurnWith;
 use std::thread::{Threads, join_mut};
@@ -15,10 +16,8 @@ pub fn turn_all<T, W, F, X, Y, Z, V>(
     pace: Pace,
     its: &mut F,
     one: &mut W,
-    others: &mut [Y],
-    all: &mut [X],
-    theirs: &mut [V],
-    further: &mut [Z],
+    pairs: Pairs<'_, X, Y>,
+    further: Pairs<'_, Z, V>,
 )
 where
     T: Threads + Sync,
@@ -29,19 +28,31 @@ where
     Z: TurnWith<V> + Send,
     V: Send,
     requires may_one { W.may one.old its.old }
-    requires count { length all.old ≡ length others.old }
-    requires may { MayAllTurn X.may all.old others.old }
-    requires count_further { length further.old ≡ length theirs.old }
-    requires may_further { MayAllTurn Z.may further.old theirs.old }
+    requires count { length pairs.all.now ≡ length pairs.others.now }
+    requires may { MayAllTurn X.may pairs.all.now pairs.others.now }
+    requires count_further { length further.all.now ≡ length further.others.now }
+    requires may_further { MayAllTurn Z.may further.all.now further.others.now }
     requires patience { 0 < pace.patience }
     ensures one { W.turned one.old its.old one.new its.new }
-    ensures turned { AreTurned X.turned all.old others.old all.new others.new }
-    ensures further { AreTurned Z.turned further.old theirs.old further.new theirs.new }
+    ensures turned { AreTurned X.turned
+        pairs.entry.all.now pairs.entry.others.now pairs.exit.0.now pairs.exit.1.0.now }
+    ensures further { AreTurned Z.turned
+        further.entry.all.now further.entry.others.now further.exit.0.now further.exit.1.0.now }
 {
+    let Pairs { all, others } = pairs;
+    let Pairs {
+        all: further,
+        others: theirs,
+    } = further;
     if further.is_empty() {
         turn_beside(rt, pace, its, one, others, all);
     } else {
-        turn_beside_further(rt, pace, its, one, others, all, theirs, further);
+        let pairs = Pairs { all, others };
+        let further = Pairs {
+            all: further,
+            others: theirs,
+        };
+        turn_beside_further(rt, pace, its, one, pairs, further);
     }
 }
 
@@ -51,10 +62,8 @@ fn turn_beside_further<T, W, F, X, Y, Z, V>(
     pace: Pace,
     its: &mut F,
     one: &mut W,
-    others: &mut [Y],
-    all: &mut [X],
-    theirs: &mut [V],
-    further: &mut [Z],
+    pairs: Pairs<'_, X, Y>,
+    further: Pairs<'_, Z, V>,
 )
 where
     T: Threads + Sync,
@@ -65,15 +74,22 @@ where
     Z: TurnWith<V> + Send,
     V: Send,
     requires may_one { W.may one.old its.old }
-    requires count { length all.old ≡ length others.old }
-    requires may { MayAllTurn X.may all.old others.old }
-    requires count_further { length further.old ≡ length theirs.old }
-    requires may_further { MayAllTurn Z.may further.old theirs.old }
+    requires count { length pairs.all.now ≡ length pairs.others.now }
+    requires may { MayAllTurn X.may pairs.all.now pairs.others.now }
+    requires count_further { length further.all.now ≡ length further.others.now }
+    requires may_further { MayAllTurn Z.may further.all.now further.others.now }
     requires patience { 0 < pace.patience }
     ensures one { W.turned one.old its.old one.new its.new }
-    ensures turned { AreTurned X.turned all.old others.old all.new others.new }
-    ensures further { AreTurned Z.turned further.old theirs.old further.new theirs.new }
+    ensures turned { AreTurned X.turned
+        pairs.entry.all.now pairs.entry.others.now pairs.exit.0.now pairs.exit.1.0.now }
+    ensures further { AreTurned Z.turned
+        further.entry.all.now further.entry.others.now further.exit.0.now further.exit.1.0.now }
 {
+    let Pairs { all, others } = pairs;
+    let Pairs {
+        all: further,
+        others: theirs,
+    } = further;
     // The second closure runs in this thread, and in it the one's turn.
     join_mut(
         rt,

@@ -6,10 +6,12 @@ mod feeding;
 mod further;
 mod one_thread;
 mod pace;
+mod pairs;
 mod side_by_side;
 mod turn;
 
 pub use feeding::{FeedEnd, feed_turn};
 pub use further::turn_all;
 pub use pace::Pace;
+pub use pairs::Pairs;
 pub use turn::TurnWith;

@@ -1,6 +1,5 @@
-use Rattle.ring_run.proofs.Results.{on_err}
-use Rattle.ring_run.proofs.Running.{none_part}
+use Rattle.ring_run.proofs.Running.{none_leaves}
 use Rattle.ring_run.proofs.job_run.run_all.Goals as goal
 
-pub returns-in_err-feed-clause-part : goal.returns-in_err-feed-clause-part
-returns-in_err-feed-clause-part g c = on_err c.from_residual.result _ (none_part _ _)
+pub returns-in_err-feed-clause-leaves : goal.returns-in_err-feed-clause-leaves
+returns-in_err-feed-clause-leaves g c = none_leaves _ _ c.from_residual.result c.from_residual.ensures.0

@@ -9,8 +9,8 @@ use Rattle.ring_rule.specs.Views.{ring_of}
 use Rattle.site_agent.specs.Racks.{AreIdle}
 use Rattle.ring_run.specs.Fits.{by_ring}
 use Rattle.ring_run.specs.Served.{Carries}
-use Rattle.ring_run.proofs.Results.{on_err}
-use Rattle.ring_run.proofs.JobRows.{job_carries, job_counts, job_fits, job_idle, job_part}
+use Rattle.ring_run.proofs.Results.{if_ok}
+use Rattle.ring_run.proofs.JobRows.{job_carries, job_idle, job_leaves}
 use Rattle.ring_run.proofs.KeyTurns.{all_keys_fit, fresh_may}
 use Rattle.ring_run.proofs.job_run.run_fed.Goals as goal
 
@@ -34,34 +34,18 @@ run_rows-requires-clause-idle g c κs within =
     job_idle tell (length c.args.run.now.plan.now.sites) c.args.racks.now c.split_at_mut-racks.result.0.now c.split_at_mut-racks.result.1.now (search rules) count
     (subst (λ (p : PlanData). AreIdle (length p.sites) (map tell c.args.racks.now)) (sym c.requires.plan) c.requires.idle)
 
-pub returns-in_err-sites-clause-part : goal.returns-in_err-sites-clause-part
-returns-in_err-sites-clause-part g c =
+pub returns-clause-leaves : goal.returns-clause-leaves
+returns-clause-leaves g c =
     let tell : g.row.R.Denot → RackTells = told g.R.Rack in
     let is : IsPlan c.args.run.now.plan.now = c.requires.run.plan_is in
     let count : length c.split_at_mut-racks.result.0.now ≡ length c.args.run.now.plan.now.sites = search rules in
-    on_err c.from_residual.result _
-    (job_part tell c.args.run.now.plan.now c.args.job.now.plan c.args.job.now.files c.args.run.now.out.now c.args.run.now.readers c.args.run.now.ring c.args.racks.now _ c.split_at_mut-racks.result.0.now c.run_rows.new.racks c.split_at_mut-racks.result.1.now
-    (search rules) refl count c.run_rows.auto.racks c.requires.plan is c.in_err-sites.ensures.part)
-
-pub returns-in_err-sites-clause-counts : goal.returns-in_err-sites-clause-counts
-returns-in_err-sites-clause-counts g c =
-    let tell : g.row.R.Denot → RackTells = told g.R.Rack in
-    job_counts tell c.args.racks.now _ c.split_at_mut-racks.result.0.now c.run_rows.new.racks c.split_at_mut-racks.result.1.now (search rules) refl c.run_rows.auto.racks c.in_err-sites.ensures.counts
-
-pub returns-clause-fits : goal.returns-clause-fits
-returns-clause-fits g c =
-    let tell : g.row.R.Denot → RackTells = told g.R.Rack in
-    let is : IsPlan c.args.run.now.plan.now = c.requires.run.plan_is in
-    let count : length c.split_at_mut-racks.result.0.now ≡ length c.args.run.now.plan.now.sites = search rules in
-    job_fits tell c.args.run.now.plan.now c.args.job.now.plan c.args.job.now.files c.args.run.now.out.now c.args.run.now.readers c.args.run.now.ring c.args.racks.now _ c.split_at_mut-racks.result.0.now c.run_rows.new.racks c.split_at_mut-racks.result.1.now
-    c.in_ok-sites.sites.items (search rules) refl count c.run_rows.auto.racks c.requires.plan is c.in_ok-sites.ensures.fits
-
-pub returns-clause-counts : goal.returns-clause-counts
-returns-clause-counts g c =
-    let tell : g.row.R.Denot → RackTells = told g.R.Rack in
-    job_counts tell c.args.racks.now _ c.split_at_mut-racks.result.0.now c.run_rows.new.racks c.split_at_mut-racks.result.1.now (search rules) refl c.run_rows.auto.racks c.in_ok-sites.ensures.counts
+    job_leaves tell c.args.run.now.plan.now c.args.job.now.plan c.args.job.now.files c.args.run.now.out.now c.args.run.now.readers c.args.run.now.ring c.args.racks.now _ c.split_at_mut-racks.result.0.now c.run_rows.new.racks
+    c.split_at_mut-racks.result.1.now c.run_rows.result (search rules) refl count c.run_rows.auto.racks c.requires.plan is c.run_rows.ensures.leaves
 
 pub returns-clause-keys : goal.returns-clause-keys
 returns-clause-keys g c =
     let is : IsPlan c.args.job.now.plan = subst (λ (p : PlanData). IsPlan p) c.requires.plan c.requires.run.plan_is in
-    all_keys_fit c.args.job.now.plan c.args.job.now.files c.args.run.now.ring c.args.run.now.readers (frame_size (row_size (plate_width c.args.job.now.plan))) c.args.keys.now c.run_rows.new.keys is c.requires.zeros c.in_ok-sites.ensures.counted
+    if_ok c.run_rows.result _ _
+    (λ outcome have.
+    all_keys_fit c.args.job.now.plan c.args.job.now.files c.args.run.now.ring c.args.run.now.readers (frame_size (row_size (plate_width c.args.job.now.plan))) c.args.keys.now c.run_rows.new.keys is c.requires.zeros have)
+    c.run_rows.ensures.counted

@@ -7,7 +7,7 @@ use Rattle.pr_rack.specs.Told.{RackTells, told}
 use Rattle.press_job.specs.Rows.{plate_rows}
 use Rattle.ink_keys.specs.Counts.{CountsData}
 use Rattle.ink_keys.specs.Turn.{KeyReaderData}
-use Rattle.ring_run.specs.Fits.{RunPart, by_ring}
+use Rattle.ring_run.specs.Fits.{RunFits, RunPart, by_job}
 use Rattle.ring_run.proofs.KeyTurns.{fresh_key, fresh_one, keys_one}
 use Rattle.ring_run.proofs.Results.{on_err}
 use Rattle.ring_run.proofs.Running.{none_part}
@@ -40,10 +40,13 @@ run_all-requires-clause-zeros g c κs within =
 pub returns-in_err-outcome-clause-part : goal.returns-in_err-outcome-clause-part
 returns-in_err-outcome-clause-part g c =
     let tell : g.row.R.Denot → RackTells = told g.R.Rack in
-    let plan = c.args.job.now.plan in
-    let readers : c.len.result ≡ length plan.sites = search rules in
+    let job = c.args.job.now in
+    let readers : c.len.result ≡ length job.plan.sites = search rules in
     on_err c.from_residual-in_err-outcome.result _
-    (subst (λ (n : ℕ). RunPart (by_ring plan (plate_rows plan c.args.job.now.files) c.args.out.now (n + 1) c.args.ring) (map tell c.args.racks.now) (map tell c.run_all.new.racks)) readers c.in_err-outcome.ensures.part)
+    (subst (λ (n : ℕ). RunPart (by_job job c.args.out.now (n + 1) c.args.ring) (map tell c.args.racks.now) (map tell c.run_all.new.racks)) readers c.in_err-outcome.ensures.leaves.part)
+
+pub returns-in_err-outcome-clause-counts : goal.returns-in_err-outcome-clause-counts
+returns-in_err-outcome-clause-counts g c = c.in_err-outcome.ensures.leaves.counts
 
 pub counts_of-requires : goal.counts_of-requires
 counts_of-requires g c = record {
@@ -56,3 +59,13 @@ returns-clause-keys g c =
     let key : KeyReaderData = record { rows = c.rows-rows.result.now; counts = c.in_ok-counts.counts } in
     keys_one plan (plate_rows plan c.args.job.now.files) c.as_mut_slice.result.now c.run_all.new.keys _ key c.args.keys c.counts_of.result (c.as_mut_slice.ensures.value ∙ c.in_ok-readers.ensures) c.run_all.auto.keys
     (take_at c.run_all.new.keys _ _ (c.run_all.auto.keys ∙ c.as_mut_slice.ensures.len)) (ap (λ (x : CountsData). x.keys) c.in_ok-counts.ensures.zero) c.in_ok-outcome.ensures.keys c.counts_of.ensures.its
+
+pub returns-clause-fits : goal.returns-clause-fits
+returns-clause-fits g c =
+    let tell : g.row.R.Denot → RackTells = told g.R.Rack in
+    let job = c.args.job.now in
+    let readers : c.len.result ≡ length job.plan.sites = search rules in
+    subst (λ (n : ℕ). RunFits (by_job job c.args.out.now (n + 1) c.args.ring) (map tell c.args.racks.now) (map tell c.run_all.new.racks) c.in_ok-outcome.outcome.sites.items) readers c.in_ok-outcome.ensures.leaves.fits
+
+pub returns-clause-counts : goal.returns-clause-counts
+returns-clause-counts g c = c.in_ok-outcome.ensures.leaves.counts

@@ -12,22 +12,22 @@ use Rattle.ring_run.proofs.Rounds.{may_turn}
 use Rattle.ring_run.proofs.round.round.Goals as goal
 
 pub tell_writer-requires : goal.tell_writer-requires
-tell_writer-requires g c = record { table = seats_at c.args.writer.now c.args.writer.now c.args.seats.now c.args.seats.now c.args.more.now c.requires.ends refl refl }
+tell_writer-requires g c = record { table = seats_at c.args.writer.now c.args.writer.now c.args.sites.all.now c.args.sites.all.now c.args.further.all.now c.requires.ends refl refl }
 
 pub tell_writer-requires-2 : goal.tell_writer-requires-2
 tell_writer-requires-2 g c = record {
-  table = more_at c.args.writer.now c.tell_writer.new.writer c.args.seats.now c.args.more.now c.args.more.now c.requires.ends refl (ap (λ (w : WriterState). w.table) c.tell_writer.ensures.same);
+  table = more_at c.args.writer.now c.tell_writer.new.writer c.args.sites.all.now c.args.further.all.now c.args.further.all.now c.requires.ends refl (ap (λ (w : WriterState). w.table) c.tell_writer.ensures.same);
 }
 
 pub tell_readers-requires : goal.tell_readers-requires
 tell_readers-requires g c = record {
-  table = seats_at c.args.writer.now c.tell_writer-2.new.writer c.args.seats.now c.tell_writer.new.ends c.args.more.now c.requires.ends c.tell_writer.ensures.ends
+  table = seats_at c.args.writer.now c.tell_writer-2.new.writer c.args.sites.all.now c.tell_writer.new.ends c.args.further.all.now c.requires.ends c.tell_writer.ensures.ends
       (ap (λ (w : WriterState). w.table) (noted_both c.args.writer.now c.tell_writer.new.writer c.tell_writer-2.new.writer c.tell_writer.ensures.same c.tell_writer-2.ensures.same));
 }
 
 pub tell_readers-requires-2 : goal.tell_readers-requires-2
 tell_readers-requires-2 g c = record {
-  table = more_at c.args.writer.now c.tell_readers.new.writer c.args.seats.now c.args.more.now c.tell_writer-2.new.ends c.requires.ends c.tell_writer-2.ensures.ends
+  table = more_at c.args.writer.now c.tell_readers.new.writer c.args.sites.all.now c.args.further.all.now c.tell_writer-2.new.ends c.requires.ends c.tell_writer-2.ensures.ends
       (ap (λ (w : WriterState). w.table) (c.tell_readers.ensures.same ∙ noted_both c.args.writer.now c.tell_writer.new.writer c.tell_writer-2.new.writer c.tell_writer.ensures.same c.tell_writer-2.ensures.same));
 }
 
@@ -46,12 +46,12 @@ turn_all-requires-clause-count_further g c κs within = c.tell_readers-2.auto.en
 pub turn_all-requires-clause-may : goal.turn_all-requires-clause-may
 turn_all-requires-clause-may g c κs within =
     let tell : g.row.R.Denot → RackTells = told g.R.Rack in
-    may_turn tell c.tell_writer-2.new.writer c.args.seats.now c.tell_readers.new.ends c.args.racks.now (c.tell_readers.auto.ends ∙ c.tell_writer.auto.ends)
+    may_turn tell c.tell_writer-2.new.writer c.args.sites.all.now c.tell_readers.new.ends c.args.sites.others.now (c.tell_readers.auto.ends ∙ c.tell_writer.auto.ends)
     (subst (λ (s : _). AreTold IsSeatTold c.tell_writer-2.new.writer s c.tell_readers.new.ends) c.tell_writer.ensures.ends c.tell_readers.ensures.told) c.requires.some
 
 pub turn_all-requires-clause-may_further : goal.turn_all-requires-clause-may_further
 turn_all-requires-clause-may_further g c κs within =
-    may_count c.tell_readers.new.writer c.args.more.now c.tell_readers-2.new.ends c.args.keys.now (c.tell_readers-2.auto.ends ∙ c.tell_writer-2.auto.ends)
+    may_count c.tell_readers.new.writer c.args.further.all.now c.tell_readers-2.new.ends c.args.further.others.now (c.tell_readers-2.auto.ends ∙ c.tell_writer-2.auto.ends)
     (subst (λ (s : _). AreTold IsTold c.tell_readers.new.writer s c.tell_readers-2.new.ends) c.tell_writer-2.ensures.ends c.tell_readers-2.ensures.told) c.requires.counting
 
 pub returns : goal.returns
@@ -63,15 +63,15 @@ returns g c =
     let more-are = c.tell_writer-2.ensures.ends in
     let same = noted_both w c.tell_writer.new.writer noted c.tell_writer.ensures.same c.tell_writer-2.ensures.same in
     let heard = c.tell_readers.ensures.same in
-    let leaves = round_leaves tell (g.F.RowFeed.left c.turn_all.new.its) w noted c.turn_all.new.one c.tell_writer.new.writer.known c.args.seats.now c.tell_readers.new.ends c.turn_all.new.all c.args.more.now c.tell_readers-2.new.ends
-    c.turn_all.new.further c.args.racks.now c.turn_all.new.others c.args.keys.now c.turn_all.new.theirs c.requires.ends c.requires.places c.requires.count c.requires.more same
+    let leaves = round_leaves tell (g.F.RowFeed.left c.turn_all.new.its) w noted c.turn_all.new.one c.tell_writer.new.writer.known c.args.sites.all.now c.tell_readers.new.ends c.turn_all.new.pairs.0 c.args.further.all.now c.tell_readers-2.new.ends
+    c.turn_all.new.further.0 c.args.sites.others.now c.turn_all.new.pairs.1.0 c.args.further.others.now c.turn_all.new.further.1.0 c.requires.ends c.requires.places c.requires.count c.requires.more same
     (subst (λ (s : _). KnowsAll (λ (seat : SeatData). seat.reader) c.tell_writer.new.writer.known s) seats-are c.tell_writer.ensures.knows) c.tell_writer-2.ensures.more
     (subst (λ (s : _). KnowsAll (λ (reader : ReaderState). reader) noted.known s) more-are c.tell_writer-2.ensures.knows)
     (c.tell_readers.auto.ends ∙ c.tell_writer.auto.ends) (c.tell_readers-2.auto.ends ∙ c.tell_writer-2.auto.ends)
     (subst (λ (s : _). AreTold IsSeatTold noted s c.tell_readers.new.ends) seats-are c.tell_readers.ensures.told)
-    (subst (λ (w' : WriterState). AreTold IsTold w' c.args.more.now c.tell_readers-2.new.ends) heard
+    (subst (λ (w' : WriterState). AreTold IsTold w' c.args.further.all.now c.tell_readers-2.new.ends) heard
     (subst (λ (s : _). AreTold IsTold c.tell_readers.new.writer s c.tell_readers-2.new.ends) more-are c.tell_readers-2.ensures.told))
-    c.turn_all.auto.all c.turn_all.auto.further c.turn_all.auto.others c.turn_all.auto.theirs c.turn_all.ensures.turned c.turn_all.ensures.further
+    c.turn_all.auto.pairs.0 c.turn_all.auto.further.0 c.turn_all.auto.pairs.1.0 c.turn_all.auto.further.1.0 c.turn_all.ensures.turned c.turn_all.ensures.further
     (subst (λ (w' : WriterState). Fed (g.F.RowFeed.left c.turn_all.new.its) w' c.turn_all.new.one) (c.tell_readers-2.ensures.same ∙ heard) c.turn_all.ensures.one) in
     record {
       feed = record { feed = c.turn_all.ensures.one.feed; rows = subst (λ (r : RingNumbers). HasRows r) (sym leaves.ring) c.requires.feed.rows };

@@ -12,17 +12,17 @@ use Rattle.ring_run.specs.Served.{Carries}
 use Rattle.ring_run.specs.Fits.{Delivery, by_ring}
 use Rattle.ring_run.proofs.KeyTurns.{counting_opens}
 use Rattle.ring_run.proofs.Results.{if_ok, on_err}
-use Rattle.ring_run.proofs.Running.{all_part, back_new, counts_keep, none_part, run_opens, split_at}
+use Rattle.ring_run.proofs.Running.{all_part, back_new, counts_keep, none_leaves, run_opens, split_at}
 use Rattle.ring_run.proofs.rows.Run.run_on.Goals as goal
 
-pub returns-in_err-writer-clause-part : goal.returns-in_err-writer-clause-part
-returns-in_err-writer-clause-part g c = on_err c.from_residual.result _ (none_part _ _)
+pub returns-in_err-writer-clause-leaves : goal.returns-in_err-writer-clause-leaves
+returns-in_err-writer-clause-leaves g c = none_leaves _ _ c.from_residual.result c.from_residual.ensures.0
 
-pub returns-in_err-more-clause-part : goal.returns-in_err-more-clause-part
-returns-in_err-more-clause-part g c = on_err c.from_residual-in_err-more.result _ (none_part _ _)
+pub returns-in_err-more-clause-leaves : goal.returns-in_err-more-clause-leaves
+returns-in_err-more-clause-leaves g c = none_leaves _ _ c.from_residual-in_err-more.result c.from_residual-in_err-more.ensures.0
 
-pub returns-in_err-seats-clause-part : goal.returns-in_err-seats-clause-part
-returns-in_err-seats-clause-part g c = on_err c.from_residual-in_err-seats.result _ (none_part _ _)
+pub returns-in_err-seats-clause-leaves : goal.returns-in_err-seats-clause-leaves
+returns-in_err-seats-clause-leaves g c = none_leaves _ _ c.from_residual-in_err-seats.result c.from_residual-in_err-seats.ensures.0
 
 pub split_off-requires : goal.split_off-requires
 split_off-requires g c =
@@ -108,8 +108,8 @@ run_seats-requires-clause-counting g c κs within =
     let are = split.0 ∙ c.in_ok-writer.ensures.readers in
     counting_opens c.args.table.now.table ring (length c.split_off.new.self.items) c.in_ok-more.more.items c.args.keys.now (back_new c.args.table.now.table ring ring.readers c.split_off.new.self.items c.in_ok-more.more.items are) c.requires.zeros
 
-pub returns-clause-fits : goal.returns-clause-fits
-returns-clause-fits g c =
+pub returns-clause-leaves : goal.returns-clause-leaves
+returns-clause-leaves g c =
     let tell : g.row.R.Denot → RackTells = told g.R.Rack in
     let ring = c.args.table.now.ring in
     let delivery : Delivery = by_ring c.args.self.now.plan.now (map framed_row ring.rows) c.args.self.now.out.now ring.readers ring.places in
@@ -120,38 +120,15 @@ returns-clause-fits g c =
     let opens = run_opens tell delivery c.args.table.now.table ring writer c.split_off.new.self.items c.in_ok-more.more.items c.in_ok-seats.seats.items c.args.racks.now c.in_ok-writer.ensures.writer are c.in_ok-seats.ensures split.1 c.requires.carries
     c.requires.idle c.tell_slots.ensures in
     let carries : Carries delivery writer.ring = subst (λ (r : RingNumbers). Carries delivery r) (sym (ap (λ (w : WriterState). w.ring) c.in_ok-writer.ensures.writer)) c.requires.carries in
-    if_ok c.run_seats.result _ _ (λ ends from. from delivery refl carries opens.1) c.run_seats.ensures.fits
-
-pub returns-clause-part : goal.returns-clause-part
-returns-clause-part g c =
-    let tell : g.row.R.Denot → RackTells = told g.R.Rack in
-    let ring = c.args.table.now.ring in
-    let delivery : Delivery = by_ring c.args.self.now.plan.now (map framed_row ring.rows) c.args.self.now.out.now ring.readers ring.places in
-    let writer = c.in_ok-writer.field-0.writer in
-    let split = split_at c.in_ok-writer.field-0.readers.items c.split_off.new.self.items c.in_ok-more.more.items c.len.result (length c.args.self.now.plan.now.sites) (length c.args.keys.now) (search rules) c.in_ok-more.ensures.items c.in_ok-more.ensures.tail
-    (ap length c.in_ok-writer.ensures.readers ∙ length-map (up_to ring.readers) (new_reader_state c.args.table.now.table ring) ∙ length_up ring.readers ∙ c.requires.readers) in
-    let are = split.0 ∙ c.in_ok-writer.ensures.readers in
-    let opens = run_opens tell delivery c.args.table.now.table ring writer c.split_off.new.self.items c.in_ok-more.more.items c.in_ok-seats.seats.items c.args.racks.now c.in_ok-writer.ensures.writer are c.in_ok-seats.ensures split.1 c.requires.carries
-    c.requires.idle c.tell_slots.ensures in
-    let carries : Carries delivery writer.ring = subst (λ (r : RingNumbers). Carries delivery r) (sym (ap (λ (w : WriterState). w.ring) c.in_ok-writer.ensures.writer)) c.requires.carries in
-    on_err c.run_seats.result _ (all_part delivery (map tell c.args.racks.now) (map tell c.run_seats.new.racks) (c.run_seats.ensures.stopped delivery refl carries opens.1))
-
-pub returns-clause-counts : goal.returns-clause-counts
-returns-clause-counts g c =
-    let tell : g.row.R.Denot → RackTells = told g.R.Rack in
-    let ring = c.args.table.now.ring in
-    let delivery : Delivery = by_ring c.args.self.now.plan.now (map framed_row ring.rows) c.args.self.now.out.now ring.readers ring.places in
-    let writer = c.in_ok-writer.field-0.writer in
-    let split = split_at c.in_ok-writer.field-0.readers.items c.split_off.new.self.items c.in_ok-more.more.items c.len.result (length c.args.self.now.plan.now.sites) (length c.args.keys.now) (search rules) c.in_ok-more.ensures.items c.in_ok-more.ensures.tail
-    (ap length c.in_ok-writer.ensures.readers ∙ length-map (up_to ring.readers) (new_reader_state c.args.table.now.table ring) ∙ length_up ring.readers ∙ c.requires.readers) in
-    let are = split.0 ∙ c.in_ok-writer.ensures.readers in
-    let opens = run_opens tell delivery c.args.table.now.table ring writer c.split_off.new.self.items c.in_ok-more.more.items c.in_ok-seats.seats.items c.args.racks.now c.in_ok-writer.ensures.writer are c.in_ok-seats.ensures split.1 c.requires.carries
-    c.requires.idle c.tell_slots.ensures in
-    let carries : Carries delivery writer.ring = subst (λ (r : RingNumbers). Carries delivery r) (sym (ap (λ (w : WriterState). w.ring) c.in_ok-writer.ensures.writer)) c.requires.carries in
+    let stopped = c.run_seats.ensures.stopped delivery refl carries opens.1 in
     let long = length-map c.run_seats.new.racks tell in
     let same = c.run_seats.auto.racks in
     let racks = c.requires.racks in
-    counts_keep delivery (map tell c.args.racks.now) (map tell c.run_seats.new.racks) (c.run_seats.ensures.stopped delivery refl carries opens.1) (omega (arith, long, same, racks))
+    record {
+      fits = if_ok c.run_seats.result _ _ (λ outcome from. from delivery refl carries opens.1) c.run_seats.ensures.fits;
+      part = on_err c.run_seats.result _ (all_part delivery (map tell c.args.racks.now) (map tell c.run_seats.new.racks) stopped);
+      counts = counts_keep delivery (map tell c.args.racks.now) (map tell c.run_seats.new.racks) stopped (omega (arith, long, same, racks));
+    }
 
 pub returns-clause-counted : goal.returns-clause-counted
 returns-clause-counted g c =

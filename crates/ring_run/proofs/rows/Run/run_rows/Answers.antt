@@ -1,17 +1,24 @@
-use Rattle.std.proofs.Common.{sym, subst}
+use Rattle.std.proofs.Common.{map, sym, subst}
 use Rattle.ring_rule.specs.declared.view.RingNumbers.{RingNumbers}
+use Rattle.pr_rack.specs.Told.{RackTells, told}
 use Rattle.ring_run.specs.Counting.{HaveCounted, MayAllCount}
-use Rattle.ring_run.proofs.Results.{if_ok, on_err}
-use Rattle.ring_run.proofs.Running.{none_part}
+use Rattle.ring_run.specs.Fits.{RunLeaves, on_ring}
+use Rattle.ring_run.proofs.Results.{if_ok}
+use Rattle.ring_run.proofs.Running.{none_leaves}
 use Rattle.ring_run.proofs.rows.Run.run_rows.Goals as goal
 
-pub returns-in_err-table-clause-part : goal.returns-in_err-table-clause-part
-returns-in_err-table-clause-part g c = on_err c.from_residual.result _ (none_part _ _)
+pub returns-in_err-table-clause-leaves : goal.returns-in_err-table-clause-leaves
+returns-in_err-table-clause-leaves g c = none_leaves _ _ c.from_residual.result c.from_residual.ensures.0
 
 pub run_on-requires-clause-zeros : goal.run_on-requires-clause-zeros
 run_on-requires-clause-zeros g c κs within =
     subst (λ (r : RingNumbers). MayAllCount r c.args.keys.now) (sym c.in_ok-table.ensures.ring) c.requires.zeros
 
+pub returns-clause-leaves : goal.returns-clause-leaves
+returns-clause-leaves g c =
+    let tell : g.row.R.Denot → RackTells = told g.R.Rack in
+    subst (λ (r : RingNumbers). RunLeaves (on_ring c.args.self.now.plan.now c.args.self.now.out.now r) (map tell c.args.racks.now) (map tell c.run_on.new.racks) c.run_on.result) c.in_ok-table.ensures.ring c.run_on.ensures.leaves
+
 pub returns-clause-counted : goal.returns-clause-counted
 returns-clause-counted g c =
-    if_ok c.run_on.result _ _ (λ ends have. subst (λ (r : RingNumbers). HaveCounted r c.args.keys.now c.run_on.new.keys) c.in_ok-table.ensures.ring have) c.run_on.ensures.counted
+    if_ok c.run_on.result _ _ (λ outcome have. subst (λ (r : RingNumbers). HaveCounted r c.args.keys.now c.run_on.new.keys) c.in_ok-table.ensures.ring have) c.run_on.ensures.counted
