@@ -12,8 +12,9 @@ use crate::counting::RunKeyReader;
 use crate::round::round;
 use crate::seat::Seat;
 use crate::seats::are_going;
-use pr_base::{Deal, RowFeed};
+use pr_base::Deal;
 use pr_rack::Rack;
+use press_feed::BandFeed;
 use ring_lanes::{Reader, Writer};
 use ring_turns::{Pace, Pairs};
 use std::thread::Threads;
@@ -32,7 +33,7 @@ pub(crate) struct RacksAndKeys<'a, 'p, R> {
 
 /// Round after round, until each site has finished or left and each further reader has all rows, or want of
 /// memory stopped a site.
-pub(crate) fn run_rounds<T: Threads + Sync, D: Deal + Sync, F: RowFeed + Send, R: Rack + Send>(
+pub(crate) fn run_rounds<T: Threads + Sync, D: Deal + Sync, F: BandFeed + Send, R: Rack + Send>(
     rt: &T,
     one: WriterAndFeed<'_, '_, D, F>,
     seats: &mut [Seat<'_, D>],

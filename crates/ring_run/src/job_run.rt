@@ -11,9 +11,9 @@ ghost use Rattle.ring_run.specs.Served.{IsRun};
 use crate::Outcome;
 use crate::counting::RunKeyReader;
 use crate::rows::Run;
-use pr_base::{NoMemory, RowFeed};
+use pr_base::NoMemory;
 use pr_rack::Rack;
-use press_feed::{Feed, Job};
+use press_feed::{BandFeed, Feed, Job};
 use std::alloc::Global;
 use std::thread::Threads;
 
@@ -81,12 +81,12 @@ pub(crate) fn run_all<T: Threads + Sync, R: Rack + Send>(
     ensures keys { IfOk result (λ _. AllKeysFit job.now.plan
         (plate_rows job.now.plan job.now.files) keys.old keys.new) }
 {
-    let mut feed = Feed::open(run.alloc, job)?;
+    let mut feed = Feed::open_wide(rt, run.alloc, job)?;
     run_fed(rt, run, job, &mut feed, racks, keys)
 }
 
 /// The same with a feed that has all rows of the job to come.
-fn run_fed<T: Threads + Sync, F: RowFeed + Send, R: Rack + Send>(
+fn run_fed<T: Threads + Sync, F: BandFeed + Send, R: Rack + Send>(
     rt: &T,
     run: &Run<'_>,
     job: &Job,

@@ -19,8 +19,9 @@ use crate::ends::{ends_of, seats_of};
 use crate::seat::Seat;
 use plan_json::Plan;
 use plan_rows::RowPlan;
-use pr_base::{Deal, NoMemory, RowFeed};
+use pr_base::{Deal, NoMemory};
 use pr_rack::Rack;
+use press_feed::BandFeed;
 use ring_lanes::{Ends, Reader, Ring, Writer, open_ring};
 use std::alloc::Global;
 use std::thread::Threads;
@@ -55,7 +56,7 @@ struct RunEnds<'r, D: Deal> {
 
 impl Run<'_> {
     /// Round after round, and how each site ended.
-    fn run_seats<T: Threads + Sync, D: Deal + Sync, F: RowFeed + Send, R: Rack + Send>(
+    fn run_seats<T: Threads + Sync, D: Deal + Sync, F: BandFeed + Send, R: Rack + Send>(
         &self,
         rt: &T,
         ends: RunEnds<'_, D>,
@@ -95,7 +96,7 @@ impl Run<'_> {
     }
 
     /// The same over a ring whose ends are still there.
-    fn run_on<T: Threads + Sync, D: Deal + Sync, F: RowFeed + Send, R: Rack + Send>(
+    fn run_on<T: Threads + Sync, D: Deal + Sync, F: BandFeed + Send, R: Rack + Send>(
         &self,
         rt: &T,
         table: &mut Ring<'_, D>,
@@ -136,7 +137,7 @@ impl Run<'_> {
 
     /// Delivers the rows of a deal, which the feed gives in order, to the racks of the plan's sites, over a
     /// ring, and tells how each site ended. The key readers have the ring's last readers and count all rows.
-    pub(crate) fn run_rows<T: Threads + Sync, D: Deal + Sync, F: RowFeed + Send, R: Rack + Send>(
+    pub(crate) fn run_rows<T: Threads + Sync, D: Deal + Sync, F: BandFeed + Send, R: Rack + Send>(
         &self,
         rt: &T,
         deal: &D,
