@@ -1,5 +1,5 @@
 -- Rows by which tests tell plates apart.
-use Rattle.std.specs.Prelude.{◌≡◌, ℕ, ◌+◌, ◌<◌, List, [], ◌∷◌, map, Some, is_some}
+use Rattle.std.specs.Prelude.{◌≡◌, ℕ, ◌+◌, ◌<◌, List, [], ◌∷◌, false, map, Some, is_some}
 use Rattle.std.specs.List.{range_with_len}
 use Rattle.tif_packbits.specs.Frame.{frame_of, framed_row}
 use Rattle.ring_lanes.specs.declared.source.Source.TheVariants.{Deck}
@@ -49,6 +49,13 @@ Takes frames rack site = IsGoing (map framed_row frames) Deck told_first (told_b
 pub record IsFeeding (count head : ℕ) (writer : WriterState) : Type 0 where
   pub ring : writer.ring ≡ ring_of 2 1 (numbered count) 5
   pub at : writer.head ≡ head
+
+-- the reader took no row yet, nor did it leave
+pub record IsNew (count : ℕ) (reader : ReaderState) : Type 0 where
+  pub ring : reader.ring ≡ ring_of 2 1 (numbered count) 5
+  pub cursor : reader.cursor ≡ 0
+  pub left : reader.left ≡ false
+  pub held : reader.held ≡ false
 
 -- a site may take the row at the reader's cursor
 pub record IsTurning (reader : ReaderState) (rack : MemState) (site : SiteData) : Type 0 where

@@ -3,35 +3,12 @@ ghost use Rattle.std.specs.Prelude.{◌≡◌, true, OnOk, Some, slice_get};
 ghost use Rattle.tif_packbits.specs.Frame.{IsFrame};
 ghost use Rattle.pr_rack.specs.Rack.{none_begun};
 
-use pr_base::Deal;
+use crate::folder::{folder_of, paths_in};
+use crate::machine::{HEAD, OneRow};
 use pr_rack::{HostRack, Rack, RackFault};
 use ring_lanes::{Deck, Held};
-use std::test::Fail;
-use std::{env, fs, process};
+use std::fs;
 use tif_packbits::frame_row;
-
-// One row of two bytes, as a frame of five. Its packing has three bytes.
-#[derive(Drop)]
-struct TwoBytes;
-
-impl Deal for TwoBytes {
-    ghost use Rattle.std.specs.Prelude.{[], ◌∷◌};
-    ghost use Rattle.tif_packbits.specs.Frame.{frame_of};
-
-    ghost rows = { λ _. frame_of (171 ∷ 0 ∷ []) ∷ [] };
-
-    ghost size = { λ _. 5 };
-
-    fn total(&self) -> u64 {
-        1
-    }
-
-    fn row_len(&self) -> usize {
-        5
-    }
-}
-
-const HEAD: [u8; 8] = [0x49, 0x49, 0x2A, 0, 0, 0, 0, 0];
 
 // The rows of a plate, so that a block ends within a row, and what is left is no whole block.
 const ROWS: usize = 30_000;
@@ -56,17 +33,39 @@ fn put_rows(rack: &mut HostRack<HostRuntime>, held: &Held) -> Result<(), RackFau
 }
 
 // Begins two plates and puts their rows. The first is finished, the second is left.
-fn build(mut rack: HostRack<HostRuntime>, held: &Held, paths: [&str; 2]) -> Result<(), RackFault>
-    requires empty { rack.begun ≡ none_begun }
+fn build(
+    rack: &mut HostRack<HostRuntime>,
+    held: &Held,
+    first: &str,
+    second: &str,
+) -> Result<(), RackFault>
+    requires empty { rack.old.begun ≡ none_begun }
     requires frame { IsFrame held.now.bytes }
 {
-    rack.begin(0, paths[0], &HEAD)?;
-    rack.begin(1, paths[1], &HEAD)?;
-    put_rows(&mut rack, held)?;
+    rack.begin(0, first, &HEAD)?;
+    rack.begin(1, second, &HEAD)?;
+    put_rows(rack, held)?;
     rack.finish(0, &[0, 7], 90_008)
 }
 
-// The bytes are this place in the head, all rows and this tail.
+// Whether that is done. The rack is let go behind it.
+fn is_built(rt: &HostRuntime, held: &Held, first: &str, second: &str) -> bool
+    requires { IsFrame held.now.bytes }
+{
+    let Ok(rt) = rt.clone() else {
+        return false;
+    };
+    build(&mut HostRack::new(rt), held, first, second).is_ok()
+}
+
+// Whether the file has this place in its head, all rows and this tail.
+fn has_plate(rt: &HostRuntime, path: &str, place: &[u8], tail: &[u8]) -> bool {
+    match fs::read(rt, path) {
+        Ok(bytes) => is_plate(&bytes, place, tail),
+        Err(_) => false,
+    }
+}
+
 fn is_plate(bytes: &[u8], place: &[u8], tail: &[u8]) -> bool {
     let Some((head, behind)) = bytes.split_at_checked(8) else {
         return false;
@@ -82,41 +81,27 @@ fn are_rows(bytes: &[u8]) -> bool {
     rest.is_empty() && rows.iter().all(|row| *row == PACKED)
 }
 
-// A folder of this test alone.
-fn folder_of(rt: &HostRuntime) -> Result<String, Fail> {
-    let temp = env::temp_dir(rt)?;
-    let text = temp.as_path().to_str().ok_or("no text")?;
-    Ok(format!(in rt.alloc(); "{text}/plateroom-blocks-{}", process::id(rt.process()))?)
+#[test]
+fn long_files_are_whole(rt: HostRuntime) {
+    let folder = folder_of(&rt, "blocks").expect(&rt, "no folder");
+    let (first, second) = paths_in(&rt, folder.as_str()).expect(&rt, "no paths");
+    let whole = are_whole(&rt, first.as_str(), second.as_str());
+    fs::remove_dir_all(&rt, folder).expect(&rt, "folder");
+    assert!(rt; whole);
 }
 
-#[test]
-fn long_files_are_whole(rt: HostRuntime) -> Result<(), Fail> {
+// Builds both plates of the row of a deck. One is finished. Of the other, which is left, all rows reach the
+// disk when the rack is let go.
+fn are_whole(rt: &HostRuntime, first: &str, second: &str) -> bool {
     let mut frame = [0u8; 5];
     frame_row(&[0xAB, 0], &mut frame);
-    let deal = TwoBytes;
-    let mut deck = Deck::open(rt.alloc(), &deal)?;
+    let deal = OneRow;
+    let Ok(mut deck) = Deck::open(rt.alloc(), &deal) else {
+        return false;
+    };
     deck.put(&frame);
     let held = deck.take();
-    let folder = folder_of(&rt)?;
-    let whole = build_and_look(&rt, &held, folder.as_str())?;
+    let built = is_built(rt, &held, first, second);
     deck.give(held);
-    fs::remove_dir_all(&rt, folder)?;
-    assert!(rt; whole);
-    Ok(())
-}
-
-// One plate is finished. Of the other, which is left, all rows reach the disk when the rack is let go.
-fn build_and_look(rt: &HostRuntime, held: &Held, folder: &str) -> Result<bool, Fail>
-    requires { IsFrame held.now.bytes }
-{
-    let first = format!(in rt.alloc(); "{folder}/OSLO/a.tif")?;
-    let second = format!(in rt.alloc(); "{folder}/OSLO/b.tif")?;
-    build(
-        HostRack::new(rt.clone()?),
-        held,
-        [first.as_str(), second.as_str()],
-    )?;
-    let finished = fs::read(rt, &first)?;
-    let left = fs::read(rt, &second)?;
-    Ok(is_plate(&finished, &PLACE, &[0, 7]) && is_plate(&left, &[0; 4], &[]))
+    built && has_plate(rt, first, &PLACE, &[0, 7]) && has_plate(rt, second, &[0; 4], &[])
 }

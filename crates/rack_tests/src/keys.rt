@@ -1,6 +1,6 @@
 // Ink keys: the keys of columns, the rows of a small edition, and the turns of a key reader at a ring of two
 // places.
-ghost use Rattle.std.specs.Prelude.{◌≡◌, ◌+◌, ◌<◌, ◌≤◌, false, IfOk, OnOk, length, slice_get};
+ghost use Rattle.std.specs.Prelude.{◌≡◌, ◌+◌, ◌<◌, ◌≤◌, false, IfOk, length, slice_get};
 ghost use Rattle.plan_rows.specs.Rows.{places_in, rows_of};
 ghost use Rattle.ink_keys.specs.Counts.{IsBounded, no_counts};
 ghost use Rattle.ink_keys.specs.Turn.{IfWaiting};
@@ -9,13 +9,13 @@ ghost use Rattle.rack_tests.specs.Numbered.{IsFeeding};
 
 use crate::rows::{Numbered, frame, plan_of, plan_rows};
 use crate::site::sent;
-use crate::turn::publish;
+use crate::turn::{ends_of, publish};
 use ink_keys::{Counts, KeyEnd, KeyReader, key_of};
 use plan_json::Plan;
 use plan_pages::plate_shape;
 use plan_rows::RowPlan;
 use pr_base::{Deal, Ink, NoMemory};
-use ring_lanes::{Deck, Ends, Full, Reader, Writer, open_ring};
+use ring_lanes::{Deck, Reader, Writer, open_ring};
 use std::alloc::Global;
 use std::process::Abort;
 
@@ -191,22 +191,23 @@ fn go(
 // Three turns of a key reader, the first before a row is published and each other behind two rows more. Gives
 // how each ended.
 fn take_turns(
+    rt: &impl Abort,
     writer: &mut Writer<'_, Numbered>,
     key: &mut KeyReader<'_>,
     reader: &mut Reader<'_, Numbered>,
-) -> Result<[KeyEnd; 3], Full>
+) -> [KeyEnd; 3]
     requires feeding { IsFeeding 4 0 writer.old }
     requires counting { IsCounting reader.old key.old }
-    ensures { OnOk result (key.new.counts.groups ≡ key.old.counts.groups) }
+    ensures { key.new.counts.groups ≡ key.old.counts.groups }
 {
     let first = go(KeyEnd::Waiting { head: 0 }, key, reader, 2);
-    publish(writer, 4, 0)?;
-    publish(writer, 4, 1)?;
+    publish(rt, writer, 4, 0);
+    publish(rt, writer, 4, 1);
     let second = go(first, key, reader, 1);
-    publish(writer, 4, 2)?;
-    publish(writer, 4, 3)?;
+    publish(rt, writer, 4, 2);
+    publish(rt, writer, 4, 3);
     let last = go(second, key, reader, 3);
-    Ok([first, second, last])
+    [first, second, last]
 }
 
 // How three turns of a key reader end that count all rows of a ring, and its counts by three keys.
@@ -216,15 +217,11 @@ fn count_all<R: Abort + AllocGlobal>(rt: &R, rows: &RowPlan) -> ([KeyEnd; 3], Co
 {
     let deal = Numbered { count: 4 };
     let mut ring = open_ring(rt.alloc(), &deal, 2, 1).expect(rt, "no ring");
-    let Ends {
-        mut writer,
-        mut readers,
-    } = ring.ends(rt.alloc()).expect(rt, "no ends");
-    let mut reader = readers.pop().expect(rt, "no reader");
+    let (mut writer, mut reader) = ends_of(rt, &mut ring);
     let counts = zeros(rt.alloc(), rows, 3).expect(rt, "memory");
     let mut key = KeyReader::new(rows, counts);
     sent(&key);
-    let ends = take_turns(&mut writer, &mut key, &mut reader).expect(rt, "no room");
+    let ends = take_turns(rt, &mut writer, &mut key, &mut reader);
     (ends, key.into_counts())
 }
 

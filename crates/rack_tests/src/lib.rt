@@ -4,6 +4,8 @@
 #[cfg(test)]
 mod blocks;
 #[cfg(test)]
+mod folder;
+#[cfg(test)]
 mod keys;
 #[cfg(test)]
 mod machine;

@@ -3,16 +3,16 @@ ghost use Rattle.std.specs.Prelude.{◌≡◌};
 ghost use Rattle.tif_packbits.specs.Frame.{IsFrame};
 ghost use Rattle.pr_rack.specs.Rack.{none_begun};
 
+use crate::folder::{folder_of, paths_in};
 use pr_base::Deal;
 use pr_rack::{HostRack, Rack, RackFault};
 use ring_lanes::{Deck, Held};
-use std::test::Fail;
-use std::{env, fs, process};
+use std::fs;
 use tif_packbits::frame_row;
 
-// One row of two bytes, as a frame of five.
+/// One row of two bytes, as a frame of five. Its packing has three bytes.
 #[derive(Drop)]
-struct OneRow;
+pub struct OneRow;
 
 impl Deal for OneRow {
     ghost use Rattle.std.specs.Prelude.{[], ◌∷◌};
@@ -31,7 +31,8 @@ impl Deal for OneRow {
     }
 }
 
-const HEAD: [u8; 8] = [0x49, 0x49, 0x2A, 0, 0, 0, 0, 0];
+/// What a plate begins with.
+pub const HEAD: [u8; 8] = [0x49, 0x49, 0x2A, 0, 0, 0, 0, 0];
 
 // A plate of one such row, closed by a tail of two bytes.
 const SHORT: [u8; 13] = [0x49, 0x49, 0x2A, 0, 12, 0, 0, 0, 1, 0xAB, 0, 0, 7];
@@ -72,34 +73,42 @@ fn leave_file(rack: &mut HostRack<HostRuntime>, held: &Held, path: &str) -> Resu
     rack.row(2, held)
 }
 
-// A folder of this test alone.
-fn folder_of(rt: &HostRuntime) -> Result<String, Fail> {
-    let temp = env::temp_dir(rt)?;
-    let text = temp.as_path().to_str().ok_or("no text")?;
-    Ok(format!(in rt.alloc(); "{text}/plateroom-rack-{}", process::id(rt.process()))?)
+// Whether that is done. The rack is let go behind it.
+fn are_built(rt: &HostRuntime, held: &Held, first: &str, second: &str) -> bool
+    requires { IsFrame held.now.bytes }
+{
+    let Ok(rt) = rt.clone() else {
+        return false;
+    };
+    build_files(&mut HostRack::new(rt), held, first, second).is_ok()
+}
+
+fn is_left(rt: &HostRuntime, held: &Held, path: &str) -> bool
+    requires { IsFrame held.now.bytes }
+{
+    let Ok(rt) = rt.clone() else {
+        return false;
+    };
+    leave_file(&mut HostRack::new(rt), held, path).is_ok()
 }
 
 #[test]
-fn writes_files_of_the_machine(rt: HostRuntime) -> Result<(), Fail> {
-    let folder = folder_of(&rt)?;
-    let (first, second) = paths(&rt, folder.as_str())?;
-    write_row(&rt, first.as_str(), second.as_str())?;
-    fs::remove_dir_all(&rt, folder)?;
-    Ok(())
-}
-
-fn paths(rt: &HostRuntime, folder: &str) -> Result<(String, String), Fail> {
-    let first = format!(in rt.alloc(); "{folder}/OSLO/a.tif")?;
-    let second = format!(in rt.alloc(); "{folder}/OSLO/b.tif")?;
-    Ok((first, second))
+fn writes_files_of_the_machine(rt: HostRuntime) {
+    let folder = folder_of(&rt, "rack").expect(&rt, "no folder");
+    let (first, second) = paths_in(&rt, folder.as_str()).expect(&rt, "no paths");
+    let written = write_row(&rt, first.as_str(), second.as_str());
+    fs::remove_dir_all(&rt, folder).expect(&rt, "folder");
+    assert!(rt; written);
 }
 
 // Writes both files with the row of a deck.
-fn write_row(rt: &HostRuntime, first: &str, second: &str) -> Result<(), Fail> {
+fn write_row(rt: &HostRuntime, first: &str, second: &str) -> bool {
     let mut frame = [0u8; 5];
     frame_row(&[0xAB, 0], &mut frame);
     let deal = OneRow;
-    let mut deck = Deck::open(rt.alloc(), &deal)?;
+    let Ok(mut deck) = Deck::open(rt.alloc(), &deal) else {
+        return false;
+    };
     deck.put(&frame);
     let held = deck.take();
     let written = write(rt, &held, first, second);
@@ -108,23 +117,22 @@ fn write_row(rt: &HostRuntime, first: &str, second: &str) -> Result<(), Fail> {
 }
 
 // A file that is there is replaced, and one that isn't finished stays in part.
-fn write(rt: &HostRuntime, held: &Held, first: &str, second: &str) -> Result<(), Fail>
+fn write(rt: &HostRuntime, held: &Held, first: &str, second: &str) -> bool
     requires { IsFrame held.now.bytes }
 {
-    build_files(&mut HostRack::new(rt.clone()?), held, first, second)?;
-    has(rt, first, &SHORT)?;
-    has(rt, second, &LONG)?;
-    leave_file(&mut HostRack::new(rt.clone()?), held, second)?;
-    has(rt, second, &PART)
+    are_built(rt, held, first, second)
+        && has(rt, first, &SHORT)
+        && has(rt, second, &LONG)
+        && is_left(rt, held, second)
+        && has(rt, second, &PART)
 }
 
 // Compares the bytes of a file.
-fn has(rt: &HostRuntime, path: &str, bytes: &[u8]) -> Result<(), Fail> {
-    let read = fs::read(rt, path)?;
-    if read.as_slice() == bytes {
-        return Ok(());
+fn has(rt: &HostRuntime, path: &str, bytes: &[u8]) -> bool {
+    match fs::read(rt, path) {
+        Ok(read) => read.as_slice() == bytes,
+        Err(_) => false,
     }
-    Err("other bytes".into())
 }
 
 // A file in the place of a folder, a device that is full, and one that takes all bytes and keeps none.

@@ -42,18 +42,17 @@ fn offer(deck: &mut Deck<'_, Numbered>, last: Kept, site: &mut Site, rack: &mut 
 }
 
 // Puts so many rows on a deck, one after the other, hands each to a site, and gives what it answered last.
-fn carry(alloc: Global, count: u8, site: &mut Site, rack: &mut MemRack) -> Result<Kept, NoMemory>
+fn carry(deck: &mut Deck<'_, Numbered>, count: u8, site: &mut Site, rack: &mut MemRack) -> Kept
+    requires deck { deck.old ≡ record { rows = numbered count; put = 0; out = false } }
     requires takes { Takes (numbered count) rack.old site.old }
     requires next { site.old.next ≡ 0 }
 {
-    let deal = Numbered { count };
-    let mut deck = Deck::open(alloc, &deal)?;
     let mut last = Kept::Done;
     for n in 0..count {
         deck.put(&frame(n));
-        last = offer(&mut deck, last, site, rack);
+        last = offer(deck, last, site, rack);
     }
-    Ok(last)
+    last
 }
 
 /// Threads take sites and key readers along.
@@ -74,17 +73,21 @@ pub fn site_of(alloc: Global, plan: &Plan, rows: &RowPlan, index: usize) -> Resu
 }
 
 // What the first site of a plan makes of its rows: its last answer, and its rack.
-fn run(alloc: Global, plan: &Plan, rows: &RowPlan) -> Result<(Kept, MemRack), NoMemory>
+fn run<R: Abort + AllocGlobal>(rt: &R, plan: &Plan, rows: &RowPlan) -> (Kept, MemRack)
     requires rows { rows.now ≡ rows_of plan.now }
     requires site { 0 < length plan.now.sites }
     requires sides { row_size (plate_width plan.now) ≡ 2 }
     requires few { length (row_places plan.now) < 255 }
 {
-    let mut site = site_of(alloc, plan, rows, 0)?;
+    let deal = Numbered {
+        count: rows.total() as u8,
+    };
+    let mut deck = Deck::open(rt.alloc(), &deal).expect(rt, "no deck");
+    let mut site = site_of(rt.alloc(), plan, rows, 0).expect(rt, "no site");
     sent(&site);
-    let mut rack = MemRack::new(alloc, Vec::new(alloc));
-    let last = carry(alloc, rows.total() as u8, &mut site, &mut rack)?;
-    Ok((last, rack))
+    let mut rack = MemRack::new(rt.alloc(), Vec::new(rt.alloc()));
+    let last = carry(&mut deck, deal.count, &mut site, &mut rack);
+    (last, rack)
 }
 
 const FIVE_INKS: &[u8] = br#"{"plan": 2, "edition": "E1", "dpi": 1200, "page": [8, 2],
@@ -114,7 +117,7 @@ fn check_inks<R: Abort + AllocGlobal>(rt: &R, plan: &Plan, rows: &RowPlan)
     assert!(rt; plan.sites.len() > 0);
     assert!(rt; plate_shape(plan).width == 16);
     assert!(rt; rows.total() == 10);
-    let (last, rack) = run(rt.alloc(), plan, rows).expect(rt, "memory");
-    assert!(rt; last == Kept::Done);
+    let (last, rack) = run(rt, plan, rows);
+    assert!(rt; matches!(last, Kept::Done));
     check_rack(rt, &rack, Source::Deck, &INKS, 10);
 }

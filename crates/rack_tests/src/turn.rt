@@ -1,10 +1,11 @@
 // A site that takes its rows by turns from a ring of two places.
-ghost use Rattle.std.specs.Prelude.{◌≡◌, ◌+◌, ◌<◌, OnOk, length};
+ghost use Rattle.std.specs.Prelude.{◌≡◌, ◌+◌, ◌<◌, length, true};
 ghost use Rattle.pr_base.specs.Row.{row_size};
 ghost use Rattle.plan_json.specs.Data.{plate_width};
 ghost use Rattle.plan_rows.specs.Rows.{row_places, rows_of};
+ghost use Rattle.ring_rule.specs.Views.{ring_of};
 ghost use Rattle.site_agent.specs.Turn.{IfWaiting};
-ghost use Rattle.rack_tests.specs.Numbered.{IsFeeding, IsTurning};
+ghost use Rattle.rack_tests.specs.Numbered.{IsFeeding, IsNew, IsTurning, numbered};
 
 use crate::rows::{Numbered, check_rack, frame, plan_of, plan_rows};
 use crate::site::site_of;
@@ -12,21 +13,38 @@ use plan_json::Plan;
 use plan_pages::plate_shape;
 use plan_rows::RowPlan;
 use pr_rack::MemRack;
-use ring_lanes::{Ends, Full, Reader, Source, Writer, open_ring};
+use ring_lanes::{Ends, Reader, Ring, Source, Writer, open_ring};
 use site_agent::{Site, TurnEnd};
 use std::alloc::Global;
 use std::process::Abort;
 
-/// Publishes row `n`, where there is room for it.
-pub fn publish(writer: &mut Writer<'_, Numbered>, count: u8, n: u8) -> Result<(), Full>
+/// Publishes row `n`, for which there is room.
+pub fn publish(rt: &impl Abort, writer: &mut Writer<'_, Numbered>, count: u8, n: u8)
     requires feeding { IsFeeding count n writer.old }
     requires row { n < count }
     requires few { count < 255 }
-    ensures { OnOk result (IsFeeding count (n + 1) writer.new) }
+    ensures { IsFeeding count (n + 1) writer.new }
 {
-    let pass = writer.room()?;
+    let Ok(pass) = writer.room() else { rt.abort() };
     writer.publish(pass, &frame(n));
-    Ok(())
+}
+
+/// The ends of a ring of four rows in two places, which has one reader.
+pub fn ends_of<'r, R: Abort + AllocGlobal>(
+    rt: &R,
+    ring: &'r mut Ring<'_, Numbered>,
+) -> (Writer<'r, Numbered>, Reader<'r, Numbered>)
+    requires fresh { ring.old.fresh ≡ true }
+    requires ring { ring.old.ring ≡ ring_of 2 1 (numbered 4) 5 }
+    ensures writer { IsFeeding 4 0 result.0 }
+    ensures reader { IsNew 4 result.1 }
+{
+    let Ends {
+        writer,
+        mut readers,
+    } = ring.ends(rt.alloc()).expect(rt, "no ends");
+    let reader = readers.pop().expect(rt, "no reader");
+    (writer, reader)
 }
 
 // The next turn of a site whose last one ended so. One that doesn't wait has no further turn.
@@ -58,24 +76,25 @@ fn head_of(end: &TurnEnd) -> Option<u64> {
 // Three turns of a site, the first before a row is published and each other behind two rows more. Gives
 // where the first two waited, and how the last one ended.
 fn take_turns(
+    rt: &impl Abort,
     writer: &mut Writer<'_, Numbered>,
     site: &mut Site,
     reader: &mut Reader<'_, Numbered>,
     rack: &mut MemRack,
-) -> Result<([Option<u64>; 2], TurnEnd), Full>
+) -> ([Option<u64>; 2], TurnEnd)
     requires feeding { IsFeeding 4 0 writer.old }
     requires turning { IsTurning reader.old rack.old site.old }
 {
     let first = site.turn(reader, rack, 1);
     let first_head = head_of(&first);
-    publish(writer, 4, 0)?;
-    publish(writer, 4, 1)?;
+    publish(rt, writer, 4, 0);
+    publish(rt, writer, 4, 1);
     let second = go(first, site, reader, rack, 2);
     let second_head = head_of(&second);
-    publish(writer, 4, 2)?;
-    publish(writer, 4, 3)?;
+    publish(rt, writer, 4, 2);
+    publish(rt, writer, 4, 3);
     let last = go(second, site, reader, rack, 1);
-    Ok(([first_head, second_head], last))
+    ([first_head, second_head], last)
 }
 
 // What the site with this index makes of all rows of a ring by three turns: where it waited, its last answer,
@@ -93,15 +112,10 @@ fn take_all<R: Abort + AllocGlobal>(
 {
     let deal = Numbered { count: 4 };
     let mut ring = open_ring(rt.alloc(), &deal, 2, 1).expect(rt, "no ring");
-    let Ends {
-        mut writer,
-        mut readers,
-    } = ring.ends(rt.alloc()).expect(rt, "no ends");
-    let mut reader = readers.pop().expect(rt, "no reader");
+    let (mut writer, mut reader) = ends_of(rt, &mut ring);
     let mut site = site_of(rt.alloc(), plan, rows, index).expect(rt, "memory");
     let mut rack = MemRack::new(rt.alloc(), Vec::new(rt.alloc()));
-    let taken = take_turns(&mut writer, &mut site, &mut reader, &mut rack);
-    let (heads, last) = taken.expect(rt, "no room");
+    let (heads, last) = take_turns(rt, &mut writer, &mut site, &mut reader, &mut rack);
     (heads, last, rack)
 }
 
@@ -135,6 +149,7 @@ fn check_turns<R: Abort + AllocGlobal>(rt: &R, plan: &Plan, rows: &RowPlan)
     assert!(rt; plate_shape(plan).width == 16);
     assert!(rt; rows.total() == 4);
     let (heads, last, rack) = take_all(rt, plan, rows, 1);
-    assert!(rt; heads == [Some(0), Some(2)] && last == TurnEnd::Finished);
+    assert!(rt; heads == [Some(0), Some(2)]);
+    assert!(rt; matches!(last, TurnEnd::Finished));
     check_rack(rt, &rack, RING, &BERGEN, 4);
 }

@@ -3,6 +3,7 @@ ghost use Rattle.std.specs.Prelude.{◌≡◌};
 ghost use Rattle.ring_tests.specs.Numbered.{numbered_row, numbered_rows};
 
 use pr_base::Deal;
+use ring_lanes::{Held, Source};
 
 /// Rows of two bytes that tell their number.
 #[derive(Drop)]
@@ -29,4 +30,14 @@ pub fn row_bytes(row: u64) -> [u8; 2]
     ensures { result ≡ numbered_row row }
 {
     [(row % 256) as u8, (row / 256 % 256) as u8]
+}
+
+/// Whether a row has this number and these bytes, and was taken there.
+pub fn is_row(held: &Held, number: u64, bytes: &[u8], source: Source) -> bool {
+    held.number() == number && held.bytes() == bytes && held.source() == source
+}
+
+/// Whether all of these are true.
+pub fn are_all(facts: &[bool]) -> bool {
+    facts.iter().all(|fact| *fact)
 }

@@ -2,10 +2,10 @@
 ghost use Rattle.std.specs.Prelude.{◌≡◌, false};
 ghost use Rattle.ring_tests.specs.Deck.{two_rows};
 
+use crate::deal::is_row;
 use pr_base::Deal;
-use ring_lanes::{Deck, Held, Source};
+use ring_lanes::{Deck, Source};
 use std::process::Abort;
-use std::test::Fail;
 
 /// The two rows of a small job, packed in frames of five bytes.
 #[derive(Drop)]
@@ -25,31 +25,25 @@ impl Deal for TwoRows {
     }
 }
 
-// Whether a row has this number and these bytes.
-fn is(held: &Held, number: u64, bytes: &[u8]) -> bool {
-    held.number() == number && held.bytes() == bytes && held.source() == Source::Deck
-}
-
 #[test]
-fn hands_out_each_row_as_often_as_asked(rt: HostRuntime) -> Result<(), Fail> {
+fn hands_out_each_row_as_often_as_asked(rt: HostRuntime) {
     let deal = TwoRows;
-    let deck = Deck::open(rt.alloc(), &deal)?;
-    hand_out(&rt, deck);
-    Ok(())
+    let mut deck = Deck::open(rt.alloc(), &deal).expect(&rt, "memory");
+    hand_out(&rt, &mut deck);
 }
 
 // The second row is taken twice.
-fn hand_out(rt: &impl Abort, mut deck: Deck<'_, TwoRows>)
-    requires { deck ≡ record { rows = two_rows; put = 0; out = false } }
+fn hand_out(rt: &impl Abort, deck: &mut Deck<'_, TwoRows>)
+    requires { deck.old ≡ record { rows = two_rows; put = 0; out = false } }
 {
     deck.put(&[3, 0, 1, 0xAB, 0]);
     let held = deck.take();
-    assert!(rt; is(&held, 0, &[3, 0, 1, 0xAB, 0]));
+    assert!(rt; is_row(&held, 0, &[3, 0, 1, 0xAB, 0], Source::Deck));
     deck.give(held);
     deck.put(&[3, 0, 1, 0x13, 0]);
     for _time in 0..2 {
         let held = deck.take();
-        assert!(rt; is(&held, 1, &[3, 0, 1, 0x13, 0]));
+        assert!(rt; is_row(&held, 1, &[3, 0, 1, 0x13, 0], Source::Deck));
         deck.give(held);
     }
 }

@@ -2,11 +2,10 @@
 ghost use Rattle.std.specs.Prelude.{◌≡◌, ◌+◌, ◌<◌, OnErr, OnOk};
 ghost use Rattle.ring_tests.specs.Numbered.{IsDrawing, IsFeeding};
 
-use crate::deal::{Numbered, row_bytes};
+use crate::deal::{Numbered, are_all, is_row, row_bytes};
 use pr_base::Deal;
 use ring_lanes::{Ends, Full, NotYet, Reader, Writer, open_ring};
 use std::process::Abort;
-use std::test::Fail;
 use std::thread;
 use std::thread::Threads;
 
@@ -36,24 +35,23 @@ pub fn draw_next(
     ensures table { reader.new.table ≡ reader.old.table }
 {
     let held = reader.open()?;
-    assert!(rt; held.number() == cursor && held.bytes() == row_bytes(cursor).as_slice());
-    assert_eq!(rt; held.source(), reader.source());
+    assert!(rt; is_row(&held, cursor, &row_bytes(cursor), reader.source()));
     reader.close(held);
     Ok(())
 }
 
 #[test]
-fn the_writer_waits_for_the_slowest_reader(rt: HostRuntime) -> Result<(), Fail> {
+fn the_writer_waits_for_the_slowest_reader(rt: HostRuntime) {
     let deal = Numbered { total: 3 };
-    let mut ring = open_ring(rt.alloc(), &deal, 2, 2)?;
+    let mut ring = open_ring(rt.alloc(), &deal, 2, 2).expect(&rt, "no ring");
     let Ends {
-        writer,
+        mut writer,
         mut readers,
-    } = ring.ends(rt.alloc())?;
-    let second = readers.pop().ok_or("no reader")?;
-    let first = readers.pop().ok_or("no reader")?;
-    wait(&rt, writer, first, second);
-    Ok(())
+    } = ring.ends(rt.alloc()).expect(&rt, "no ends");
+    let second = readers.pop().expect(&rt, "no reader");
+    let mut first = readers.pop().expect(&rt, "no reader");
+    wait(&rt, &mut writer, &mut first);
+    assert!(rt; ends_cross(&rt, writer, second) == (2, 0));
 }
 
 // Publishes the next of three rows.
@@ -78,7 +76,7 @@ fn is_full(rt: &impl Abort, writer: &mut Writer<'_, Numbered>, head: u64, full: 
     let Err(found) = publish_next(writer, 3, head) else {
         rt.abort()
     };
-    assert_eq!(rt; found, full);
+    assert!(rt; found == full);
 }
 
 // Takes the next of three rows.
@@ -93,21 +91,15 @@ fn draw(rt: &impl Abort, reader: &mut Reader<'_, Numbered>, cursor: u64)
 }
 
 // Two places, of which neither reader has closed the first row.
-fn wait<R: Abort + Threads>(
-    rt: &R,
-    mut writer: Writer<'_, Numbered>,
-    mut first: Reader<'_, Numbered>,
-    second: Reader<'_, Numbered>,
-)
-    requires feeding { IsFeeding 3 0 writer }
-    requires drawing { IsDrawing 3 0 first }
+fn wait(rt: &impl Abort, writer: &mut Writer<'_, Numbered>, first: &mut Reader<'_, Numbered>)
+    requires feeding { IsFeeding 3 0 writer.old }
+    requires drawing { IsDrawing 3 0 first.old }
 {
-    publish(rt, &mut writer, 0);
-    publish(rt, &mut writer, 1);
-    is_full(rt, &mut writer, 2, Full { site: 0, at: 0 });
-    draw(rt, &mut first, 0);
-    is_full(rt, &mut writer, 2, Full { site: 1, at: 0 });
-    assert_eq!(rt; ends_cross(rt, writer, second), (2, 0));
+    publish(rt, writer, 0);
+    publish(rt, writer, 1);
+    is_full(rt, writer, 2, Full { site: 0, at: 0 });
+    draw(rt, first, 0);
+    is_full(rt, writer, 2, Full { site: 1, at: 0 });
 }
 
 // The ends cross threads, whatever the deal is.
@@ -120,37 +112,48 @@ fn ends_cross<D: Deal + Sync>(
 }
 
 #[test]
-fn a_row_that_is_held_is_not_overwritten(rt: HostRuntime) -> Result<(), Fail> {
+fn a_row_that_is_held_is_not_overwritten(rt: HostRuntime) {
     let deal = Numbered { total: 3 };
-    let mut ring = open_ring(rt.alloc(), &deal, 2, 1)?;
+    let mut ring = open_ring(rt.alloc(), &deal, 2, 1).expect(&rt, "no ring");
     let Ends {
-        writer,
+        mut writer,
         mut readers,
-    } = ring.ends(rt.alloc())?;
-    let reader = readers.pop().ok_or("no reader")?;
-    hold(&rt, writer, reader);
-    Ok(())
+    } = ring.ends(rt.alloc()).expect(&rt, "no ends");
+    let mut reader = readers.pop().expect(&rt, "no reader");
+    assert!(rt; tells_its_rows(&writer));
+    hold(&rt, &mut writer, &mut reader);
+}
+
+fn tells_its_rows(writer: &Writer<'_, Numbered>) -> bool {
+    writer.total() == 3 && writer.row_len() == 2
 }
 
 // The first of three rows is held while the second is published, and then no place is left.
-fn hold(rt: &impl Abort, mut writer: Writer<'_, Numbered>, mut reader: Reader<'_, Numbered>)
-    requires feeding { IsFeeding 3 0 writer }
-    requires drawing { IsDrawing 3 0 reader }
-    requires table { reader.table ≡ writer.table }
+fn hold(rt: &impl Abort, writer: &mut Writer<'_, Numbered>, reader: &mut Reader<'_, Numbered>)
+    requires feeding { IsFeeding 3 0 writer.old }
+    requires drawing { IsDrawing 3 0 reader.old }
+    requires table { reader.old.table ≡ writer.old.table }
 {
-    assert_eq!(rt; writer.total(), 3);
-    assert_eq!(rt; writer.row_len(), 2);
-    none_yet(rt, &mut reader);
-    publish(rt, &mut writer, 0);
+    none_yet(rt, reader);
+    publish(rt, writer, 0);
     let Ok(held) = reader.open() else { rt.abort() };
-    assert_eq!(rt; held.number(), 0);
-    publish(rt, &mut writer, 1);
-    is_full(rt, &mut writer, 2, Full { site: 0, at: 0 });
+    assert!(rt; held.number() == 0);
+    publish(rt, writer, 1);
+    is_full(rt, writer, 2, Full { site: 0, at: 0 });
     reader.close(held);
-    publish(rt, &mut writer, 2);
+    learn(rt, writer, reader);
+}
+
+// The reader closed that row, and learns that the third is published.
+fn learn(rt: &impl Abort, writer: &mut Writer<'_, Numbered>, reader: &mut Reader<'_, Numbered>)
+    requires feeding { IsFeeding 3 2 writer.old }
+    requires drawing { IsDrawing 3 1 reader.old }
+    requires table { reader.old.table ≡ writer.old.table }
+{
+    publish(rt, writer, 2);
     let note = writer.tell();
     reader.learn(note);
-    assert_eq!(rt; reader.cursor(), 1);
+    assert!(rt; reader.cursor() == 1);
 }
 
 // Finds no first row.
@@ -162,62 +165,63 @@ fn none_yet(rt: &impl Abort, reader: &mut Reader<'_, Numbered>)
     let Err(found) = draw_next(rt, reader, 3, 0) else {
         rt.abort()
     };
-    assert_eq!(rt; found, NotYet { head: 0 });
+    assert!(rt; found == NotYet { head: 0 });
 }
 
 #[test]
-fn the_writer_passes_over_a_reader_that_left(rt: HostRuntime) -> Result<(), Fail> {
+fn the_writer_passes_over_a_reader_that_left(rt: HostRuntime) {
     let deal = Numbered { total: 3 };
-    let mut ring = open_ring(rt.alloc(), &deal, 1, 2)?;
+    let mut ring = open_ring(rt.alloc(), &deal, 1, 2).expect(&rt, "no ring");
     let Ends {
-        writer,
+        mut writer,
         mut readers,
-    } = ring.ends(rt.alloc())?;
-    let second = readers.pop().ok_or("no reader")?;
-    let first = readers.pop().ok_or("no reader")?;
-    leave(&rt, writer, first, second);
-    Ok(())
+    } = ring.ends(rt.alloc()).expect(&rt, "no ends");
+    let mut second = readers.pop().expect(&rt, "no reader");
+    let mut first = readers.pop().expect(&rt, "no reader");
+    leave(&rt, &mut writer, &mut first, &mut second);
 }
 
 // One place. The second reader takes one row.
 fn leave(
     rt: &impl Abort,
-    mut writer: Writer<'_, Numbered>,
-    mut first: Reader<'_, Numbered>,
-    mut second: Reader<'_, Numbered>,
+    writer: &mut Writer<'_, Numbered>,
+    first: &mut Reader<'_, Numbered>,
+    second: &mut Reader<'_, Numbered>,
 )
-    requires feeding { IsFeeding 3 0 writer }
-    requires first { IsDrawing 3 0 first }
-    requires second { IsDrawing 3 0 second }
-    requires table { second.table ≡ writer.table }
+    requires feeding { IsFeeding 3 0 writer.old }
+    requires first { IsDrawing 3 0 first.old }
+    requires second { IsDrawing 3 0 second.old }
+    requires table { second.old.table ≡ writer.old.table }
 {
-    publish(rt, &mut writer, 0);
-    draw(rt, &mut first, 0);
-    draw(rt, &mut second, 0);
-    publish(rt, &mut writer, 1);
-    draw(rt, &mut first, 1);
-    is_full(rt, &mut writer, 2, Full { site: 1, at: 1 });
+    publish(rt, writer, 0);
+    draw(rt, first, 0);
+    draw(rt, second, 0);
+    publish(rt, writer, 1);
+    draw(rt, first, 1);
+    is_full(rt, writer, 2, Full { site: 1, at: 1 });
     second.leave();
     left(rt, writer, second);
 }
 
 // The writer learns that it left.
-fn left(rt: &impl Abort, mut writer: Writer<'_, Numbered>, mut second: Reader<'_, Numbered>)
-    requires feeding { IsFeeding 3 2 writer }
-    requires table { second.table ≡ writer.table }
+fn left(rt: &impl Abort, writer: &mut Writer<'_, Numbered>, second: &mut Reader<'_, Numbered>)
+    requires feeding { IsFeeding 3 2 writer.old }
+    requires table { second.old.table ≡ writer.old.table }
 {
-    tells_one_row(rt, &second);
-    assert_eq!(rt; writer.joined(), 2);
+    assert!(rt; tells_one_row(second));
+    assert!(rt; writer.joined() == 2);
     let note = second.tell();
     writer.learn(note);
-    assert_eq!(rt; writer.joined(), 1);
-    publish(rt, &mut writer, 2);
-    assert_eq!(rt; writer.head(), 3);
+    assert!(rt; writer.joined() == 1);
+    publish(rt, writer, 2);
+    assert!(rt; writer.head() == 3);
 }
 
-fn tells_one_row(rt: &impl Abort, reader: &Reader<'_, Numbered>) {
-    assert_eq!(rt; reader.number(), 1);
-    assert_eq!(rt; reader.cursor(), 1);
-    assert_eq!(rt; reader.total(), 3);
-    assert!(rt; !reader.joined());
+fn tells_one_row(reader: &Reader<'_, Numbered>) -> bool {
+    are_all(&[
+        reader.number() == 1,
+        reader.cursor() == 1,
+        reader.total() == 3,
+        !reader.joined(),
+    ])
 }

@@ -3,10 +3,9 @@ ghost use Rattle.std.specs.Prelude.{◌≤◌};
 ghost use Rattle.ring_core.specs.Sound.{IsSound};
 ghost use Rattle.ring_core.specs.Shown.{schedule_in};
 
-use pr_base::NoMemory;
+use crate::deal::are_all;
 use ring_core::{Core, Event, Stage};
 use std::process::Abort;
-use std::test::Fail;
 
 // Two readers and two places: the writer fills both places, and must then wait for reader 0 and for reader 1.
 const WAITS: [(Event, bool); 21] = [
@@ -44,89 +43,89 @@ const OTHERS: [(Event, bool); 7] = [
 ];
 
 // Does these events, and compares whether each was possible.
-fn follow(rt: &impl Abort, core: &mut Core, turns: &[(Event, bool)]) -> Result<(), NoMemory>
+fn follow(rt: &impl Abort, core: &mut Core, turns: &[(Event, bool)])
     requires { IsSound (schedule_in core.old) }
 {
     for (event, possible) in turns {
-        assert_eq!(rt; core.step(*event)?, *possible, "{event:?}");
+        let done = core.step(*event).expect(rt, "memory");
+        assert!(rt; done == *possible, "{event:?}");
     }
-    Ok(())
 }
 
 #[test]
-fn waits_for_the_slowest(rt: HostRuntime) -> Result<(), Fail> {
-    let mut core = Core::new(rt.alloc(), 2, 2, 3)?;
-    follow(&rt, &mut core, &WAITS)?;
-    assert_eq!(rt; core.head, 2);
-    assert_readers(&rt, &core, &[Some(1), Some(0)], &[Some(1), Some(0)]);
-    assert_eq!(rt; core.seen.as_slice(), [2, 0].as_slice());
-    assert_lanes(&rt, &core);
-    Ok(())
+fn waits_for_the_slowest(rt: HostRuntime) {
+    let mut core = Core::new(rt.alloc(), 2, 2, 3).expect(&rt, "memory");
+    follow(&rt, &mut core, &WAITS);
+    assert!(rt; has_readers(&core, &[Some(1), Some(0)]), "readers");
+    assert!(rt; has_lanes(&core), "lanes");
 }
 
-// What the writer knows of the readers, and where they are.
-fn assert_readers(rt: &impl Abort, core: &Core, known: &[Option<u64>], cursor: &[Option<u64>]) {
-    assert_eq!(rt; core.known.as_slice(), known);
-    assert_eq!(rt; core.cursor.as_slice(), cursor);
+// The writer knows where the readers are, and they are there.
+fn has_readers(core: &Core, cursors: &[Option<u64>]) -> bool {
+    core.known.as_slice() == cursors && core.cursor.as_slice() == cursors
 }
 
-// What that run leaves in the lanes.
-fn assert_lanes(rt: &impl Abort, core: &Core) {
-    assert_eq!(rt; core.filled.as_slice(), [true, false].as_slice());
-    assert_eq!(rt;
-        core.stage.as_slice(),
-        [Stage::Idle, Stage::Idle].as_slice()
-    );
-    assert_eq!(rt;
-        core.lane.as_slice(),
-        [Some(2), Some(1), Some(0), Some(1)].as_slice()
-    );
+// What the run of two places leaves.
+fn has_lanes(core: &Core) -> bool {
+    are_all(&[
+        core.head == 2,
+        core.seen.as_slice() == [2, 0].as_slice(),
+        core.filled.as_slice() == [true, false].as_slice(),
+        core.stage.as_slice() == [Stage::Idle, Stage::Idle].as_slice(),
+        core.lane.as_slice() == [Some(2), Some(1), Some(0), Some(1)].as_slice(),
+    ])
 }
 
 #[test]
-fn knows_no_other_reader(rt: HostRuntime) -> Result<(), Fail> {
-    let mut core = Core::new(rt.alloc(), 1, 2, 1)?;
-    follow(&rt, &mut core, &OTHERS)?;
-    assert_readers(&rt, &core, &[Some(0), Some(0)], &[Some(0), Some(0)]);
-    Ok(())
+fn knows_no_other_reader(rt: HostRuntime) {
+    let mut core = Core::new(rt.alloc(), 1, 2, 1).expect(&rt, "memory");
+    follow(&rt, &mut core, &OTHERS);
+    assert!(rt; has_readers(&core, &[Some(0), Some(0)]), "readers");
 }
 
 // Thousands of events, possible and not, with each number of readers and one to five places.
 #[test]
-fn keeps_its_rows_in_order(rt: HostRuntime) -> Result<(), Fail> {
+fn keeps_its_rows_in_order(rt: HostRuntime) {
     let mut seed = 1;
     let mut published: u64 = 0;
     for readers in 1..18 {
         for places in 1..6 {
-            let mut core = Core::new(rt.alloc(), places, readers, 40)?;
-            drive(&mut core, readers, &mut seed)?;
+            let mut core = Core::new(rt.alloc(), places, readers, 40).expect(&rt, "memory");
+            drive(&rt, &mut core, readers, &mut seed);
             published = published.saturating_add(core.head);
-            assert_rows(&rt, &core);
+            assert!(rt; is_in_order(&core));
         }
     }
     assert!(rt; published > 0);
-    Ok(())
 }
 
 // Each reader took the first rows.
-fn assert_rows(rt: &impl Abort, core: &Core) {
+fn is_in_order(core: &Core) -> bool {
     for rows in core.taken.iter() {
-        for (number, row) in rows.iter().enumerate() {
-            assert_eq!(rt; *row, number as u64);
+        if rows.len() as u64 > core.head || !are_first(rows) {
+            return false;
         }
-        assert!(rt; rows.len() as u64 <= core.head);
     }
+    true
+}
+
+fn are_first(rows: &[u64]) -> bool {
+    for (number, row) in rows.iter().enumerate() {
+        if *row != number as u64 {
+            return false;
+        }
+    }
+    true
 }
 
 // A hundred events of a fixed sequence.
-fn drive(core: &mut Core, readers: u32, seed: &mut u64) -> Result<(), NoMemory>
+fn drive(rt: &impl Abort, core: &mut Core, readers: u32, seed: &mut u64)
     requires sound { IsSound (schedule_in core.old) }
     requires few { readers ≤ 17 }
 {
     for _turn in 0..100 {
-        core.step(next_event(seed, readers))?;
+        core.step(next_event(seed, readers)).expect(rt, "memory");
     }
-    Ok(())
 }
 
 // The next event of the sequence, for reader numbers up to one that is no reader's.

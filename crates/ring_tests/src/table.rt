@@ -6,7 +6,6 @@ ghost use Rattle.ring_tests.specs.Numbered.{IsIdleReader, IsIdleWriter, IsOffere
 use crate::deal::{Numbered, row_bytes};
 use ring_rule::{ReaderSeat, RingTable, Seats, WriterSeat};
 use std::process::Abort;
-use std::test::Fail;
 
 fn has_room(cursor: u64, head: u64) -> bool
     ensures { IsTrue result → cursor ≢ left_word → head < cursor + 2 }
@@ -48,73 +47,83 @@ fn write(writer: &mut WriterSeat<'_, Numbered>, head: u64) -> bool
     true
 }
 
-// Takes the next row where there is one, compares it, and gives it back.
-fn read(rt: &impl Abort, reader: &mut ReaderSeat<'_, Numbered>, taken: u64) -> bool
-    requires { IsIdleReader 5 taken reader.old.view }
-    ensures { MatchBool result
-        (IsIdleReader 5 (taken + 1) reader.new.view)
-        (IsIdleReader 5 taken reader.new.view) }
+// Publishes the next row, for which there is room.
+fn publish(rt: &impl Abort, writer: &mut WriterSeat<'_, Numbered>, head: u64)
+    requires { IsIdleWriter 2 2 5 head writer.old.view }
+    ensures { IsIdleWriter 2 2 5 (head + 1) writer.new.view }
 {
-    if reader.see() <= taken {
-        return false;
-    }
+    assert!(rt; write(writer, head), "row {head}");
+}
+
+// Finds no room for the next row, or that there is none.
+fn is_full(rt: &impl Abort, writer: &mut WriterSeat<'_, Numbered>, head: u64)
+    requires { IsIdleWriter 2 2 5 head writer.old.view }
+    ensures { IsIdleWriter 2 2 5 head writer.new.view }
+{
+    assert!(rt; !write(writer, head), "row {head}");
+}
+
+// Takes the next row, which is there, compares it, and gives it back.
+fn read(rt: &impl Abort, reader: &mut ReaderSeat<'_, Numbered>, taken: u64)
+    requires { IsIdleReader 5 taken reader.old.view }
+    ensures { IsIdleReader 5 (taken + 1) reader.new.view }
+{
+    assert!(rt; reader.see() > taken);
     let row = reader.take();
     assert!(rt; row.number() == taken && row.bytes() == row_bytes(taken).as_slice());
     reader.give(row);
     reader.store_cursor();
-    true
 }
 
 #[test]
-fn rows_pass_twice_round_and_a_reader_leaves(rt: HostRuntime) -> Result<(), Fail> {
+fn rows_pass_twice_round_and_a_reader_leaves(rt: HostRuntime) {
     let deal = Numbered { total: 5 };
-    let mut table = RingTable::new(rt.alloc(), &deal, 2, 2)?;
+    let mut table = RingTable::new(rt.alloc(), &deal, 2, 2).expect(&rt, "no table");
     let Seats {
-        writer,
+        mut writer,
         mut readers,
-    } = table.seats(rt.alloc())?;
-    let second = readers.pop().ok_or("no reader")?;
-    let first = readers.pop().ok_or("no reader")?;
-    pass(&rt, writer, first, second);
-    Ok(())
+    } = table.seats(rt.alloc()).expect(&rt, "no seats");
+    let mut second = readers.pop().expect(&rt, "no reader");
+    let mut first = readers.pop().expect(&rt, "no reader");
+    pass(&rt, &mut writer, &mut first, &mut second);
 }
 
 // The writer waits for the slower of two readers, and passes over one that left.
 fn pass(
     rt: &impl Abort,
-    mut writer: WriterSeat<'_, Numbered>,
-    mut first: ReaderSeat<'_, Numbered>,
-    mut second: ReaderSeat<'_, Numbered>,
+    writer: &mut WriterSeat<'_, Numbered>,
+    first: &mut ReaderSeat<'_, Numbered>,
+    second: &mut ReaderSeat<'_, Numbered>,
 )
-    requires writer { IsIdleWriter 2 2 5 0 writer.view }
-    requires first { IsIdleReader 5 0 first.view }
-    requires second { IsIdleReader 5 0 second.view }
+    requires writer { IsIdleWriter 2 2 5 0 writer.old.view }
+    requires first { IsIdleReader 5 0 first.old.view }
+    requires second { IsIdleReader 5 0 second.old.view }
 {
-    assert!(rt; write(&mut writer, 0));
-    assert_eq!(rt; second.see(), 1);
-    assert!(rt; write(&mut writer, 1));
-    assert_eq!(rt; second.see(), 2);
-    assert_eq!(rt; writer.look(1), 0);
+    publish(rt, writer, 0);
+    assert!(rt; second.see() == 1);
+    publish(rt, writer, 1);
+    assert!(rt; second.see() == 2);
+    assert!(rt; writer.look(1) == 0);
     wait(rt, writer, first, second);
 }
 
 // Both places are full.
 fn wait(
     rt: &impl Abort,
-    mut writer: WriterSeat<'_, Numbered>,
-    mut first: ReaderSeat<'_, Numbered>,
-    mut second: ReaderSeat<'_, Numbered>,
+    writer: &mut WriterSeat<'_, Numbered>,
+    first: &mut ReaderSeat<'_, Numbered>,
+    second: &mut ReaderSeat<'_, Numbered>,
 )
-    requires writer { IsIdleWriter 2 2 5 2 writer.view }
-    requires first { IsIdleReader 5 0 first.view }
-    requires second { IsIdleReader 5 0 second.view }
+    requires writer { IsIdleWriter 2 2 5 2 writer.old.view }
+    requires first { IsIdleReader 5 0 first.old.view }
+    requires second { IsIdleReader 5 0 second.old.view }
 {
-    assert!(rt; !write(&mut writer, 2));
-    assert!(rt; read(rt, &mut first, 0));
-    assert!(rt; !write(&mut writer, 2));
-    assert!(rt; read(rt, &mut second, 0));
-    assert_eq!(rt; writer.look(1), 1);
-    assert!(rt; write(&mut writer, 2));
+    is_full(rt, writer, 2);
+    read(rt, first, 0);
+    is_full(rt, writer, 2);
+    read(rt, second, 0);
+    assert!(rt; writer.look(1) == 1);
+    publish(rt, writer, 2);
     second.store_left();
     finish(rt, writer, first);
 }
@@ -122,17 +131,17 @@ fn wait(
 // The second reader took one row and left.
 fn finish(
     rt: &impl Abort,
-    mut writer: WriterSeat<'_, Numbered>,
-    mut first: ReaderSeat<'_, Numbered>,
+    writer: &mut WriterSeat<'_, Numbered>,
+    first: &mut ReaderSeat<'_, Numbered>,
 )
-    requires writer { IsIdleWriter 2 2 5 3 writer.view }
-    requires first { IsIdleReader 5 1 first.view }
+    requires writer { IsIdleWriter 2 2 5 3 writer.old.view }
+    requires first { IsIdleReader 5 1 first.old.view }
 {
-    assert!(rt; !write(&mut writer, 3));
-    assert!(rt; read(rt, &mut first, 1));
-    assert!(rt; write(&mut writer, 3));
-    assert!(rt; read(rt, &mut first, 2));
-    assert!(rt; write(&mut writer, 4));
-    assert!(rt; !write(&mut writer, 5));
-    assert_eq!(rt; writer.look(1), u64::MAX);
+    is_full(rt, writer, 3);
+    read(rt, first, 1);
+    publish(rt, writer, 3);
+    read(rt, first, 2);
+    publish(rt, writer, 4);
+    is_full(rt, writer, 5);
+    assert!(rt; writer.look(1) == u64::MAX);
 }

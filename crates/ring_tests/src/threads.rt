@@ -6,7 +6,6 @@ use crate::deal::Numbered;
 use crate::ring::{draw_next, publish_next};
 use ring_lanes::{Ends, Reader, Writer, open_ring};
 use std::process::Abort;
-use std::test::Fail;
 use std::thread;
 use std::thread::Threads;
 
@@ -127,18 +126,17 @@ fn draw_both<R: Threads + Abort + Sync>(
 
 // The writer and three readers in a thread each, over three places. One reader leaves in the middle.
 #[test]
-fn rows_pass_to_readers_at_their_own_pace(rt: HostRuntime) -> Result<(), Fail> {
+fn rows_pass_to_readers_at_their_own_pace(rt: HostRuntime) {
     let deal = Numbered { total: 2000 };
-    let mut ring = open_ring(rt.alloc(), &deal, 3, 3)?;
+    let mut ring = open_ring(rt.alloc(), &deal, 3, 3).expect(&rt, "no ring");
     let Ends {
         writer,
         mut readers,
-    } = ring.ends(rt.alloc())?;
-    let third = readers.pop().ok_or("no reader")?;
-    let second = readers.pop().ok_or("no reader")?;
-    let first = readers.pop().ok_or("no reader")?;
+    } = ring.ends(rt.alloc()).expect(&rt, "no ends");
+    let third = readers.pop().expect(&rt, "no reader");
+    let second = readers.pop().expect(&rt, "no reader");
+    let first = readers.pop().expect(&rt, "no reader");
     pass_rows(&rt, writer, first, second, third, 2000, 1 << 32);
-    Ok(())
 }
 
 fn pass_rows<R: Threads + Abort + Sync>(
@@ -166,8 +164,7 @@ fn pass_rows<R: Threads + Abort + Sync>(
             requires leaving { IsDrawing total 0 third }
         { draw_both(rt, second, third, total, turns) },
     );
-    assert_eq!(rt; head, total);
-    assert_eq!(rt; swift, total);
-    assert_eq!(rt; slow, total);
-    assert_eq!(rt; gone, total / 2);
+    assert!(rt; head == total, "published {head}");
+    assert!(rt; swift == total && slow == total, "taken {swift} and {slow}");
+    assert!(rt; gone == total / 2, "taken {gone}");
 }
