@@ -10,7 +10,7 @@ use Rattle.room_base.specs.Refusal.{status_of, line_of}
 use Rattle.room_base.specs.Task.{IsPart, PrintsFront}
 use Rattle.plate_room.specs.Tasks.{IsCut, IsDone, IsEnd, IsUnprinted, Meets, makes_of, rules_of, verdict_for, verdict_of}
 use Rattle.room_base.specs.Status.{IsCutShort, IsDoneStatus, IsRefusal, IsStatus}
-use Rattle.plate_room.specs.End.{Tells, TellsVerdict, TellsOfMemory, TellsPart}
+use Rattle.plate_room.specs.End.{NoneFailed, Tells, TellsVerdict, TellsOfMemory, TellsPart}
 use Rattle.plate_room.specs.Ending.{Ending, IsFinished, IsStopped, Done, Refused, Untold, NotNoted, Wanted, NotPrinted}
 use Rattle.room_base.specs.Seen.{Seen, SinkSeen, Files, IsSilent, IsUntouched, LoadFailed, PutFailed, RackFailed}
 use Rattle.room_base.proofs.Grow.{grew_nothing, second_front}
@@ -366,9 +366,9 @@ module _ {R : Type 0} (g : Ghosts R) (seen : Seen R) (note : SinkSeen) (status :
   -- ---- completeness
 
   pub complete : Ending g seen note status → (files : Files) → seen.shelf.held ≡ Some files
-      → verdict_of seen.words files ≡ None → (LoadFailed seen.shelf → ⊥) → (RackFailed g seen.racks seen.racks' → ⊥)
-      → (PutFailed seen.out → ⊥) → (PutFailed note → ⊥) → IsEnd seen.words files status ⊎ (status ≡ 6)
-  complete (Done f s) files is pass calm kept out noted =
+      → verdict_of seen.words files ≡ None → NoneFailed g seen.shelf seen.racks seen.racks' seen.out note
+      → IsEnd seen.words files status ⊎ (status ≡ 6)
+  complete (Done f s) files is pass none =
       inl (record { command = f.made.command; asked = f.made.asked; ends = by (owed.ends files seen.shelf seen.racks seen.racks' text status is prints) })
     where
       text : List ℕ
@@ -382,9 +382,9 @@ module _ {R : Type 0} (g : Ghosts R) (seen : Seen R) (note : SinkSeen) (status :
 
       by : (rules_of f.made.command).Ends files status ⊎ (status ≡ 1) → (rules_of f.made.command).Ends files status
       by (inl ends) = ends
-      by (inr one) = absurd (kept (owed.one seen.shelf seen.racks seen.racks' text status prints one))
-  complete (Refused r st stopped line) files is pass calm kept out noted = absurd (none_wrong files r is pass calm stopped)
-  complete (Untold r st stopped line) files is pass calm kept out noted = inr st
-  complete (NotNoted r st stopped rose line) files is pass calm kept out noted = absurd (noted rose)
-  complete (Wanted st broken line) files is pass calm kept out noted = inr st
-  complete (NotPrinted st spoilt same) files is pass calm kept out noted = absurd (out spoilt.rose)
+      by (inr one) = absurd (none.calls (owed.one seen.shelf seen.racks seen.racks' text status prints one))
+  complete (Refused r st stopped line) files is pass none = absurd (none_wrong files r is pass none.loads stopped)
+  complete (Untold r st stopped line) files is pass none = inr st
+  complete (NotNoted r st stopped rose line) files is pass none = absurd (none.notes rose)
+  complete (Wanted st broken line) files is pass none = inr st
+  complete (NotPrinted st spoilt same) files is pass none = absurd (none.output spoilt.rose)

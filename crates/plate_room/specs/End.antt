@@ -1,12 +1,14 @@
 -- How a command may end, in the words of the contract of `plate_main`.
-use Rattle.std.specs.Prelude.{◌≡◌, ℕ, ◌⊎◌, List, [], Some}
+use Rattle.std.specs.Prelude.{◌≡◌, ℕ, ◌⊎◌, List, [], Some, None}
 use Rattle.pr_ports.specs.Sink.{Grew, GrewByPrefix}
+use Rattle.pr_rack.specs.declared.rack.Rack.{Ghosts}
 use Rattle.room_base.specs.Line.{memory_line}
 use Rattle.room_base.specs.declared.refusal.Refusal.{Refusal}
 use Rattle.room_base.specs.Refusal.{status_of, line_of}
-use Rattle.plate_room.specs.Tasks.{Meets, verdict_of}
-use Rattle.room_base.specs.Seen.{Files, ShelfSeen, SinkSeen}
+use Rattle.plate_room.specs.Tasks.{IsEnd, Meets, verdict_of}
+use Rattle.room_base.specs.Seen.{Files, LoadFailed, PutFailed, RackFailed, ShelfSeen, SinkSeen}
 use Rattle.room_base.specs.Note.{GrewByTwo}
+use Rattle.room_base.specs.Status.{IsCutShort}
 
 -- the note took the whole line of a refusal with this status, which the words met
 pub record Tells (words : List (List ℕ)) (shelf : ShelfSeen) (note : SinkSeen) (status : ℕ) : Type 0 where
@@ -36,3 +38,31 @@ TellsOfMemory words shelf note =
 abbrev pub TellsPart : List (List ℕ) → ShelfSeen → SinkSeen → Type 0
 TellsPart words shelf note =
     (line : List ℕ) × MayTell words shelf line × GrewByPrefix note.given note.given' line
+
+-- ---- where a shelf tells its files
+
+-- where no load failed the verdict is told, unless the command was cut short
+abbrev pub IsToldThere : List (List ℕ) → ShelfSeen → ℕ → Type 0
+IsToldThere words shelf status = (files : Files) → shelf.held ≡ Some files
+    → (refusal : Refusal) → verdict_of words files ≡ Some refusal
+    → (LoadFailed shelf → ⊥) → (status ≡ status_of refusal) ⊎ IsCutShort status
+
+-- where nothing is wrong and no load failed, 7 says that the output failed
+abbrev pub FailsByOut : List (List ℕ) → ShelfSeen → SinkSeen → ℕ → Type 0
+FailsByOut words shelf out status = (files : Files) → shelf.held ≡ Some files
+    → verdict_of words files ≡ None → (LoadFailed shelf → ⊥) → status ≡ 7 → PutFailed out
+
+-- no load failed, no call of a rack, and no write to the output or to the note
+pub record NoneFailed {R : Type 0} (g : Ghosts R) (shelf : ShelfSeen) (racks racks' : List R)
+    (out note : SinkSeen) : Type 0 where
+  pub loads : LoadFailed shelf → ⊥
+  pub calls : RackFailed g racks racks' → ⊥
+  pub output : PutFailed out → ⊥
+  pub notes : PutFailed note → ⊥
+
+-- where nothing is wrong and nothing fails, the command ends with its own status or memory was wanted
+abbrev pub IsComplete : {R : Type 0} → Ghosts R → List (List ℕ) → ShelfSeen → List R → List R → SinkSeen
+    → SinkSeen → ℕ → Type 0
+IsComplete g words shelf racks racks' out note status = (files : Files) → shelf.held ≡ Some files
+    → verdict_of words files ≡ None → NoneFailed g shelf racks racks' out note
+    → IsEnd words files status ⊎ (status ≡ 6)

@@ -10,11 +10,21 @@ use Rattle.room_base.specs.Line.{memory_line}
 use Rattle.room_base.specs.Refusal.{status_of, line_of}
 use Rattle.plate_room.specs.Tasks.{IsCut, IsDone, IsUnprinted, Meets}
 use Rattle.room_base.specs.Note.{GrewByTwo}
-use Rattle.room_base.specs.Seen.{Seen, SinkSeen, IsSilent, PutFailed}
+use Rattle.room_base.specs.Seen.{Seen, ShelfSeen, SinkSeen, IsSilent, PutFailed}
 
 -- the words are a command
 abbrev pub IsAsked : List (List ℕ) → Type 0
 IsAsked words = (command : Command) × (command_of words ≡ Some command)
+
+-- what a command saw
+abbrev pub seen_of : {R : Type 0} → List (List ℕ) → ShelfSeen → List R → List R → SinkSeen → Seen R
+seen_of words shelf racks racks' out = record {
+  words = words;
+  shelf = shelf;
+  racks = racks;
+  racks' = racks';
+  out = out;
+}
 
 -- the command met a refusal, and made nothing
 pub record IsStopped {R : Type 0} (seen : Seen R) (refusal : Refusal) : Type 0 where

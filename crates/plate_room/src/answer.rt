@@ -1,6 +1,6 @@
 // Doing a command.
 ghost use Rattle.plate_room.specs.Command.{AsksDrill, command_of as meant, words_of};
-ghost use Rattle.plate_room.specs.Ending.{Answered};
+ghost use Rattle.plate_room.specs.Ending.{Answered, seen_of};
 ghost use Rattle.room_base.specs.Seen.{AreIdle, shelf_seen, sink_seen};
 ghost use Rattle.std.specs.Prelude.{◌≡◌, ◌≤◌, length};
 
@@ -26,13 +26,9 @@ pub(crate) fn answer<T: Threads + Sync, H: Shelf, R: Rack + Send, S: Sink>(
 ) -> Result<u8, Stop>
     requires racks { 16 ≤ length racks.old }
     requires idle { AreIdle R.Rack racks.old }
-    ensures answered { Answered R.Rack (record {
-      words = words_of words.now;
-      shelf = shelf_seen H.Shelf shelf.old shelf.new;
-      racks = racks.old;
-      racks' = racks.new;
-      out = sink_seen S.Sink out.old out.new;
-    }) result }
+    ensures answered { Answered R.Rack
+        (seen_of (words_of words.now) (shelf_seen H.Shelf shelf.old shelf.new)
+        racks.old racks.new (sink_seen S.Sink out.old out.new)) result }
     ensures held { H.held shelf.new ≡ H.held shelf.old }
     ensures drill_shelf { AsksDrill (meant (words_of words.now)) → shelf.new ≡ shelf.old }
     ensures drill_racks { AsksDrill (meant (words_of words.now)) → racks.new ≡ racks.old }

@@ -1,13 +1,11 @@
 // The top call.
 ghost use Rattle.std.specs.Prelude.{◌≡◌, ◌≤◌, ◌⊎◌, ◌≢◌, None, Some, IfSome, length};
-ghost use Rattle.room_base.specs.declared.refusal.Refusal.{Refusal};
 ghost use Rattle.plate_room.specs.Command.{AsksDrill, AsksVerify, command_of, words_of};
 ghost use Rattle.room_base.specs.Status.{IsCutShort, IsDoneStatus, IsRefusal, IsStatus};
-ghost use Rattle.plate_room.specs.End.{Tells, TellsOfMemory, TellsPart, TellsVerdict};
-ghost use Rattle.plate_room.specs.Ending.{Ending};
-ghost use Rattle.room_base.specs.Refusal.{status_of};
-ghost use Rattle.room_base.specs.Seen.{AreIdle, Files, IsUntouched, LoadFailed, PutFailed, RackFailed, shelf_seen, sink_seen};
-ghost use Rattle.plate_room.specs.Tasks.{IsCut, IsDone, IsEnd, IsUnprinted, verdict_of};
+ghost use Rattle.plate_room.specs.End.{FailsByOut, IsComplete, IsToldThere, Tells, TellsOfMemory, TellsPart, TellsVerdict};
+ghost use Rattle.plate_room.specs.Ending.{Ending, seen_of};
+ghost use Rattle.room_base.specs.Seen.{AreIdle, Files, IsUntouched, PutFailed, RackFailed, shelf_seen, sink_seen};
+ghost use Rattle.plate_room.specs.Tasks.{IsCut, IsDone, IsUnprinted, verdict_of};
 
 use crate::answer::answer;
 use pr_ports::{Shelf, Sink};
@@ -71,20 +69,16 @@ pub fn plate_main<T: Threads + Sync, H: Shelf, R: Rack + Send, S: Sink, E: Sink>
     // failed.
     ensures verdict { (files : Files) → H.held shelf.old ≡ Some files → IsRefusal result → result ≢ 5
         → TellsVerdict (words_of words.now) files (sink_seen E.Sink note.old note.new) result }
-    ensures verdict_there { (files : Files) → H.held shelf.old ≡ Some files
-        → (refusal : Refusal) → verdict_of (words_of words.now) files ≡ Some refusal
-        → (LoadFailed (shelf_seen H.Shelf shelf.old shelf.new) → ⊥)
-        → (result ≡ status_of refusal) ⊎ IsCutShort result }
+    ensures verdict_there { IsToldThere (words_of words.now)
+        (shelf_seen H.Shelf shelf.old shelf.new) result }
 
     // The output or the note failed; where the output did, all was made but its text, which comes last.
     ensures printing { result ≡ 7 →
         IsUnprinted R.Rack (words_of words.now) (shelf_seen H.Shelf shelf.old shelf.new)
         racks.old racks.new (sink_seen S.Sink out.old out.new)
         ⊎ PutFailed (sink_seen E.Sink note.old note.new) }
-    ensures printing_out { (files : Files) → H.held shelf.old ≡ Some files
-        → verdict_of (words_of words.now) files ≡ None
-        → (LoadFailed (shelf_seen H.Shelf shelf.old shelf.new) → ⊥)
-        → result ≡ 7 → PutFailed (sink_seen S.Sink out.old out.new) }
+    ensures printing_out { FailsByOut (words_of words.now)
+        (shelf_seen H.Shelf shelf.old shelf.new) (sink_seen S.Sink out.old out.new) result }
 
     // What stands of the racks and the output: nothing is made before the verdict, nor of a command that is
     // refused.
@@ -119,13 +113,9 @@ pub fn plate_main<T: Threads + Sync, H: Shelf, R: Rack + Send, S: Sink, E: Sink>
     ensures verify_racks { AsksVerify (command_of (words_of words.now)) → racks.new ≡ racks.old }
 
     // Where nothing is wrong and nothing fails, the command ends with its own status or memory was wanted.
-    ensures complete { (files : Files) → H.held shelf.old ≡ Some files
-        → verdict_of (words_of words.now) files ≡ None
-        → (LoadFailed (shelf_seen H.Shelf shelf.old shelf.new) → ⊥)
-        → (RackFailed R.Rack racks.old racks.new → ⊥)
-        → (PutFailed (sink_seen S.Sink out.old out.new) → ⊥)
-        → (PutFailed (sink_seen E.Sink note.old note.new) → ⊥)
-        → IsEnd (words_of words.now) files result ⊎ (result ≡ 6) }
+    ensures complete { IsComplete R.Rack (words_of words.now)
+        (shelf_seen H.Shelf shelf.old shelf.new) racks.old racks.new
+        (sink_seen S.Sink out.old out.new) (sink_seen E.Sink note.old note.new) result }
 {
     run(rt, alloc, words, shelf, racks, out, note)
 }
@@ -142,13 +132,10 @@ fn run<T: Threads + Sync, H: Shelf, R: Rack + Send, S: Sink, E: Sink>(
 ) -> u8
     requires racks { 16 ≤ length racks.old }
     requires idle { AreIdle R.Rack racks.old }
-    ensures ending { Ending R.Rack (record {
-      words = words_of words.now;
-      shelf = shelf_seen H.Shelf shelf.old shelf.new;
-      racks = racks.old;
-      racks' = racks.new;
-      out = sink_seen S.Sink out.old out.new;
-    }) (sink_seen E.Sink note.old note.new) result }
+    ensures ending { Ending R.Rack
+        (seen_of (words_of words.now) (shelf_seen H.Shelf shelf.old shelf.new)
+        racks.old racks.new (sink_seen S.Sink out.old out.new))
+        (sink_seen E.Sink note.old note.new) result }
     ensures held { H.held shelf.new ≡ H.held shelf.old }
     ensures drill_shelf { AsksDrill (command_of (words_of words.now)) → shelf.new ≡ shelf.old }
     ensures drill_racks { AsksDrill (command_of (words_of words.now)) → racks.new ≡ racks.old }

@@ -1,5 +1,5 @@
 -- The command `replate`: the plates of an edition that changed, and these alone.
-use Rattle.std.specs.Prelude.{◌≡◌, ◌≤◌, ◌<◌, ◌↔◌, ℕ, ◌⊎◌, IsTrue, List, length, drop, Option, string_bytes}
+use Rattle.std.specs.Prelude.{◌≡◌, ◌≤◌, ◌<◌, ◌↔◌, ℕ, ◌⊎◌, IsTrue, List, length, drop, Option, Result, string_bytes}
 use Rattle.std.specs.Option.{option_or}
 use Rattle.pr_rack.specs.declared.rack.Rack.{Ghosts}
 use Rattle.pr_rack.specs.Told.{all_told}
@@ -19,8 +19,8 @@ use Rattle.room_base.specs.declared.refusal.Stop.TheVariants.{Refused, Memory, P
 use Rattle.room_base.specs.declared.refusal.Whose.TheVariants.{New, Old}
 use Rattle.room_base.specs.Job.{IsPrepared, JobMeets, verdict_on_job}
 use Rattle.room_replate.specs.Remade.{dropped_lines, remade_text, status_of_remade}
-use Rattle.room_base.specs.Seen.{Files, ShelfSeen}
-use Rattle.room_base.specs.Task.{Makes, Rules}
+use Rattle.room_base.specs.Seen.{Files, ShelfSeen, SinkSeen}
+use Rattle.room_base.specs.Task.{Answers, Makes, Rules}
 use Rattle.room_replate.specs.declared.change.Change as coded
 
 -- an edition of which the plates that changed are made: the plan that was made before it, the folder of that
@@ -129,6 +129,11 @@ module _ {R : Type 0} (g : Ghosts R) where
     Prints = PrintsRemade change;
     Begins = BeginsRemade change;
   }
+
+  -- what a call of the command leaves
+  abbrev pub AnswersChange : Change → ShelfSeen → List R → List R → SinkSeen → Result ℕ Stop → Type 0
+  AnswersChange change shelf racks racks' out answer =
+      Answers (change_rules change) (change_makes change) shelf racks racks' out answer
 
 -- ---- private calls
 

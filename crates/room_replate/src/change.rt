@@ -4,9 +4,8 @@ ghost use Rattle.plan_json.specs.Plan.{IsPlan};
 ghost use Rattle.plan_rows.specs.Groups.{groups_of};
 ghost use Rattle.press_job.specs.Rows.{plate_frames};
 ghost use Rattle.replate.specs.Inputs.{AreInputs, job_of};
-ghost use Rattle.room_replate.specs.Change.{change_told, ChangeRefused, DeliversPicked, DeliversPickedPart, IsLate, IsLoadedLate, change_makes, change_rules, compared};
+ghost use Rattle.room_replate.specs.Change.{AnswersChange, change_told, ChangeRefused, DeliversPicked, DeliversPickedPart, IsLate, IsLoadedLate, compared};
 ghost use Rattle.room_base.specs.Seen.{AreIdle, shelf_seen, sink_seen};
-ghost use Rattle.room_base.specs.Task.{Answers};
 
 use crate::remade::{dropped_lines, remade_text, status_of};
 use pr_base::{NoMemory, RowFeed};
@@ -51,8 +50,7 @@ pub fn print_change<H: Shelf, R: Rack, S: Sink>(
 ) -> Result<u8, Stop>
     requires racks { 16 ≤ length racks.old }
     requires idle { AreIdle R.Rack racks.old }
-    ensures answered { Answers
-        (change_rules (change_told change.entry)) (change_makes R.Rack (change_told change.entry))
+    ensures answered { AnswersChange R.Rack (change_told change.entry)
         (shelf_seen H.Shelf shelf.old shelf.new)
         racks.old racks.new (sink_seen S.Sink out.old out.new) result }
     ensures held { H.held shelf.new ≡ H.held shelf.old }
