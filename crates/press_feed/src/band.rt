@@ -11,7 +11,7 @@ use std::thread::{Threads, for_each_mut};
 
 /// Frames of a job that stand behind one another. Contracts see the job, for how many there is room, the
 /// number of the first one, and that behind the last.
-#[derive(Debug, Drop)]
+#[derive(Drop)]
 pub(crate) struct Band<'j> {
     job: &'j Job,
     shares: Vec<Share<'j>>,

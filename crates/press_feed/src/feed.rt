@@ -17,7 +17,7 @@ use std::thread::{Threads, available_parallelism};
 const MOST_THREADS: usize = 8;
 
 /// The frames that a thread makes of a band have about so many bytes.
-const SHARE_BYTES: usize = 1 << 19;
+const SHARE_BYTES: usize = 1 << 22;
 
 /// A job whose frames have fewer bytes together isn't worth a second thread.
 const FEW_BYTES: u64 = 1 << 20;
@@ -35,7 +35,7 @@ pub trait BandFeed: RowFeed {
 /// The rows of a job from the first on, each made when it is asked for, or before, in a band. It holds no
 /// whole page. After it is opened nothing takes memory, and nothing fails. Contracts see the job, and the
 /// number of the next row.
-#[derive(Debug, Drop)]
+#[derive(Drop)]
 pub struct Feed<'j> {
     job: &'j Job,
     maker: RowMaker<'j>,

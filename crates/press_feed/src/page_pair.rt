@@ -17,7 +17,7 @@ use std::marker::Model;
 
 /// The pages of both sides and their screens. It holds one row of each page, and no whole page. Contracts see
 /// the job, the two pages, and how many of their rows were shown.
-#[derive(Debug, Drop)]
+#[derive(Drop)]
 pub(crate) struct PagePair<'j> {
     job: &'j Job,
     left: SidePages<'j>,

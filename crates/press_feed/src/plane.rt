@@ -9,7 +9,7 @@ use std::alloc::Global;
 
 /// The values of one ink. Where no curve and no limit changes them, they are left where the page's layers
 /// were laid.
-#[derive(Debug, Drop)]
+#[derive(Drop)]
 pub(crate) struct Plane {
     pub(crate) values: Vec<u8>,
     pub(crate) is_left: bool,

@@ -15,7 +15,7 @@ use std::alloc::Global;
 use std::marker::Model;
 
 /// The five inks of the row that was shown last, a byte a pixel. Contracts see their values.
-#[derive(Debug, Drop)]
+#[derive(Drop)]
 pub(crate) struct PrintedRow {
     inks: InkRow,
     cyan: Plane,

@@ -18,7 +18,7 @@ use tif_packbits::frame_row;
 
 /// Makes any frame of a job. In order it costs least: then each row of a page is painted once for all its
 /// inks. Contracts see the job.
-#[derive(Debug, Drop)]
+#[derive(Drop)]
 pub(crate) struct RowMaker<'j> {
     job: &'j Job,
     pages: PagePair<'j>,

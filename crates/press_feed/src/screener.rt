@@ -11,7 +11,7 @@ use scr_tile::AnyTile;
 use std::alloc::Global;
 
 /// What makes pixels of the values of an ink.
-#[derive(Debug, Drop)]
+#[derive(Drop)]
 pub(crate) enum Screener {
     Tile(AnyTile),
     /// The errors are carried for several inks at once.

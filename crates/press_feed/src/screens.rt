@@ -22,7 +22,7 @@ use scr_tile::screen_row;
 use std::alloc::Global;
 
 /// The screens of the inks, and the diffusion of two pages.
-#[derive(Debug, Drop)]
+#[derive(Drop)]
 pub(crate) struct Screens {
     /// By the ink's slot.
     pub(crate) screeners: Vec<Screener>,

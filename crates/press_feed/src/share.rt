@@ -10,7 +10,7 @@ use std::alloc::Global;
 use std::marker::Model;
 
 /// Some frames of a job. Contracts see the job and the frames.
-#[derive(Debug, Drop)]
+#[derive(Drop)]
 pub(crate) struct Share<'j> {
     maker: RowMaker<'j>,
     frames: Vec<Frame>,

@@ -24,7 +24,7 @@ use std::marker::Model;
 /// The pages of one side. One of them is shown row by row, in room for any of them; a row is painted and
 /// toned once for all its inks. Contracts see the job, the side, which page is shown, and how many of its
 /// rows were shown.
-#[derive(Debug, Drop)]
+#[derive(Drop)]
 pub(crate) struct SidePages<'j> {
     job: &'j Job,
     side: Side,

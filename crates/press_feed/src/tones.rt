@@ -13,7 +13,7 @@ use std::marker::Model;
 const NO_LIMIT: u16 = 4 * 255;
 
 /// The curves of the five inks as tables, and the plan that they are of. Contracts see the plan.
-#[derive(Debug, Drop)]
+#[derive(Drop)]
 pub(crate) struct Tones<'j> {
     plan: &'j Plan,
     curves: Vec<Curve>,

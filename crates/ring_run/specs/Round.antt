@@ -1,6 +1,7 @@
 -- A round of a run: notes go round between the ends of the ring, and then the writer and the readers take
 -- their turns. This is the contract of private calls.
-use Rattle.std.specs.Prelude.{◌≡◌, ℕ, ◌+◌, ◌-◌, ◌≤◌, true, List, [], ◌∷◌, length, slice_get, Some, None}
+use Rattle.std.specs.Prelude.{◌≡◌, ℕ, ◌+◌, ◌-◌, ◌<◌, ◌≤◌, true, List, [], ◌∷◌, length, slice_get, Some, None}
+use Rattle.std.specs.List.{list_any}
 use Rattle.ring_lanes.specs.Reader.{ReaderState}
 use Rattle.ring_lanes.specs.Writer.{WriterState, cursor_known}
 use Rattle.pr_rack.specs.Told.{RackTells}
@@ -62,6 +63,10 @@ all_to_take (reader ∷ readers) = to_take reader + all_to_take readers
 -- the measure of a run: how many rows are yet to be published, and to be taken
 abbrev pub to_do : WriterState → List ReaderState → ℕ
 to_do writer readers = (writer.ring.total - writer.head) + all_to_take readers
+
+-- it falls, where some reader goes on
+abbrev pub Falls : WriterState → List ReaderState → WriterState → List ReaderState → Type 0
+Falls was readers now behind = list_any is_going readers ≡ true → to_do now behind < to_do was readers
 
 -- of each run, the sites are seated afterwards as they were
 abbrev pub StaySeated : List RackTells → List RackTells → List SeatData → List SeatData → Type 0

@@ -1,14 +1,13 @@
 // A round of a run: notes go round between the ends of the ring, and then the writer and the readers take
 // their turns, side by side.
-ghost use Rattle.std.specs.Prelude.{◌≡◌, ◌<◌, length, true};
-ghost use Rattle.std.specs.List.{list_any};
+ghost use Rattle.std.specs.Prelude.{◌≡◌, ◌<◌, length};
 ghost use Rattle.pr_rack.specs.Told.{all_told};
 ghost use Rattle.ring_turns.specs.Feeding.{MayFeed};
 ghost use Rattle.ring_turns.specs.Pairs.{MayAllTurn};
 ghost use Rattle.ring_run.specs.Counting.{AreSameKeys, IsCounting};
 ghost use Rattle.ring_run.specs.Round.{AreAtTable, AreEndsOf, AreTold, KnowsAll, KnowsMore};
-ghost use Rattle.ring_run.specs.Round.{StaySeated, to_do};
-ghost use Rattle.ring_run.specs.Seat.{all_readers, is_going};
+ghost use Rattle.ring_run.specs.Round.{Falls, StaySeated};
+ghost use Rattle.ring_run.specs.Seat.{all_readers};
 ghost use Rattle.ring_run.specs.Served.{AreSomeSeated};
 
 use crate::at_end::AtEnd;
@@ -71,9 +70,9 @@ pub(crate) fn round<T: Threads + Sync, D: Deal + Sync, F: BandFeed + Send, R: Ra
         sites.entry.all.now sites.exit.0.now }
     ensures counting { MayAllTurn IsCounting further.exit.0.now further.exit.1.0.now }
     ensures keys { AreSameKeys further.entry.others.now further.exit.1.0.now }
-    ensures falls { list_any is_going (all_readers sites.entry.all.now further.entry.all.now) ≡ true →
-        to_do writer.new (all_readers sites.exit.0.now further.exit.0.now)
-        < to_do writer.old (all_readers sites.entry.all.now further.entry.all.now) }
+    ensures falls { Falls
+        writer.old (all_readers sites.entry.all.now further.entry.all.now)
+        writer.new (all_readers sites.exit.0.now further.exit.0.now) }
 {
     let Pairs {
         all: seats,
