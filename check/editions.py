@@ -197,7 +197,8 @@ def wide():
 
 
 def banded():
-    """The five inks on wider pages and under tiles alone, so that several threads make the frames of a band."""
+    """Five sections of a pair each, of four pages in turn, under tiles alone: so many rows that several threads make a
+    band of them, and bands go on from group to group."""
     pages = [dict(page, layers=[dict(layer, scale=min(64, layer.get("scale", 1) * 5), x=layer.get("x", 0) * 5)
                                 if layer.get("x") != 65535 else layer for layer in page["layers"]])
              for page in five_pages()]
@@ -205,6 +206,9 @@ def banded():
         five(), edition="BANDS", page=[409, 390], pages=pages,
         screens={"C": "bayer16", "M": "tile:T", "Y": "bayer2", "K": "bayer8", "S": "tile:ring_2"},
         marks=[{"inks": "CMYKS", "x": 0, "y": 0, "w": 4, "h": 4}, {"inks": "K", "x": 60, "y": 404, "w": 700, "h": 1}],
+        sections=[{"name": f"P{n}", "pages": ["spot", "black"] if n % 2 else ["front", "colour"]} for n in range(5)],
+        zones=[{"name": "west", "replace": [{"section": "P3", "page": 2, "with": "front"}]}],
+        sites=[{"name": "OSLO"}, {"name": "BERGEN", "zone": "west"}],
     )
 
 
