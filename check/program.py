@@ -8,6 +8,7 @@ shows is that the program hands its words, the machine's files and the streams o
 """
 import json
 import os
+import resource
 import shutil
 import subprocess
 import sys
@@ -60,7 +61,13 @@ def bands(tried, folder, edition):
         shutil.rmtree(out, ignore_errors=True)
         tried.answers(["run", path, edition.folder, "OUT"], 0, report, b"", folder=folder, processors=here[:count])
         tried.holds(f"plates of bands on {count} processors", compared(plates, out))
-    tried.part("bands on fewer processors")
+    if resource.getrlimit(resource.RLIMIT_STACK)[1] == resource.RLIM_INFINITY:
+        # No thread can be started, since none can have a stack of so many bytes.
+        shutil.rmtree(out, ignore_errors=True)
+        tried.answers(["run", path, edition.folder, "OUT"], 0, report, b"", folder=folder,
+                      limits=[(resource.RLIMIT_STACK, 1 << 46)])
+        tried.holds("plates of bands where no thread can be started", compared(plates, out))
+    tried.part("bands on fewer processors, and without threads")
 
 
 def runs_by_chance(tried, folder, files, seeds):

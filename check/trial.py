@@ -8,6 +8,9 @@ import time
 
 MOST_SECONDS, MOST_HANGS = 60, 2
 
+# What a limit is of, for the line of a trial.
+LIMITED = {resource.RLIMIT_FSIZE: "files", resource.RLIMIT_STACK: "stacks"}
+
 
 class Hangs(Exception):
     """So many runs weren't done in time that no more are made."""
@@ -94,7 +97,7 @@ def told(words, how):
     for name, stream in zip((">", "2>"), how.get("streams", ())):
         line += f" {name} {stream}" if stream else ""
     for kind, most in how.get("limits", ()):
-        line += f" with {'files' if kind == resource.RLIMIT_FSIZE else 'memory'} of {most} bytes"
+        line += f" with {LIMITED.get(kind, 'memory')} of {most} bytes"
     if how.get("processors"):
         line += f" on {len(how['processors'])} processors"
     return line

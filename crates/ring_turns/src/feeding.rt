@@ -20,6 +20,22 @@ pub enum FeedEnd {
 /// The bytes of the longest row.
 const MOST_ROW: usize = 8258;
 
+/// So many looks in vain behind one another wait for longer.
+const LONG_WAITS: u32 = 64;
+
+/// The pauses of such a wait, some three microseconds: in them a site takes a row or some short ones.
+const LONG_PAUSES: u32 = 16;
+
+/// Waits behind a look that was the `vain`-th one since a row was published. While rows are taken the turn
+/// goes on for a thousand of its looks and as many rows. Where none is it ends after some hundred
+/// microseconds, since only its first waits are long.
+fn wait(vain: u32, look: u32) {
+    let pauses = if vain <= LONG_WAITS { LONG_PAUSES } else { 1 };
+    for _pause in 0..pauses {
+        pause(look);
+    }
+}
+
 /// Publishes the next rows of a feed, until all are published, or every reader has left, or a place was
 /// found taken `patience` times. Takes no memory.
 pub fn feed_turn<D: Deal, F: RowFeed>(
@@ -49,15 +65,18 @@ pub fn feed_turn<D: Deal, F: RowFeed>(
     let mut buffer = [0; MOST_ROW];
     let row = &mut buffer[..writer.row_len()];
     let mut waits = 0;
+    let mut vain: u32 = 0;
     while writer.head() < writer.total() && writer.joined() > 0 {
         let Err(Full { site, at }) = publish_next(writer, feed, row) else {
+            vain = 0;
             continue;
         };
         waits += 1;
         if waits == patience {
             return FeedEnd::Waiting { site, at };
         }
-        pause(waits);
+        vain = vain.saturating_add(1);
+        wait(vain, waits);
     }
     FeedEnd::Done
 }
