@@ -12,6 +12,8 @@ import subprocess
 import sys
 import time
 
+sys.dont_write_bytecode = True
+
 import trial
 
 MOST_SECONDS = 120
