@@ -1,6 +1,6 @@
 -- The pixels of eight bytes that are read as one number, the first pixel in the highest bit.
 use Rattle.std.proofs.Common.{◌≡◌, ℕ, zero, suc, ◌+◌, ◌-◌, ◌*◌, ◌/◌, ◌%◌, ◌^◌, ◌<◌, ◌≤◌, Bool, true, false, cond, List, [], length, take, drop, count_ones, eqb, get_or, refl, ap, sym, ◌∙◌, arith, w64, inl, inr}
-use Rattle.std.specs.Int.{byte_at, bytes_high_first, from_be_bytes}
+use Rattle.std.specs.Int.{from_be_bytes}
 use Rattle.std.specs.Prelude.{sum_by, count_by}
 use Rattle.std.specs.List.{range_with_len}
 use Rattle.std.specs.Simd.{first_chunks}
@@ -10,49 +10,23 @@ use Rattle.std.proofs.lemmas.List.Sums.{sum_by-cons}
 use Rattle.std.proofs.lemmas.Simd.{ones-mask_l_cons}
 use Rattle.ink_keys.specs.Keys.{dots_between}
 use Rattle.std.proofs.lemmas.Nat.{be_bytes_8, div-add-mod', ones_cat, ones_le_self, pow-add}
-use Rattle.std.proofs.lemmas.Nat.Bits.{bit_at_cat_low}
-use Rattle.std.proofs.Math.Nat.{div-div-eq-div-mul, div-one, pow-suc}
+use Rattle.std.proofs.Math.Nat.{div-div-eq-div-mul, div-one}
 use Rattle.pr_base.specs.Bits.{bit_at, byte_bit}
+use Rattle.pr_base.proofs.Words.{byte_bit-number}
 use Rattle.ink_keys.proofs.Ranges.{sum-more, sum-most, sum-moved, sum-parts}
 
 -- a bit as a number
 abbrev pub number : Bool → ℕ
 number bit = cond bit 1 0
 
--- ---- the bits of a number's bytes
-
-pow_256 : (i : ℕ) → 256 ^ i ≡ 2 ^ (8 * i)
-pow_256 zero = refl
-pow_256 (suc i) =
-    let eight : 8 * i + 8 ≡ 8 * suc i = omega arith in
-    pow-suc 256 i ∙ ap (λ p. p * 256) (pow_256 i) ∙ sym (pow-add 2 (8 * i) 8) ∙ ap (λ k. 2 ^ k) eight
-
-byte_at_is : (i n : ℕ) → byte_at i n ≡ n / 2 ^ (8 * i) % 256
-byte_at_is zero n = ap (λ m. m % 256) (sym (div-one n))
-byte_at_is (suc i) n = ap (λ p. n / p % 256) (pow_256 (suc i))
-
--- a byte of a number, the highest first
-high_first : (k n j : ℕ) → j < k → get_or (bytes_high_first k n) j 0 ≡ byte_at (k - 1 - j) n
-high_first zero n j within = absurd (omega arith)
-high_first (suc k) n zero within = ap (λ i. byte_at i n) (omega arith)
-high_first (suc k) n (suc j) within = high_first k n j (omega arith) ∙ ap (λ i. byte_at i n) (omega arith)
-
--- a bit of a byte of a number
-bit_of_byte : (n shift b : ℕ) → b < 8 → n / 2 ^ shift % 256 / 2 ^ b % 2 ≡ n / 2 ^ (shift + b) % 2
-bit_of_byte n shift b within =
-    let m = n / 2 ^ shift in
-    sym (bit_at_cat_low (m / 256) 8 (m % 256) b within) ∙ ap (λ v. v / 2 ^ b % 2) (div-add-mod' m 256)
-    ∙ ap (λ v. v % 2) (div-div-eq-div-mul n (2 ^ shift) (2 ^ b) ∙ ap (λ p. n / p) (sym (pow-add 2 shift b)))
-
 -- pixel c of eight bytes is a bit of the number that they make
 pub bit-word : (bytes : List ℕ) (n c : ℕ) → length bytes ≡ 8 → ((i : ℕ) → get_or bytes i 0 < 256) → n ≡ from_be_bytes w64 bytes → c < 64
     → bit_at bytes c ≡ eqb (n / 2 ^ (63 - c) % 2) 1
 bit-word bytes n c eight small is within =
-    let j = c / 8 in
-    let y = c % 8 in
-    let place : 8 * (8 - 1 - j) + (7 - y) ≡ 63 - c = omega arith in
-    ap (λ b. byte_bit b y) (ap (λ bs. get_or bs j 0) (sym (be_bytes_8 bytes n eight small is)) ∙ high_first 8 n j (omega arith) ∙ byte_at_is (8 - 1 - j) n)
-    ∙ ap (λ b. eqb b 1) (bit_of_byte n (8 * (8 - 1 - j)) (7 - y) (omega arith) ∙ ap (λ k. n / 2 ^ k % 2) place)
+    let place : 8 * (c / 8) + c % 8 ≡ c = omega arith in
+    ap (λ bs. byte_bit (get_or bs (c / 8) 0) (c % 8)) (sym (be_bytes_8 bytes n eight small is))
+    ∙ byte_bit-number n (c / 8) (c % 8) (omega arith) (omega arith)
+    ∙ ap (λ k. eqb (n / 2 ^ (63 - k) % 2) 1) place
 
 -- ---- how many are 1
 

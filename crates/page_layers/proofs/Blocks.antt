@@ -1,8 +1,8 @@
 -- Marks: the bits of a block in lanes, and spans of a row that are joined.
-use Rattle.std.proofs.Common.{◌≡◌, ℕ, zero, suc, ◌+◌, ◌-◌, ◌*◌, ◌/◌, ◌%◌, ◌^◌, ◌<◌, ◌≤◌, Bool, true, false, cond, not, if◌then◌else◌, List, ◌++◌, length, take, drop, map, replicate, eqb, get_or, slice_index, slice_range, slice_set, bit_and, get_or-set_same, get_or-set_other, inl, inr, refl, ap, sym, ◌∙◌, arith, w8}
+use Rattle.std.proofs.Common.{◌≡◌, ℕ, zero, suc, ◌+◌, ◌-◌, ◌*◌, ◌/◌, ◌%◌, ◌^◌, ◌<◌, ◌≤◌, Bool, true, false, cond, not, if◌then◌else◌, List, ◌++◌, length, take, map, replicate, eqb, get_or, slice_index, slice_range, slice_set, bit_and, get_or-set_same, get_or-set_other, inl, inr, refl, ap, sym, ◌∙◌, arith, w8}
 use Rattle.std.specs.List.{range_with_len}
 use Rattle.std.proofs.lemmas.Bool.{cases_lt, eq-eqb, ne_eqb}
-use Rattle.std.proofs.lemmas.List.{get_or_append_left, get_or-append_right, get_or-drop, get_or-take, get_or-replicate, length-append, length-drop, length-set, length-take}
+use Rattle.std.proofs.lemmas.List.{get_or-take, get_or-replicate, length-set, length-take}
 use Rattle.std.proofs.lemmas.List.Edits.{get_or-between}
 use Rattle.std.proofs.lemmas.List.FromFn.{get_or-map-range_with_len, length-map-range_with_len}
 use Rattle.std.proofs.lemmas.Nat.{mod_below, pow_pos}
@@ -11,6 +11,7 @@ use Rattle.std.proofs.lemmas.Simd.{get_or-sel_l, length-sel_l, put_chunk_whole, 
 use borrow.Rule.Slice.PartMut.{put_mid}
 use mir.Val.{bool_byte}
 use lib.Lanes.{put_chunk, sel_l, top, zip2}
+use Rattle.pr_base.proofs.Parts.{loaded, part_above, part_below, part_here}
 use Rattle.page_layers.specs.Rows.{IsMarked, Keeps, bit_is}
 
 -- the bit of pixel x of a block, alone in its lane, and what it has to be
@@ -31,13 +32,9 @@ digit_is false zero power within above = ne_eqb (0 * power) power (λ same. absu
 digit_is false (suc zero) power within above = eq-eqb (1 * power) power (omega arith)
 digit_is false (suc (suc digit)) power within above = absurd (omega arith)
 
--- a lane of a vector that was loaded whole, and joined to itself
-loaded : (xs : List ℕ) (x : ℕ) → length xs ≡ 8 → x < 8 → get_or (take 8 xs ++ take 8 xs) x 0 ≡ get_or xs x 0
-loaded xs x whole within = get_or_append_left (take 8 xs) (take 8 xs) 0 x (omega (arith, length-take 8 xs)) ∙ get_or-take 8 xs x 0 within
-
 lane_test_is : (zeros : Bool) (bits : List ℕ) (x : ℕ) → length bits ≡ 8 → x < 64 → lane_test zeros bits x ≡ bit_is zeros bits x
 lane_test_is zeros bits x eight within =
-    ap (λ byte. eqb (bit_and byte (2 ^ (7 - x % 8))) (wanted_at zeros x)) (loaded bits (x / 8) eight (omega arith))
+    ap (λ byte. eqb (bit_and byte (2 ^ (7 - x % 8))) (wanted_at zeros x)) (loaded 8 bits (x / 8) eight (omega arith))
     ∙ ap (λ n. eqb n (wanted_at zeros x)) (and_pow (get_or bits (x / 8) 0) (7 - x % 8))
     ∙ digit_is zeros (get_or bits (x / 8) 0 / 2 ^ (7 - x % 8) % 2) (2 ^ (7 - x % 8)) (mod_below _ 2 (omega arith)) (pow_pos (7 - x % 8))
 
@@ -112,27 +109,6 @@ Keeps_join test from mid to old part new front rest first second = record {
 
 pub IsMarked_whole : (test : ℕ → Bool) (all : ℕ) (old new : List ℕ) → Keeps test 0 all old new → IsMarked test (slice_index old) all new
 IsMarked_whole test all old new has = record { each = λ n below. has.inside n (omega arith) below }
-
--- a list of which a part was written anew
-pub part_below : (a k : ℕ) (xs ys : List ℕ) (i : ℕ) → a + k ≤ length xs → i < a → get_or (put_mid a k xs ys) i 0 ≡ get_or xs i 0
-part_below a k xs ys i room below =
-    get_or_append_left (take a xs) (ys ++ drop k (drop a xs)) 0 i (omega (arith, length-take a xs)) ∙ get_or-take a xs i 0 below
-
-pub part_here : (a k : ℕ) (xs ys : List ℕ) (i : ℕ) → a + k ≤ length xs → length ys ≡ k → a ≤ i → i < a + k → get_or (put_mid a k xs ys) i 0 ≡ get_or ys (i - a) 0
-part_here a k xs ys i room whole from within =
-    get_or-append_right (take a xs) (ys ++ drop k (drop a xs)) a i 0 (omega (arith, length-take a xs)) from
-    ∙ get_or_append_left ys (drop k (drop a xs)) 0 (i - a) (omega arith)
-
-pub part_above : (a k : ℕ) (xs ys : List ℕ) (i : ℕ) → a + k ≤ length xs → length ys ≡ k → a + k ≤ i → get_or (put_mid a k xs ys) i 0 ≡ get_or xs i 0
-part_above a k xs ys i room whole above =
-    let back : a + (k + (i - a - k)) ≡ i = omega arith in
-    get_or-append_right (take a xs) (ys ++ drop k (drop a xs)) a i 0 (omega (arith, length-take a xs)) (omega arith)
-    ∙ get_or-append_right ys (drop k (drop a xs)) k (i - a) 0 whole (omega arith)
-    ∙ get_or-drop k (drop a xs) (i - a - k) 0 ∙ get_or-drop a xs (k + (i - a - k)) 0 ∙ ap (λ m. get_or xs m 0) back
-
-pub part_long : (a k : ℕ) (xs ys : List ℕ) → a + k ≤ length xs → length ys ≡ k → length (put_mid a k xs ys) ≡ length xs
-part_long a k xs ys room whole =
-    omega (arith, length-append (take a xs) (ys ++ drop k (drop a xs)), length-append ys (drop k (drop a xs)), length-take a xs, length-drop k (drop a xs), length-drop a xs)
 
 -- the bits of a byte and those behind it, seen from a part of the row
 bit_of_part : (zeros : Bool) (row : List ℕ) (byte end x place : ℕ) → byte + 8 ≤ end → x < 64 → place ≡ 8 * byte + x → byte + 8 ≡ end → bit_is zeros (slice_range row byte end) x ≡ bit_is zeros row place

@@ -10,8 +10,8 @@ use Rattle.std.proofs.Math.Nat.{mul-add-div}
 use Rattle.std.proofs.lemmas.Simd.{put_chunk_whole}
 use lib.Lanes.{put_chunk}
 use borrow.Rule.Slice.PartMut.{put_mid}
+use Rattle.pr_base.proofs.Parts.{loaded, part_below, part_here}
 use Rattle.page_layers.specs.Rows.{IsStretched}
-use Rattle.page_layers.proofs.Blocks.{part_below, part_here}
 
 -- run n, or its front, behind those before it
 pub IsStretched-run : (source : List ℕ) (step scale n count cut size value : ℕ) (into part : List ℕ) → IsStretched source step scale (scale * n) into → size ≤ scale → count ≡ scale * n + size
@@ -47,9 +47,6 @@ IsStretched_none source step scale count into none = record { each = λ j below.
 abbrev pub sample_in : List ℕ → ℕ → ℕ → ℕ
 sample_in pixels scale x = get_or (take 64 pixels ++ take 64 pixels) (4 * (x / scale)) 0
 
-loaded : (pixels : List ℕ) (i : ℕ) → length pixels ≡ 64 → i < 64 → get_or (take 64 pixels ++ take 64 pixels) i 0 ≡ get_or pixels i 0
-loaded pixels i whole within = get_or_append_left (take 64 pixels) (take 64 pixels) 0 i (omega (arith, length-take 64 pixels)) ∙ get_or-take 64 pixels i 0 within
-
 -- block k behind those before it
 pub IsStretched-block : (source : List ℕ) (scale size k at to count cut : ℕ) (into : List ℕ) → IsStretched source 4 scale at into → 0 < scale → at ≡ scale * (16 * k) → size ≡ scale * 16 → to ≡ at + size → count ≡ at + size → cut ≡ size
     → count ≤ length into → 64 * k + 64 ≤ length source
@@ -77,7 +74,7 @@ IsStretched-block source scale size k at to count cut into has above at_is size_
                 part_here at cut into part j (omega arith) part_long behind (omega arith)
                 ∙ ap (λ list. get_or list x 0) part_is
                 ∙ get_or-map-range_with_len (sample_in pixels scale) 0 size x x 0 inside (omega arith)
-                ∙ loaded pixels (4 * (x / scale)) pixels_long (omega arith)
+                ∙ loaded 64 pixels (4 * (x / scale)) pixels_long (omega arith)
                 ∙ get_or-between source (64 * k) (64 * k + 64) (4 * (x / scale)) 0 (omega arith)
                 ∙ ap (λ n. get_or source n 0) place
           ];

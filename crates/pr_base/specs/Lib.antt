@@ -1,6 +1,7 @@
 pub mod Bits
 pub mod Count
 pub mod Fault
+pub mod First
 pub mod Ink
 pub mod Number
 pub mod Place

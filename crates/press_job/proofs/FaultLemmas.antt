@@ -23,7 +23,7 @@ use Rattle.plan_json.specs.Plan.{IsPlan}
 use Rattle.press_job.specs.declared.fit.Misfit.{Misfit}
 use Rattle.tif_image.specs.declared.usage.Usage.{Usage}
 use Rattle.tif_image.specs.declared.usage.Usage.TheVariants.{Contone, Bilevel}
-use Rattle.press_job.specs.First.{first_some}
+use Rattle.pr_base.specs.First.{first_some}
 use Rattle.press_job.specs.Tests.{crop_fault, fault_for, fault_of_file, fault_of_layers, fault_where, fit_fault, layer_fault, length_of, mask_fault, mention_fault, mentions_of, page_fault, page_fit_fault, width_of}
 use Rattle.press_job.specs.Layers.{bytes_at}
 

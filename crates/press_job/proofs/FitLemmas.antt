@@ -26,7 +26,7 @@ use Rattle.plan_parts.specs.Parts.{IsCrop, IsPage}
 use Rattle.plan_parts.specs.Parts as planned
 use Rattle.tif_image.specs.declared.usage.Usage.{Usage}
 use Rattle.tif_image.specs.declared.usage.Usage.TheVariants.{Bilevel}
-use Rattle.press_job.specs.First.{first_some}
+use Rattle.pr_base.specs.First.{first_some}
 use Rattle.press_job.specs.Fit.{ArePlanned, PassesTests}
 use Rattle.press_job.specs.Layers.{art_in, art_of, bilevel_of, bytes_at, crop_of, layer_of, planned_layers, shape_told}
 use Rattle.press_job.specs.Tests.{crop_fault, fault_for, fault_of_file, fault_of_layers, fault_where, fit_fault, layer_fault, length_of, mask_fault, mention_fault, page_fault, page_fit_fault, use_of, width_of}

@@ -1,5 +1,4 @@
 pub mod FaultLemmas
-pub mod Firsts
 pub mod FitLemmas
 pub mod FrameLemmas
 pub mod LimitLemmas

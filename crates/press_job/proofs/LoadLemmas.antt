@@ -14,7 +14,7 @@ use Rattle.pr_ports.specs.Shelf.{held_at}
 use Rattle.plan_json.specs.Data.{PlanData}
 use Rattle.press_job.specs.declared.refusal.Refusal.{Refusal}
 use Rattle.press_job.specs.declared.refusal.Refusal.TheVariants.{File, Shelf, Memory}
-use Rattle.press_job.specs.First.{first_some}
+use Rattle.pr_base.specs.First.{first_some}
 use Rattle.press_job.specs.Tests.{ArePassed, fault_of_file}
 use Rattle.press_job.specs.Verdict.{AreFirst, IfFile, first_files, held_bytes, limit_behind, path_of, verdict_at, verdict_before, verdict_on}
 

@@ -1,4 +1,3 @@
-pub mod First
 pub mod Layers
 pub mod Printing
 pub mod Rows

@@ -14,7 +14,7 @@ use Rattle.plan_json.specs.Data.{PlanData}
 use Rattle.press_job.specs.declared.fit.Misfit.{Misfit}
 use Rattle.tif_image.specs.declared.usage.Usage.{Usage}
 use Rattle.tif_image.specs.declared.usage.Usage.TheVariants.{Contone, Bilevel}
-use Rattle.press_job.specs.First.{first_some}
+use Rattle.pr_base.specs.First.{first_some}
 use Rattle.press_job.specs.Layers.{bytes_at}
 
 -- ---- the uses of a file

@@ -10,7 +10,7 @@ use Rattle.pr_ports.specs.Shelf.{held_at}
 use Rattle.plan_json.specs.Data.{PlanData}
 use Rattle.press_job.specs.declared.refusal.Refusal.{Refusal}
 use Rattle.press_job.specs.declared.refusal.Refusal.TheVariants.{File, Shelf, Memory}
-use Rattle.press_job.specs.First.{first_some}
+use Rattle.pr_base.specs.First.{first_some}
 use Rattle.press_job.specs.declared.fit.Misfit.{Misfit}
 use Rattle.press_job.specs.Tests.{fault_of_file, fault_of_layers}
 

@@ -1,7 +1,7 @@
 // The tests of a file for all its uses.
 ghost use Rattle.std.specs.Prelude.{◌≡◌, IsTrue, None, Some};
 ghost use Rattle.std.specs.Result.{result_err};
-ghost use Rattle.press_job.specs.First.{first_some};
+ghost use Rattle.pr_base.specs.First.{first_some};
 ghost use Rattle.press_job.specs.Tests.{fault_for, fault_of_file, layer_fault, page_fault};
 
 use crate::usage::{layers_on, use_of};

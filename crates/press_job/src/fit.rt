@@ -1,7 +1,7 @@
 // Whether crops and masks fit their images.
 ghost use Rattle.std.specs.Prelude.{◌≡◌, ℕ, List};
 ghost use Rattle.std.specs.Result.{result_err};
-ghost use Rattle.press_job.specs.First.{first_some};
+ghost use Rattle.pr_base.specs.First.{first_some};
 ghost use Rattle.press_job.specs.Tests.{crop_fault, fault_of_layers, fit_fault, length_of, mask_fault, page_fit_fault, width_of};
 
 use crate::files::Files;

@@ -1,5 +1,5 @@
 -- The writer's lanes are filled one after the other.
-use Rattle.std.proofs.Common.{◌≡◌, ◌≢◌, ℕ, ◌+◌, ◌<◌, ◌≤◌, true, false, List, Bool, length, get_or, sym, subst, arith}
+use Rattle.std.proofs.Common.{◌≡◌, ◌≢◌, ℕ, ◌<◌, ◌≤◌, true, false, List, Bool, length, get_or, sym, subst, arith}
 use Rattle.std.specs.Prelude.{Some}
 use Rattle.ring_rule.specs.Views.{left_word}
 use Rattle.ring_rule.specs.Marks.{WriterMark}

@@ -1,5 +1,5 @@
 -- What the ends of a ring keep from call to call.
-use Rattle.std.proofs.Common.{◌≡◌, ◌≢◌, ℕ, zero, suc, ◌+◌, ◌<◌, ◌≤◌, true, false, List, [], ◌∷◌, ◌++◌, Bool, length, map, replicate, get_or, sym, refl, ap, ◌∙◌, subst, inl, inr, arith, length-append}
+use Rattle.std.proofs.Common.{◌≡◌, ◌≢◌, ℕ, zero, suc, ◌+◌, ◌<◌, true, false, List, [], ◌∷◌, ◌++◌, Bool, length, map, replicate, get_or, sym, refl, ap, ◌∙◌, subst, inl, inr, arith, length-append}
 use Rattle.std.specs.Prelude.{Some, slice_get}
 use Rattle.std.proofs.lemmas.Bool.{cases_lt, false≢true}
 use Rattle.std.proofs.lemmas.List.{length-map, length-replicate, get_or-map, get_or-replicate, get_or_append_left, get_or_past}
@@ -9,7 +9,7 @@ use Rattle.std.proofs.Math.ListN
 use Rattle.std.proofs.Math.Seq.{get_or-append_seam}
 use Rattle.atomic_table.specs.Seated.{TableId}
 use Rattle.ring_rule.specs.declared.view.RingNumbers.{RingNumbers}
-use Rattle.ring_rule.specs.Views.{left_word, up_to}
+use Rattle.ring_rule.specs.Views.{up_to}
 use Rattle.ring_rule.specs.Marks.{WriterMark, ReaderMark, new_writer_mark, new_reader_mark}
 use Rattle.ring_rule.specs.Plays.{published}
 use Rattle.ring_rule.proofs.Numbers.{cursor_some, length_up}

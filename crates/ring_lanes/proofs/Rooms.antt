@@ -1,11 +1,11 @@
 -- The writer's way over its readers in search of room.
-use Rattle.std.proofs.Common.{◌≡◌, ◌≢◌, ℕ, ◌+◌, ◌<◌, ◌≤◌, ◌⊎◌, sym, ap, ◌∙◌, subst, inl, inr, arith}
-use Rattle.std.specs.Prelude.{Some, Result, Ok, Err, IfErr, IsErrAnd}
+use Rattle.std.proofs.Common.{◌≡◌, ℕ, ◌+◌, ◌<◌, ◌≤◌, sym, ap, ◌∙◌, subst, inl, inr, arith}
+use Rattle.std.specs.Prelude.{Result, Ok, Err, IfErr, IsErrAnd}
 use Rattle.std.proofs.lemmas.Bool.{cases_eq, cases_lt}
 use Rattle.ring_rule.specs.declared.view.RingNumbers.{RingNumbers}
 use Rattle.ring_rule.specs.Views.{cursor_in}
 use Rattle.ring_lanes.specs.declared.answer.Full.{Full}
-use Rattle.ring_lanes.specs.Writer.{WriterState, HasRoom, HasRoomFor, IsPassedOver, IsLoaded, IsLook, IsBehind, IsFull, LooksOnce, LooksOnceAt, OthersStand}
+use Rattle.ring_lanes.specs.Writer.{WriterState, HasRoom, HasRoomFor, IsPassedOver, IsLook, IsBehind, IsFull, LooksOnce, LooksOnceAt, OthersStand}
 
 -- no more than known words and counts of loads differ
 abbrev pub IsSameEnd : WriterState → WriterState → Type 0

@@ -19,7 +19,7 @@ use Rattle.ring_rule.specs.Plays.{made_more, made_reader, head_note, cursor_note
 use Rattle.ring_rule.specs.Laws.{ShowsTheSame, Has, cut, joined}
 use Rattle.ring_rule.proofs.Numbers.{cursor_none}
 use Rattle.ring_rule.proofs.Moves
-use Rattle.ring_rule.proofs.Moves.{put_each, put_here, shown_by}
+use Rattle.ring_rule.proofs.Moves.{put_each}
 use Rattle.ring_rule.proofs.Roster.{writer_at, writer_kept, reader_kept, writer_more, reader_more, readers_first}
 use Rattle.ring_rule.proofs.Hold.{lanes_by}
 use Rattle.ring_rule.proofs.ReaderLanes

@@ -24,7 +24,7 @@ use Rattle.ring_rule.specs.Plays.{looked_at, published, picked, MayPublish}
 use Rattle.ring_rule.proofs.Numbers.{and_false}
 use Rattle.ring_rule.proofs.Moves
 use Rattle.ring_rule.proofs.Slots
-use Rattle.ring_rule.proofs.Slots.{IsOneLane, cases_lane, home_same, home_else, home_apart, counted_next, counted_head, counted_none, stage_plain, row_put, shown_by_place}
+use Rattle.ring_rule.proofs.Slots.{cases_lane, home_same, home_else, home_apart, counted_next, counted_head, counted_none, stage_plain, row_put, shown_by_place}
 use Rattle.ring_rule.proofs.Hold.{slot_in, number_in_head, at_home, stage_by, sound_by, lane_later}
 
 module _ (g : RingNumbers) (words : List ℕ) (homes : Homes) (w : WriterView) (readers : ℕ → ReaderView) (h : Holds g words w readers) (m : HoldsLanes g words homes w readers) where

@@ -4,8 +4,6 @@
 // lane at home holds the bytes of its row.
 #![tactic(auto)]
 
-mod cut;
-mod deal;
 mod lane;
 mod laws;
 mod note;
@@ -13,6 +11,8 @@ mod pick;
 mod play;
 mod reader;
 mod rule;
+mod seats;
+mod splits;
 mod table;
 mod view;
 mod writer;

@@ -8,7 +8,7 @@ ghost use Rattle.ring_rule.specs.Seats.{IsFreshSeat, IsRingTable};
 ghost use Rattle.ring_rule.specs.Empty.{IsEmptyLane};
 ghost use Rattle.ring_rule.specs.Marks.{TableMark, new_writer_mark, new_reader_mark};
 
-use crate::deal::{deal_seats, empty_lanes};
+use crate::seats::{cut_seats, empty_lanes};
 use crate::{Lane, ReaderSeat, RingKey, RingRule, RingSeat, View, WriterSeat};
 use atomic_table::Table;
 use pr_base::{Deal, NoMemory};
@@ -139,6 +139,6 @@ impl<'d, D: Deal> RingTable<'d, D> {
         let Some(seat) = self.seat.take() else {
             unreachable!()
         };
-        Ok(deal_seats(list, &self.table.shared, seat, places, readers, total))
+        Ok(cut_seats(list, &self.table.shared, seat, places, readers, total))
     }
 }

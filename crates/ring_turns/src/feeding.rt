@@ -20,17 +20,23 @@ pub enum FeedEnd {
 /// The bytes of the longest row.
 const MOST_ROW: usize = 8258;
 
-/// So many looks in vain behind one another wait for longer.
+/// So many looks in vain behind a row may wait for longer.
 const LONG_WAITS: u32 = 64;
 
 /// The pauses of such a wait, some three microseconds: in them a site takes a row or some short ones.
 const LONG_PAUSES: u32 = 16;
 
-/// Waits behind a look that was the `vain`-th one since a row was published. While rows are taken the turn
-/// goes on for a thousand of its looks and as many rows. Where none is it ends after some hundred
-/// microseconds, since only its first waits are long.
+/// How many looks in vain are behind a row that was published when the turn had made `waits` of them. A row
+/// that found its place taken first was taken by another processor meanwhile, and then longer waits pay.
+fn vain_behind(waits: u32) -> u32 {
+    if waits > 0 { 0 } else { LONG_WAITS }
+}
+
+/// Waits behind the look that follows `vain` ones in vain. While rows are taken the turn goes on for a
+/// thousand of its looks and as many rows. Where none is it ends after some hundred microseconds, since few
+/// of its waits are long.
 fn wait(vain: u32, look: u32) {
-    let pauses = if vain <= LONG_WAITS { LONG_PAUSES } else { 1 };
+    let pauses = if vain < LONG_WAITS { LONG_PAUSES } else { 1 };
     for _pause in 0..pauses {
         pause(look);
     }
@@ -65,18 +71,18 @@ pub fn feed_turn<D: Deal, F: RowFeed>(
     let mut buffer = [0; MOST_ROW];
     let row = &mut buffer[..writer.row_len()];
     let mut waits = 0;
-    let mut vain: u32 = 0;
+    let mut vain = LONG_WAITS;
     while writer.head() < writer.total() && writer.joined() > 0 {
         let Err(Full { site, at }) = publish_next(writer, feed, row) else {
-            vain = 0;
+            vain = vain_behind(waits);
             continue;
         };
         waits += 1;
         if waits == patience {
             return FeedEnd::Waiting { site, at };
         }
-        vain = vain.saturating_add(1);
         wait(vain, waits);
+        vain = vain.saturating_add(1);
     }
     FeedEnd::Done
 }

@@ -17,7 +17,7 @@ use Rattle.tif_image.specs.Image.{bilevel_shape, contone_shape}
 use Rattle.plan_parts.specs.Data.{PageData}
 use Rattle.plan_json.specs.Data.{PlanData}
 use Rattle.press_job.specs.declared.refusal.Refusal.TheVariants.{File}
-use Rattle.press_job.specs.First.{first_some}
+use Rattle.pr_base.specs.First.{first_some}
 use Rattle.press_job.specs.Layers.{bytes_at}
 use Rattle.press_job.specs.Tests.{fault_for, fault_of_file, fault_of_layers, fault_where, fit_fault, layer_fault, length_of, mention_fault, mentions_of, page_fault, page_fit_fault, use_of, width_of}
 use Rattle.press_job.specs.Verdict.{IsMissing, files_in, first_files, held_bytes, limit_behind, misfit_refusal, named_fault, path_of, refusal_of, verdict_at, verdict_before, verdict_on, verdict_on_files}

@@ -3,6 +3,7 @@
 use Rattle.std.specs.Prelude.{ℕ, ◌+◌, ◌-◌, ◌*◌, ◌/◌, ◌%◌, ◌≤◌, min, ◌==◌, ◌&&◌, ◌||◌, nat_lt, if◌then◌else◌, IsTrue, Bool, List, [], ◌∷◌, length, take, drop, map, slice_index, Option, Some, None}
 use Rattle.std.specs.Result.{result_err, result_unwrap_or}
 use Rattle.std.specs.List.{flat_map, range_with_len}
+use Rattle.pr_base.specs.First.{first_some}
 use Rattle.pr_base.specs.Row.{row_size}
 use Rattle.pr_base.specs.declared.fault.TagFault.{TagFault}
 use Rattle.pr_base.specs.declared.fault.FaultKind.TheVariants.{StripPlace, Short}
@@ -95,9 +96,7 @@ fault_of_strip shape bytes strip =
 
 -- the first fault of a list of tests
 abbrev pub first_fault : List (Option TagFault) → Option TagFault
-first_fault [] = None
-first_fault (None ∷ tests) = first_fault tests
-first_fault (Some fault ∷ tests) = Some fault
+first_fault = first_some (λ test. test)
 
 -- the first fault of StripOffsets, StripByteCounts and the strips in order
 unfoldable pub strip_fault : Shape → List ℕ → Option TagFault

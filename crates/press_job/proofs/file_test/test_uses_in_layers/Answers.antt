@@ -1,7 +1,7 @@
 use Rattle.std.proofs.Common.{◌∙◌, arith}
 use Rattle.std.proofs.lemmas.Result.{err_from_is_err_and}
 use Rattle.press_job.specs.Tests.{layer_fault}
-use Rattle.press_job.proofs.Firsts.{first_some-on, first_some-found, first_some-end}
+use Rattle.pr_base.proofs.Firsts.{first_some-on, first_some-found, first_some-end}
 use Rattle.press_job.proofs.file_test.test_uses_in_layers.Goals as goal
 
 pub loop-layer-preserved : goal.loop-layer-preserved

@@ -1,8 +1,8 @@
 use Rattle.std.proofs.Common.{◌∙◌, ap, arith}
 use Rattle.std.proofs.lemmas.Result.{err_from_is_err_and}
 use Rattle.press_job.specs.Tests.{layer_fault, page_fault}
-use Rattle.press_job.specs.First.{first_some}
-use Rattle.press_job.proofs.Firsts.{first_some-on, first_some-found, first_some-end}
+use Rattle.pr_base.specs.First.{first_some}
+use Rattle.pr_base.proofs.Firsts.{first_some-on, first_some-found, first_some-end}
 use Rattle.press_job.proofs.file_test.test_uses_on_pages.Goals as goal
 
 pub loop-page-preserved : goal.loop-page-preserved

@@ -1,5 +1,5 @@
 use Rattle.std.proofs.Common.{◌≡◌, drop}
-use Rattle.press_job.specs.First.{first_some}
+use Rattle.pr_base.specs.First.{first_some}
 use Rattle.press_job.specs.Tests.{page_fault}
 use Rattle.press_job.proofs.file_test.test_uses_on_pages.Given as goal
 

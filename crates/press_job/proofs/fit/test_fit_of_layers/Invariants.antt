@@ -1,5 +1,5 @@
 use Rattle.std.proofs.Common.{◌≡◌, drop}
-use Rattle.press_job.specs.First.{first_some}
+use Rattle.pr_base.specs.First.{first_some}
 use Rattle.press_job.specs.Tests.{fit_fault}
 use Rattle.press_job.proofs.fit.test_fit_of_layers.Given as goal
 

@@ -1,4 +1,3 @@
-use Rattle.std.proofs.Common.{◌∙◌}
 use Rattle.room_run.proofs.Drilled.{idle, job_ends, job_run}
 use Rattle.room_run.proofs.drill.deliver_to.Goals as goal
 

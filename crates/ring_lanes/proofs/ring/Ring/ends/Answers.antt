@@ -1,8 +1,6 @@
-use Rattle.std.proofs.Common.{◌≡◌, ℕ, List, length, map, replicate, ap, sym, ◌∙◌, subst, arith, rules}
-use Rattle.std.proofs.lemmas.List.{length-map}
+use Rattle.std.proofs.Common.{◌≡◌, List, map, replicate, ap, sym, ◌∙◌, subst, arith, rules}
 use Rattle.ring_rule.specs.Views.{up_to}
-use Rattle.ring_rule.specs.Marks.{TableMark, WriterMark, ReaderMark, new_reader_mark}
-use Rattle.ring_rule.proofs.Numbers.{length_up}
+use Rattle.ring_rule.specs.Marks.{TableMark, WriterMark, ReaderMark}
 use Rattle.ring_lanes.specs.Reader.{AreNewSeats, new_reader_state, reader_state}
 use Rattle.ring_lanes.specs.Writer.{IsWriter}
 use Rattle.ring_lanes.proofs.Keeps.{new_writer_end, new_seats, seats_count, new_readers}

@@ -1,9 +1,7 @@
-use Rattle.std.proofs.Common.{◌≡◌, ◌<◌, ℕ, ap, sym, ◌∙◌, subst, arith}
-use Rattle.std.specs.Prelude.{slice_index}
-use Rattle.ring_rule.specs.declared.view.RingNumbers.{RingNumbers}
+use Rattle.std.proofs.Common.{◌≡◌, ◌<◌, ℕ, ap, subst}
 use Rattle.ring_lanes.specs.Note.{CursorNoteState}
 use Rattle.ring_lanes.specs.Writer.{WriterState, IsLoaded, writer_state}
-use Rattle.ring_lanes.proofs.Looks.{end_loaded, looked}
+use Rattle.ring_lanes.proofs.Looks.{end_loaded}
 use Rattle.ring_lanes.proofs.writer.Writer.learn.Goals as goal
 
 pub returns-clause-loaded : goal.returns-clause-loaded

@@ -1,6 +1,6 @@
 use Rattle.std.proofs.Common.{◌≡◌, ◌<◌, ap, sym, ◌∙◌, arith}
 use Rattle.ring_lanes.specs.Writer.{WriterState, IsFull}
-use Rattle.ring_lanes.proofs.Rooms.{visited_full, visited_range, visited_room, err_told}
+use Rattle.ring_lanes.proofs.Rooms.{visited_full, visited_range, err_told}
 use Rattle.ring_lanes.proofs.writer.Writer.room.Goals as goal
 
 pub room_for-requires : goal.room_for-requires

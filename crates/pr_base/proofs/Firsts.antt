@@ -2,7 +2,7 @@
 use Rattle.std.proofs.Common.{◌≡◌, ℕ, ◌<◌, ◌≤◌, ◌+◌, List, Option, Some, None, length, drop, get_or, ap, ◌∙◌, sym, add-one, arith}
 use Rattle.std.specs.Option.{option_or}
 use Rattle.std.proofs.Math.Seq.{drop-cons, drop-length}
-use Rattle.press_job.specs.First.{first_some}
+use Rattle.pr_base.specs.First.{first_some}
 
 -- at the end there is none
 pub first_some-end : {A B : Type 0} (f : A → Option B) (xs : List A) (i : ℕ) → length xs ≤ i → i ≤ length xs → first_some f xs ≡ first_some f (drop i xs) → None ≡ first_some f xs

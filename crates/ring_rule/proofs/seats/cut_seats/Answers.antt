@@ -3,7 +3,7 @@ use Rattle.atomic_table.specs.Seated.{TableId}
 use Rattle.ring_rule.specs.Views.{counted_writer}
 use Rattle.ring_rule.specs.Key.{key_ring}
 use Rattle.ring_rule.proofs.Seated.{may_split}
-use Rattle.ring_rule.proofs.deal.deal_seats.Goals as goal
+use Rattle.ring_rule.proofs.seats.cut_seats.Goals as goal
 
 pub split_seat-cut-requires : goal.split_seat-cut-requires
 split_seat-cut-requires g c =

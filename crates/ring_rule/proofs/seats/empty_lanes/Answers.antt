@@ -6,7 +6,7 @@ use Rattle.std.proofs.lemmas.List.Elements.{All-push}
 use Rattle.ring_rule.specs.declared.lane.Lane.{Lane}
 use Rattle.ring_rule.specs.Shown.{Slot}
 use Rattle.ring_rule.specs.Empty.{IsEmptyLane}
-use Rattle.ring_rule.proofs.deal.empty_lanes.Goals as goal
+use Rattle.ring_rule.proofs.seats.empty_lanes.Goals as goal
 
 pub loop-lane-preserved : goal.loop-lane-preserved
 loop-lane-preserved c =

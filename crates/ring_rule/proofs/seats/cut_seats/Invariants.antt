@@ -4,7 +4,7 @@ use Rattle.ring_rule.specs.Views.{counted_writer, up_to}
 use Rattle.ring_rule.specs.Marks.{new_reader_mark}
 use Rattle.ring_rule.specs.Key.{key_ring}
 use Rattle.ring_rule.specs.Seats.{seated_writer}
-use Rattle.ring_rule.proofs.deal.deal_seats.Given as goal
+use Rattle.ring_rule.proofs.seats.cut_seats.Given as goal
 
 abbrev pub invariant-loop-number : goal.invariant-loop-number
 invariant-loop-number g l = record {

@@ -8,7 +8,7 @@ ghost use Rattle.ring_rule.specs.Seats.{IsFreshSeat, IsRingTable};
 ghost use Rattle.ring_rule.specs.Empty.{IsEmptyLane};
 ghost use Rattle.ring_rule.specs.Marks.{new_writer_mark, new_reader_mark};
 
-use crate::cut::Seating;
+use crate::splits::Seating;
 use crate::{Lane, ReaderSeat, RingSeat, RingShared, Seats, WriterSeat};
 use pr_base::{Deal, NoMemory};
 use std::alloc::Global;
@@ -34,7 +34,7 @@ pub fn empty_lanes(
 }
 
 /// Cuts a seat for each reader from the writer's, and puts them into a list that has room for them.
-pub fn deal_seats<'t, D: Deal>(
+pub fn cut_seats<'t, D: Deal>(
     mut list: Vec<ReaderSeat<'t, D>>,
     shared: &'t RingShared<D>,
     mut seat: RingSeat,
