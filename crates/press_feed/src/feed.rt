@@ -56,15 +56,16 @@ impl<'j> Model for Feed<'j> {
 }
 
 impl<'j> Feed<'j> {
-    /// Takes all buffers. Each image is tested again, and passes as it did when the job was prepared. Rows are
-    /// made in the thread that asks for them.
+    /// Takes all buffers. The images of the first page are tested again, and pass as they did when the job was
+    /// prepared. Rows are made in the thread that asks for them.
     pub fn open(alloc: Global, job: &'j Job) -> Result<Feed<'j>, NoMemory>
         ensures { IfOk result (λ feed. feed ≡ record { job = job.now; next = 0 }) }
     {
         Feed::with_threads(alloc, job, 0)
     }
 
-    /// The same with bands that as many threads make as there are processors.
+    /// The same with bands that a thread for each processor makes, eight at most. There are none on one
+    /// processor, where an ink is diffused, and where all rows have few bytes.
     pub fn open_wide<T: Threads>(rt: &T, alloc: Global, job: &'j Job) -> Result<Feed<'j>, NoMemory>
         ensures { IfOk result (λ feed. feed ≡ record { job = job.now; next = 0 }) }
     {
@@ -121,8 +122,8 @@ fn make_row(maker: &mut RowMaker<'_>, band: &Band<'_>, n: u64, row: &mut [u8])
     }
 }
 
-/// How many threads make the bands of a job: none, where each row is as well made when it is asked for. Where
-/// an ink is diffused a row waits for the row above.
+/// How many threads make the bands of a job: none, where each row is as well made when it is asked for, as on
+/// one processor. Where an ink is diffused a row waits for the row above.
 fn threads_for<T: Threads>(rt: &T, job: &Job) -> usize
     ensures { result ≤ 8 }
 {

@@ -1,6 +1,6 @@
 // The feed of a job: all its plate rows in order, painted, toned, limited, screened and packed when they are
-// asked for, or before, a band of them by as many threads as there are processors. What a job is, its tests
-// and what its rows are stand in press_job.
+// asked for, or before, a band of them by several threads at once. What a job is, its tests and what its rows
+// are stand in press_job.
 #![tactic(auto)]
 
 mod band;

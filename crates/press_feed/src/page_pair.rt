@@ -45,8 +45,8 @@ impl<'j> Model for PagePair<'j> {
 impl<'j> PagePair<'j> {
     ghost use Rattle.press_feed.specs.Pair.{of_group};
 
-    /// Takes the room for the pages. Each image is tested again, and passes as it did when the job was
-    /// prepared.
+    /// Takes the room for the pages. The images of the first page are tested again, and pass as they did when
+    /// the job was prepared.
     pub(crate) fn open(alloc: Global, job: &'j Job) -> Result<PagePair<'j>, NoMemory>
         ensures pages { IfOk result (λ pair. pair
             ≡ record { job = job.now; left = 0; right = 0; shown = 0 }) }

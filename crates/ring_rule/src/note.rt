@@ -10,7 +10,8 @@ use pr_base::Deal;
 use std::marker::{Model, PhantomData};
 use std::snapshot::Snapshot;
 
-/// A note of the writer: its head, and which readers it saw leave. Contracts see its table and what it says.
+/// A note of the writer: its head, and what it knew of each reader's cursor. Contracts see its table and what
+/// it says.
 #[derive(Drop)]
 pub struct HeadNoteSeat<D: Deal> {
     seat: RingSeat,

@@ -6,9 +6,9 @@ ghost use Rattle.ring_rule.specs.Plays.{reader_in, saw_head, took, gave, went_on
 ghost use Rattle.ring_rule.specs.Key.{key_ring};
 ghost use Rattle.ring_rule.specs.Seats.{IsReaderSeat};
 
-use crate::splits::{Meeting, Noting};
 use crate::lane::slot_number;
 use crate::play::{Advances, Gives, Leaves, Sees, Takes};
+use crate::splits::{Meeting, Noting};
 use crate::{CursorNoteSeat, HeadNoteSeat, Lane, LaneRow, RingSeat, RingShared};
 use pr_base::Deal;
 use std::marker::Model;

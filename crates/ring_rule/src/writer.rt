@@ -6,10 +6,10 @@ ghost use Rattle.ring_rule.specs.Plays.{writer_in, looked_at, published, filled_
 ghost use Rattle.ring_rule.specs.Key.{key_ring};
 ghost use Rattle.ring_rule.specs.Seats.{IsWriterSeat};
 
-use crate::splits::{Meeting, Noting};
 use crate::lane::slot_number;
 use crate::pick::pick;
 use crate::play::{Looks, Places, Publishes};
+use crate::splits::{Meeting, Noting};
 use crate::{CursorNoteSeat, HeadNoteSeat, RingSeat, RingShared};
 use pr_base::Deal;
 use std::marker::{Brand, Model};

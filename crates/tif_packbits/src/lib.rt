@@ -1,5 +1,6 @@
 // PackBits, the byte-wise packing of TIFF 6.0, Section 9, both ways: an unpacker that gives the
-// expansion of packed bytes piece by piece, and the packing of a row. Nothing here takes memory.
+// expansion of packed bytes piece by piece, the packing of a row, and frames, in which packed rows of any
+// length have one. Nothing here takes memory.
 #![tactic(auto)]
 
 mod bytes;

@@ -83,7 +83,7 @@ first_fault-both (Some one) two tests none = absurd (cc)
 -- where they fail, the first of them is the fault
 pub strip_fault-fields : (shape : Shape) (bytes : List ℕ) (fault : TagFault) → field_fault shape bytes ≡ Some fault → strip_fault shape bytes ≡ Some fault
 unfolding strip_fault
-strip_fault-fields shape bytes fault fails = first_fault-two (fault_of_field shape bytes strip_offsets) (fault_of_field shape bytes strip_byte_counts) _ fault fails
+strip_fault-fields shape bytes fault fails = first_fault-two (fault_of_field shape bytes strip_offsets) (fault_of_field shape bytes strip_byte_counts) (map (fault_of_strip shape bytes) (range_with_len 0 (strip_count shape))) fault fails
 
 -- where they pass, the strips decide
 pub strip_fault-strips : (shape : Shape) (bytes : List ℕ) → field_fault shape bytes ≡ None
