@@ -40,7 +40,8 @@ impl<'j> Model for Band<'j> {
 impl<'j> Band<'j> {
     ghost use Rattle.press_feed.specs.Band.{IsFrameAt, frame_bytes};
 
-    /// A band without frames, which so many threads will make. Without threads it stays so. Takes all buffers.
+    /// A band without frames, which so many threads will make. Without threads it stays so. Takes all
+    /// buffers.
     pub(crate) fn open(
         alloc: Global,
         job: &'j Job,

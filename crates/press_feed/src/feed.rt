@@ -56,8 +56,8 @@ impl<'j> Model for Feed<'j> {
 }
 
 impl<'j> Feed<'j> {
-    /// Takes all buffers. The images of the first page are tested again, and pass as they did when the job was
-    /// prepared. Rows are made in the thread that asks for them.
+    /// Takes all buffers. The images of the first page are tested again, and pass as they did when the job
+    /// was prepared. Rows are made in the thread that asks for them.
     pub fn open(alloc: Global, job: &'j Job) -> Result<Feed<'j>, NoMemory>
         ensures { IfOk result (λ feed. feed ≡ record { job = job.now; next = 0 }) }
     {

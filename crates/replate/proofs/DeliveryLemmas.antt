@@ -4,7 +4,7 @@ use Rattle.std.specs.Prelude.{All, count_by, drop, slice_get}
 use Rattle.std.specs.List.{range_with_len}
 use Rattle.std.specs.Option.{option_map}
 use Rattle.std.proofs.lemmas.Bool.{cases_lt, eq-eqb, eqb-true, false≢true}
-use Rattle.std.proofs.lemmas.List.{get_or-map, length-map, map-append}
+use Rattle.std.proofs.lemmas.List.{get_or-map, length-map}
 use Rattle.std.proofs.lemmas.List.FromFn.{get_or-range_with_len, length-map-range_with_len, length-range_with_len}
 use Rattle.std.proofs.lemmas.List.Sums.{count_by-le-length}
 use Rattle.std.proofs.lemmas.Option.{get_or_from_slice_get, same_Some, slice_get-get_or, slice_get-map, slice_get_within}
@@ -25,7 +25,7 @@ use Rattle.site_agent.specs.Racks.{AllTellSlots, AreIdle, KeepCounts, TellsSlots
 use Rattle.site_agent.specs.Site.{SiteData}
 use Rattle.site_agent.specs.Stands.{grown}
 use Rattle.site_agent.proofs.Parts.{length-kept, picked_at_end, picked_at_start, picked_is}
-use Rattle.site_agent.proofs.Racks.{counts_wide, idle_front, idle_is, slice_get-front}
+use Rattle.site_agent.proofs.Racks.{idle_is, slice_get-front}
 use Rattle.site_agent.proofs.Runs.{finished-end}
 use Rattle.replate.specs.declared.maker.Maker.{Maker}
 use Rattle.replate.specs.declared.remade.RemadeEnd.{RemadeEnd}
@@ -255,16 +255,6 @@ remade_fits making n before now makers ends served none are = record {
 
 -- ---- the racks of the sites, and those behind them
 
-wide : {X : Type 0} (tell : X → RackTells) (racks front rest : List X) → racks ≡ front ++ rest → map tell racks ≡ map tell front ++ map tell rest
-wide tell racks front rest is = ap (map tell) is ∙ map-append tell front rest
-
--- what holds of the sites' racks holds where others stand behind them
-over_wide : {X : Type 0} (tell : X → RackTells) (P : List RackTells → List RackTells → Type 0) (racks racks' front front' rest : List X) → racks ≡ front ++ rest → racks' ≡ front' ++ rest
-    → P (map tell front ++ map tell rest) (map tell front' ++ map tell rest) → P (map tell racks) (map tell racks')
-over_wide tell P racks racks' front front' rest is is' p =
-    subst (λ (new : List RackTells). P (map tell racks) new) (sym (wide tell racks' front' rest is'))
-    (subst (λ (old : List RackTells). P old (map tell front' ++ map tell rest)) (sym (wide tell racks front rest is)) p)
-
 pub fits_wide : {X : Type 0} (tell : X → RackTells) (making : Making) (racks racks' front front' rest : List X) (ends : List RemadeEnd) → racks ≡ front ++ rest → racks' ≡ front' ++ rest → length front ≡ length making.plan.sites
     → length front' ≡ length front → RemadeFits making (map tell front) (map tell front') ends → RemadeFits making (map tell racks) (map tell racks') ends
 fits_wide tell making racks racks' front front' rest ends is is' long same fits =
@@ -289,12 +279,3 @@ part_wide tell making racks racks' front front' rest is is' long same part =
           (sym (slice_get-front (map tell front) (map tell rest) site (omega (arith, less, long, length-map front tell))) ∙ b)
           (sym (slice_get-front (map tell front') (map tell rest) site (omega (arith, less, long, same, length-map front' tell))) ∙ r);
     })
-
-pub counts_keep_wide : {X : Type 0} (tell : X → RackTells) (racks racks' front front' rest : List X) → racks ≡ front ++ rest → racks' ≡ front' ++ rest → length front' ≡ length front → KeepCounts (map tell front) (map tell front')
-    → KeepCounts (map tell racks) (map tell racks')
-counts_keep_wide tell racks racks' front front' rest is is' same keep =
-    over_wide tell KeepCounts racks racks' front front' rest is is' (counts_wide (map tell front) (map tell front') (map tell rest) (length-map front' tell ∙ same ∙ sym (length-map front tell)) keep)
-
-pub front_idle : {X : Type 0} (tell : X → RackTells) (count : ℕ) (racks front rest : List X) → racks ≡ front ++ rest → length front ≡ count → AreIdle count (map tell racks) → AreIdle count (map tell front)
-front_idle tell count racks front rest is long idle =
-    idle_front count (map tell front) (map tell rest) (length-map front tell ∙ long) (subst (λ (list : List RackTells). AreIdle count list) (wide tell racks front rest is) idle)

@@ -1,9 +1,8 @@
 -- A site of a delivery and a row: it goes on, it leaves, or its rack wants memory.
-use Rattle.std.proofs.Common.{◌≡◌, ℕ, ◌+◌, ◌<◌, ◌≤◌, true, false, List, length, map, take, Some, IfSome, refl, sym, ap, subst, ◌∙◌, inl, inr, ⊎_elim, arith}
+use Rattle.std.proofs.Common.{◌≡◌, ℕ, ◌+◌, ◌<◌, true, false, List, length, map, take, Some, IfSome, refl, sym, ap, subst, ◌∙◌, arith}
 use Rattle.std.specs.Prelude.{slice_get}
 use Rattle.std.proofs.lemmas.List.{length-map}
 use Rattle.std.proofs.lemmas.Option.{get_or_from_slice_get, slice_get_within}
-use Rattle.pr_base.specs.Count.{Rose}
 use Rattle.pr_base.specs.Row.{row_size}
 use Rattle.ring_lanes.specs.Held.{HeldRow}
 use Rattle.ring_lanes.specs.declared.source.Source.{Source}
@@ -139,10 +138,6 @@ made_on frames n old new held maker next made kept' is row keeps = record {
       subst (λ (e : RemadeEnd). ServedBy making site (n + 1) before new next e) (sym is)
       (goes_further making frames site n before old new held maker.site next made kept' carries row keeps (going_of making site n before old maker.site maker.end made kept' is served));
 }
-
--- a count that rose since then rose since before
-rose_since : (before old now : ℕ) → before ≤ old → Rose old now → Rose before now
-rose_since before old now from rose = ⊎_elim (λ more. inl (omega (arith, from, more))) (λ last. inr last) rose
 
 -- the site left
 leaves_at : (making : Making) (frames : List (List ℕ)) (site n : ℕ) (before old new : RackTells) (held : HeldRow) (going next : SiteData) (made kept' : ℕ) (cause : LeftCause) → Carries making frames

@@ -1,31 +1,14 @@
 -- A row that is handed to each site in turn.
-use Rattle.std.proofs.Common.{◌≡◌, ◌≢◌, ℕ, zero, suc, ◌+◌, ◌<◌, ◌≤◌, List, [], ◌∷◌, length, set, get_or, Some, Result, Ok, Err, IfOk, OnErr, refl, sym, ap, subst, ◌∙◌, ⊎_elim, arith}
+use Rattle.std.proofs.Common.{◌≡◌, ℕ, zero, suc, ◌+◌, ◌<◌, ◌≤◌, List, [], ◌∷◌, length, set, get_or, Some, refl, sym, ap, subst, ◌∙◌, ⊎_elim, arith}
 use Rattle.std.specs.Prelude.{slice_get}
 use Rattle.std.proofs.lemmas.Bool.{cases_lt}
-use Rattle.std.proofs.lemmas.List.{get_or-set_other, get_or-set_same, length-set}
-use Rattle.std.proofs.lemmas.Option.{get_or_from_slice_get, slice_get-get_or, slice_get_within}
+use Rattle.std.proofs.lemmas.Option.{get_or_from_slice_get, slice_get_within}
 use Rattle.pr_rack.specs.Told.{RackTells}
 use Rattle.site_agent.proofs.Holding.{get-set_other}
+use Rattle.site_agent.proofs.Racks.{set-aside, set-here}
 use Rattle.replate.specs.declared.maker.Maker.{Maker}
 use Rattle.replate.specs.Making.{AllMade, AllSomeServed, AllStopped, HasPart, Made, SomeServed, Stopped}
 use Rattle.replate.proofs.MakerLemmas.{served_part}
-
--- ---- answers
-
--- what holds of the value holds, if what it follows from does
-pub if_ok : {T E : Type 0} (result : Result T E) (P Q : T → Type 0) → ((value : T) → P value → Q value) → IfOk result P → IfOk result Q
-if_ok (Ok value) P Q f p = f value p
-if_ok (Err fault) P Q f p = tt
-
--- what holds where it is a refusal holds, if what it follows from does
-pub if_err : {T E : Type 0} (result : Result T E) (P Q : Type 0) → (P → Q) → OnErr result P → OnErr result Q
-if_err (Ok value) P Q f p = tt
-if_err (Err fault) P Q f p = f p
-
--- what holds anyway holds where the answer is a refusal
-pub on_err : {T E : Type 0} (result : Result T E) (P : Type 0) → P → OnErr result P
-on_err (Ok value) P p = tt
-on_err (Err fault) P p = p
 
 -- ---- lists
 
@@ -33,16 +16,6 @@ pub there_is : {X : Type 0} (xs : List X) (i : ℕ) → i < length xs → (x : X
 there_is [] i less = absurd (omega (arith, less))
 there_is (x ∷ xs) zero less = (x, refl)
 there_is (x ∷ xs) (suc i) less = there_is xs i (omega (arith, less))
-
-set-here : {X : Type 0} (xs : List X) (i : ℕ) (x y : X) → slice_get (set xs i x) i ≡ Some y → x ≡ y
-set-here xs i x y there =
-    let within : i < length xs = omega (arith, slice_get_within (set xs i x) i y there, length-set xs i x) in
-    sym (get_or-set_same xs i x y within) ∙ get_or_from_slice_get (set xs i x) i y y there
-
-set-aside : {X : Type 0} (xs : List X) (i j : ℕ) (x y : X) → j ≢ i → slice_get (set xs i x) j ≡ Some y → slice_get xs j ≡ Some y
-set-aside xs i j x y other there =
-    let less : j < length xs = omega (arith, slice_get_within (set xs i x) j y there, length-set xs i x) in
-    slice_get-get_or xs j y less ∙ ap Some (sym (get_or-set_other xs i j x y other) ∙ get_or_from_slice_get (set xs i x) j y y there)
 
 -- ---- a row that is handed on
 

@@ -11,7 +11,7 @@ use Rattle.plan_json.specs.Plan.{IsPlan}
 use Rattle.plan_rows.specs.Groups.{groups_of}
 use Rattle.plan_rows.specs.Rows.{RowPlanData, places_in, rows_of}
 use Rattle.press_job.specs.Rows.{plate_frames, plate_rows}
-use Rattle.press_job.proofs.FrameLemmas.{length-plate_frames}
+use Rattle.press_job.proofs.FrameLemmas.{are_frames, length-plate_frames, rows_are}
 use Rattle.ring_rule.specs.declared.view.RingNumbers.{RingNumbers}
 use Rattle.ring_rule.specs.Views.{ring_of}
 use Rattle.ring_lanes.specs.Reader.{ReaderState, new_reader_state}
@@ -28,7 +28,6 @@ use Rattle.ring_run.specs.Keyed.{AllKeysFit, AreFreshKeys, IsFreshKey, KeysFit}
 use Rattle.ring_run.specs.Round.{AreEndsOf, AreTold, IsTold}
 use Rattle.ring_run.specs.Seat.{SeatData, all_readers, are_going, is_going}
 use Rattle.ring_run.specs.Served.{ends_in}
-use Rattle.ring_run.proofs.JobRows.{are_frames, rows_are}
 use Rattle.ring_run.proofs.Rounds.{EndsRounded, more_end, more_in, none_at}
 use Rattle.ring_run.proofs.Running.{AreNew, none_left, over_end}
 use Rattle.ring_run.proofs.Serving.{fewer, less}

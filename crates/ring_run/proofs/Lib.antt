@@ -1,4 +1,3 @@
-pub mod Results
 mod Serving
 mod Kept
 mod Running

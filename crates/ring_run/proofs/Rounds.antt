@@ -4,15 +4,15 @@ use Rattle.std.specs.Prelude.{nat_lt, slice_get}
 use Rattle.std.specs.List.{list_any}
 use Rattle.std.specs.Option.{option_map}
 use Rattle.std.proofs.lemmas.Bool.{cases_Bool, cases_lt, ltb-false, ltb-true}
-use Rattle.std.proofs.lemmas.List.{get_or-set_other, get_or-set_same, length-map, length-set}
-use Rattle.std.proofs.lemmas.Option.{get_or_from_slice_get, same_Some, slice_get-get_or, slice_get-map, slice_get_within}
+use Rattle.std.proofs.lemmas.List.{length-map}
+use Rattle.std.proofs.lemmas.Option.{same_Some, slice_get-get_or, slice_get-map, slice_get_within}
 use Rattle.ring_rule.specs.declared.view.RingNumbers.{RingNumbers}
 use Rattle.ring_rule.specs.Views.{cursor_in}
 use Rattle.ring_lanes.specs.Note.{CursorNoteState, told_by_reader}
 use Rattle.ring_lanes.specs.Reader.{ReaderState}
 use Rattle.ring_lanes.specs.Writer.{HasRoom, IsLoaded, OthersStand, WriterState, cursor_known}
 use Rattle.pr_rack.specs.Told.{RackTells}
-use Rattle.site_agent.proofs.Racks.{slice_get-behind, slice_get-front}
+use Rattle.site_agent.proofs.Racks.{set-aside, set-here, slice_get-behind, slice_get-front}
 use Rattle.ring_turns.specs.Feeding.{Fed}
 use Rattle.ring_turns.specs.Pairs.{AreTurned}
 use Rattle.ring_run.specs.declared.site.RunSite.{RunSite}
@@ -23,16 +23,7 @@ use Rattle.ring_run.specs.Served.{AreSomeSeated, Carries, IsSeated, IsServed, So
 
 -- ---- lists
 
--- what is read of a list after a write
-pub set-same : {X : Type 0} (xs : List X) (i : ℕ) (x y : X) → slice_get (set xs i x) i ≡ Some y → i < length xs → x ≡ y
-set-same xs i x y there within = sym (get_or-set_same xs i x y within) ∙ get_or_from_slice_get (set xs i x) i y y there
-
-pub set-other : {X : Type 0} (xs : List X) (i j : ℕ) (x y : X) → j ≢ i → slice_get (set xs i x) j ≡ Some y → slice_get xs j ≡ Some y
-set-other xs i j x y other there =
-    let less : j < length xs = omega (arith, slice_get_within (set xs i x) j y there, length-set xs i x) in
-    slice_get-get_or xs j y less ∙ ap Some (sym (get_or-set_other xs i j x y other) ∙ get_or_from_slice_get (set xs i x) j y y there)
-
--- what stands behind it stays
+-- what stands behind what is written stays
 set-stays : {X : Type 0} (xs : List X) (i j : ℕ) (x : X) → i < j → slice_get (set xs i x) j ≡ slice_get xs j
 set-stays [] i j x less = refl
 set-stays (y ∷ xs) zero zero x less = absurd (omega (arith, less))
@@ -176,10 +167,10 @@ pub told_more : {X : Type 0} (told : X → X → Type 0) (were are : List X) (i 
 told_more told were are i x within upto here = record {
   done = λ j was is less wt it.
       ⊎_elim
-      (λ (before : j < i). upto.done j was is before wt (set-other are i j x is (λ e. omega (arith, e, before)) it))
+      (λ (before : j < i). upto.done j was is before wt (set-aside are i j x is (λ e. omega (arith, e, before)) it))
       (λ (from : i ≤ j).
       let index : j ≡ i = omega (arith, from, less) in
-      let is-is : x ≡ is = set-same are i x is (ap (slice_get (set are i x)) (sym index) ∙ it) within in
+      let is-is : x ≡ is = set-here are i x is (ap (slice_get (set are i x)) (sym index) ∙ it) in
       let was-at : slice_get were i ≡ Some was = ap (slice_get were) (sym index) ∙ wt in
       subst (λ (y : _). told was y) is-is (here was was-at (upto.rest i (let e : i ≤ i = omega arith in e) ∙ was-at)))
       (cases_lt j i);

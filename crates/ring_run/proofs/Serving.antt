@@ -1,5 +1,5 @@
 -- A site of a run and its turn: it goes on, it leaves, or want of memory stops it.
-use Rattle.std.proofs.Common.{◌≡◌, ℕ, ◌+◌, ◌-◌, ◌<◌, ◌≤◌, inl, inr, Bool, true, false, if◌then◌else◌, List, length, map, take, Option, Some, None, IfSome, refl, sym, ap, subst, ◌∙◌, ⊎_elim, arith}
+use Rattle.std.proofs.Common.{◌≡◌, ℕ, ◌+◌, ◌-◌, ◌<◌, ◌≤◌, inl, inr, Bool, true, false, if◌then◌else◌, List, length, map, take, Option, Some, None, IfSome, refl, sym, ap, subst, ◌∙◌, arith}
 use Rattle.std.specs.Prelude.{is_some}
 use Rattle.std.specs.Option.{option_map}
 use Rattle.pr_base.specs.Count.{Rose}
@@ -115,10 +115,6 @@ left_once : (call : RackCall) (n : ℕ) (source : Source) (old new : Option (Lis
 left_once Begin n source old new took = inl took
 left_once Row n source old new took = inl took
 left_once Finish n source old new took = inr took
-
--- a count that rose since then rose since before
-rose_since : (before old now : ℕ) → before ≤ old → Rose old now → Rose before now
-rose_since before old now from rose = ⊎_elim (λ more. inl (omega (arith, from, more))) (λ last. inr last) rose
 
 -- it leaves at a row of its own
 pub leaves : (delivery : Delivery) (reader : ReaderState) (n : ℕ) (before old new : RackTells) (going : SiteData) (cause : LeftCause) → Carries delivery reader.ring → cause.row < length (row_places delivery.plan)

@@ -10,8 +10,8 @@ use ring_lanes::{Full, Writer, pause};
 /// How a turn of the writer ended.
 #[derive(Clone, Copy, Debug, PartialEq, Eq)]
 pub enum FeedEnd {
-    /// Reader `site` has yet to close row `at`, in whose place the next one will lie. So many looks of the turn
-    /// found their place taken as the caller's patience allows.
+    /// Reader `site` has yet to close row `at`, in whose place the next one will lie. So many looks of the
+    /// turn found their place taken as the caller's patience allows.
     Waiting { site: u32, at: u64 },
     /// All rows are published, or the writer knows that every reader left.
     Done,
@@ -26,15 +26,15 @@ const LONG_WAITS: u32 = 64;
 /// The pauses of such a wait, some three microseconds: in them a site takes a row or some short ones.
 const LONG_PAUSES: u32 = 16;
 
-/// How many looks in vain count as behind a row that was published when the turn had made `waits` of them. Where
-/// it made some, another processor took rows meanwhile, and the next waits may be long; else none is.
+/// How many looks in vain count as behind a row that was published when the turn had made `waits` of them.
+/// Where it made some, another processor took rows meanwhile, and the next waits may be long; else none is.
 fn vain_behind(waits: u32) -> u32 {
     if waits > 0 { 0 } else { LONG_WAITS }
 }
 
 /// Waits behind the look that follows `vain` ones in vain. While rows are taken the turn goes on for as many
-/// rows as its patience has looks. Where none is it ends after some hundreds of microseconds, since few of its
-/// waits are long.
+/// rows as its patience has looks. Where none is it ends after some hundreds of microseconds, since few of
+/// its waits are long.
 fn wait(vain: u32, look: u32) {
     let pauses = if vain < LONG_WAITS { LONG_PAUSES } else { 1 };
     for _pause in 0..pauses {

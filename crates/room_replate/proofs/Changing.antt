@@ -21,7 +21,7 @@ use Rattle.replate.specs.Picks.{MustMake, PicksData, dropped_of, is_dropped, is_
 use Rattle.replate.specs.Plates.{IsPlateOf, PlateAt, all_plates}
 use Rattle.replate.specs.Remade.{AreRowsOf, RemadeFits, RemadePart, by_picks}
 use Rattle.replate.proofs.PlateLemmas.{some_plate}
-use Rattle.replate.proofs.RowLemmas.{if_err, if_ok}
+use Rattle.site_agent.proofs.Results.{if_err, if_ok}
 use Rattle.room_replate.specs.Change.{ArePicks, DeliversPicked, DeliversPickedPart, IsPlaced, compared, Change}
 use Rattle.room_replate.specs.Remade.{dropped_lines, remade_text, text_with}
 use Rattle.room_base.proofs.Rows.{frames_in, over_job}

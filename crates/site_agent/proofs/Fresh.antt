@@ -1,13 +1,14 @@
 -- A site before the first row, and the groups of a plan.
-use Rattle.std.proofs.Common.{◌≡◌, ℕ, zero, suc, ◌+◌, ◌<◌, ◌≤◌, List, [], ◌∷◌, length, get_or, replicate, sym, ap, subst, ◌∙◌, arith}
+use Rattle.std.proofs.Common.{◌≡◌, ℕ, ◌+◌, ◌<◌, List, [], ◌∷◌, length, get_or, replicate, sym, ap, subst, ◌∙◌, arith}
 use Rattle.std.specs.Prelude.{All, filter}
 use Rattle.std.specs.List.{flat_map, range_with_len}
 use Rattle.std.specs.Option.{option_map_or}
 use Rattle.std.proofs.lemmas.List.{get_or-map, get_or-replicate, length-map, length-replicate}
-use Rattle.std.proofs.lemmas.List.Elements.{All-append, All-nil, All-cons, All-head, All-tail}
+use Rattle.std.proofs.lemmas.List.Elements.{All-nil, All-cons, All-head, All-tail}
 use Rattle.plan_json.specs.Data.{PlanData, plate_height}
 use Rattle.plan_rows.specs.declared.group.Group.{Group}
 use Rattle.plan_rows.specs.Groups.{group_of, is_first, site_pages, groups_of, section_groups, pair_groups, numbered, row_count}
+use Rattle.plan_rows.proofs.GroupLemmas.{all_pieces}
 use Rattle.tif_plate.specs.Plate.{strip_count}
 use Rattle.site_agent.specs.declared.slot.Slot.{Slot}
 use Rattle.site_agent.specs.Job.{SiteJob, IsJob}
@@ -18,11 +19,6 @@ use Rattle.site_agent.proofs.Opens.{plate_at, closed, closed-cases, finished-is}
 use Rattle.std.proofs.Common.{inl}
 
 -- ---- groups
-
-all-pieces : {X : Type 0} (P : X → Type 0) (f : ℕ → List X) (from n : ℕ) → ((k : ℕ) → from ≤ k → k < from + n → All P (f k)) → All P (flat_map f (range_with_len from n))
-all-pieces P f from zero each = All-nil P
-all-pieces P f from (suc n) each =
-    All-append P (f from) (flat_map f (range_with_len (from + 1) n)) (each from (omega arith) (omega arith)) (all-pieces P f (from + 1) n (λ k low high. each k (omega arith) (omega arith)))
 
 abbrev In : PlanData → Group → Type 0
 In plan group = group.section < length plan.sections
@@ -36,7 +32,7 @@ pair-in plan section pair within k d less =
 
 section-in : (plan : PlanData) (section : ℕ) → section < length plan.sections → All (In plan) (section_groups plan section)
 unfolding section_groups
-section-in plan section within = all-pieces (In plan) (pair_groups plan section) 1 _ (λ pair low high. pair-in plan section pair within)
+section-in plan section within = all_pieces (In plan) (pair_groups plan section) 1 _ (λ pair low high. pair-in plan section pair within)
 
 numbered-in : (plan : PlanData) (height from : ℕ) (groups : List Group) → All (In plan) groups → All (In plan) (numbered height from groups)
 numbered-in plan height from [] all = All-nil (In plan)
@@ -46,7 +42,7 @@ numbered-in plan height from (group ∷ groups) all =
 -- each group is of a section of the plan
 pub groups-in : (plan : PlanData) → All (λ group. group.section < length plan.sections) (groups_of plan)
 unfolding groups_of
-groups-in plan = numbered-in plan (plate_height plan) 0 (flat_map (section_groups plan) (range_with_len 0 (length plan.sections))) (all-pieces (In plan) (section_groups plan) 0 (length plan.sections) (λ section low high. section-in plan section (omega arith)))
+groups-in plan = numbered-in plan (plate_height plan) 0 (flat_map (section_groups plan) (range_with_len 0 (length plan.sections))) (all_pieces (In plan) (section_groups plan) 0 (length plan.sections) (λ section low high. section-in plan section (omega arith)))
 
 -- ---- the first row
 

@@ -9,6 +9,7 @@ use Rattle.std.proofs.lemmas.List.Elements.{All-append, All-nil}
 use Rattle.std.proofs.lemmas.List.Sums.{sum_by-cons}
 use Rattle.pr_base.specs.declared.ink.Ink.{Ink}
 use Rattle.pr_base.specs.declared.ink.Ink.TheVariants.{C, M, Y, K, S}
+use Rattle.std.proofs.lemmas.Simd.{map-map}
 use Rattle.plan_json.specs.Data.{PlanData, plate_height}
 use Rattle.pr_base.specs.Number.{IsWithin}
 use Rattle.plan_json.specs.Plan.{IsPlan}
@@ -129,10 +130,6 @@ inside-wider height from to low high plate least most inside =
     let a : from ≤ plate.first = inside.least in
     let b : last_in height plate < to = inside.most in
     record { least = omega arith; most = omega arith; is = inside.is }
-
-map-map : {X Y Z : Type 0} (f : Y → Z) (g : X → Y) (xs : List X) → map f (map g xs) ≡ map (λ x. f (g x)) xs
-map-map f g [] = refl
-map-map f g (x ∷ xs) = ap (λ ys. f (g x) ∷ ys) (map-map f g xs)
 
 -- those of one more group
 list-with : (plan : PlanData) (out : List ℕ) (site : ℕ) (group : Group) (groups : List Group)

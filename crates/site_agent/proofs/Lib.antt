@@ -20,4 +20,5 @@ pub mod Going
 pub mod Drawing
 pub mod Turning
 pub mod Racks
+pub mod Results
 pub mod Parts

@@ -1,9 +1,11 @@
 -- Lists of what racks tell: what holds of each, and racks with others behind them.
-use Rattle.std.proofs.Common.{◌≡◌, ℕ, zero, suc, ◌-◌, ◌<◌, ◌≤◌, true, false, List, [], ◌∷◌, ◌++◌, length, map, Option, Some, None, IfSome, refl, sym, ap, subst, ◌∙◌, ⊎_elim, arith}
+use Rattle.std.proofs.Common.{◌≡◌, ◌≢◌, ℕ, zero, suc, ◌-◌, ◌<◌, ◌≤◌, true, false, List, [], ◌∷◌, ◌++◌, length, map, set, Option, Some, None, IfSome, refl, sym, ap, subst, ◌∙◌, ⊎_elim, inl, inr, arith}
 use Rattle.std.specs.Prelude.{is_some, slice_get}
 use Rattle.std.specs.Option.{option_map}
 use Rattle.std.proofs.lemmas.Bool.{cases_lt}
-use Rattle.std.proofs.lemmas.Option.{same_Some, slice_get-map}
+use Rattle.std.proofs.lemmas.List.{get_or-set_other, get_or-set_same, length-map, length-set, map-append}
+use Rattle.std.proofs.lemmas.Option.{get_or_from_slice_get, same_Some, slice_get-get_or, slice_get-map, slice_get_within}
+use Rattle.pr_base.specs.Count.{Rose}
 use Rattle.pr_rack.specs.Rack.{Plate, Slots, none_begun}
 use Rattle.pr_rack.specs.Told.{RackTells}
 use Rattle.site_agent.specs.Racks.{AreIdle, KeepCounts, TellsSlots}
@@ -20,6 +22,17 @@ pub slice_get-behind : {X : Type 0} (xs ys : List X) (i : ℕ) → length xs ≤
 slice_get-behind [] ys i more = ap (slice_get ys) (let e : i ≡ i - 0 = omega arith in e)
 slice_get-behind (x ∷ xs) ys zero more = absurd (omega (arith, more))
 slice_get-behind (x ∷ xs) ys (suc i) more = slice_get-behind xs ys i (omega (arith, more)) ∙ ap (slice_get ys) (let e : i - length xs ≡ suc i - suc (length xs) = omega arith in e)
+
+-- what is read of a list after a write
+pub set-here : {X : Type 0} (xs : List X) (i : ℕ) (x y : X) → slice_get (set xs i x) i ≡ Some y → x ≡ y
+set-here xs i x y there =
+    let within : i < length xs = omega (arith, slice_get_within (set xs i x) i y there, length-set xs i x) in
+    sym (get_or-set_same xs i x y within) ∙ get_or_from_slice_get (set xs i x) i y y there
+
+pub set-aside : {X : Type 0} (xs : List X) (i j : ℕ) (x y : X) → j ≢ i → slice_get (set xs i x) j ≡ Some y → slice_get xs j ≡ Some y
+set-aside xs i j x y other there =
+    let less : j < length xs = omega (arith, slice_get_within (set xs i x) j y there, length-set xs i x) in
+    slice_get-get_or xs j y less ∙ ap Some (sym (get_or-set_other xs i j x y other) ∙ get_or_from_slice_get (set xs i x) j y y there)
 
 -- ---- the start
 
@@ -66,7 +79,22 @@ counts_stay before = record {
   each = λ site old new b r. subst (λ (now : RackTells). old.faults ≤ now.faults) (same_Some old new (sym b ∙ r)) (let e : old.faults ≤ old.faults = omega arith in e);
 }
 
+-- a count that rose since then rose since before
+pub rose_since : (before old now : ℕ) → before ≤ old → Rose old now → Rose before now
+rose_since before old now from rose = ⊎_elim (λ more. inl (omega (arith, from, more))) (λ last. inr last) rose
+
 -- ---- racks and others behind them
+
+-- what those racks tell, and those behind them
+pub wide : {X : Type 0} (tell : X → RackTells) (racks front rest : List X) → racks ≡ front ++ rest → map tell racks ≡ map tell front ++ map tell rest
+wide tell racks front rest is = ap (map tell) is ∙ map-append tell front rest
+
+-- what holds of the racks in front holds where others stand behind them
+pub over_wide : {X : Type 0} (tell : X → RackTells) (P : List RackTells → List RackTells → Type 0) (racks racks' front front' rest : List X) → racks ≡ front ++ rest → racks' ≡ front' ++ rest
+    → P (map tell front ++ map tell rest) (map tell front' ++ map tell rest) → P (map tell racks) (map tell racks')
+over_wide tell P racks racks' front front' rest is is' p =
+    subst (λ (new : List RackTells). P (map tell racks) new) (sym (wide tell racks' front' rest is'))
+    (subst (λ (old : List RackTells). P old (map tell front' ++ map tell rest)) (sym (wide tell racks front rest is)) p)
 
 pub counts_wide : (before now rest : List RackTells) → length now ≡ length before → KeepCounts before now → KeepCounts (before ++ rest) (now ++ rest)
 counts_wide before now rest same keep = record {
@@ -84,3 +112,14 @@ pub idle_front : (count : ℕ) (front rest : List RackTells) → length front �
 idle_front count front rest long idle = record {
   each = λ site told less there. idle.each site told less (slice_get-front front rest site (omega (arith, less, long)) ∙ there);
 }
+
+-- so the counts of all racks are kept where those of the ones in front are
+pub all_keep : {X : Type 0} (tell : X → RackTells) (racks racks' front front' rest : List X) → racks ≡ front ++ rest → racks' ≡ front' ++ rest → length front' ≡ length front → KeepCounts (map tell front) (map tell front')
+    → KeepCounts (map tell racks) (map tell racks')
+all_keep tell racks racks' front front' rest is is' same keep =
+    over_wide tell KeepCounts racks racks' front front' rest is is' (counts_wide (map tell front) (map tell front') (map tell rest) (length-map front' tell ∙ same ∙ sym (length-map front tell)) keep)
+
+-- and the ones in front are idle where all racks of the sites are
+pub front_idle : {X : Type 0} (tell : X → RackTells) (count : ℕ) (racks front rest : List X) → racks ≡ front ++ rest → length front ≡ count → AreIdle count (map tell racks) → AreIdle count (map tell front)
+front_idle tell count racks front rest is long idle =
+    idle_front count (map tell front) (map tell rest) (length-map front tell ∙ long) (subst (λ (list : List RackTells). AreIdle count list) (wide tell racks front rest is) idle)

@@ -7,6 +7,7 @@ use Rattle.std.specs.Option.{option_map}
 use Rattle.std.proofs.lemmas.List.{append-nil, length-append, length-map, take_all}
 use Rattle.ring_lanes.specs.declared.source.Source.{Source}
 use Rattle.pr_rack.specs.Told.{Tells}
+use Rattle.std.proofs.lemmas.Simd.{map-map}
 use Rattle.plan_json.specs.Data.{PlanData, plate_width, plate_height}
 use Rattle.plan_json.specs.Plan.{IsPlan}
 use Rattle.plan_rows.specs.Plates.{PlateOf, site_plates, site_files, plate_rows, file_of as plan_file_of}
@@ -113,10 +114,6 @@ number-is plan out site y plate = omega arith
 map-alike : {X Y : Type 0} (f g : X → Y) (xs : List X) → ((x : X) → f x ≡ g x) → map f xs ≡ map g xs
 map-alike f g [] same = refl
 map-alike f g (x ∷ xs) same = ap (λ y. y ∷ map f xs) (same x) ∙ ap (λ ys. g x ∷ ys) (map-alike f g xs same)
-
-map-map : {X Y Z : Type 0} (f : Y → Z) (g : X → Y) (xs : List X) → map f (map g xs) ≡ map (λ x. f (g x)) xs
-map-map f g [] = refl
-map-map f g (x ∷ xs) = ap (λ ys. f (g x) ∷ ys) (map-map f g xs)
 
 rows-are : (plan : PlanData) (rows : List (List ℕ)) (out : List ℕ) (site : ℕ) (plate : PlateOf) → rows_of rows (plate_of plan out site plate) (plate_height plan) ≡ plate_rows plan rows plate
 unfolding rows_of

@@ -2,8 +2,9 @@ use Rattle.std.proofs.Common.{◌≡◌, length, map, refl, rules}
 use Rattle.tif_packbits.specs.Frame.{framed_row}
 use Rattle.pr_rack.specs.Told.{RackTells, told}
 use Rattle.replate.specs.Remade.{Making, by_picks}
-use Rattle.replate.proofs.DeliveryLemmas.{counts_keep_wide, fits_wide, front_idle, part_wide}
-use Rattle.replate.proofs.RowLemmas.{if_err, if_ok}
+use Rattle.site_agent.proofs.Racks.{all_keep, front_idle}
+use Rattle.site_agent.proofs.Results.{if_err, if_ok}
+use Rattle.replate.proofs.DeliveryLemmas.{fits_wide, part_wide}
 use Rattle.replate.proofs.delivery.deliver.Goals as goal
 
 pub make_plates-requires-clause-idle : goal.make_plates-requires-clause-idle
@@ -33,4 +34,4 @@ returns-clause-part g c =
 pub returns-clause-counts : goal.returns-clause-counts
 returns-clause-counts g c =
     let tell : g.row.R.Denot → RackTells = told g.R.Rack in
-    counts_keep_wide tell c.args.racks.now _ c.split_at_mut-racks.result.0.now c.make_plates.new.racks c.split_at_mut-racks.result.1.now (search rules) refl c.make_plates.auto.racks c.make_plates.ensures.counts
+    all_keep tell c.args.racks.now _ c.split_at_mut-racks.result.0.now c.make_plates.new.racks c.split_at_mut-racks.result.1.now (search rules) refl c.make_plates.auto.racks c.make_plates.ensures.counts

@@ -2,7 +2,8 @@ use Rattle.std.proofs.Common.{◌-◌, ◌∙◌, ◌<◌, length, get_or, subst
 use Rattle.ring_lanes.specs.Deck.{DeckState}
 use Rattle.pr_rack.specs.Told.{RackTells, told}
 use Rattle.replate.specs.Making.{Made, SomeServed, Stopped}
-use Rattle.replate.proofs.RowLemmas.{MadeBy, all_ended, all_handed, handed_more, next_served, on_err}
+use Rattle.site_agent.proofs.Results.{on_err}
+use Rattle.replate.proofs.RowLemmas.{MadeBy, all_ended, all_handed, handed_more, next_served}
 use Rattle.replate.proofs.remaking.hand_row.Goals as goal
 
 pub hand-requires-clause-some : goal.hand-requires-clause-some

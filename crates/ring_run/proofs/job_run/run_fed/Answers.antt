@@ -9,8 +9,9 @@ use Rattle.ring_rule.specs.Views.{ring_of}
 use Rattle.site_agent.specs.Racks.{AreIdle}
 use Rattle.ring_run.specs.Fits.{by_ring}
 use Rattle.ring_run.specs.Served.{Carries}
-use Rattle.ring_run.proofs.Results.{if_ok}
-use Rattle.ring_run.proofs.JobRows.{job_carries, job_idle, job_leaves}
+use Rattle.site_agent.proofs.Racks.{front_idle}
+use Rattle.site_agent.proofs.Results.{if_ok}
+use Rattle.ring_run.proofs.JobRows.{job_carries, job_leaves}
 use Rattle.ring_run.proofs.KeyTurns.{all_keys_fit, fresh_may}
 use Rattle.ring_run.proofs.job_run.run_fed.Goals as goal
 
@@ -31,7 +32,7 @@ pub run_rows-requires-clause-idle : goal.run_rows-requires-clause-idle
 run_rows-requires-clause-idle g c κs within =
     let tell : g.row.R.Denot → RackTells = told g.R.Rack in
     let count : length c.split_at_mut-racks.result.0.now ≡ length c.args.run.now.plan.now.sites = search rules in
-    job_idle tell (length c.args.run.now.plan.now.sites) c.args.racks.now c.split_at_mut-racks.result.0.now c.split_at_mut-racks.result.1.now (search rules) count
+    front_idle tell (length c.args.run.now.plan.now.sites) c.args.racks.now c.split_at_mut-racks.result.0.now c.split_at_mut-racks.result.1.now (search rules) count
     (subst (λ (p : PlanData). AreIdle (length p.sites) (map tell c.args.racks.now)) (sym c.requires.plan) c.requires.idle)
 
 pub returns-clause-leaves : goal.returns-clause-leaves

@@ -9,7 +9,7 @@ use Rattle.ink_keys.specs.Counts.{CountsData}
 use Rattle.ink_keys.specs.Turn.{KeyReaderData}
 use Rattle.ring_run.specs.Fits.{RunFits, RunPart, by_job}
 use Rattle.ring_run.proofs.KeyTurns.{fresh_key, fresh_one, keys_one}
-use Rattle.ring_run.proofs.Results.{on_err}
+use Rattle.site_agent.proofs.Results.{on_err}
 use Rattle.ring_run.proofs.Running.{none_part}
 use Rattle.ring_run.proofs.keys_run.run_keys.Goals as goal
 

@@ -1,6 +1,6 @@
 use Rattle.std.proofs.Common.{◌≡◌, ◌∙◌, sym, ap, append_assoc, string_bytes}
 use Rattle.room_replate.specs.Remade.{remade_line}
-use Rattle.replate.proofs.RowLemmas.{if_ok}
+use Rattle.site_agent.proofs.Results.{if_ok}
 use Rattle.room_replate.proofs.remade.site_line.Goals as goal
 
 pub returns-in-Done : goal.returns-in-Done

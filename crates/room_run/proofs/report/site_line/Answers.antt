@@ -1,6 +1,6 @@
 use Rattle.std.proofs.Common.{◌≡◌, ◌∙◌, sym, ap, append_assoc, string_bytes}
 use Rattle.room_run.specs.Report.{site_line}
-use Rattle.ring_run.proofs.Results.{if_ok}
+use Rattle.site_agent.proofs.Results.{if_ok}
 use Rattle.room_run.proofs.report.site_line.Goals as goal
 
 pub returns-in-Finished : goal.returns-in-Finished

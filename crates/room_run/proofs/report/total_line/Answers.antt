@@ -1,6 +1,6 @@
 use Rattle.std.proofs.Common.{◌≡◌, ◌∙◌, append_assoc, string_bytes}
 use Rattle.room_run.specs.Report.{total_line}
-use Rattle.ring_run.proofs.Results.{if_ok}
+use Rattle.site_agent.proofs.Results.{if_ok}
 use Rattle.room_run.proofs.report.total_line.Goals as goal
 
 pub returns : goal.returns

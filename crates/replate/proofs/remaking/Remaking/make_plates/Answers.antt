@@ -1,7 +1,7 @@
 use Rattle.std.proofs.Common.{map}
 use Rattle.pr_rack.specs.Told.{RackTells, told}
 use Rattle.replate.proofs.DeliveryLemmas.{none_part}
-use Rattle.replate.proofs.RowLemmas.{on_err}
+use Rattle.site_agent.proofs.Results.{on_err}
 use Rattle.replate.proofs.remaking.Remaking.make_plates.Goals as goal
 
 pub returns-in_err-deck-clause-part : goal.returns-in_err-deck-clause-part

@@ -9,7 +9,7 @@ use Rattle.replate.specs.declared.maker.Maker.{Maker}
 use Rattle.replate.specs.Making.{AllMade, AllSomeServed, AllStopped, AreServed, Carries, HaveParts, IsUp, is_making}
 use Rattle.replate.specs.Remade.{Making, by_picks}
 use Rattle.replate.proofs.DeliveryLemmas.{all_made, all_some, all_stopped, all_up, counts_keep, fits_next, have_parts, makers_begin, next_is, none_part, remade_fits, remade_part, row_left}
-use Rattle.replate.proofs.RowLemmas.{if_ok, on_err}
+use Rattle.site_agent.proofs.Results.{if_ok, on_err}
 use Rattle.replate.proofs.remaking.Remaking.make_rows.Goals as goal
 
 pub returns-in_err-makers-clause-part : goal.returns-in_err-makers-clause-part

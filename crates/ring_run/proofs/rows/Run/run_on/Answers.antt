@@ -11,7 +11,7 @@ use Rattle.ring_run.specs.Counting.{HaveCounted}
 use Rattle.ring_run.specs.Served.{Carries}
 use Rattle.ring_run.specs.Fits.{Delivery, by_ring}
 use Rattle.ring_run.proofs.KeyTurns.{counting_opens}
-use Rattle.ring_run.proofs.Results.{if_ok, on_err}
+use Rattle.site_agent.proofs.Results.{if_ok, on_err}
 use Rattle.ring_run.proofs.Running.{all_part, back_new, counts_keep, none_leaves, run_opens, split_at}
 use Rattle.ring_run.proofs.rows.Run.run_on.Goals as goal
 

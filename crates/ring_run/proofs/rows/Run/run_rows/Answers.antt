@@ -3,7 +3,7 @@ use Rattle.ring_rule.specs.declared.view.RingNumbers.{RingNumbers}
 use Rattle.pr_rack.specs.Told.{RackTells, told}
 use Rattle.ring_run.specs.Counting.{HaveCounted, MayAllCount}
 use Rattle.ring_run.specs.Fits.{RunLeaves, on_ring}
-use Rattle.ring_run.proofs.Results.{if_ok}
+use Rattle.site_agent.proofs.Results.{if_ok}
 use Rattle.ring_run.proofs.Running.{none_leaves}
 use Rattle.ring_run.proofs.rows.Run.run_rows.Goals as goal
 

@@ -6,7 +6,7 @@ use Rattle.ring_run.specs.Counting.{IsCounting}
 use Rattle.ring_run.specs.Round.{StaySeated}
 use Rattle.ring_run.specs.Served.{ends_in}
 use Rattle.ring_run.proofs.KeyTurns.{have_counted}
-use Rattle.ring_run.proofs.Results.{if_ok}
+use Rattle.site_agent.proofs.Results.{if_ok}
 use Rattle.ring_run.proofs.Running.{are_stopped, end_seated, run_fits}
 use Rattle.ring_run.proofs.rows.Run.run_seats.Goals as goal
 
