@@ -11,7 +11,7 @@ use Rattle.std.proofs.lemmas.Simd.{get_or-sel_l, length-sel_l, put_chunk_whole, 
 use borrow.Rule.Slice.PartMut.{put_mid}
 use mir.Val.{bool_byte}
 use lib.Lanes.{put_chunk, sel_l, top, zip2}
-use Rattle.pr_base.proofs.Parts.{loaded, part_above, part_below, part_here}
+use Rattle.pr_base.proofs.Parts.{loaded, part_above, part_below, part_here, part_long}
 use Rattle.page_layers.specs.Rows.{IsMarked, Keeps, bit_is}
 
 -- the bit of pixel x of a block, alone in its lane, and what it has to be
