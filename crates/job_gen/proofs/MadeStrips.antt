@@ -242,7 +242,9 @@ strips-pass form rows file shape h =
     let counts : result_err (number_at file 279 0 (read_count shape)) ≡ None =
     ap result_err (number_at-present file 279 0 (read_count shape) (sizes all) h.counts
     (omega (arith, count-is form shape h.same, length-map all length, length-strips form rows))) in
-    first_fault-passed _ _ places ∙ first_fault-passed _ _ counts
+    let tests = map (fault_of_strip shape file) (range_with_len 0 (read_count shape)) in
+    first_fault-passed (result_err (number_at file 273 0 (read_count shape))) (result_err (number_at file 279 0 (read_count shape)) ∷ tests) places
+    ∙ first_fault-passed (result_err (number_at file 279 0 (read_count shape))) tests counts
     ∙ first_fault-all (fault_of_strip shape file) 0 (read_count shape)
     (λ k below. let some : 0 < each = positive each (planes form) k (omega (arith, count-is form shape h.same)) in
     let plane : k / each < planes form = div-below k each (planes form) some (omega (arith, count-is form shape h.same)) in

@@ -13,7 +13,7 @@ use Rattle.tif_dir.specs.declared.value_type.ValueType.{ValueType}
 use Rattle.tif_dir.specs.Directory.{FirstDirectory, content_in, dir_fault, directory_of, entries_of, fault_at, field_from, field_in, field_of, header_of, number_at, number_in, typed_field}
 use Rattle.tif_dir.specs.Names as tag
 use Rattle.tif_strips.specs.declared.shape.Shape.{Shape}
-use Rattle.tif_strips.specs.Strips.{fault_of_field, fault_of_strip, first_fault, needed_length, samples_in, stored_bytes, strip_count, strip_fault, strip_offset, strip_size}
+use Rattle.tif_strips.specs.Strips.{fault_of_field, fault_of_strip, needed_length, samples_in, stored_bytes, strip_count, strip_fault, strip_offset, strip_size}
 use Rattle.tif_image.specs.Fields.{◌>>=◌, ◌>>◌, bits_each, first_bits, full_dot_range, full_range, must, no_fault, no_tile, no_tiles, number_among, number_within}
 use Rattle.tif_image.specs.Image.{bilevel_shape, contone_shape, image_fields, ink_fields, shape_of}
 use Rattle.plan_parts.specs.Data.{LayerData}
@@ -195,17 +195,12 @@ strip-never shape bytes strip =
     if_some true fault o short rest = short
     if_some false fault o short rest = rest
 
-first-never : (tests : List (Option TagFault)) → All (λ o. IfSome o IsShort) tests → IfSome (first_fault tests) IsShort
-first-never [] all = tt
-first-never (None ∷ tests) all = first-never tests (All-tail (λ o. IfSome o IsShort) None tests all)
-first-never (Some fault ∷ tests) all = All-head (λ o. IfSome o IsShort) (Some fault) tests all
-
 strips-never : (shape : Shape) (bytes : List ℕ) → IfSome (strip_fault shape bytes) IsShort
 unfolding strip_fault
 strips-never shape bytes =
     let strips : List (Option TagFault) = map (fault_of_strip shape bytes) (range_with_len 0 (strip_count shape)) in
     let counts : List (Option TagFault) = fault_of_field shape bytes tag.strip_byte_counts ∷ strips in
-    first-never (fault_of_field shape bytes tag.strip_offsets ∷ counts)
+    first_some-holds IsShort (λ (test : Option TagFault). test) (fault_of_field shape bytes tag.strip_offsets ∷ counts)
     (All-cons (λ o. IfSome o IsShort) (fault_of_field shape bytes tag.strip_offsets) counts (err-never (number_at bytes tag.strip_offsets 0 (strip_count shape)) (number-never bytes tag.strip_offsets 0 (strip_count shape)))
     (All-cons (λ o. IfSome o IsShort) (fault_of_field shape bytes tag.strip_byte_counts) strips (err-never (number_at bytes tag.strip_byte_counts 0 (strip_count shape)) (number-never bytes tag.strip_byte_counts 0 (strip_count shape)))
     (All-map (λ (o : Option TagFault). IfSome o IsShort) (fault_of_strip shape bytes) (range_with_len 0 (strip_count shape)) (λ k d less. strip-never shape bytes (get_or (range_with_len 0 (strip_count shape)) k d)))))
