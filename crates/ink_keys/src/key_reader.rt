@@ -8,7 +8,7 @@ ghost use Rattle.ink_keys.specs.Turn.{AreRowsOf, CountsNext, CountsRows, IfWaiti
 use crate::{Counts, KeyEnd};
 use plan_rows::RowPlan;
 use pr_base::Deal;
-use ring_lanes::{NotYet, Reader, pause};
+use ring_lanes::{NotYet, Reader};
 use std::marker::Model;
 
 /// One that counts the rows of a ring, beside the sites that take them. Contracts see the row plan and the
@@ -92,7 +92,7 @@ impl<'p> KeyReader<'p> {
                     if waits == patience {
                         return KeyEnd::Waiting { head };
                     }
-                    pause(waits);
+                    reader.pause(waits);
                 }
             }
         }

@@ -25,7 +25,7 @@ use Rattle.site_agent.specs.Racks.{AllTellSlots, AreIdle, KeepCounts, TellsSlots
 use Rattle.site_agent.specs.Site.{SiteData}
 use Rattle.site_agent.specs.Stands.{grown}
 use Rattle.site_agent.proofs.Parts.{length-kept, picked_at_end, picked_at_start, picked_is}
-use Rattle.site_agent.proofs.Racks.{idle_is, slice_get-front}
+use Rattle.site_agent.proofs.Racks.{idle_is, over_wide, slice_get-front}
 use Rattle.site_agent.proofs.Runs.{finished-end}
 use Rattle.replate.specs.declared.maker.Maker.{Maker}
 use Rattle.replate.specs.declared.remade.RemadeEnd.{RemadeEnd}

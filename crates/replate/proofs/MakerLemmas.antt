@@ -22,6 +22,7 @@ use Rattle.site_agent.specs.Stands.{AreAsLong, AreBegun, StandsAfter, grown}
 use Rattle.site_agent.proofs.Drawing.{Keeps, row-taken}
 use Rattle.site_agent.proofs.Going.{going_further, going_within, going_sides, going_begun, going_working}
 use Rattle.site_agent.proofs.Parts.{IsLeftAt, picked_below, picked_left}
+use Rattle.site_agent.proofs.Racks.{rose_since}
 use Rattle.replate.specs.declared.maker.Maker.{Maker}
 use Rattle.replate.specs.declared.remade.RemadeEnd.{RemadeEnd}
 use Rattle.replate.specs.declared.remade.RemadeEnd.TheVariants.{Done, Left}

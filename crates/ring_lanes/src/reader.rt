@@ -6,6 +6,7 @@ ghost use Rattle.ring_lanes.specs.Reader.{IsNextRow, IsNotYet, IsOpened, IsReade
 ghost use Rattle.ring_lanes.specs.Writer.{cursor_known};
 
 use crate::numbers::Numbers;
+use crate::waiting::pause;
 use crate::{CursorNote, HeadNote, Held, NotYet, Source};
 use pr_base::Deal;
 use ring_rule::{LaneRow, ReaderSeat};
@@ -64,6 +65,14 @@ impl<'r, D: Deal> Reader<'r, D> {
         ensures within { self.now.seen ≤ self.now.ring.total }
     {
         self.cursor
+    }
+
+    /// Pauses between two looks, if its ring does. `look` is any number that isn't known before the program
+    /// runs.
+    pub fn pause(&self, look: u32) {
+        if self.numbers.pauses {
+            pause(look);
+        }
     }
 
     /// The number of rows of the deal.

@@ -19,6 +19,7 @@ use std::marker::Model;
 #[derive(Drop)]
 pub struct Ring<'d, D: Deal> {
     table: RingTable<'d, D>,
+    pauses: bool,
 }
 
 impl<'d, D: Deal> Model for Ring<'d, D> {
@@ -52,8 +53,31 @@ pub fn open_ring<'d, D: Deal>(
         opened.ring ≡ ring_of places readers (D.rows deal.now) (D.size deal.now)) }
     ensures fresh { IfOk result (λ opened. opened.fresh ≡ true) }
 {
+    open_ring_with(alloc, deal, places, readers, true)
+}
+
+/// The same, and whether its ends pause between two looks in vain, which helps no one where all threads share
+/// one processor.
+pub fn open_ring_with<'d, D: Deal>(
+    alloc: Global,
+    deal: &'d D,
+    places: u32,
+    readers: u32,
+    pauses: bool,
+) -> Result<Ring<'d, D>, NoMemory>
+    requires some_place { 1 ≤ places }
+    requires few_places { places ≤ 1024 }
+    requires some_reader { 1 ≤ readers }
+    requires few_readers { readers ≤ 17 }
+    requires total { length (D.rows deal.now) ≤ 2 ^ 64 - 2 }
+    requires some_byte { 1 ≤ D.size deal.now }
+    requires few_bytes { D.size deal.now ≤ 8258 }
+    ensures ring { IfOk result (λ opened.
+        opened.ring ≡ ring_of places readers (D.rows deal.now) (D.size deal.now)) }
+    ensures fresh { IfOk result (λ opened. opened.fresh ≡ true) }
+{
     let table = RingTable::new(alloc, deal, places, readers)?;
-    Ok(Ring { table })
+    Ok(Ring { table, pauses })
 }
 
 impl<'d, D: Deal> Ring<'d, D> {
@@ -66,7 +90,7 @@ impl<'d, D: Deal> Ring<'d, D> {
             let ring = self.old.ring in
             ends.readers.items ≡ map (new_reader_state self.old.table ring) (up_to ring.readers)) }
     {
-        let numbers = Numbers::of(&self.table);
+        let numbers = Numbers::of(&self.table, self.pauses);
         let known = vec![in alloc; 0; numbers.readers as usize]?;
         let list = Vec::with_capacity(alloc, numbers.readers as usize)?;
         let Seats { writer, readers } = self.table.seats(alloc)?;

@@ -7,6 +7,7 @@ ghost use Rattle.ring_lanes.specs.Writer.{AreKnown, HasRoomFor, IsBehind, IsFull
 
 use crate::lanes::fill_lanes;
 use crate::numbers::Numbers;
+use crate::waiting::pause;
 use crate::{CursorNote, Full, HeadNote, Pass};
 use pr_base::Deal;
 use ring_rule::WriterSeat;
@@ -61,6 +62,14 @@ impl<'r, D: Deal> Writer<'r, D> {
         ensures known { length self.now.known ≡ self.now.ring.readers }
     {
         self.known.iter().filter(|word| **word != u64::MAX).count() as u32
+    }
+
+    /// Pauses between two looks, if its ring does. `look` is any number that isn't known before the program
+    /// runs.
+    pub fn pause(&self, look: u32) {
+        if self.numbers.pauses {
+            pause(look);
+        }
     }
 
     /// The number of rows of the deal.

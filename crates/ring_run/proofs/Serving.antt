@@ -31,6 +31,7 @@ use Rattle.site_agent.proofs.Givens.{given-all}
 use Rattle.site_agent.proofs.Jobs.{job_is}
 use Rattle.site_agent.proofs.Keeps.{drawn_at_end, fits_left}
 use Rattle.site_agent.proofs.Opens.{closed, closed-cases, plate_at}
+use Rattle.site_agent.proofs.Racks.{rose_since}
 use Rattle.site_agent.proofs.Runs.{files_are, site_at_end}
 use Rattle.site_agent.proofs.Steps.{is_kept-row}
 use Rattle.site_agent.proofs.Taken.{taken_first, taken_in_part, taken_up_to}

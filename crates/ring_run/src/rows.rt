@@ -22,7 +22,8 @@ use plan_rows::RowPlan;
 use pr_base::{Deal, NoMemory};
 use pr_rack::Rack;
 use press_feed::BandFeed;
-use ring_lanes::{Ends, Reader, Ring, Writer, open_ring};
+use ring_lanes::{Ends, Reader, Ring, Writer, open_ring_with};
+use ring_turns::Pace;
 use std::alloc::Global;
 use std::thread::Threads;
 
@@ -171,7 +172,8 @@ impl Run<'_> {
         // A row's number is far below the word of a reader that left.
         let total = self.rows.total();
         prove!(total < u64::MAX);
-        let mut table = open_ring(self.alloc, deal, self.ring, self.readers)?;
+        let pauses = Pace::of(rt, self.patience).pauses;
+        let mut table = open_ring_with(self.alloc, deal, self.ring, self.readers, pauses)?;
         self.run_on(rt, &mut table, feed, racks, keys)
     }
 }

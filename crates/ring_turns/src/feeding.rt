@@ -5,7 +5,7 @@ ghost use Rattle.ring_turns.specs.Feeding.{Grows, HasRows, IfWaiting, IsFed, IsK
 
 use crate::turn::TurnWith;
 use pr_base::{Deal, RowFeed};
-use ring_lanes::{Full, Writer, pause};
+use ring_lanes::{Full, Writer};
 
 /// How a turn of the writer ended.
 #[derive(Clone, Copy, Debug, PartialEq, Eq)]
@@ -35,10 +35,10 @@ fn vain_behind(waits: u32) -> u32 {
 /// Waits behind the look that follows `vain` ones in vain. While rows are taken the turn goes on for as many
 /// rows as its patience has looks. Where none is it ends after some hundreds of microseconds, since few of
 /// its waits are long.
-fn wait(vain: u32, look: u32) {
+fn wait<D: Deal>(writer: &Writer<'_, D>, vain: u32, look: u32) {
     let pauses = if vain < LONG_WAITS { LONG_PAUSES } else { 1 };
     for _pause in 0..pauses {
-        pause(look);
+        writer.pause(look);
     }
 }
 
@@ -81,7 +81,7 @@ pub fn feed_turn<D: Deal, F: RowFeed>(
         if waits == patience {
             return FeedEnd::Waiting { site, at };
         }
-        wait(vain, waits);
+        wait(writer, vain, waits);
         vain = vain.saturating_add(1);
     }
     FeedEnd::Done

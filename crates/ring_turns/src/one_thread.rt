@@ -8,7 +8,12 @@ use ring_lanes::pause;
 /// Turns of each with the other at its index, each until it looked in vain once, and so often that all of
 /// them together look in vain `patience` times. One is taken behind the other, so that nobody waits in this
 /// thread while another one has rows.
-pub(crate) fn turns_in_one_thread<X: TurnWith<Y>, Y>(others: &mut [Y], all: &mut [X], patience: u32)
+pub(crate) fn turns_in_one_thread<X: TurnWith<Y>, Y>(
+    others: &mut [Y],
+    all: &mut [X],
+    patience: u32,
+    pauses: bool,
+)
     requires count { length all.old ≡ length others.old }
     requires may { MayAllTurn X.may all.old others.old }
     requires patience { 0 < patience }
@@ -17,8 +22,15 @@ pub(crate) fn turns_in_one_thread<X: TurnWith<Y>, Y>(others: &mut [Y], all: &mut
     let passes = passes(patience, all.len());
     ask_each(others, all);
     for pass in 1..passes {
-        pause(pass);
+        pause_between(pauses, pass);
         ask_each(others, all);
+    }
+}
+
+/// Pauses between two passes, if it should.
+fn pause_between(pauses: bool, pass: u32) {
+    if pauses {
+        pause(pass);
     }
 }
 

@@ -3,25 +3,31 @@ ghost use Rattle.std.specs.Prelude.{◌≡◌, ◌<◌, ◌≤◌};
 
 use std::thread::{Threads, available_parallelism};
 
-/// How the turns of a round are taken: how often each may wait in vain, and in how many threads those of all
-/// ends but one are.
+/// How the turns of a round are taken: how often each may wait in vain, in how many threads those of all ends
+/// but one are, and whether an end pauses between two looks in vain.
 #[derive(Clone, Copy)]
 pub struct Pace {
     pub patience: u32,
     pub threads: usize,
+    pub pauses: bool,
 }
 
 impl Pace {
     /// One thread for each processor but that of the one end, and at least two, since a rack may wait for
-    /// what another one does. Where the processors can't be counted each turn has a thread of its own.
+    /// what another one does. Where the processors can't be counted each turn has a thread of its own. On one
+    /// processor nobody gets on while an end pauses, so none does.
     pub fn of<T: Threads>(rt: &T, patience: u32) -> Pace
         ensures { result.patience ≡ patience }
     {
-        let threads = match available_parallelism(rt) {
-            Ok(processors) => processors.get().saturating_sub(1).max(2),
+        let processors = match available_parallelism(rt) {
+            Ok(processors) => processors.get(),
             Err(_) => usize::MAX,
         };
-        Pace { patience, threads }
+        Pace {
+            patience,
+            threads: processors.saturating_sub(1).max(2),
+            pauses: processors > 1,
+        }
     }
 
     /// The same in so many threads.
@@ -31,6 +37,7 @@ impl Pace {
         Pace {
             patience: self.patience,
             threads,
+            pauses: self.pauses,
         }
     }
 

@@ -29,7 +29,7 @@ pub(crate) fn turns<T: Threads + Sync, X: TurnWith<Y> + Send, Y: Send>(
         return;
     }
     if pace.threads < 2 {
-        return turns_in_one_thread(others, all, pace.patience);
+        return turns_in_one_thread(others, all, pace.patience, pace.pauses);
     }
     let half = pace.share(all.len());
     let (a, b) = all.split_at_mut(half);

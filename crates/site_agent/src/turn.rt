@@ -11,7 +11,7 @@ ghost use Rattle.site_agent.specs.Turn.{AreRowsFor, GoesOnBy, GoesOnTo, IfLeft, 
 use crate::{Kept, Site, TurnEnd};
 use pr_base::Deal;
 use pr_rack::Rack;
-use ring_lanes::{NotYet, Reader, pause};
+use ring_lanes::{NotYet, Reader};
 
 impl Site {
     /// Takes the rows at the reader's cursor, keeps each and gives it back, until all are dealt with, or a
@@ -96,7 +96,7 @@ impl Site {
                     if waits == patience {
                         return TurnEnd::Waiting { head };
                     }
-                    pause(waits);
+                    reader.pause(waits);
                 }
             }
         }
