@@ -57,4 +57,5 @@ def main():
         print(f"{name}: {WIDTH * LENGTH / seconds / 1e6:.0f} million pixels a second, {memory} KiB (the file has {size} KiB)")
 
 
-main()
+if __name__ == "__main__":
+    main()

@@ -26,6 +26,16 @@ static void fill_thresholds(void) {
         }
 }
 
+/* The bits of a row under one row of the tile; the values behind the width fill the last byte. */
+static void tile_row(const uint8_t *values, uint32_t width, const uint8_t *tile, uint8_t *bits) {
+    for (uint32_t x = 0; x < width; x += 8) {
+        unsigned byte = 0;
+        for (int k = 0; k < 8; k++)
+            byte = byte * 2 + (values[x + k] > tile[k]);
+        bits[x / 8] = byte;
+    }
+}
+
 static uint32_t number(const uint8_t *at, unsigned bytes) {
     uint32_t n = 0;
     for (unsigned i = bytes; i-- > 0;)

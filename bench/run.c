@@ -53,15 +53,6 @@ static void spread(struct page *page, uint32_t y) {
     }
 }
 
-static void tile_row(const uint8_t *values, uint32_t width, const uint8_t *tile, uint8_t *bits) {
-    for (uint32_t x = 0; x < width; x += 8) {
-        unsigned byte = 0;
-        for (int k = 0; k < 8; k++)
-            byte = byte * 2 + (values[x + k] > tile[k]);
-        bits[x / 8] = byte;
-    }
-}
-
 static void diffuse_row(const uint8_t *v, int16_t *e, uint32_t width, uint8_t *bits) {
     int left = 0, corner = 0;
     unsigned byte = 0;
