@@ -44,6 +44,7 @@ where
         all: further,
         others: theirs,
     } = further;
+    let pace = pace.beside(all.len().saturating_add(further.len()));
     if further.is_empty() {
         turn_beside(rt, pace, its, one, others, all);
     } else {

@@ -4,12 +4,14 @@ ghost use Rattle.std.specs.Prelude.{◌≡◌, ◌<◌, ◌≤◌};
 use std::thread::{Threads, available_parallelism};
 
 /// How the turns of a round are taken: how often each may wait in vain, in how many threads those of all ends
-/// but one are, and whether an end pauses between two looks in vain.
+/// but one are, whether an end pauses between two looks in vain, and whether the one takes its turn apart, in a
+/// thread of its own.
 #[derive(Clone, Copy)]
 pub struct Pace {
     pub patience: u32,
     pub threads: usize,
     pub pauses: bool,
+    pub apart: bool,
 }
 
 impl Pace {
@@ -27,6 +29,7 @@ impl Pace {
             patience,
             threads: processors.saturating_sub(1).max(2),
             pauses: processors > 1,
+            apart: false,
         }
     }
 
@@ -38,6 +41,20 @@ impl Pace {
             patience: self.patience,
             threads,
             pauses: self.pauses,
+            apart: self.apart,
+        }
+    }
+
+    /// The same beside so many ends: where there are several, the one takes its turn apart. That costs one
+    /// thread more a round, and for one end more than it gains.
+    pub(crate) fn beside(self, ends: usize) -> Pace
+        ensures { result.patience ≡ self.patience }
+    {
+        Pace {
+            patience: self.patience,
+            threads: self.threads,
+            pauses: self.pauses,
+            apart: self.pauses && ends > 1,
         }
     }
 

@@ -106,7 +106,7 @@ where
     ensures one { W.turned one.old its.old one.new its.new }
     ensures turned { AreTurned X.turned all.old others.old all.new others.new }
 {
-    // The second closure runs in this thread, so that the one end's buffers stay on one processor.
+    // The second closure runs in this thread.
     join_mut(
         rt,
         &mut ||
@@ -120,6 +120,35 @@ where
             turns(rt, pace, others, all)
         },
         &mut ||
+            requires sync { IsSync T.row }
+            requires may { W.may one.now its.now }
+            requires patience { 0 < pace.patience }
+            ensures { W.turned one.entry.now its.entry.now one.exit.now its.exit.now }
+        {
+            let pace = pace;
+            turn_of_one(rt, pace, its, one)
+        },
+    );
+}
+
+/// The turn of the one, in this thread, so that its buffers stay on one processor; or apart, in a thread of its
+/// own, and then this one rests, so that each thread that it started begins at once.
+fn turn_of_one<T, W, F>(rt: &T, pace: Pace, its: &mut F, one: &mut W)
+where
+    T: Threads + Sync,
+    W: TurnWith<F> + Send,
+    F: Send,
+    requires may { W.may one.old its.old }
+    requires patience { 0 < pace.patience }
+    ensures { W.turned one.old its.old one.new its.new }
+{
+    if !pace.apart {
+        one.turn(its, pace.patience);
+        return;
+    }
+    join_mut(
+        rt,
+        &mut ||
             requires may { W.may one.now its.now }
             requires patience { 0 < pace.patience }
             ensures { W.turned one.entry.now its.entry.now one.exit.now its.exit.now }
@@ -127,5 +156,6 @@ where
             let pace = pace;
             one.turn(its, pace.patience)
         },
+        &mut || {},
     );
 }
