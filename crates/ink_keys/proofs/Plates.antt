@@ -7,7 +7,7 @@ use Rattle.std.proofs.lemmas.List.{get_or-map, get_or-replicate, get_or_past, le
 use Rattle.std.proofs.lemmas.List.Sums.{sum_by-cons}
 use Rattle.std.proofs.lemmas.Option.{same_Some, slice_get-get_or, slice_get_within}
 use Rattle.pr_base.specs.declared.ink.Ink.{Ink}
-use Rattle.pr_base.specs.declared.ink.Ink.TheVariants.{C, Y, K, S}
+use Rattle.pr_base.specs.declared.ink.Ink.TheVariants.{K}
 use Rattle.plan_json.specs.Data.{PlanData, plate_height, plate_width}
 use Rattle.plan_json.specs.Plan.{IsPlan}
 use Rattle.pr_base.specs.Ink.{slot_of}

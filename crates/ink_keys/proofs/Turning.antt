@@ -1,9 +1,8 @@
 -- A turn of a key reader, row by row.
-use Rattle.std.proofs.Common.{◌≡◌, ℕ, ◌+◌, ◌-◌, ◌<◌, ◌≤◌, false, List, [], length, map, get_or, Some, refl, sym, ap, subst, ◌∙◌, ⊎_elim, arith}
+use Rattle.std.proofs.Common.{◌≡◌, ℕ, ◌+◌, ◌-◌, ◌<◌, ◌≤◌, false, List, [], length, map, get_or, Some, refl, sym, ap, subst, ◌∙◌, arith}
 use Rattle.std.specs.Prelude.{slice_get, sum_by}
 use Rattle.std.specs.List.{range_with_len}
 use Rattle.std.specs.Option.{option_map, option_map_or}
-use Rattle.std.proofs.lemmas.Bool.{cases_lt}
 use Rattle.std.proofs.lemmas.List.{length-map}
 use Rattle.std.proofs.lemmas.List.Sums.{sum_by-cons}
 use Rattle.std.proofs.lemmas.Option.{slice_get-map, slice_get_within, get_or_from_slice_get}
@@ -16,6 +15,7 @@ use Rattle.tif_packbits.proofs.Frames.{AreFrames-frame}
 use Rattle.ring_rule.specs.declared.view.RingNumbers.{RingNumbers}
 use Rattle.ring_lanes.specs.Held.{HeldRow}
 use Rattle.ring_lanes.specs.Reader.{ReaderState, IsOpened, SeesOnce}
+use Rattle.ring_lanes.proofs.Overs.{closes-row, over-first, over-on}
 use Rattle.ink_keys.specs.Counts.{CountsData, AddsRow, number_at, row_adds}
 use Rattle.ink_keys.specs.Turn.{KeyReaderData, AreRowsOf, CountsOne, CountsRows, Goes, IsReady, Stage, row_part, stage}
 use Rattle.ink_keys.proofs.Ranges.{sum-parts}
@@ -110,12 +110,9 @@ pub counted-one : (key next : KeyReaderData) (reader opened closed : ReaderState
 counted-one key next reader opened closed held place ready is sees given-back there adds rows =
     let all : closed ≡ record reader { cursor = reader.cursor + 1; held = false; seen = opened.seen; loads = opened.loads } =
     given-back ∙ ap {A = ReaderState} (λ r. record r { cursor = r.cursor + 1; held = false }) is.stays in
-    let seen : closed.seen ≡ opened.seen = ap (λ r. r.seen) all in
-    let loads : closed.loads ≡ opened.loads = ap (λ r. r.loads) all in
     let cursor : closed.cursor ≡ reader.cursor + 1 = ap (λ r. r.cursor) all in
     let ring : closed.ring ≡ reader.ring = ap (λ r. r.ring) all in
     let width : next.counts.width ≡ key.counts.width = ap (λ c. c.width) adds.same in
-    let ahead : reader.cursor < opened.seen = is.ahead in
     record {
       ready = record {
         joined = ap (λ r. r.left) all ∙ ready.joined;
@@ -127,20 +124,7 @@ counted-one key next reader opened closed held place ready is sees given-back th
             (subst (λ (w : ℕ). AreRowsOf w reader.ring) (sym width) ready.rows);
         bounded = λ p. (let most = adds.most p in let before = ready.bounded p in omega arith);
       };
-      reader =
-          all
-          ∙ ap (λ h. record reader { cursor = reader.cursor + 1; held = h; seen = opened.seen; loads = opened.loads }) (sym ready.home)
-          ∙ ap (λ s. record reader { cursor = reader.cursor + 1; seen = s; loads = opened.loads }) (sym seen)
-          ∙ ap (λ l. record reader { cursor = reader.cursor + 1; seen = closed.seen; loads = l }) (sym loads);
-      known = omega arith;
-      grows = ⊎_elim
-          (λ (less : reader.cursor < reader.seen). let same : opened.seen ≡ reader.seen = sees.seen less in omega arith)
-          (λ (most : reader.seen ≤ reader.cursor). let more : reader.seen ≤ opened.seen = sees.grows most in omega arith)
-          (cases_lt reader.cursor reader.seen);
-      loads = ⊎_elim
-          (λ (less : reader.cursor < reader.seen). let same : opened.loads ≡ reader.loads = sees.loads less in omega arith)
-          (λ (most : reader.seen ≤ reader.cursor). let more : opened.loads ≡ reader.loads + 1 = sees.counted most in omega arith)
-          (cases_lt reader.cursor reader.seen);
+      closes = closes-row reader opened closed held ready.home is sees given-back;
       rows = rows;
       counts = row-counted key.rows reader.ring reader.cursor place held.bytes key.counts next.counts
           (ap (slice_get (places_in key.rows)) (sym is.row.number) ∙ there) is.row.bytes adds;
@@ -148,23 +132,10 @@ counted-one key next reader opened closed held place ready is sees given-back th
 
 -- ---- a turn
 
--- the reader at another cursor
-abbrev at : ReaderState → ℕ → ℕ → ℕ → ReaderState
-at reader cursor seen loads = record reader { cursor = cursor; seen = seen; loads = loads }
-
-chained : (first now next : ReaderState) (cursor : ℕ) → now ≡ at first now.cursor now.seen now.loads → next ≡ at now cursor next.seen next.loads → next ≡ at first next.cursor next.seen next.loads
-chained first now next cursor was is =
-    let all : next ≡ at first cursor next.seen next.loads = is ∙ ap (λ r. at r cursor next.seen next.loads) was in
-    all ∙ ap (λ n. at first n next.seen next.loads) (sym (ap (λ r. r.cursor) all))
-
 pub goes-first : (s : Stage) → IsReady s → s.reader.cursor ≤ s.reader.ring.total → Goes s s 0
 goes-first s ready within = record {
   ready = ready;
-  reader = refl;
-  grows = omega arith;
-  within = within;
-  seen = omega arith;
-  counted = omega arith;
+  over = over-first s.reader within;
   rows = refl;
   counts = none-counted s.key.rows s.reader.ring s.reader.cursor s.key.counts;
 }
@@ -172,24 +143,15 @@ goes-first s ready within = record {
 -- a row more was counted
 pub goes-on : (first now next : Stage) (waits : ℕ) → now.reader.cursor < now.reader.ring.total → Goes first now waits → CountsOne now next → Goes first next waits
 goes-on first now next waits less goes one =
-    let ring : now.reader.ring ≡ first.reader.ring = ap (λ r. r.ring) goes.reader in
-    let total : now.reader.ring.total ≡ first.reader.ring.total = ap (λ r. r.total) ring in
-    let cursor : next.reader.cursor ≡ now.reader.cursor + 1 = ap (λ r. r.cursor) one.reader in
-    let low : first.reader.cursor ≤ now.reader.cursor = goes.grows in
-    let seen : first.reader.seen ≤ now.reader.seen = goes.seen in
-    let more : now.reader.seen ≤ next.reader.seen = one.grows in
-    let counted : first.reader.loads + waits ≤ now.reader.loads = goes.counted in
-    let loads : now.reader.loads ≤ next.reader.loads = one.loads in
+    let ring : now.reader.ring ≡ first.reader.ring = ap (λ r. r.ring) goes.over.reader in
+    let cursor : next.reader.cursor ≡ now.reader.cursor + 1 = ap (λ r. r.cursor) one.closes.reader in
+    let low : first.reader.cursor ≤ now.reader.cursor = goes.over.grows in
     let last : CountsRows first.key.rows first.reader.ring now.reader.cursor (now.reader.cursor + 1) now.key.counts next.key.counts =
     subst (λ (r : RowPlanData). CountsRows r first.reader.ring now.reader.cursor (now.reader.cursor + 1) now.key.counts next.key.counts) goes.rows
     (subst (λ (r : RingNumbers). CountsRows now.key.rows r now.reader.cursor (now.reader.cursor + 1) now.key.counts next.key.counts) ring one.counts) in
     record {
       ready = one.ready;
-      reader = chained first.reader now.reader next.reader (now.reader.cursor + 1) goes.reader one.reader;
-      grows = omega arith;
-      within = omega arith;
-      seen = omega arith;
-      counted = omega arith;
+      over = over-on first.reader now.reader next.reader waits less goes.over one.closes;
       rows = one.rows ∙ goes.rows;
       counts =
           subst (λ (n : ℕ). CountsRows first.key.rows first.reader.ring first.reader.cursor n first.key.counts next.key.counts) (sym cursor)

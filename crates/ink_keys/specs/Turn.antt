@@ -8,7 +8,7 @@ use Rattle.plan_rows.specs.Rows.{RowPlanData, places_in}
 use Rattle.tif_packbits.specs.Frame.{AreFrames, framed_row}
 use Rattle.ring_rule.specs.declared.view.RingNumbers.{RingNumbers}
 use Rattle.ring_lanes.specs.declared.answer.NotYet.{NotYet}
-use Rattle.ring_lanes.specs.Reader.{ReaderState, IsNotYet}
+use Rattle.ring_lanes.specs.Reader.{ReaderState, Closes, GoesOver, IsNotYet}
 use Rattle.ink_keys.specs.declared.key_end.KeyEnd.{KeyEnd}
 use Rattle.ink_keys.specs.declared.key_end.KeyEnd.TheVariants.{Waiting, Finished}
 use Rattle.ink_keys.specs.Counts.{CountsData, IsBounded, number_at, row_adds}
@@ -67,17 +67,10 @@ pub record IsReady (s : Stage) : Type 0 where
   pub rows : AreRowsOf s.key.counts.width s.reader.ring
   pub bounded : IsBounded s.key.counts s.reader.cursor
 
--- the row at the cursor was counted and given back, and the head loaded perhaps
+-- the row at the cursor was counted and given back
 pub record CountsOne (old new : Stage) : Type 0 where
   pub ready : IsReady new
-  pub reader : new.reader ≡ record old.reader {
-    cursor = old.reader.cursor + 1;
-    seen = new.reader.seen;
-    loads = new.reader.loads;
-  }
-  pub known : old.reader.cursor < new.reader.seen
-  pub grows : old.reader.seen ≤ new.reader.seen
-  pub loads : old.reader.loads ≤ new.reader.loads
+  pub closes : Closes old.reader new.reader
   pub rows : new.key.rows ≡ old.key.rows
   pub counts : CountsRows old.key.rows old.reader.ring old.reader.cursor (old.reader.cursor + 1)
       old.key.counts new.key.counts
@@ -96,15 +89,7 @@ CountsNext old new (Err answer) = Awaits old new answer
 -- the rows from the first cursor up to this one were counted, and so many were awaited between them
 pub record Goes (first now : Stage) (waits : ℕ) : Type 0 where
   pub ready : IsReady now
-  pub reader : now.reader ≡ record first.reader {
-    cursor = now.reader.cursor;
-    seen = now.reader.seen;
-    loads = now.reader.loads;
-  }
-  pub grows : first.reader.cursor ≤ now.reader.cursor
-  pub within : now.reader.cursor ≤ first.reader.ring.total
-  pub seen : first.reader.seen ≤ now.reader.seen
-  pub counted : first.reader.loads + waits ≤ now.reader.loads
+  pub over : GoesOver first.reader now.reader waits
   pub rows : now.key.rows ≡ first.key.rows
   pub counts : CountsRows first.key.rows first.reader.ring first.reader.cursor now.reader.cursor
       first.key.counts now.key.counts

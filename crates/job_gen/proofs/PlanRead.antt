@@ -2,9 +2,9 @@
 use Rattle.std.proofs.Common.{◌≡◌, ℕ, ◌+◌, ◌*◌, ◌/◌, ◌%◌, ◌==◌, if◌then◌else◌, ◌<◌, ◌≤◌, true, false, List, [], ◌∷◌, ◌++◌, map, Some, None, Ok, refl, codes, zero, suc, nat_le, arith}
 use Rattle.std.proofs.lemmas.Bool.Decides.{nat_tests}
 use Rattle.std.specs.List.{range_with_len}
-use Rattle.plan_words.specs.Forms.{is_file_name, is_name, is_name_byte, names_a_file, parts}
-use Rattle.plan_words.specs.Reading.{at_item, at_key, object_with, required, optional, number, name, file_name, new_name, defined, items_in, items_within, each_after, nth}
-use Rattle.plan_parts.specs.Pages.{PageText, black, either, kind, paint, crop, mask, ink, placing, painting, layer, layers, inks_named, page_inks, page, pages, page_names}
+use Rattle.plan_parts.specs.Forms.{is_file_name, is_name, is_name_byte, names_a_file, parts}
+use Rattle.plan_parts.specs.Reading.{at_item, at_key, object_with, required, optional, number, name, file_name, new_name, defined, items_in, items_within, each_after, nth}
+use Rattle.plan_json.specs.Pages.{PageText, black, either, kind, paint, crop, mask, ink, placing, painting, layer, layers, inks_named, page_inks, page, pages, page_names}
 use Rattle.plan_json.specs.PlanOf.{front, inks, joined, layout, page_size, margins, plan_by, plan_in}
 use Rattle.plan_parts.specs.Printing.{identities, mark, mark_inks, marks, screen, screen_named, screens}
 use Rattle.plan_json.specs.Zoning.{section_pages, section, sections, new_page, replace, replaced, zone, zones, site_zone, site, sites, zone_names}

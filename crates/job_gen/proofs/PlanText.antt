@@ -4,7 +4,7 @@ use Rattle.std.specs.Fmt.{digits}
 use Rattle.std.specs.Str.{IsUtf8}
 use Rattle.serde_json.specs.Data.{Data, depth}
 use Rattle.serde_json.specs.Read.{max_depth, read}
-use Rattle.plan_words.specs.Reading.{◌>>=◌}
+use Rattle.plan_parts.specs.Reading.{◌>>=◌}
 use Rattle.plan_json.specs.PlanOf.{plan_in, plan_of}
 use Rattle.plan_json.proofs.Json.{json-some}
 use Rattle.job_gen.specs.Numbers.{page_count, site_count, size_of}

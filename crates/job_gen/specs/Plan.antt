@@ -5,7 +5,7 @@ use Rattle.plan_parts.specs.declared.printing.Screen.{Screen}
 use Rattle.plan_parts.specs.declared.printing.Screen.TheVariants.{Bayer, Diffuse}
 use Rattle.plan_parts.specs.Data.{LayerData, MarkData, PageData}
 use Rattle.plan_json.specs.Data.{PlanData, SectionData, SiteData, ZoneData}
-use Rattle.plan_parts.specs.Pages.{black}
+use Rattle.plan_json.specs.Pages.{black}
 use Rattle.plan_parts.specs.Printing.{identities}
 use Rattle.job_gen.specs.Numbers.{page_count, site_count, size_of}
 

@@ -4,8 +4,8 @@ use Rattle.std.specs.Str.{IsUtf8, is_utf8}
 use Rattle.std.proofs.lemmas.Str.{IsUtf8-from_is_utf8, is_utf8-from_IsUtf8}
 use Rattle.serde_json.specs.Data.{Data}
 use Rattle.serde_json.specs.Read.{read}
-use Rattle.plan_words.specs.declared.fault.PlanFault.TheVariants.{NotJson}
-use Rattle.plan_words.specs.Reading.{some_or}
+use Rattle.plan_parts.specs.declared.fault.PlanFault.TheVariants.{NotJson}
+use Rattle.plan_parts.specs.Reading.{some_or}
 use Rattle.plan_json.specs.PlanOf.{json_of}
 
 pub json-some : (bytes : List ℕ) (d : Data) → IsUtf8 bytes → read bytes ≡ Some d → some_or NotJson (json_of bytes) ≡ Ok d

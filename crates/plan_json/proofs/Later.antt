@@ -5,17 +5,17 @@ use Rattle.std.proofs.lemmas.Grind.{common_steps}
 use Rattle.std.proofs.lemmas.Bool.Decides.{nat_tests}
 use Rattle.serde_json.specs.Data.{Data, Items, no_items, item, Members, no_members, member}
 use Rattle.serde_json.specs.Find.{get}
-use Rattle.plan_parts.specs.declared.named.NamedLayer.{NamedLayer}
-use Rattle.plan_parts.specs.declared.named.Painting.{Painting}
+use Rattle.plan_json.specs.declared.named.NamedLayer.{NamedLayer}
+use Rattle.plan_json.specs.declared.named.Painting.{Painting}
 use Rattle.plan_parts.specs.declared.printing.Screen.{Screen}
 use Rattle.plan_parts.specs.Data.{TileData, CurveData, MarkData}
 use Rattle.plan_json.specs.Data.{PlanData}
 use Rattle.plan_json.specs.Printed.{Inks, Layout}
-use Rattle.plan_words.specs.Reading.{Reader, at_key, at_item, is_among, first_unknown, object_with, ink_keys, required_in, required, optional_in, optional, items_within, each_after, list_of}
+use Rattle.plan_parts.specs.Reading.{Reader, at_key, at_item, is_among, first_unknown, object_with, ink_keys, required_in, required, optional_in, optional, items_within, each_after, list_of}
 use Rattle.plan_parts.specs.Printing.{screens, curves, mark_inks, mark, marks}
-use Rattle.plan_parts.specs.Pages.{PageText, ink, painting, layer, layers, inks_named, page_inks, page, pages}
+use Rattle.plan_json.specs.Pages.{PageText, ink, painting, layer, layers, inks_named, page_inks, page, pages}
 use Rattle.plan_json.specs.PlanOf.{inks, layout, plan_by}
-use Rattle.plan_words.proofs.Sound.{bind_ok}
+use Rattle.plan_parts.proofs.Sound.{bind_ok}
 
 -- ---- words
 

@@ -12,11 +12,11 @@ use Rattle.plan_parts.specs.declared.printing.Screen.{Screen}
 use Rattle.plan_parts.specs.Data.{TileData, CurveData, MarkData}
 use Rattle.plan_json.specs.Data.{PlanData, SectionData, ZoneData, SiteData}
 use Rattle.plan_json.specs.Laws.{PlanOneIsPlanTwo}
-use Rattle.plan_parts.specs.Pages.{PageText}
-use Rattle.plan_words.specs.Reading.{Reader, ◌>>=◌, at_key, is_among, first_unknown, all_known, object_with, required_in, required, optional_in, optional, number}
+use Rattle.plan_json.specs.Pages.{PageText}
+use Rattle.plan_parts.specs.Reading.{Reader, ◌>>=◌, at_key, is_among, first_unknown, all_known, object_with, required_in, required, optional_in, optional, number}
 use Rattle.plan_json.specs.PlanOf.{front, inks, layout, top_keys, plan_by, plan_in}
 use Rattle.plan_json.proofs.Later.{plan_by_later}
-use Rattle.plan_words.proofs.Sound.{bind_ok}
+use Rattle.plan_parts.proofs.Sound.{bind_ok}
 
 -- ---- two objects that differ in `plan` alone
 

@@ -1,3 +1,4 @@
+pub mod SoundPages
 pub mod SoundZoning
 pub mod Mentions
 pub mod SoundFiles

@@ -8,12 +8,12 @@ use Rattle.std.proofs.lemmas.List.Concat.{flat_map-append}
 use Rattle.std.proofs.lemmas.List.Sums.{fold-append}
 use Rattle.std.proofs.lemmas.Slice.Eq.{bytes_eq-Decides}
 use Rattle.indexmap.specs.IndexSet.{insert_key, insert_all}
-use Rattle.plan_parts.specs.declared.named.NamedLayer.{NamedLayer}
+use Rattle.plan_json.specs.declared.named.NamedLayer.{NamedLayer}
 use Rattle.plan_parts.specs.Data.{LayerData, PageData}
-use Rattle.plan_parts.specs.Pages.{PageText}
+use Rattle.plan_json.specs.Pages.{PageText}
 use Rattle.plan_json.specs.Files.{texts, named_by, named_on, files_of, index_of, layer_of, page_of, pages_of, Places, PlacesAll, NotesMask}
-use Rattle.plan_words.proofs.Places.{list_any-map}
-use Rattle.plan_words.proofs.Sound.{map-push}
+use Rattle.plan_parts.proofs.Places.{list_any-map}
+use Rattle.plan_parts.proofs.Sound.{map-push}
 
 abbrev Texts : Type 0
 Texts = List (List ℕ)

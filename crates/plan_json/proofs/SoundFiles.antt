@@ -10,15 +10,15 @@ use Rattle.std.proofs.lemmas.List.Folds.{list_any_at}
 use Rattle.std.proofs.lemmas.List.FromFn.{get_or-range_with_len, length-range_with_len}
 use Rattle.std.proofs.lemmas.Slice.Eq.{bytes_eq-Decides}
 use Rattle.indexmap.specs.IndexSet.{insert_key, insert_all}
-use Rattle.plan_parts.specs.declared.named.NamedLayer.{NamedLayer}
-use Rattle.plan_words.specs.Forms.{is_file_name}
+use Rattle.plan_json.specs.declared.named.NamedLayer.{NamedLayer}
+use Rattle.plan_parts.specs.Forms.{is_file_name}
 use Rattle.plan_json.specs.Data.{layer_files, mentioned}
-use Rattle.plan_words.specs.Words.{AreDistinct}
+use Rattle.plan_parts.specs.Words.{AreDistinct}
 use Rattle.plan_parts.specs.Parts.{IsLayer, IsPage}
-use Rattle.plan_parts.specs.Pages.{PageText}
+use Rattle.plan_json.specs.Pages.{PageText}
 use Rattle.plan_json.specs.Files.{named_by, named_on, files_of, index_of, layer_of, page_of, pages_of}
 use Rattle.plan_json.proofs.Mentions.{Known, all_known, noted, stays, split, known_below, any_known, none_last, length_last}
-use Rattle.plan_parts.proofs.SoundPages.{IsNamedLayer, IsPageText}
+use Rattle.plan_json.proofs.SoundPages.{IsNamedLayer, IsPageText}
 use Rattle.plan_json.proofs.SoundZoning.{length-map}
 
 abbrev Texts : Type 0

@@ -3,28 +3,28 @@ use Rattle.std.proofs.Common.{◌≡◌, ℕ, ◌≤◌, ◌==◌, Bool, true, L
 use Rattle.std.specs.Prelude.{All, codes}
 use Rattle.std.proofs.lemmas.Grind.{common_steps}
 use Rattle.serde_json.specs.Data.{Data}
-use Rattle.plan_words.specs.declared.fault.PlanFault.{PlanFault}
-use Rattle.plan_words.specs.declared.fault.PlanFault.TheVariants.{Range}
-use Rattle.plan_words.specs.Gives.{Fails}
-use Rattle.plan_words.proofs.Lists.{fails_then}
+use Rattle.plan_parts.specs.declared.fault.PlanFault.{PlanFault}
+use Rattle.plan_parts.specs.declared.fault.PlanFault.TheVariants.{Range}
+use Rattle.plan_parts.specs.Gives.{Fails}
+use Rattle.plan_parts.proofs.Lists.{fails_then}
 use Rattle.plan_json.specs.declared.front.Front.{Front}
 use Rattle.plan_parts.specs.declared.printing.Screen.{Screen}
-use Rattle.plan_words.specs.Forms.{is_name}
+use Rattle.plan_parts.specs.Forms.{is_name}
 use Rattle.plan_parts.specs.Data.{PageData, TileData, CurveData, MarkData}
 use Rattle.plan_json.specs.Data.{PlanData, SectionData, ZoneData, SiteData, width_over, height_over}
 use Rattle.pr_base.specs.Number.{IsWithin}
 use Rattle.plan_parts.specs.Parts.{IsMark}
 use Rattle.plan_json.specs.Plan.{IsPlan}
 use Rattle.plan_json.specs.Printed.{Inks, Layout}
-use Rattle.plan_words.specs.Reading.{◌>>=◌, ◌>>◌, must, at_key, object_with, required, optional, number, name}
+use Rattle.plan_parts.specs.Reading.{◌>>=◌, ◌>>◌, must, at_key, object_with, required, optional, number, name}
 use Rattle.plan_parts.specs.Printing.{tiles, screens, bayer_screens, curves, identities, marks}
-use Rattle.plan_parts.specs.Pages.{PageText, pages, page_names}
+use Rattle.plan_json.specs.Pages.{PageText, pages, page_names}
 use Rattle.plan_json.specs.Files.{files_of, pages_of}
 use Rattle.plan_json.specs.Zoning.{sections, zones, zone_names, sites}
 use Rattle.plan_json.specs.PlanOf.{top_keys, plan_in, page_size, margins, no_margins, fits_plate, front, inks, layout, joined, plan_by}
-use Rattle.plan_words.proofs.Sound.{ok_is, bind_ok, then_ok, must_ok, required_gives, optional_gives, number_required, number_optional, name_required, nth_sound}
+use Rattle.plan_parts.proofs.Sound.{ok_is, bind_ok, then_ok, must_ok, required_gives, optional_gives, number_required, number_optional, name_required, nth_sound}
 use Rattle.plan_parts.proofs.SoundPrinting.{AreTiles, AreScreens, AreCurves, tiles_sound, no_tiles, screens_sound, bayer_screens_sound, curves_sound, identities_sound, marks_sound, no_marks, inside_sound}
-use Rattle.plan_parts.proofs.SoundPages.{ArePages, pages_sound}
+use Rattle.plan_json.proofs.SoundPages.{ArePages, pages_sound}
 use Rattle.plan_json.proofs.SoundZoning.{AreSections, AreZones, AreSites, sections_sound, zones_sound, no_zones, sites_sound, length-map}
 use Rattle.plan_json.proofs.SoundFiles.{pages_of_are, length-pages_of, names-pages_of, files_are, files_distinct, first_mentions}
 

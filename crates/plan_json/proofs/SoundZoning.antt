@@ -7,16 +7,16 @@ use Rattle.std.proofs.lemmas.Bool.Decides.{nat_tests}
 use Rattle.std.proofs.lemmas.List.Elements.{All-nil, All-push}
 use Rattle.std.proofs.lemmas.List.Quantifiers.{all_pairs_push}
 use Rattle.serde_json.specs.Data.{Data}
-use Rattle.plan_words.specs.declared.fault.PlanFault.{PlanFault}
-use Rattle.plan_words.specs.declared.fault.PlanFault.TheVariants.{Range}
+use Rattle.plan_parts.specs.declared.fault.PlanFault.{PlanFault}
+use Rattle.plan_parts.specs.declared.fault.PlanFault.TheVariants.{Range}
 use Rattle.plan_json.specs.Data.{SectionData, ZoneData, ReplaceData, SiteData}
 use Rattle.pr_base.specs.Number.{IsWithin}
-use Rattle.plan_words.specs.Words.{AreDistinct}
+use Rattle.plan_parts.specs.Words.{AreDistinct}
 use Rattle.plan_json.specs.Plan.{IsSection, IsReplace, ReplaceApart, IsZone, IsSite}
-use Rattle.plan_words.specs.Reading.{Read, ◌>>=◌, ◌>>◌, must, object_with, new_name, index_in, defined, count_of, items_within, each_after, required, optional}
-use Rattle.plan_parts.specs.Pages.{page}
+use Rattle.plan_parts.specs.Reading.{Read, ◌>>=◌, ◌>>◌, must, object_with, new_name, index_in, defined, count_of, items_within, each_after, required, optional}
+use Rattle.plan_json.specs.Pages.{page}
 use Rattle.plan_json.specs.Zoning.{section_keys, replace_keys, zone_keys, site_keys, section_pages, section, sections, section_names, page_count, replaces, new_page, replace, replaced, zone, zones, zone_names, site_zone, site, sites, site_names}
-use Rattle.plan_words.proofs.Sound.{ok_is, required_gives, optional_gives, new_name_required, defined_required, bind_ok, number_sound, defined_sound, items_within_sound, distinct-push, map-push, each_keeps, list_keeps}
+use Rattle.plan_parts.proofs.Sound.{ok_is, required_gives, optional_gives, new_name_required, defined_required, bind_ok, number_sound, defined_sound, items_within_sound, distinct-push, map-push, each_keeps, list_keeps}
 
 none_apart : AreDistinct []
 none_apart i j d less within = absurd (omega arith)

@@ -4,9 +4,9 @@ use Rattle.std.proofs.Common.{Bor}
 use Rattle.std.specs.List.{flat_map, position_or_len}
 use Rattle.std.specs.Str.{bytes_eq}
 use Rattle.indexmap.specs.IndexSet.{insert_all}
-use Rattle.plan_parts.specs.declared.named.NamedLayer.{NamedLayer}
+use Rattle.plan_json.specs.declared.named.NamedLayer.{NamedLayer}
 use Rattle.plan_parts.specs.Data.{LayerData, PageData}
-use Rattle.plan_parts.specs.Pages.{PageText}
+use Rattle.plan_json.specs.Pages.{PageText}
 
 -- ---- which files, in which order
 

@@ -1,4 +1,5 @@
 pub mod Data
+pub mod Pages
 pub mod Plan
 pub mod Shown
 pub mod Zoning

@@ -2,9 +2,9 @@
 use Rattle.std.specs.Prelude.{◌≡◌, ◌<◌, ◌≤◌, ℕ, ◌%◌, ◌==◌, ◌&&◌, IsTrue, nat_eq, not, List, [], length, map, slice_index_or, IfSome, All, AllPairs}
 use Rattle.std.specs.List.{range_with_len}
 use Rattle.indexmap.specs.IndexSet.{insert_all}
-use Rattle.plan_words.specs.Forms.{is_name, is_file_name}
+use Rattle.plan_parts.specs.Forms.{is_name, is_file_name}
 use Rattle.pr_base.specs.Number.{IsWithin}
-use Rattle.plan_words.specs.Words.{AreDistinct}
+use Rattle.plan_parts.specs.Words.{AreDistinct}
 use Rattle.plan_parts.specs.Parts.{IsTile, IsScreen, IsCurve, IsMark, IsPage}
 use Rattle.plan_json.specs.Data.{PlanData, SectionData, ZoneData, ReplaceData, SiteData, plate_width, plate_height, mentioned}
 

@@ -3,7 +3,7 @@ use Rattle.std.specs.Prelude.{List}
 use Rattle.plan_parts.specs.declared.printing.Screen.{Screen}
 use Rattle.plan_parts.specs.Data.{TileData, CurveData, MarkData}
 use Rattle.plan_json.specs.Data.{SectionData, ZoneData, SiteData}
-use Rattle.plan_parts.specs.Pages.{PageText}
+use Rattle.plan_json.specs.Pages.{PageText}
 
 -- how inks are printed
 pub record Inks : Type 0 where

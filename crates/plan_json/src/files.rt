@@ -6,8 +6,9 @@ ghost use Rattle.std.specs.Str.{bytes_eq};
 ghost use Rattle.indexmap.specs.IndexSet.{insert_all, insert_key};
 ghost use Rattle.plan_json.specs.Files as spec;
 
+use crate::named::{NamedLayer, NamedPage};
 use indexmap::IndexSet;
-use plan_parts::{NamedLayer, NamedPage, Page, PlanLayer};
+use plan_parts::{Page, PlanLayer};
 use pr_base::{NoMemory, PathText};
 use std::alloc::Global;
 

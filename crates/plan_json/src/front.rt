@@ -1,11 +1,11 @@
 // The first keys of a plan: its edition, its resolution, and the sides of pages and plates.
 ghost use Rattle.std.specs.Prelude.{◌≡◌, ◌≤◌, IfOk};
 ghost use Rattle.plan_json.specs.Data.{width_over, height_over};
-ghost use Rattle.plan_words.specs.Gives.{Gives};
-ghost use Rattle.plan_words.specs.Node.{inside};
+ghost use Rattle.plan_parts.specs.Gives.{Gives};
+ghost use Rattle.plan_parts.specs.Node.{inside};
 ghost use Rattle.plan_json.specs.PlanOf as spec;
 
-use plan_words::{Name, Node, Number, Object, PlanFault, Reader};
+use plan_parts::{Name, Node, Number, Object, PlanFault, Reader};
 use pr_base::PathText;
 
 /// What the first keys of a plan say; lengths are in pixels.

@@ -7,7 +7,10 @@
 mod files;
 mod front;
 mod laws;
+mod named;
 mod plan;
+mod read_layers;
+mod read_pages;
 mod read_sections;
 mod read_sites;
 mod read_zones;
@@ -16,7 +19,6 @@ mod zoning;
 
 pub use laws::plan_one_is_plan_two;
 pub use plan::Plan;
-pub use plan_parts::{Mark, Page, PlanCurve, PlanLayer, PlanTile, Screen};
-pub use plan_words::PlanFault;
+pub use plan_parts::{Mark, Page, PlanCurve, PlanFault, PlanLayer, PlanTile, Screen};
 pub use reading::read_plan;
 pub use zoning::{PlanSite, Replace, Section, Zone};

@@ -1,14 +1,14 @@
 // Reading the sections of a plan.
 ghost use Rattle.std.specs.Prelude.{◌≤◌, List, ℕ, length, codes};
-ghost use Rattle.plan_parts.specs.Pages.{page_names};
-ghost use Rattle.plan_words.specs.Gives.{Gives};
-ghost use Rattle.plan_words.specs.Node.{inside};
-ghost use Rattle.plan_words.specs.Reading.{required};
+ghost use Rattle.plan_json.specs.Pages.{page_names};
+ghost use Rattle.plan_parts.specs.Gives.{Gives};
+ghost use Rattle.plan_parts.specs.Node.{inside};
+ghost use Rattle.plan_parts.specs.Reading.{required};
 ghost use Rattle.plan_json.specs.Zoning as spec;
 
 use crate::Section;
-use plan_parts::NamedPage;
-use plan_words::{Defined, ItemReader, ListOf, NewName, Node, Object, PlanFault, Reader};
+use crate::named::NamedPage;
+use plan_parts::{Defined, ItemReader, ListOf, NewName, Node, Object, PlanFault, Reader};
 
 // Reads the pages of a section, by their names an even number of these.
 #[derive(Drop)]

@@ -1,12 +1,12 @@
 // Reading the print sites of a plan.
 ghost use Rattle.std.specs.Prelude.{codes};
-ghost use Rattle.plan_words.specs.Gives.{Gives};
-ghost use Rattle.plan_words.specs.Node.{inside};
-ghost use Rattle.plan_words.specs.Reading.{required};
+ghost use Rattle.plan_parts.specs.Gives.{Gives};
+ghost use Rattle.plan_parts.specs.Node.{inside};
+ghost use Rattle.plan_parts.specs.Reading.{required};
 ghost use Rattle.plan_json.specs.Zoning as spec;
 
 use crate::{PlanSite, Zone};
-use plan_words::{Defined, ItemReader, ListOf, NewName, Node, Object, PlanFault, Reader};
+use plan_parts::{Defined, ItemReader, ListOf, NewName, Node, Object, PlanFault, Reader};
 
 // Reads the zone of a site, by its name one of these.
 #[derive(Drop)]

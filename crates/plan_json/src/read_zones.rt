@@ -1,15 +1,15 @@
 // Reading the zones of a plan.
 ghost use Rattle.std.specs.Prelude.{◌≡◌, ◌≤◌, ◌<◌, [], length, codes};
 ghost use Rattle.std.specs.List.{list_any};
-ghost use Rattle.plan_parts.specs.Pages.{page_names};
-ghost use Rattle.plan_words.specs.Gives.{Gives};
-ghost use Rattle.plan_words.specs.Node.{inside};
-ghost use Rattle.plan_words.specs.Reading.{optional};
+ghost use Rattle.plan_json.specs.Pages.{page_names};
+ghost use Rattle.plan_parts.specs.Gives.{Gives};
+ghost use Rattle.plan_parts.specs.Node.{inside};
+ghost use Rattle.plan_parts.specs.Reading.{optional};
 ghost use Rattle.plan_json.specs.Zoning as spec;
 
+use crate::named::NamedPage;
 use crate::{Replace, Section, Zone};
-use plan_parts::NamedPage;
-use plan_words::{Defined, ItemReader, ListOf, NewName, Node, Number, Object, PlanFault, Reader};
+use plan_parts::{Defined, ItemReader, ListOf, NewName, Node, Number, Object, PlanFault, Reader};
 
 // Reads a place in a section of so many pages, from 1, that no earlier item replaces.
 #[derive(Drop)]

@@ -1,23 +1,24 @@
 // Reading a plan: from bytes to a value, and from the value to the plan by its table.
 ghost use Rattle.std.specs.Prelude.{◌≡◌, ◌≢◌, IfOk, IfErr, Ok, Err};
-ghost use Rattle.plan_words.specs.Gives.{Gives};
-ghost use Rattle.plan_words.specs.Node.{inside};
+ghost use Rattle.plan_parts.specs.Gives.{Gives};
+ghost use Rattle.plan_parts.specs.Node.{inside};
 ghost use Rattle.plan_json.specs.PlanOf as spec;
-ghost use Rattle.plan_words.specs.Reading.{some_or};
-ghost use Rattle.plan_words.specs.declared.fault.PlanFault.TheVariants.{Memory, NotJson};
+ghost use Rattle.plan_parts.specs.Reading.{some_or};
+ghost use Rattle.plan_parts.specs.declared.fault.PlanFault.TheVariants.{Memory, NotJson};
 ghost use Rattle.serde_json.specs.View.{view};
 
 use crate::files::pages_and_files;
 use crate::front::front_in;
+use crate::named::NamedPage;
+use crate::read_pages::pages_in;
 use crate::read_sections::sections_in;
 use crate::read_sites::sites_in;
 use crate::read_zones::zones_in;
 use crate::{Plan, PlanSite, Section, Zone};
 use plan_parts::{
-    Mark, NamedPage, PlanCurve, PlanTile, Screen, curves_in, marks_in, pages_in, screens_in,
-    tiles_in,
+    Mark, Node, Number, Object, Place, PlanCurve, PlanFault, PlanTile, Screen, curves_in, marks_in,
+    screens_in, tiles_in,
 };
-use plan_words::{Node, Number, Object, Place, PlanFault};
 use serde_json::Value;
 use std::alloc::Global;
 use std::marker::Model;

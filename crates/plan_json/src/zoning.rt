@@ -1,6 +1,6 @@
 // Which pages make which sections, and which site prints which pages.
 
-use plan_words::Named;
+use plan_parts::Named;
 use pr_base::PathText;
 use std::marker::Model;
 

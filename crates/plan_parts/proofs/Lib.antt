@@ -1,2 +1,5 @@
+pub mod Texts
+pub mod Places
+pub mod Lists
+pub mod Sound
 pub mod SoundPrinting
-pub mod SoundPages

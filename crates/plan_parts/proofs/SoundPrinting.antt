@@ -10,16 +10,16 @@ use Rattle.std.proofs.lemmas.Grind.{common_steps}
 use Rattle.std.proofs.lemmas.Bool.Decides.{nat_tests}
 use Rattle.std.proofs.lemmas.List.Elements.{All-nil, All-cons, All-push}
 use Rattle.serde_json.specs.Data.{Data}
-use Rattle.plan_words.specs.declared.fault.PlanFault.TheVariants.{Range, Unknown}
+use Rattle.plan_parts.specs.declared.fault.PlanFault.TheVariants.{Range, Unknown}
 use Rattle.plan_parts.specs.declared.printing.Screen.{Screen}
 use Rattle.plan_parts.specs.declared.printing.Screen.TheVariants.{Bayer, Diffuse, Own}
 use Rattle.plan_parts.specs.Data.{TileData, CurveData, MarkData}
 use Rattle.pr_base.specs.Number.{IsWithin}
-use Rattle.plan_words.specs.Words.{AreDistinct}
+use Rattle.plan_parts.specs.Words.{AreDistinct}
 use Rattle.plan_parts.specs.Parts.{IsTile, IsScreen, IsCurve, IsMark, place}
-use Rattle.plan_words.specs.Reading.{Read, ◌>>=◌, ◌>>◌, must, some_or, text, new_name, object_with, ink_keys, number, index_in, required, optional}
+use Rattle.plan_parts.specs.Reading.{Read, ◌>>=◌, ◌>>◌, must, some_or, text, new_name, object_with, ink_keys, number, index_in, required, optional}
 use Rattle.plan_parts.specs.Printing.{tile_keys, mark_keys, bytes_of, tile, tiles, tile_names, screen_named, own_screen, screen, screens, bayer_screens, identity, identities, is_rising, spans, point, points, curve, curves, taken, flags_in, mark_inks, mark, marks}
-use Rattle.plan_words.proofs.Sound.{ok_is, then_ok, must_ok, required_gives, optional_gives, number_required, new_name_required, nth_sound, bind_ok, number_sound, index_below, distinct-push, map-push, list_keeps}
+use Rattle.plan_parts.proofs.Sound.{ok_is, then_ok, must_ok, required_gives, optional_gives, number_required, new_name_required, nth_sound, bind_ok, number_sound, index_below, distinct-push, map-push, list_keeps}
 
 -- ---- tiles
 

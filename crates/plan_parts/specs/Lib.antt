@@ -1,4 +1,9 @@
+pub mod Words
+pub mod Forms
+pub mod Reading
+pub mod Gives
+pub mod Place
+pub mod Node
 pub mod Data
 pub mod Parts
 pub mod Printing
-pub mod Pages

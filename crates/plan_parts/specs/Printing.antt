@@ -2,12 +2,12 @@
 use Rattle.std.specs.Prelude.{ℕ, ◌+◌, ◌-◌, ◌*◌, ◌==◌, ◌&&◌, ◌||◌, Bool, true, false, not, if◌then◌else◌, nat_le, nat_lt, nat_eq, List, [], ◌∷◌, length, map, drop, Option, Some, None, Ok, Err, option_map, slice_index_or, codes}
 use Rattle.std.specs.List.{list_any, starts_with}
 use Rattle.std.specs.Str.{bytes_eq}
-use Rattle.plan_words.specs.declared.fault.PlanFault.TheVariants.{Range, Unknown}
+use Rattle.plan_parts.specs.declared.fault.PlanFault.TheVariants.{Range, Unknown}
 use Rattle.plan_parts.specs.declared.printing.Screen.{Screen}
 use Rattle.plan_parts.specs.declared.printing.Screen.TheVariants.{Bayer, Diffuse, Own}
 use Rattle.plan_parts.specs.Data.{TileData, CurveData, MarkData}
 use Rattle.plan_parts.specs.Parts.{place}
-use Rattle.plan_words.specs.Reading.{Read, Reader, ◌>>=◌, ◌>>◌, must, some_or, object_with, ink_keys, required, optional, number, text, new_name, index_in, items_within, list_of, nth}
+use Rattle.plan_parts.specs.Reading.{Read, Reader, ◌>>=◌, ◌>>◌, must, some_or, object_with, ink_keys, required, optional, number, text, new_name, index_in, items_within, list_of, nth}
 
 -- ---- tiles
 

@@ -1,6 +1,6 @@
 // How inks are printed: threshold tiles, screens, tone curves and the marks on the plate.
 
-use plan_words::Named;
+use crate::Named;
 use pr_base::PathText;
 use std::marker::Model;
 

@@ -1,12 +1,11 @@
 // Reading tone curves, one for each ink.
 ghost use Rattle.std.specs.Prelude.{◌≡◌, IfOk, codes};
-ghost use Rattle.plan_words.specs.Gives.{Gives};
-ghost use Rattle.plan_words.specs.Node.{inside};
-ghost use Rattle.plan_words.specs.Reading.{optional};
+ghost use Rattle.plan_parts.specs.Gives.{Gives};
+ghost use Rattle.plan_parts.specs.Node.{inside};
+ghost use Rattle.plan_parts.specs.Reading.{optional};
 ghost use Rattle.plan_parts.specs.Printing as spec;
 
-use crate::PlanCurve;
-use plan_words::{ItemReader, ListOf, Node, Number, Object, PlanFault, Reader};
+use crate::{ItemReader, ListOf, Node, Number, Object, PlanCurve, PlanFault, Reader};
 use pr_base::NoMemory;
 use std::alloc::Global;
 

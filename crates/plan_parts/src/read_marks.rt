@@ -1,12 +1,11 @@
 // Reading the marks of a plate.
 ghost use Rattle.std.specs.Prelude.{◌≡◌, [], codes};
-ghost use Rattle.plan_words.specs.Gives.{Gives};
-ghost use Rattle.plan_words.specs.Node.{inside};
-ghost use Rattle.plan_words.specs.Reading.{optional};
+ghost use Rattle.plan_parts.specs.Gives.{Gives};
+ghost use Rattle.plan_parts.specs.Node.{inside};
+ghost use Rattle.plan_parts.specs.Reading.{optional};
 ghost use Rattle.plan_parts.specs.Printing as spec;
 
-use crate::Mark;
-use plan_words::{ItemReader, ListOf, Node, Number, Object, PlanFault, Reader};
+use crate::{ItemReader, ListOf, Mark, Node, Number, Object, PlanFault, Reader};
 
 // Reads a mark of plates of this width and height, in pixels.
 #[derive(Drop)]

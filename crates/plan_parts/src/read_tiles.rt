@@ -1,13 +1,15 @@
 // Reading threshold tiles, and the screen of each ink.
 ghost use Rattle.std.specs.Prelude.{◌≡◌, [], Some, None, option_map, drop, nat_eq, if◌then◌else◌, codes};
 ghost use Rattle.std.specs.List.{starts_with};
-ghost use Rattle.plan_words.specs.Gives.{Gives};
-ghost use Rattle.plan_words.specs.Node.{at, inside};
+ghost use Rattle.plan_parts.specs.Gives.{Gives};
+ghost use Rattle.plan_parts.specs.Node.{at, inside};
 ghost use Rattle.plan_parts.specs.Printing as spec;
-ghost use Rattle.plan_words.specs.Reading.{number, optional};
+ghost use Rattle.plan_parts.specs.Reading.{number, optional};
 
-use crate::{PlanTile, Screen};
-use plan_words::{ItemReader, ListOf, NewName, Node, Number, Object, PlanFault, Reader, index_of};
+use crate::{
+    ItemReader, ListOf, NewName, Node, Number, Object, PlanFault, PlanTile, Reader, Screen,
+    index_of,
+};
 
 // Reads a number of a tile.
 #[derive(Drop)]

@@ -9,7 +9,7 @@ use Rattle.std.proofs.lemmas.List.Elements.{All-nil, All-cons, All-head, All-tai
 use Rattle.pr_base.specs.declared.ink.Ink.{Ink}
 use Rattle.pr_base.specs.declared.ink.Ink.TheVariants.{C, M, Y, K, S}
 use Rattle.plan_json.specs.Data.{PlanData, SiteData, SectionData}
-use Rattle.plan_words.specs.Forms.{is_name, is_name_byte}
+use Rattle.plan_parts.specs.Forms.{is_name, is_name_byte}
 use Rattle.plan_json.specs.Plan.{IsPlan, IsSite, IsSection}
 use Rattle.plan_rows.specs.declared.group.Group.{Group}
 use Rattle.plan_rows.specs.Paths.{letter_of, three_digits, site_name, section_name, path_of, path_text, name_text}

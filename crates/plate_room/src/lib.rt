@@ -8,6 +8,6 @@ mod main_call;
 mod number;
 
 pub use main_call::plate_main;
-pub use ring_run::{FeedEnd, Outcome, SiteEnd, feed_turn, run_job};
+pub use ring_run::{FeedEnd, Outcome, SiteEnd, feed_turn};
 pub use room_base::{Refusal, Whose};
-pub use room_run::generated_jobs_pass;
+pub use room_run::{generated_jobs_pass, run_job};

@@ -1,6 +1,5 @@
 // The rows of a job in order.
 ghost use Rattle.std.specs.Prelude.{◌≡◌, ◌<◌, ◌≤◌, IfOk, Some, length, slice_get};
-ghost use Rattle.std.specs.Thread.{IsSync};
 ghost use Rattle.press_feed.specs.Band.{frame_bytes};
 ghost use Rattle.press_job.specs.Rows.{plate_frames};
 
@@ -8,7 +7,7 @@ use crate::band::Band;
 use crate::row_maker::RowMaker;
 use plan_json::{Plan, Screen};
 use pr_base::{Deal, NoMemory, RowFeed};
-use press_job::Job;
+use press_job::{BandFeed, Job};
 use std::alloc::Global;
 use std::marker::Model;
 use std::thread::{Threads, available_parallelism};
@@ -21,16 +20,6 @@ const SHARE_BYTES: usize = 1 << 22;
 
 /// A job whose frames have fewer bytes together isn't worth a second thread.
 const FEW_BYTES: u64 = 1 << 20;
-
-/// A feed that may make rows before they are asked for.
-///
-/// Implementers make them in threads of their own, and say that the rows still to come stay what they are.
-pub trait BandFeed: RowFeed {
-    /// Makes the next rows side by side, if none stands ready. No call takes memory.
-    fn make_band<T: Threads + Sync>(&mut self, rt: &T)
-        requires { IsSync T.row }
-        ensures { Self.left self.new ≡ Self.left self.old };
-}
 
 /// The rows of a job from the first on, each made when it is asked for, or before, in a band. It holds no
 /// whole page. After it is opened nothing takes memory, and nothing fails. Contracts see the job, and the

@@ -17,5 +17,5 @@ mod side;
 mod side_pages;
 mod tones;
 
-pub use feed::{BandFeed, Feed};
+pub use feed::Feed;
 pub use press_job::{Job, Refusal, prepare, spotless_law};

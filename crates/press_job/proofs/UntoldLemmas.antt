@@ -11,7 +11,7 @@ use Rattle.pr_base.specs.declared.fault.FileFault.{FileFault}
 use Rattle.pr_base.specs.declared.fault.TagFault.{TagFault}
 use Rattle.pr_base.specs.declared.fault.FaultKind.TheVariants.{TooLong}
 use Rattle.pr_ports.specs.Shelf.{held_at}
-use Rattle.plan_words.specs.Words.{AreDistinct}
+use Rattle.plan_parts.specs.Words.{AreDistinct}
 use Rattle.plan_json.specs.Data.{PlanData}
 use Rattle.press_job.specs.declared.fit.Misfit.{Misfit}
 use Rattle.press_job.specs.declared.refusal.Refusal.{Refusal}

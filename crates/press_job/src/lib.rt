@@ -2,6 +2,7 @@
 // want of memory. What the rows of its plates are is defined here, and the crates above make them.
 #![tactic(auto)]
 
+mod band_feed;
 mod file_test;
 mod files;
 mod fit;
@@ -13,6 +14,7 @@ mod preparing;
 mod refusal;
 mod usage;
 
+pub use band_feed::BandFeed;
 pub use job::Job;
 pub use laws::spotless_law;
 pub use layers::{most_layers, put_layers};

@@ -1,4 +1,5 @@
--- Rows by which tests tell plates apart, and what stands between two calls of a test: a rack, a site that goes on, ends.
+-- Rows by which tests tell plates apart, and what stands between two calls of a test: a rack, a site that
+-- goes on, ends.
 use Rattle.std.specs.Prelude.{◌≡◌, ℕ, ◌+◌, ◌<◌, List, [], ◌∷◌, false, map, Some, is_some}
 use Rattle.std.specs.List.{range_with_len}
 use Rattle.tif_packbits.specs.Frame.{frame_of, framed_row}

@@ -76,6 +76,26 @@ pub record IsOpened (before after : ReaderState) (held : HeldRow) : Type 0 where
   pub ahead : before.cursor < after.seen
   pub stays : after ≡ record before { held = true; seen = after.seen; loads = after.loads }
 
+-- the row at the cursor was taken and given back, and the head loaded perhaps
+pub record Closes (old new : ReaderState) : Type 0 where
+  pub reader : new ≡ record old { cursor = old.cursor + 1; seen = new.seen; loads = new.loads }
+  pub known : old.cursor < new.seen
+  pub grows : old.seen ≤ new.seen
+  pub within : new.seen ≤ old.ring.total
+  pub loads : old.loads ≤ new.loads
+  -- a load found a row more
+  pub found : new.loads + old.seen ≤ old.loads + new.seen
+
+-- the rows from the first cursor up to this one were taken and given back, and so many were awaited between
+-- them
+pub record GoesOver (first now : ReaderState) (waits : ℕ) : Type 0 where
+  pub reader : now ≡ record first { cursor = now.cursor; seen = now.seen; loads = now.loads }
+  pub grows : first.cursor ≤ now.cursor
+  pub within : now.cursor ≤ first.ring.total
+  pub seen : first.seen ≤ now.seen
+  pub counted : first.loads + waits ≤ now.loads
+  pub found : now.loads + first.seen ≤ first.loads + waits + now.seen
+
 -- a load found head at the cursor
 pub record IsNotYet (before after : ReaderState) (answer : NotYet) : Type 0 where
   pub head : answer.head ≡ before.cursor

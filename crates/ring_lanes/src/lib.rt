@@ -21,7 +21,7 @@ pub use deck::Deck;
 pub use held::Held;
 pub use note::{CursorNote, HeadNote};
 pub use reader::Reader;
-pub use ring::{Ends, Ring, open_ring, open_ring_with};
+pub use ring::{Ends, Ring, open_ring};
 pub use source::Source;
 pub use waiting::pause;
 pub use writer::Writer;

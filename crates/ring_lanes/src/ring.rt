@@ -53,34 +53,22 @@ pub fn open_ring<'d, D: Deal>(
         opened.ring ≡ ring_of places readers (D.rows deal.now) (D.size deal.now)) }
     ensures fresh { IfOk result (λ opened. opened.fresh ≡ true) }
 {
-    open_ring_with(alloc, deal, places, readers, true)
-}
-
-/// The same, and whether its ends pause between two looks in vain, which helps no one where all threads share
-/// one processor.
-pub fn open_ring_with<'d, D: Deal>(
-    alloc: Global,
-    deal: &'d D,
-    places: u32,
-    readers: u32,
-    pauses: bool,
-) -> Result<Ring<'d, D>, NoMemory>
-    requires some_place { 1 ≤ places }
-    requires few_places { places ≤ 1024 }
-    requires some_reader { 1 ≤ readers }
-    requires few_readers { readers ≤ 17 }
-    requires total { length (D.rows deal.now) ≤ 2 ^ 64 - 2 }
-    requires some_byte { 1 ≤ D.size deal.now }
-    requires few_bytes { D.size deal.now ≤ 8258 }
-    ensures ring { IfOk result (λ opened.
-        opened.ring ≡ ring_of places readers (D.rows deal.now) (D.size deal.now)) }
-    ensures fresh { IfOk result (λ opened. opened.fresh ≡ true) }
-{
     let table = RingTable::new(alloc, deal, places, readers)?;
-    Ok(Ring { table, pauses })
+    Ok(Ring {
+        table,
+        pauses: true,
+    })
 }
 
 impl<'d, D: Deal> Ring<'d, D> {
+    /// Tells whether the ends that it gives out pause between two looks in vain. Where all threads share one
+    /// processor that helps no one. Those of a ring as it is opened do.
+    pub fn set_pauses(&mut self, pauses: bool)
+        ensures { self.new ≡ self.old }
+    {
+        self.pauses = pauses;
+    }
+
     /// Gives out the ends, all of this ring, with every reader joined. It is the first call on the ring;
     /// where there is no memory they are still there.
     pub fn ends(&mut self, alloc: Global) -> Result<Ends<'_, D>, NoMemory>

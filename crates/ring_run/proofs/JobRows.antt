@@ -1,5 +1,5 @@
 -- The rows of a job, and a run's contract over them.
-use Rattle.std.proofs.Common.{◌≡◌, ℕ, Result, List, ◌++◌, length, map, ap, refl, sym, subst, ◌∙◌}
+use Rattle.std.proofs.Common.{◌≡◌, ℕ, Result, List, ◌++◌, length, map, refl, sym, subst, ◌∙◌}
 use Rattle.std.proofs.lemmas.List.{length-map}
 use Rattle.pr_base.specs.Row.{row_size}
 use Rattle.tif_packbits.specs.Frame.{AreFrames, framed_row}

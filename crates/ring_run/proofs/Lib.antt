@@ -1,7 +1,7 @@
 mod Serving
 mod Kept
-mod Running
+pub mod Running
 pub mod JobRows
 mod Rounds
-mod KeyTurns
+pub mod KeyTurns
 mod RoundEnds

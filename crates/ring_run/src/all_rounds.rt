@@ -14,7 +14,7 @@ use crate::seat::Seat;
 use crate::seats::are_going;
 use pr_base::Deal;
 use pr_rack::Rack;
-use press_feed::BandFeed;
+use press_job::BandFeed;
 use ring_lanes::{Reader, Writer};
 use ring_turns::{Pace, Pairs};
 use std::thread::Threads;

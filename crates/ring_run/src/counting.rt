@@ -11,7 +11,7 @@ use std::marker::Model;
 
 /// A key reader of a run. Contracts see the key reader.
 #[derive(Drop)]
-pub(crate) struct RunKeyReader<'p> {
+pub struct RunKeyReader<'p> {
     reader: KeyReader<'p>,
 }
 
@@ -23,14 +23,14 @@ impl<'p> Model for RunKeyReader<'p> {
 
 impl<'p> RunKeyReader<'p> {
     /// This key reader.
-    pub(crate) fn new(reader: KeyReader<'p>) -> RunKeyReader<'p>
+    pub fn new(reader: KeyReader<'p>) -> RunKeyReader<'p>
         ensures { result ≡ reader.entry }
     {
         RunKeyReader { reader }
     }
 
     /// Its counts.
-    pub(crate) fn into_counts(self) -> Counts
+    pub fn into_counts(self) -> Counts
         ensures { result ≡ self.entry.counts }
     {
         self.reader.into_counts()

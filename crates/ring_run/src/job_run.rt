@@ -1,10 +1,9 @@
-// A run: all plates of a job, on the racks of its sites.
-ghost use Rattle.std.specs.Prelude.{◌≡◌, ◌+◌, ◌<◌, ◌≤◌, IfOk, OnErr, drop, length};
+// A run of a job over its ring, by a feed that has the job's rows.
+ghost use Rattle.std.specs.Prelude.{◌≡◌, ◌+◌, ◌≤◌, IfOk, drop, length};
 ghost use Rattle.pr_rack.specs.Told.{all_told};
-ghost use Rattle.pr_base.specs.Number.{IsWithin};
 ghost use Rattle.press_job.specs.Rows.{plate_frames, plate_rows};
-ghost use Rattle.site_agent.specs.Racks.{AreIdle, KeepCounts};
-ghost use Rattle.ring_run.specs.Fits.{RunFits, RunLeaves, RunPart, by_job};
+ghost use Rattle.site_agent.specs.Racks.{AreIdle};
+ghost use Rattle.ring_run.specs.Fits.{RunLeaves, by_job};
 ghost use Rattle.ring_run.specs.Keyed.{AllKeysFit, AreFreshKeys};
 ghost use Rattle.ring_run.specs.Served.{IsRun};
 
@@ -13,80 +12,12 @@ use crate::counting::RunKeyReader;
 use crate::rows::Run;
 use pr_base::NoMemory;
 use pr_rack::Rack;
-use press_feed::{BandFeed, Feed, Job};
-use std::alloc::Global;
+use press_job::{BandFeed, Job};
 use std::thread::Threads;
 
-/// Delivers the plates of a job, each site's to the rack of its number, with paths below the folder `out`.
-/// A site whose rack fails leaves, and the others go on. The rows pass from one writer to the sites through a
-/// ring of `ring` places; all work side by side, in rounds, and in its turn of a round each looks at most
-/// `patience` times in vain for a row or a place; sites that share a thread do so together.
-pub fn run_job<T: Threads + Sync, R: Rack + Send>(
-    rt: &T,
-    alloc: Global,
-    job: &Job,
-    racks: &mut [R],
-    out: &str,
-    ring: u32,
-    patience: u32,
-) -> Result<Outcome, NoMemory>
-    requires racks { length job.now.plan.sites ≤ length racks.old }
-    requires idle { AreIdle (length job.now.plan.sites) (all_told R.Rack racks.old) }
-    requires ring { IsWithin 1 1024 ring }
-    requires patience { IsWithin 1 65536 patience }
-    // Each site's end fits what its rack has more than before.
-    ensures fits { IfOk result (λ outcome. RunFits
-        (by_job job.now out.now (length job.now.plan.sites) ring)
-        (all_told R.Rack racks.old) (all_told R.Rack racks.new) outcome.sites.items) }
-    // Want of memory: each rack has the first of its site's files more, and the first of its rows.
-    ensures part { OnErr result (RunPart
-        (by_job job.now out.now (length job.now.plan.sites) ring)
-        (all_told R.Rack racks.old) (all_told R.Rack racks.new)) }
-    // What stands of the racks, whatever the answer.
-    ensures counts { KeepCounts (all_told R.Rack racks.old) (all_told R.Rack racks.new) }
-    ensures others { drop (length job.now.plan.sites) racks.new ≡ drop (length job.now.plan.sites) racks.old }
-{
-    let plan = job.plan();
-    let run = Run {
-        alloc,
-        plan,
-        rows: job.rows(),
-        out,
-        readers: plan.sites.len() as u32,
-        ring,
-        patience,
-    };
-    run_all(rt, &run, job, racks, &mut [])
-}
-
-/// The same with key readers that count the rows. A feed is dropped nowhere else, since what a function drops
-/// on each of its paths is proved for each.
-pub(crate) fn run_all<T: Threads + Sync, R: Rack + Send>(
-    rt: &T,
-    run: &Run<'_>,
-    job: &Job,
-    racks: &mut [R],
-    keys: &mut [RunKeyReader<'_>],
-) -> Result<Outcome, NoMemory>
-    requires run { IsRun run.now.plan.now run.now.rows.now run.now.ring run.now.patience }
-    requires plan { run.now.plan.now ≡ job.now.plan }
-    requires readers { run.now.readers ≡ length job.now.plan.sites + length keys.old }
-    requires few_keys { length keys.old ≤ 1 }
-    requires zeros { AreFreshKeys job.now.plan keys.old }
-    requires racks { length job.now.plan.sites ≤ length racks.old }
-    requires idle { AreIdle (length job.now.plan.sites) (all_told R.Rack racks.old) }
-    ensures leaves { RunLeaves (by_job job.now run.now.out.now run.now.readers run.now.ring)
-        (all_told R.Rack racks.old) (all_told R.Rack racks.new) result }
-    ensures others { drop (length job.now.plan.sites) racks.new ≡ drop (length job.now.plan.sites) racks.old }
-    ensures keys { IfOk result (λ _. AllKeysFit job.now.plan
-        (plate_rows job.now.plan job.now.files) keys.old keys.new) }
-{
-    let mut feed = Feed::open_wide(rt, run.alloc, job)?;
-    run_fed(rt, run, job, &mut feed, racks, keys)
-}
-
-/// The same with a feed that has all rows of the job to come.
-fn run_fed<T: Threads + Sync, F: BandFeed + Send, R: Rack + Send>(
+/// Delivers the plates of a job, each site's to the rack of its number, as `run` says; the key readers count
+/// the rows. The feed has all rows of the job to come.
+pub fn run_fed<T: Threads + Sync, F: BandFeed + Send, R: Rack + Send>(
     rt: &T,
     run: &Run<'_>,
     job: &Job,

@@ -1,6 +1,6 @@
-// The run of a job: one writer and every site, side by side over a ring, round after round. `run_job`
-// delivers the plates of a job to the racks of its sites, and answers how each site ended; `run_keys` counts
-// the ink keys of the plates too.
+// The run of a job: one writer and every site, side by side over a ring, round after round. `run_fed` delivers
+// the plates of a job, whose rows a feed gives, to the racks of its sites, and answers how each site ended; key
+// readers count the ink keys of the plates beside them.
 #![tactic(auto)]
 
 mod all_rounds;
@@ -8,7 +8,6 @@ mod at_end;
 mod counting;
 mod ends;
 mod job_run;
-mod keys_run;
 mod round;
 mod rows;
 mod seat;
@@ -16,7 +15,8 @@ mod seats;
 mod site;
 mod site_end;
 
-pub use job_run::run_job;
-pub use keys_run::run_keys;
+pub use counting::RunKeyReader;
+pub use job_run::run_fed;
 pub use ring_turns::{FeedEnd, feed_turn};
+pub use rows::Run;
 pub use site_end::{Outcome, SiteEnd};

@@ -15,7 +15,7 @@ use crate::counting::RunKeyReader;
 use crate::seat::Seat;
 use pr_base::Deal;
 use pr_rack::Rack;
-use press_feed::BandFeed;
+use press_job::BandFeed;
 use ring_lanes::{Reader, Writer};
 use ring_turns::{Pace, Pairs, turn_all};
 use std::thread::Threads;

@@ -21,8 +21,8 @@ use plan_json::Plan;
 use plan_rows::RowPlan;
 use pr_base::{Deal, NoMemory};
 use pr_rack::Rack;
-use press_feed::BandFeed;
-use ring_lanes::{Ends, Reader, Ring, Writer, open_ring_with};
+use press_job::BandFeed;
+use ring_lanes::{Ends, Reader, Ring, Writer, open_ring};
 use ring_turns::Pace;
 use std::alloc::Global;
 use std::thread::Threads;
@@ -37,14 +37,14 @@ fn tell_slots<R: Rack>(racks: &[R])
 /// What doesn't change while a run goes on: its plan and the order of its rows, the folder of the plates, how
 /// many readers and places the ring has, and how often a turn looks in vain.
 #[derive(Drop)]
-pub(crate) struct Run<'p> {
-    pub(crate) alloc: Global,
-    pub(crate) plan: &'p Plan,
-    pub(crate) rows: &'p RowPlan,
-    pub(crate) out: &'p str,
-    pub(crate) readers: u32,
-    pub(crate) ring: u32,
-    pub(crate) patience: u32,
+pub struct Run<'p> {
+    pub alloc: Global,
+    pub plan: &'p Plan,
+    pub rows: &'p RowPlan,
+    pub out: &'p str,
+    pub readers: u32,
+    pub ring: u32,
+    pub patience: u32,
 }
 
 /// The ends of a run's ring: the writer's, those of the sites, and those of the further readers.
@@ -172,8 +172,8 @@ impl Run<'_> {
         // A row's number is far below the word of a reader that left.
         let total = self.rows.total();
         prove!(total < u64::MAX);
-        let pauses = Pace::of(rt, self.patience).pauses;
-        let mut table = open_ring_with(self.alloc, deal, self.ring, self.readers, pauses)?;
+        let mut table = open_ring(self.alloc, deal, self.ring, self.readers)?;
+        table.set_pauses(Pace::of(rt, self.patience).pauses);
         self.run_on(rt, &mut table, feed, racks, keys)
     }
 }

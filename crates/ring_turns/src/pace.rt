@@ -4,8 +4,8 @@ ghost use Rattle.std.specs.Prelude.{◌≡◌, ◌<◌, ◌≤◌};
 use std::thread::{Threads, available_parallelism};
 
 /// How the turns of a round are taken: how often each may wait in vain, in how many threads those of all ends
-/// but one are, whether an end pauses between two looks in vain, and whether the one takes its turn apart, in a
-/// thread of its own.
+/// but one are, whether an end pauses between two looks in vain, and whether the one takes its turn apart, in
+/// a thread of its own.
 #[derive(Clone, Copy)]
 pub struct Pace {
     pub patience: u32,

@@ -5,7 +5,7 @@ use Rattle.pr_base.specs.declared.fault.FileFault.{FileFault}
 use Rattle.pr_base.specs.declared.fault.FaultKind.TheVariants.{TooLong}
 use Rattle.pr_base.specs.Count.{Rose}
 use Rattle.pr_ports.specs.Shelf.{IsHeldAt, IsLongerAt, held_at}
-use Rattle.plan_words.specs.declared.fault.PlanFault.{PlanFault}
+use Rattle.plan_parts.specs.declared.fault.PlanFault.{PlanFault}
 use Rattle.plan_json.specs.Data.{PlanData}
 use Rattle.plan_json.specs.PlanOf.{plan_of}
 use Rattle.press_job.specs.declared.refusal.Refusal as filed

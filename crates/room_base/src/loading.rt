@@ -7,7 +7,7 @@ use crate::refusal::{Refusal, Stop, Whose};
 use plan_json::{Plan, PlanFault, read_plan};
 use pr_base::PathText;
 use pr_ports::{LoadFault, Shelf};
-use press_feed::{Job, prepare};
+use press_job::{Job, prepare};
 use std::alloc::Global;
 
 /// The bytes of a plan that are read at most.
@@ -35,9 +35,9 @@ pub fn load_job<H: Shelf>(
     };
     match prepare(alloc, plan, folder, shelf) {
         Ok(job) => Ok(job),
-        Err(press_feed::Refusal::File(fault)) => Err(Stop::Refused(Refusal::File(whose, fault))),
-        Err(press_feed::Refusal::Shelf(path)) => Err(Stop::Refused(Refusal::Shelf(path))),
-        Err(press_feed::Refusal::Memory) => Err(Stop::Memory),
+        Err(press_job::Refusal::File(fault)) => Err(Stop::Refused(Refusal::File(whose, fault))),
+        Err(press_job::Refusal::Shelf(path)) => Err(Stop::Refused(Refusal::Shelf(path))),
+        Err(press_job::Refusal::Memory) => Err(Stop::Memory),
     }
 }
 

@@ -12,13 +12,14 @@ ghost use Rattle.room_base.specs.Seen.{ShelfSeen, sink_seen};
 ghost use Rattle.room_base.specs.Task.{Told};
 
 use crate::dots::told;
+use crate::job_run::run_job;
 use drill_room::{SureRack, SureShelf};
 use job_gen::make_job;
 use plan_json::{Plan, PlanFault, read_plan};
 use pr_base::{NoMemory, PathText};
 use pr_ports::Sink;
 use press_feed::{Job, prepare};
-use ring_run::{SiteEnd, run_job};
+use ring_run::SiteEnd;
 use room_base::{Status, Stop, put_text};
 use std::alloc::Global;
 use std::thread::Threads;

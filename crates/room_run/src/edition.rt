@@ -7,11 +7,12 @@ ghost use Rattle.room_base.specs.Seen.{AreIdle, shelf_seen, sink_seen};
 ghost use Rattle.room_base.specs.Status.{number_of};
 ghost use Rattle.room_base.specs.Task.{Answers};
 
+use crate::job_run::run_job;
 use crate::report::report;
 use pr_ports::{Shelf, Sink};
 use pr_rack::Rack;
 use press_feed::Job;
-use ring_run::{SiteEnd, run_job};
+use ring_run::SiteEnd;
 use room_base::{Status, Stop, Whose, load_job, put_text};
 use std::alloc::Global;
 use std::thread::Threads;

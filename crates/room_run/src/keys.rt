@@ -10,6 +10,7 @@ ghost use Rattle.room_run.specs.Report.{report_of};
 ghost use Rattle.room_base.specs.Seen.{AreIdle, shelf_seen, sink_seen};
 
 use crate::edition::{Edition, status_of};
+use crate::keys_run::run_keys;
 use crate::report::report;
 use ink_keys::Counts;
 use plan_json::Plan;
@@ -18,7 +19,7 @@ use pr_base::Ink;
 use pr_ports::{Shelf, Sink};
 use pr_rack::Rack;
 use press_feed::Job;
-use ring_run::{SiteEnd, run_keys};
+use ring_run::SiteEnd;
 use room_base::{Stop, Whose, load_job, put_text};
 use std::alloc::{AllocError, Global};
 use std::thread::Threads;

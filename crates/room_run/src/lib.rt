@@ -6,11 +6,15 @@
 mod dots;
 mod drill;
 mod edition;
+mod job_run;
 mod keys;
+mod keys_run;
 mod laws;
 mod report;
 
 pub use drill::{Drill, DrillRun, print_drill, run_drill};
 pub use edition::{Edition, run_edition};
+pub use job_run::run_job;
 pub use keys::run_with_keys;
+pub use keys_run::run_keys;
 pub use laws::generated_jobs_pass;

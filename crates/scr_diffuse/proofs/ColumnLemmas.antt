@@ -5,10 +5,9 @@ use Rattle.std.proofs.lemmas.Int.{ints}
 use Rattle.std.proofs.lemmas.List.{get_or-map, get_or_past, length-map}
 use Rattle.scr_diffuse.specs.Diffusers.{AreErrors, AreValues, lane_at, lane_of}
 use Rattle.scr_diffuse.specs.Diffusion.{IsError, error_left, error_of, left_of, prints, v_below}
-use Rattle.scr_diffuse.specs.Passes.{IsNumber, IsSum, errors_in, floor_16, number_at}
+use Rattle.scr_diffuse.specs.Passes.{errors_in, floor_16, number_at}
 use Rattle.scr_diffuse.proofs.DiffusionLemmas.{corrected-small, error-inside, error-outside}
-use Rattle.scr_diffuse.proofs.LaneLemmas.{fits_number, kept, kept_is}
-use Rattle.scr_diffuse.proofs.NumberLemmas.{number_small}
+use Rattle.scr_diffuse.proofs.LaneLemmas.{kept, kept_is}
 use Rattle.scr_diffuse.proofs.RowLemmas.{margined}
 
 -- what a lane holds, told by its list
@@ -63,9 +62,6 @@ values_are numbers f eight same bytes = record {
 abbrev pub whole : ℤ → ℤ → ℤ → ℤ → ℤ → ℤ
 whole v l r a b = (pos 16 *ℤ v) +ℤ (pos 7 *ℤ l) +ℤ (pos 3 *ℤ r) +ℤ (pos 5 *ℤ a) +ℤ b
 
-whole_small : (n : ℕ) (l r a b : ℤ) → n ≤ 255 → IsError l → IsError r → IsError a → IsError b → IsSum (whole (pos n) l r a b)
-whole_small n l r a b byte small_l small_r small_a small_b = record { low = omega (arith, ints); high = omega (arith, ints) }
-
 whole_fits : (n : ℕ) (l r a b : ℤ) → n ≤ 255 → IsError l → IsError r → IsError a → IsError b → FitsSigned w16 (whole (pos n) l r a b)
 whole_fits n l r a b byte small_l small_r small_a small_b = omega (arith, ints)
 
@@ -82,23 +78,22 @@ column_is places row k x l r a b margin left right here corner =
     ∙ ap (λ z. floor_16 (whole (pos n) e (number_at lane (x + 1 + 1)) z b)) (here ∙ sym (lane_is places k (x + 1)))
     ∙ ap (λ z. floor_16 (whole (pos n) e (number_at lane (x + 1 + 1)) (number_at lane (x + 1)) z)) (corner ∙ sym (lane_is places k x) ∙ margined lane x (lane_is places k 0 ∙ margin))
 
--- v and the error of a pixel, of one lane of vectors that are passed on
-pub record IsPixel (above : ℕ → ℤ) (row : List ℕ) (x k : ℕ) (numbers left : List ℤ) (dots : ℕ → Bool) : Type 0 where
+-- the error and the dot of a pixel, of one lane of vectors that are passed on
+pub record IsPixel (above : ℕ → ℤ) (row : List ℕ) (x k : ℕ) (left : List ℤ) (dots : ℕ → Bool) : Type 0 where
   pub error_is : number_at (kept left) k ≡ error_left above row (x + 1)
   pub small : IsError (error_left above row (x + 1))
   pub dot_is : dots k ≡ prints (v_below above row x)
 
-pub pixel_is : (places : List (List ℤ)) (row : List ℕ) (k x : ℕ) (values before right above corner sums numbers left : List ℤ) (dots : ℕ → Bool) → k < 8 → x < length row → get_or row x 0 ≤ 255 → lane_at places 0 k ≡ pos 0
+pub pixel_is : (places : List (List ℤ)) (row : List ℕ) (k x : ℕ) (values before right above corner sums left : List ℤ) (dots : ℕ → Bool) → k < 8 → x < length row → get_or row x 0 ≤ 255 → lane_at places 0 k ≡ pos 0
     → number_at values k ≡ pos (get_or row x 0) → number_at before k ≡ error_left (errors_in (lane_of places k)) row x
     → number_at right k ≡ lane_at places (x + 1 + 1) k → number_at above k ≡ lane_at places (x + 1) k → number_at corner k ≡ lane_at places x k
     → IsError (number_at before k) → IsError (number_at right k) → IsError (number_at above k) → IsError (number_at corner k)
     → length sums ≡ 8 → number_at sums k ≡ whole (number_at values k) (number_at before k) (number_at right k) (number_at above k) (number_at corner k)
-    → length numbers ≡ 8 → (FitsSigned w16 (number_at (kept sums) k) → number_at numbers k ≡ floor_16 (number_at (kept sums) k))
-    → length left ≡ 8 → (IsNumber (number_at (kept numbers) k) → number_at left k ≡ error_of (number_at (kept numbers) k))
-    → (FitsSigned w16 (number_at (kept numbers) k) → dots k ≡ prints (number_at (kept numbers) k))
-    → IsPixel (errors_in (lane_of places k)) row x k numbers left dots
-pixel_is places row k x values before right above corner sums numbers left dots lanes within byte margin value_is before_is right_is above_is corner_is small_l small_r small_a small_b
-    sums_long sums_are numbers_long numbers_are left_long left_are dots_are =
+    → length left ≡ 8 → (FitsSigned w16 (number_at (kept sums) k) → number_at left k ≡ error_of (floor_16 (number_at (kept sums) k)))
+    → (FitsSigned w16 (number_at (kept sums) k) → dots k ≡ prints (floor_16 (number_at (kept sums) k)))
+    → IsPixel (errors_in (lane_of places k)) row x k left dots
+pixel_is places row k x values before right above corner sums left dots lanes within byte margin value_is before_is right_is above_is corner_is small_l small_r small_a small_b
+    sums_long sums_are left_long left_are dots_are =
     let n : ℕ = get_or row x 0 in
     let errors : ℕ → ℤ = errors_in (lane_of places k) in
     let l : ℤ = number_at before k in
@@ -110,11 +105,8 @@ pixel_is places row k x values before right above corner sums numbers left dots 
     let sum : number_at sums k ≡ z = sums_are ∙ ap (λ w. whole w l r a b) value_is in
     let sum_fits : FitsSigned w16 z = whole_fits n l r a b byte small_l small_r small_a small_b in
     let kept_sum : number_at (kept sums) k ≡ z = kept_is sums k z sums_long lanes sum sum_fits in
-    let same : floor_16 z ≡ v = column_is places row k x l r a b margin before_is right_is above_is corner_is in
-    let number : number_at numbers k ≡ v = numbers_are (rw kept_sum sum_fits) ∙ ap floor_16 kept_sum ∙ same in
-    let number_low : IsNumber v = subst IsNumber same (number_small z (whole_small n l r a b byte small_l small_r small_a small_b)) in
-    let kept_number : number_at (kept numbers) k ≡ v = kept_is numbers k v numbers_long lanes number (fits_number v number_low) in
-    let error : number_at left k ≡ error_of v = left_are (rw kept_number number_low) ∙ ap error_of kept_number in
+    let same : floor_16 (number_at (kept sums) k) ≡ v = ap floor_16 kept_sum ∙ column_is places row k x l r a b margin before_is right_is above_is corner_is in
+    let error : number_at left k ≡ error_of v = left_are (rw kept_sum sum_fits) ∙ ap error_of same in
     let error_small : IsError (error_of v) =
     corrected-small n (error_left errors row x) (errors (x + 1)) (errors x) (left_of errors x) byte (subst IsError before_is small_l)
     (subst IsError (right_is ∙ sym (lane_is places k (x + 1 + 1))) small_r) (subst IsError (above_is ∙ sym (lane_is places k (x + 1))) small_a)
@@ -123,7 +115,7 @@ pixel_is places row k x values before right above corner sums numbers left dots 
     record {
       error_is = kept_is left k (error_left errors row (x + 1)) left_long lanes (error ∙ next) (fits_error _ (subst IsError next error_small));
       small = subst IsError next error_small;
-      dot_is = dots_are (rw kept_number (fits_number v number_low)) ∙ ap prints kept_number;
+      dot_is = dots_are (rw kept_sum sum_fits) ∙ ap prints same;
     }
 
 -- behind the last column, and past it, no error stands

@@ -1,6 +1,8 @@
 -- Vectors of eight numbers, lane by lane.
-use Rattle.std.proofs.Common.{◌≡◌, ℕ, zero, suc, ◌+◌, ◌-◌, ◌*◌, ◌/◌, ◌%◌, ◌^◌, ◌<◌, Bool, true, false, cond, ℤ, pos, negsuc, ◌+ℤ◌, ◌-ℤ◌, ◌*ℤ◌, FitsSigned, to_z, of_z, List, length, map, replicate, get_or, eqb, subst, refl, ap, sym, ◌∙◌, arith, w16}
+use Rattle.std.proofs.Common.{◌≡◌, ℕ, zero, suc, ◌+◌, ◌-◌, ◌*◌, ◌/◌, ◌%◌, ◌^◌, ◌<◌, Bool, true, false, cond, ℤ, pos, negsuc, neg_ℤ, ◌+ℤ◌, ◌-ℤ◌, ◌*ℤ◌, ◌≤ℤ◌, FitsSigned, to_z, of_z, List, length, map, replicate, get_or, eqb, subst, refl, ap, sym, ◌∙◌, arith, w16}
 use Rattle.std.specs.Int.Signed.{le_z, shr_z}
+use lib.Signed.{lt_z}
+use Rattle.std.proofs.lemmas.Bool.Decides.{nat_tests}
 use Rattle.std.proofs.lemmas.Int.{ints, to_z-of_z, int_wrap_fits, wrapping_add_onto, wrapping_mul_onto, wrapping_sub_onto}
 use Rattle.std.proofs.lemmas.List.{get_or-map, get_or-replicate, length-map}
 use Rattle.std.proofs.lemmas.Simd.{bit_mask_l, get_or-sel_l, get_or-zip2, length-sel_l, length-zip2, mask_l-lt, mask_l-mod}
@@ -8,7 +10,7 @@ use lib.Lanes.{zip2, top, sel_l, mask_l}
 use Rattle.scr_diffuse.specs.Diffusers.{bit_of}
 use Rattle.scr_diffuse.specs.Diffusion.{error_of, prints}
 use Rattle.scr_diffuse.specs.Passes.{IsNumber, floor_16, number_at}
-use Rattle.scr_diffuse.proofs.NumberLemmas.{shifted}
+use Rattle.scr_diffuse.proofs.NumberLemmas.{dot_is, number_small, shifted}
 
 -- numbers that are made from pairs of bits
 pub made_length : (op : ℕ → ℕ → ℕ) (xs ys : List ℕ) → length xs ≡ 8 → length ys ≡ 8 → length (map (to_z w16) (zip2 op xs ys)) ≡ 8
@@ -54,16 +56,6 @@ lessened : (x : ℤ) (on : Bool) → IsNumber x → to_z w16 ((of_z w16 x + (2 ^
 lessened x true number = subtracted x (pos 255) (omega (arith, ints)) (omega (arith, ints)) (omega (arith, ints))
 lessened x false number = subtracted x (pos 0) (omega (arith, ints)) (omega (arith, ints)) (omega (arith, ints)) ∙ omega (arith, ints)
 
-pub fits_number : (x : ℤ) → IsNumber x → FitsSigned w16 x
-fits_number x number = omega (arith, ints)
-
-shift_fits : (z : ℤ) → FitsSigned w16 z → FitsSigned w16 (shr_z z 16)
-shift_fits (pos a) fits = omega (arith, ints)
-shift_fits (negsuc a) fits = omega (arith, ints)
-
-pub shifted_lane : (x : ℤ) → FitsSigned w16 x → to_z w16 (of_z w16 (shr_z x 16)) ≡ floor_16 x
-shifted_lane x fits = to_z-of_z w16 (shr_z x 16) (shift_fits x fits) ∙ shifted x
-
 -- what a compare leaves in a lane's highest bit
 top_of_mask : (b : Bool) → top 15 (cond b 65535 0) ≡ b
 top_of_mask true = refl
@@ -76,40 +68,101 @@ one_if false = refl
 abbrev compared : ℕ → ℕ → ℕ
 compared m n = cond (le_z (to_z w16 m) (to_z w16 n)) 65535 0
 
--- the tests whether a number in a lane prints
+-- the tests whether the pixel of a whole sum in a lane prints
 abbrev pub tests : List ℤ → List Bool
-tests a = map (top 15) (zip2 compared (replicate 8 128) (map (of_z w16) a))
+tests a = map (top 15) (zip2 compared (replicate 8 2048) (map (of_z w16) a))
 
-masks_length : (a : List ℤ) → length a ≡ 8 → length (zip2 compared (replicate 8 128) (map (of_z w16) a)) ≡ 8
-masks_length a eight = length-zip2 compared (replicate 8 128) (map (of_z w16) a) (sym (bits_length a eight))
+masks_length : (a : List ℤ) → length a ≡ 8 → length (zip2 compared (replicate 8 2048) (map (of_z w16) a)) ≡ 8
+masks_length a eight = length-zip2 compared (replicate 8 2048) (map (of_z w16) a) (sym (bits_length a eight))
 
 pub tests_length : (a : List ℤ) → length a ≡ 8 → length (tests a) ≡ 8
-tests_length a eight = length-map (zip2 compared (replicate 8 128) (map (of_z w16) a)) (top 15) ∙ masks_length a eight
+tests_length a eight = length-map (zip2 compared (replicate 8 2048) (map (of_z w16) a)) (top 15) ∙ masks_length a eight
 
-pub tests_at : (a : List ℤ) (k : ℕ) → length a ≡ 8 → k < 8 → FitsSigned w16 (number_at a k) → get_or (tests a) k false ≡ prints (number_at a k)
+pub tests_at : (a : List ℤ) (k : ℕ) → length a ≡ 8 → k < 8 → FitsSigned w16 (number_at a k) → get_or (tests a) k false ≡ prints (floor_16 (number_at a k))
 tests_at a k eight within fits =
-    get_or-map (top 15) (zip2 compared (replicate 8 128) (map (of_z w16) a)) k 0 false (omega (arith, masks_length a eight))
-    ∙ ap (top 15) (get_or-zip2 compared (replicate 8 128) (map (of_z w16) a) k 0 0 0 within (omega (arith, bits_length a eight)))
-    ∙ ap (λ m. top 15 (compared m (get_or (map (of_z w16) a) k 0))) (get_or-replicate 8 k 128 0 within)
-    ∙ ap (λ n. top 15 (compared 128 n)) (bits_at a k eight within)
-    ∙ top_of_mask _ ∙ ap (le_z (pos 128)) (to_z-of_z w16 (number_at a k) fits)
+    get_or-map (top 15) (zip2 compared (replicate 8 2048) (map (of_z w16) a)) k 0 false (omega (arith, masks_length a eight))
+    ∙ ap (top 15) (get_or-zip2 compared (replicate 8 2048) (map (of_z w16) a) k 0 0 0 within (omega (arith, bits_length a eight)))
+    ∙ ap (λ m. top 15 (compared m (get_or (map (of_z w16) a) k 0))) (get_or-replicate 8 k 2048 0 within)
+    ∙ ap (λ n. top 15 (compared 2048 n)) (bits_at a k eight within)
+    ∙ top_of_mask _ ∙ ap (le_z (pos 2048)) (to_z-of_z w16 (number_at a k) fits) ∙ dot_is (number_at a k)
 
 pub chosen_length : (a : List ℤ) → length a ≡ 8 → length {A = ℕ} (sel_l (tests a) (replicate 8 255) (replicate 8 0)) ≡ 8
 chosen_length a eight = length-sel_l {X = ℕ} (tests a) (replicate 8 255) (replicate 8 0) (tests_length a eight) (tests_length a eight) ∙ tests_length a eight
 
-pub chosen_at : (a : List ℤ) (k : ℕ) → length a ≡ 8 → k < 8 → FitsSigned w16 (number_at a k) → get_or {A = ℕ} (sel_l (tests a) (replicate 8 255) (replicate 8 0)) k 0 ≡ cond (prints (number_at a k)) 255 0
+pub chosen_at : (a : List ℤ) (k : ℕ) → length a ≡ 8 → k < 8 → FitsSigned w16 (number_at a k) → get_or {A = ℕ} (sel_l (tests a) (replicate 8 255) (replicate 8 0)) k 0 ≡ cond (prints (floor_16 (number_at a k))) 255 0
 chosen_at a k eight within fits =
     get_or-sel_l {X = ℕ} (tests a) (replicate 8 255) (replicate 8 0) k 0 (omega (arith, tests_length a eight)) within within
     ∙ ap (λ b. cond b (get_or (replicate 8 255) k 0) (get_or (replicate 8 0) k 0)) (tests_at a k eight within fits)
-    ∙ ap (λ n. cond (prints (number_at a k)) n (get_or (replicate 8 0) k 0)) (get_or-replicate 8 k 255 0 within)
-    ∙ ap (λ n. cond (prints (number_at a k)) 255 n) (get_or-replicate 8 k 0 0 within)
+    ∙ ap (λ n. cond (prints (floor_16 (number_at a k))) n (get_or (replicate 8 0) k 0)) (get_or-replicate 8 k 255 0 within)
+    ∙ ap (λ n. cond (prints (floor_16 (number_at a k))) 255 n) (get_or-replicate 8 k 0 0 within)
 
-pub lessened_at : (a : List ℤ) (k : ℕ) → length a ≡ 8 → k < 8 → IsNumber (number_at a k)
-    → to_z w16 ((get_or (map (of_z w16) a) k 0 + (2 ^ 16 - get_or (sel_l (tests a) (replicate 8 255) (replicate 8 0)) k 0)) % 2 ^ 16) ≡ error_of (number_at a k)
-lessened_at a k eight within number =
-    ap (λ m. to_z w16 ((m + (2 ^ 16 - get_or (sel_l (tests a) (replicate 8 255) (replicate 8 0)) k 0)) % 2 ^ 16)) (bits_at a k eight within)
-    ∙ ap (λ n. to_z w16 ((of_z w16 (number_at a k) + (2 ^ 16 - n)) % 2 ^ 16)) (chosen_at a k eight within (fits_number (number_at a k) number))
-    ∙ lessened (number_at a k) (prints (number_at a k)) number
+-- the sixteenths
+abbrev pub shares : List ℤ → List ℕ
+shares a = zip2 (λ m n. of_z w16 (shr_z (to_z w16 m) (2 ^ n))) (map (of_z w16) a) (replicate 8 4)
+
+pub shares_length : (a : List ℤ) → length a ≡ 8 → length (shares a) ≡ 8
+shares_length a eight = length-zip2 (λ m n. of_z w16 (shr_z (to_z w16 m) (2 ^ n))) (map (of_z w16) a) (replicate 8 4) (bits_length a eight) ∙ bits_length a eight
+
+shares_at : (a : List ℤ) (k : ℕ) → length a ≡ 8 → k < 8 → FitsSigned w16 (number_at a k) → get_or (shares a) k 0 ≡ of_z w16 (floor_16 (number_at a k))
+shares_at a k eight within fits =
+    get_or-zip2 (λ m n. of_z w16 (shr_z (to_z w16 m) (2 ^ n))) (map (of_z w16) a) (replicate 8 4) k 0 0 0 (omega (arith, bits_length a eight)) within
+    ∙ ap (λ m. of_z w16 (shr_z (to_z w16 m) (2 ^ get_or (replicate 8 4) k 0))) (bits_at a k eight within)
+    ∙ ap (λ n. of_z w16 (shr_z (to_z w16 (of_z w16 (number_at a k))) (2 ^ n))) (get_or-replicate 8 k 4 0 within)
+    ∙ ap (λ z. of_z w16 (shr_z z 16)) (to_z-of_z w16 (number_at a k) fits) ∙ ap (of_z w16) (shifted (number_at a k))
+
+floor_small : (z : ℤ) → FitsSigned w16 z → IsNumber (floor_16 z)
+floor_small z fits = number_small z (record { low = omega (arith, ints); high = omega (arith, ints) })
+
+pub lessened_at : (a : List ℤ) (k : ℕ) → length a ≡ 8 → k < 8 → FitsSigned w16 (number_at a k)
+    → to_z w16 ((get_or (shares a) k 0 + (2 ^ 16 - get_or (sel_l (tests a) (replicate 8 255) (replicate 8 0)) k 0)) % 2 ^ 16) ≡ error_of (floor_16 (number_at a k))
+lessened_at a k eight within fits =
+    ap (λ m. to_z w16 ((m + (2 ^ 16 - get_or (sel_l (tests a) (replicate 8 255) (replicate 8 0)) k 0)) % 2 ^ 16)) (shares_at a k eight within fits)
+    ∙ ap (λ n. to_z w16 ((of_z w16 (floor_16 (number_at a k)) + (2 ^ 16 - n)) % 2 ^ 16)) (chosen_at a k eight within fits)
+    ∙ lessened (floor_16 (number_at a k)) (prints (floor_16 (number_at a k))) (floor_small (number_at a k) fits)
+
+-- ---- the larger one of a number and a bound that is below it
+
+abbrev below : ℕ → ℕ → ℕ
+below m n = cond (lt_z (to_z w16 m) (to_z w16 n)) 65535 0
+
+abbrev pub below_bound : List ℤ → List Bool
+below_bound a = map (top 15) (zip2 below (map (of_z w16) a) (replicate 8 63536))
+
+below_bound_length : (a : List ℤ) → length a ≡ 8 → length (below_bound a) ≡ 8
+below_bound_length a eight = length-map (zip2 below (map (of_z w16) a) (replicate 8 63536)) (top 15) ∙ length-zip2 below (map (of_z w16) a) (replicate 8 63536) (bits_length a eight) ∙ bits_length a eight
+
+not_below : (x : ℤ) → neg_ℤ (pos 2000) ≤ℤ x → lt_z x (negsuc 1999) ≡ false
+not_below (pos n) most = refl
+not_below (negsuc n) most = grind (arith, ints, nat_tests)
+
+below_bound_at : (a : List ℤ) (k : ℕ) → length a ≡ 8 → k < 8 → FitsSigned w16 (number_at a k) → neg_ℤ (pos 2000) ≤ℤ number_at a k → get_or (below_bound a) k false ≡ false
+below_bound_at a k eight within fits most =
+    get_or-map (top 15) (zip2 below (map (of_z w16) a) (replicate 8 63536)) k 0 false (omega (arith, bits_length a eight, length-zip2 below (map (of_z w16) a) (replicate 8 63536) (bits_length a eight)))
+    ∙ ap (top 15) (get_or-zip2 below (map (of_z w16) a) (replicate 8 63536) k 0 0 0 (omega (arith, bits_length a eight)) within)
+    ∙ ap (λ n. top 15 (below (get_or (map (of_z w16) a) k 0) n)) (get_or-replicate 8 k 63536 0 within)
+    ∙ ap (λ m. top 15 (below m 63536)) (bits_at a k eight within)
+    ∙ top_of_mask _ ∙ ap (λ x. lt_z x (negsuc 1999)) (to_z-of_z w16 (number_at a k) fits) ∙ not_below (number_at a k) most
+
+abbrev pub larger : List ℤ → List ℕ
+larger a = sel_l {A = ℕ} (below_bound a) (replicate 8 63536) (map (of_z w16) a)
+
+pub larger_length : (a : List ℤ) → length a ≡ 8 → length (map (to_z w16) (larger a)) ≡ 8
+larger_length a eight =
+    length-map (larger a) (to_z w16)
+    ∙ length-sel_l {X = ℕ} (below_bound a) (replicate 8 63536) (map (of_z w16) a) (below_bound_length a eight) (below_bound_length a eight ∙ sym (bits_length a eight))
+    ∙ below_bound_length a eight
+
+pub larger_at : (a : List ℤ) (k : ℕ) → length a ≡ 8 → k < 8 → FitsSigned w16 (number_at a k) → neg_ℤ (pos 2000) ≤ℤ number_at a k → number_at (map (to_z w16) (larger a)) k ≡ number_at a k
+larger_at a k eight within fits most =
+    let long : length (larger a) ≡ 8 =
+    length-sel_l {X = ℕ} (below_bound a) (replicate 8 63536) (map (of_z w16) a) (below_bound_length a eight) (below_bound_length a eight ∙ sym (bits_length a eight)) ∙ below_bound_length a eight in
+    get_or-map (to_z w16) (larger a) k 0 (pos 0) (omega (arith, long))
+    ∙ ap (to_z w16) (
+    get_or-sel_l {X = ℕ} (below_bound a) (replicate 8 63536) (map (of_z w16) a) k 0 (omega (arith, below_bound_length a eight)) within (omega (arith, bits_length a eight))
+    ∙ ap (λ b. cond b (get_or (replicate 8 63536) k 0) (get_or (map (of_z w16) a) k 0)) (below_bound_at a k eight within fits most)
+    ∙ bits_at a k eight within
+    )
+    ∙ to_z-of_z w16 (number_at a k) fits
 
 -- the tests as the bits of a byte
 pub byte_fits : (a : List ℤ) → length a ≡ 8 → mask_l (tests a) % 2 ^ 64 < 256
@@ -118,7 +171,7 @@ byte_fits a eight =
     let byte : mask_l (tests a) < 2 ^ 8 = subst (λ (n : ℕ). mask_l (tests a) < 2 ^ n) (tests_length a eight) below in
     subst (λ (n : ℕ). n < 256) (sym (mask_l-mod (tests a) 64 (omega (arith, tests_length a eight)))) byte
 
-pub byte_bits : (a : List ℤ) (k : ℕ) → length a ≡ 8 → k < 8 → FitsSigned w16 (number_at a k) → bit_of (mask_l (tests a) % 2 ^ 64) k ≡ prints (number_at a k)
+pub byte_bits : (a : List ℤ) (k : ℕ) → length a ≡ 8 → k < 8 → FitsSigned w16 (number_at a k) → bit_of (mask_l (tests a) % 2 ^ 64) k ≡ prints (floor_16 (number_at a k))
 byte_bits a k eight within fits =
     ap (λ m. eqb (m / 2 ^ k % 2) 1) (mask_l-mod (tests a) 64 (omega (arith, tests_length a eight)))
     ∙ ap (λ b. eqb b 1) (bit_mask_l (tests a) k) ∙ one_if _ ∙ tests_at a k eight within fits
@@ -158,3 +211,10 @@ product_is a result k x factor long within is fx fits made =
     let ex : number_at (kept a) k ≡ x = kept_is a k x long within is fx in
     let now : FitsSigned w16 x → FitsSigned w16 (x *ℤ factor) → number_at result k ≡ x *ℤ factor = rw ex at made in
     now fx fits
+
+pub settled_is : (a result : List ℤ) (k : ℕ) (x : ℤ) → length a ≡ 8 → k < 8 → number_at a k ≡ x → FitsSigned w16 x → neg_ℤ (pos 2000) ≤ℤ x
+    → (FitsSigned w16 (number_at (kept a) k) → neg_ℤ (pos 2000) ≤ℤ number_at (kept a) k → number_at result k ≡ number_at (kept a) k) → number_at result k ≡ x
+settled_is a result k x long within is fits most made =
+    let ex : number_at (kept a) k ≡ x = kept_is a k x long within is fits in
+    let now : FitsSigned w16 x → neg_ℤ (pos 2000) ≤ℤ x → number_at result k ≡ x = rw ex at made in
+    now fits most

@@ -11,3 +11,4 @@ pub mod SpanLemmas
 pub mod StandLemmas
 pub mod StepLemmas
 pub mod Walks
+pub mod WeaveLemmas

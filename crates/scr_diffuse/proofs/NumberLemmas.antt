@@ -30,7 +30,7 @@ pub shifted-small : (computed z : ℤ) → computed ≡ z → IsSum z → IsNumb
 shifted-small computed z same sum = rw (same, kept z sum) (sixteenth-small z sum.low sum.high)
 
 -- whether a pixel prints is told by its whole sum
-dot_is : (z : ℤ) → le_z (pos 2048) z ≡ prints (floor_16 z)
+pub dot_is : (z : ℤ) → le_z (pos 2048) z ≡ prints (floor_16 z)
 dot_is (pos a) = grind (arith, nat_tests)
 dot_is (negsuc a) = refl
 

@@ -1,5 +1,5 @@
 -- What eight diffusers show, and what they keep.
-use Rattle.std.specs.Prelude.{◌≡◌, ℕ, ◌+◌, ◌-◌, ◌<◌, ◌/◌, ◌%◌, ◌^◌, ◌==◌, Bool, ℤ, pos, ◌≤ℤ◌, List, [], length, map, slice_index, slice_index_or}
+use Rattle.std.specs.Prelude.{◌≡◌, ℕ, ◌+◌, ◌-◌, ◌*◌, ◌<◌, ◌/◌, ◌%◌, ◌^◌, ◌==◌, Bool, ℤ, pos, ◌≤ℤ◌, List, [], length, map, slice_index, slice_index_or}
 use Rattle.std.specs.Borrow.{Bor}
 use Rattle.scr_diffuse.specs.Diffuser.{StandBelow}
 use Rattle.scr_diffuse.specs.Diffusion.{IsError, diffused_bit}
@@ -51,3 +51,8 @@ pub record StandBelowAll (rows : List (List (List ℕ))) (errors : List (List �
   pub errors_are : (k : ℕ) → k < 8 → StandBelow (page_in rows k) (lane_of errors k)
   pub dots_are : (k x : ℕ) → k < 8 → x < length dots → 0 < length rows
       → bit_of (slice_index dots x) k ≡ diffused_bit (page_in rows k) x (length rows - 1)
+
+-- what eight diffusers hold: errors and pixels, and room for a value of each page in each column
+pub record AreHeld (rows : List (List (List ℕ))) (errors : List (List ℤ)) (dots columns : List ℕ) : Type 0 where
+  pub stand : StandBelowAll rows errors dots
+  pub room : length columns ≡ 8 * length dots

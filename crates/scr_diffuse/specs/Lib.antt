@@ -2,3 +2,4 @@ pub mod Diffuser
 pub mod Diffusers
 pub mod Diffusion
 pub mod Passes
+pub mod Weave

@@ -1,16 +1,24 @@
 // One row of eight pages, column by column, from the errors of the rows above to the pixels and the errors.
-ghost use Rattle.std.specs.Prelude.{◌≡◌, ℕ, ◌+◌, ◌<◌, ◌≤◌, ◌+ℤ◌, ◌*ℤ◌, length, pos, slice_index};
+ghost use Rattle.std.specs.Prelude.{◌≡◌, ℕ, ◌+◌, ◌*◌, ◌<◌, ◌≤◌, ◌+ℤ◌, ◌*ℤ◌, length, pos, slice_index};
 ghost use Rattle.scr_diffuse.specs.Diffusers.{AreErrors, AreValues, bit_of, lane_at, lane_of, row_in};
 ghost use Rattle.scr_diffuse.specs.Diffusion.{IsError, error_left, prints, v_below};
 ghost use Rattle.scr_diffuse.specs.Passes.{errors_in, number_at};
 
-use crate::lanes::{dots_of, less_dots, load, plus, sixteenths, store, times, values_at};
+use crate::lanes::{column_at, dots_of, errors_of, load, plus, settled, store, times};
+use crate::weave::set_columns;
 use std::simd::prelude::*;
 
 /// Makes of eight rows of values the pixels, bit k of a byte for row k. `errors` are those of the rows above,
 /// in lane k those of row k, with a margin of one place on both sides, and become those of these rows.
-pub(crate) fn diffuse_rows(values: &[&[u8]; 8], errors: &mut [[i16; 8]], dots: &mut [u8])
+/// `columns` is room for the values.
+pub(crate) fn diffuse_rows(
+    values: &[&[u8]; 8],
+    errors: &mut [[i16; 8]],
+    dots: &mut [u8],
+    columns: &mut [u8],
+)
     requires room { length errors.old ≡ length dots.old + 2 }
+    requires columns { length columns.old ≡ 8 * length dots.old }
     requires values { (k : ℕ) → k < 8 → length (row_in values.now k) ≡ length dots.old }
     requires errors { (p k : ℕ) → k < 8 → IsError (lane_at errors.old p k) }
     requires left { (k : ℕ) → k < 8 → lane_at errors.old 0 k ≡ pos 0 }
@@ -22,22 +30,23 @@ pub(crate) fn diffuse_rows(values: &[&[u8]; 8], errors: &mut [[i16; 8]], dots: &
         lane_at errors.new p k ≡ error_left (errors_in (lane_of errors.old k)) (row_in values.now k) p }
     ensures small { (p k : ℕ) → k < 8 → IsError (lane_at errors.new p k) }
 {
+    set_columns(values, dots.len(), columns);
+    let columns = &*columns;
     let mut above_left = load(errors, 0);
     let mut above = load(errors, 1);
     let mut left = load(errors, 0);
     for x in 0..dots.len() {
         let above_right = load(errors, x + 2);
-        let sums = whole_sums(values_at(values, x), left, above_right, above, above_left);
-        let numbers = sixteenths(sums);
-        left = less_dots(numbers);
-        dots[x] = dots_of(numbers);
+        let sums = whole_sums(column_at(columns, x), left, above_right, above, above_left);
+        left = errors_of(sums);
+        dots[x] = dots_of(sums);
         store(errors, x + 1, left);
         above_left = above;
         above = above_right;
     }
 }
 
-/// The whole sums of a column.
+/// The whole sums of a column. What comes from the left waits for the column before, so it is added last.
 #[inline(always)]
 fn whole_sums(
     values: i16x8,
@@ -58,5 +67,5 @@ fn whole_sums(
 {
     let right = plus(times(16, values), times(3, above_right));
     let corner = plus(times(5, above), above_left);
-    plus(plus(right, corner), times(7, left))
+    plus(settled(plus(right, corner)), times(7, left))
 }

@@ -21,18 +21,20 @@ pub struct Diffusers {
     errors: Vec<[i16; 8]>,
     /// Whether pixel x of page k's last row prints is bit k of byte x.
     dots: Vec<u8>,
+    /// Room for the values of the rows that are handed in, side by side.
+    columns: Vec<u8>,
     rows: Histories,
 }
 
 impl Model for Diffusers {
     ghost use Rattle.std.specs.Prelude.{length};
-    ghost use Rattle.scr_diffuse.specs.Diffusers.{EightFronts, StandBelowAll};
+    ghost use Rattle.scr_diffuse.specs.Diffusers.{AreHeld, EightFronts};
 
     ghost Value = { EightFronts };
 
     ghost view = { λ d. record { width = length d.dots.items; rows = d.rows.rows } };
 
-    ghost invariant = { λ d. StandBelowAll d.rows.rows d.errors.items d.dots.items };
+    ghost invariant = { λ d. AreHeld d.rows.rows d.errors.items d.dots.items d.columns.items };
 }
 
 impl Diffusers {
@@ -43,6 +45,7 @@ impl Diffusers {
         Ok(Diffusers {
             errors: vec![in alloc; [0; 8]; width as usize + 2]?,
             dots: vec![in alloc; 0; width as usize]?,
+            columns: vec![in alloc; 0; 8 * width as usize]?,
             rows: Histories::new(),
         })
     }
@@ -60,7 +63,12 @@ impl Diffusers {
         requires width { (k : ℕ) → k < 8 → length (row_in values k) ≡ self.old.width }
         ensures { self.new ≡ record self.old { rows = self.old.rows ++ rows_in values.entry ∷ [] } }
     {
-        diffuse_rows(&values, &mut self.errors[..], &mut self.dots[..]);
+        diffuse_rows(
+            &values,
+            &mut self.errors[..],
+            &mut self.dots[..],
+            &mut self.columns[..],
+        );
         self.rows = self.rows.then(&Rows { values });
     }
 

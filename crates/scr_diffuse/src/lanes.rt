@@ -1,9 +1,9 @@
 // Eight numbers side by side, a lane for a page.
-ghost use Rattle.std.specs.Prelude.{◌≡◌, ◌≢◌, ℕ, ◌<◌, ◌≤◌, ◌+ℤ◌, ◌*ℤ◌, length, pos, FitsSigned, slice_index};
+ghost use Rattle.std.specs.Prelude.{◌≡◌, ◌≢◌, ℕ, ◌+◌, ◌*◌, ◌<◌, ◌≤◌, ◌+ℤ◌, ◌*ℤ◌, ◌≤ℤ◌, neg_ℤ, length, pos, FitsSigned, slice_index};
 ghost use Rattle.std.specs.Int.{w16};
-ghost use Rattle.scr_diffuse.specs.Diffusers.{bit_of, lane_at, row_in};
+ghost use Rattle.scr_diffuse.specs.Diffusers.{bit_of, lane_at};
 ghost use Rattle.scr_diffuse.specs.Diffusion.{error_of, prints};
-ghost use Rattle.scr_diffuse.specs.Passes.{IsNumber, floor_16, number_at};
+ghost use Rattle.scr_diffuse.specs.Passes.{floor_16, number_at};
 
 use crate::passes::{DOT, MIDDLE};
 use std::simd::prelude::*;
@@ -33,39 +33,41 @@ pub(crate) fn times(factor: i16, a: i16x8) -> i16x8
     a * i16x8::splat(factor)
 }
 
-/// A sixteenth of each lane, rounded down.
+/// The same numbers. The compare, which changes none of them, keeps a compiler from adding to them in an order
+/// of its own: what waits longest is then added last.
 #[inline(always)]
-pub(crate) fn sixteenths(sums: i16x8) -> i16x8
-    requires { length sums ≡ 8 }
+pub(crate) fn settled(a: i16x8) -> i16x8
+    requires { length a ≡ 8 }
     ensures eight { length result ≡ 8 }
-    ensures numbers { (k : ℕ) → k < 8 → FitsSigned w16 (number_at sums k) →
-        number_at result k ≡ floor_16 (number_at sums k) }
+    ensures same { (k : ℕ) → k < 8 → FitsSigned w16 (number_at a k) → neg_ℤ (pos 2000) ≤ℤ number_at a k →
+        number_at result k ≡ number_at a k }
 {
-    sums >> i16x8::splat(4)
+    a.simd_max(i16x8::splat(-2000))
 }
 
-/// The errors of pixels whose numbers are v.
+/// The errors of pixels, from their whole sums: a sixteenth, rounded down, and without the dot where one
+/// stands.
 #[inline(always)]
-pub(crate) fn less_dots(numbers: i16x8) -> i16x8
-    requires { length numbers ≡ 8 }
+pub(crate) fn errors_of(sums: i16x8) -> i16x8
+    requires { length sums ≡ 8 }
     ensures eight { length result ≡ 8 }
-    ensures errors { (k : ℕ) → k < 8 → IsNumber (number_at numbers k) →
-        number_at result k ≡ error_of (number_at numbers k) }
+    ensures errors { (k : ℕ) → k < 8 → FitsSigned w16 (number_at sums k) →
+        number_at result k ≡ error_of (floor_16 (number_at sums k)) }
 {
-    numbers
-        - numbers
-            .simd_ge(i16x8::splat(MIDDLE))
+    (sums >> i16x8::splat(4))
+        - sums
+            .simd_ge(i16x8::splat(16 * MIDDLE))
             .select(i16x8::splat(DOT), i16x8::splat(0))
 }
 
-/// Which of the pixels whose numbers are v print, bit k for lane k.
+/// Which of the pixels print, from their whole sums, bit k for lane k.
 #[inline(always)]
-pub(crate) fn dots_of(numbers: i16x8) -> u8
-    requires { length numbers ≡ 8 }
-    ensures { (k : ℕ) → k < 8 → FitsSigned w16 (number_at numbers k) →
-        bit_of result k ≡ prints (number_at numbers k) }
+pub(crate) fn dots_of(sums: i16x8) -> u8
+    requires { length sums ≡ 8 }
+    ensures { (k : ℕ) → k < 8 → FitsSigned w16 (number_at sums k) →
+        bit_of result k ≡ prints (floor_16 (number_at sums k)) }
 {
-    numbers.simd_ge(i16x8::splat(MIDDLE)).to_bitmask() as u8
+    sums.simd_ge(i16x8::splat(16 * MIDDLE)).to_bitmask() as u8
 }
 
 /// The numbers that stand at a place.
@@ -91,33 +93,13 @@ pub(crate) fn store(places: &mut [[i16; 8]], place: usize, numbers: i16x8)
     places[place] = numbers.to_array();
 }
 
-/// The values in a column of eight rows.
+/// The values that stand in a column of eight rows that lie side by side.
 #[inline(always)]
-pub(crate) fn values_at(values: &[&[u8]; 8], x: usize) -> i16x8
-    requires { (k : ℕ) → k < 8 → x < length (row_in values.now k) }
+pub(crate) fn column_at(columns: &[u8], x: usize) -> i16x8
+    requires { 8 * x + 8 ≤ length columns.now }
     ensures eight { length result ≡ 8 }
-    ensures values { (k : ℕ) → k < 8 → number_at result k ≡ pos (slice_index (row_in values.now k) x) }
-    ensures bytes { (k : ℕ) → k < 8 → slice_index (row_in values.now k) x ≤ 255 }
+    ensures values { (k : ℕ) → k < 8 → number_at result k ≡ pos (slice_index columns.now (8 * x + k)) }
+    ensures bytes { (k : ℕ) → k < 8 → slice_index columns.now (8 * x + k) ≤ 255 }
 {
-    i16x8::from_array([
-        value_at(values, 0, x),
-        value_at(values, 1, x),
-        value_at(values, 2, x),
-        value_at(values, 3, x),
-        value_at(values, 4, x),
-        value_at(values, 5, x),
-        value_at(values, 6, x),
-        value_at(values, 7, x),
-    ])
-}
-
-/// The value in a column of one of eight rows.
-#[inline(always)]
-fn value_at(values: &[&[u8]; 8], k: usize, x: usize) -> i16
-    requires row { k < 8 }
-    requires column { x < length (row_in values.now k) }
-    ensures value { result ≡ pos (slice_index (row_in values.now k) x) }
-    ensures byte { slice_index (row_in values.now k) x ≤ 255 }
-{
-    values[k][x] as i16
+    u8x8::from_slice(&columns[8 * x..8 * x + 8]).cast()
 }

@@ -13,6 +13,7 @@ mod lanes;
 mod laws;
 mod passes;
 mod row;
+mod weave;
 
 pub use diffuser::Diffuser;
 pub use diffusers::Diffusers;

@@ -1,8 +1,7 @@
 -- A row that a site takes from its reader, and gives back.
-use Rattle.std.proofs.Common.{◌≡◌, ◌≢◌, ℕ, ◌+◌, ◌<◌, ◌≤◌, Bool, true, false, List, length, map, Option, Some, Ok, IfSome, refl, sym, ap, subst, ◌∙◌, ⊎_elim, arith}
+use Rattle.std.proofs.Common.{◌≡◌, ◌≢◌, ℕ, ◌+◌, ◌≤◌, Bool, true, false, List, length, map, Option, Some, Ok, IfSome, refl, sym, ap, subst, ◌∙◌, arith}
 use Rattle.std.specs.Prelude.{slice_get}
 use Rattle.std.specs.Option.{option_map}
-use Rattle.std.proofs.lemmas.Bool.{cases_lt}
 use Rattle.std.proofs.lemmas.List.{length-map}
 use Rattle.std.proofs.lemmas.Option.{slice_get-map, slice_get_within, get_or_from_slice_get}
 use Rattle.pr_base.specs.Count.{Rose}
@@ -10,14 +9,15 @@ use Rattle.pr_base.specs.Row.{row_size}
 use Rattle.ring_rule.specs.declared.view.RingNumbers.{RingNumbers}
 use Rattle.ring_lanes.specs.declared.source.Source.{Source}
 use Rattle.ring_lanes.specs.Held.{HeldRow}
-use Rattle.ring_lanes.specs.Reader.{ReaderState, IsOpened, SeesOnce, source_of}
+use Rattle.ring_lanes.specs.Reader.{ReaderState, Closes, IsOpened, SeesOnce, source_of}
+use Rattle.ring_lanes.proofs.Overs.{closes-row}
 use Rattle.tif_packbits.specs.Frame.{IsFrame, framed_row}
 use Rattle.tif_packbits.proofs.Frames.{AreFrames-frame}
 use Rattle.pr_rack.specs.Told.{RackTells, Tells}
 use Rattle.site_agent.specs.declared.kept.Kept.{Kept}
 use Rattle.site_agent.specs.declared.kept.Kept.TheVariants.{Done, Left, Memory}
 use Rattle.site_agent.specs.declared.kept.LeftCause.{LeftCause}
-use Rattle.site_agent.specs.Draw.{Closes, Draws, IsReady, stage}
+use Rattle.site_agent.specs.Draw.{Draws, IsReady, stage}
 use Rattle.site_agent.specs.Given.{is_kept}
 use Rattle.site_agent.specs.Job.{SiteJob}
 use Rattle.site_agent.specs.Kept.{GoesOn, IfLeft, IsCauseAt, KeepsRow, OnDone, OnEnd, OnMemory, TakenOnce}
@@ -43,38 +43,6 @@ side-taken job ring n bytes are there =
     let here : slice_get (map framed_row ring.rows) n ≡ Some (framed_row bytes) = row-taken ring.rows n n bytes refl there in
     ap length (sym (get_or_from_slice_get (map framed_row ring.rows) n (framed_row bytes) (framed_row bytes) here))
     ∙ are.frames.each n (framed_row bytes) (slice_get_within (map framed_row ring.rows) n (framed_row bytes) here)
-
--- ---- the reader
-
-pub closes-row : (reader opened closed : ReaderState) (held : HeldRow) → reader.held ≡ false → IsOpened reader opened held → SeesOnce reader opened
-    → closed ≡ record opened { cursor = opened.cursor + 1; held = false } → Closes reader closed
-closes-row reader opened closed held home is sees given-back =
-    let all : closed ≡ record reader { cursor = reader.cursor + 1; held = false; seen = opened.seen; loads = opened.loads } =
-    given-back ∙ ap {A = ReaderState} (λ r. record r { cursor = r.cursor + 1; held = false }) is.stays in
-    let seen : closed.seen ≡ opened.seen = ap (λ r. r.seen) all in
-    let loads : closed.loads ≡ opened.loads = ap (λ r. r.loads) all in
-    let ahead : reader.cursor < opened.seen = is.ahead in
-    record {
-      reader =
-          all
-          ∙ ap (λ h. record reader { cursor = reader.cursor + 1; held = h; seen = opened.seen; loads = opened.loads }) (sym home)
-          ∙ ap (λ s. record reader { cursor = reader.cursor + 1; seen = s; loads = opened.loads }) (sym seen)
-          ∙ ap (λ l. record reader { cursor = reader.cursor + 1; seen = closed.seen; loads = l }) (sym loads);
-      known = omega arith;
-      grows = ⊎_elim
-          (λ (less : reader.cursor < reader.seen). let same : opened.seen ≡ reader.seen = sees.seen less in omega arith)
-          (λ (most : reader.seen ≤ reader.cursor). let more : reader.seen ≤ opened.seen = sees.grows most in omega arith)
-          (cases_lt reader.cursor reader.seen);
-      within = let most : opened.seen ≤ reader.ring.total = sees.within in omega arith;
-      loads = ⊎_elim
-          (λ (less : reader.cursor < reader.seen). let same : opened.loads ≡ reader.loads = sees.loads less in omega arith)
-          (λ (most : reader.seen ≤ reader.cursor). let more : opened.loads ≡ reader.loads + 1 = sees.counted most in omega arith)
-          (cases_lt reader.cursor reader.seen);
-      found = ⊎_elim
-          (λ (less : reader.cursor < reader.seen). let same : opened.loads ≡ reader.loads = sees.loads less in let still : opened.seen ≡ reader.seen = sees.seen less in omega arith)
-          (λ (most : reader.seen ≤ reader.cursor). let more : opened.loads ≡ reader.loads + 1 = sees.counted most in omega arith)
-          (cases_lt reader.cursor reader.seen);
-    }
 
 -- ---- what keeping it makes of the site and its rack
 

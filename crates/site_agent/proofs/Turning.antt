@@ -2,6 +2,7 @@
 use Rattle.std.proofs.Common.{◌≡◌, ℕ, ◌+◌, ◌<◌, ◌≤◌, false, map, IfSome, sym, ap, subst, ◌∙◌, arith}
 use Rattle.ring_lanes.specs.declared.answer.NotYet.{NotYet}
 use Rattle.ring_lanes.specs.Reader.{ReaderState, source_of}
+use Rattle.ring_lanes.proofs.Overs.{over-awaiting, over-on}
 use Rattle.tif_packbits.specs.Frame.{framed_row}
 use Rattle.pr_rack.specs.Told.{RackTells, Tells}
 use Rattle.site_agent.specs.declared.kept.LeftCause.{LeftCause}
@@ -11,44 +12,21 @@ use Rattle.site_agent.specs.Site.{SiteData}
 use Rattle.site_agent.specs.Stands.{AreAsLong, AreBegun}
 use Rattle.site_agent.specs.Turn.{AreRowsFor, IsGoingBy, LeavesAt, StopsAt}
 
--- the reader at another cursor
-abbrev at : ReaderState → ℕ → ℕ → ℕ → ReaderState
-at reader cursor seen loads = record reader { cursor = cursor; seen = seen; loads = loads }
-
-chained : (first now next : ReaderState) (cursor : ℕ) → now ≡ at first now.cursor now.seen now.loads → next ≡ at now cursor next.seen next.loads → next ≡ at first next.cursor next.seen next.loads
-chained first now next cursor was is =
-    let all : next ≡ at first cursor next.seen next.loads = is ∙ ap (λ r. at r cursor next.seen next.loads) was in
-    all ∙ ap (λ n. at first n next.seen next.loads) (sym (ap (λ r. r.cursor) all))
-
 going-there : (first now : Stage) (waits : ℕ) (before : Tells) → Goes first now waits → IsGoingBy first.reader before first.told.tells first.site → IsGoingBy now.reader before now.told.tells now.site
 going-there first now waits before goes going =
-    subst (λ (r : ReaderState). IsGoingBy r before now.told.tells now.site) (sym goes.reader) (goes.stands before going)
+    subst (λ (r : ReaderState). IsGoingBy r before now.told.tells now.site) (sym goes.over.reader) (goes.stands before going)
 
 -- a row more was kept
 pub goes-on : (first now next : Stage) (waits : ℕ) → now.reader.cursor < now.reader.ring.total → Goes first now waits → DrawsOn now next → Goes first next waits
 goes-on first now next waits less goes draws =
-    let total : now.reader.ring.total ≡ first.reader.ring.total = ap (λ r. r.ring.total) goes.reader in
-    let cursor : next.reader.cursor ≡ now.reader.cursor + 1 = ap (λ r. r.cursor) draws.closes.reader in
-    let low : first.reader.cursor ≤ now.reader.cursor = goes.grows in
-    let seen : first.reader.seen ≤ now.reader.seen = goes.seen in
-    let more : now.reader.seen ≤ next.reader.seen = draws.closes.grows in
-    let counted : first.reader.loads + waits ≤ now.reader.loads = goes.counted in
-    let loads : now.reader.loads ≤ next.reader.loads = draws.closes.loads in
-    let found : now.reader.loads + first.reader.seen ≤ first.reader.loads + waits + now.reader.seen = goes.found in
-    let once : next.reader.loads + now.reader.seen ≤ now.reader.loads + next.reader.seen = draws.closes.found in
     let stay : first.told.faults ≤ now.told.faults = goes.faults in
     let faults : now.told.faults ≤ next.told.faults = draws.faults in
     record {
       ready = draws.ready;
-      reader = chained first.reader now.reader next.reader (now.reader.cursor + 1) goes.reader draws.closes.reader;
-      grows = omega arith;
-      within = omega arith;
-      seen = omega arith;
-      counted = omega arith;
-      found = omega arith;
+      over = over-on first.reader now.reader next.reader waits less goes.over draws.closes;
       job = draws.job ∙ goes.job;
       stands = λ before going.
-          subst (λ (r : ReaderState). IsGoingBy r before next.told.tells next.site) goes.reader (draws.stands before (going-there first now waits before goes going));
+          subst (λ (r : ReaderState). IsGoingBy r before next.told.tells next.site) goes.over.reader (draws.stands before (going-there first now waits before goes going));
       missed = draws.missed ∙ goes.missed;
       faults = omega arith;
     }
@@ -56,17 +34,8 @@ goes-on first now next waits less goes draws =
 -- the row was awaited once more
 pub goes-awaiting : (first now next : Stage) (waits : ℕ) (answer : NotYet) → Goes first now waits → Awaits now next answer → Goes first next (waits + 1)
 goes-awaiting first now next waits answer goes awaits =
-    let same : next.reader ≡ at now.reader now.reader.cursor answer.head (now.reader.loads + 1) = awaits.not_yet.stays in
+    let same : next.reader ≡ record now.reader { seen = answer.head; loads = now.reader.loads + 1 } = awaits.not_yet.stays in
     let cursor : next.reader.cursor ≡ now.reader.cursor = ap (λ r. r.cursor) same in
-    let seen : next.reader.seen ≡ answer.head = ap (λ r. r.seen) same in
-    let loads : next.reader.loads ≡ now.reader.loads + 1 = ap (λ r. r.loads) same in
-    let head : answer.head ≡ now.reader.cursor = awaits.not_yet.head in
-    let behind : now.reader.seen ≤ now.reader.cursor = awaits.behind in
-    let low : first.reader.cursor ≤ now.reader.cursor = goes.grows in
-    let high : now.reader.cursor ≤ first.reader.ring.total = goes.within in
-    let known : first.reader.seen ≤ now.reader.seen = goes.seen in
-    let counted : first.reader.loads + waits ≤ now.reader.loads = goes.counted in
-    let found : now.reader.loads + first.reader.seen ≤ first.reader.loads + waits + now.reader.seen = goes.found in
     let stay : first.told.faults ≤ now.told.faults = goes.faults in
     let faults : next.told.faults ≡ now.told.faults = ap (λ (t : RackTells). t.faults) awaits.told in
     let site : now.site ≡ next.site = sym awaits.site in
@@ -87,14 +56,7 @@ goes-awaiting first now next waits answer goes awaits =
             subst (λ (t : Tells). IfSome t.working (AreAsLong next.site.job next.site.next next.site.counts)) told
             (subst (λ (s : SiteData). IfSome now.told.tells.working (AreAsLong s.job s.next s.counts)) site goes.ready.working);
       };
-      reader =
-          chained first.reader now.reader next.reader now.reader.cursor goes.reader
-          (same ∙ ap (λ s. at now.reader now.reader.cursor s (now.reader.loads + 1)) (sym seen) ∙ ap (at now.reader now.reader.cursor next.reader.seen) (sym loads));
-      grows = omega arith;
-      within = omega arith;
-      seen = omega arith;
-      counted = omega arith;
-      found = omega arith;
+      over = over-awaiting first.reader now.reader next.reader waits answer goes.over awaits.behind awaits.not_yet;
       job = ap (λ s. s.job) awaits.site ∙ goes.job;
       stands = λ before going.
           subst (λ (t : Tells). IsGoingBy first.reader before t next.site) told
@@ -108,7 +70,7 @@ pub goes-leaves : (first now next : Stage) (waits : ℕ) (cause : LeftCause) (be
     → LeavesAt first.site.job (map framed_row first.reader.ring.rows) (source_of first.reader) before next.told.tells cause
 goes-leaves first now next waits cause before goes draws going =
     subst (λ (job : SiteJob). LeavesAt job (map framed_row first.reader.ring.rows) (source_of first.reader) before next.told.tells cause) goes.job
-    (subst (λ (r : ReaderState). LeavesAt now.site.job (map framed_row r.ring.rows) (source_of r) before next.told.tells cause) goes.reader
+    (subst (λ (r : ReaderState). LeavesAt now.site.job (map framed_row r.ring.rows) (source_of r) before next.told.tells cause) goes.over.reader
     (draws.stands before (going-there first now waits before goes going)))
 
 -- a call of the rack wanted memory
@@ -119,5 +81,5 @@ goes-stops first now next waits n before last goes draws going =
     let same : now.reader.cursor ≡ n = omega arith in
     subst (λ (m : ℕ). StopsAt first.site.job (map framed_row first.reader.ring.rows) (source_of first.reader) m before next.told.tells) same
     (subst (λ (job : SiteJob). StopsAt job (map framed_row first.reader.ring.rows) (source_of first.reader) now.reader.cursor before next.told.tells) goes.job
-    (subst (λ (r : ReaderState). StopsAt now.site.job (map framed_row r.ring.rows) (source_of r) now.reader.cursor before next.told.tells) goes.reader
+    (subst (λ (r : ReaderState). StopsAt now.site.job (map framed_row r.ring.rows) (source_of r) now.reader.cursor before next.told.tells) goes.over.reader
     (draws.stands before (going-there first now waits before goes going))))

@@ -1,9 +1,9 @@
 -- What one row at a reader's cursor makes of a site, the reader and the rack. This is the contract of a
 -- private call.
-use Rattle.std.specs.Prelude.{◌≡◌, ℕ, ◌+◌, ◌<◌, ◌≤◌, true, false, Some, IfSome, Result, Ok, Err}
+use Rattle.std.specs.Prelude.{◌≡◌, ℕ, ◌≤◌, true, false, Some, IfSome, Result, Ok, Err}
 use Rattle.pr_base.specs.Count.{Rose}
 use Rattle.ring_lanes.specs.declared.answer.NotYet.{NotYet}
-use Rattle.ring_lanes.specs.Reader.{ReaderState, IsNotYet}
+use Rattle.ring_lanes.specs.Reader.{ReaderState, Closes, GoesOver, IsNotYet}
 use Rattle.pr_rack.specs.Told.{RackTells}
 use Rattle.site_agent.specs.declared.kept.Kept.{Kept}
 use Rattle.site_agent.specs.declared.kept.Kept.TheVariants.{Done, Left, Memory}
@@ -31,16 +31,6 @@ pub record IsReady (s : Stage) : Type 0 where
   pub rows : AreRowsFor s.site.job s.reader.ring
   pub begun : AreBegun s.site.job s.site.next s.told.tells.begun
   pub working : IfSome s.told.tells.working (AreAsLong s.site.job s.site.next s.site.counts)
-
--- the reader took the row and gave it back, and loaded the head perhaps
-pub record Closes (old new : ReaderState) : Type 0 where
-  pub reader : new ≡ record old { cursor = old.cursor + 1; seen = new.seen; loads = new.loads }
-  pub known : old.cursor < new.seen
-  pub grows : old.seen ≤ new.seen
-  pub within : new.seen ≤ old.ring.total
-  pub loads : old.loads ≤ new.loads
-  -- a load found a row more
-  pub found : new.loads + old.seen ≤ old.loads + new.seen
 
 -- the row was kept
 pub record DrawsOn (old new : Stage) : Type 0 where
@@ -88,16 +78,7 @@ Draws old new (Err answer) = Awaits old new answer
 -- the rows from the first cursor up to this one were kept, and so many were awaited between them
 pub record Goes (first now : Stage) (waits : ℕ) : Type 0 where
   pub ready : IsReady now
-  pub reader : now.reader ≡ record first.reader {
-    cursor = now.reader.cursor;
-    seen = now.reader.seen;
-    loads = now.reader.loads;
-  }
-  pub grows : first.reader.cursor ≤ now.reader.cursor
-  pub within : now.reader.cursor ≤ first.reader.ring.total
-  pub seen : first.reader.seen ≤ now.reader.seen
-  pub counted : first.reader.loads + waits ≤ now.reader.loads
-  pub found : now.reader.loads + first.reader.seen ≤ first.reader.loads + waits + now.reader.seen
+  pub over : GoesOver first.reader now.reader waits
   pub job : now.site.job ≡ first.site.job
   pub stands : GoesOnBy first.reader first.site now.site first.told now.told
   pub missed : now.told.missed ≡ first.told.missed

@@ -1,5 +1,5 @@
 -- Each turn does one column more.
-use Rattle.std.proofs.Common.{◌≡◌, ◌∙◌, ℕ, ◌+◌, ◌<◌, pos, List, length, map, get_or, to_z, w16, refl, ap, sym, inl, inr, arith, get_or-set_same, get_or-set_other}
+use Rattle.std.proofs.Common.{◌≡◌, ◌∙◌, ℕ, ◌+◌, ◌*◌, ◌<◌, ◌≤◌, pos, List, length, map, get_or, to_z, w16, refl, ap, sym, subst, inl, inr, arith, get_or-set_same, get_or-set_other}
 use Rattle.std.proofs.lemmas.Bool.{cases_eq, cases_lt}
 use Rattle.scr_diffuse.specs.Diffusers.{bit_of, lane_at, lane_of, row_in}
 use Rattle.scr_diffuse.specs.Diffusion.{error_left}
@@ -31,9 +31,9 @@ loop-x-init c =
 
 pub whole_sums-sums-requires-clause-values : goal.whole_sums-sums-requires-clause-values
 whole_sums-sums-requires-clause-values c =
-    let value : ℕ → ℕ = λ k. get_or (row_in c.args.values.now k) c.loop-x.x 0 in
-    values_are _ value (kept_length c.values_at.result c.values_at.ensures.eight)
-    (loaded_values c.values_at.result value c.values_at.ensures.eight c.values_at.ensures.values c.values_at.ensures.bytes) c.values_at.ensures.bytes
+    let value : ℕ → ℕ = λ k. get_or c.set_columns.new.columns (8 * c.loop-x.x + k) 0 in
+    values_are _ value (kept_length c.column_at.result c.column_at.ensures.eight)
+    (loaded_values c.column_at.result value c.column_at.ensures.eight c.column_at.ensures.values c.column_at.ensures.bytes) c.column_at.ensures.bytes
 
 pub whole_sums-sums-requires-clause-left : goal.whole_sums-sums-requires-clause-left
 whole_sums-sums-requires-clause-left c =
@@ -60,27 +60,29 @@ loop-x-preserved c =
     let old = c.args.errors.now in
     let now = c.loop-x.errors in
     let rows : ℕ → List ℕ = λ k. row_in c.args.values.now k in
-    let left = c.less_dots-left.result in
+    let left = c.errors_of-left.result in
     let new = c.store.new.places in
     let two : x + 2 ≡ x + 1 + 1 = omega arith in
     let right : (k : ℕ) → k < 8 → number_at (kept c.load-above_right.result) k ≡ lane_at old (x + 1 + 1) k =
     λ k within. loaded c.load-above_right.result (lane_at now (x + 2)) c.load-above_right.ensures.eight c.load-above_right.ensures.same (c.loop-x.invariant.small (x + 2)) k within
     ∙ c.loop-x.invariant.rest k (x + 2) (omega arith) ∙ ap (λ p. lane_at old p k) two in
-    let value : (k : ℕ) → k < 8 → number_at (kept c.values_at.result) k ≡ pos (get_or (rows k) x 0) =
-    loaded_values c.values_at.result (λ k. get_or (rows k) x 0) c.values_at.ensures.eight c.values_at.ensures.values c.values_at.ensures.bytes in
-    let pixel : (k : ℕ) → k < 8 → IsPixel (errors_in (lane_of old k)) (rows k) x k c.sixteenths-numbers.result left (bit_of c.dots_of.result) =
+    let here_is : (k : ℕ) → k < 8 → get_or c.set_columns.new.columns (8 * x + k) 0 ≡ get_or (rows k) x 0 = λ k within. c.set_columns.ensures.each k x within (omega arith) in
+    let byte : (k : ℕ) → k < 8 → get_or (rows k) x 0 ≤ 255 = λ k within. subst (λ (n : ℕ). n ≤ 255) (here_is k within) (c.column_at.ensures.bytes k within) in
+    let value : (k : ℕ) → k < 8 → number_at (kept c.column_at.result) k ≡ pos (get_or (rows k) x 0) =
+    loaded_values c.column_at.result (λ k. get_or (rows k) x 0) c.column_at.ensures.eight (λ k within. c.column_at.ensures.values k within ∙ ap pos (here_is k within)) byte in
+    let pixel : (k : ℕ) → k < 8 → IsPixel (errors_in (lane_of old k)) (rows k) x k left (bit_of c.dots_of.result) =
     λ k within. (let long : length (rows k) ≡ length c.args.dots.now = c.requires.values k within in
-    pixel_is old (rows k) k x (kept c.values_at.result) (map (to_z w16) c.loop-x.left) (kept c.load-above_right.result) (map (to_z w16) c.loop-x.above) (map (to_z w16) c.loop-x.above_left)
-    c.whole_sums-sums.result c.sixteenths-numbers.result left (bit_of c.dots_of.result) within (omega arith) (c.values_at.ensures.bytes k within) (c.requires.left k within)
+    pixel_is old (rows k) k x (kept c.column_at.result) (map (to_z w16) c.loop-x.left) (kept c.load-above_right.result) (map (to_z w16) c.loop-x.above) (map (to_z w16) c.loop-x.above_left)
+    c.whole_sums-sums.result left (bit_of c.dots_of.result) within (omega arith) (byte k within) (c.requires.left k within)
     (value k within) (c.loop-x.invariant.left_is k within) (right k within) (c.loop-x.invariant.above_is k within) (c.loop-x.invariant.corner_is k within)
     (c.loop-x.invariant.left_small k within) (rw (right k within) (c.requires.errors (x + 1 + 1) k within)) (rw (c.loop-x.invariant.above_is k within) (c.requires.errors (x + 1) k within))
     (rw (c.loop-x.invariant.corner_is k within) (c.requires.errors x k within))
-    c.whole_sums-sums.ensures.eight (c.whole_sums-sums.ensures.sums k within) c.sixteenths-numbers.ensures.eight (c.sixteenths-numbers.ensures.numbers k within)
-    c.less_dots-left.ensures.eight (c.less_dots-left.ensures.errors k within) (c.dots_of.ensures k within)) in
+    c.whole_sums-sums.ensures.eight (c.whole_sums-sums.ensures.sums k within)
+    c.errors_of-left.ensures.eight (c.errors_of-left.ensures.errors k within) (c.dots_of.ensures k within)) in
     let here : (k : ℕ) → k < 8 → lane_at new (x + 1) k ≡ error_left (errors_in (lane_of old k)) (rows k) (x + 1) =
     λ k within. (let p = pixel k within in c.store.ensures.here k within (rw p.error_is (fits_error _ p.small)) ∙ p.error_is) in
     record {
-      left_long = numbers_length left c.less_dots-left.ensures.eight;
+      left_long = numbers_length left c.errors_of-left.ensures.eight;
       above_long = numbers_length c.load-above_right.result c.load-above_right.ensures.eight;
       corner_long = c.loop-x.invariant.above_long;
       left_is = λ k within. (pixel k within).error_is;

@@ -3,7 +3,7 @@ use Rattle.std.proofs.Common.{◌≡◌, ◌∙◌, ◌+ℤ◌, ◌*ℤ◌, ◌�
 use Rattle.std.proofs.lemmas.Int.{ints}
 use Rattle.scr_diffuse.specs.Diffusion.{IsError}
 use Rattle.scr_diffuse.specs.Passes.{number_at}
-use Rattle.scr_diffuse.proofs.LaneLemmas.{kept_is, product_is, sum_is}
+use Rattle.scr_diffuse.proofs.LaneLemmas.{kept_is, product_is, settled_is, sum_is}
 use Rattle.scr_diffuse.proofs.columns.whole_sums.Goals as goal
 
 pub returns-clause-sums : goal.returns-clause-sums
@@ -31,8 +31,10 @@ returns-clause-sums c = λ k within.
     sum_is c.times-3.result c.args.above_left c.plus-corner.result k _ _ c.times-3.ensures.eight c.requires.above_left.eight within e4 refl (omega (arith, ints)) (omega (arith, ints)) (omega (arith, ints)) (c.plus-corner.ensures.sums k within) in
     let e6 : number_at c.plus.result k ≡ ((v *ℤ pos 16) +ℤ (r *ℤ pos 3)) +ℤ ((a *ℤ pos 5) +ℤ b) =
     sum_is c.plus-right.result c.plus-corner.result c.plus.result k _ _ c.plus-right.ensures.eight c.plus-corner.ensures.eight within e3 e5 (omega (arith, ints)) (omega (arith, ints)) (omega (arith, ints)) (c.plus.ensures.sums k within) in
+    let held : number_at c.settled.result k ≡ ((v *ℤ pos 16) +ℤ (r *ℤ pos 3)) +ℤ ((a *ℤ pos 5) +ℤ b) =
+    settled_is c.plus.result c.settled.result k _ c.plus.ensures.eight within e6 (omega (arith, ints)) (omega (arith, ints)) (c.settled.ensures.same k within) in
     let e7 : number_at c.times-4.result k ≡ l *ℤ pos 7 =
     product_is c.args.left c.times-4.result k l (pos 7) c.requires.left.eight within refl (omega (arith, ints)) (omega (arith, ints)) (c.times-4.ensures.products k within) in
     let e8 : number_at c.plus-2.result k ≡ (((v *ℤ pos 16) +ℤ (r *ℤ pos 3)) +ℤ ((a *ℤ pos 5) +ℤ b)) +ℤ (l *ℤ pos 7) =
-    sum_is c.plus.result c.times-4.result c.plus-2.result k _ _ c.plus.ensures.eight c.times-4.ensures.eight within e6 e7 (omega (arith, ints)) (omega (arith, ints)) (omega (arith, ints)) (c.plus-2.ensures.sums k within) in
+    sum_is c.settled.result c.times-4.result c.plus-2.result k _ _ c.settled.ensures.eight c.times-4.ensures.eight within held e7 (omega (arith, ints)) (omega (arith, ints)) (omega (arith, ints)) (c.plus-2.ensures.sums k within) in
     kept_is c.plus-2.result k _ c.plus-2.ensures.eight within e8 (omega (arith, ints)) ∙ omega (arith, ints)

@@ -23,7 +23,7 @@ loop-self-init g c = record {
 pub loop-self-preserved-in-Ok : goal.loop-self-preserved-in-Ok
 loop-self-preserved-in-Ok g c = record {
   goes = goes-on (stage c.args.self.now c.args.reader.now) (stage c.loop-self.self c.loop-self.reader) (stage c.count.new.self c.count.new.reader) c.loop-self.waits
-      (omega (arith, c.loop-self-test.true, c.cursor.ensures.cursor, c.requires.total, c.total-total.ensures.total, ap (λ (k : KeyReaderData). length (places_in k.rows)) c.self.view_is, ap {A = ReaderState} (λ r. r.ring.total) c.loop-self.invariant.goes.reader))
+      (omega (arith, c.loop-self-test.true, c.cursor.ensures.cursor, c.requires.total, c.total-total.ensures.total, ap (λ (k : KeyReaderData). length (places_in k.rows)) c.self.view_is, ap {A = ReaderState} (λ r. r.ring.total) c.loop-self.invariant.goes.over.reader))
       c.loop-self.invariant.goes c.in-Ok.ensures;
   few = c.loop-self.invariant.few;
 }

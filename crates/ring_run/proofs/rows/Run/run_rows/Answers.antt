@@ -1,4 +1,5 @@
-use Rattle.std.proofs.Common.{map, sym, subst}
+use Rattle.std.proofs.Common.{map, ap, sym, subst, ◌∙◌}
+use Rattle.ring_rule.specs.Marks.{TableMark}
 use Rattle.ring_rule.specs.declared.view.RingNumbers.{RingNumbers}
 use Rattle.pr_rack.specs.Told.{RackTells, told}
 use Rattle.ring_run.specs.Counting.{HaveCounted, MayAllCount}
@@ -12,13 +13,16 @@ returns-in_err-table-clause-leaves g c = none_leaves _ _ c.from_residual.result 
 
 pub run_on-requires-clause-zeros : goal.run_on-requires-clause-zeros
 run_on-requires-clause-zeros g c κs within =
-    subst (λ (r : RingNumbers). MayAllCount r c.args.keys.now) (sym c.in_ok-table.ensures.ring) c.requires.zeros
+    let is = ap {A = TableMark} (λ t. t.ring) c.set_pauses.ensures ∙ c.in_ok-table.ensures.ring in
+    subst (λ (r : RingNumbers). MayAllCount r c.args.keys.now) (sym is) c.requires.zeros
 
 pub returns-clause-leaves : goal.returns-clause-leaves
 returns-clause-leaves g c =
     let tell : g.row.R.Denot → RackTells = told g.R.Rack in
-    subst (λ (r : RingNumbers). RunLeaves (on_ring c.args.self.now.plan.now c.args.self.now.out.now r) (map tell c.args.racks.now) (map tell c.run_on.new.racks) c.run_on.result) c.in_ok-table.ensures.ring c.run_on.ensures.leaves
+    let is = ap {A = TableMark} (λ t. t.ring) c.set_pauses.ensures ∙ c.in_ok-table.ensures.ring in
+    subst (λ (r : RingNumbers). RunLeaves (on_ring c.args.self.now.plan.now c.args.self.now.out.now r) (map tell c.args.racks.now) (map tell c.run_on.new.racks) c.run_on.result) is c.run_on.ensures.leaves
 
 pub returns-clause-counted : goal.returns-clause-counted
 returns-clause-counted g c =
-    if_ok c.run_on.result _ _ (λ outcome have. subst (λ (r : RingNumbers). HaveCounted r c.args.keys.now c.run_on.new.keys) c.in_ok-table.ensures.ring have) c.run_on.ensures.counted
+    let is = ap {A = TableMark} (λ t. t.ring) c.set_pauses.ensures ∙ c.in_ok-table.ensures.ring in
+    if_ok c.run_on.result _ _ (λ outcome have. subst (λ (r : RingNumbers). HaveCounted r c.args.keys.now c.run_on.new.keys) is have) c.run_on.ensures.counted

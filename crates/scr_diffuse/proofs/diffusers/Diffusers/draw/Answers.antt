@@ -16,4 +16,4 @@ returns c =
     let set : SetsBits (λ x. bit_of (slice_index dots x) page) c.args.from (length dots) c.args.bits.now c.set_dots.new.bits =
     subst (λ (all : List ℕ). SetsBits (λ x. bit_of (slice_index all x) page) c.args.from (length all) c.args.bits.now c.set_dots.new.bits) c.deref.ensures.value c.set_dots.ensures in
     subst (λ (f : EightFronts). SetsBits (λ x. diffused_bit (page_in f.rows page) x (length f.rows - 1)) c.args.from f.width c.args.bits.now c.set_dots.new.bits) c.self.view_is
-    (SetsBits_same _ _ c.args.from (length dots) _ _ (λ x below. c.self.invariant.dots_are page x c.requires.page below some) set)
+    (SetsBits_same _ _ c.args.from (length dots) _ _ (λ x below. c.self.invariant.stand.dots_are page x c.requires.page below some) set)

@@ -14,4 +14,7 @@ invariant_of-result c =
     let room : length items ≡ length dots + 2 = omega (arith, c.in_ok-vec.ensures.len) in
     let zeros : items ≡ replicate n (replicate 8 (pos 0)) =
     c.in_ok-vec.ensures.items_if_clones_equal (λ y e. (let long : length y ≡ 8 = e.long in same_lists y (replicate 8 (pos 0)) long (λ k d less. e.at k d d (omega arith)))) in
-    stand_all_at_start _ items dots c.new.ensures room (λ p k within. ap (λ places. lane_at places p k) zeros ∙ zeros_at n p k within)
+    record {
+      stand = stand_all_at_start _ items dots c.new.ensures room (λ p k within. ap (λ places. lane_at places p k) zeros ∙ zeros_at n p k within);
+      room = omega (arith, c.in_ok-vec-3.ensures.len);
+    }

@@ -11,5 +11,8 @@ invariant_of-self c =
     let new : List (List ℤ) = c.clear.new.errors in
     let size : length new ≡ length items = omega (arith, ap length c.deref_mut.ensures.value) in
     let whole : c.self.inside.errors.len ≡ length new = omega arith in
-    subst (λ (places : List (List ℤ)). StandBelowAll c.new-self-inside.result.rows places c.self.inside.dots.items) (sym (take_at new _ c.self.inside.errors.len (omega arith)))
-    (stand_all_at_start _ new c.self.inside.dots.items c.new-self-inside.ensures (size ∙ c.self.invariant.room) (λ p k within. c.clear.ensures p k))
+    record {
+      stand = subst (λ (places : List (List ℤ)). StandBelowAll c.new-self-inside.result.rows places c.self.inside.dots.items) (sym (take_at new _ c.self.inside.errors.len (omega arith)))
+          (stand_all_at_start _ new c.self.inside.dots.items c.new-self-inside.ensures (size ∙ c.self.invariant.stand.room) (λ p k within. c.clear.ensures p k));
+      room = c.self.invariant.room;
+    }

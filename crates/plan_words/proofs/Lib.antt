@@ -1,4 +1,0 @@
-pub mod Texts
-pub mod Places
-pub mod Lists
-pub mod Sound

@@ -1,6 +1,0 @@
-pub mod Words
-pub mod Forms
-pub mod Reading
-pub mod Gives
-pub mod Place
-pub mod Node

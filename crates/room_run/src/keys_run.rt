@@ -1,0 +1,96 @@
+// A run that also counts the ink keys of all plates, as one more reader of its ring.
+ghost use Rattle.std.specs.Prelude.{◌≡◌, ◌+◌, ◌<◌, ◌≤◌, [], ◌∷◌, IfOk, OnErr, Some, drop, length, slice_get};
+ghost use Rattle.pr_rack.specs.Told.{all_told};
+ghost use Rattle.pr_base.specs.Number.{IsWithin};
+ghost use Rattle.press_job.specs.Rows.{plate_rows};
+ghost use Rattle.ink_keys.specs.Turn.{KeyReaderData};
+ghost use Rattle.site_agent.specs.Racks.{AreIdle, KeepCounts};
+ghost use Rattle.ring_run.specs.Fits.{RunFits, RunPart, by_job};
+ghost use Rattle.ring_run.specs.Keyed.{KeysFit};
+
+use crate::job_run::run_all;
+use ink_keys::{Counts, KeyReader};
+use plan_rows::RowPlan;
+use pr_base::NoMemory;
+use pr_rack::Rack;
+use press_job::Job;
+use ring_run::{Outcome, Run, RunKeyReader};
+use std::alloc::Global;
+use std::thread::Threads;
+
+/// Delivers the plates of a job as `run_job` does, and counts the pixels that print in each of `keys` keys
+/// of each plate. The counts come from the rows of the run's own ring, by a reader with the number after the
+/// last site; they are whole also where every site left. All counts are taken before the first row.
+pub fn run_keys<T: Threads + Sync, R: Rack + Send>(
+    rt: &T,
+    alloc: Global,
+    job: &Job,
+    racks: &mut [R],
+    out: &str,
+    keys: u32,
+    ring: u32,
+    patience: u32,
+) -> Result<(Outcome, Counts), NoMemory>
+    requires racks { length job.now.plan.sites ≤ length racks.old }
+    requires idle { AreIdle (length job.now.plan.sites) (all_told R.Rack racks.old) }
+    requires keys { IsWithin 1 64 keys }
+    requires ring { IsWithin 1 1024 ring }
+    requires patience { IsWithin 1 65536 patience }
+    // Each site's end fits what its rack has more than before, at a ring with one reader more.
+    ensures fits { IfOk result (λ pair. RunFits
+        (by_job job.now out.now (length job.now.plan.sites + 1) ring)
+        (all_told R.Rack racks.old) (all_told R.Rack racks.new) pair.0.sites.items) }
+    // Each count is that of its plate's rows, out of all rows of the job.
+    ensures keys { IfOk result (λ pair.
+        KeysFit job.now.plan (plate_rows job.now.plan job.now.files) keys pair.1) }
+    // Want of memory: each rack has the first of its site's files more, and the first of its rows.
+    ensures part { OnErr result (RunPart
+        (by_job job.now out.now (length job.now.plan.sites + 1) ring)
+        (all_told R.Rack racks.old) (all_told R.Rack racks.new)) }
+    // What stands of the racks, whatever the answer.
+    ensures counts { KeepCounts (all_told R.Rack racks.old) (all_told R.Rack racks.new) }
+    ensures others { drop (length job.now.plan.sites) racks.new ≡ drop (length job.now.plan.sites) racks.old }
+{
+    let plan = job.plan();
+    let rows = job.rows();
+    let counts = Counts::new(alloc, rows, job.shape().width, keys)?;
+    let mut readers = one_reader(alloc, rows, counts)?;
+    let run = Run {
+        alloc,
+        plan,
+        rows,
+        out,
+        readers: plan.sites.len() as u32 + 1,
+        ring,
+        patience,
+    };
+    let outcome = run_all(rt, &run, job, racks, readers.as_mut_slice())?;
+    Ok((outcome, counts_of(readers)))
+}
+
+/// A list of one key reader, which adds the rows of this row plan to these counts.
+fn one_reader<'p>(
+    alloc: Global,
+    rows: &'p RowPlan,
+    counts: Counts,
+) -> Result<Vec<RunKeyReader<'p>>, NoMemory>
+    requires { counts.groups ≡ length rows.now.groups }
+    ensures { IfOk result (λ readers.
+        readers.items ≡ record { rows = rows.now; counts = counts } ∷ []) }
+{
+    let mut readers = Vec::new(alloc);
+    readers.push(RunKeyReader::new(KeyReader::new(rows, counts)))?;
+    Ok(readers)
+}
+
+/// The counts of the one key reader of a list.
+fn counts_of(mut readers: Vec<RunKeyReader<'_>>) -> Counts
+    requires one { length readers.items ≡ 1 }
+    ensures its { (key : KeyReaderData) → slice_get readers.entry.items 0 ≡ Some key
+        → result ≡ key.counts }
+{
+    let Some(key) = readers.pop() else {
+        unreachable!()
+    };
+    key.into_counts()
+}

@@ -1,0 +1,107 @@
+// Eight rows side by side: what stands in a column of each stands in eight places behind one another.
+ghost use Rattle.std.specs.Prelude.{◌≡◌, ℕ, ◌+◌, ◌*◌, ◌/◌, ◌%◌, ◌^◌, ◌<◌, ◌≤◌, length, slice_index};
+ghost use Rattle.scr_diffuse.specs.Diffusers.{row_in};
+ghost use Rattle.scr_diffuse.specs.Weave.{AreVectors, HasColumns, woven_at};
+
+use std::simd::prelude::*;
+
+/// How many columns are woven at once.
+const BLOCK: usize = 16;
+
+/// Puts eight rows side by side: whole blocks of columns, and then the rest one by one.
+pub(crate) fn set_columns(rows: &[&[u8]; 8], width: usize, columns: &mut [u8])
+    requires rows { (k : ℕ) → k < 8 → length (row_in rows.now k) ≡ width }
+    requires room { length columns.old ≡ 8 * width }
+    ensures { HasColumns rows.now width columns.new }
+{
+    let count = width / BLOCK;
+    for block in 0..count {
+        set_block(rows, BLOCK * block, columns);
+    }
+    for x in BLOCK * count..width {
+        set_column(rows, x, columns);
+    }
+}
+
+/// Puts the columns of a block, of which this is the first one, behind those before them.
+#[inline(always)]
+fn set_block(rows: &[&[u8]; 8], first: usize, columns: &mut [u8])
+    requires rows { (k : ℕ) → k < 8 → first + 16 ≤ length (row_in rows.now k) }
+    requires room { 8 * first + 128 ≤ length columns.old }
+    requires before { HasColumns rows.now first columns.old }
+    ensures { HasColumns rows.now (first + 16) columns.new }
+{
+    let woven = weave(weave(weave(block_of(rows, first))));
+    for k in 0..8 {
+        let from = 8 * first + 16 * k;
+        woven[k].copy_to_slice(&mut columns[from..from + 16]);
+    }
+}
+
+/// The values of a block of columns, a vector for each row.
+#[inline(always)]
+fn block_of(rows: &[&[u8]; 8], first: usize) -> [u8x16; 8]
+    requires fits { first + 16 < 2 ^ 64 }
+    requires rows { (k : ℕ) → k < 8 → first + 16 ≤ length (row_in rows.now k) }
+    ensures vectors { AreVectors result }
+    ensures values { (k x : ℕ) → k < 8 → x < 16 →
+        woven_at result (16 * k + x) ≡ slice_index (row_in rows.now k) (first + x) }
+{
+    [
+        values_from(rows, 0, first),
+        values_from(rows, 1, first),
+        values_from(rows, 2, first),
+        values_from(rows, 3, first),
+        values_from(rows, 4, first),
+        values_from(rows, 5, first),
+        values_from(rows, 6, first),
+        values_from(rows, 7, first),
+    ]
+}
+
+/// Sixteen values of one of eight rows.
+#[inline(always)]
+fn values_from(rows: &[&[u8]; 8], k: usize, first: usize) -> u8x16
+    requires fits { first + 16 < 2 ^ 64 }
+    requires row { k < 8 }
+    requires columns { first + 16 ≤ length (row_in rows.now k) }
+    ensures sixteen { length result ≡ 16 }
+    ensures values { (x : ℕ) → x < 16 → slice_index result x ≡ slice_index (row_in rows.now k) (first + x) }
+{
+    u8x16::from_slice(&rows[k][first..first + 16])
+}
+
+/// Takes the places of eight vectors in turn from both halves of them.
+#[inline(always)]
+fn weave(v: [u8x16; 8]) -> [u8x16; 8]
+    requires { AreVectors v }
+    ensures vectors { AreVectors result }
+    ensures places { (n : ℕ) → n < 128 → woven_at result n ≡ woven_at v (64 * (n % 2) + n / 2) }
+{
+    let (a, b) = v[0].interleave(v[4]);
+    let (c, d) = v[1].interleave(v[5]);
+    let (e, f) = v[2].interleave(v[6]);
+    let (g, h) = v[3].interleave(v[7]);
+    [a, b, c, d, e, f, g, h]
+}
+
+/// Puts the values of a column behind those before it.
+fn set_column(rows: &[&[u8]; 8], x: usize, columns: &mut [u8])
+    requires rows { (k : ℕ) → k < 8 → x < length (row_in rows.now k) }
+    requires room { 8 * x + 8 ≤ length columns.old }
+    requires before { HasColumns rows.now x columns.old }
+    ensures { HasColumns rows.now (x + 1) columns.new }
+{
+    for k in 0..8 {
+        columns[8 * x + k] = value_at(rows, k, x);
+    }
+}
+
+/// The value in a column of one of eight rows.
+fn value_at(rows: &[&[u8]; 8], k: usize, x: usize) -> u8
+    requires row { k < 8 }
+    requires column { x < length (row_in rows.now k) }
+    ensures { result ≡ slice_index (row_in rows.now k) x }
+{
+    rows[k][x]
+}
