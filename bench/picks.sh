@@ -10,7 +10,7 @@ folder=${1:-$(mktemp -d)}
 program=$folder/crates/bench_picks
 mkdir -p "$program/src" "$program/proofs/files_of"
 cp "$here/../HANDLES" "$folder"
-lower='pr_base tif_dir tif_packbits tif_plate plan_words plan_parts plan_json plan_pages plan_rows'
+lower='pr_base tif_dir tif_packbits tif_plate plan_parts plan_json plan_pages plan_rows'
 lower="$lower ring_core ring_rule ring_lanes pr_rack site_agent replate"
 : > "$folder/crates.txt"
 for crate in $lower; do

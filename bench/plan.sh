@@ -11,7 +11,7 @@ program=$folder/crates/bench_plan
 mkdir -p "$program/src"
 cp "$here/../HANDLES" "$folder"
 : > "$folder/crates.txt"
-for crate in pr_base tif_dir tif_packbits tif_plate plan_words plan_parts plan_json plan_pages plan_rows; do
+for crate in pr_base tif_dir tif_packbits tif_plate plan_parts plan_json plan_pages plan_rows; do
     rm -rf "$folder/crates/$crate"
     mkdir "$folder/crates/$crate"
     (cd "$here/../crates/$crate" && tar cf - --exclude=out .) | tar xf - -C "$folder/crates/$crate"
