@@ -1,5 +1,6 @@
 // A job: a plan and its files, tested before any row is made. After `prepare` nothing can be refused but for
-// want of memory. What the rows of its plates are is defined here, and the crates above make them.
+// want of memory. What the rows of its plates are is defined here, and what a run asks of their feed
+// (`BandFeed`); the crates above make the rows.
 #![tactic(auto)]
 
 mod band_feed;

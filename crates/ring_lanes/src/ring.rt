@@ -61,16 +61,16 @@ pub fn open_ring<'d, D: Deal>(
 }
 
 impl<'d, D: Deal> Ring<'d, D> {
-    /// Tells whether the ends that it gives out pause between two looks in vain. Where all threads share one
-    /// processor that helps no one. Those of a ring as it is opened do.
+    /// Sets whether the ends that it will give out pause between two looks in vain; as a ring is opened they
+    /// do. Where all threads share one processor a pause helps no one.
     pub fn set_pauses(&mut self, pauses: bool)
         ensures { self.new ≡ self.old }
     {
         self.pauses = pauses;
     }
 
-    /// Gives out the ends, all of this ring, with every reader joined. It is the first call on the ring;
-    /// where there is no memory they are still there.
+    /// Gives out the ends, all of this ring, with every reader joined. That is done once; where there is no
+    /// memory they are still there.
     pub fn ends(&mut self, alloc: Global) -> Result<Ends<'_, D>, NoMemory>
         requires { self.old.fresh ≡ true }
         ensures writer { IfOk result (λ ends. ends.writer ≡ new_writer_state self.old.table self.old.ring) }

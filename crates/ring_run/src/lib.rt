@@ -1,6 +1,6 @@
-// The run of a job: one writer and every site, side by side over a ring, round after round. `run_fed` delivers
-// the plates of a job, whose rows a feed gives, to the racks of its sites, and answers how each site ended; key
-// readers count the ink keys of the plates beside them.
+// The run of a job: one writer and every site, side by side over a ring, round after round. `run_fed`
+// delivers the plates of a job, whose rows a feed gives, to the racks of its sites, and answers how each site
+// ended. A key reader may count the ink keys of the plates beside them.
 #![tactic(auto)]
 
 mod all_rounds;

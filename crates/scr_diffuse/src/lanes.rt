@@ -33,8 +33,8 @@ pub(crate) fn times(factor: i16, a: i16x8) -> i16x8
     a * i16x8::splat(factor)
 }
 
-/// The same numbers. The compare, which changes none of them, keeps a compiler from adding to them in an order
-/// of its own: what waits longest is then added last.
+/// The same numbers. The compare, which changes none of them, keeps a compiler from adding to them in an
+/// order of its own: what waits longest is then added last.
 #[inline(always)]
 pub(crate) fn settled(a: i16x8) -> i16x8
     requires { length a ≡ 8 }
