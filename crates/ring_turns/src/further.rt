@@ -5,7 +5,7 @@ ghost use Rattle.ring_turns.specs.Pairs.{AreTurned, MayAllTurn};
 
 use crate::pace::Pace;
 use crate::pairs::Pairs;
-use crate::side_by_side::{turn_beside, turns};
+use crate::side_by_side::{turn_beside, turn_of_one, turns};
 use crate::turn::TurnWith;
 use std::thread::{Threads, join_mut};
 
@@ -45,52 +45,6 @@ where
         others: theirs,
     } = further;
     let pace = pace.beside(all.len().saturating_add(further.len()));
-    if further.is_empty() {
-        turn_beside(rt, pace, its, one, others, all);
-    } else {
-        let pairs = Pairs { all, others };
-        let further = Pairs {
-            all: further,
-            others: theirs,
-        };
-        turn_beside_further(rt, pace, its, one, pairs, further);
-    }
-}
-
-/// The same with a join for the further ones.
-fn turn_beside_further<T, W, F, X, Y, Z, V>(
-    rt: &T,
-    pace: Pace,
-    its: &mut F,
-    one: &mut W,
-    pairs: Pairs<'_, X, Y>,
-    further: Pairs<'_, Z, V>,
-)
-where
-    T: Threads + Sync,
-    W: TurnWith<F> + Send,
-    F: Send,
-    X: TurnWith<Y> + Send,
-    Y: Send,
-    Z: TurnWith<V> + Send,
-    V: Send,
-    requires may_one { W.may one.old its.old }
-    requires count { length pairs.all.now ≡ length pairs.others.now }
-    requires may { MayAllTurn X.may pairs.all.now pairs.others.now }
-    requires count_further { length further.all.now ≡ length further.others.now }
-    requires may_further { MayAllTurn Z.may further.all.now further.others.now }
-    requires patience { 0 < pace.patience }
-    ensures one { W.turned one.old its.old one.new its.new }
-    ensures turned { AreTurned X.turned
-        pairs.entry.all.now pairs.entry.others.now pairs.exit.0.now pairs.exit.1.0.now }
-    ensures further { AreTurned Z.turned
-        further.entry.all.now further.entry.others.now further.exit.0.now further.exit.1.0.now }
-{
-    let Pairs { all, others } = pairs;
-    let Pairs {
-        all: further,
-        others: theirs,
-    } = further;
     // The second closure runs in this thread, and in it the one's turn.
     join_mut(
         rt,
@@ -115,7 +69,11 @@ where
                 theirs.exit.now }
         {
             let pace = pace;
-            turn_beside(rt, pace, its, one, theirs, further)
+            if further.is_empty() {
+                turn_of_one(rt, pace, its, one)
+            } else {
+                turn_beside(rt, pace, its, one, theirs, further)
+            }
         },
     );
 }

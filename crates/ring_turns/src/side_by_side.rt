@@ -133,7 +133,7 @@ where
 
 /// The turn of the one, in this thread, so that its buffers stay on one processor; or apart, in a thread of
 /// its own, and then this one rests, so that each thread that it started begins at once.
-fn turn_of_one<T, W, F>(rt: &T, pace: Pace, its: &mut F, one: &mut W)
+pub(crate) fn turn_of_one<T, W, F>(rt: &T, pace: Pace, its: &mut F, one: &mut W)
 where
     T: Threads + Sync,
     W: TurnWith<F> + Send,
