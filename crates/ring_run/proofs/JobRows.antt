@@ -1,6 +1,7 @@
 -- The rows of a job, and a run's contract over them.
-use Rattle.std.proofs.Common.{◌≡◌, ℕ, Result, List, ◌++◌, length, map, refl, sym, subst, ◌∙◌}
+use Rattle.std.proofs.Common.{◌≡◌, ℕ, Result, List, ◌++◌, length, drop, map, refl, sym, ap, subst, ◌∙◌}
 use Rattle.std.proofs.lemmas.List.{length-map}
+use Rattle.std.proofs.Math.Seq.{drop-append_seam}
 use Rattle.pr_base.specs.Row.{row_size}
 use Rattle.tif_packbits.specs.Frame.{AreFrames, framed_row}
 use Rattle.pr_rack.specs.Told.{RackTells}
@@ -63,3 +64,13 @@ job_leaves tell own plan files out readers ring racks racks' front front' rest a
   part = if_err answer _ _ (λ part. job_part tell own plan files out readers ring racks racks' front front' rest is is' long same plan-is is-plan part) leaves.part;
   counts = all_keep tell racks racks' front front' rest is is' same leaves.counts;
 }
+
+-- and the racks behind stay
+behind : {X : Type 0} (count : ℕ) (racks front rest : List X) → racks ≡ front ++ rest → length front ≡ count → drop count racks ≡ rest
+behind count racks front rest is long = ap (drop count) is ∙ ap (λ n. drop n (front ++ rest)) (sym long) ∙ drop-append_seam front rest
+
+pub others_stay : {X : Type 0} (own plan : PlanData) (racks racks' front front' rest : List X) → racks ≡ front ++ rest → racks' ≡ front' ++ rest → length front ≡ length own.sites → length front' ≡ length front → own ≡ plan
+    → drop (length plan.sites) racks' ≡ drop (length plan.sites) racks
+others_stay own plan racks racks' front front' rest is is' long same plan-is =
+    let sites = long ∙ ap (λ (p : PlanData). length p.sites) plan-is in
+    behind (length plan.sites) racks' front' rest is' (same ∙ sites) ∙ sym (behind (length plan.sites) racks front rest is sites)

@@ -5,3 +5,4 @@ pub mod Round
 pub mod Again
 pub mod Counting
 pub mod Keyed
+pub mod JobRun

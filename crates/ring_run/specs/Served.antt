@@ -7,13 +7,12 @@ use Rattle.ring_lanes.specs.Reader.{ReaderState}
 use Rattle.ring_lanes.specs.declared.source.Source.TheVariants.{Ring}
 use Rattle.tif_packbits.specs.Frame.{AreFrames}
 use Rattle.pr_rack.specs.Told.{RackTells}
-use Rattle.pr_base.specs.Number.{IsWithin}
 use Rattle.plan_json.specs.Data.{PlanData, plate_width}
 use Rattle.plan_json.specs.Plan.{IsPlan}
 use Rattle.plan_rows.specs.declared.group.Group.{Group}
 use Rattle.plan_rows.specs.Inks.{has_site}
 use Rattle.plan_rows.specs.Plates.{PlateOf, group_plates, site_plates}
-use Rattle.plan_rows.specs.Rows.{RowPlanData, row_places, rows_of}
+use Rattle.plan_rows.specs.Rows.{row_places}
 use Rattle.site_agent.specs.declared.kept.LeftCause.{LeftCause}
 use Rattle.site_agent.specs.Going.{IsGoing}
 use Rattle.site_agent.specs.Plan.{fresh_site, job_of}
@@ -148,13 +147,6 @@ abbrev pub ends_in : PlanData → List SeatData → List (Option SiteEnd)
 ends_in plan seats = map (λ pair. end_of plan pair.0 pair.1.site) (enumerate_from 0 seats)
 
 -- ---- a run
-
--- a run is over the rows of this plan, at a ring of so many places, with a patience of a look at least
-pub record IsRun (plan : PlanData) (rows : RowPlanData) (ring patience : ℕ) : Type 0 where
-  pub plan_is : IsPlan plan
-  pub rows_are : rows ≡ rows_of plan
-  pub places : IsWithin 1 1024 ring
-  pub some : 0 < patience
 
 -- of each run whose sites are before the first row, each site's end fits
 abbrev pub FitsFrom : PlanData → RingNumbers → List RackTells → List RackTells → List SeatData → List SiteEnd

@@ -1,11 +1,7 @@
 // A run of a job over its ring, by a feed that has the job's rows.
-ghost use Rattle.std.specs.Prelude.{◌≡◌, ◌+◌, ◌≤◌, IfOk, drop, length};
-ghost use Rattle.pr_rack.specs.Told.{all_told};
-ghost use Rattle.press_job.specs.Rows.{plate_frames, plate_rows};
-ghost use Rattle.site_agent.specs.Racks.{AreIdle};
-ghost use Rattle.ring_run.specs.Fits.{RunLeaves, by_job};
-ghost use Rattle.ring_run.specs.Keyed.{AllKeysFit, AreFreshKeys};
-ghost use Rattle.ring_run.specs.Served.{IsRun};
+ghost use Rattle.std.specs.Prelude.{◌≡◌};
+ghost use Rattle.press_job.specs.Rows.{plate_frames};
+ghost use Rattle.ring_run.specs.JobRun.{JobLeaves, MayRun};
 
 use crate::Outcome;
 use crate::counting::RunKeyReader;
@@ -25,19 +21,10 @@ pub fn run_fed<T: Threads + Sync, F: BandFeed + Send, R: Rack + Send>(
     racks: &mut [R],
     keys: &mut [RunKeyReader<'_>],
 ) -> Result<Outcome, NoMemory>
-    requires run { IsRun run.now.plan.now run.now.rows.now run.now.ring run.now.patience }
+    requires may { MayRun R.Rack run.now keys.old racks.old }
     requires plan { run.now.plan.now ≡ job.now.plan }
-    requires readers { run.now.readers ≡ length job.now.plan.sites + length keys.old }
-    requires few_keys { length keys.old ≤ 1 }
-    requires zeros { AreFreshKeys job.now.plan keys.old }
     requires feed { F.left feed.old ≡ plate_frames job.now.plan job.now.files }
-    requires racks { length job.now.plan.sites ≤ length racks.old }
-    requires idle { AreIdle (length job.now.plan.sites) (all_told R.Rack racks.old) }
-    ensures leaves { RunLeaves (by_job job.now run.now.out.now run.now.readers run.now.ring)
-        (all_told R.Rack racks.old) (all_told R.Rack racks.new) result }
-    ensures others { drop (length job.now.plan.sites) racks.new ≡ drop (length job.now.plan.sites) racks.old }
-    ensures keys { IfOk result (λ _. AllKeysFit job.now.plan
-        (plate_rows job.now.plan job.now.files) keys.old keys.new) }
+    ensures leaves { JobLeaves R.Rack job.now run.now keys.old keys.new racks.old racks.new result }
 {
     let plan = run.plan;
     let (racks, _others) = racks.split_at_mut(plan.sites.len());

@@ -8,9 +8,10 @@ ghost use Rattle.ring_turns.specs.Feeding.{HasRows, MayFeed};
 ghost use Rattle.ring_turns.specs.Pairs.{MayAllTurn};
 ghost use Rattle.ring_run.specs.Counting.{HaveCounted, IsCounting, MayAllCount};
 ghost use Rattle.ring_run.specs.Fits.{RunLeaves, by_ring, on_ring};
+ghost use Rattle.ring_run.specs.JobRun.{IsRun, MayRun};
 ghost use Rattle.ring_run.specs.Round.{AreEndsOf};
 ghost use Rattle.ring_run.specs.Seat.{all_readers};
-ghost use Rattle.ring_run.specs.Served.{AreSomeSeated, Carries, FitsFrom, IsRun, StopsFrom};
+ghost use Rattle.ring_run.specs.Served.{AreSomeSeated, Carries, FitsFrom, StopsFrom};
 
 use crate::Outcome;
 use crate::all_rounds::{RacksAndKeys, WriterAndFeed, run_rounds};
@@ -65,7 +66,7 @@ impl Run<'_> {
         racks: &mut [R],
         keys: &mut [RunKeyReader<'_>],
     ) -> Result<Outcome, NoMemory>
-        requires run { IsRun self.now.plan.now self.now.rows.now self.now.ring self.now.patience }
+        requires run { IsRun self.now }
         requires feed { MayFeed (F.left feed.old) ends.writer }
         requires places { 0 < ends.writer.ring.places }
         requires ends { AreEndsOf ends.writer (all_readers ends.seats.items ends.more.items) }
@@ -105,7 +106,7 @@ impl Run<'_> {
         racks: &mut [R],
         keys: &mut [RunKeyReader<'_>],
     ) -> Result<Outcome, NoMemory>
-        requires run { IsRun self.now.plan.now self.now.rows.now self.now.ring self.now.patience }
+        requires run { IsRun self.now }
         requires fresh { table.old.fresh ≡ true }
         requires places { 0 < table.old.ring.places }
         requires readers { table.old.ring.readers ≡ length self.now.plan.now.sites + length keys.old }
@@ -146,20 +147,17 @@ impl Run<'_> {
         racks: &mut [R],
         keys: &mut [RunKeyReader<'_>],
     ) -> Result<Outcome, NoMemory>
-        requires run { IsRun self.now.plan.now self.now.rows.now self.now.ring self.now.patience }
+        requires may { MayRun R.Rack self.now keys.old racks.old }
         requires carries { Carries
             (by_ring self.now.plan.now (map framed_row (D.rows deal.now)) self.now.out.now
             self.now.readers self.now.ring)
             (ring_of self.now.ring self.now.readers (D.rows deal.now) (D.size deal.now)) }
-        requires readers { self.now.readers ≡ length self.now.plan.now.sites + length keys.old }
-        requires few_keys { length keys.old ≤ 1 }
         requires zeros { MayAllCount
             (ring_of self.now.ring self.now.readers (D.rows deal.now) (D.size deal.now)) keys.old }
         requires some_byte { 1 ≤ D.size deal.now }
         requires few_bytes { D.size deal.now ≤ 8258 }
         requires feed { F.left feed.old ≡ D.rows deal.now }
         requires racks { length self.now.plan.now.sites ≡ length racks.old }
-        requires idle { AreIdle (length self.now.plan.now.sites) (all_told R.Rack racks.old) }
         ensures leaves { RunLeaves
             (by_ring self.now.plan.now (map framed_row (D.rows deal.now)) self.now.out.now
             self.now.readers self.now.ring)

@@ -1,12 +1,10 @@
 // A run: all plates of a job, on the racks of its sites.
-ghost use Rattle.std.specs.Prelude.{◌≡◌, ◌+◌, ◌≤◌, IfOk, OnErr, drop, length};
+ghost use Rattle.std.specs.Prelude.{◌≡◌, ◌≤◌, IfOk, OnErr, drop, length};
 ghost use Rattle.pr_rack.specs.Told.{all_told};
 ghost use Rattle.pr_base.specs.Number.{IsWithin};
-ghost use Rattle.press_job.specs.Rows.{plate_rows};
 ghost use Rattle.site_agent.specs.Racks.{AreIdle, KeepCounts};
-ghost use Rattle.ring_run.specs.Fits.{RunFits, RunLeaves, RunPart, by_job};
-ghost use Rattle.ring_run.specs.Keyed.{AllKeysFit, AreFreshKeys};
-ghost use Rattle.ring_run.specs.Served.{IsRun};
+ghost use Rattle.ring_run.specs.Fits.{RunFits, RunPart, by_job};
+ghost use Rattle.ring_run.specs.JobRun.{JobLeaves, MayRun};
 
 use pr_base::NoMemory;
 use pr_rack::Rack;
@@ -67,18 +65,9 @@ pub(crate) fn run_all<T: Threads + Sync, R: Rack + Send>(
     racks: &mut [R],
     keys: &mut [RunKeyReader<'_>],
 ) -> Result<Outcome, NoMemory>
-    requires run { IsRun run.now.plan.now run.now.rows.now run.now.ring run.now.patience }
+    requires may { MayRun R.Rack run.now keys.old racks.old }
     requires plan { run.now.plan.now ≡ job.now.plan }
-    requires readers { run.now.readers ≡ length job.now.plan.sites + length keys.old }
-    requires few_keys { length keys.old ≤ 1 }
-    requires zeros { AreFreshKeys job.now.plan keys.old }
-    requires racks { length job.now.plan.sites ≤ length racks.old }
-    requires idle { AreIdle (length job.now.plan.sites) (all_told R.Rack racks.old) }
-    ensures leaves { RunLeaves (by_job job.now run.now.out.now run.now.readers run.now.ring)
-        (all_told R.Rack racks.old) (all_told R.Rack racks.new) result }
-    ensures others { drop (length job.now.plan.sites) racks.new ≡ drop (length job.now.plan.sites) racks.old }
-    ensures keys { IfOk result (λ _. AllKeysFit job.now.plan
-        (plate_rows job.now.plan job.now.files) keys.old keys.new) }
+    ensures leaves { JobLeaves R.Rack job.now run.now keys.old keys.new racks.old racks.new result }
 {
     let mut feed = Feed::open_wide(rt, run.alloc, job)?;
     run_fed(rt, run, job, &mut feed, racks, keys)

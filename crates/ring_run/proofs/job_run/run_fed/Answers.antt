@@ -1,4 +1,4 @@
-use Rattle.std.proofs.Common.{◌≡◌, ℕ, List, length, map, refl, subst, sym, rules}
+use Rattle.std.proofs.Common.{◌≡◌, ℕ, List, ◌++◌, length, map, refl, subst, sym, rules, arith}
 use Rattle.tif_packbits.specs.Frame.{frame_size, framed_row}
 use Rattle.pr_base.specs.Row.{row_size}
 use Rattle.pr_rack.specs.Told.{RackTells, told}
@@ -6,18 +6,18 @@ use Rattle.plan_json.specs.Data.{PlanData, plate_width}
 use Rattle.plan_json.specs.Plan.{IsPlan}
 use Rattle.press_job.specs.Rows.{plate_frames}
 use Rattle.ring_rule.specs.Views.{ring_of}
-use Rattle.site_agent.specs.Racks.{AreIdle}
 use Rattle.ring_run.specs.Fits.{by_ring}
+use Rattle.ring_run.specs.Keyed.{AreFreshKeys}
 use Rattle.ring_run.specs.Served.{Carries}
 use Rattle.site_agent.proofs.Racks.{front_idle}
 use Rattle.site_agent.proofs.Results.{if_ok}
-use Rattle.ring_run.proofs.JobRows.{job_carries, job_leaves}
+use Rattle.ring_run.proofs.JobRows.{job_carries, job_leaves, others_stay}
 use Rattle.ring_run.proofs.KeyTurns.{all_keys_fit, fresh_may}
 use Rattle.ring_run.proofs.job_run.run_fed.Goals as goal
 
 pub run_rows-requires-clause-carries : goal.run_rows-requires-clause-carries
 run_rows-requires-clause-carries g c κs within =
-    let is : IsPlan c.args.job.now.plan = subst (λ (p : PlanData). IsPlan p) c.requires.plan c.requires.run.plan_is in
+    let is : IsPlan c.args.job.now.plan = subst (λ (p : PlanData). IsPlan p) c.requires.plan c.requires.may.run_is.plan_is in
     let frames : List (List ℕ) = plate_frames c.args.job.now.plan c.args.job.now.files in
     let size : ℕ = frame_size (row_size (plate_width c.args.job.now.plan)) in
     subst (λ (q : PlanData). Carries (by_ring q (map framed_row frames) c.args.run.now.out.now c.args.run.now.readers c.args.run.now.ring) (ring_of c.args.run.now.ring c.args.run.now.readers frames size)) (sym c.requires.plan)
@@ -25,28 +25,43 @@ run_rows-requires-clause-carries g c κs within =
 
 pub run_rows-requires-clause-zeros : goal.run_rows-requires-clause-zeros
 run_rows-requires-clause-zeros g c κs within =
-    let is : IsPlan c.args.job.now.plan = subst (λ (p : PlanData). IsPlan p) c.requires.plan c.requires.run.plan_is in
-    fresh_may c.args.job.now.plan c.args.job.now.files c.args.run.now.ring c.args.run.now.readers (frame_size (row_size (plate_width c.args.job.now.plan))) c.args.keys.now is c.requires.zeros
+    let is : IsPlan c.args.job.now.plan = subst (λ (p : PlanData). IsPlan p) c.requires.plan c.requires.may.run_is.plan_is in
+    fresh_may c.args.job.now.plan c.args.job.now.files c.args.run.now.ring c.args.run.now.readers (frame_size (row_size (plate_width c.args.job.now.plan))) c.args.keys.now is
+    (subst (λ (p : PlanData). AreFreshKeys p c.args.keys.now) c.requires.plan c.requires.may.fresh)
 
-pub run_rows-requires-clause-idle : goal.run_rows-requires-clause-idle
-run_rows-requires-clause-idle g c κs within =
+pub run_rows-requires-clause-may : goal.run_rows-requires-clause-may
+run_rows-requires-clause-may g c κs within =
     let tell : g.row.R.Denot → RackTells = told g.R.Rack in
+    let may = c.requires.may in
     let count : length c.split_at_mut-racks.result.0.now ≡ length c.args.run.now.plan.now.sites = search rules in
-    front_idle tell (length c.args.run.now.plan.now.sites) c.args.racks.now c.split_at_mut-racks.result.0.now c.split_at_mut-racks.result.1.now (search rules) count
-    (subst (λ (p : PlanData). AreIdle (length p.sites) (map tell c.args.racks.now)) (sym c.requires.plan) c.requires.idle)
+    record {
+      run_is = may.run_is;
+      readers_are = may.readers_are;
+      few_keys = may.few_keys;
+      fresh = may.fresh;
+      enough = omega (arith, count);
+      idle = front_idle tell (length c.args.run.now.plan.now.sites) c.args.racks.now c.split_at_mut-racks.result.0.now c.split_at_mut-racks.result.1.now (search rules) count may.idle;
+    }
 
-pub returns-clause-leaves : goal.returns-clause-leaves
-returns-clause-leaves g c =
+pub returns : goal.returns
+returns g c =
     let tell : g.row.R.Denot → RackTells = told g.R.Rack in
-    let is : IsPlan c.args.run.now.plan.now = c.requires.run.plan_is in
-    let count : length c.split_at_mut-racks.result.0.now ≡ length c.args.run.now.plan.now.sites = search rules in
-    job_leaves tell c.args.run.now.plan.now c.args.job.now.plan c.args.job.now.files c.args.run.now.out.now c.args.run.now.readers c.args.run.now.ring c.args.racks.now _ c.split_at_mut-racks.result.0.now c.run_rows.new.racks
-    c.split_at_mut-racks.result.1.now c.run_rows.result (search rules) refl count c.run_rows.auto.racks c.requires.plan is c.run_rows.ensures.leaves
-
-pub returns-clause-keys : goal.returns-clause-keys
-returns-clause-keys g c =
-    let is : IsPlan c.args.job.now.plan = subst (λ (p : PlanData). IsPlan p) c.requires.plan c.requires.run.plan_is in
-    if_ok c.run_rows.result _ _
-    (λ outcome have.
-    all_keys_fit c.args.job.now.plan c.args.job.now.files c.args.run.now.ring c.args.run.now.readers (frame_size (row_size (plate_width c.args.job.now.plan))) c.args.keys.now c.run_rows.new.keys is c.requires.zeros have)
-    c.run_rows.ensures.counted
+    let own : IsPlan c.args.run.now.plan.now = c.requires.may.run_is.plan_is in
+    let is : IsPlan c.args.job.now.plan = subst (λ (p : PlanData). IsPlan p) c.requires.plan own in
+    let fresh : AreFreshKeys c.args.job.now.plan c.args.keys.now = subst (λ (p : PlanData). AreFreshKeys p c.args.keys.now) c.requires.plan c.requires.may.fresh in
+    let front = c.split_at_mut-racks.result.0.now in
+    let rest = c.split_at_mut-racks.result.1.now in
+    let front' = c.run_rows.new.racks in
+    let count : length front ≡ length c.args.run.now.plan.now.sites = search rules in
+    let split : c.args.racks.now ≡ front ++ rest = search rules in
+    record {
+      leaves = record {
+        told = job_leaves tell c.args.run.now.plan.now c.args.job.now.plan c.args.job.now.files c.args.run.now.out.now c.args.run.now.readers c.args.run.now.ring c.args.racks.now _ front front' rest c.run_rows.result split refl count c.run_rows.auto.racks c.requires.plan
+            own c.run_rows.ensures.leaves;
+        others = others_stay c.args.run.now.plan.now c.args.job.now.plan c.args.racks.now _ front front' rest split refl count c.run_rows.auto.racks c.requires.plan;
+        keys_fit = if_ok c.run_rows.result _ _
+            (λ outcome have.
+            all_keys_fit c.args.job.now.plan c.args.job.now.files c.args.run.now.ring c.args.run.now.readers (frame_size (row_size (plate_width c.args.job.now.plan))) c.args.keys.now c.run_rows.new.keys is fresh have)
+            c.run_rows.ensures.counted;
+      };
+    }
