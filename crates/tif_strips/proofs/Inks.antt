@@ -4,10 +4,10 @@ use Rattle.std.proofs.lemmas.Bool.{cases_eq, cases_lt}
 use Rattle.std.proofs.lemmas.List.{get_or-append_right, get_or-drop, get_or-set_other, get_or-set_same, get_or-take, get_or_append_left, length-drop, length-set, length-take-le, drop-drop, take_at}
 use borrow.Rule.Slice.PartMut.{put_mid}
 use Rattle.tif_strips.specs.declared.shape.Shape.{Shape}
-use Rattle.tif_strips.specs.Strips.{image_row, plane_data, plane_row, plane_row_length, planes, planar_pixel, row_length}
+use Rattle.tif_strips.specs.Strips.{image_part, image_row, part_length, plane_data, plane_row, plane_row_length, planes, planar_pixel, row_length}
 use Rattle.tif_strips.specs.Planes.{HasPixels}
-use Rattle.tif_strips.proofs.Fours.{fours_joined}
-use Rattle.tif_strips.proofs.Shapes.{four_planes}
+use Rattle.tif_strips.proofs.Fours.{length-fours, part_of_fours}
+use Rattle.tif_strips.proofs.Shapes.{four_places, four_planes}
 
 -- no pixel is laid yet
 pub HasPixels-none : (inks : List (List ℕ)) (into : List ℕ) → HasPixels inks 0 into
@@ -123,18 +123,27 @@ HasPixels-block cyan magenta yellow black c m y k at n size into part room whole
     next : (piece start : List ℕ) (x : ℕ) → x < n → piece ≡ take n (drop at start) → get_or piece x 0 ≡ get_or start (at + x) 0
     next piece start x below is = ap (λ list. get_or list x 0) is ∙ get_or-take n (drop at start) x 0 below ∙ get_or-drop at start x 0
 
--- a row of pixels with the samples of the planes' rows is the image's
-pub image_row-inks : (shape : Shape) (bytes : List ℕ) (y row : ℕ) (inks : List (List ℕ)) (into : List ℕ) → planes shape ≢ 1 → row ≡ plane_row_length shape → length into ≡ row_length shape
-    → ((ink : ℕ) → ink < 4 → take row (get_or inks ink []) ≡ plane_row shape bytes ink y) → HasPixels inks row into → into ≡ image_row shape bytes y
-unfolding image_row planar_pixel plane_row
-image_row-inks shape bytes y row inks into more row_is room rows has =
+-- where each ink has a plane, a row has four bytes for each pixel
+pub image_row-fours : (shape : Shape) (bytes : List ℕ) (y : ℕ) → planes shape ≢ 1 → length (image_row shape bytes y) ≡ row_length shape
+unfolding image_row planar_pixel
+image_row-fours shape bytes y more =
     let four = four_planes shape more in
-    let fours : length into ≡ 4 * shape.width = room ∙ four.1 in
+    rw (four.0, four.1) (length-fours (planar_pixel shape bytes y) 0 shape.width (λ x. refl))
+
+-- pixels with the samples of the planes' rows, from a column on, are a part of the image's row
+pub image_part-inks : (shape : Shape) (bytes : List ℕ) (y row first count : ℕ) (inks : List (List ℕ)) (into : List ℕ) → planes shape ≢ 1 → row ≡ plane_row_length shape → first + count ≤ shape.width
+    → length into ≡ part_length shape first count → ((ink : ℕ) → ink < 4 → take row (get_or inks ink []) ≡ plane_row shape bytes ink y)
+    → ((x ink : ℕ) → x < count → ink < 4 → get_or into (4 * x + ink) 0 ≡ get_or (get_or inks ink []) (first + x) 0) → into ≡ image_part shape bytes y first count
+unfolding image_row planar_pixel plane_row
+image_part-inks shape bytes y row first count inks into more row_is within room rows each =
+    let four = four_planes shape more in
+    let places = four_places shape first count more in
+    let long : length into ≡ 4 * count = room ∙ places.3 in
     let wide : row ≡ shape.width = row_is ∙ four.2 in
-    rw four.0 (fours_joined (planar_pixel shape bytes y) shape.width into (λ x. refl) fours
-    (λ x ink below small. has.each x ink (omega arith) small ∙ sym (get_or-take row _ x 0 (omega arith)) ∙ ap (λ list. get_or list x 0) (rows ink small)
-    ∙ get_or-take (plane_row_length shape) _ x 0 (omega (arith, four.2)) ∙ get_or-drop (y * plane_row_length shape) (plane_data shape bytes ink) x 0
-    ∙ (rw four.2 (four_ways (λ i. get_or (plane_data shape bytes i) (y * shape.width + x) 0 ≡ get_or (planar_pixel shape bytes y x) i 0) refl refl refl refl ink small))))
+    rw (four.0, places.2, places.3) (part_of_fours (planar_pixel shape bytes y) first count shape.width into (λ x. refl) within long
+    (λ x ink below small. each x ink below small ∙ sym (get_or-take row _ (first + x) 0 (omega arith)) ∙ ap (λ list. get_or list (first + x) 0) (rows ink small)
+    ∙ get_or-take (plane_row_length shape) _ (first + x) 0 (omega (arith, four.2)) ∙ get_or-drop (y * plane_row_length shape) (plane_data shape bytes ink) (first + x) 0
+    ∙ (rw four.2 (four_ways (λ i. get_or (plane_data shape bytes i) (y * shape.width + (first + x)) 0 ≡ get_or (planar_pixel shape bytes y (first + x)) i 0) refl refl refl refl ink small))))
 
 -- a row of the only plane is the image's
 pub image_row-one : (shape : Shape) (bytes : List ℕ) (y : ℕ) → planes shape ≡ 1 → plane_row shape bytes 0 y ≡ image_row shape bytes y

@@ -1,19 +1,20 @@
 -- The rows that a cursor has still to give of a strip, from its begin to its end.
 use Rattle.std.proofs.Common.{◌≡◌, ◌≢◌, ℕ, zero, suc, ◌+◌, ◌-◌, ◌*◌, ◌/◌, ◌<◌, ◌≤◌, List, [], ◌∷◌, length, map, take, drop, get_or, None, inl, inr, refl, sym, ap, ◌∙◌, zero-add, arith}
 use Rattle.std.proofs.lemmas.Bool.{cases_eq}
-use Rattle.std.proofs.lemmas.List.{drop-drop, get_or-map, length-drop, length-map}
+use Rattle.std.proofs.lemmas.List.{drop-drop, get_or-drop, get_or-map, length-drop, length-map, length-take-le}
 use Rattle.std.proofs.lemmas.List.FromFn.{get_or-map-range_with_len, length-map-range_with_len}
 use Rattle.std.proofs.lemmas.Nat.{div-mul-add, mod-mul-add}
 use Rattle.tif_strips.specs.declared.place.Place.{Place}
 use Rattle.tif_strips.specs.declared.planes.Planes.{Planes}
 use Rattle.tif_strips.specs.declared.shape.Shape.{Shape}
-use Rattle.tif_strips.specs.Strips.{Image, IsStriped, image_row, plane_row, plane_row_length, planes, row_length, samples_in, stored_bytes, strip_fault, strip_rows, strips_per_plane}
+use Rattle.tif_strips.specs.Strips.{Image, IsStriped, image_part, image_row, part_length, plane_part_length, plane_place, plane_row, plane_row_length, planes, row_length, samples_in, stored_bytes, strip_fault, strip_rows, strips_per_plane}
 use Rattle.tif_strips.specs.Planes.{HasPixels, aheads_of, strip_samples}
 use Rattle.tif_strips.specs.Place.{HoldsRows, IsPlace}
 use Rattle.tif_strips.proofs.Faults.{fault_of_strip-passed, strip_enough-passed}
-use Rattle.tif_strips.proofs.Inks.{image_row-inks, image_row-one}
-use Rattle.tif_strips.proofs.Rows.{plane_row-in_strip}
-use Rattle.tif_strips.proofs.Shapes.{four_planes, needed_length-in_plane, strip_number, strip_of_row}
+use Rattle.tif_strips.proofs.Ahead.{get_or-later}
+use Rattle.tif_strips.proofs.Inks.{image_part-inks, image_row-fours, image_row-one}
+use Rattle.tif_strips.proofs.Rows.{plane_row-in_strip, take-drop-take}
+use Rattle.tif_strips.proofs.Shapes.{four_places, four_planes, needed_length-in_plane, one_plane, part_in_row, row_length-planes, strip_number, strip_of_row}
 
 -- the samples of strip i of a plane are its rows
 pub HoldsRows-begin : (image : Image) (plane i : ℕ) → IsStriped image.shape → strip_fault image.shape image.bytes ≡ None → plane < planes image.shape → i < strips_per_plane image.shape
@@ -111,19 +112,57 @@ row_ahead image place plane row is some row_is known =
     let here : place.next + 0 ≡ place.next = omega arith in
     rw row_is (rw (front, here) at first)
 
--- what they give is the row of the image
-pub image_row-place : (image : Image) (place : Place) (row : ℕ) (into : List ℕ) → IsPlace image place → 0 < place.rows → row ≡ plane_row_length image.shape → length into ≡ row_length image.shape
-    → (length (aheads_of place.planes) ≡ 1 → into ≡ take row (get_or (aheads_of place.planes) 0 [])) → (length (aheads_of place.planes) ≢ 1 → HasPixels (aheads_of place.planes) row into)
-    → into ≡ image_row image.shape image.bytes place.next
-image_row-place image place row into is some row_is room one four =
-    elim (cases_eq (length (aheads_of place.planes)) 1) [
+-- and no fewer bytes than it has
+row_long : (image : Image) (place : Place) (plane row : ℕ) → IsPlace image place → 0 < place.rows → row ≡ plane_row_length image.shape → plane < planes image.shape
+    → row ≤ length (get_or (aheads_of place.planes) plane [])
+row_long image place plane row is some row_is known = rw row_is (one_row place.rows (plane_row_length image.shape) _ some (is.each plane known).enough)
+  where
+    one_row : (rows b n : ℕ) → 0 < rows → rows * b ≤ n → b ≤ n
+    one_row zero b n some enough = absurd (omega arith)
+    one_row (suc rows) b n some enough = omega arith
+
+-- the row of the image has its length
+pub image_row-long : (image : Image) (place : Place) (row : ℕ) → IsPlace image place → 0 < place.rows → row ≡ plane_row_length image.shape
+    → length (image_row image.shape image.bytes place.next) ≡ row_length image.shape
+image_row-long image place row is some row_is =
+    let shape = image.shape in
+    elim (cases_eq (planes shape) 1) [
+      | inl one ↦
+          let known : 0 < planes shape = omega (arith, one) in
+          let own = row_ahead image place 0 row is some row_is known ∙ image_row-one shape image.bytes place.next one in
+          let whole : row_length shape ≡ 1 * plane_row_length shape = row_length-planes shape ∙ ap (λ n. n * plane_row_length shape) one in
+          ap length (sym own) ∙ length-take-le row _ (row_long image place 0 row is some row_is known) ∙ omega arith
+      | inr more ↦ image_row-fours shape image.bytes place.next more
+    ]
+
+-- what they give is a part of the row of the image
+pub image_part-place : (image : Image) (place : Place) (row from len first count : ℕ) (into : List ℕ) → IsPlace image place → 0 < place.rows → row ≡ plane_row_length image.shape
+    → from ≡ plane_place image.shape first → len ≡ plane_part_length image.shape first count → first + count ≤ image.shape.width → length into ≡ part_length image.shape first count
+    → (length (aheads_of place.planes) ≡ 1 → into ≡ take len (drop from (get_or (aheads_of place.planes) 0 [])))
+    → (length (aheads_of place.planes) ≢ 1 → HasPixels (map (drop from) (aheads_of place.planes)) len into)
+    → into ≡ image_part image.shape image.bytes place.next first count
+image_part-place image place row from len first count into is some row_is from_is len_is within room one four =
+    let shape = image.shape in
+    let aheads = aheads_of place.planes in
+    elim (cases_eq (length aheads) 1) [
       | inl alone ↦
-          let planes_one : planes image.shape ≡ 1 = sym (is.all_planes some) ∙ alone in
-          one alone ∙ row_ahead image place 0 row is some row_is (omega (arith, planes_one)) ∙ image_row-one image.shape image.bytes place.next planes_one
+          let planes_one : planes shape ≡ 1 = sym (is.all_planes some) ∙ alone in
+          let own = row_ahead image place 0 row is some row_is (omega (arith, planes_one)) ∙ image_row-one shape image.bytes place.next planes_one in
+          let same = one_plane shape first count planes_one in
+          let inside : from + len ≤ row = omega (arith, part_in_row shape first count within) in
+          one alone ∙ sym (take-drop-take len from row (get_or aheads 0 []) inside) ∙ ap (λ list. take len (drop from list)) own
+          ∙ ap (λ n. take n (drop from (image_row shape image.bytes place.next))) (len_is ∙ same.1)
+          ∙ ap (λ n. take (part_length shape first count) (drop n (image_row shape image.bytes place.next))) (from_is ∙ same.0)
       | inr apart ↦
-          let more : planes image.shape ≢ 1 = λ e. apart (is.all_planes some ∙ e) in
-          image_row-inks image.shape image.bytes place.next row (aheads_of place.planes) into more row_is room
-          (λ ink small. row_ahead image place ink row is some row_is (omega (arith, (four_planes image.shape more).0))) (four apart)
+          let more : planes shape ≢ 1 = λ e. apart (is.all_planes some ∙ e) in
+          let same = four_places shape first count more in
+          let all : length aheads ≡ 4 = is.all_planes some ∙ (four_planes shape more).0 in
+          image_part-inks shape image.bytes place.next row first count aheads into more row_is within room
+          (λ ink small. row_ahead image place ink row is some row_is (omega (arith, (four_planes shape more).0)))
+          (λ x ink below small.
+          (four apart).each x ink (omega (arith, len_is, same.1)) small
+          ∙ ap (λ list. get_or list x 0) (get_or-later from ink aheads _ refl (omega (arith, all)))
+          ∙ get_or-drop from (get_or aheads ink []) x 0 ∙ ap (λ n. get_or (get_or aheads ink []) (n + x) 0) (from_is ∙ same.0))
     ]
 
 -- the samples of a strip of each of four planes

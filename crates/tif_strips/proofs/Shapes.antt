@@ -5,7 +5,7 @@ use Rattle.std.proofs.lemmas.Nat.{div-add-mod', le-div, mod_below, mod-mul-add}
 use Rattle.std.proofs.lemmas.Bool.Decides.{nat_tests}
 use Rattle.pr_base.specs.Row.{row_size}
 use Rattle.tif_strips.specs.declared.shape.Shape.{Shape}
-use Rattle.tif_strips.specs.Strips.{IsStriped, needed_length, plane_row_length, planes, row_length, strip_count, strip_rows, strips_per_plane}
+use Rattle.tif_strips.specs.Strips.{IsStriped, column_place, needed_length, part_length, plane_part_length, plane_place, plane_row_length, planes, row_length, strip_count, strip_rows, strips_per_plane}
 
 -- the strips above strip i of a plane do not fill the image
 pub rows_above : (shape : Shape) (i : ℕ) → IsStriped shape → i < strips_per_plane shape → i * shape.rows_per_strip < shape.length
@@ -98,3 +98,51 @@ four_planes shape more = rows (shape.samples == 4) (shape.planar == 2) shape.wid
     rows true true width size more = (refl, refl, refl)
     rows true false width size more = absurd (more refl)
     rows false apart width size more = absurd (more refl)
+
+-- ---- parts of a row
+
+-- a part of a row of the image is a part in each plane
+pub part_length-planes : (shape : Shape) (first count : ℕ) → part_length shape first count ≡ planes shape * plane_part_length shape first count
+unfolding planes plane_part_length
+part_length-planes shape first count = parts (shape.samples == 4) (shape.planar == 2) count _
+  where
+    parts : (four apart : Bool) (count size : ℕ) → (if four then 4 * count else size) ≡ (if four && apart then 4 else 1) * (if four then if apart then count else 4 * count else size)
+    parts true true count size = refl
+    parts true false count size = omega arith
+    parts false apart count size = omega arith
+
+-- it lies in the row
+pub part_in_row : (shape : Shape) (first count : ℕ) → first + count ≤ shape.width → plane_place shape first + plane_part_length shape first count ≤ plane_row_length shape
+unfolding plane_place plane_part_length plane_row_length
+part_in_row shape first count within = parts (shape.samples == 4) (shape.planar == 2)
+  where
+    parts : (four apart : Bool)
+        → (if four then if apart then first else 4 * first else first / 8) + (if four then if apart then count else 4 * count else row_size (first % 8 + count))
+        ≤ (if four then if apart then shape.width else 4 * shape.width else row_size shape.width)
+    parts true true = omega arith
+    parts true false = omega arith
+    parts false apart = omega arith
+
+-- the only plane has the image's rows
+pub one_plane : (shape : Shape) (first count : ℕ) → planes shape ≡ 1 → (plane_place shape first ≡ column_place shape first) × (plane_part_length shape first count ≡ part_length shape first count)
+unfolding planes plane_place plane_part_length
+one_plane shape first count one = parts (shape.samples == 4) (shape.planar == 2) (first / 8) (row_size (first % 8 + count)) one
+  where
+    parts : (four apart : Bool) (place size : ℕ) → ◌≡◌ {A = ℕ} (if four && apart then 4 else 1) 1
+        → ((if four then if apart then first else 4 * first else place) ≡ (if four then 4 * first else place)) × ((if four then if apart then count else 4 * count else size) ≡ (if four then 4 * count else size))
+    parts true true place size one = absurd (omega arith)
+    parts true false place size one = (refl, refl)
+    parts false apart place size one = (refl, refl)
+
+-- and each of four a byte for each pixel
+pub four_places : (shape : Shape) (first count : ℕ) → planes shape ≢ 1
+    → (plane_place shape first ≡ first) × (plane_part_length shape first count ≡ count) × (column_place shape first ≡ 4 * first) × (part_length shape first count ≡ 4 * count)
+unfolding planes plane_place plane_part_length
+four_places shape first count more = parts (shape.samples == 4) (shape.planar == 2) (first / 8) (row_size (first % 8 + count)) more
+  where
+    parts : (four apart : Bool) (place size : ℕ) → ◌≢◌ {A = ℕ} (if four && apart then 4 else 1) 1
+        → ((if four then if apart then first else 4 * first else place) ≡ first) × ((if four then if apart then count else 4 * count else size) ≡ count)
+        × ((if four then 4 * first else place) ≡ 4 * first) × ((if four then 4 * count else size) ≡ 4 * count)
+    parts true true place size more = (refl, refl, refl, refl)
+    parts true false place size more = absurd (more refl)
+    parts false apart place size more = absurd (more refl)

@@ -5,7 +5,7 @@ use Rattle.tif_dir.specs.Directory.{directory_of, fault_at, field_of, number_at}
 use Rattle.tif_dir.specs.Names.{strip_offsets}
 use Rattle.tif_packbits.specs.Packbits.{expansion}
 use Rattle.tif_strips.specs.declared.shape.Shape.{Shape}
-use Rattle.tif_strips.specs.Strips.{fault_of_strip, image_row, needed_length, plane_data, plane_row, plane_row_length, planar_pixel, planes, stored_bytes, strip_count, strip_data, strip_fault, strip_offset, strip_rows, strip_size, strips_per_plane}
+use Rattle.tif_strips.specs.Strips.{fault_of_strip, image_part, image_row, needed_length, plane_data, plane_row, plane_row_length, planar_pixel, planes, stored_bytes, strip_count, strip_data, strip_fault, strip_offset, strip_rows, strip_size, strips_per_plane}
 
 -- a directory with StripOffsets and StripByteCounts, each so many numbers of one byte: those of up to four stand in the
 -- entry, more stand at the place that is given
@@ -29,6 +29,23 @@ packet_over_rows = refl
 pub second_row : image_row bits (packet 255 170) 1 ≡ 170 ∷ []
 unfolding image_row plane_row plane_data strip_data stored_bytes strip_offset strip_size needed_length strip_rows strip_count strips_per_plane planes plane_row_length number_at field_of directory_of expansion
 second_row = refl
+
+-- two of its columns lie in that byte
+pub columns_of_row : image_part bits (packet 255 170) 1 3 2 ≡ 170 ∷ []
+unfolding image_row plane_row plane_data strip_data stored_bytes strip_offset strip_size needed_length strip_rows strip_count strips_per_plane planes plane_row_length number_at field_of directory_of expansion
+columns_of_row = refl
+
+-- a row of two bytes, as it is: two columns that lie in both, and four of the second
+abbrev two : Shape
+two = record { width = 16; length = 1; samples = 1; bits = 1; planar = 1; packed = false; rows_per_strip = 1 }
+
+pub columns_of_both : image_part two (packet 170 85) 0 7 2 ≡ 170 ∷ 85 ∷ []
+unfolding image_row plane_row plane_data strip_data stored_bytes strip_offset strip_size needed_length strip_rows strip_count strips_per_plane planes plane_row_length number_at field_of directory_of
+columns_of_both = refl
+
+pub columns_of_second : image_part two (packet 170 85) 0 9 4 ≡ 85 ∷ []
+unfolding image_row plane_row plane_data strip_data stored_bytes strip_offset strip_size needed_length strip_rows strip_count strips_per_plane planes plane_row_length number_at field_of directory_of
+columns_of_second = refl
 
 -- one byte is too few
 pub one_byte_short : strip_fault bits (packet 0 170) ≡ Some (fault_at strip_offsets Short)
@@ -62,3 +79,7 @@ whole = refl
 pub last_row : image_row inks planes_file 2 ≡ 5 ∷ 15 ∷ 25 ∷ 35 ∷ 6 ∷ 16 ∷ 26 ∷ 36 ∷ []
 unfolding image_row planar_pixel plane_data strip_data stored_bytes strip_offset strip_size needed_length strip_rows strip_count strips_per_plane planes plane_row_length number_at field_of directory_of expansion
 last_row = refl
+
+pub last_pixel : image_part inks planes_file 2 1 1 ≡ 6 ∷ 16 ∷ 26 ∷ 36 ∷ []
+unfolding image_row planar_pixel plane_data strip_data stored_bytes strip_offset strip_size needed_length strip_rows strip_count strips_per_plane planes plane_row_length number_at field_of directory_of expansion
+last_pixel = refl

@@ -129,6 +129,32 @@ image_row shape bytes y =
     if planes shape == 4 then flat_map (planar_pixel shape bytes y) (range_with_len 0 shape.width)
     else plane_row shape bytes 0 y
 
+-- ---- parts of rows
+
+-- the byte of a row of the image that holds column x, or the first of its four
+abbrev pub column_place : Shape → ℕ → ℕ
+column_place shape x = if shape.samples == 4 then 4 * x else x / 8
+
+-- how many bytes of a row hold so many columns, from `first` on
+abbrev pub part_length : Shape → ℕ → ℕ → ℕ
+part_length shape first count = if shape.samples == 4 then 4 * count else row_size (first % 8 + count)
+
+-- the bytes of row y of the image that hold these columns
+abbrev pub image_part : Shape → List ℕ → ℕ → ℕ → ℕ → List ℕ
+image_part shape bytes y first count =
+    take (part_length shape first count) (drop (column_place shape first) (image_row shape bytes y))
+
+-- the same two numbers in a row of one plane
+unfoldable pub plane_place : Shape → ℕ → ℕ
+plane_place shape x =
+    if shape.samples == 4 then if shape.planar == 2 then x else 4 * x
+    else x / 8
+
+unfoldable pub plane_part_length : Shape → ℕ → ℕ → ℕ
+plane_part_length shape first count =
+    if shape.samples == 4 then if shape.planar == 2 then count else 4 * count
+    else row_size (first % 8 + count)
+
 -- ---- what contracts see
 
 -- an image: its shape, and the bytes of its file

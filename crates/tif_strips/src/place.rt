@@ -1,6 +1,6 @@
 // Where a cursor stands in an image.
-ghost use Rattle.std.specs.Prelude.{◌≡◌, ◌+◌, ◌<◌, length, None};
-ghost use Rattle.tif_strips.specs.Strips.{IsStriped, image_row, row_length, strip_fault};
+ghost use Rattle.std.specs.Prelude.{◌≡◌, ◌+◌, ◌<◌, ◌≤◌, length, None};
+ghost use Rattle.tif_strips.specs.Strips.{IsStriped, image_part, image_row, part_length, row_length, strip_fault};
 
 use crate::planes::Planes;
 use crate::samples::Samples;
@@ -37,17 +37,23 @@ impl<'a> Place<'a> {
         }
     }
 
-    /// Gives the next row.
-    pub(crate) fn read(&mut self, table: &StripTable<'a>, into: &mut [u8])
+    /// Gives the bytes of the next row that hold `count` columns from `first` on.
+    pub(crate) fn read(&mut self, table: &StripTable<'a>, first: u32, count: u32, into: &mut [u8])
         requires place { IsPlace table.now self.old }
         requires left { self.old.next < table.now.shape.length }
-        requires room { length into.old ≡ row_length table.now.shape }
-        ensures row { into.new ≡ image_row table.now.shape table.now.bytes self.old.next }
+        requires columns { first + count ≤ table.now.shape.width }
+        requires room { length into.old ≡ part_length table.now.shape first count }
+        ensures part { into.new ≡ image_part table.now.shape table.now.bytes self.old.next first count }
+        ensures long { length (image_row table.now.shape table.now.bytes self.old.next)
+            ≡ row_length table.now.shape }
         ensures place { IsPlace table.now self.new }
         ensures next { self.new.next ≡ self.old.next + 1 }
     {
         self.enter(table);
-        self.planes.fill(table.shape().plane_row_len(), into);
+        let shape = table.shape();
+        let from = shape.plane_place(first);
+        let len = shape.plane_part_len(first, count);
+        self.planes.part(shape.plane_row_len(), from, len, into);
         self.rows -= 1;
         self.next += 1;
     }

@@ -1,5 +1,5 @@
 // The planes of the strip that a cursor stands in, and pixels laid from four of them.
-ghost use Rattle.std.specs.Prelude.{◌≡◌, ◌≢◌, ℕ, ◌*◌, ◌<◌, ◌≤◌, [], ◌∷◌, length, map, take, drop, slice_index_or};
+ghost use Rattle.std.specs.Prelude.{◌≡◌, ◌≢◌, ℕ, ◌+◌, ◌*◌, ◌<◌, ◌≤◌, [], ◌∷◌, length, map, take, drop, slice_index_or};
 ghost use Rattle.tif_strips.specs.Planes.{HasPixels};
 
 use crate::samples::Samples;
@@ -26,19 +26,48 @@ pub(crate) struct Inks<'a> {
 impl<'a> Planes<'a> {
     ghost use Rattle.tif_strips.specs.Planes.{HasPixels, aheads_of};
 
-    /// Gives the next row of the image, which has `row` bytes in each plane.
-    pub(crate) fn fill(&mut self, row: usize, into: &mut [u8])
-        requires room { length into.old ≡ length (aheads_of self.old) * row }
+    /// Gives `count` bytes in each plane of the next row, which has `row`, from byte `from` of it on.
+    pub(crate) fn part(&mut self, row: usize, from: usize, count: usize, into: &mut [u8])
+        requires room { length into.old ≡ length (aheads_of self.old) * count }
+        requires within { from + count ≤ row }
         requires enough { (plane : ℕ) → plane < length (aheads_of self.old)
             → row ≤ length (slice_index_or (aheads_of self.old) plane []) }
         ensures one { length (aheads_of self.old) ≡ 1
-            → into.new ≡ take row (slice_index_or (aheads_of self.old) 0 []) }
-        ensures four { length (aheads_of self.old) ≢ 1 → HasPixels (aheads_of self.old) row into.new }
+            → into.new ≡ take count (drop from (slice_index_or (aheads_of self.old) 0 [])) }
+        ensures four { length (aheads_of self.old) ≢ 1
+            → HasPixels (map (drop from) (aheads_of self.old)) count into.new }
         ensures left { aheads_of self.new ≡ map (drop row) (aheads_of self.old) }
+    {
+        self.skip(from);
+        self.fill(count, into);
+        self.skip(row - from - count);
+    }
+
+    // The next `count` bytes in each plane.
+    fn fill(&mut self, count: usize, into: &mut [u8])
+        requires room { length into.old ≡ length (aheads_of self.old) * count }
+        requires enough { (plane : ℕ) → plane < length (aheads_of self.old)
+            → count ≤ length (slice_index_or (aheads_of self.old) plane []) }
+        ensures one { length (aheads_of self.old) ≡ 1
+            → into.new ≡ take count (slice_index_or (aheads_of self.old) 0 []) }
+        ensures four { length (aheads_of self.old) ≢ 1 → HasPixels (aheads_of self.old) count into.new }
+        ensures left { aheads_of self.new ≡ map (drop count) (aheads_of self.old) }
     {
         match self {
             Planes::One(samples) => samples.fill(into),
-            Planes::Four(inks) => inks.fill(row, into),
+            Planes::Four(inks) => inks.fill(count, into),
+        }
+    }
+
+    // Goes over the next `count` bytes in each plane.
+    fn skip(&mut self, count: usize)
+        requires enough { (plane : ℕ) → plane < length (aheads_of self.old)
+            → count ≤ length (slice_index_or (aheads_of self.old) plane []) }
+        ensures left { aheads_of self.new ≡ map (drop count) (aheads_of self.old) }
+    {
+        match self {
+            Planes::One(samples) => samples.skip(count),
+            Planes::Four(inks) => inks.skip(count),
         }
     }
 }
@@ -68,6 +97,17 @@ impl<'a> Inks<'a> {
             lay_pixels(&c[..count], &m[..count], &y[..count], &k[..count], pixels);
             at += count;
         }
+    }
+
+    // Goes over the next `width` pixels.
+    fn skip(&mut self, width: usize)
+        requires enough { (ink : ℕ) → ink < 4 → width ≤ length (slice_index_or (inks_of self.old) ink []) }
+        ensures left { inks_of self.new ≡ map (drop width) (inks_of self.old) }
+    {
+        self.cyan.skip(width);
+        self.magenta.skip(width);
+        self.yellow.skip(width);
+        self.black.skip(width);
     }
 }
 

@@ -1,6 +1,7 @@
 // The rows of an image, one after the other.
 use crate::place::Place;
 use crate::strip_table::StripTable;
+use pr_base::row_bytes;
 use std::marker::Model;
 
 /// A cursor over the rows of an image. Contracts see the image's shape, the bytes of its file and the number
@@ -25,8 +26,8 @@ impl<'a> Model for RowCursor<'a> {
 }
 
 impl<'a> RowCursor<'a> {
-    ghost use Rattle.std.specs.Prelude.{◌≡◌, ◌+◌, ◌-◌, ◌<◌, length, None};
-    ghost use Rattle.tif_strips.specs.Strips.{IsStriped, image_row, row_length, strip_fault};
+    ghost use Rattle.std.specs.Prelude.{◌≡◌, ◌+◌, ◌-◌, ◌<◌, ◌≤◌, length, None};
+    ghost use Rattle.tif_strips.specs.Strips.{IsStriped, image_part, image_row, part_length, row_length, strip_fault};
 
     /// Stands before the first row.
     pub(crate) fn new(table: StripTable<'a>) -> RowCursor<'a>
@@ -53,6 +54,40 @@ impl<'a> RowCursor<'a> {
         ensures row { into.new ≡ image_row self.old.shape self.old.bytes self.old.next }
         ensures next { self.new ≡ record self.old { next = self.old.next + 1 } }
     {
-        self.place.read(&self.table, into);
+        let width = self.table.shape().width;
+        self.place.read(&self.table, 0, width, into);
+    }
+
+    /// The bytes of a row that hold `count` columns from `first` on: four for each pixel of four samples, and
+    /// otherwise each that holds a bit of them.
+    pub fn part_len(&self, first: u32, count: u32) -> usize
+        requires { first + count ≤ self.now.shape.width }
+        ensures len { result ≡ part_length self.now.shape first count }
+        ensures within { result ≤ row_length self.now.shape }
+    {
+        if self.table.shape().samples == 4 {
+            4 * count as usize
+        } else {
+            row_bytes(first % 8 + count)
+        }
+    }
+
+    /// Gives the bytes of the next row that hold `count` columns from `first` on, as `next_row` gives them.
+    pub fn next_part(&mut self, first: u32, count: u32, into: &mut [u8])
+        requires left { self.old.next < self.old.shape.length }
+        requires columns { first + count ≤ self.old.shape.width }
+        requires room { length into.old ≡ part_length self.old.shape first count }
+        ensures part { into.new ≡ image_part self.old.shape self.old.bytes self.old.next first count }
+        ensures next { self.new ≡ record self.old { next = self.old.next + 1 } }
+    {
+        self.place.read(&self.table, first, count, into);
+    }
+
+    /// Goes over the next row.
+    pub fn skip_row(&mut self)
+        requires left { self.old.next < self.old.shape.length }
+        ensures next { self.new ≡ record self.old { next = self.old.next + 1 } }
+    {
+        self.place.read(&self.table, 0, 0, &mut []);
     }
 }

@@ -44,6 +44,21 @@ impl<'a> Samples<'a> {
             }
         }
     }
+
+    /// Goes over the next samples.
+    pub(crate) fn skip(&mut self, n: usize)
+        requires { n ≤ length (ahead_of self.old) }
+        ensures { ahead_of self.new ≡ drop n (ahead_of self.old) }
+    {
+        match self {
+            Samples::Plain(stored) => *stored = &stored[n..],
+            Samples::Packed(unpacker) => {
+                let Ok(()) = unpacker.skip(n as u64) else {
+                    unreachable!()
+                };
+            }
+        }
+    }
 }
 
 /// There are `n` samples or more in these bytes.

@@ -1,6 +1,6 @@
 // The shape of an image: what the fields of its directory say of its rows and strips.
 ghost use Rattle.std.specs.Prelude.{◌≡◌, ◌≤◌, ◌<◌};
-ghost use Rattle.tif_strips.specs.Strips.{IsStriped, needed_length, plane_row_length, planes, strip_count, strip_rows, strips_per_plane};
+ghost use Rattle.tif_strips.specs.Strips.{IsStriped, needed_length, plane_part_length, plane_place, plane_row_length, planes, strip_count, strip_rows, strips_per_plane};
 
 use pr_base::row_bytes;
 
@@ -52,6 +52,36 @@ impl Shape {
             width as usize
         } else {
             4 * width as usize
+        }
+    }
+
+    // The byte of a row in one plane that holds column `x`, or the first of its four.
+    #[tactic(auto, unfolding(crate::specs::Strips::plane_place))]
+    pub(crate) fn plane_place(&self, x: u32) -> usize
+        requires { x ≤ 65535 }
+        ensures { result ≡ plane_place self.now x }
+    {
+        if self.samples != 4 {
+            x as usize / 8
+        } else if self.planar == 2 {
+            x as usize
+        } else {
+            4 * x as usize
+        }
+    }
+
+    // The bytes of a row in one plane that hold `count` columns from `first` on.
+    #[tactic(auto, unfolding(crate::specs::Strips::plane_part_length))]
+    pub(crate) fn plane_part_len(&self, first: u32, count: u32) -> usize
+        requires { count ≤ 65535 }
+        ensures { result ≡ plane_part_length self.now first count }
+    {
+        if self.samples != 4 {
+            row_bytes(first % 8 + count)
+        } else if self.planar == 2 {
+            count as usize
+        } else {
+            4 * count as usize
         }
     }
 
