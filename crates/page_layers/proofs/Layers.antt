@@ -1,13 +1,14 @@
 -- What a layer's rows keep, from the begin on.
-use Rattle.std.proofs.Common.{◌≡◌, ℕ, Bool, true, false, if◌then◌else◌, ◌+◌, ◌*◌, ◌/◌, ◌<◌, ◌≤◌, List, length, get_or, replicate, slice_index, Option, Some, None, option_map, refl, subst, sym, ap, ◌∙◌, arith}
-use Rattle.std.proofs.lemmas.List.{get_or-replicate, length-replicate}
+use Rattle.std.proofs.Common.{◌≡◌, ℕ, Bool, true, false, if◌then◌else◌, ◌+◌, ◌*◌, ◌/◌, ◌%◌, ◌<◌, ◌≤◌, List, length, take, drop, get_or, replicate, slice_index, Option, Some, None, option_map, refl, sym, ap, ◌∙◌, arith}
+use Rattle.std.proofs.Math.Nat.{mul-div-le}
+use Rattle.std.proofs.lemmas.List.{get_or-drop, get_or-replicate, get_or-take, length-replicate}
 use Rattle.std.specs.Prelude.{◌==◌}
 use Rattle.std.specs.Option.{ForSome}
 use Rattle.std.proofs.lemmas.Option.{same_Some}
 use Rattle.tif_image.specs.Image.{BilevelImage}
 use Rattle.pr_base.specs.Row.{row_size}
 use Rattle.tif_strips.specs.declared.shape.Shape.{Shape}
-use Rattle.tif_strips.specs.Strips.{Cursor, Image, image_row, row_length}
+use Rattle.tif_strips.specs.Strips.{Cursor, Image, image_part, image_row, row_length}
 use Rattle.page_layers.specs.declared.layer.Art.{Art}
 use Rattle.page_layers.specs.declared.layer.Art.TheVariants.{Contone, Line}
 use Rattle.page_layers.specs.declared.layer.Layer.{Layer}
@@ -17,15 +18,7 @@ use Rattle.page_layers.specs.Layer.{IsLayer, bytes_of, paint_at, shape_of}
 use Rattle.page_layers.specs.Reader.{mask_cursor}
 use Rattle.page_layers.specs.Rows.{HasSamples, IsLayerRows, IsPaint, fixed_of, painting_of, span_of, with_fixed}
 
--- a row of an image has a bit for each of its pixels
-pub row_reaches : (shape : Shape) → shape.width ≤ 8 * row_length shape
-row_reaches shape = cases (shape.samples == 4) shape.width
-  where
-    cases : (four : Bool) (width : ℕ) → width ≤ 8 * (if four then 4 * width else row_size width)
-    cases true width = omega arith
-    cases false width = omega arith
-
--- and at most four bytes for each
+-- a row of an image has at most four bytes for each of its pixels
 pub row_most : (shape : Shape) → shape.width ≤ 65535 → row_length shape ≤ 262140
 row_most shape wide = cases (shape.samples == 4) shape.width wide
   where
@@ -33,17 +26,23 @@ row_most shape wide = cases (shape.samples == 4) shape.width wide
     cases true width wide = omega arith
     cases false width wide = omega arith
 
--- so also of a mask
+-- a mask is as wide as the image
+mask_wide : (layer : Layer) (next : ℕ) (mask : Option Cursor) (reader : Cursor) → mask ≡ option_map (mask_cursor next) layer.mask → IsLayer layer → mask ≡ Some reader → reader.shape.width ≡ (shape_of layer.art).width
+mask_wide layer next mask reader is fits there = cases layer.mask fits.mask_width (sym is ∙ there)
+  where
+    cases : (mask : Option BilevelImage) → ForSome mask (λ m. m.shape.width ≡ (shape_of layer.art).width) → option_map (mask_cursor next) mask ≡ Some reader → reader.shape.width ≡ (shape_of layer.art).width
+    cases None same none = absurd (cc)
+    cases (Some m) same some = sym (ap (λ (r : Cursor). r.shape.width) (same_Some (mask_cursor next m) reader some)) ∙ same m refl
+
+-- so its rows have no more bytes
 pub mask_most : (layer : Layer) (next : ℕ) (mask : Option Cursor) (reader : Cursor) → mask ≡ option_map (mask_cursor next) layer.mask → IsLayer layer → (shape_of layer.art).width ≤ 65535
     → mask ≡ Some reader → row_length reader.shape ≤ 262140
-mask_most layer next mask reader is fits wide there = cases layer.mask fits.mask_width (sym is ∙ there)
-  where
-    cases : (mask : Option BilevelImage) → ForSome mask (λ m. m.shape.width ≡ (shape_of layer.art).width) → option_map (mask_cursor next) mask ≡ Some reader → row_length reader.shape ≤ 262140
-    cases None same none = absurd (cc)
-    cases (Some m) same some =
-        let here : mask_cursor next m ≡ reader = same_Some (mask_cursor next m) reader some in
-        let long : (mask_cursor next m).shape.width ≤ 65535 = rw (sym (same m refl)) at wide in
-        subst {A = Cursor} (λ r. row_length r.shape ≤ 262140) here (row_most m.shape long)
+mask_most layer next mask reader is fits wide there = row_most reader.shape (omega (arith, mask_wide layer next mask reader is fits there))
+
+-- and the crop's columns lie in it
+pub mask_columns : (layer : Layer) (next : ℕ) (mask : Option Cursor) (reader : Cursor) → mask ≡ option_map (mask_cursor next) layer.mask → IsLayer layer → mask ≡ Some reader
+    → layer.crop.x + layer.crop.width ≤ reader.shape.width
+mask_columns layer next mask reader is fits there = omega (arith, fits.columns, mask_wide layer next mask reader is fits there)
 
 -- paint of the fixed inks has what is the same in each row
 fixed_paint : (art : Art) (span : ℕ) (paint : Planes) → paint.cyan ≡ replicate span (slice_index (fixed_of art) 0) → paint.magenta ≡ replicate span (slice_index (fixed_of art) 1)
@@ -90,30 +89,40 @@ IsLayerRows-open layer width columns painting image mask paint marks admitted ma
       admitted_wide = admitted_wide;
     }
 
+-- a part of a row of four samples has four bytes for each column
+pub part_of_four : (shape : Shape) (bytes : List ℕ) (y first count : ℕ) → shape.samples ≡ 4 → image_part shape bytes y first count ≡ take (4 * count) (drop (4 * first) (image_row shape bytes y))
+part_of_four shape bytes y first count four = cases (shape.samples == 4) (ap (λ n. n == 4) four)
+  where
+    cases : (test : Bool) → test ≡ true
+        → take (if test then 4 * count else row_size (first % 8 + count)) (drop (if test then 4 * first else first / 8) (image_row shape bytes y)) ≡ take (4 * count) (drop (4 * first) (image_row shape bytes y))
+    cases true is = refl
+    cases false is = absurd (cc)
+
 -- the samples of a pixel of a contone image are its paint
-contone_pixel : (image : Image) (first scale row : ℕ) (pixels : List ℕ) (old new : Planes) → pixels ≡ image_row image.shape image.bytes row
-    → length old.magenta ≡ length old.cyan → length old.yellow ≡ length old.cyan → length old.black ≡ length old.cyan
-    → HasSamples pixels (4 * first) scale old.cyan new.cyan → HasSamples pixels (4 * first + 1) scale old.magenta new.magenta
-    → HasSamples pixels (4 * first + 2) scale old.yellow new.yellow → HasSamples pixels (4 * first + 3) scale old.black new.black
+contone_pixel : (image : Image) (first count scale row : ℕ) (pixels : List ℕ) (old new : Planes) → pixels ≡ take (4 * count) (drop (4 * first) (image_row image.shape image.bytes row))
+    → ((n : ℕ) → scale * n < length old.cyan → n < count) → length old.magenta ≡ length old.cyan → length old.yellow ≡ length old.cyan → length old.black ≡ length old.cyan
+    → HasSamples pixels 0 scale old.cyan new.cyan → HasSamples pixels 1 scale old.magenta new.magenta → HasSamples pixels 2 scale old.yellow new.yellow → HasSamples pixels 3 scale old.black new.black
     → new.spot ≡ replicate (length old.cyan) 0 → (j : ℕ) → j < length old.cyan → inks_at new j ≡ paint_at (Contone image) (first + j / scale) row
-contone_pixel image first scale row pixels old new is long_m long_y long_k c m y k s j below =
-    let cyan = c.each j below ∙ at 0 (4 * first) (omega arith) in
-    let magenta = m.each j (omega arith) ∙ at 1 (4 * first + 1) refl in
-    let yellow = y.each j (omega arith) ∙ at 2 (4 * first + 2) refl in
-    let black = k.each j (omega arith) ∙ at 3 (4 * first + 3) refl in
+contone_pixel image first count scale row pixels old new is enough long_m long_y long_k c m y k s j below =
+    let cyan = c.each j below ∙ at 0 (omega arith) in
+    let magenta = m.each j (omega arith) ∙ at 1 (omega arith) in
+    let yellow = y.each j (omega arith) ∙ at 2 (omega arith) in
+    let black = k.each j (omega arith) ∙ at 3 (omega arith) in
     let spot : get_or new.spot j 0 ≡ 0 = ap (λ list. get_or list j 0) s ∙ get_or-replicate (length old.cyan) j 0 0 below in
     rw (cyan, magenta, yellow, black, spot) refl
   where
-    at : (i place : ℕ) → place ≡ 4 * first + i → get_or pixels (place + 4 * (j / scale)) 0 ≡ get_or (image_row image.shape image.bytes row) (4 * (first + j / scale) + i) 0
-    at i place there =
-        let whole : place + 4 * (j / scale) ≡ 4 * (first + j / scale) + i = omega arith in
-        ap (λ list. get_or list (place + 4 * (j / scale)) 0) is ∙ ap (λ n. get_or (image_row image.shape image.bytes row) n 0) whole
+    at : (i : ℕ) → i < 4 → get_or pixels (i + 4 * (j / scale)) 0 ≡ get_or (image_row image.shape image.bytes row) (4 * (first + j / scale) + i) 0
+    at i small =
+        let all = image_row image.shape image.bytes row in
+        let column : j / scale < count = enough (j / scale) (omega (arith, mul-div-le j scale)) in
+        let place : 4 * first + (i + 4 * (j / scale)) ≡ 4 * (first + j / scale) + i = omega arith in
+        ap (λ list. get_or list (i + 4 * (j / scale)) 0) is ∙ get_or-take (4 * count) (drop (4 * first) all) (i + 4 * (j / scale)) 0 (omega arith)
+        ∙ get_or-drop (4 * first) all (i + 4 * (j / scale)) 0 ∙ ap (λ n. get_or all n 0) place
 
 -- and those of a row
-pub contone_paint : (image : Image) (first scale row : ℕ) (pixels : List ℕ) (old new : Planes) → pixels ≡ image_row image.shape image.bytes row
-    → length old.magenta ≡ length old.cyan → length old.yellow ≡ length old.cyan → length old.black ≡ length old.cyan
-    → HasSamples pixels (4 * first) scale old.cyan new.cyan → HasSamples pixels (4 * first + 1) scale old.magenta new.magenta
-    → HasSamples pixels (4 * first + 2) scale old.yellow new.yellow → HasSamples pixels (4 * first + 3) scale old.black new.black
+pub contone_paint : (image : Image) (first count scale row : ℕ) (pixels : List ℕ) (old new : Planes) → pixels ≡ take (4 * count) (drop (4 * first) (image_row image.shape image.bytes row))
+    → ((n : ℕ) → scale * n < length old.cyan → n < count) → length old.magenta ≡ length old.cyan → length old.yellow ≡ length old.cyan → length old.black ≡ length old.cyan
+    → HasSamples pixels 0 scale old.cyan new.cyan → HasSamples pixels 1 scale old.magenta new.magenta → HasSamples pixels 2 scale old.yellow new.yellow → HasSamples pixels 3 scale old.black new.black
     → new.spot ≡ replicate (length old.cyan) 0 → IsPaint (Contone image) first scale row (length old.cyan) new
-contone_paint image first scale row pixels old new is long_m long_y long_k c m y k s =
-    record { each = contone_pixel image first scale row pixels old new is long_m long_y long_k c m y k s }
+contone_paint image first count scale row pixels old new is enough long_m long_y long_k c m y k s =
+    record { each = contone_pixel image first count scale row pixels old new is enough long_m long_y long_k c m y k s }

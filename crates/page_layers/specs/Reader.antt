@@ -1,19 +1,24 @@
--- A cursor over an image, and the row that it gave last.
-use Rattle.std.specs.Prelude.{◌≡◌, ℕ, ◌-◌, ◌≤◌, List, length, take}
-use Rattle.tif_strips.specs.Strips.{Cursor, image_row, row_length}
+-- A cursor over an image, and what it gave of the row before it.
+use Rattle.std.specs.Prelude.{◌≡◌, ℕ, ◌+◌, ◌-◌, ◌≤◌, List, length, take}
+use Rattle.tif_strips.specs.Strips.{Cursor, image_part, part_length}
 use Rattle.tif_image.specs.Image.{BilevelImage}
 use Rattle.page_layers.specs.declared.layer.Art.{Art}
+use Rattle.page_layers.specs.declared.layer.Crop.{Crop}
 use Rattle.page_layers.specs.Layer.{bytes_of, shape_of}
 
--- the number of rows that were read, and of the bytes of a row
-pub record IsReader (rows : Cursor) (read len : ℕ) : Type 0 where
-  pub read_is : read ≡ rows.next
-  pub len_is : len ≡ row_length rows.shape
+-- the bytes that hold a crop's columns
+abbrev pub crop_length : Cursor → Crop → ℕ
+crop_length rows crop = part_length rows.shape crop.x crop.width
 
--- at the front of a room stands the row before the cursor's next
-pub record Holds (rows : Cursor) (room : List ℕ) : Type 0 where
-  pub long : row_length rows.shape ≤ length room
-  pub row_is : take (row_length rows.shape) room ≡ image_row rows.shape rows.bytes (rows.next - 1)
+-- those of the row before the cursor's next
+abbrev pub crop_part : Cursor → Crop → List ℕ
+crop_part rows crop = image_part rows.shape rows.bytes (rows.next - 1) crop.x crop.width
+
+-- they stand at the front of a room
+pub record Holds (rows : Cursor) (crop : Crop) (room : List ℕ) : Type 0 where
+  pub columns : crop.x + crop.width ≤ rows.shape.width
+  pub long : crop_length rows crop ≤ length room
+  pub part_is : take (crop_length rows crop) room ≡ crop_part rows crop
 
 -- a cursor before another row
 abbrev pub at_row : ℕ → Cursor → Cursor

@@ -5,7 +5,7 @@ ghost use Rattle.page_layers.specs.Layer.{IsLayer, admits, paints_at, shape_of, 
 ghost use Rattle.page_layers.specs.Reader.{Holds, IsOf, mask_cursor};
 ghost use Rattle.page_layers.specs.Rows.{IsAdmitted, IsMarked, is_bare};
 
-use crate::layer::{Art, Layer};
+use crate::layer::{Art, Crop, Layer};
 use crate::marks::keep_marked;
 use crate::row_reader::RowReader;
 use crate::stretch::stretch;
@@ -26,18 +26,16 @@ pub(crate) fn admit_row(
     layer: &Layer<'_>,
     image: &RowReader<'_>,
     mask: &Option<RowReader<'_>>,
-    image_row: &[u8],
-    mask_row: &[u8],
+    image_room: &[u8],
+    mask_room: &[u8],
     marks: &mut [u8],
     admitted: &mut [u8],
 )
     requires image { IsOf layer.now.art image.now }
     requires mask { mask.now ≡ option_map (mask_cursor image.now.next) layer.now.mask }
-    requires read { 0 < image.now.next }
-    requires image_row { Holds image.now image_row.now }
-    requires mask_row { ForSome mask.now (λ reader. Holds reader mask_row.now) }
+    requires image_part { Holds image.now layer.now.crop image_room.now }
+    requires mask_part { ForSome mask.now (λ reader. Holds reader layer.now.crop mask_room.now) }
     requires layer { IsLayer layer.now }
-    requires width { (shape_of layer.now.art).width ≤ 65535 }
     requires columns { length marks.old ≤ layer.now.crop.width }
     requires enough { (n : ℕ) → layer.now.scale * n < length admitted.old → n < length marks.old }
     requires small { length admitted.old ≤ 65535 }
@@ -48,48 +46,44 @@ pub(crate) fn admit_row(
     if is_bare(layer) {
         return;
     }
-    let first = layer.crop.x;
-    mark_art(&layer.art, image, image_row, first, marks);
-    mark_mask(&layer.mask, mask, mask_row, first, image.read(), marks);
+    let crop = layer.crop;
+    mark_art(&layer.art, image, image_room, crop, marks);
+    mark_mask(&layer.mask, mask, mask_room, crop, image.read(), marks);
     stretch(marks, 1, layer.scale as usize, admitted);
 }
 
-// 255 for the columns of the image that paint, from `first` on, and 0 for the others.
-fn mark_art(art: &Art<'_>, image: &RowReader<'_>, image_row: &[u8], first: u32, marks: &mut [u8])
+// 255 for the columns of the image that paint, from the crop's first on, and 0 for the others.
+fn mark_art(art: &Art<'_>, image: &RowReader<'_>, room: &[u8], crop: Crop, marks: &mut [u8])
     requires image { IsOf art.now image.now }
-    requires read { 0 < image.now.next }
-    requires row { Holds image.now image_row.now }
-    requires small { first + length marks.old ≤ 65535 }
-    requires within { first + length marks.old ≤ (shape_of art.now).width }
+    requires part { Holds image.now crop room.now }
+    requires within { length marks.old ≤ crop.width }
     ensures { IsMarked
-        (λ n. paints_at art.now (first + n) (image.now.next - 1))
+        (λ n. paints_at art.now (crop.x + n) (image.now.next - 1))
         (λ n. 255) (length marks.old) marks.new }
 {
     marks.fill(255);
     if let Art::Line(line, _) = art {
-        keep_marked(line, image.row(image_row), first, marks);
+        keep_marked(line, image, crop, room, marks);
     }
 }
 
-// 0 for the columns of the image that the mask doesn't let through, from `first` on.
+// 0 for the columns of the image that the mask doesn't let through, from the crop's first on.
 fn mark_mask(
     mask: &Option<Bilevel<'_>>,
     reader: &Option<RowReader<'_>>,
-    mask_row: &[u8],
-    first: u32,
+    room: &[u8],
+    crop: Crop,
     next: u32,
     marks: &mut [u8],
 )
     requires reader { reader.now ≡ option_map (mask_cursor next) mask.now }
-    requires row { ForSome reader.now (λ reader. Holds reader mask_row.now) }
-    requires read { 0 < next }
-    requires small { first + length marks.old ≤ 65535 }
-    requires within { ForSome mask.now (λ mask. first + length marks.old ≤ mask.shape.width) }
+    requires part { ForSome reader.now (λ reader. Holds reader crop room.now) }
+    requires within { length marks.old ≤ crop.width }
     ensures { IsMarked
-        (λ n. shows_through mask.now (first + n) (next - 1))
+        (λ n. shows_through mask.now (crop.x + n) (next - 1))
         (slice_index marks.old) (length marks.old) marks.new }
 {
     if let (Some(mask), Some(reader)) = (mask, reader) {
-        keep_marked(mask, reader.row(mask_row), first, marks);
+        keep_marked(mask, reader, crop, room, marks);
     }
 }

@@ -114,25 +114,22 @@ impl InkRow {
         self.spot.fill(0);
     }
 
-    /// Puts the samples of a row of pixels in the place of the process inks,
-    /// from column `first` of the image on.
-    pub(crate) fn set_samples(&mut self, pixels: &[u8], first: usize, scale: usize)
+    /// Puts the samples of a row of pixels in the place of the process inks.
+    pub(crate) fn set_samples(&mut self, pixels: &[u8], scale: usize)
         requires wide { HasWidth self.old (length self.old.cyan) }
         requires small { length self.old.cyan ≤ 65535 }
         requires scale { (1 ≤ scale) × (scale ≤ 64) }
-        requires enough { (n : ℕ) → scale * n < length self.old.cyan
-            → 4 * (first + n) + 3 < length pixels.now }
-        requires first { first ≤ 65535 }
-        ensures cyan { HasSamples pixels.now (4 * first) scale self.old.cyan self.new.cyan }
-        ensures magenta { HasSamples pixels.now (4 * first + 1) scale self.old.magenta self.new.magenta }
-        ensures yellow { HasSamples pixels.now (4 * first + 2) scale self.old.yellow self.new.yellow }
-        ensures black { HasSamples pixels.now (4 * first + 3) scale self.old.black self.new.black }
+        requires enough { (n : ℕ) → scale * n < length self.old.cyan → 4 * n + 3 < length pixels.now }
+        ensures cyan { HasSamples pixels.now 0 scale self.old.cyan self.new.cyan }
+        ensures magenta { HasSamples pixels.now 1 scale self.old.magenta self.new.magenta }
+        ensures yellow { HasSamples pixels.now 2 scale self.old.yellow self.new.yellow }
+        ensures black { HasSamples pixels.now 3 scale self.old.black self.new.black }
         ensures spot { self.new.spot ≡ self.old.spot }
     {
-        set_sample(pixels, 4 * first, scale, &mut self.cyan);
-        set_sample(pixels, 4 * first + 1, scale, &mut self.magenta);
-        set_sample(pixels, 4 * first + 2, scale, &mut self.yellow);
-        set_sample(pixels, 4 * first + 3, scale, &mut self.black);
+        set_sample(pixels, 0, scale, &mut self.cyan);
+        set_sample(pixels, 1, scale, &mut self.magenta);
+        set_sample(pixels, 2, scale, &mut self.yellow);
+        set_sample(pixels, 3, scale, &mut self.black);
     }
 
     /// Lays samples, and no spot ink, from column `from` on, where they are admitted.
@@ -203,7 +200,7 @@ impl InkRow {
     }
 }
 
-// The samples of one ink, from place `first` of a row of pixels on. There are none where no column shows.
+// The samples of one ink, of which the first stands at `first`. There are none where no column shows.
 fn set_sample(pixels: &[u8], first: usize, scale: usize, into: &mut [u8])
     requires small { length into.old ≤ 65535 }
     requires scale { (1 ≤ scale) × (scale ≤ 64) }

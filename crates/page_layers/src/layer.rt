@@ -1,9 +1,8 @@
 // A layer of a page: an image or a part of it, where it stands and how it is painted.
 ghost use Rattle.std.specs.Prelude.{◌≡◌, ◌≤◌};
-ghost use Rattle.tif_strips.specs.Strips.{row_length};
 
 use tif_image::{Bilevel, Contone};
-use tif_strips::RowCursor;
+use tif_strips::{RowCursor, Shape};
 
 /// What a layer shows.
 #[derive(Debug, Drop)]
@@ -27,15 +26,15 @@ impl<'a> Art<'a> {
         }
     }
 
-    /// The bytes of a row, and the sides.
-    pub(crate) fn row_len(&self) -> usize
-        ensures len { result ≡ row_length (shape_of self.now) }
+    /// What the fields say of the image.
+    pub(crate) fn shape(&self) -> Shape
+        ensures shape { result ≡ shape_of self.now }
         ensures width { (shape_of self.now).width ≤ 65535 }
         ensures length { (shape_of self.now).length ≤ 65535 }
     {
         match self {
-            Art::Contone(image) => image.row_len(),
-            Art::Line(image, _) => image.row_len(),
+            Art::Contone(image) => image.shape(),
+            Art::Line(image, _) => image.shape(),
         }
     }
 }

@@ -8,7 +8,7 @@ ghost use Rattle.page_layers.specs.Rows.{IsPaint, LaysSpan, fixed_of, painting_o
 use crate::InkRow;
 use crate::admit::{admit_row, is_bare};
 use crate::lay::Painting;
-use crate::layer::{Art, Layer};
+use crate::layer::{Art, Crop, Layer};
 use crate::layer_room::LayerRoom;
 use crate::mask_rows::{open_mask, reach_mask, restart_mask};
 use crate::room::{ReadRoom, refill};
@@ -62,7 +62,9 @@ impl<'a> LayerRows<'a> {
         let span = span_of(&layer, width);
         let columns = columns_of(&layer, span);
         let painting = painting_of(&layer);
-        let image = RowReader::new(layer.art.rows(), layer.art.row_len());
+        // For its clauses: the sides.
+        let _shape = layer.art.shape();
+        let image = RowReader::new(layer.art.rows());
         let mask = open_mask(&layer.mask);
         let LayerRoom {
             mut paint,
@@ -159,15 +161,15 @@ impl<'a> LayerRows<'a> {
         if self.image.read() == row + 1 {
             return;
         }
-        self.image.reach(row, &mut room.image);
-        reach_mask(&mut self.mask, row, &mut room.mask);
-        let first = self.layer.crop.x;
+        let crop = self.layer.crop;
+        self.image.reach(row, crop, &mut room.image);
+        reach_mask(&mut self.mask, row, crop, &mut room.mask);
         let scale = self.layer.scale;
         paint_row(
             &self.layer.art,
             &self.image,
             &room.image,
-            first,
+            crop,
             scale,
             &mut self.paint,
         );
@@ -208,28 +210,26 @@ impl<'a> LayerRows<'a> {
 fn paint_row(
     art: &Art<'_>,
     image: &RowReader<'_>,
-    image_row: &[u8],
-    first: u32,
+    image_room: &[u8],
+    crop: Crop,
     scale: u32,
     paint: &mut InkRow,
 )
     requires image { IsOf art.now image.now }
-    requires read { 0 < image.now.next }
-    requires row { Holds image.now image_row.now }
-    requires first { first ≤ 65535 }
+    requires part { Holds image.now crop image_room.now }
     requires scale { (1 ≤ scale) × (scale ≤ 64) }
     requires wide { HasWidth paint.old (length paint.old.cyan) }
     requires small { length paint.old.cyan ≤ 65535 }
-    requires within { (n : ℕ) → scale * n < length paint.old.cyan → first + n < (shape_of art.now).width }
+    requires within { (n : ℕ) → scale * n < length paint.old.cyan → n < crop.width }
     requires fixed { paint.old ≡ with_fixed art.now (length paint.old.cyan) paint.old }
     ensures wide { HasWidth paint.new (length paint.old.cyan) }
     ensures fixed { paint.new ≡ with_fixed art.now (length paint.old.cyan) paint.new }
-    ensures paint { IsPaint art.now first scale (image.now.next - 1) (length paint.old.cyan) paint.new }
+    ensures paint { IsPaint art.now crop.x scale (image.now.next - 1) (length paint.old.cyan) paint.new }
 {
     if let Art::Contone(contone) = art {
-        // For its clause: four bytes a pixel.
-        let _len = contone.row_len();
-        paint.set_samples(image.row(image_row), first as usize, scale as usize);
+        // For its clause: four samples a pixel.
+        let _shape = contone.shape();
+        paint.set_samples(image.part(crop, image_room), scale as usize);
     }
 }
 

@@ -1,9 +1,11 @@
 // Marked pixels of a bilevel image as bytes.
 ghost use Rattle.std.specs.Prelude.{◌≡◌, ℕ, ◌+◌, ◌-◌, ◌*◌, ◌%◌, ◌<◌, ◌≤◌, length, slice_index};
-ghost use Rattle.tif_strips.specs.Strips.{row_length};
-ghost use Rattle.tif_image.specs.Image.{is_marked, photometric};
+ghost use Rattle.tif_image.specs.Image.{pixel_marked};
+ghost use Rattle.page_layers.specs.Reader.{Holds};
 ghost use Rattle.page_layers.specs.Rows.{IsMarked, Keeps, bit_is};
 
+use crate::layer::Crop;
+use crate::row_reader::RowReader;
 use std::simd::prelude::*;
 use tif_image::Bilevel;
 
@@ -23,17 +25,27 @@ const BIT_OF: [u8; BLOCK] = [
     8, 4, 2, 1, 128, 64, 32, 16, 8, 4, 2, 1,
 ];
 
-/// Sets to 0 the bytes of pixels that aren't marked, from column `first` of a row on.
-#[tactic(auto, using(crate::proofs::Layers::row_reaches))]
-pub(crate) fn keep_marked(image: &Bilevel<'_>, row: &[u8], first: u32, into: &mut [u8])
-    requires row { length row.now ≡ row_length image.now.shape }
-    requires small { first + length into.old ≤ 65535 }
-    requires within { first + length into.old ≤ image.now.shape.width }
+/// Sets to 0 the bytes of pixels that aren't marked, from the first column of a crop on.
+pub(crate) fn keep_marked(
+    image: &Bilevel<'_>,
+    reader: &RowReader<'_>,
+    crop: Crop,
+    room: &[u8],
+    into: &mut [u8],
+)
+    requires shape { reader.now.shape ≡ image.now.shape }
+    requires bytes { reader.now.bytes ≡ image.now.bytes }
+    requires part { Holds reader.now crop room.now }
+    requires within { length into.old ≤ crop.width }
     ensures { IsMarked
-        (λ j. is_marked (photometric image.now.bytes) row.now (first + j))
+        (λ n. pixel_marked image.now.shape image.now.bytes (crop.x + n) (reader.now.next - 1))
         (slice_index into.old) (length into.old) into.new }
 {
-    keep(image.marks_zeros(), row, first as usize, into);
+    // For its clause: one sample a pixel.
+    let _shape = image.shape();
+    // The first byte holds the crop's first column.
+    let first = crop.x as usize % 8;
+    keep(image.marks_zeros(), reader.part(crop, room), first, into);
 }
 
 // Keeps the bytes of pixels whose bit is 0, or else of those whose bit is 1: first those up to a whole byte

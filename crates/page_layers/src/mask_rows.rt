@@ -4,6 +4,7 @@ ghost use Rattle.std.specs.Option.{ForSome};
 ghost use Rattle.tif_strips.specs.Strips.{row_length};
 ghost use Rattle.page_layers.specs.Reader.{Holds, at_row, mask_cursor};
 
+use crate::layer::Crop;
 use crate::row_reader::RowReader;
 use tif_image::Bilevel;
 
@@ -12,22 +13,23 @@ pub(crate) fn open_mask<'a>(mask: &Option<Bilevel<'a>>) -> Option<RowReader<'a>>
     ensures { result ≡ option_map (mask_cursor 0) mask.now }
 {
     match mask {
-        Some(mask) => Some(RowReader::new(mask.rows(), mask.row_len())),
+        Some(mask) => Some(RowReader::new(mask.rows())),
         None => None,
     }
 }
 
-/// Reads up to a row of the mask, and that row, into the front of a room, if there is one.
-pub(crate) fn reach_mask(mask: &mut Option<RowReader<'_>>, row: u32, room: &mut [u8])
+/// Goes up to a row of the mask, and reads a crop's columns of it into the front of a room, if there is one.
+pub(crate) fn reach_mask(mask: &mut Option<RowReader<'_>>, row: u32, crop: Crop, room: &mut [u8])
     requires small { row < 65535 }
     requires within { ForSome mask.old (λ reader. (reader.next ≤ row) × (row < reader.shape.length)) }
+    requires columns { ForSome mask.old (λ reader. crop.x + crop.width ≤ reader.shape.width) }
     requires long { ForSome mask.old (λ reader. row_length reader.shape ≤ length room.old) }
     ensures mask { mask.new ≡ option_map (at_row (row + 1)) mask.old }
-    ensures row { ForSome mask.new (λ reader. Holds reader room.new) }
+    ensures part { ForSome mask.new (λ reader. Holds reader crop room.new) }
     ensures room { length room.new ≡ length room.old }
 {
     if let Some(reader) = mask {
-        reader.reach(row, room);
+        reader.reach(row, crop, room);
     }
 }
 

@@ -1,4 +1,5 @@
-// A cursor over an image, whose rows are read into a room that all images share.
+// A cursor over an image, of whose rows a crop's columns are read into a room that all images share.
+use crate::layer::Crop;
 use std::marker::Model;
 use tif_strips::RowCursor;
 
@@ -8,34 +9,30 @@ pub(crate) struct RowReader<'a> {
     rows: RowCursor<'a>,
     /// How many rows were read.
     read: u32,
-    /// The bytes of a row.
-    len: usize,
 }
 
 impl<'a> Model for RowReader<'a> {
     ghost use Rattle.std.specs.Prelude.{◌≡◌, ◌<◌, ◌-◌, ◌≤◌, length};
     ghost use Rattle.tif_strips.specs.Strips.{Cursor};
-    ghost use Rattle.page_layers.specs.Reader.{IsReader};
 
     ghost Value = { Cursor };
 
     ghost view = { λ r. r.rows };
 
-    ghost invariant = { λ r. IsReader r.rows r.read r.len };
+    ghost invariant = { λ r. r.read ≡ r.rows.next };
 }
 
 impl<'a> RowReader<'a> {
     ghost use Rattle.std.specs.Prelude.{◌≡◌, ◌+◌, ◌-◌, ◌<◌, ◌≤◌, length};
-    ghost use Rattle.tif_strips.specs.Strips.{image_row, row_length};
-    ghost use Rattle.page_layers.specs.Reader.{Holds};
+    ghost use Rattle.tif_strips.specs.Strips.{row_length};
+    ghost use Rattle.page_layers.specs.Reader.{Holds, crop_length, crop_part};
 
-    /// The cursor stands before the first row, and a row has `len` bytes.
-    pub(crate) fn new(rows: RowCursor<'a>, len: usize) -> RowReader<'a>
-        requires top { rows.next ≡ 0 }
-        requires len { len ≡ row_length rows.shape }
+    /// The cursor stands before the first row.
+    pub(crate) fn new(rows: RowCursor<'a>) -> RowReader<'a>
+        requires { rows.next ≡ 0 }
         ensures { result ≡ rows.entry }
     {
-        RowReader { rows, read: 0, len }
+        RowReader { rows, read: 0 }
     }
 
     /// How many rows were read.
@@ -45,31 +42,33 @@ impl<'a> RowReader<'a> {
         self.read
     }
 
-    /// Reads up to row `y`, and that row, into the front of a room.
-    pub(crate) fn reach(&mut self, y: u32, room: &mut [u8])
+    /// Goes up to row `y`, and reads a crop's columns of it into the front of a room.
+    pub(crate) fn reach(&mut self, y: u32, crop: Crop, room: &mut [u8])
         requires before { self.old.next ≤ y }
         requires small { y < 65535 }
         requires within { y < self.old.shape.length }
+        requires columns { crop.x + crop.width ≤ self.old.shape.width }
         requires long { row_length self.old.shape ≤ length room.old }
         ensures reader { self.new ≡ record self.old { next = y + 1 } }
-        ensures row { Holds self.new room.new }
+        ensures part { Holds self.new crop room.new }
         ensures room { length room.new ≡ length room.old }
     {
-        let row = &mut room[..self.len];
-        for _row in self.read..y + 1 {
-            self.rows.next_row(row);
+        for _row in self.read..y {
+            self.rows.skip_row();
         }
+        let len = self.rows.part_len(crop.x, crop.width);
+        self.rows.next_part(crop.x, crop.width, &mut room[..len]);
         self.read = y + 1;
     }
 
-    /// The row that was read last, in the room that it was read into.
-    pub(crate) fn row<'b>(&self, room: &'b [u8]) -> &'b [u8]
-        requires read { 0 < self.now.next }
-        requires holds { Holds self.now room.now }
-        ensures row { result.now ≡ image_row self.now.shape self.now.bytes (self.now.next - 1) }
-        ensures len { length result.now ≡ row_length self.now.shape }
+    /// The crop's columns of the row that was read last, in the room that they were read into.
+    pub(crate) fn part<'b>(&self, crop: Crop, room: &'b [u8]) -> &'b [u8]
+        requires { Holds self.now crop room.now }
+        ensures part { result.now ≡ crop_part self.now crop }
+        ensures len { length result.now ≡ crop_length self.now crop }
     {
-        &room[..self.len]
+        let len = self.rows.part_len(crop.x, crop.width);
+        &room[..len]
     }
 
     /// Stands before the first row again, with a new cursor over the same image.
