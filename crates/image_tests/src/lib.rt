@@ -10,4 +10,6 @@ mod directory;
 #[cfg(test)]
 mod files;
 #[cfg(test)]
+mod parts;
+#[cfg(test)]
 mod strips;
