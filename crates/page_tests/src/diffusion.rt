@@ -1,7 +1,7 @@
 // Error diffusion: worked rows, and a page whose bits another program made.
 ghost use Rattle.std.specs.Prelude.{◌≡◌, ◌≤◌};
 
-use scr_diffuse::Diffuser;
+use scr_diffuse::{BlockDiffuser, Diffuser};
 use std::process::Abort;
 
 /// A page of 61 by 17 values from a linear congruential generator. A Python program of ten lines, which keeps
@@ -74,6 +74,31 @@ fn seeded_page(rt: HostRuntime) {
     }
 }
 
+// The same page eight rows at a time. Behind its last row any may stand.
+#[test]
+fn seeded_page_in_blocks(rt: HostRuntime) {
+    let mut diffuser = BlockDiffuser::new(rt.alloc(), 61).expect(&rt, "memory");
+    let mut seed = 1976;
+    for block in 0..3 {
+        let mut rows = [[0; 61]; 8];
+        for row in rows.iter_mut() {
+            let (values, next) = seeded(seed);
+            seed = next;
+            *row = values;
+        }
+        diffuser.advance([
+            &rows[0], &rows[1], &rows[2], &rows[3], &rows[4], &rows[5], &rows[6], &rows[7],
+        ]);
+        for k in 0..8 {
+            if 8 * block + k < SEEDED.len() {
+                let mut bits = [0; 8];
+                diffuser.draw(k, &mut bits, 0);
+                assert!(rt; bits == SEEDED[8 * block + k]);
+            }
+        }
+    }
+}
+
 /// The next values of the generator, and where it then stands.
 fn seeded(seed: u32) -> ([u8; 61], u32) {
     let mut seed = seed;
@@ -113,6 +138,21 @@ fn one_column(rt: HostRuntime) {
         ([127], 7),
     ];
     assert_drawn(&rt, &rows, [0; 4], [0x8A, 0, 0, 0]);
+}
+
+// The same column as one block, and again after a restart.
+#[test]
+fn one_column_in_a_block(rt: HostRuntime) {
+    let mut diffuser = BlockDiffuser::new(rt.alloc(), 1).expect(&rt, "memory");
+    for _time in 0..2 {
+        diffuser.advance([&[200], &[100], &[50], &[25], &[180], &[90], &[128], &[127]]);
+        let mut bits = [0];
+        for k in 0..8 {
+            diffuser.draw(k as usize, &mut bits, k);
+        }
+        assert!(rt; bits == [0x8A]);
+        diffuser.restart();
+    }
 }
 
 // The errors are -55, 75, 82, 60, -49, 68, -98, 84, 39, 12 and 104,

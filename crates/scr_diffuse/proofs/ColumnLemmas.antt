@@ -39,7 +39,7 @@ loaded numbers f eight same small k within =
 pub errors_are : (numbers : List ℤ) (f : ℕ → ℤ) → length numbers ≡ 8 → ((k : ℕ) → k < 8 → number_at numbers k ≡ f k) → ((k : ℕ) → k < 8 → IsError (f k)) → AreErrors numbers
 errors_are numbers f eight same small = record { eight = eight; each = λ k within. rw (same k within) (small k within) }
 
-fits_value : (n : ℕ) → n ≤ 255 → FitsSigned w16 (pos n)
+pub fits_value : (n : ℕ) → n ≤ 255 → FitsSigned w16 (pos n)
 fits_value n byte = omega (arith, ints)
 
 pub loaded_values : (numbers : List ℤ) (f : ℕ → ℕ) → length numbers ≡ 8 → ((k : ℕ) → k < 8 → number_at numbers k ≡ pos (f k)) → ((k : ℕ) → k < 8 → f k ≤ 255) → (k : ℕ) → k < 8 → number_at (kept numbers) k ≡ pos (f k)
@@ -66,17 +66,13 @@ whole_fits : (n : ℕ) (l r a b : ℤ) → n ≤ 255 → IsError l → IsError r
 whole_fits n l r a b byte small_l small_r small_a small_b = omega (arith, ints)
 
 -- v of a pixel by its whole sum
-pub column_is : (places : List (List ℤ)) (row : List ℕ) (k x : ℕ) (l r a b : ℤ) → lane_at places 0 k ≡ pos 0
-    → l ≡ error_left (errors_in (lane_of places k)) row x → r ≡ lane_at places (x + 1 + 1) k → a ≡ lane_at places (x + 1) k → b ≡ lane_at places x k
-    → floor_16 (whole (pos (get_or row x 0)) l r a b) ≡ v_below (errors_in (lane_of places k)) row x
-column_is places row k x l r a b margin left right here corner =
+pub column_is : (above : ℕ → ℤ) (row : List ℕ) (x : ℕ) (l r a b : ℤ) → l ≡ error_left above row x → r ≡ above (x + 1) → a ≡ above x → b ≡ left_of above x
+    → floor_16 (whole (pos (get_or row x 0)) l r a b) ≡ v_below above row x
+column_is above row x l r a b left right here corner =
     let n : ℕ = get_or row x 0 in
-    let lane : List ℤ = lane_of places k in
-    let e : ℤ = error_left (errors_in lane) row x in
-    ap (λ z. floor_16 (whole (pos n) z r a b)) left
-    ∙ ap (λ z. floor_16 (whole (pos n) e z a b)) (right ∙ sym (lane_is places k (x + 1 + 1)))
-    ∙ ap (λ z. floor_16 (whole (pos n) e (number_at lane (x + 1 + 1)) z b)) (here ∙ sym (lane_is places k (x + 1)))
-    ∙ ap (λ z. floor_16 (whole (pos n) e (number_at lane (x + 1 + 1)) (number_at lane (x + 1)) z)) (corner ∙ sym (lane_is places k x) ∙ margined lane x (lane_is places k 0 ∙ margin))
+    let e : ℤ = error_left above row x in
+    ap (λ z. floor_16 (whole (pos n) z r a b)) left ∙ ap (λ z. floor_16 (whole (pos n) e z a b)) right
+    ∙ ap (λ z. floor_16 (whole (pos n) e (above (x + 1)) z b)) here ∙ ap (λ z. floor_16 (whole (pos n) e (above (x + 1)) (above x) z)) corner
 
 -- the error and the dot of a pixel, of one lane of vectors that are passed on
 pub record IsPixel (above : ℕ → ℤ) (row : List ℕ) (x k : ℕ) (left : List ℤ) (dots : ℕ → Bool) : Type 0 where
@@ -84,39 +80,47 @@ pub record IsPixel (above : ℕ → ℤ) (row : List ℕ) (x k : ℕ) (left : Li
   pub small : IsError (error_left above row (x + 1))
   pub dot_is : dots k ≡ prints (v_below above row x)
 
-pub pixel_is : (places : List (List ℤ)) (row : List ℕ) (k x : ℕ) (values before right above corner sums left : List ℤ) (dots : ℕ → Bool) → k < 8 → x < length row → get_or row x 0 ≤ 255 → lane_at places 0 k ≡ pos 0
-    → number_at values k ≡ pos (get_or row x 0) → number_at before k ≡ error_left (errors_in (lane_of places k)) row x
-    → number_at right k ≡ lane_at places (x + 1 + 1) k → number_at above k ≡ lane_at places (x + 1) k → number_at corner k ≡ lane_at places x k
+pub pixel_is : (over : ℕ → ℤ) (row : List ℕ) (k x : ℕ) (values before right above corner sums left : List ℤ) (dots : ℕ → Bool) → k < 8 → x < length row → get_or row x 0 ≤ 255
+    → number_at values k ≡ pos (get_or row x 0) → number_at before k ≡ error_left over row x
+    → number_at right k ≡ over (x + 1) → number_at above k ≡ over x → number_at corner k ≡ left_of over x
     → IsError (number_at before k) → IsError (number_at right k) → IsError (number_at above k) → IsError (number_at corner k)
     → length sums ≡ 8 → number_at sums k ≡ whole (number_at values k) (number_at before k) (number_at right k) (number_at above k) (number_at corner k)
     → length left ≡ 8 → (FitsSigned w16 (number_at (kept sums) k) → number_at left k ≡ error_of (floor_16 (number_at (kept sums) k)))
     → (FitsSigned w16 (number_at (kept sums) k) → dots k ≡ prints (floor_16 (number_at (kept sums) k)))
-    → IsPixel (errors_in (lane_of places k)) row x k left dots
-pixel_is places row k x values before right above corner sums left dots lanes within byte margin value_is before_is right_is above_is corner_is small_l small_r small_a small_b
+    → IsPixel over row x k left dots
+pixel_is over row k x values before right above corner sums left dots lanes within byte value_is before_is right_is above_is corner_is small_l small_r small_a small_b
     sums_long sums_are left_long left_are dots_are =
     let n : ℕ = get_or row x 0 in
-    let errors : ℕ → ℤ = errors_in (lane_of places k) in
     let l : ℤ = number_at before k in
     let r : ℤ = number_at right k in
     let a : ℤ = number_at above k in
     let b : ℤ = number_at corner k in
     let z : ℤ = whole (pos n) l r a b in
-    let v : ℤ = v_below errors row x in
+    let v : ℤ = v_below over row x in
     let sum : number_at sums k ≡ z = sums_are ∙ ap (λ w. whole w l r a b) value_is in
     let sum_fits : FitsSigned w16 z = whole_fits n l r a b byte small_l small_r small_a small_b in
     let kept_sum : number_at (kept sums) k ≡ z = kept_is sums k z sums_long lanes sum sum_fits in
-    let same : floor_16 (number_at (kept sums) k) ≡ v = ap floor_16 kept_sum ∙ column_is places row k x l r a b margin before_is right_is above_is corner_is in
+    let same : floor_16 (number_at (kept sums) k) ≡ v = ap floor_16 kept_sum ∙ column_is over row x l r a b before_is right_is above_is corner_is in
     let error : number_at left k ≡ error_of v = left_are (rw kept_sum sum_fits) ∙ ap error_of same in
     let error_small : IsError (error_of v) =
-    corrected-small n (error_left errors row x) (errors (x + 1)) (errors x) (left_of errors x) byte (subst IsError before_is small_l)
-    (subst IsError (right_is ∙ sym (lane_is places k (x + 1 + 1))) small_r) (subst IsError (above_is ∙ sym (lane_is places k (x + 1))) small_a)
-    (subst IsError (corner_is ∙ sym (lane_is places k x) ∙ margined (lane_of places k) x (lane_is places k 0 ∙ margin)) small_b) in
-    let next : error_of v ≡ error_left errors row (x + 1) = sym (error-inside errors row x within) ∙ ap (error_left errors row) (sym (add-one x)) in
+    corrected-small n (error_left over row x) (over (x + 1)) (over x) (left_of over x) byte (subst IsError before_is small_l)
+    (subst IsError right_is small_r) (subst IsError above_is small_a) (subst IsError corner_is small_b) in
+    let next : error_of v ≡ error_left over row (x + 1) = sym (error-inside over row x within) ∙ ap (error_left over row) (sym (add-one x)) in
     record {
-      error_is = kept_is left k (error_left errors row (x + 1)) left_long lanes (error ∙ next) (fits_error _ (subst IsError next error_small));
+      error_is = kept_is left k (error_left over row (x + 1)) left_long lanes (error ∙ next) (fits_error _ (subst IsError next error_small));
       small = subst IsError next error_small;
       dot_is = dots_are (rw kept_sum sum_fits) ∙ ap prints same;
     }
+
+-- what a lane holds, told by the errors above a pixel
+pub above_right_is : (places : List (List ℤ)) (k x : ℕ) (e : ℤ) → e ≡ lane_at places (x + 1 + 1) k → e ≡ errors_in (lane_of places k) (x + 1)
+above_right_is places k x e is = is ∙ sym (lane_is places k (x + 1 + 1))
+
+pub above_is : (places : List (List ℤ)) (k x : ℕ) (e : ℤ) → e ≡ lane_at places (x + 1) k → e ≡ errors_in (lane_of places k) x
+above_is places k x e is = is ∙ sym (lane_is places k (x + 1))
+
+pub above_left_is : (places : List (List ℤ)) (k x : ℕ) (e : ℤ) → lane_at places 0 k ≡ pos 0 → e ≡ lane_at places x k → e ≡ left_of (errors_in (lane_of places k)) x
+above_left_is places k x e margin is = is ∙ sym (lane_is places k x) ∙ margined (lane_of places k) x (lane_is places k 0 ∙ margin)
 
 -- behind the last column, and past it, no error stands
 pub behind : (places : List (List ℤ)) (above : ℕ → ℤ) (row : List ℕ) (k p : ℕ) → length places ≡ length row + 2 → lane_at places (length row + 1) k ≡ pos 0 → length row < p → lane_at places p k ≡ error_left above row p

@@ -1,3 +1,4 @@
+pub mod BlockLemmas
 pub mod ByteLemmas
 pub mod ColumnLemmas
 pub mod DiffusionLemmas

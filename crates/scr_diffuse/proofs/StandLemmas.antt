@@ -1,16 +1,21 @@
 -- The errors that a diffuser holds: at the start, and after a row.
 use Rattle.std.proofs.Common.{◌≡◌, ℕ, zero, suc, ◌+◌, ◌-◌, ◌≤◌, ℤ, pos, List, [], ◌∷◌, ◌++◌, length, take, drop, get_or, refl, ap, sym, ◌∙◌, arith, add-one}
-use Rattle.std.proofs.lemmas.List.{length-append}
+use Rattle.std.proofs.lemmas.List.{append-nil, length-append}
+use Rattle.std.proofs.lemmas.List.Concat.{flat_map-append}
 use Rattle.std.proofs.Math.Path.{fun_ext}
 use Rattle.std.proofs.Math.Seq.{take-append_seam}
-use Rattle.scr_diffuse.specs.Diffuser.{StandBelow}
+use Rattle.scr_diffuse.specs.Diffuser.{StandBelow, joined}
 use Rattle.scr_diffuse.specs.Diffusion.{IsError, error_above, error_left, left_of, v_at, v_below}
 use Rattle.scr_diffuse.specs.Passes.{errors_in, number_at}
 use Rattle.scr_diffuse.proofs.DiffusionLemmas.{error-margin, error-outside, error_above-put, error_left-small, none-small, v_at-put}
 use Rattle.scr_diffuse.proofs.StepLemmas.{left-next}
 
+-- one step more
+pub joined_more : (steps all : List (List (List ℕ))) (rows : List (List ℕ)) → all ≡ steps ++ rows ∷ [] → joined all ≡ joined steps ++ rows
+joined_more steps all rows more = ap joined more ∙ flat_map-append (λ r. r) steps (rows ∷ []) ∙ ap (λ last. joined steps ++ last) (append-nil rows)
+
 -- above the first row no error stands
-nothing_above : (k : ℕ) → left_of (λ x. error_above [] x 0) k ≡ pos 0
+pub nothing_above : (k : ℕ) → left_of (λ x. error_above [] x 0) k ≡ pos 0
 unfolding error_above
 nothing_above zero = refl
 nothing_above (suc k) = refl

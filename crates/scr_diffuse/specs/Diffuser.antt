@@ -1,5 +1,5 @@
 -- What a diffuser shows, and what it keeps.
-use Rattle.std.specs.Prelude.{◌≡◌, ℕ, ◌+◌, ◌-◌, ℤ, pos, List, length}
+use Rattle.std.specs.Prelude.{◌≡◌, ℕ, ◌+◌, ◌-◌, ℤ, pos, List, flat_map, length}
 use Rattle.scr_diffuse.specs.Diffusion.{error_above, left_of, IsError}
 use Rattle.scr_diffuse.specs.Passes.{number_at}
 
@@ -7,6 +7,10 @@ use Rattle.scr_diffuse.specs.Passes.{number_at}
 pub record PageFront : Type 0 where
   pub width : ℕ
   pub rows : List (List ℕ)
+
+-- the rows that were handed in, some at a time
+abbrev pub joined : List (List (List ℕ)) → List (List ℕ)
+joined steps = flat_map (λ rows. rows) steps
 
 -- a list holds the errors of the last of these rows, which are 0 before the first row, between two places
 -- that hold 0; each is small enough for the sums that are made of it

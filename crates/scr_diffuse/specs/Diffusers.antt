@@ -1,5 +1,6 @@
 -- What eight diffusers show, and what they keep.
-use Rattle.std.specs.Prelude.{◌≡◌, ℕ, ◌+◌, ◌-◌, ◌*◌, ◌<◌, ◌/◌, ◌%◌, ◌^◌, ◌==◌, Bool, ℤ, pos, ◌≤ℤ◌, List, [], length, map, slice_index, slice_index_or}
+use Rattle.std.specs.Prelude.{◌≡◌, ℕ, ◌+◌, ◌-◌, ◌*◌, ◌<◌, ◌/◌, ◌%◌, ◌^◌, ◌==◌, Bool, ℤ, pos, ◌≤ℤ◌}
+use Rattle.std.specs.Prelude.{List, [], length, map, slice_index, slice_index_or}
 use Rattle.std.specs.Borrow.{Bor}
 use Rattle.scr_diffuse.specs.Diffuser.{StandBelow}
 use Rattle.scr_diffuse.specs.Diffusion.{IsError, diffused_bit}
@@ -53,6 +54,7 @@ pub record StandBelowAll (rows : List (List (List ℕ))) (errors : List (List �
       → bit_of (slice_index dots x) k ≡ diffused_bit (page_in rows k) x (length rows - 1)
 
 -- what eight diffusers hold: errors and pixels, and room for a value of each page in each column
-pub record AreHeld (rows : List (List (List ℕ))) (errors : List (List ℤ)) (dots columns : List ℕ) : Type 0 where
+pub record AreHeld (rows : List (List (List ℕ))) (errors : List (List ℤ)) (dots columns : List ℕ)
+    : Type 0 where
   pub stand : StandBelowAll rows errors dots
   pub room : length columns ≡ 8 * length dots

@@ -1,3 +1,4 @@
+pub mod Block
 pub mod Diffuser
 pub mod Diffusers
 pub mod Diffusion

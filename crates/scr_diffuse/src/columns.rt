@@ -30,7 +30,7 @@ pub(crate) fn diffuse_rows(
         lane_at errors.new p k ≡ error_left (errors_in (lane_of errors.old k)) (row_in values.now k) p }
     ensures small { (p k : ℕ) → k < 8 → IsError (lane_at errors.new p k) }
 {
-    set_columns(values, dots.len(), columns);
+    set_columns(values, dots.len(), 0, columns);
     let columns = &*columns;
     let mut above_left = load(errors, 0);
     let mut above = load(errors, 1);
@@ -48,7 +48,7 @@ pub(crate) fn diffuse_rows(
 
 /// The whole sums of a column. What comes from the left waits for the column before, so it is added last.
 #[inline(always)]
-fn whole_sums(
+pub(crate) fn whole_sums(
     values: i16x8,
     left: i16x8,
     above_right: i16x8,

@@ -3,7 +3,7 @@ ghost use Rattle.std.specs.Prelude.{◌≡◌, ℕ, ◌+◌, ◌*◌, ◌<◌, �
 ghost use Rattle.pr_base.specs.Bits.{bit_at};
 ghost use Rattle.scr_diffuse.specs.Diffusion.{diffused_bit};
 
-use crate::history::{History, Row};
+use crate::history::{History, Rows};
 use crate::row::{clear, diffuse_row};
 use pr_base::NoMemory;
 use std::alloc::Global;
@@ -20,13 +20,13 @@ pub struct Diffuser {
 
 impl Model for Diffuser {
     ghost use Rattle.std.specs.Prelude.{◌-◌, length};
-    ghost use Rattle.scr_diffuse.specs.Diffuser.{PageFront, StandBelow};
+    ghost use Rattle.scr_diffuse.specs.Diffuser.{PageFront, StandBelow, joined};
 
     ghost Value = { PageFront };
 
-    ghost view = { λ d. record { width = length d.errors.items - 2; rows = d.rows.rows } };
+    ghost view = { λ d. record { width = length d.errors.items - 2; rows = joined d.rows.steps } };
 
-    ghost invariant = { λ d. StandBelow d.rows.rows d.errors.items };
+    ghost invariant = { λ d. StandBelow (joined d.rows.steps) d.errors.items };
 }
 
 impl Diffuser {
@@ -60,6 +60,6 @@ impl Diffuser {
         ensures page { self.new ≡ record self.old { rows = self.old.rows ++ values.now ∷ [] } }
     {
         diffuse_row(values, &mut self.errors[..], bits, from);
-        self.rows = self.rows.then(&Row { values });
+        self.rows = self.rows.then(&Rows { values: &[values] });
     }
 }

@@ -6,7 +6,7 @@ ghost use Rattle.scr_diffuse.specs.Diffusion.{diffused_bit};
 
 use crate::columns::diffuse_rows;
 use crate::dots::set_dots;
-use crate::histories::{Histories, Rows};
+use crate::history::{History, Rows};
 use pr_base::NoMemory;
 use std::alloc::Global;
 use std::marker::Model;
@@ -23,7 +23,7 @@ pub struct Diffusers {
     dots: Vec<u8>,
     /// Room for the values of the rows that are handed in, side by side.
     columns: Vec<u8>,
-    rows: Histories,
+    rows: History,
 }
 
 impl Model for Diffusers {
@@ -32,9 +32,9 @@ impl Model for Diffusers {
 
     ghost Value = { EightFronts };
 
-    ghost view = { λ d. record { width = length d.dots.items; rows = d.rows.rows } };
+    ghost view = { λ d. record { width = length d.dots.items; rows = d.rows.steps } };
 
-    ghost invariant = { λ d. AreHeld d.rows.rows d.errors.items d.dots.items d.columns.items };
+    ghost invariant = { λ d. AreHeld d.rows.steps d.errors.items d.dots.items d.columns.items };
 }
 
 impl Diffusers {
@@ -46,7 +46,7 @@ impl Diffusers {
             errors: vec![in alloc; [0; 8]; width as usize + 2]?,
             dots: vec![in alloc; 0; width as usize]?,
             columns: vec![in alloc; 0; 8 * width as usize]?,
-            rows: Histories::new(),
+            rows: History::new(),
         })
     }
 
@@ -55,7 +55,7 @@ impl Diffusers {
         ensures { self.new ≡ record self.old { rows = [] } }
     {
         clear(&mut self.errors[..]);
-        self.rows = Histories::new();
+        self.rows = History::new();
     }
 
     /// Takes the next row of each page.
@@ -69,7 +69,7 @@ impl Diffusers {
             &mut self.dots[..],
             &mut self.columns[..],
         );
-        self.rows = self.rows.then(&Rows { values });
+        self.rows = self.rows.then(&Rows { values: &values });
     }
 
     /// Sets the pixels of a page's last row: pixel `from + x` of `bits` is set where the diffusion prints

@@ -1,13 +1,15 @@
-// The rows that a diffuser was handed. They exist only in proofs: no memory holds them, and no step is taken.
+// The rows that a diffuser was handed, step by step. They exist only in proofs: no memory holds them, and no
+// step is taken.
 ghost use Rattle.std.specs.Prelude.{◌≡◌, List, ℕ, [], ◌∷◌, ◌++◌};
 ghost use Rattle.std.specs.Borrow.{ftrue};
 ghost use Rattle.std.specs.Coded.{coded_list, coded_ℕ};
+ghost use Rattle.scr_diffuse.specs.Diffusers.{rows_in};
 
 use std::marker::Model;
 
 #[derive(Debug, Drop)]
 pub(crate) struct History {
-    ghost rows: { List (List ℕ) } by { coded_list (coded_list coded_ℕ) },
+    ghost steps: { List (List (List ℕ)) } by { coded_list (coded_list (coded_list coded_ℕ)) },
 }
 
 impl Model for History {
@@ -17,22 +19,22 @@ impl Model for History {
 // It owns nothing.
 unsafe impl Send for History {}
 
-/// A row that is handed in.
+/// The rows that are handed in at once.
 #[derive(Drop)]
-pub(crate) struct Row<'a> {
-    pub values: &'a [u8],
+pub(crate) struct Rows<'a> {
+    pub values: &'a [&'a [u8]],
 }
 
 impl History {
     pub(crate) fn new() -> History
-        ensures { result.rows ≡ [] }
+        ensures { result.steps ≡ [] }
     {
         History {}
     }
 
     #[inline(always)]
-    pub(crate) fn then(&self, _row: &Row<'_>) -> History
-        ensures { result.rows ≡ self.now.rows ++ _row.now.values.now ∷ [] }
+    pub(crate) fn then(&self, _rows: &Rows<'_>) -> History
+        ensures { result.steps ≡ self.now.steps ++ rows_in _rows.now.values.now ∷ [] }
     {
         History {}
     }

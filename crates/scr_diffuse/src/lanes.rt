@@ -70,6 +70,28 @@ pub(crate) fn dots_of(sums: i16x8) -> u8
     sums.simd_ge(i16x8::splat(16 * MIDDLE)).to_bitmask() as u8
 }
 
+/// The numbers one lane further on, behind a first one.
+#[inline(always)]
+pub(crate) fn moved_on(first: i16, a: i16x8) -> i16x8
+    requires { length a ≡ 8 }
+    ensures eight { length result ≡ 8 }
+    ensures first { number_at result 0 ≡ first }
+    ensures others { (k : ℕ) → k < 7 → FitsSigned w16 (number_at a k) →
+        number_at result (k + 1) ≡ number_at a k }
+{
+    i16x8::splat(first).shuffle(a, [0, 8, 9, 10, 11, 12, 13, 14])
+}
+
+/// The number in the last lane.
+#[inline(always)]
+pub(crate) fn last_of(a: i16x8) -> i16
+    requires { length a ≡ 8 }
+    ensures { FitsSigned w16 (number_at a 7) → result ≡ number_at a 7 }
+{
+    let numbers = a.to_array();
+    numbers[7]
+}
+
 /// The numbers that stand at a place.
 #[inline(always)]
 pub(crate) fn load(places: &[[i16; 8]], place: usize) -> i16x8

@@ -3,11 +3,12 @@
 #![tactic(auto)]
 
 mod bits;
+mod block;
+mod block_diffuser;
 mod columns;
 mod diffuser;
 mod diffusers;
 mod dots;
-mod histories;
 mod history;
 mod lanes;
 mod laws;
@@ -15,6 +16,7 @@ mod passes;
 mod row;
 mod weave;
 
+pub use block_diffuser::BlockDiffuser;
 pub use diffuser::Diffuser;
 pub use diffusers::Diffusers;
 pub use laws::{error_law, row_law};

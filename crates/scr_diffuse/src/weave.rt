@@ -1,37 +1,46 @@
-// Eight rows side by side: what stands in a column of each stands in eight places behind one another.
-ghost use Rattle.std.specs.Prelude.{◌≡◌, ℕ, ◌+◌, ◌*◌, ◌/◌, ◌%◌, ◌^◌, ◌<◌, ◌≤◌, length, slice_index};
+// Eight rows side by side: what stands in a column of each stands in eight places behind one another. Each
+// row may lag behind the one before it.
+ghost use Rattle.std.specs.Prelude.{◌≡◌, ℕ, ◌+◌, ◌-◌, ◌*◌, ◌/◌, ◌%◌, ◌^◌, ◌<◌, ◌≤◌, length, slice_index};
 ghost use Rattle.scr_diffuse.specs.Diffusers.{row_in};
-ghost use Rattle.scr_diffuse.specs.Weave.{AreVectors, HasColumns, woven_at};
+ghost use Rattle.scr_diffuse.specs.Weave.{AreVectors, HasColumns, IsValue, woven_at};
 
 use std::simd::prelude::*;
 
 /// How many columns are woven at once.
 const BLOCK: usize = 16;
 
-/// Puts eight rows side by side: whole blocks of columns, and then the rest one by one.
-pub(crate) fn set_columns(rows: &[&[u8]; 8], width: usize, columns: &mut [u8])
+/// Puts eight rows side by side, each `lag` columns behind the one before it: whole blocks of columns where
+/// each row has some, and those at the ends one by one.
+#[inline(always)]
+pub(crate) fn set_columns(rows: &[&[u8]; 8], width: usize, lag: usize, columns: &mut [u8])
     requires rows { (k : ℕ) → k < 8 → length (row_in rows.now k) ≡ width }
-    requires room { length columns.old ≡ 8 * width }
-    ensures { HasColumns rows.now width columns.new }
+    requires lag { lag ≤ 2 }
+    requires room { length columns.old ≡ 8 * (width + 7 * lag) }
+    ensures { HasColumns rows.now lag (width + 7 * lag) columns.new }
 {
-    let count = width / BLOCK;
-    for block in 0..count {
-        set_block(rows, BLOCK * block, columns);
+    let ragged = width.min(7 * lag);
+    let done = ragged + (width - ragged) / BLOCK * BLOCK;
+    for x in 0..ragged {
+        set_column(rows, x, lag, columns);
     }
-    for x in BLOCK * count..width {
-        set_column(rows, x, columns);
+    for block in 0..(width - ragged) / BLOCK {
+        set_block(rows, ragged + BLOCK * block, lag, columns);
+    }
+    for x in done..width + 7 * lag {
+        set_column(rows, x, lag, columns);
     }
 }
 
 /// Puts the columns of a block, of which this is the first one, behind those before them.
 #[inline(always)]
-fn set_block(rows: &[&[u8]; 8], first: usize, columns: &mut [u8])
+fn set_block(rows: &[&[u8]; 8], first: usize, lag: usize, columns: &mut [u8])
+    requires lag { 7 * lag ≤ first }
     requires rows { (k : ℕ) → k < 8 → first + 16 ≤ length (row_in rows.now k) }
     requires room { 8 * first + 128 ≤ length columns.old }
-    requires before { HasColumns rows.now first columns.old }
-    ensures { HasColumns rows.now (first + 16) columns.new }
+    requires before { HasColumns rows.now lag first columns.old }
+    ensures { HasColumns rows.now lag (first + 16) columns.new }
 {
-    let woven = weave(weave(weave(block_of(rows, first))));
+    let woven = weave(weave(weave(block_of(rows, first, lag))));
     for k in 0..8 {
         let from = 8 * first + 16 * k;
         woven[k].copy_to_slice(&mut columns[from..from + 16]);
@@ -40,22 +49,23 @@ fn set_block(rows: &[&[u8]; 8], first: usize, columns: &mut [u8])
 
 /// The values of a block of columns, a vector for each row.
 #[inline(always)]
-fn block_of(rows: &[&[u8]; 8], first: usize) -> [u8x16; 8]
+fn block_of(rows: &[&[u8]; 8], first: usize, lag: usize) -> [u8x16; 8]
     requires fits { first + 16 < 2 ^ 64 }
+    requires lag { 7 * lag ≤ first }
     requires rows { (k : ℕ) → k < 8 → first + 16 ≤ length (row_in rows.now k) }
     ensures vectors { AreVectors result }
     ensures values { (k x : ℕ) → k < 8 → x < 16 →
-        woven_at result (16 * k + x) ≡ slice_index (row_in rows.now k) (first + x) }
+        woven_at result (16 * k + x) ≡ slice_index (row_in rows.now k) (first - lag * k + x) }
 {
     [
         values_from(rows, 0, first),
-        values_from(rows, 1, first),
-        values_from(rows, 2, first),
-        values_from(rows, 3, first),
-        values_from(rows, 4, first),
-        values_from(rows, 5, first),
-        values_from(rows, 6, first),
-        values_from(rows, 7, first),
+        values_from(rows, 1, first - lag),
+        values_from(rows, 2, first - 2 * lag),
+        values_from(rows, 3, first - 3 * lag),
+        values_from(rows, 4, first - 4 * lag),
+        values_from(rows, 5, first - 5 * lag),
+        values_from(rows, 6, first - 6 * lag),
+        values_from(rows, 7, first - 7 * lag),
     ]
 }
 
@@ -86,22 +96,25 @@ fn weave(v: [u8x16; 8]) -> [u8x16; 8]
 }
 
 /// Puts the values of a column behind those before it.
-fn set_column(rows: &[&[u8]; 8], x: usize, columns: &mut [u8])
-    requires rows { (k : ℕ) → k < 8 → x < length (row_in rows.now k) }
+fn set_column(rows: &[&[u8]; 8], x: usize, lag: usize, columns: &mut [u8])
+    requires lag { lag ≤ 2 }
     requires room { 8 * x + 8 ≤ length columns.old }
-    requires before { HasColumns rows.now x columns.old }
-    ensures { HasColumns rows.now (x + 1) columns.new }
+    requires before { HasColumns rows.now lag x columns.old }
+    ensures { HasColumns rows.now lag (x + 1) columns.new }
 {
     for k in 0..8 {
-        columns[8 * x + k] = value_at(rows, k, x);
+        columns[8 * x + k] = value_at(rows, k, x, lag * k);
     }
 }
 
-/// The value in a column of one of eight rows.
-fn value_at(rows: &[&[u8]; 8], k: usize, x: usize) -> u8
+/// The value of one of eight rows that so far behind stands in a column; 0 where it has none there.
+fn value_at(rows: &[&[u8]; 8], k: usize, x: usize, behind: usize) -> u8
     requires row { k < 8 }
-    requires column { x < length (row_in rows.now k) }
-    ensures { result ≡ slice_index (row_in rows.now k) x }
+    ensures { IsValue (row_in rows.now k) x behind result }
 {
-    rows[k][x]
+    if x >= behind && x - behind < rows[k].len() {
+        rows[k][x - behind]
+    } else {
+        0
+    }
 }

@@ -1,10 +1,10 @@
 -- Each turn does one column more.
-use Rattle.std.proofs.Common.{◌≡◌, ◌∙◌, ℕ, ◌+◌, ◌*◌, ◌<◌, ◌≤◌, pos, List, length, map, get_or, to_z, w16, refl, ap, sym, subst, inl, inr, arith, get_or-set_same, get_or-set_other}
+use Rattle.std.proofs.Common.{◌≡◌, ◌∙◌, ℕ, ◌+◌, ◌-◌, ◌*◌, ◌<◌, ◌≤◌, pos, List, length, map, get_or, to_z, w16, refl, ap, sym, subst, inl, inr, arith, get_or-set_same, get_or-set_other}
 use Rattle.std.proofs.lemmas.Bool.{cases_eq, cases_lt}
 use Rattle.scr_diffuse.specs.Diffusers.{bit_of, lane_at, lane_of, row_in}
 use Rattle.scr_diffuse.specs.Diffusion.{error_left}
 use Rattle.scr_diffuse.specs.Passes.{errors_in, number_at}
-use Rattle.scr_diffuse.proofs.ColumnLemmas.{IsPixel, behind, bits_length, errors_are, fits_error, kept_length, loaded, loaded_values, pixel_is, values_are}
+use Rattle.scr_diffuse.proofs.ColumnLemmas.{IsPixel, above_is, above_left_is, above_right_is, behind, bits_length, errors_are, fits_error, kept_length, loaded, loaded_values, pixel_is, values_are}
 use Rattle.scr_diffuse.proofs.DiffusionLemmas.{error-margin}
 use Rattle.scr_diffuse.proofs.LaneLemmas.{bits_length as numbers_length, kept}
 use Rattle.scr_diffuse.proofs.columns.diffuse_rows.Goals as goal
@@ -66,15 +66,16 @@ loop-x-preserved c =
     let right : (k : ℕ) → k < 8 → number_at (kept c.load-above_right.result) k ≡ lane_at old (x + 1 + 1) k =
     λ k within. loaded c.load-above_right.result (lane_at now (x + 2)) c.load-above_right.ensures.eight c.load-above_right.ensures.same (c.loop-x.invariant.small (x + 2)) k within
     ∙ c.loop-x.invariant.rest k (x + 2) (omega arith) ∙ ap (λ p. lane_at old p k) two in
-    let here_is : (k : ℕ) → k < 8 → get_or c.set_columns.new.columns (8 * x + k) 0 ≡ get_or (rows k) x 0 = λ k within. c.set_columns.ensures.each k x within (omega arith) in
+    let here_is : (k : ℕ) → k < 8 → get_or c.set_columns.new.columns (8 * x + k) 0 ≡ get_or (rows k) x 0 = λ k within. (let place : x - 0 * k ≡ x = omega arith in c.set_columns.ensures.each k x within (omega arith) (omega arith) (omega (arith, c.requires.values k within)) ∙ ap (λ n. get_or (rows k) n 0) place) in
     let byte : (k : ℕ) → k < 8 → get_or (rows k) x 0 ≤ 255 = λ k within. subst (λ (n : ℕ). n ≤ 255) (here_is k within) (c.column_at.ensures.bytes k within) in
     let value : (k : ℕ) → k < 8 → number_at (kept c.column_at.result) k ≡ pos (get_or (rows k) x 0) =
     loaded_values c.column_at.result (λ k. get_or (rows k) x 0) c.column_at.ensures.eight (λ k within. c.column_at.ensures.values k within ∙ ap pos (here_is k within)) byte in
     let pixel : (k : ℕ) → k < 8 → IsPixel (errors_in (lane_of old k)) (rows k) x k left (bit_of c.dots_of.result) =
     λ k within. (let long : length (rows k) ≡ length c.args.dots.now = c.requires.values k within in
-    pixel_is old (rows k) k x (kept c.column_at.result) (map (to_z w16) c.loop-x.left) (kept c.load-above_right.result) (map (to_z w16) c.loop-x.above) (map (to_z w16) c.loop-x.above_left)
-    c.whole_sums-sums.result left (bit_of c.dots_of.result) within (omega arith) (byte k within) (c.requires.left k within)
-    (value k within) (c.loop-x.invariant.left_is k within) (right k within) (c.loop-x.invariant.above_is k within) (c.loop-x.invariant.corner_is k within)
+    pixel_is (errors_in (lane_of old k)) (rows k) k x (kept c.column_at.result) (map (to_z w16) c.loop-x.left) (kept c.load-above_right.result) (map (to_z w16) c.loop-x.above) (map (to_z w16) c.loop-x.above_left)
+    c.whole_sums-sums.result left (bit_of c.dots_of.result) within (omega arith) (byte k within)
+    (value k within) (c.loop-x.invariant.left_is k within) (above_right_is old k x _ (right k within)) (above_is old k x _ (c.loop-x.invariant.above_is k within))
+    (above_left_is old k x _ (c.requires.left k within) (c.loop-x.invariant.corner_is k within))
     (c.loop-x.invariant.left_small k within) (rw (right k within) (c.requires.errors (x + 1 + 1) k within)) (rw (c.loop-x.invariant.above_is k within) (c.requires.errors (x + 1) k within))
     (rw (c.loop-x.invariant.corner_is k within) (c.requires.errors x k within))
     c.whole_sums-sums.ensures.eight (c.whole_sums-sums.ensures.sums k within)

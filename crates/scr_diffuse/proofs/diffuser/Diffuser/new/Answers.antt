@@ -3,6 +3,7 @@ use Rattle.std.proofs.Common.{◌≡◌, ◌+◌, ℤ, pos, List, length, inl, i
 use Rattle.std.specs.Prelude.{replicate}
 use Rattle.std.proofs.lemmas.Bool.{cases_lt}
 use Rattle.std.proofs.lemmas.List.{get_or-replicate, get_or_past}
+use Rattle.scr_diffuse.specs.Diffuser.{joined}
 use Rattle.scr_diffuse.specs.Passes.{number_at}
 use Rattle.scr_diffuse.proofs.StandLemmas.{stand_at_start}
 use Rattle.scr_diffuse.proofs.diffuser.Diffuser.new.Goals as goal
@@ -13,7 +14,7 @@ invariant_of-result c =
     let items : List ℤ = c.in_ok-vec.field-0.items in
     let size : length items ≡ n = omega (arith, c.in_ok-vec.ensures.len) in
     let zeros : items ≡ replicate n (pos 0) = c.in_ok-vec.ensures.items_if_clones_equal (λ y e. e) in
-    stand_at_start _ items c.args.width c.new.ensures size (λ k.
+    stand_at_start _ items c.args.width (ap joined c.new.ensures) size (λ k.
     elim (cases_lt k n) [
       | inl inside ↦ ap (λ list. number_at list k) zeros ∙ get_or-replicate n k (pos 0) (pos 0) inside
       | inr outside ↦ get_or_past items k (pos 0) (omega arith)

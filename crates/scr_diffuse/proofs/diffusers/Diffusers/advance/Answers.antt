@@ -40,8 +40,8 @@ invariant_of-self c =
     let long : length c.deref_mut-2.result.now ≡ length before = ap length c.deref_mut-2.ensures.value in
     let whole : length dots ≡ length before = omega arith in
     let wide : (k : ℕ) → k < 8 → length (row_in c.args.values k) ≡ length before = λ k within. c.requires.width k within ∙ ap (λ (p : EightFronts). p.width) (sym c.self.view_is) in
-    let stand : StandBelowAll c.then-self-inside.result.rows new dots =
-    stand_all_next c.self.inside.rows.rows _ (rows_in c.args.values) items new before dots c.self.invariant.stand c.then-self-inside.ensures same whole wide
+    let stand : StandBelowAll c.then-self-inside.result.steps new dots =
+    stand_all_next c.self.inside.rows.steps _ (rows_in c.args.values) items new before dots c.self.invariant.stand c.then-self-inside.ensures same whole wide
     (λ k p within. c.diffuse_rows.ensures.errors k p within ∙ ap (λ places. error_left (errors_in (lane_of places k)) (row_in c.args.values k) p) c.deref_mut.ensures.value)
     c.diffuse_rows.ensures.small
     (λ k x within below. c.diffuse_rows.ensures.dots k x within (omega arith) ∙ ap (λ places. Rattle.scr_diffuse.specs.Diffusion.prints (Rattle.scr_diffuse.specs.Diffusion.v_below (errors_in (lane_of places k)) (row_in c.args.values k) x)) c.deref_mut.ensures.value) in
@@ -51,6 +51,6 @@ invariant_of-self c =
     let lent_columns : take c.self.inside.columns.len (columns ++ drop (length columns) c.self.inside.columns.items) ≡ columns =
     lent_whole c.self.inside.columns.len columns c.self.inside.columns.items (omega arith) in
     record {
-      stand = stand_lent c.then-self-inside.result.rows c.self.inside.errors.len c.self.inside.dots.len new items dots before (omega arith) (omega arith) stand;
+      stand = stand_lent c.then-self-inside.result.steps c.self.inside.errors.len c.self.inside.dots.len new items dots before (omega arith) (omega arith) stand;
       room = ap length lent_columns ∙ filled ∙ c.self.invariant.room ∙ ap (λ (n : ℕ). 8 * n) (sym whole ∙ sym (ap length lent_dots));
     }

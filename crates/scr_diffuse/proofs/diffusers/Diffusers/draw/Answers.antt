@@ -11,7 +11,7 @@ pub returns : goal.returns
 returns c =
     let dots : List ℕ = c.self.inside.dots.items in
     let page = c.args.page in
-    let rows = c.self.inside.rows.rows in
+    let rows = c.self.inside.rows.steps in
     let some : 0 < length rows = subst (λ (f : EightFronts). 0 < length f.rows) (sym c.self.view_is) c.requires.handed in
     let set : SetsBits (λ x. bit_of (slice_index dots x) page) c.args.from (length dots) c.args.bits.now c.set_dots.new.bits =
     subst (λ (all : List ℕ). SetsBits (λ x. bit_of (slice_index all x) page) c.args.from (length all) c.args.bits.now c.set_dots.new.bits) c.deref.ensures.value c.set_dots.ensures in

@@ -12,7 +12,7 @@ invariant_of-self c =
     let size : length new ≡ length items = omega (arith, ap length c.deref_mut.ensures.value) in
     let whole : c.self.inside.errors.len ≡ length new = omega arith in
     record {
-      stand = subst (λ (places : List (List ℤ)). StandBelowAll c.new-self-inside.result.rows places c.self.inside.dots.items) (sym (take_at new _ c.self.inside.errors.len (omega arith)))
+      stand = subst (λ (places : List (List ℤ)). StandBelowAll c.new-self-inside.result.steps places c.self.inside.dots.items) (sym (take_at new _ c.self.inside.errors.len (omega arith)))
           (stand_all_at_start _ new c.self.inside.dots.items c.new-self-inside.ensures (size ∙ c.self.invariant.stand.room) (λ p k within. c.clear.ensures p k));
       room = c.self.invariant.room;
     }
