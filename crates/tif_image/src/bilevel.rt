@@ -1,7 +1,7 @@
 // Bilevel images: one sample of one bit a pixel, linework or a mask (TIFF 6.0, Sections 3 and 8).
 use crate::check::check_image;
 use crate::usage::{BilevelUse, Usage};
-use pr_base::{TagFault, row_bytes};
+use pr_base::TagFault;
 use std::marker::Model;
 use tif_dir::tag;
 use tif_strips::{RowCursor, Shape, Strips};
@@ -81,15 +81,6 @@ impl<'a> Bilevel<'a> {
         ensures passed { bilevel_shape self.now.usage self.now.bytes ≡ Ok result }
     {
         self.shape
-    }
-
-    /// The bytes of a row.
-    pub fn row_len(&self) -> usize
-        ensures len { result ≡ row_length self.now.shape }
-        ensures pixels { result ≡ row_size self.now.shape.width }
-        ensures sides { (self.now.shape.width ≤ 65535) × (self.now.shape.length ≤ 65535) }
-    {
-        row_bytes(self.shape.width)
     }
 
     /// The rows from the first, as they are stored: eight pixels a byte, the lower column in the higher bit.

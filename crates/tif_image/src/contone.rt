@@ -69,15 +69,6 @@ impl<'a> Contone<'a> {
         self.shape
     }
 
-    /// The bytes of a row.
-    pub fn row_len(&self) -> usize
-        ensures len { result ≡ row_length self.now.shape }
-        ensures pixels { result ≡ 4 * self.now.shape.width }
-        ensures sides { (self.now.shape.width ≤ 65535) × (self.now.shape.length ≤ 65535) }
-    {
-        4 * self.shape.width as usize
-    }
-
     /// The rows from the first. A row has four bytes a pixel: cyan, magenta, yellow and black, where 0 is
     /// no ink and 255 is full ink.
     pub fn rows(&self) -> RowCursor<'a>
