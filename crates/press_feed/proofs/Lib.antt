@@ -1,3 +1,4 @@
+pub mod AheadLemmas
 pub mod BandLemmas
 pub mod FeedLemmas
 pub mod InkLemmas

@@ -1,5 +1,5 @@
 -- How the two pages of a plate go from row to row.
-use Rattle.std.proofs.Common.{◌≡◌, ℕ, ◌+◌, ◌-◌, ◌<◌, List, [], ap, sym, refl, subst, ◌∙◌}
+use Rattle.std.proofs.Common.{◌≡◌, ℕ, ◌+◌, ◌-◌, ◌<◌, Bool, List, [], ap, sym, refl, subst, ◌∙◌}
 use Rattle.std.specs.Prelude.{None}
 use Rattle.std.specs.Option.{ForSome}
 use Rattle.pr_base.specs.declared.ink.Ink.{Ink}
@@ -23,14 +23,14 @@ of_moved job side old new page shown is new_is =
     subst {A = SideData} (IsOf job side) (sym new_is) (record { plan_is = is.plan_is; files_are = is.files_are; side_is = is.side_is })
 
 -- at the top of two pages
-pub IsPair-begin : (job : JobData) (left right left' right' : SideData) (a b : ℕ) (screens screens' : Screens) → IsPair job left right screens
-    → left' ≡ at_top a left → right' ≡ at_top b right → screens' ≡ from_top screens → IsPair job left' right' screens'
-IsPair-begin job left right left' right' a b screens screens' is left_is right_is screens_are = record {
+pub IsPair-begin : (job : JobData) (apart : Bool) (left right left' right' : SideData) (a b : ℕ) (screens screens' : Screens) → IsPair job apart left right screens
+    → left' ≡ at_top a left → right' ≡ at_top b right → screens' ≡ from_top screens → IsPair job apart left' right' screens'
+IsPair-begin job apart left right left' right' a b screens screens' is left_is right_is screens_are = record {
   plan_is = is.plan_is;
   left_is = of_moved job Left left left' a 0 is.left_is left_is;
   right_is = of_moved job Right right right' b 0 is.right_is right_is;
   level = ap {A = SideData} (λ s. s.shown) left_is ∙ sym (ap {A = SideData} (λ s. s.shown) right_is);
-  screens_are = subst {A = Screens} (AreScreens job.plan) (sym screens_are) (screens-from_top job.plan screens is.screens_are);
+  screens_are = subst {A = Screens} (AreScreens job.plan apart) (sym screens_are) (screens-from_top job.plan apart screens is.screens_are);
   diffused = subst {A = SideData} (λ l. HaveDiffused job.plan job.files l.page right'.page l.shown screens') (sym left_is)
       (subst {A = Screens} (HaveDiffused job.plan job.files a right'.page 0) (sym screens_are)
       (diffused-from_top job.plan job.files left.page right.page a right'.page left.shown screens is.diffused));
@@ -41,9 +41,9 @@ none_diffused : (plan : PlanData) (files : List (List ℕ)) (left right y : ℕ)
     → HaveDiffused plan files left right y screens
 none_diffused plan files left right y screens process spot = record { process = λ front there. cc; spot = λ front there. cc }
 
-pub IsPair-shown : (job : JobData) (left right left' right' : SideData) (shown : ℕ) (screens : Screens) → IsPair job left right screens → screens.process ≡ None → screens.spot ≡ None
-    → left' ≡ record left { shown = shown } → right' ≡ record right { shown = shown } → IsPair job left' right' screens
-IsPair-shown job left right left' right' shown screens is process spot left_is right_is = record {
+pub IsPair-shown : (job : JobData) (apart : Bool) (left right left' right' : SideData) (shown : ℕ) (screens : Screens) → IsPair job apart left right screens → screens.process ≡ None → screens.spot ≡ None
+    → left' ≡ record left { shown = shown } → right' ≡ record right { shown = shown } → IsPair job apart left' right' screens
+IsPair-shown job apart left right left' right' shown screens is process spot left_is right_is = record {
   plan_is = is.plan_is;
   left_is = of_moved job Left left left' left.page shown is.left_is left_is;
   right_is = of_moved job Right right right' right.page shown is.right_is right_is;
@@ -53,12 +53,12 @@ IsPair-shown job left right left' right' shown screens is process spot left_is r
 }
 
 -- one row more of both pages is shown, and taken into the diffusion
-pub IsPair-next : (job : JobData) (left right left' right' : SideData) (on_left on_right : Planes) (screens screens' : Screens) → IsPair job left right screens
+pub IsPair-next : (job : JobData) (apart : Bool) (left right left' right' : SideData) (on_left on_right : Planes) (screens screens' : Screens) → IsPair job apart left right screens
     → left' ≡ record left { shown = left.shown + 1 } → right' ≡ record right { shown = right.shown + 1 }
     → (0 < left'.shown → (ink : Ink) → plane_of on_left ink ≡ printed_row left'.plan left'.files left'.page ink (left'.shown - 1))
     → (0 < right'.shown → (ink : Ink) → plane_of on_right ink ≡ printed_row right'.plan right'.files right'.page ink (right'.shown - 1))
-    → screens' ≡ behind_planes on_left on_right screens → IsPair job left' right' screens'
-IsPair-next job left right left' right' on_left on_right screens screens' is left_is right_is left_shows right_shows screens_are =
+    → screens' ≡ behind_planes on_left on_right screens → IsPair job apart left' right' screens'
+IsPair-next job apart left right left' right' on_left on_right screens screens' is left_is right_is left_shows right_shows screens_are =
     let plans : left.plan ≡ right.plan = is.left_is.plan_is ∙ sym is.right_is.plan_is in
     let files : left.files ≡ right.files = is.left_is.files_are ∙ sym is.right_is.files_are in
     let own : HaveDiffused left.plan left.files left.page right.page left.shown screens =
@@ -71,7 +71,7 @@ IsPair-next job left right left' right' on_left on_right screens screens' is lef
       left_is = of_moved job Left left left' left.page (left.shown + 1) is.left_is left_is;
       right_is = of_moved job Right right right' right.page (right.shown + 1) is.right_is right_is;
       level = ap {A = SideData} (λ s. s.shown) left_is ∙ ap (λ n. n + 1) is.level ∙ sym (ap {A = SideData} (λ s. s.shown) right_is);
-      screens_are = subst {A = Screens} (AreScreens job.plan) (sym screens_are) (screens-behind job.plan on_left on_right screens is.screens_are);
+      screens_are = subst {A = Screens} (AreScreens job.plan apart) (sym screens_are) (screens-behind job.plan apart on_left on_right screens is.screens_are);
       diffused = subst {A = SideData} (λ l. HaveDiffused job.plan job.files l.page right'.page l.shown screens') (sym left_is)
           (subst {A = ℕ} (λ r. HaveDiffused job.plan job.files left.page r (left.shown + 1) screens') (sym (ap {A = SideData} (λ s. s.page) right_is))
           (subst {A = List (List ℕ)} (λ fs. HaveDiffused job.plan fs left.page right.page (left.shown + 1) screens') is.left_is.files_are
@@ -79,10 +79,10 @@ IsPair-next job left right left' right' on_left on_right screens screens' is lef
     }
 
 -- before any row
-pub IsPair-open : (job : JobData) (left right : SideData) (screens : Screens) → IsPlan job.plan → left ≡ opened_side job Left → right ≡ opened_side job Right → AreScreens job.plan screens
+pub IsPair-open : (job : JobData) (apart : Bool) (left right : SideData) (screens : Screens) → IsPlan job.plan → left ≡ opened_side job Left → right ≡ opened_side job Right → AreScreens job.plan apart screens
     → ForSome screens.process (λ front. front ≡ record { width = job.plan.page_width; rows = [] }) → ForSome screens.spot (λ front. front ≡ record { width = job.plan.page_width; rows = [] })
-    → IsPair job left right screens
-IsPair-open job left right screens is left_is right_is are process spot = record {
+    → IsPair job apart left right screens
+IsPair-open job apart left right screens is left_is right_is are process spot = record {
   plan_is = is;
   left_is = opened_of job Left left left_is;
   right_is = opened_of job Right right right_is;

@@ -1,5 +1,5 @@
 -- The diffusion of two pages, from row to row.
-use Rattle.std.proofs.Common.{◌≡◌, ◌≢◌, ℕ, ◌+◌, ◌-◌, ◌<◌, ◌≤◌, true, List, [], ◌∷◌, length, map, get_or, refl, ap, sym, ◌∙◌, subst, arith}
+use Rattle.std.proofs.Common.{◌≡◌, ◌≢◌, ℕ, ◌+◌, ◌-◌, ◌<◌, ◌≤◌, Bool, true, false, List, [], ◌∷◌, length, map, get_or, refl, ap, sym, ◌∙◌, subst, arith}
 use Rattle.std.specs.Prelude.{Option, Some, None, slice_get}
 use Rattle.std.specs.List.{range_with_len}
 use Rattle.std.specs.Option.{ForSome, option_map}
@@ -71,21 +71,21 @@ some_kept f None some = λ e. some refl
 some_kept f (Some a) some = λ e. cc
 
 -- they screen as before
-screens_kept : (plan : PlanData) (f g : EightFronts → EightFronts) (screens : Screens) → AreScreens plan screens → AreScreens plan (record screens { process = option_map f screens.process; spot = option_map g screens.spot })
-screens_kept plan f g screens are = record { screeners = are.screeners; diffused = by_ink }
+screens_kept : (plan : PlanData) (apart : Bool) (f g : EightFronts → EightFronts) (screens : Screens) → AreScreens plan apart screens → AreScreens plan apart (record screens { process = option_map f screens.process; spot = option_map g screens.spot })
+screens_kept plan apart f g screens are = record { screeners = are.screeners; diffused = by_ink }
   where
-    by_ink : (ink : Ink) → is_diffused plan ink ≡ true → bank_of (record screens { process = option_map f screens.process; spot = option_map g screens.spot }) ink ≢ None
-    by_ink C diffused = some_kept f screens.process (are.diffused C diffused)
-    by_ink M diffused = some_kept f screens.process (are.diffused M diffused)
-    by_ink Y diffused = some_kept f screens.process (are.diffused Y diffused)
-    by_ink K diffused = some_kept f screens.process (are.diffused K diffused)
-    by_ink S diffused = some_kept g screens.spot (are.diffused S diffused)
+    by_ink : (ink : Ink) → is_diffused plan ink ≡ true → apart ≡ false → bank_of (record screens { process = option_map f screens.process; spot = option_map g screens.spot }) ink ≢ None
+    by_ink C diffused here = some_kept f screens.process (are.diffused C diffused here)
+    by_ink M diffused here = some_kept f screens.process (are.diffused M diffused here)
+    by_ink Y diffused here = some_kept f screens.process (are.diffused Y diffused here)
+    by_ink K diffused here = some_kept f screens.process (are.diffused K diffused here)
+    by_ink S diffused here = some_kept g screens.spot (are.diffused S diffused here)
 
-pub screens-from_top : (plan : PlanData) (screens : Screens) → AreScreens plan screens → AreScreens plan (from_top screens)
-screens-from_top plan screens are = screens_kept plan without_rows without_rows screens are
+pub screens-from_top : (plan : PlanData) (apart : Bool) (screens : Screens) → AreScreens plan apart screens → AreScreens plan apart (from_top screens)
+screens-from_top plan apart screens are = screens_kept plan apart without_rows without_rows screens are
 
-pub screens-behind : (plan : PlanData) (left right : Planes) (screens : Screens) → AreScreens plan screens → AreScreens plan (behind_planes left right screens)
-screens-behind plan left right screens are = screens_kept plan (behind_rows (process_rows left right)) (behind_rows (spot_rows left right)) screens are
+pub screens-behind : (plan : PlanData) (apart : Bool) (left right : Planes) (screens : Screens) → AreScreens plan apart screens → AreScreens plan apart (behind_planes left right screens)
+screens-behind plan apart left right screens are = screens_kept plan apart (behind_rows (process_rows left right)) (behind_rows (spot_rows left right)) screens are
 
 -- the rows of one ink of a page in its lane
 lane_front : (rows : Rows) (plan : PlanData) (files : List (List ℕ)) (left right y page lane : ℕ) (ink : Ink)

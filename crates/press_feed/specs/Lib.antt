@@ -6,5 +6,8 @@ pub mod Sides
 pub mod SidePages
 pub mod Plates
 pub mod Pair
+pub mod Ahead
+pub mod Chain
+pub mod Blocks
 pub mod Band
 pub mod Feed

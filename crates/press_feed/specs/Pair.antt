@@ -1,5 +1,5 @@
 -- The two pages of a plate, shown side by side.
-use Rattle.std.specs.Prelude.{◌≡◌, ℕ}
+use Rattle.std.specs.Prelude.{◌≡◌, ℕ, Bool}
 use Rattle.plan_json.specs.Plan.{IsPlan}
 use Rattle.plan_rows.specs.declared.group.Group.{Group}
 use Rattle.press_feed.specs.declared.screens.Screens.{Screens}
@@ -12,9 +12,16 @@ use Rattle.press_job.specs.Job.{JobData}
 -- two pages of a job, and how many of their rows were shown
 pub record PairData : Type 0 where
   pub job : JobData
+  -- what is diffused is drawn apart
+  pub apart : Bool
   pub left : ℕ
   pub right : ℕ
   pub shown : ℕ
+
+-- the page that is shown on a side
+abbrev pub page_shown : Side → PairData → ℕ
+page_shown Left pair = pair.left
+page_shown Right pair = pair.right
 
 -- the pages of a group, of which so many rows were shown
 abbrev pub of_group : Group → ℕ → PairData → PairData
@@ -29,10 +36,10 @@ pub record IsOf (job : JobData) (side : Side) (pages : SideData) : Type 0 where
   pub side_is : pages.side ≡ side
 
 -- as many rows were shown on both sides, and these were diffused where an ink is
-pub record IsPair (job : JobData) (left right : SideData) (screens : Screens) : Type 0 where
+pub record IsPair (job : JobData) (apart : Bool) (left right : SideData) (screens : Screens) : Type 0 where
   pub plan_is : IsPlan job.plan
   pub left_is : IsOf job Left left
   pub right_is : IsOf job Right right
   pub level : left.shown ≡ right.shown
-  pub screens_are : AreScreens job.plan screens
+  pub screens_are : AreScreens job.plan apart screens
   pub diffused : HaveDiffused job.plan job.files left.page right.page left.shown screens

@@ -4,8 +4,11 @@
 #![tactic(auto)]
 
 mod band;
+mod byte_row;
+mod chain;
 mod feed;
 mod frame;
+mod page_blocks;
 mod page_pair;
 mod plane;
 mod printed_row;
@@ -13,6 +16,7 @@ mod row_maker;
 mod screener;
 mod screens;
 mod share;
+mod sheet;
 mod side;
 mod side_pages;
 mod tones;

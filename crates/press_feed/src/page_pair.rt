@@ -1,11 +1,19 @@
 // The two pages of a plate, shown and diffused row by row.
-ghost use Rattle.std.specs.Prelude.{◌≡◌, ℕ, ◌+◌, ◌<◌, ◌≤◌, IfOk, Some, length, replicate};
+ghost use Rattle.std.specs.Prelude.{◌≡◌, ℕ, ◌+◌, ◌-◌, ◌<◌, ◌≤◌, IfOk, Some, false, length, replicate, true};
 ghost use Rattle.pr_base.specs.Row.{row_size};
+ghost use Rattle.pr_base.specs.declared.ink.Ink.{Ink as InkData};
+ghost use Rattle.page_layers.specs.Inks.{HasWidth, plane_of};
 ghost use Rattle.plan_json.specs.Data.{plate_width};
 ghost use Rattle.plan_json.specs.Plan.{IsPlan};
+ghost use Rattle.press_feed.specs.Blocks.{DrawsPages};
+ghost use Rattle.press_feed.specs.Pair.{page_shown};
 ghost use Rattle.press_feed.specs.Plates.{ShowsPages, page_row};
+ghost use Rattle.press_feed.specs.Screener.{is_diffused};
+ghost use Rattle.press_job.specs.Printing.{printed_row};
 ghost use Rattle.press_feed.specs.declared.side.Side.TheVariants.{Left, Right};
 
+use crate::byte_row::clear;
+use crate::printed_row::PrintedRow;
 use crate::screens::Screens;
 use crate::side::Side;
 use crate::side_pages::SidePages;
@@ -20,6 +28,8 @@ use std::marker::Model;
 #[derive(Drop)]
 pub(crate) struct PagePair<'j> {
     job: &'j Job,
+    /// What is diffused is drawn by others.
+    apart: bool,
     left: SidePages<'j>,
     right: SidePages<'j>,
     screens: Screens,
@@ -34,12 +44,13 @@ impl<'j> Model for PagePair<'j> {
 
     ghost view = { λ p. record {
       job = p.job.now;
+      apart = p.apart;
       left = p.left.page;
       right = p.right.page;
       shown = p.left.shown;
     } };
 
-    ghost invariant = { λ p. IsPair p.job.now p.left p.right p.screens };
+    ghost invariant = { λ p. IsPair p.job.now p.apart p.left p.right p.screens };
 }
 
 impl<'j> PagePair<'j> {
@@ -47,20 +58,28 @@ impl<'j> PagePair<'j> {
 
     /// Takes the room for the pages. The images of the first page are tested again, and pass as they did when
     /// the job was prepared.
-    pub(crate) fn open(alloc: Global, job: &'j Job) -> Result<PagePair<'j>, NoMemory>
+    pub(crate) fn open(alloc: Global, job: &'j Job, apart: bool) -> Result<PagePair<'j>, NoMemory>
         ensures pages { IfOk result (λ pair. pair
-            ≡ record { job = job.now; left = 0; right = 0; shown = 0 }) }
+            ≡ record { job = job.now; apart = apart; left = 0; right = 0; shown = 0 }) }
         ensures valid { IsPlan job.now.plan }
     {
-        let screens = Screens::of(alloc, job.plan())?;
+        let screens = Screens::of(alloc, job.plan(), apart)?;
         let left = SidePages::open(alloc, job, Side::Left)?;
         let right = SidePages::open(alloc, job, Side::Right)?;
         Ok(PagePair {
             job,
+            apart,
             left,
             right,
             screens,
         })
+    }
+
+    /// The rows of a page.
+    pub(crate) fn height(&self) -> u32
+        ensures { result ≡ self.now.job.plan.page_height }
+    {
+        self.job.plan().page_height
     }
 
     /// Shows row `y` of the pages of a group, whatever was shown before. The rows above are diffused where an
@@ -134,11 +153,39 @@ impl<'j> PagePair<'j> {
         self.screens.advance(self.left.row(), self.right.row());
     }
 
+    /// The row of a side's page that was shown last.
+    pub(crate) fn row(&self, side: Side) -> &PrintedRow
+        ensures wide { HasWidth result.now self.now.job.plan.page_width }
+        ensures shows { 0 < self.now.shown → (ink : InkData) → plane_of result.now ink
+            ≡ printed_row self.now.job.plan self.now.job.files (page_shown side self.now) ink
+            (self.now.shown - 1) }
+    {
+        match side {
+            Side::Left => self.left.row(),
+            Side::Right => self.right.row(),
+        }
+    }
+
+    /// Draws a row of a plate that shows row `y` of the pages of a group, whatever was shown before: the two
+    /// pages in an ink, and nothing else.
+    pub(crate) fn draw_at(&mut self, group: &Group, ink: Ink, y: u32, bits: &mut [u8])
+        requires within { y < self.old.job.plan.page_height }
+        requires own { is_diffused self.old.job.plan ink ≡ true → self.old.apart ≡ false }
+        requires row { length bits.old ≡ row_size (plate_width self.old.job.plan) }
+        ensures pages { DrawsPages self.old.job group.now ink y bits.new }
+        ensures shown { self.new ≡ of_group group.now (y + 1) self.old }
+    {
+        clear(bits);
+        self.show(group, y);
+        self.draw(ink, y, bits);
+    }
+
     /// Sets the pixels of an ink on a blank row of the plate that shows row `y` of the pages, the row that
     /// was shown last.
     pub(crate) fn draw(&self, ink: Ink, y: u32, bits: &mut [u8])
         requires shown { self.now.shown ≡ y + 1 }
         requires within { y < self.now.job.plan.page_height }
+        requires own { is_diffused self.now.job.plan ink ≡ true → self.now.apart ≡ false }
         requires blank { bits.old ≡ replicate (row_size (plate_width self.now.job.plan)) 0 }
         ensures { (row : ℕ) → page_row self.now.job.plan row ≡ Some y →
             ShowsPages self.now.job.plan self.now.job.files self.now.left self.now.right ink row bits.new }

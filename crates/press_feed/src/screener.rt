@@ -1,8 +1,11 @@
 // How an ink is screened: by a tile, or by error diffusion.
 ghost use Rattle.std.specs.Prelude.{◌≡◌, ℕ, ◌<◌, IfOk, IsTrue, length};
+ghost use Rattle.std.specs.Option.{ForSome};
 ghost use Rattle.plan_parts.specs.Parts.{is_bayer};
 ghost use Rattle.scr_tile.specs.AnyTile.{threshold_of};
 ghost use Rattle.scr_tile.specs.Tile.{threshold_at};
+ghost use Rattle.press_feed.specs.Blocks.{IsOnly};
+ghost use Rattle.press_feed.specs.Screener.{is_diffused};
 ghost use Rattle.press_job.specs.Printing.{own_threshold};
 
 use plan_json::{Plan, Screen};
@@ -31,6 +34,32 @@ impl Screener {
             Screen::Own(tile) => Ok(Screener::Tile(own_tile(alloc, plan, tile)?)),
         }
     }
+}
+
+/// Whether the plan has an ink diffused.
+pub(crate) fn has_diffused(plan: &Plan, ink: Ink) -> bool
+    ensures { result ≡ is_diffused plan.now ink }
+{
+    match plan.screens[ink.slot()] {
+        Screen::Diffuse => true,
+        _ => false,
+    }
+}
+
+/// The ink that is diffused, if it is one alone.
+pub(crate) fn lone_diffused(plan: &Plan) -> Option<Ink>
+    ensures { ForSome result (IsOnly plan.now) }
+{
+    let mut found = None;
+    for ink in Ink::ALL {
+        if has_diffused(plan, ink) {
+            if found.is_some() {
+                return None;
+            }
+            found = Some(ink);
+        }
+    }
+    found
 }
 
 /// The Bayer tile of a side that the plan may name.

@@ -13,9 +13,9 @@ ghost use Rattle.press_feed.specs.Screener.{AreScreeners, diffuses, is_diffused}
 ghost use Rattle.press_feed.specs.Screens.{AreScreens, behind_planes, behind_rows, bank_of, bit_by, from_top, front_at, lane_of, last_bit, process_rows, spot_rows, without_rows};
 
 use crate::printed_row::PrintedRow;
-use crate::screener::Screener;
+use crate::screener::{Screener, has_diffused};
 use crate::side::Side;
-use plan_json::{Plan, Screen};
+use plan_json::Plan;
 use pr_base::{Ink, NoMemory};
 use scr_diffuse::Diffusers;
 use scr_tile::screen_row;
@@ -33,17 +33,18 @@ pub(crate) struct Screens {
 }
 
 impl Screens {
-    /// The screens of a plan, at the top of two pages.
-    pub(crate) fn of(alloc: Global, plan: &Plan) -> Result<Screens, NoMemory>
-        ensures screens { IfOk result (AreScreens plan.now) }
+    /// The screens of a plan, at the top of two pages. Where what is diffused is drawn `apart`, there are no
+    /// diffusers.
+    pub(crate) fn of(alloc: Global, plan: &Plan, apart: bool) -> Result<Screens, NoMemory>
+        ensures screens { IfOk result (AreScreens plan.now apart) }
         ensures process { IfOk result (λ screens. ForSome screens.process
             (λ front. front ≡ record { width = plan.now.page_width; rows = [] })) }
         ensures spot { IfOk result (λ screens. ForSome screens.spot
             (λ front. front ≡ record { width = plan.now.page_width; rows = [] })) }
     {
         let screeners = open_screeners(alloc, plan)?;
-        let process = open_process(alloc, plan)?;
-        let spot = open_spot(alloc, plan)?;
+        let process = open_process(alloc, plan, apart)?;
+        let spot = open_spot(alloc, plan, apart)?;
         Ok(Screens {
             screeners,
             process,
@@ -130,27 +131,18 @@ fn open_screeners(alloc: Global, plan: &Plan) -> Result<Vec<Screener>, NoMemory>
     Ok(screeners)
 }
 
-/// Whether the plan has an ink diffused.
-fn has_diffused(plan: &Plan, ink: Ink) -> bool
-    ensures { result ≡ is_diffused plan.now ink }
-{
-    match plan.screens[ink.slot()] {
-        Screen::Diffuse => true,
-        _ => false,
-    }
-}
-
-/// The diffusers of C, M, Y and K, if one of these inks is diffused.
-fn open_process(alloc: Global, plan: &Plan) -> Result<Option<Diffusers>, NoMemory>
+/// The diffusers of C, M, Y and K, if one of these inks is diffused, and not apart.
+fn open_process(alloc: Global, plan: &Plan, apart: bool) -> Result<Option<Diffusers>, NoMemory>
     ensures top { IfOk result (λ process. ForSome process
         (λ front. front ≡ record { width = plan.now.page_width; rows = [] })) }
     ensures some { IfOk result (λ process. (ink : InkData) → ink ≢ S → is_diffused plan.now ink ≡ true →
-        process ≢ None) }
+        apart ≡ false → process ≢ None) }
 {
-    if has_diffused(plan, Ink::C)
-        || has_diffused(plan, Ink::M)
-        || has_diffused(plan, Ink::Y)
-        || has_diffused(plan, Ink::K)
+    if !apart
+        && (has_diffused(plan, Ink::C)
+            || has_diffused(plan, Ink::M)
+            || has_diffused(plan, Ink::Y)
+            || has_diffused(plan, Ink::K))
     {
         Ok(Some(Diffusers::new(alloc, plan.page_width)?))
     } else {
@@ -158,13 +150,13 @@ fn open_process(alloc: Global, plan: &Plan) -> Result<Option<Diffusers>, NoMemor
     }
 }
 
-/// The diffusers of S, if it is diffused.
-fn open_spot(alloc: Global, plan: &Plan) -> Result<Option<Diffusers>, NoMemory>
+/// The diffusers of S, if it is diffused, and not apart.
+fn open_spot(alloc: Global, plan: &Plan, apart: bool) -> Result<Option<Diffusers>, NoMemory>
     ensures top { IfOk result (λ spot. ForSome spot
         (λ front. front ≡ record { width = plan.now.page_width; rows = [] })) }
-    ensures some { IfOk result (λ spot. is_diffused plan.now S ≡ true → spot ≢ None) }
+    ensures some { IfOk result (λ spot. is_diffused plan.now S ≡ true → apart ≡ false → spot ≢ None) }
 {
-    if has_diffused(plan, Ink::S) {
+    if !apart && has_diffused(plan, Ink::S) {
         Ok(Some(Diffusers::new(alloc, plan.page_width)?))
     } else {
         Ok(None)

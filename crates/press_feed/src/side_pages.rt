@@ -1,5 +1,5 @@
 // The pages that stand on one side of the plates, each read row by row.
-ghost use Rattle.std.specs.Prelude.{◌≡◌, ℕ, ◌+◌, ◌-◌, ◌*◌, ◌<◌, ◌≤◌, IfOk, length};
+ghost use Rattle.std.specs.Prelude.{◌≡◌, ◌≢◌, ℕ, ◌+◌, ◌-◌, ◌*◌, ◌<◌, ◌≤◌, IfOk, None, length, true};
 ghost use Rattle.std.specs.Option.{ForSome};
 ghost use Rattle.pr_base.specs.Bits.{SetsBits};
 ghost use Rattle.page_layers.specs.Inks.{HasWidth, plane_of};
@@ -7,7 +7,8 @@ ghost use Rattle.plan_rows.specs.Groups.{page_colour, page_spot};
 ghost use Rattle.pr_base.specs.declared.ink.Ink.{Ink as InkData};
 ghost use Rattle.press_job.specs.Layers.{layers_of, planned_layers};
 ghost use Rattle.press_job.specs.Printing.{page_bit, printed_row};
-ghost use Rattle.press_feed.specs.Screens.{AreScreens, IsFrontOf, bank_of, lane_of};
+ghost use Rattle.press_feed.specs.Screener.{AreScreeners, is_diffused};
+ghost use Rattle.press_feed.specs.Screens.{IsFrontOf, bank_of, lane_of};
 ghost use Rattle.press_feed.specs.Sides.{left_edge, page_before};
 
 use crate::printed_row::PrintedRow;
@@ -114,7 +115,8 @@ impl<'j> SidePages<'j> {
     pub(crate) fn draw(&self, screens: &Screens, ink: Ink, y: u32, bits: &mut [u8])
         requires shown { self.now.shown ≡ y + 1 }
         requires within { y < self.now.plan.page_height }
-        requires screens { AreScreens self.now.plan screens.now }
+        requires screens { AreScreeners self.now.plan screens.now.screeners.items }
+        requires some { is_diffused self.now.plan ink ≡ true → bank_of screens.now ink ≢ None }
         requires bank { ForSome (bank_of screens.now ink) (λ front. IsFrontOf self.now.plan self.now.files
             self.now.page ink (lane_of self.now.side ink) (y + 1) front) }
         requires room { left_edge self.now.plan self.now.side + self.now.plan.page_width

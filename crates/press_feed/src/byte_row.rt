@@ -1,0 +1,65 @@
+// Room for the bytes of one row.
+ghost use Rattle.std.specs.Prelude.{◌≡◌, ℕ, List, IfOk, length, replicate};
+ghost use Rattle.press_feed.specs.Chain.{AreRows};
+
+use pr_base::NoMemory;
+use std::alloc::Global;
+use std::marker::Model;
+
+/// The bytes of a row of values or of a plate. Contracts see the bytes.
+#[derive(Drop)]
+pub(crate) struct ByteRow {
+    bytes: Vec<u8>,
+}
+
+impl Model for ByteRow {
+    ghost use Rattle.std.specs.Prelude.{List, ℕ};
+
+    ghost Value = { List ℕ };
+
+    ghost view = { λ r. r.bytes.items };
+}
+
+impl ByteRow {
+    /// A row of so many bytes.
+    pub(crate) fn new(alloc: Global, len: usize) -> Result<ByteRow, NoMemory>
+        ensures { IfOk result (λ row. length row ≡ len) }
+    {
+        Ok(ByteRow {
+            bytes: vec![in alloc; 0; len]?,
+        })
+    }
+
+    /// Its bytes.
+    pub(crate) fn bytes(&self) -> &[u8]
+        ensures { result.now ≡ self.now }
+    {
+        &self.bytes
+    }
+
+    /// Becomes these bytes.
+    pub(crate) fn set(&mut self, bytes: &[u8])
+        requires { length bytes.now ≡ length self.old }
+        ensures { self.new ≡ bytes.now }
+    {
+        self.bytes.copy_from_slice(bytes);
+    }
+}
+
+/// So many rows of so many bytes.
+pub(crate) fn byte_rows(alloc: Global, count: usize, len: usize) -> Result<Vec<ByteRow>, NoMemory>
+    ensures { IfOk result (λ rows. AreRows count len rows.items) }
+{
+    let mut rows = Vec::with_capacity(alloc, count)?;
+    for _row in 0..count {
+        rows.push(ByteRow::new(alloc, len)?)?;
+    }
+    Ok(rows)
+}
+
+/// No pixel of a row.
+pub(crate) fn clear(bits: &mut [u8])
+    ensures { bits.new ≡ replicate (length bits.old) 0 }
+{
+    bits.fill(0);
+}
