@@ -2,14 +2,15 @@
  * it is compiled with, by straightforward loops: what `plateroom run` is measured against. It reads ImageWidth, ImageLength
  * and StripOffsets and tests nothing. Then it prints how many pixels of each plate print in each of 32 keys, counted pixel
  * by pixel, where KEYS is set.
- * usage: run LEFT RIGHT bayer8|diffuse PLATES..; the plate of ink I becomes PLATES-I.tif, for each PLATES */
+ * usage: run LEFT RIGHT bayer8|diffuse|black|black-alone PLATES..; the plate of ink I becomes PLATES-I.tif, for each PLATES;
+ * of black K is diffused and the other inks aren't, and of black-alone there is no other ink */
 #include "plate.h"
 
 #ifndef SCALE
 #define SCALE 4
 #endif
 
-enum { KEYS = 32 };
+enum { KEYS = 32, BLACK = INKS - 1 };
 
 static uint64_t counts[INKS][KEYS];
 
@@ -80,22 +81,23 @@ int main(int argc, char **argv) {
             return 5;
     fill_thresholds();
     int diffused = strcmp(argv[3], "diffuse") == 0, counted = getenv("KEYS") != NULL;
+    int black = strncmp(argv[3], "black", 5) == 0, first = strcmp(argv[3], "black-alone") == 0 ? BLACK : 0;
     uint32_t wide = SCALE * pages[0].image.width, length = SCALE * pages[0].image.length;
     uint32_t row = 2 * wide / 8, each = 8192 / row ? 8192 / row : 1;
     uint8_t *bits = malloc(row), *packed = malloc(row + (row + 127) / 128);
     for (int site = 0; site < sites; site++)
-        for (int ink = 0; ink < INKS; ink++)
+        for (int ink = first; ink < INKS; ink++)
             if (begin(&plates[site][ink], argv[4 + site], ink, (length + each - 1) / each))
                 return 7;
     for (uint32_t y = 0; y < length; y++) {
         if (y % SCALE == 0)
             for (int side = 0; side < 2; side++)
                 spread(&pages[side], y / SCALE);
-        for (int ink = 0; ink < INKS; ink++) {
+        for (int ink = first; ink < INKS; ink++) {
             for (int side = 0; side < 2; side++) {
                 struct page *page = &pages[side];
                 uint8_t *half = bits + side * wide / 8;
-                if (diffused)
+                if (diffused || (black && ink == BLACK))
                     diffuse_row(page->values[ink], page->errors[ink], wide, half);
                 else
                     tile_row(page->values[ink], wide, thresholds[y % 8], half);
@@ -112,7 +114,7 @@ int main(int argc, char **argv) {
         }
     }
     for (int site = 0; site < sites; site++)
-        for (int ink = 0; ink < INKS; ink++)
+        for (int ink = first; ink < INKS; ink++)
             if (finish(&plates[site][ink], 2 * wide, length, each))
                 return 7;
     if (counted)
