@@ -7,6 +7,7 @@ use Rattle.std.proofs.lemmas.List.Elements.{All-head, All-tail}
 use Rattle.plan_parts.specs.Data.{LayerData, PageData}
 use Rattle.plan_parts.specs.Parts.{IsLayer}
 use Rattle.plan_json.specs.Data.{PlanData}
+use Rattle.replate.specs.declared.classes.Classes.{Classes}
 use Rattle.replate.specs.Classes.{AreClasses, class_of, classed, classed_page}
 use Rattle.replate.specs.Recipe.{LayerRecipe, PageRecipe, file_at, layer_recipe, page_recipe}
 use Rattle.replate.proofs.ClassLemmas.{class_tells}
@@ -35,31 +36,31 @@ page_is plan files page p within is =
 class_at : (olds files : List (List ℕ)) (classes : List ℕ) (i : ℕ) → classes ≡ map (class_of olds) files → i < length files → slice_index classes i ≡ class_of olds (file_at files i)
 class_at olds files classes i are within = ap (λ l. get_or l i 0) are ∙ get_or-map (class_of olds) files i [] 0 within
 
-module _ (olds news : List (List ℕ)) (before after : List ℕ) (are : AreClasses olds news before after) where
-  files_tell : (i j : ℕ) → i < length olds → j < length news → slice_index before i ≡ slice_index after j → file_at olds i ≡ file_at news j
+module _ (olds news : List (List ℕ)) (classes : Classes) (are : AreClasses olds news classes) where
+  files_tell : (i j : ℕ) → i < length olds → j < length news → slice_index classes.before.items i ≡ slice_index classes.after.items j → file_at olds i ≡ file_at news j
   files_tell i j left right same =
       class_tells olds (file_at olds i) (file_at news j) i left refl
-      (sym (class_at olds olds before i are.old left) ∙ same ∙ class_at olds news after j are.new right)
+      (sym (class_at olds olds classes.before.items i are.old left) ∙ same ∙ class_at olds news classes.after.items j are.new right)
 
-  files_same : (i j : ℕ) → i < length olds → j < length news → file_at olds i ≡ file_at news j → slice_index before i ≡ slice_index after j
+  files_same : (i j : ℕ) → i < length olds → j < length news → file_at olds i ≡ file_at news j → slice_index classes.before.items i ≡ slice_index classes.after.items j
   files_same i j left right same =
-      class_at olds olds before i are.old left ∙ ap (class_of olds) same ∙ sym (class_at olds news after j are.new right)
+      class_at olds olds classes.before.items i are.old left ∙ ap (class_of olds) same ∙ sym (class_at olds news classes.after.items j are.new right)
 
   masks_tell : (a b : Option ℕ) → IfSome a (λ i. i < length olds) → IfSome b (λ j. j < length news)
-      → option_map (slice_index before) a ≡ option_map (slice_index after) b → option_map (file_at olds) a ≡ option_map (file_at news) b
+      → option_map (slice_index classes.before.items) a ≡ option_map (slice_index classes.after.items) b → option_map (file_at olds) a ≡ option_map (file_at news) b
   masks_tell None None left right same = refl
   masks_tell None (Some j) left right same = absurd cc
   masks_tell (Some i) None left right same = absurd cc
-  masks_tell (Some i) (Some j) left right same = (let one : slice_index before i ≡ slice_index after j = cc in ap Some (files_tell i j left right one))
+  masks_tell (Some i) (Some j) left right same = (let one : slice_index classes.before.items i ≡ slice_index classes.after.items j = cc in ap Some (files_tell i j left right one))
 
   masks_same : (a b : Option ℕ) → IfSome a (λ i. i < length olds) → IfSome b (λ j. j < length news)
-      → option_map (file_at olds) a ≡ option_map (file_at news) b → option_map (slice_index before) a ≡ option_map (slice_index after) b
+      → option_map (file_at olds) a ≡ option_map (file_at news) b → option_map (slice_index classes.before.items) a ≡ option_map (slice_index classes.after.items) b
   masks_same None None left right same = refl
   masks_same None (Some j) left right same = absurd cc
   masks_same (Some i) None left right same = absurd cc
   masks_same (Some i) (Some j) left right same = (let one : file_at olds i ≡ file_at news j = cc in ap Some (files_same i j left right one))
 
-  layers_tell : (a b : LayerData) → IsLayer (length olds) a → IsLayer (length news) b → classed before a ≡ classed after b → layer_recipe olds a ≡ layer_recipe news b
+  layers_tell : (a b : LayerData) → IsLayer (length olds) a → IsLayer (length news) b → classed classes.before.items a ≡ classed classes.after.items b → layer_recipe olds a ≡ layer_recipe news b
   layers_tell a b left right same =
       let image = files_tell a.file b.file left.file right.file (ap {A = LayerData} (λ l. l.file) same) in
       let mask = masks_tell a.mask b.mask left.mask right.mask (ap {A = LayerData} (λ l. l.mask) same) in
@@ -75,7 +76,7 @@ module _ (olds news : List (List ℕ)) (before after : List ℕ) (are : AreClass
         ink = (same i).ink;
       }
 
-  layers_same : (a b : LayerData) → IsLayer (length olds) a → IsLayer (length news) b → layer_recipe olds a ≡ layer_recipe news b → classed before a ≡ classed after b
+  layers_same : (a b : LayerData) → IsLayer (length olds) a → IsLayer (length news) b → layer_recipe olds a ≡ layer_recipe news b → classed classes.before.items a ≡ classed classes.after.items b
   layers_same a b left right same =
       let file = files_same a.file b.file left.file right.file (ap {A = LayerRecipe} (λ l. l.image) same) in
       let mask = masks_same a.mask b.mask left.mask right.mask (ap {A = LayerRecipe} (λ l. l.mask) same) in
@@ -105,16 +106,16 @@ along f g f' g' P Q each (x ∷ xs) (y ∷ ys) left right same =
     let rest = along f g f' g' P Q each xs ys (All-tail P x xs left) (All-tail Q y ys right) tail in
     λ i. one i ∷ rest i
 
-pub pages_tell : (olds news : List (List ℕ)) (before after : List ℕ) (p q : PageData) → AreClasses olds news before after
-    → All (IsLayer (length olds)) p.layers → All (IsLayer (length news)) q.layers → classed_page before p ≡ classed_page after q → page_told olds p ≡ page_told news q
-pages_tell olds news before after p q are left right same =
-    let layers = along (classed before) (classed after) (layer_recipe olds) (layer_recipe news) (IsLayer (length olds)) (IsLayer (length news))
-    (layers_tell olds news before after are) p.layers q.layers left right (ap {A = PageData} (λ page. page.layers) same) in
+pub pages_tell : (olds news : List (List ℕ)) (classes : Classes) (p q : PageData) → AreClasses olds news classes
+    → All (IsLayer (length olds)) p.layers → All (IsLayer (length news)) q.layers → classed_page classes.before.items p ≡ classed_page classes.after.items q → page_told olds p ≡ page_told news q
+pages_tell olds news classes p q are left right same =
+    let layers = along (classed classes.before.items) (classed classes.after.items) (layer_recipe olds) (layer_recipe news) (IsLayer (length olds)) (IsLayer (length news))
+    (layers_tell olds news classes are) p.layers q.layers left right (ap {A = PageData} (λ page. page.layers) same) in
     λ i. record { colour = (same i).colour; spot = (same i).spot; layers = layers i }
 
-pub pages_same : (olds news : List (List ℕ)) (before after : List ℕ) (p q : PageData) → AreClasses olds news before after
-    → All (IsLayer (length olds)) p.layers → All (IsLayer (length news)) q.layers → page_told olds p ≡ page_told news q → classed_page before p ≡ classed_page after q
-pages_same olds news before after p q are left right same =
-    let layers = along (layer_recipe olds) (layer_recipe news) (classed before) (classed after) (IsLayer (length olds)) (IsLayer (length news))
-    (layers_same olds news before after are) p.layers q.layers left right (ap {A = PageRecipe} (λ page. page.layers) same) in
+pub pages_same : (olds news : List (List ℕ)) (classes : Classes) (p q : PageData) → AreClasses olds news classes
+    → All (IsLayer (length olds)) p.layers → All (IsLayer (length news)) q.layers → page_told olds p ≡ page_told news q → classed_page classes.before.items p ≡ classed_page classes.after.items q
+pages_same olds news classes p q are left right same =
+    let layers = along (layer_recipe olds) (layer_recipe news) (classed classes.before.items) (classed classes.after.items) (IsLayer (length olds)) (IsLayer (length news))
+    (layers_same olds news classes are) p.layers q.layers left right (ap {A = PageRecipe} (λ page. page.layers) same) in
     λ i. record { name = []; colour = (same i).colour; spot = (same i).spot; layers = layers i }

@@ -8,15 +8,16 @@ use Rattle.std.specs.List.{position_or_len}
 use Rattle.std.specs.Ordering.{nat_cmp, ordering_then}
 use Rattle.std.specs.Str.{bytes_eq}
 use Rattle.plan_parts.specs.Data.{LayerData, PageData}
+use Rattle.replate.specs.declared.classes.Classes.{Classes}
 
 -- the index of the first file with these bytes, or the number of files where none has them
 abbrev pub class_of : List (List ℕ) → List ℕ → ℕ
 class_of files bytes = position_or_len (bytes_eq bytes) files
 
 -- these are the classes of the files of an old and of a new job
-pub record AreClasses (olds news : List (List ℕ)) (before after : List ℕ) : Type 0 where
-  pub old : before ≡ map (class_of olds) olds
-  pub new : after ≡ map (class_of olds) news
+pub record AreClasses (olds news : List (List ℕ)) (classes : Classes) : Type 0 where
+  pub old : classes.before.items ≡ map (class_of olds) olds
+  pub new : classes.after.items ≡ map (class_of olds) news
 
 -- a layer with the classes of its image and its mask in place of their indexes
 abbrev pub classed : List ℕ → LayerData → LayerData

@@ -4,7 +4,6 @@ ghost use Rattle.tif_packbits.specs.Frame.{framed_row};
 ghost use Rattle.pr_rack.specs.Told.{all_told};
 ghost use Rattle.plan_rows.specs.Groups.{groups_of};
 ghost use Rattle.site_agent.specs.Racks.{AreIdle, KeepCounts};
-ghost use Rattle.replate.specs.Inputs.{AreInputs};
 ghost use Rattle.replate.specs.Remade.{AreRowsOf, RemadeFits, RemadePart, by_picks};
 
 use crate::remaking::Remaking;
@@ -26,30 +25,29 @@ pub fn deliver<D: Deal, F: RowFeed, R: Rack>(
     out: &str,
     racks: &mut [R],
 ) -> Result<Vec<RemadeEnd>, NoMemory>
-    requires after { AreInputs after.now }
-    requires picks { length picks.now.kept ≡ length (groups_of after.now.plan.now) }
-    requires rows { AreRowsOf after.now.plan.now (D.rows deal.now) }
+    requires picks { length picks.now.kept ≡ length (groups_of after.now.plan) }
+    requires rows { AreRowsOf after.now.plan (D.rows deal.now) }
     requires feed { F.left feed.old ≡ D.rows deal.now }
-    requires racks { length after.now.plan.now.sites ≤ length racks.old }
-    requires idle { AreIdle (length after.now.plan.now.sites) (all_told R.Rack racks.old) }
+    requires racks { length after.now.plan.sites ≤ length racks.old }
+    requires idle { AreIdle (length after.now.plan.sites) (all_told R.Rack racks.old) }
     // Each site's end fits what its rack has more than before.
     ensures fits { IfOk result (λ ends. RemadeFits
-        (by_picks after.now.plan.now (map framed_row (D.rows deal.now)) out.now picks.now)
+        (by_picks after.now.plan (map framed_row (D.rows deal.now)) out.now picks.now)
         (all_told R.Rack racks.old) (all_told R.Rack racks.new) ends.items) }
     // Want of memory: each rack has the first of the files that its site was to make more.
     ensures part { OnErr result (RemadePart
-        (by_picks after.now.plan.now (map framed_row (D.rows deal.now)) out.now picks.now)
+        (by_picks after.now.plan (map framed_row (D.rows deal.now)) out.now picks.now)
         (all_told R.Rack racks.old) (all_told R.Rack racks.new)) }
     // What stands of the racks, whatever the answer.
     ensures counts { KeepCounts (all_told R.Rack racks.old) (all_told R.Rack racks.new) }
-    ensures others { drop (length after.now.plan.now.sites) racks.new
-        ≡ drop (length after.now.plan.now.sites) racks.old }
+    ensures others { drop (length after.now.plan.sites) racks.new
+        ≡ drop (length after.now.plan.sites) racks.old }
 {
-    let sites = site_count(after.plan);
+    let sites = site_count(after);
     let (racks, _others) = racks.split_at_mut(sites);
     let remaking = Remaking {
         alloc,
-        after: *after,
+        after,
         picks,
         out,
     };

@@ -4,13 +4,12 @@ ghost use Rattle.std.specs.Option.{ForNone, ForSome};
 ghost use Rattle.plan_json.specs.Plan.{IsPlan};
 ghost use Rattle.plan_rows.specs.Groups.{groups_of};
 ghost use Rattle.plan_rows.specs.Inks.{inks_of};
-ghost use Rattle.replate.specs.Inputs.{AreInputs};
 ghost use Rattle.replate.specs.Picks.{dropped_of, is_dropped as is_left_out};
 ghost use Rattle.replate.specs.Plates.{group_at, ink_plates, plates_in, plates_of};
 ghost use Rattle.replate.specs.Standing.{StandsFor};
 
 use crate::alike::same_edition;
-use crate::standing::{counterpart, group_with, has_ink, site_count};
+use crate::standing::{counterpart, group_count, group_with, has_ink, site_count};
 use crate::{Inputs, OldPlate};
 use pr_base::NoMemory;
 use std::alloc::Global;
@@ -21,14 +20,11 @@ pub(crate) fn dropped_plates(
     before: &Inputs<'_>,
     after: &Inputs<'_>,
 ) -> Result<Vec<OldPlate>, NoMemory>
-    requires before { AreInputs before.now }
-    requires after { AreInputs after.now }
-    ensures dropped { IfOk result (λ plates.
-        plates.items ≡ dropped_of before.now.plan.now after.now.plan.now) }
-    ensures plan { IsPlan before.now.plan.now }
+    ensures dropped { IfOk result (λ plates. plates.items ≡ dropped_of before.now.plan after.now.plan) }
+    ensures plan { IsPlan before.now.plan }
 {
     let mut plates = Vec::new(alloc);
-    for site in 0..site_count(before.plan) {
+    for site in 0..site_count(before) {
         add_site(&mut plates, before, after, site)?;
     }
     Ok(plates)
@@ -41,13 +37,11 @@ fn add_site(
     after: &Inputs<'_>,
     site: usize,
 ) -> Result<(), NoMemory>
-    requires before { AreInputs before.now }
-    requires after { AreInputs after.now }
-    requires site { site < length before.now.plan.now.sites }
+    requires site { site < length before.now.plan.sites }
     ensures { OnOk result (plates.new.items ≡ plates.old.items
-        ++ filter (is_left_out before.now.plan.now after.now.plan.now) (plates_of before.now.plan.now site)) }
+        ++ filter (is_left_out before.now.plan after.now.plan) (plates_of before.now.plan site)) }
 {
-    for index in 0..before.rows.groups().len() {
+    for index in 0..group_count(before) {
         add_group(plates, before, after, site, index)?;
     }
     Ok(())
@@ -61,15 +55,13 @@ fn add_group(
     site: usize,
     index: usize,
 ) -> Result<(), NoMemory>
-    requires before { AreInputs before.now }
-    requires after { AreInputs after.now }
-    requires site { site < length before.now.plan.now.sites }
-    requires index { index < length (groups_of before.now.plan.now) }
+    requires site { site < length before.now.plan.sites }
+    requires index { index < length (groups_of before.now.plan) }
     ensures { OnOk result (plates.new.items ≡ plates.old.items
-        ++ filter (is_left_out before.now.plan.now after.now.plan.now)
-        (plates_in site (index, group_at before.now.plan.now index))) }
+        ++ filter (is_left_out before.now.plan after.now.plan)
+        (plates_in site (index, group_at before.now.plan index))) }
 {
-    let group = group_with(before.plan, before.rows, index);
+    let group = group_with(before, index);
     if group.has_site(site) {
         add_inks(plates, before, after, site, index)?;
     }
@@ -84,16 +76,14 @@ fn add_inks(
     site: usize,
     index: usize,
 ) -> Result<(), NoMemory>
-    requires before { AreInputs before.now }
-    requires after { AreInputs after.now }
-    requires site { site < length before.now.plan.now.sites }
-    requires index { index < length (groups_of before.now.plan.now) }
+    requires site { site < length before.now.plan.sites }
+    requires index { index < length (groups_of before.now.plan) }
     ensures { OnOk result (plates.new.items ≡ plates.old.items
-        ++ filter (is_left_out before.now.plan.now after.now.plan.now)
-        (ink_plates site index (inks_of (group_at before.now.plan.now index)))) }
+        ++ filter (is_left_out before.now.plan after.now.plan)
+        (ink_plates site index (inks_of (group_at before.now.plan index)))) }
 {
-    let group = group_with(before.plan, before.rows, index);
-    let place = counterpart(before.plan, site, group, after.plan, after.rows);
+    let group = group_with(before, index);
+    let place = counterpart(before.plan(), site, group, after.plan(), after.rows());
     for ink in group.inks() {
         let plate = OldPlate {
             site,
@@ -113,16 +103,14 @@ fn add_plate(
     plate: OldPlate,
     place: Option<(usize, usize)>,
 ) -> Result<(), NoMemory>
-    requires before { AreInputs before.now }
-    requires after { AreInputs after.now }
-    requires site { plate.site < length before.now.plan.now.sites }
-    requires group { plate.group < length (groups_of before.now.plan.now) }
-    requires found { ForSome place (λ at. StandsFor before.now.plan.now plate.site
-        (group_at before.now.plan.now plate.group) after.now.plan.now at.0 at.1) }
-    requires none { ForNone place ((its index : ℕ) → StandsFor before.now.plan.now plate.site
-        (group_at before.now.plan.now plate.group) after.now.plan.now its index → ⊥) }
+    requires site { plate.site < length before.now.plan.sites }
+    requires group { plate.group < length (groups_of before.now.plan) }
+    requires found { ForSome place (λ at. StandsFor before.now.plan plate.site
+        (group_at before.now.plan plate.group) after.now.plan at.0 at.1) }
+    requires none { ForNone place ((its index : ℕ) → StandsFor before.now.plan plate.site
+        (group_at before.now.plan plate.group) after.now.plan its index → ⊥) }
     ensures { OnOk result (plates.new.items ≡ plates.old.items
-        ++ filter (is_left_out before.now.plan.now after.now.plan.now) (plate ∷ [])) }
+        ++ filter (is_left_out before.now.plan after.now.plan) (plate ∷ [])) }
 {
     if is_dropped(before, after, plate, place) {
         plates.push(plate)?;
@@ -137,21 +125,19 @@ fn is_dropped(
     plate: OldPlate,
     place: Option<(usize, usize)>,
 ) -> bool
-    requires before { AreInputs before.now }
-    requires after { AreInputs after.now }
-    requires site { plate.site < length before.now.plan.now.sites }
-    requires group { plate.group < length (groups_of before.now.plan.now) }
-    requires found { ForSome place (λ at. StandsFor before.now.plan.now plate.site
-        (group_at before.now.plan.now plate.group) after.now.plan.now at.0 at.1) }
-    requires none { ForNone place ((its index : ℕ) → StandsFor before.now.plan.now plate.site
-        (group_at before.now.plan.now plate.group) after.now.plan.now its index → ⊥) }
-    ensures { result ≡ is_left_out before.now.plan.now after.now.plan.now plate }
+    requires site { plate.site < length before.now.plan.sites }
+    requires group { plate.group < length (groups_of before.now.plan) }
+    requires found { ForSome place (λ at. StandsFor before.now.plan plate.site
+        (group_at before.now.plan plate.group) after.now.plan at.0 at.1) }
+    requires none { ForNone place ((its index : ℕ) → StandsFor before.now.plan plate.site
+        (group_at before.now.plan plate.group) after.now.plan its index → ⊥) }
+    ensures { result ≡ is_left_out before.now.plan after.now.plan plate }
 {
-    if !same_edition(before.plan, after.plan) {
+    if !same_edition(before.plan(), after.plan()) {
         return true;
     }
     match place {
-        Some((_its, index)) => !has_ink(group_with(after.plan, after.rows, index), plate.ink),
+        Some((_its, index)) => !has_ink(group_with(after, index), plate.ink),
         None => true,
     }
 }

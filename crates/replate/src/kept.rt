@@ -5,7 +5,6 @@ ghost use Rattle.plan_json.specs.Plan.{IsPlan};
 ghost use Rattle.plan_rows.specs.Groups.{groups_of};
 ghost use Rattle.plan_rows.specs.Inks.{has_site as is_of_site};
 ghost use Rattle.replate.specs.Classes.{AreClasses};
-ghost use Rattle.replate.specs.Inputs.{AreInputs, bytes_of, job_of};
 ghost use Rattle.replate.specs.Plates.{group_at};
 ghost use Rattle.replate.specs.Recipe.{page_recipe};
 ghost use Rattle.replate.specs.Standing.{AreAllKept, AreKept, IsOfPlan, SamePages, Stays};
@@ -13,8 +12,8 @@ ghost use Rattle.replate.specs.Standing.{AreAllKept, AreKept, IsOfPlan, SamePage
 use crate::Inputs;
 use crate::alike::same_page;
 use crate::classes::Classes;
-use crate::standing::{counterpart, group_with, site_count};
-use plan_json::{Page, Plan};
+use crate::standing::{counterpart, group_count, group_with, site_count};
+use plan_json::Page;
 use plan_rows::Group;
 use pr_base::NoMemory;
 use std::alloc::Global;
@@ -29,19 +28,16 @@ pub(crate) fn kept_groups(
     after: &Inputs<'_>,
     classes: &Classes,
 ) -> Result<Vec<[bool; SITES]>, NoMemory>
-    requires before { AreInputs before.now }
-    requires after { AreInputs after.now }
-    requires classes { AreClasses (bytes_of before.now.files.now) (bytes_of after.now.files.now)
-        classes.now.before.items classes.now.after.items }
-    ensures count { IfOk result (λ kept. length kept.items ≡ length (groups_of after.now.plan.now)) }
-    ensures kept { IfOk result (λ kept. AreAllKept (job_of before.now) (job_of after.now)
-        (length (groups_of after.now.plan.now)) kept.items) }
-    ensures plan { IsPlan after.now.plan.now }
+    requires classes { AreClasses before.now.files after.now.files classes.now }
+    ensures count { IfOk result (λ kept. length kept.items ≡ length (groups_of after.now.plan)) }
+    ensures kept { IfOk result (λ kept.
+        AreAllKept before.now after.now (length (groups_of after.now.plan)) kept.items) }
+    ensures plan { IsPlan after.now.plan }
 {
-    let sites = site_count(after.plan);
+    let sites = site_count(after);
     let mut kept = Vec::new(alloc);
-    for index in 0..after.rows.groups().len() {
-        let group = group_with(after.plan, after.rows, index);
+    for index in 0..group_count(after) {
+        let group = group_with(after, index);
         let row = kept_sites(before, after, classes, group, sites);
         kept.push(row)?;
     }
@@ -56,15 +52,11 @@ fn kept_sites(
     group: &Group,
     sites: usize,
 ) -> [bool; SITES]
-    requires before { AreInputs before.now }
-    requires after { AreInputs after.now }
-    requires classes { AreClasses (bytes_of before.now.files.now) (bytes_of after.now.files.now)
-        classes.now.before.items classes.now.after.items }
-    requires group { IsOfPlan after.now.plan.now group.now }
-    requires sites { sites ≡ length after.now.plan.now.sites }
+    requires classes { AreClasses before.now.files after.now.files classes.now }
+    requires group { IsOfPlan after.now.plan group.now }
+    requires sites { sites ≡ length after.now.plan.sites }
     requires few { sites ≤ 16 }
-    ensures { AreKept (job_of before.now) (job_of after.now) group.now
-        (length after.now.plan.now.sites) result }
+    ensures { AreKept before.now after.now group.now (length after.now.plan.sites) result }
 {
     let mut row = [false; SITES];
     for site in 0..sites {
@@ -81,17 +73,14 @@ fn is_kept(
     site: usize,
     group: &Group,
 ) -> bool
-    requires before { AreInputs before.now }
-    requires after { AreInputs after.now }
-    requires classes { AreClasses (bytes_of before.now.files.now) (bytes_of after.now.files.now)
-        classes.now.before.items classes.now.after.items }
+    requires classes { AreClasses before.now.files after.now.files classes.now }
     requires few { site < 16 }
-    requires site { site < length after.now.plan.now.sites }
-    requires group { IsOfPlan after.now.plan.now group.now }
+    requires site { site < length after.now.plan.sites }
+    requires group { IsOfPlan after.now.plan group.now }
     ensures found { IsTrue result
-        → (its : ℕ) × ((index : ℕ) × Stays (job_of before.now) (job_of after.now) site group.now its index) }
+        → (its : ℕ) × ((index : ℕ) × Stays before.now after.now site group.now its index) }
     ensures each { (its index : ℕ) → IsTrue (is_of_site group.now site)
-        → Stays (job_of before.now) (job_of after.now) site group.now its index → IsTrue result }
+        → Stays before.now after.now site group.now its index → IsTrue result }
 {
     group.has_site(site) && stays(before, after, classes, site, group)
 }
@@ -104,18 +93,14 @@ fn stays(
     site: usize,
     group: &Group,
 ) -> bool
-    requires before { AreInputs before.now }
-    requires after { AreInputs after.now }
-    requires classes { AreClasses (bytes_of before.now.files.now) (bytes_of after.now.files.now)
-        classes.now.before.items classes.now.after.items }
-    requires site { site < length after.now.plan.now.sites }
-    requires group { IsOfPlan after.now.plan.now group.now }
+    requires classes { AreClasses before.now.files after.now.files classes.now }
+    requires site { site < length after.now.plan.sites }
+    requires group { IsOfPlan after.now.plan group.now }
     ensures found { IsTrue result
-        → (its : ℕ) × ((index : ℕ) × Stays (job_of before.now) (job_of after.now) site group.now its index) }
-    ensures each { (its index : ℕ)
-        → Stays (job_of before.now) (job_of after.now) site group.now its index → IsTrue result }
+        → (its : ℕ) × ((index : ℕ) × Stays before.now after.now site group.now its index) }
+    ensures each { (its index : ℕ) → Stays before.now after.now site group.now its index → IsTrue result }
 {
-    match counterpart(after.plan, site, group, before.plan, before.rows) {
+    match counterpart(after.plan(), site, group, before.plan(), before.rows()) {
         Some((_its, index)) => same_pages(before, after, classes, index, group),
         None => false,
     }
@@ -129,16 +114,12 @@ fn same_pages(
     index: usize,
     group: &Group,
 ) -> bool
-    requires before { AreInputs before.now }
-    requires after { AreInputs after.now }
-    requires classes { AreClasses (bytes_of before.now.files.now) (bytes_of after.now.files.now)
-        classes.now.before.items classes.now.after.items }
-    requires index { index < length (groups_of before.now.plan.now) }
-    requires group { IsOfPlan after.now.plan.now group.now }
-    ensures { IsTrue result
-        ↔ SamePages (job_of before.now) (group_at before.now.plan.now index) (job_of after.now) group.now }
+    requires classes { AreClasses before.now.files after.now.files classes.now }
+    requires index { index < length (groups_of before.now.plan) }
+    requires group { IsOfPlan after.now.plan group.now }
+    ensures { IsTrue result ↔ SamePages before.now (group_at before.now.plan index) after.now group.now }
 {
-    let old = group_with(before.plan, before.rows, index);
+    let old = group_with(before, index);
     is_same(before, old.left, after, group.left, classes)
         && is_same(before, old.right, after, group.right, classes)
 }
@@ -151,23 +132,20 @@ fn is_same(
     new: usize,
     classes: &Classes,
 ) -> bool
-    requires before { AreInputs before.now }
-    requires after { AreInputs after.now }
-    requires classes { AreClasses (bytes_of before.now.files.now) (bytes_of after.now.files.now)
-        classes.now.before.items classes.now.after.items }
-    requires old { old < length before.now.plan.now.pages }
-    requires new { new < length after.now.plan.now.pages }
-    ensures { IsTrue result ↔ (page_recipe before.now.plan.now (bytes_of before.now.files.now) old
-        ≡ page_recipe after.now.plan.now (bytes_of after.now.files.now) new) }
+    requires classes { AreClasses before.now.files after.now.files classes.now }
+    requires old { old < length before.now.plan.pages }
+    requires new { new < length after.now.plan.pages }
+    ensures { IsTrue result ↔ (page_recipe before.now.plan before.now.files old
+        ≡ page_recipe after.now.plan after.now.files new) }
 {
-    same_page(page_at(before.plan, old), page_at(after.plan, new), classes)
+    same_page(page_at(before, old), page_at(after, new), classes)
 }
 
-/// A page of a plan.
-fn page_at(plan: &Plan, page: usize) -> &Page
-    requires { page < length plan.now.pages }
-    ensures page { result.now ≡ slice_index_or plan.now.pages page result.now }
-    ensures layers { All (IsLayer (length plan.now.files)) result.now.layers }
+/// A page of a job's plan.
+fn page_at<'a>(job: &Inputs<'a>, page: usize) -> &'a Page
+    requires { page < length job.now.plan.pages }
+    ensures page { result.now ≡ slice_index_or job.now.plan.pages page result.now }
+    ensures layers { All (IsLayer (length job.now.files)) result.now.layers }
 {
-    &plan.pages[page]
+    &job.plan().pages[page]
 }

@@ -34,27 +34,22 @@ impl Model for Picks {
 
 impl Picks {
     ghost use Rattle.plan_rows.specs.Groups.{groups_of};
-    ghost use Rattle.replate.specs.Inputs.{AreInputs, job_of};
     ghost use Rattle.replate.specs.Picks.{MustMake, dropped_of, is_made};
     ghost use Rattle.replate.specs.Plates.{PlateAt, IsPlateOf};
 
     /// Compares two jobs. Want of memory is the one refusal.
     pub fn of(alloc: Global, before: &Inputs<'_>, after: &Inputs<'_>) -> Result<Picks, NoMemory>
-        requires before { AreInputs before.now }
-        requires after { AreInputs after.now }
         // Exactly the plates that must be made are told.
-        ensures made { IfOk result (λ picks. (new : PlateAt) → IsPlateOf after.now.plan.now new
+        ensures made { IfOk result (λ picks. (new : PlateAt) → IsPlateOf after.now.plan new
             → IsTrue (is_made picks new.site new.group new.ink)
-            ↔ MustMake (job_of before.now) (job_of after.now) new) }
-        ensures dropped { IfOk result (λ picks.
-            picks.dropped ≡ dropped_of before.now.plan.now after.now.plan.now) }
-        ensures groups { IfOk result (λ picks.
-            length picks.kept ≡ length (groups_of after.now.plan.now)) }
+            ↔ MustMake before.now after.now new) }
+        ensures dropped { IfOk result (λ picks. picks.dropped ≡ dropped_of before.now.plan after.now.plan) }
+        ensures groups { IfOk result (λ picks. length picks.kept ≡ length (groups_of after.now.plan)) }
     {
-        let classes = Classes::of(alloc, before.files, after.files)?;
+        let classes = Classes::of(alloc, before.files(), after.files())?;
         let kept = kept_groups(alloc, before, after, &classes)?;
         let dropped = dropped_plates(alloc, before, after)?;
-        let alike = alike_inks(before.plan, after.plan);
+        let alike = alike_inks(before.plan(), after.plan());
         Ok(Picks {
             alike,
             kept,

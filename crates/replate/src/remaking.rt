@@ -6,7 +6,6 @@ ghost use Rattle.plan_json.specs.Plan.{IsPlan};
 ghost use Rattle.plan_rows.specs.Groups.{groups_of};
 ghost use Rattle.site_agent.specs.Racks.{AllTellSlots, AreIdle, KeepCounts};
 ghost use Rattle.replate.specs.declared.maker.Maker.{Maker as MakerData};
-ghost use Rattle.replate.specs.Inputs.{AreInputs};
 ghost use Rattle.replate.specs.Making.{AllMade, AllSomeServed, AllStopped, IsUp, fresh_maker, fresh_makers, is_making as is_making_lem};
 ghost use Rattle.replate.specs.Remade.{AreRowsOf, RemadeFits, RemadePart, by_picks};
 
@@ -24,7 +23,7 @@ use std::alloc::Global;
 #[derive(Drop)]
 pub(crate) struct Remaking<'p> {
     pub(crate) alloc: Global,
-    pub(crate) after: Inputs<'p>,
+    pub(crate) after: &'p Inputs<'p>,
     pub(crate) picks: &'p Picks,
     pub(crate) out: &'p str,
 }
@@ -32,28 +31,26 @@ pub(crate) struct Remaking<'p> {
 impl Remaking<'_> {
     /// A site before the first row.
     fn maker(&self, site: usize) -> Result<Maker, NoMemory>
-        requires after { AreInputs self.now.after }
-        requires picks { length self.now.picks.now.kept ≡ length (groups_of self.now.after.plan.now) }
-        requires site { site < length self.now.after.plan.now.sites }
+        requires picks { length self.now.picks.now.kept ≡ length (groups_of self.now.after.now.plan) }
+        requires site { site < length self.now.after.now.plan.sites }
         ensures { IfOk result (λ maker. maker
-            ≡ fresh_maker self.now.after.plan.now self.now.out.now self.now.picks.now site) }
+            ≡ fresh_maker self.now.after.now.plan self.now.out.now self.now.picks.now site) }
     {
-        let wanted = wanted_of(self.alloc, &self.after, self.picks, site)?;
+        let wanted = wanted_of(self.alloc, self.after, self.picks, site)?;
         let end = end_of(&wanted);
-        let after = &self.after;
-        let site = Site::of_picked(self.alloc, after.plan, after.rows, self.out, site, &wanted)?;
+        let (plan, rows) = (self.after.plan(), self.after.rows());
+        let site = Site::of_picked(self.alloc, plan, rows, self.out, site, &wanted)?;
         Ok(Maker { site, end })
     }
 
     /// The sites before the first row.
     fn makers(&self) -> Result<Vec<Maker>, NoMemory>
-        requires after { AreInputs self.now.after }
-        requires picks { length self.now.picks.now.kept ≡ length (groups_of self.now.after.plan.now) }
+        requires picks { length self.now.picks.now.kept ≡ length (groups_of self.now.after.now.plan) }
         ensures fresh { IfOk result (λ makers. makers.items
-            ≡ fresh_makers self.now.after.plan.now self.now.out.now self.now.picks.now) }
-        ensures plan { IsPlan self.now.after.plan.now }
+            ≡ fresh_makers self.now.after.now.plan self.now.out.now self.now.picks.now) }
+        ensures plan { IsPlan self.now.after.now.plan }
     {
-        let plan = self.after.plan;
+        let plan = self.after.plan();
         let mut makers = Vec::new(self.alloc);
         for site in 0..plan.sites.len() {
             makers.push(self.maker(site)?)?;
@@ -69,21 +66,20 @@ impl Remaking<'_> {
         row: &mut [u8],
         racks: &mut [R],
     ) -> Result<Vec<RemadeEnd>, NoMemory>
-        requires after { AreInputs self.now.after }
-        requires picks { length self.now.picks.now.kept ≡ length (groups_of self.now.after.plan.now) }
-        requires rows { AreRowsOf self.now.after.plan.now deck.old.rows }
+        requires picks { length self.now.picks.now.kept ≡ length (groups_of self.now.after.now.plan) }
+        requires rows { AreRowsOf self.now.after.now.plan deck.old.rows }
         requires put { deck.old.put ≡ 0 }
         requires home { deck.old.out ≡ false }
         requires feed { F.left feed.old ≡ deck.old.rows }
         requires row { All (λ bytes. length bytes ≡ length row.old) deck.old.rows }
-        requires racks { length self.now.after.plan.now.sites ≡ length racks.old }
-        requires idle { AreIdle (length self.now.after.plan.now.sites) (all_told R.Rack racks.old) }
+        requires racks { length self.now.after.now.plan.sites ≡ length racks.old }
+        requires idle { AreIdle (length self.now.after.now.plan.sites) (all_told R.Rack racks.old) }
         ensures fits { IfOk result (λ ends. RemadeFits
-            (by_picks self.now.after.plan.now (map framed_row deck.old.rows) self.now.out.now
+            (by_picks self.now.after.now.plan (map framed_row deck.old.rows) self.now.out.now
             self.now.picks.now)
             (all_told R.Rack racks.old) (all_told R.Rack racks.new) ends.items) }
         ensures part { OnErr result (RemadePart
-            (by_picks self.now.after.plan.now (map framed_row deck.old.rows) self.now.out.now
+            (by_picks self.now.after.now.plan (map framed_row deck.old.rows) self.now.out.now
             self.now.picks.now)
             (all_told R.Rack racks.old) (all_told R.Rack racks.new)) }
         ensures counts { KeepCounts (all_told R.Rack racks.old) (all_told R.Rack racks.new) }
@@ -105,18 +101,17 @@ impl Remaking<'_> {
         feed: &mut F,
         racks: &mut [R],
     ) -> Result<Vec<RemadeEnd>, NoMemory>
-        requires after { AreInputs self.now.after }
-        requires picks { length self.now.picks.now.kept ≡ length (groups_of self.now.after.plan.now) }
-        requires rows { AreRowsOf self.now.after.plan.now (D.rows deal.now) }
+        requires picks { length self.now.picks.now.kept ≡ length (groups_of self.now.after.now.plan) }
+        requires rows { AreRowsOf self.now.after.now.plan (D.rows deal.now) }
         requires feed { F.left feed.old ≡ D.rows deal.now }
-        requires racks { length self.now.after.plan.now.sites ≡ length racks.old }
-        requires idle { AreIdle (length self.now.after.plan.now.sites) (all_told R.Rack racks.old) }
+        requires racks { length self.now.after.now.plan.sites ≡ length racks.old }
+        requires idle { AreIdle (length self.now.after.now.plan.sites) (all_told R.Rack racks.old) }
         ensures fits { IfOk result (λ ends. RemadeFits
-            (by_picks self.now.after.plan.now (map framed_row (D.rows deal.now)) self.now.out.now
+            (by_picks self.now.after.now.plan (map framed_row (D.rows deal.now)) self.now.out.now
             self.now.picks.now)
             (all_told R.Rack racks.old) (all_told R.Rack racks.new) ends.items) }
         ensures part { OnErr result (RemadePart
-            (by_picks self.now.after.plan.now (map framed_row (D.rows deal.now)) self.now.out.now
+            (by_picks self.now.after.now.plan (map framed_row (D.rows deal.now)) self.now.out.now
             self.now.picks.now)
             (all_told R.Rack racks.old) (all_told R.Rack racks.new)) }
         ensures counts { KeepCounts (all_told R.Rack racks.old) (all_told R.Rack racks.new) }

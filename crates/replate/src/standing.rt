@@ -8,6 +8,7 @@ ghost use Rattle.plan_rows.specs.Rows.{rows_of};
 ghost use Rattle.replate.specs.Plates.{group_at, has_ink as prints};
 ghost use Rattle.replate.specs.Standing.{IsGroupOf, IsOfPlan, StandsFor};
 
+use crate::Inputs;
 use plan_json::Plan;
 use plan_rows::{Group, RowPlan, section_name, site_name};
 use pr_base::Ink;
@@ -41,26 +42,32 @@ pub(crate) fn counterpart(
     Some((its, index))
 }
 
-/// The group of a plan with this index.
-pub(crate) fn group_with<'a>(plan: &Plan, rows: &'a RowPlan, index: usize) -> &'a Group
-    requires rows { rows.now ≡ rows_of plan.now }
-    requires index { index < length (groups_of plan.now) }
-    ensures group { result.now ≡ group_at plan.now index }
-    ensures of_plan { IsOfPlan plan.now result.now }
-    ensures plan { IsPlan plan.now }
+/// The group of a job's plan with this index.
+pub(crate) fn group_with<'a>(job: &Inputs<'a>, index: usize) -> &'a Group
+    requires { index < length (groups_of job.now.plan) }
+    ensures group { result.now ≡ group_at job.now.plan index }
+    ensures of_plan { IsOfPlan job.now.plan result.now }
+    ensures plan { IsPlan job.now.plan }
 {
-    let sites = site_count(plan);
+    let sites = site_count(job);
     prove!(sites <= 16);
-    &rows.groups()[index]
+    &job.rows().groups()[index]
 }
 
-/// The number of sites of a plan.
-pub(crate) fn site_count(plan: &Plan) -> usize
-    ensures count { result ≡ length plan.now.sites }
-    ensures most { result ≤ 16 }
-    ensures plan { IsPlan plan.now }
+/// The number of groups of a job's plan.
+pub(crate) fn group_count(job: &Inputs<'_>) -> usize
+    ensures { result ≡ length (groups_of job.now.plan) }
 {
-    plan.sites.len()
+    job.rows().groups().len()
+}
+
+/// The number of sites of a job's plan.
+pub(crate) fn site_count(job: &Inputs<'_>) -> usize
+    ensures count { result ≡ length job.now.plan.sites }
+    ensures most { result ≤ 16 }
+    ensures plan { IsPlan job.now.plan }
+{
+    job.plan().sites.len()
 }
 
 /// The group of a section, a pair and a site.

@@ -3,11 +3,10 @@ ghost use Rattle.std.specs.Prelude.{◌≡◌, ◌<◌, ◌++◌, ◌∷◌, [],
 ghost use Rattle.plan_json.specs.Plan.{IsPlan};
 ghost use Rattle.plan_rows.specs.Groups.{groups_of};
 ghost use Rattle.plan_rows.specs.Inks.{inks_of};
-ghost use Rattle.replate.specs.Inputs.{AreInputs};
 ghost use Rattle.replate.specs.Plates.{group_at, ink_plates, plates_in};
 ghost use Rattle.replate.specs.Remade.{is_picked, picked_bits};
 
-use crate::standing::{group_with, site_count};
+use crate::standing::{group_count, group_with, site_count};
 use crate::{Inputs, Picks};
 use pr_base::{Ink, NoMemory};
 use std::alloc::Global;
@@ -19,16 +18,15 @@ pub(crate) fn wanted_of(
     picks: &Picks,
     site: usize,
 ) -> Result<Vec<bool>, NoMemory>
-    requires after { AreInputs after.now }
-    requires picks { length picks.now.kept ≡ length (groups_of after.now.plan.now) }
-    requires site { site < length after.now.plan.now.sites }
-    ensures bits { IfOk result (λ bits. bits.items ≡ picked_bits picks.now after.now.plan.now site) }
-    ensures plan { IsPlan after.now.plan.now }
+    requires picks { length picks.now.kept ≡ length (groups_of after.now.plan) }
+    requires site { site < length after.now.plan.sites }
+    ensures bits { IfOk result (λ bits. bits.items ≡ picked_bits picks.now after.now.plan site) }
+    ensures plan { IsPlan after.now.plan }
 {
-    let sites = site_count(after.plan);
+    let sites = site_count(after);
     prove!(site < sites);
     let mut bits = Vec::new(alloc);
-    for index in 0..after.rows.groups().len() {
+    for index in 0..group_count(after) {
         add_group(&mut bits, after, picks, site, index)?;
     }
     Ok(bits)
@@ -42,14 +40,13 @@ fn add_group(
     site: usize,
     index: usize,
 ) -> Result<(), NoMemory>
-    requires after { AreInputs after.now }
-    requires picks { length picks.now.kept ≡ length (groups_of after.now.plan.now) }
+    requires picks { length picks.now.kept ≡ length (groups_of after.now.plan) }
     requires site { site < 16 }
-    requires index { index < length (groups_of after.now.plan.now) }
+    requires index { index < length (groups_of after.now.plan) }
     ensures { OnOk result (bits.new.items ≡ bits.old.items
-        ++ map (is_picked picks.now) (plates_in site (index, group_at after.now.plan.now index))) }
+        ++ map (is_picked picks.now) (plates_in site (index, group_at after.now.plan index))) }
 {
-    let group = group_with(after.plan, after.rows, index);
+    let group = group_with(after, index);
     if group.has_site(site) {
         add_inks(bits, after, picks, site, index)?;
     }
@@ -64,15 +61,14 @@ fn add_inks(
     site: usize,
     index: usize,
 ) -> Result<(), NoMemory>
-    requires after { AreInputs after.now }
-    requires picks { length picks.now.kept ≡ length (groups_of after.now.plan.now) }
+    requires picks { length picks.now.kept ≡ length (groups_of after.now.plan) }
     requires site { site < 16 }
-    requires index { index < length (groups_of after.now.plan.now) }
+    requires index { index < length (groups_of after.now.plan) }
     ensures { OnOk result (bits.new.items ≡ bits.old.items
         ++ map (is_picked picks.now)
-        (ink_plates site index (inks_of (group_at after.now.plan.now index)))) }
+        (ink_plates site index (inks_of (group_at after.now.plan index)))) }
 {
-    let group = group_with(after.plan, after.rows, index);
+    let group = group_with(after, index);
     for ink in group.inks() {
         add_plate(bits, picks, site, index, *ink)?;
     }

@@ -138,16 +138,8 @@ fn picks<R: Abort + AllocGlobal>(
 {
     let old_rows = RowPlan::of(rt.alloc(), old_plan).expect(rt, "memory");
     let new_rows = RowPlan::of(rt.alloc(), new_plan).expect(rt, "memory");
-    let before = Inputs {
-        plan: old_plan,
-        rows: &old_rows,
-        files: old_files,
-    };
-    let after = Inputs {
-        plan: new_plan,
-        rows: &new_rows,
-        files: new_files,
-    };
+    let before = Inputs::new(old_plan, &old_rows, old_files);
+    let after = Inputs::new(new_plan, &new_rows, new_files);
     let picks = Picks::of(rt.alloc(), &before, &after).expect(rt, "memory");
     told(rt, &picks, new_plan, &new_rows).as_str() == made && left(rt, &picks).as_str() == dropped
 }

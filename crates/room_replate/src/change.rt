@@ -3,7 +3,6 @@ ghost use Rattle.std.specs.Prelude.{◌≡◌, ◌≤◌, IfErr, IfOk, OnErr, On
 ghost use Rattle.plan_json.specs.Plan.{IsPlan};
 ghost use Rattle.plan_rows.specs.Groups.{groups_of};
 ghost use Rattle.press_job.specs.Rows.{plate_frames};
-ghost use Rattle.replate.specs.Inputs.{AreInputs, job_of};
 ghost use Rattle.room_replate.specs.Change.{AnswersChange, change_told, ChangeRefused, DeliversPicked, DeliversPickedPart, IsLate, IsLoadedLate, compared};
 ghost use Rattle.room_base.specs.Seen.{AreIdle, shelf_seen, sink_seen};
 
@@ -104,15 +103,10 @@ fn compare(alloc: Global, before: &Job, job: Job, out: &str) -> Result<Late, NoM
 
 /// A job as it is compared.
 fn inputs_of(job: &Job) -> Inputs<'_>
-    ensures inputs { AreInputs result }
-    ensures job { job_of result ≡ compared job.now }
+    ensures job { result ≡ compared job.now }
     ensures plan { IsPlan job.now.plan }
 {
-    Inputs {
-        plan: job.plan(),
-        rows: job.rows(),
-        files: job.files(),
-    }
+    Inputs::new(job.plan(), job.rows(), job.files())
 }
 
 /// Makes the plates that must be made.

@@ -10,14 +10,14 @@ use Rattle.replate.proofs.delivery.deliver.Goals as goal
 pub make_plates-requires-clause-idle : goal.make_plates-requires-clause-idle
 make_plates-requires-clause-idle g c =
     let tell : g.row.R.Denot → RackTells = told g.R.Rack in
-    let count : length c.split_at_mut-racks.result.0.now ≡ length c.args.after.now.plan.now.sites = search rules in
-    front_idle tell (length c.args.after.now.plan.now.sites) c.args.racks.now c.split_at_mut-racks.result.0.now c.split_at_mut-racks.result.1.now (search rules) count c.requires.idle
+    let count : length c.split_at_mut-racks.result.0.now ≡ length c.args.after.now.plan.sites = search rules in
+    front_idle tell (length c.args.after.now.plan.sites) c.args.racks.now c.split_at_mut-racks.result.0.now c.split_at_mut-racks.result.1.now (search rules) count c.requires.idle
 
 pub returns-clause-fits : goal.returns-clause-fits
 returns-clause-fits g c =
     let tell : g.row.R.Denot → RackTells = told g.R.Rack in
-    let count : length c.split_at_mut-racks.result.0.now ≡ length c.args.after.now.plan.now.sites = search rules in
-    let making : Making = by_picks c.args.after.now.plan.now (map framed_row (g.D.Deal.rows c.args.deal.now)) c.args.out.now c.args.picks.now in
+    let count : length c.split_at_mut-racks.result.0.now ≡ length c.args.after.now.plan.sites = search rules in
+    let making : Making = by_picks c.args.after.now.plan (map framed_row (g.D.Deal.rows c.args.deal.now)) c.args.out.now c.args.picks.now in
     if_ok c.make_plates.result _ _
     (λ ends fits. fits_wide tell making c.args.racks.now _ c.split_at_mut-racks.result.0.now c.make_plates.new.racks c.split_at_mut-racks.result.1.now ends.items (search rules) refl count c.make_plates.auto.racks fits)
     c.make_plates.ensures.fits
@@ -25,8 +25,8 @@ returns-clause-fits g c =
 pub returns-clause-part : goal.returns-clause-part
 returns-clause-part g c =
     let tell : g.row.R.Denot → RackTells = told g.R.Rack in
-    let count : length c.split_at_mut-racks.result.0.now ≡ length c.args.after.now.plan.now.sites = search rules in
-    let making : Making = by_picks c.args.after.now.plan.now (map framed_row (g.D.Deal.rows c.args.deal.now)) c.args.out.now c.args.picks.now in
+    let count : length c.split_at_mut-racks.result.0.now ≡ length c.args.after.now.plan.sites = search rules in
+    let making : Making = by_picks c.args.after.now.plan (map framed_row (g.D.Deal.rows c.args.deal.now)) c.args.out.now c.args.picks.now in
     if_err c.make_plates.result _ _
     (λ part. part_wide tell making c.args.racks.now _ c.split_at_mut-racks.result.0.now c.make_plates.new.racks c.split_at_mut-racks.result.1.now (search rules) refl count c.make_plates.auto.racks part)
     c.make_plates.ensures.part

@@ -10,8 +10,8 @@ use Rattle.replate.proofs.dropped.add_inks.Goals as goal
 
 pub loop-ink-preserved : goal.loop-ink-preserved
 loop-ink-preserved c =
-    let plan = c.args.before.now.plan.now in
-    let test : PlateAt → Bool = is_dropped plan c.args.after.now.plan.now in
+    let plan = c.args.before.now.plan in
+    let test : PlateAt → Bool = is_dropped plan c.args.after.now.plan in
     let old = c.args.plates.now.items in
     let k = c.loop-ink.ink-index in
     let items = c.inks-ink-items.result.now in

@@ -6,5 +6,5 @@ use Rattle.replate.specs.Plates.{group_at, ink_plates}
 use Rattle.replate.proofs.dropped.add_inks.Given as goal
 
 abbrev pub invariant-loop-ink : goal.invariant-loop-ink
-invariant-loop-ink l = l.plates.items ≡ l.fn.plates.items ++ filter (is_dropped l.before.plan.now l.after.plan.now)
-    (ink_plates l.site l.index (take l.ink-index (inks_of (group_at l.before.plan.now l.index))))
+invariant-loop-ink l = l.plates.items ≡ l.fn.plates.items ++ filter (is_dropped l.before.plan l.after.plan)
+    (ink_plates l.site l.index (take l.ink-index (inks_of (group_at l.before.plan l.index))))

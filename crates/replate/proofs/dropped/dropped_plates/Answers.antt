@@ -10,8 +10,8 @@ use Rattle.replate.proofs.dropped.dropped_plates.Goals as goal
 
 pub loop-site-preserved : goal.loop-site-preserved
 loop-site-preserved c =
-    let plan = c.args.before.now.plan.now in
-    let test : PlateAt → Bool = is_dropped plan c.args.after.now.plan.now in
+    let plan = c.args.before.now.plan in
+    let test : PlateAt → Bool = is_dropped plan c.args.after.now.plan in
     let site = c.loop-site.site in
     let count = length plan.sites in
     let sites : List ℕ = range_with_len 0 count in
@@ -26,8 +26,8 @@ loop-site-preserved c =
 pub returns-clause-dropped : goal.returns-clause-dropped
 unfolding dropped_of all_plates
 returns-clause-dropped c =
-    let plan = c.args.before.now.plan.now in
-    let test : PlateAt → Bool = is_dropped plan c.args.after.now.plan.now in
+    let plan = c.args.before.now.plan in
+    let test : PlateAt → Bool = is_dropped plan c.args.after.now.plan in
     let count = length plan.sites in
     let sites : List ℕ = range_with_len 0 count in
     let is = c.site_count-site-end.ensures.count in

@@ -6,5 +6,5 @@ use Rattle.replate.specs.Plates.{plates_of}
 use Rattle.replate.proofs.dropped.dropped_plates.Given as goal
 
 abbrev pub invariant-loop-site : goal.invariant-loop-site
-invariant-loop-site l = l.plates.items ≡ filter (is_dropped l.before.plan.now l.after.plan.now)
-    (flat_map (plates_of l.before.plan.now) (take l.site (range_with_len 0 (length l.before.plan.now.sites))))
+invariant-loop-site l = l.plates.items ≡ filter (is_dropped l.before.plan l.after.plan)
+    (flat_map (plates_of l.before.plan) (take l.site (range_with_len 0 (length l.before.plan.sites))))

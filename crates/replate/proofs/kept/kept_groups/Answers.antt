@@ -1,14 +1,13 @@
 use Rattle.std.proofs.Common.{◌≡◌, ◌+◌, ◌∷◌, [], Bool, List, length, length-append, ap, sym, subst, ◌∙◌}
 use Rattle.plan_rows.specs.declared.group.Group.{Group}
-use Rattle.replate.specs.Inputs.{job_of}
 use Rattle.replate.specs.Standing.{AreAllKept, AreKept}
 use Rattle.replate.proofs.KeptLemmas.{rows_more}
 use Rattle.replate.proofs.kept.kept_groups.Goals as goal
 
 pub loop-index-preserved : goal.loop-index-preserved
 loop-index-preserved c =
-    let before = job_of c.args.before.now in
-    let after = job_of c.args.after.now in
+    let before = c.args.before.now in
+    let after = c.args.after.now in
     let n = c.loop-index.index in
     let kept = c.loop-index.kept.items in
     let row = c.kept_sites-row.result in

@@ -1,10 +1,9 @@
 use Rattle.std.proofs.Common.{◌≡◌, length}
-use Rattle.replate.specs.Inputs.{job_of}
 use Rattle.replate.specs.Standing.{AreAllKept}
 use Rattle.replate.proofs.kept.kept_groups.Given as goal
 
 abbrev pub invariant-loop-index : goal.invariant-loop-index
 invariant-loop-index l = record {
   count : length l.kept.items ≡ l.index;
-  rows : AreAllKept (job_of l.before) (job_of l.after) l.index l.kept.items;
+  rows : AreAllKept l.before l.after l.index l.kept.items;
 }

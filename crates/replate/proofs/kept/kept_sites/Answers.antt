@@ -1,5 +1,4 @@
 use Rattle.std.proofs.Common.{◌≡◌, length, length-set, ◌∙◌, arith}
-use Rattle.replate.specs.Inputs.{job_of}
 use Rattle.replate.proofs.KeptLemmas.{row_more}
 use Rattle.replate.proofs.kept.kept_sites.Goals as goal
 
@@ -10,6 +9,6 @@ loop-site-preserved c =
     let long : length c.loop-site.row ≡ 16 = c.loop-site.invariant.long in
     record {
       long = length-set c.loop-site.row c.loop-site.site c.is_kept.result ∙ long;
-      kept = row_more (job_of c.args.before.now) (job_of c.args.after.now) c.args.group.now c.loop-site.site c.loop-site.row c.is_kept.result
+      kept = row_more c.args.before.now c.args.after.now c.args.group.now c.loop-site.site c.loop-site.row c.is_kept.result
           (omega arith) c.is_kept.ensures.found c.is_kept.ensures.each c.loop-site.invariant.kept;
     }

@@ -13,7 +13,7 @@ loop-ink-preserved c =
     let old = c.args.bits.now.items in
     let k = c.loop-ink.ink-index in
     let items = c.inks-ink-items.result.now in
-    let inks : List Ink = inks_of (group_at c.args.after.now.plan.now c.args.index) in
+    let inks : List Ink = inks_of (group_at c.args.after.now.plan c.args.index) in
     let same : items ≡ inks = c.inks-ink-items.ensures ∙ ap inks_of c.group_with-group.ensures.group in
     let plate : Ink → PlateAt = λ ink. record { site = c.args.site; group = c.args.index; ink = ink } in
     let seen : List Bool = old ++ map test (ink_plates c.args.site c.args.index (take k inks)) in

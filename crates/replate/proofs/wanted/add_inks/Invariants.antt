@@ -5,4 +5,4 @@ use Rattle.replate.specs.Remade.{is_picked}
 use Rattle.replate.proofs.wanted.add_inks.Given as goal
 
 abbrev pub invariant-loop-ink : goal.invariant-loop-ink
-invariant-loop-ink l = l.bits.items ≡ l.fn.bits.items ++ map (is_picked l.picks) (ink_plates l.site l.index (take l.ink-index (inks_of (group_at l.after.plan.now l.index))))
+invariant-loop-ink l = l.bits.items ≡ l.fn.bits.items ++ map (is_picked l.picks) (ink_plates l.site l.index (take l.ink-index (inks_of (group_at l.after.plan l.index))))

@@ -6,4 +6,4 @@ use Rattle.replate.specs.Remade.{is_picked}
 use Rattle.replate.proofs.wanted.wanted_of.Given as goal
 
 abbrev pub invariant-loop-index : goal.invariant-loop-index
-invariant-loop-index l = l.bits.items ≡ map (is_picked l.picks) (flat_map (plates_in l.site) (take l.index (enumerate_from 0 (groups_of l.after.plan.now))))
+invariant-loop-index l = l.bits.items ≡ map (is_picked l.picks) (flat_map (plates_in l.site) (take l.index (enumerate_from 0 (groups_of l.after.plan))))

@@ -21,7 +21,7 @@ pub loop-feed-init : goal.loop-feed-init
 loop-feed-init g c =
     let tell : g.row.R.Denot → RackTells = told g.R.Rack in
     let self = c.args.self.now in
-    let plan : PlanData = self.after.plan.now in
+    let plan : PlanData = self.after.now.plan in
     let frames : List (List ℕ) = c.args.deck.now.rows in
     let making : Making = by_picks plan (map framed_row frames) self.out.now self.picks.now in
     let carries : Carries making frames = record { plan_is = c.makers.ensures.plan; rows_are = c.requires.rows; framed = refl } in
@@ -42,7 +42,7 @@ pub are_making-requires : goal.are_making-requires
 are_making-requires g c =
     let tell : g.row.R.Denot → RackTells = told g.R.Rack in
     let self = c.args.self.now in
-    let plan : PlanData = self.after.plan.now in
+    let plan : PlanData = self.after.now.plan in
     let frames : List (List ℕ) = c.args.deck.now.rows in
     let making : Making = by_picks plan (map framed_row frames) self.out.now self.picks.now in
     let carries : Carries making frames = record { plan_is = c.makers.ensures.plan; rows_are = c.requires.rows; framed = refl } in
@@ -59,7 +59,7 @@ pub next-requires : goal.next-requires
 next-requires g c =
     let tell : g.row.R.Denot → RackTells = told g.R.Rack in
     let self = c.args.self.now in
-    let plan : PlanData = self.after.plan.now in
+    let plan : PlanData = self.after.now.plan in
     let frames : List (List ℕ) = c.args.deck.now.rows in
     let making : Making = by_picks plan (map framed_row frames) self.out.now self.picks.now in
     let carries : Carries making frames = record { plan_is = c.makers.ensures.plan; rows_are = c.requires.rows; framed = refl } in
@@ -83,7 +83,7 @@ pub hand_row-requires-clause-some : goal.hand_row-requires-clause-some
 hand_row-requires-clause-some g c =
     let tell : g.row.R.Denot → RackTells = told g.R.Rack in
     let self = c.args.self.now in
-    let plan : PlanData = self.after.plan.now in
+    let plan : PlanData = self.after.now.plan in
     let frames : List (List ℕ) = c.args.deck.now.rows in
     let making : Making = by_picks plan (map framed_row frames) self.out.now self.picks.now in
     let carries : Carries making frames = record { plan_is = c.makers.ensures.plan; rows_are = c.requires.rows; framed = refl } in
@@ -106,7 +106,7 @@ pub loop-feed-preserved : goal.loop-feed-preserved
 loop-feed-preserved g c =
     let tell : g.row.R.Denot → RackTells = told g.R.Rack in
     let self = c.args.self.now in
-    let plan : PlanData = self.after.plan.now in
+    let plan : PlanData = self.after.now.plan in
     let frames : List (List ℕ) = c.args.deck.now.rows in
     let making : Making = by_picks plan (map framed_row frames) self.out.now self.picks.now in
     let carries : Carries making frames = record { plan_is = c.makers.ensures.plan; rows_are = c.requires.rows; framed = refl } in
@@ -149,7 +149,7 @@ pub returns-in_err-hand_row-clause-part : goal.returns-in_err-hand_row-clause-pa
 returns-in_err-hand_row-clause-part g c =
     let tell : g.row.R.Denot → RackTells = told g.R.Rack in
     let self = c.args.self.now in
-    let plan : PlanData = self.after.plan.now in
+    let plan : PlanData = self.after.now.plan in
     let frames : List (List ℕ) = c.args.deck.now.rows in
     let making : Making = by_picks plan (map framed_row frames) self.out.now self.picks.now in
     let carries : Carries making frames = record { plan_is = c.makers.ensures.plan; rows_are = c.requires.rows; framed = refl } in
@@ -175,7 +175,7 @@ pub returns-in_err-hand_row-clause-counts : goal.returns-in_err-hand_row-clause-
 returns-in_err-hand_row-clause-counts g c =
     let tell : g.row.R.Denot → RackTells = told g.R.Rack in
     let self = c.args.self.now in
-    let plan : PlanData = self.after.plan.now in
+    let plan : PlanData = self.after.now.plan in
     let frames : List (List ℕ) = c.args.deck.now.rows in
     let making : Making = by_picks plan (map framed_row frames) self.out.now self.picks.now in
     let carries : Carries making frames = record { plan_is = c.makers.ensures.plan; rows_are = c.requires.rows; framed = refl } in
@@ -203,7 +203,7 @@ pub returns-clause-fits : goal.returns-clause-fits
 returns-clause-fits g c =
     let tell : g.row.R.Denot → RackTells = told g.R.Rack in
     let self = c.args.self.now in
-    let plan : PlanData = self.after.plan.now in
+    let plan : PlanData = self.after.now.plan in
     let frames : List (List ℕ) = c.args.deck.now.rows in
     let making : Making = by_picks plan (map framed_row frames) self.out.now self.picks.now in
     let carries : Carries making frames = record { plan_is = c.makers.ensures.plan; rows_are = c.requires.rows; framed = refl } in
@@ -222,7 +222,7 @@ pub returns-clause-part : goal.returns-clause-part
 returns-clause-part g c =
     let tell : g.row.R.Denot → RackTells = told g.R.Rack in
     let self = c.args.self.now in
-    let plan : PlanData = self.after.plan.now in
+    let plan : PlanData = self.after.now.plan in
     let frames : List (List ℕ) = c.args.deck.now.rows in
     let making : Making = by_picks plan (map framed_row frames) self.out.now self.picks.now in
     let carries : Carries making frames = record { plan_is = c.makers.ensures.plan; rows_are = c.requires.rows; framed = refl } in
@@ -239,7 +239,7 @@ pub returns-clause-counts : goal.returns-clause-counts
 returns-clause-counts g c =
     let tell : g.row.R.Denot → RackTells = told g.R.Rack in
     let self = c.args.self.now in
-    let plan : PlanData = self.after.plan.now in
+    let plan : PlanData = self.after.now.plan in
     let frames : List (List ℕ) = c.args.deck.now.rows in
     let making : Making = by_picks plan (map framed_row frames) self.out.now self.picks.now in
     let carries : Carries making frames = record { plan_is = c.makers.ensures.plan; rows_are = c.requires.rows; framed = refl } in

@@ -14,7 +14,7 @@ invariant-loop-feed g l = record {
   feed : g.F.RowFeed.left l.feed ≡ drop l.deck.put l.deck.rows;
   row : length l.row ≡ length l.fn.row;
   racks : length l.racks ≡ length l.fn.racks;
-  served : AreServed (by_picks l.self.after.plan.now (map framed_row l.fn.deck.rows) l.self.out.now l.self.picks.now) l.deck.put (all_told g.R.Rack l.fn.racks) (all_told g.R.Rack l.racks) l.makers.items;
+  served : AreServed (by_picks l.self.after.now.plan (map framed_row l.fn.deck.rows) l.self.out.now l.self.picks.now) l.deck.put (all_told g.R.Rack l.fn.racks) (all_told g.R.Rack l.racks) l.makers.items;
 }
 
 abbrev pub decreases-loop-feed : goal.decreases-loop-feed
