@@ -20,4 +20,4 @@ pub of_picked-requires-clause-wanted : goal.of_picked-requires-clause-wanted
 of_picked-requires-clause-wanted c =
     let plan = c.args.self.now.after.now.plan in
     ap length (c.deref-2.ensures.value ∙ c.in_ok-wanted.ensures.bits) ∙ length-picked_bits c.args.self.now.picks.now plan c.args.site
-    ∙ ap (λ (p : PlanData). length (site_plates p c.args.site)) (sym c.plan.ensures.plan)
+    ∙ ap (λ (p : PlanData). length (site_plates p c.args.site)) (sym c.plan-plan.ensures.plan)
