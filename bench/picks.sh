@@ -26,7 +26,6 @@ cat > "$program/src/main.rt" <<'CODE'
 
 ghost use Rattle.std.specs.Prelude.{◌≡◌, IfOk, length};
 ghost use Rattle.plan_rows.specs.Rows.{rows_of};
-ghost use Rattle.replate.specs.Inputs.{AreInputs};
 
 use anyhow::{Context, Result};
 use plan_json::{Plan, read_plan};
@@ -70,10 +69,7 @@ fn files_of(alloc: Global, count: usize, size: usize, number: u64) -> Result<Vec
 }
 
 /// Times the picks, and prints how many old plates are dropped.
-fn pick(rt: &(impl CpuClock + Print + AllocGlobal), kind: &str, before: &Inputs<'_>, after: &Inputs<'_>) -> Result<()>
-    requires before { AreInputs before.now }
-    requires after { AreInputs after.now }
-{
+fn pick(rt: &(impl CpuClock + Print + AllocGlobal), kind: &str, before: &Inputs<'_>, after: &Inputs<'_>) -> Result<()> {
     let start = rt.process_cpu_time()?;
     let picks = Picks::of(rt.alloc(), before, after)?;
     let took = microseconds(start, rt.process_cpu_time()?);
@@ -113,8 +109,8 @@ fn pick_files(
     requires old { length old.now ≡ length plan.now.files }
     requires new { length new.now ≡ length plan.now.files }
 {
-    let before = Inputs { plan, rows, files: old };
-    let after = Inputs { plan, rows, files: new };
+    let before = Inputs::new(plan, rows, old);
+    let after = Inputs::new(plan, rows, new);
     pick(rt, kind, &before, &after)
 }
 
