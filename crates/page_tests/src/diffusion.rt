@@ -1,5 +1,5 @@
 // Error diffusion: worked rows, and a page whose bits another program made.
-ghost use Rattle.std.specs.Prelude.{◌≡◌, ◌≤◌};
+ghost use Rattle.std.specs.Prelude.{◌≡◌, ◌≤◌, []};
 
 use scr_diffuse::{BlockDiffuser, Diffuser};
 use std::process::Abort;
@@ -78,25 +78,38 @@ fn seeded_page(rt: HostRuntime) {
 #[test]
 fn seeded_page_in_blocks(rt: HostRuntime) {
     let mut diffuser = BlockDiffuser::new(rt.alloc(), 61).expect(&rt, "memory");
-    let mut seed = 1976;
-    for block in 0..3 {
-        let mut rows = [[0; 61]; 8];
-        for row in rows.iter_mut() {
-            let (values, next) = seeded(seed);
-            seed = next;
-            *row = values;
-        }
-        diffuser.advance([
-            &rows[0], &rows[1], &rows[2], &rows[3], &rows[4], &rows[5], &rows[6], &rows[7],
-        ]);
-        for k in 0..8 {
-            if 8 * block + k < SEEDED.len() {
-                let mut bits = [0; 8];
-                diffuser.draw(k, &mut bits, 0);
-                assert!(rt; bits == SEEDED[8 * block + k]);
-            }
+    let seed = assert_block(&rt, &mut diffuser, 1976, 0);
+    let seed = assert_block(&rt, &mut diffuser, seed, 8);
+    assert_block(&rt, &mut diffuser, seed, 16);
+}
+
+/// The next eight rows, from this seed on, give the bits of the page from row `first` on.
+fn assert_block(rt: &impl Abort, diffuser: &mut BlockDiffuser, seed: u32, first: usize) -> u32
+    requires width { diffuser.old.width ≡ 61 }
+    requires first { first ≤ 16 }
+    ensures { diffuser.new.width ≡ 61 }
+{
+    let (rows, seed) = seeded_block(seed);
+    let [a, b, c, d, e, f, g, h] = &rows;
+    diffuser.advance([a, b, c, d, e, f, g, h]);
+    for k in 0..8 {
+        if first + k < SEEDED.len() {
+            let mut bits = [0; 8];
+            diffuser.draw(k, &mut bits, 0);
+            assert!(rt; bits == SEEDED[first + k]);
         }
     }
+    seed
+}
+
+/// The next eight rows of the generator, and where it then stands.
+fn seeded_block(seed: u32) -> ([[u8; 61]; 8], u32) {
+    let mut seed = seed;
+    let mut rows = [[0; 61]; 8];
+    for row in rows.iter_mut() {
+        (*row, seed) = seeded(seed);
+    }
+    (rows, seed)
 }
 
 /// The next values of the generator, and where it then stands.
@@ -144,15 +157,21 @@ fn one_column(rt: HostRuntime) {
 #[test]
 fn one_column_in_a_block(rt: HostRuntime) {
     let mut diffuser = BlockDiffuser::new(rt.alloc(), 1).expect(&rt, "memory");
-    for _time in 0..2 {
-        diffuser.advance([&[200], &[100], &[50], &[25], &[180], &[90], &[128], &[127]]);
-        let mut bits = [0];
-        for k in 0..8 {
-            diffuser.draw(k as usize, &mut bits, k);
-        }
-        assert!(rt; bits == [0x8A]);
-        diffuser.restart();
+    assert_column(&rt, &mut diffuser);
+    diffuser.restart();
+    assert_column(&rt, &mut diffuser);
+}
+
+fn assert_column(rt: &impl Abort, diffuser: &mut BlockDiffuser)
+    requires { diffuser.old ≡ record { width = 1; rows = [] } }
+    ensures { diffuser.new.width ≡ 1 }
+{
+    diffuser.advance([&[200], &[100], &[50], &[25], &[180], &[90], &[128], &[127]]);
+    let mut bits = [0];
+    for k in 0..8 {
+        diffuser.draw(k as usize, &mut bits, k);
     }
+    assert!(rt; bits == [0x8A]);
 }
 
 // The errors are -55, 75, 82, 60, -49, 68, -98, 84, 39, 12 and 104,

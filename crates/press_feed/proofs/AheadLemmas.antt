@@ -21,7 +21,7 @@ use Rattle.press_job.specs.Printing.{bit_under, page_bit, page_values, printed_r
 use Rattle.scr_diffuse.specs.Diffuser.{PageFront}
 use Rattle.scr_diffuse.specs.Diffusion.{diffused_bit, prints}
 use Rattle.scr_diffuse.proofs.DiffusionLemmas.{v_at-same}
-use Rattle.press_feed.specs.Blocks.{AreDiffused, AreHeldFrom, AreTiled, AreWide, DrawsPages, HoldRows, IsAhead, IsBlockOf, IsOnly, IsSetAt, has_ink, sheet_at}
+use Rattle.press_feed.specs.Blocks.{AreDiffused, AreHeldFrom, AreTiled, AreWide, DrawsPages, HoldRows, AreBlocks, IsAhead, IsBlockOf, IsOnly, IsSetAt, has_ink, sheet_at}
 use Rattle.press_feed.specs.Chain.{AreRows, ChainData, IsWide, behind_held}
 use Rattle.press_feed.specs.declared.chain.Chains.{Chains}
 use Rattle.press_feed.specs.Screener.{is_diffused, is_diffusion}
@@ -248,18 +248,19 @@ other_ink ink other differ = λ same. unlike other (subst {A = Ink} (λ i. sameb
     unlike K h = cc
     unlike S h = cc
 
--- the row of the block that shows row y
-pub kept_tiled : (job : JobData) (chosen : Ink) (chains : Chains) (sheet : List (List ℕ)) (blocks y : ℕ) (group : Group) (ink : Ink) → IsBlockOf job chosen chains sheet blocks group → blocks ≡ y / 8 + 1 → y < job.plan.page_height
-    → has_ink group ink ≡ true → ink ≢ chosen → DrawsPages job group ink y (sheet_at sheet (y % 8) ink)
-kept_tiled job chosen chains sheet blocks y group ink of blocks_are within has other =
-    let place : 8 * (blocks - 1) + y % 8 ≡ y = omega arith in
-    subst {A = ℕ} (λ n. DrawsPages job group ink n (sheet_at sheet (y % 8) ink)) place ((of.tiled (omega arith)).each (y % 8) ink (omega arith) (omega arith) has other)
+-- the row of the block that shows row y, of an ink that isn't diffused and of that which is
+module _ (job : JobData) (chosen : Ink) (chains : Chains) (sheet : List (List ℕ)) (held : Option Group) (blocks : ℕ) (are : AreBlocks job chosen chains sheet held blocks)
+    (group : Group) (there : held ≡ Some group) (y : ℕ) (row : blocks ≡ y / 8 + 1) (within : y < job.plan.page_height) where
+  place : 8 * (blocks - 1) + y % 8 ≡ y
+  place = omega arith
 
-pub kept_diffused : (job : JobData) (chosen : Ink) (chains : Chains) (sheet : List (List ℕ)) (blocks y : ℕ) (group : Group) (ink : Ink) → IsBlockOf job chosen chains sheet blocks group → blocks ≡ y / 8 + 1 → y < job.plan.page_height
-    → ink ≡ chosen → DrawsPages job group ink y (sheet_at sheet (y % 8) ink)
-kept_diffused job chosen chains sheet blocks y group ink of blocks_are within is =
-    let place : 8 * (blocks - 1) + y % 8 ≡ y = omega arith in
-    rw is (subst {A = ℕ} (λ n. DrawsPages job group chosen n (sheet_at sheet (y % 8) chosen)) place ((of.diffused (omega arith)).each (y % 8) (omega arith) (omega arith)))
+  pub kept_tiled : (ink : Ink) → has_ink group ink ≡ true → ink ≢ chosen → DrawsPages job group ink y (sheet_at sheet (y % 8) ink)
+  kept_tiled ink has other =
+      subst {A = ℕ} (λ n. DrawsPages job group ink n (sheet_at sheet (y % 8) ink)) place (((are.block group there).tiled (omega arith)).each (y % 8) ink (omega arith) (omega arith) has other)
+
+  pub kept_diffused : (ink : Ink) → ink ≡ chosen → DrawsPages job group ink y (sheet_at sheet (y % 8) ink)
+  kept_diffused ink is =
+      rw is (subst {A = ℕ} (λ n. DrawsPages job group chosen n (sheet_at sheet (y % 8) chosen)) place (((are.block group there).diffused (omega arith)).each (y % 8) (omega arith) (omega arith)))
 
 -- ---- the ink that is diffused alone
 
@@ -326,17 +327,28 @@ wide_behind : (width : ℕ) (chain : ChainData) → IsWide width chain → IsWid
 wide_behind width chain wide = record { width_is = wide.width_is; eight = wide.eight }
 
 -- the front of a side's chain, behind the rows of a block
-pub ahead_more : (job : JobData) (page : ℕ) (chosen : Ink) (blocks : ℕ) (old held new : ChainData) → IsAhead job page chosen (8 * blocks) old.front → held.front ≡ old.front → AreHeldFrom job page chosen (8 * blocks) 8 held.held
+ahead_more : (job : JobData) (page : ℕ) (chosen : Ink) (blocks : ℕ) (old held new : ChainData) → IsAhead job page chosen (8 * blocks) old.front → held.front ≡ old.front → AreHeldFrom job page chosen (8 * blocks) 8 held.held
     → IsWide job.plan.page_width held → new ≡ behind_held held → IsAhead job page chosen (8 * blocks + 8) new.front
 ahead_more job page chosen blocks old held new ahead same are wide new_is =
     subst {A = ChainData} (λ chain. IsAhead job page chosen (8 * blocks + 8) chain.front) (sym new_is)
     (ahead_next job page chosen (8 * blocks) held (subst {A = PageFront} (IsAhead job page chosen (8 * blocks)) (sym same) ahead) are wide.eight)
 
-pub wide_more : (job : JobData) (held new : Chains) → AreWide job held → new.left ≡ behind_held held.left → new.right ≡ behind_held held.right → AreWide job new
-wide_more job held new wide left right = record {
-  left_wide = subst {A = ChainData} (IsWide job.plan.page_width) (sym left) (wide_behind job.plan.page_width held.left wide.left_wide);
-  right_wide = subst {A = ChainData} (IsWide job.plan.page_width) (sym right) (wide_behind job.plan.page_width held.right wide.right_wide);
-}
+-- the chains of both pages, behind the rows of a block that was taken of the pages of the same job
+pub chains_more : (job own : JobData) (chosen : Ink) (group : Group) (old held new : Chains) (sheet : List (List ℕ)) (blocks : ℕ) → own ≡ job → IsBlockOf job chosen old sheet blocks group → HoldRows own group chosen (8 * blocks) 8 old held → AreWide own held
+    → new.left ≡ behind_held held.left → new.right ≡ behind_held held.right
+    → IsAhead job group.left chosen (8 * blocks + 8) new.left.front × (IsAhead job group.right chosen (8 * blocks + 8) new.right.front × AreWide job new)
+chains_more job own chosen group old held new sheet blocks same of holds fits left right =
+    let hold : HoldRows job group chosen (8 * blocks) 8 old held = subst {A = JobData} (λ j. HoldRows j group chosen (8 * blocks) 8 old held) same holds in
+    let wide : AreWide job held = subst {A = JobData} (λ j. AreWide j held) same fits in (
+      ahead_more job group.left chosen blocks old.left held.left new.left of.left_ahead hold.left_front hold.left_held wide.left_wide left,
+      (
+        ahead_more job group.right chosen blocks old.right held.right new.right of.right_ahead hold.right_front hold.right_held wide.right_wide right,
+        record {
+          left_wide = subst {A = ChainData} (IsWide job.plan.page_width) (sym left) (wide_behind job.plan.page_width held.left wide.left_wide);
+          right_wide = subst {A = ChainData} (IsWide job.plan.page_width) (sym right) (wide_behind job.plan.page_width held.right wide.right_wide);
+        },
+      ),
+    )
 
 pub block_next : (job : JobData) (chosen : Ink) (group : Group) (new : Chains) (held sheet : List (List ℕ)) (blocks : ℕ) → IsAhead job group.left chosen (8 * blocks + 8) new.left.front → IsAhead job group.right chosen (8 * blocks + 8) new.right.front
     → AreTiled job group chosen (8 * blocks) 8 held → ((k : ℕ) (ink : Ink) → ink ≢ chosen → sheet_at sheet k ink ≡ sheet_at held k ink) → AreDiffused job group chosen (8 * blocks) 8 sheet → IsBlockOf job chosen new sheet (blocks + 1) group

@@ -6,10 +6,10 @@ use pr_base::NoMemory;
 use std::alloc::Global;
 use std::marker::Model;
 
-/// The bytes of a row of values or of a plate. Contracts see the bytes.
+/// The bytes of a row of values, of a plate, or of its frame. Contracts see the bytes.
 #[derive(Drop)]
 pub(crate) struct ByteRow {
-    bytes: Vec<u8>,
+    pub(crate) bytes: Vec<u8>,
 }
 
 impl Model for ByteRow {

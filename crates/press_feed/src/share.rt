@@ -2,7 +2,7 @@
 ghost use Rattle.std.specs.Prelude.{All, ◌≡◌, ◌+◌, ◌<◌, ◌≤◌, ◌^◌, IfOk, Some, length, slice_get};
 ghost use Rattle.press_feed.specs.Band.{HoldsFrom, IsShare, frame_bytes};
 
-use crate::frame::Frame;
+use crate::byte_row::{ByteRow, byte_rows};
 use crate::row_maker::RowMaker;
 use pr_base::{Deal, NoMemory};
 use press_job::Job;
@@ -13,7 +13,7 @@ use std::marker::Model;
 #[derive(Drop)]
 pub(crate) struct Share<'j> {
     maker: RowMaker<'j>,
-    frames: Vec<Frame>,
+    frames: Vec<ByteRow>,
 }
 
 impl<'j> Model for Share<'j> {
@@ -33,7 +33,7 @@ impl<'j> Share<'j> {
     pub(crate) fn open(alloc: Global, job: &'j Job, count: usize) -> Result<Share<'j>, NoMemory>
         ensures { IfOk result (IsShareOf job.now count) }
     {
-        let frames = open_frames(alloc, job.row_len(), count)?;
+        let frames = byte_rows(alloc, count, job.row_len())?;
         let maker = RowMaker::open(alloc, job)?;
         Ok(Share { maker, frames })
     }
@@ -58,20 +58,8 @@ impl<'j> Share<'j> {
     }
 }
 
-/// Room for so many frames.
-fn open_frames(alloc: Global, len: usize, count: usize) -> Result<Vec<Frame>, NoMemory>
-    ensures count { IfOk result (λ frames. length frames.items ≡ count) }
-    ensures each { IfOk result (λ frames. All (λ frame. length frame ≡ len) frames.items) }
-{
-    let mut frames = Vec::with_capacity(alloc, count)?;
-    for _frame in 0..count {
-        frames.push(Frame::new(alloc, len)?)?;
-    }
-    Ok(frames)
-}
-
 /// Makes the frames from this number on, as far as the job has some.
-fn make_frames(maker: &mut RowMaker<'_>, first: u64, frames: &mut [Frame])
+fn make_frames(maker: &mut RowMaker<'_>, first: u64, frames: &mut [ByteRow])
     requires first { first + length frames.old < 2 ^ 63 }
     requires each { IsShare maker.old frames.old }
     ensures made { HoldsFrom maker.old first frames.new }
