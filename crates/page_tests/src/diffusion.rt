@@ -1,5 +1,5 @@
 // Error diffusion: worked rows, and a page whose bits another program made.
-ghost use Rattle.std.specs.Prelude.{◌≡◌, ◌≤◌, []};
+ghost use Rattle.std.specs.Prelude.{◌≡◌, ◌≤◌, length};
 
 use scr_diffuse::{BlockDiffuser, Diffuser};
 use std::process::Abort;
@@ -85,13 +85,17 @@ fn seeded_page_in_blocks(rt: HostRuntime) {
 
 /// The next eight rows, from this seed on, give the bits of the page from row `first` on.
 fn assert_block(rt: &impl Abort, diffuser: &mut BlockDiffuser, seed: u32, first: usize) -> u32
-    requires width { diffuser.old.width ≡ 61 }
+    requires width { diffuser.old.front.width ≡ 61 }
+    requires eight { length diffuser.old.held ≡ 8 }
     requires first { first ≤ 16 }
-    ensures { diffuser.new.width ≡ 61 }
+    ensures width { diffuser.new.front.width ≡ 61 }
+    ensures eight { length diffuser.new.held ≡ 8 }
 {
     let (rows, seed) = seeded_block(seed);
-    let [a, b, c, d, e, f, g, h] = &rows;
-    diffuser.advance([a, b, c, d, e, f, g, h]);
+    for k in 0..8 {
+        diffuser.put(k, &rows[k]);
+    }
+    diffuser.advance();
     for k in 0..8 {
         if first + k < SEEDED.len() {
             let mut bits = [0; 8];
@@ -163,10 +167,16 @@ fn one_column_in_a_block(rt: HostRuntime) {
 }
 
 fn assert_column(rt: &impl Abort, diffuser: &mut BlockDiffuser)
-    requires { diffuser.old ≡ record { width = 1; rows = [] } }
-    ensures { diffuser.new.width ≡ 1 }
+    requires width { diffuser.old.front.width ≡ 1 }
+    requires eight { length diffuser.old.held ≡ 8 }
+    ensures width { diffuser.new.front.width ≡ 1 }
+    ensures eight { length diffuser.new.held ≡ 8 }
 {
-    diffuser.advance([&[200], &[100], &[50], &[25], &[180], &[90], &[128], &[127]]);
+    let values = [200, 100, 50, 25, 180, 90, 128, 127];
+    for k in 0..8 {
+        diffuser.put(k, &[values[k]]);
+    }
+    diffuser.advance();
     let mut bits = [0];
     for k in 0..8 {
         diffuser.draw(k as usize, &mut bits, k);

@@ -3,6 +3,7 @@ pub mod CountLemmas
 pub mod Distinct
 pub mod GroupLemmas
 pub mod Held
+pub mod InkLemmas
 pub mod Kept
 pub mod Names
 pub mod Order

@@ -1,5 +1,6 @@
 -- The inks of a group, and whether a site is of it.
 use Rattle.std.specs.Prelude.{ℕ, ◌/◌, ◌%◌, ◌^◌, Bool, true, false, ◌==◌, List, [], ◌∷◌, ◌++◌, length, count_by, nat_lt}
+use Rattle.std.specs.List.{list_any}
 use Rattle.pr_base.specs.declared.ink.Ink.{Ink}
 use Rattle.pr_base.specs.declared.ink.Ink.TheVariants.{C, M, Y, K, S}
 use Rattle.pr_base.specs.Ink.{slot_of}
@@ -25,6 +26,10 @@ ink_count group = length (inks_of group)
 -- how many of the group's inks stand before this one
 abbrev pub ink_place : Group → Ink → ℕ
 ink_place group ink = count_by (λ other. nat_lt (slot_of other) (slot_of ink)) (inks_of group)
+
+-- whether the plates of a group print an ink
+abbrev pub has_ink : Group → Ink → Bool
+has_ink group ink = list_any (λ other. slot_of other == slot_of ink) (inks_of group)
 
 -- whether a site is of the group: bit i stands for site i
 abbrev pub has_site : Group → ℕ → Bool

@@ -24,7 +24,7 @@ pub struct Group {
 }
 
 impl Group {
-    ghost use Rattle.plan_rows.specs.Inks.{has_site as is_of_site, inks_of};
+    ghost use Rattle.plan_rows.specs.Inks.{has_ink as prints, has_site as is_of_site, inks_of};
 
     /// The group's inks in order.
     pub fn inks(&self) -> &'static [Ink]
@@ -35,6 +35,17 @@ impl Group {
             (true, false) => &Ink::ALL[..4],
             (false, true) => &Ink::ALL[3..],
             (false, false) => &Ink::ALL[3..4],
+        }
+    }
+
+    /// Whether the group's plates print an ink.
+    pub fn has_ink(&self, ink: Ink) -> bool
+        ensures { result ≡ prints self.now ink }
+    {
+        match ink {
+            Ink::K => true,
+            Ink::S => self.spot,
+            _ => self.colour,
         }
     }
 

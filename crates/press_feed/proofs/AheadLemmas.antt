@@ -1,5 +1,5 @@
 -- Rows that are drawn ahead, and the chains that they are diffused in.
-use Rattle.std.proofs.Common.{◌≡◌, ◌≢◌, ℕ, zero, suc, ◌+◌, ◌-◌, ◌*◌, ◌/◌, ◌%◌, ◌<◌, ◌≤◌, Bool, true, false, List, [], ◌∷◌, length, get_or, slice_set, is_some, refl, ap, sym, subst, ◌∙◌, inl, inr, arith, get_or-set_same, get_or-set_other}
+use Rattle.std.proofs.Common.{◌≡◌, ◌≢◌, ℕ, zero, suc, ◌+◌, ◌-◌, ◌*◌, ◌/◌, ◌%◌, ◌<◌, ◌≤◌, Bool, true, false, List, [], length, get_or, slice_set, is_some, refl, ap, sym, subst, ◌∙◌, inl, inr, arith, get_or-set_same, get_or-set_other}
 use Rattle.std.proofs.lemmas.Bool.{cases_eq, cases_lt}
 use Rattle.std.proofs.lemmas.List.{get_or_append_left, get_or-append_right, get_or_default, length-append}
 use Rattle.pr_base.specs.Bits.{SetsBits}
@@ -8,9 +8,6 @@ use Rattle.std.specs.Prelude.{Option, Some, None}
 use Rattle.std.specs.Option.{ForSome}
 use Rattle.pr_base.specs.Ink.{all_inks, slot_of}
 use Rattle.pr_base.specs.declared.ink.Ink.{Ink}
-use Rattle.pr_base.specs.declared.ink.Ink.TheVariants.{C, M, Y, K, S}
-use Rattle.pr_base.specs.contracts.ink.Ink.{the_type}
-use denote.Enum.Bare.{sameb}
 use Rattle.pr_base.proofs.Inks.{slot_below, slot_tells}
 use Rattle.plan_json.specs.Data.{PlanData}
 use Rattle.plan_parts.specs.declared.printing.Screen.{Screen}
@@ -21,10 +18,15 @@ use Rattle.press_job.specs.Printing.{bit_under, page_bit, page_values, printed_r
 use Rattle.scr_diffuse.specs.Diffuser.{PageFront}
 use Rattle.scr_diffuse.specs.Diffusion.{diffused_bit, prints}
 use Rattle.scr_diffuse.proofs.DiffusionLemmas.{v_at-same}
-use Rattle.press_feed.specs.Blocks.{AreDiffused, AreHeldFrom, AreTiled, AreWide, DrawsPages, HoldRows, AreBlocks, IsAhead, IsBlockOf, IsOnly, IsSetAt, has_ink, sheet_at}
-use Rattle.press_feed.specs.Chain.{AreRows, ChainData, IsWide, behind_held}
-use Rattle.press_feed.specs.declared.chain.Chains.{Chains}
-use Rattle.press_feed.specs.Screener.{is_diffused, is_diffusion}
+use Rattle.plan_rows.specs.Inks.{has_ink}
+use Rattle.press_feed.specs.Blocks.{AreDiffused, AreHeldFrom, AreTiled, AreWide, HoldRows, AreBlocks, IsAhead, IsBlockOf, IsSetAt, sheet_at}
+use Rattle.press_feed.specs.Chain.{IsWide}
+use Rattle.scr_diffuse.specs.Block.{BlockFront, behind_held}
+use Rattle.press_feed.specs.Pair.{PairData}
+use Rattle.press_feed.specs.Plates.{DrawsPages}
+use Rattle.press_feed.specs.Rows.{AreRows}
+use Rattle.press_feed.specs.declared.chains.Chains.{Chains}
+use Rattle.press_feed.specs.Screener.{IsOnly, is_diffused, is_diffusion}
 use Rattle.press_feed.proofs.ScreenerLemmas.{get_or-page_values}
 
 -- ---- the bits of a chain
@@ -59,7 +61,7 @@ pub ahead_at_top : (job : JobData) (page : ℕ) (ink : Ink) (front : PageFront) 
 ahead_at_top job page ink front width none = record { width_is = width; count_is = ap length none; rows_are = λ y less. absurd (omega arith) }
 
 -- the rows that it holds are taken
-pub ahead_next : (job : JobData) (page : ℕ) (ink : Ink) (first : ℕ) (chain : ChainData) → IsAhead job page ink first chain.front → AreHeldFrom job page ink first 8 chain.held → length chain.held ≡ 8 → IsAhead job page ink (first + 8) (behind_held chain).front
+pub ahead_next : (job : JobData) (page : ℕ) (ink : Ink) (first : ℕ) (chain : BlockFront) → IsAhead job page ink first chain.front → AreHeldFrom job page ink first 8 chain.held → length chain.held ≡ 8 → IsAhead job page ink (first + 8) (behind_held chain).front
 ahead_next job page ink first chain ahead held eight = record {
   width_is = ahead.width_is;
   count_is = length-append chain.front.rows chain.held ∙ omega (arith, ahead.count_is);
@@ -115,75 +117,57 @@ rows_kept len i old new are set = record {
 }
 
 -- one row more is drawn in each ink that isn't diffused
-pub tiled_more : (job : JobData) (group : Group) (chosen : Ink) (first k : ℕ) (old new : List (List ℕ)) → AreTiled job group chosen first k old
-    → ((ink : Ink) → has_ink group ink ≡ true → ink ≢ chosen → DrawsPages job group ink (first + k) (sheet_at new k ink)) → ((j : ℕ) (ink : Ink) → j ≢ k → sheet_at new j ink ≡ sheet_at old j ink) → AreTiled job group chosen first (k + 1) new
-tiled_more job group chosen first k old new tiled drawn others = record {
+pub tiled_more : (job : JobData) (group : Group) (lone : Ink) (first k : ℕ) (old new : List (List ℕ)) → AreTiled job group lone first k old
+    → ((ink : Ink) → has_ink group ink ≡ true → ink ≢ lone → DrawsPages job group ink (first + k) (sheet_at new k ink)) → ((j : ℕ) (ink : Ink) → j ≢ k → sheet_at new j ink ≡ sheet_at old j ink) → AreTiled job group lone first (k + 1) new
+tiled_more job group lone first k old new tiled drawn others = record {
   each = λ j ink less within has other. elim (cases_eq j k) [
     | inl same ↦ rw same (drawn ink has other)
     | inr before ↦ subst {A = List ℕ} (DrawsPages job group ink (first + j)) (sym (others j ink before)) (tiled.each j ink (omega arith) within has other)
   ];
 }
 
-pub tiled_none : (job : JobData) (group : Group) (chosen : Ink) (first : ℕ) (sheet : List (List ℕ)) → AreTiled job group chosen first 0 sheet
-tiled_none job group chosen first sheet = record { each = λ k ink less. absurd (omega arith) }
+pub tiled_none : (job : JobData) (group : Group) (lone : Ink) (first : ℕ) (sheet : List (List ℕ)) → AreTiled job group lone first 0 sheet
+tiled_none job group lone first sheet = record { each = λ k ink less. absurd (omega arith) }
 
-pub tiled_past : (job : JobData) (group : Group) (chosen : Ink) (first k : ℕ) (sheet : List (List ℕ)) → job.plan.page_height ≤ first + k → AreTiled job group chosen first k sheet → AreTiled job group chosen first (k + 1) sheet
-tiled_past job group chosen first k sheet past tiled = record { each = λ j ink less within. tiled.each j ink (omega arith) within }
+pub tiled_past : (job : JobData) (group : Group) (lone : Ink) (first k : ℕ) (sheet : List (List ℕ)) → job.plan.page_height ≤ first + k → AreTiled job group lone first k sheet → AreTiled job group lone first (k + 1) sheet
+tiled_past job group lone first k sheet past tiled = record { each = λ j ink less within. tiled.each j ink (omega arith) within }
 
 -- rows in other inks change nothing
-pub tiled_kept : (job : JobData) (group : Group) (chosen : Ink) (first : ℕ) (old new : List (List ℕ)) → AreTiled job group chosen first 8 old → ((k : ℕ) (ink : Ink) → ink ≢ chosen → sheet_at new k ink ≡ sheet_at old k ink) → AreTiled job group chosen first 8 new
-tiled_kept job group chosen first old new tiled others = record {
+pub tiled_kept : (job : JobData) (group : Group) (lone : Ink) (first : ℕ) (old new : List (List ℕ)) → AreTiled job group lone first 8 old → ((k : ℕ) (ink : Ink) → ink ≢ lone → sheet_at new k ink ≡ sheet_at old k ink) → AreTiled job group lone first 8 new
+tiled_kept job group lone first old new tiled others = record {
   each = λ k ink less within has other. subst {A = List ℕ} (DrawsPages job group ink (first + k)) (sym (others k ink other)) (tiled.each k ink less within has other);
 }
 
 -- one row more is drawn in the one that is
-pub diffused_more : (job : JobData) (group : Group) (chosen : Ink) (first k : ℕ) (old new : List (List ℕ)) → AreDiffused job group chosen first k old → DrawsPages job group chosen (first + k) (sheet_at new k chosen)
-    → IsSetAt (5 * k + slot_of chosen) old new → AreDiffused job group chosen first (k + 1) new
-diffused_more job group chosen first k old new diffused drawn set = record {
+pub diffused_more : (job : JobData) (group : Group) (lone : Ink) (first k : ℕ) (old new : List (List ℕ)) → AreDiffused job group lone first k old → DrawsPages job group lone (first + k) (sheet_at new k lone)
+    → IsSetAt (5 * k + slot_of lone) old new → AreDiffused job group lone first (k + 1) new
+diffused_more job group lone first k old new diffused drawn set = record {
   each = λ j less within. elim (cases_eq j k) [
     | inl same ↦ rw same drawn
-    | inr before ↦ subst {A = List ℕ} (DrawsPages job group chosen (first + j)) (sym (set.others (5 * j + slot_of chosen) (places_apart j k chosen chosen before))) (diffused.each j (omega arith) within)
+    | inr before ↦ subst {A = List ℕ} (DrawsPages job group lone (first + j)) (sym (set.others (5 * j + slot_of lone) (places_apart j k lone lone before))) (diffused.each j (omega arith) within)
   ];
 }
 
-pub diffused_none : (job : JobData) (group : Group) (chosen : Ink) (first : ℕ) (sheet : List (List ℕ)) → AreDiffused job group chosen first 0 sheet
-diffused_none job group chosen first sheet = record { each = λ k less. absurd (omega arith) }
+pub diffused_none : (job : JobData) (group : Group) (lone : Ink) (first : ℕ) (sheet : List (List ℕ)) → AreDiffused job group lone first 0 sheet
+diffused_none job group lone first sheet = record { each = λ k less. absurd (omega arith) }
 
-pub diffused_past : (job : JobData) (group : Group) (chosen : Ink) (first k : ℕ) (sheet : List (List ℕ)) → job.plan.page_height ≤ first + k → AreDiffused job group chosen first k sheet → AreDiffused job group chosen first (k + 1) sheet
-diffused_past job group chosen first k sheet past diffused = record { each = λ j less within. diffused.each j (omega arith) within }
-
--- ---- eight rows, one by one
-
-pub eight_rows : (rows : List (List ℕ)) → length rows ≡ 8 → get_or rows 0 [] ∷ get_or rows 1 [] ∷ get_or rows 2 [] ∷ get_or rows 3 [] ∷ get_or rows 4 [] ∷ get_or rows 5 [] ∷ get_or rows 6 [] ∷ get_or rows 7 [] ∷ [] ≡ rows
-eight_rows [] long = absurd (omega arith)
-eight_rows (a ∷ []) long = absurd (omega arith)
-eight_rows (a ∷ b ∷ []) long = absurd (omega arith)
-eight_rows (a ∷ b ∷ c ∷ []) long = absurd (omega arith)
-eight_rows (a ∷ b ∷ c ∷ d ∷ []) long = absurd (omega arith)
-eight_rows (a ∷ b ∷ c ∷ d ∷ e ∷ []) long = absurd (omega arith)
-eight_rows (a ∷ b ∷ c ∷ d ∷ e ∷ f ∷ []) long = absurd (omega arith)
-eight_rows (a ∷ b ∷ c ∷ d ∷ e ∷ f ∷ g ∷ []) long = absurd (omega arith)
-eight_rows (a ∷ b ∷ c ∷ d ∷ e ∷ f ∷ g ∷ h ∷ []) long = refl
-eight_rows (a ∷ b ∷ c ∷ d ∷ e ∷ f ∷ g ∷ h ∷ i ∷ rest) long = absurd (omega arith)
-
-pub eight_are : (rows : List (List ℕ)) (a b c d e f g h : List ℕ) → length rows ≡ 8 → a ≡ get_or rows 0 [] → b ≡ get_or rows 1 [] → c ≡ get_or rows 2 [] → d ≡ get_or rows 3 [] → e ≡ get_or rows 4 [] → f ≡ get_or rows 5 [] → g ≡ get_or rows 6 [] → h ≡ get_or rows 7 []
-    → a ∷ b ∷ c ∷ d ∷ e ∷ f ∷ g ∷ h ∷ [] ≡ rows
-eight_are rows a b c d e f g h long ea eb ec ed ee ef eg eh = rw (ea, eb, ec, ed, ee, ef, eg, eh) (eight_rows rows long)
+pub diffused_past : (job : JobData) (group : Group) (lone : Ink) (first k : ℕ) (sheet : List (List ℕ)) → job.plan.page_height ≤ first + k → AreDiffused job group lone first k sheet → AreDiffused job group lone first (k + 1) sheet
+diffused_past job group lone first k sheet past diffused = record { each = λ j less within. diffused.each j (omega arith) within }
 
 -- ---- the rows that are taken, step by step
 
-pub hold_then : (job : JobData) (group : Group) (chosen : Ink) (first n m : ℕ) (a b c : Chains) → HoldRows job group chosen first n a b → HoldRows job group chosen first m b c → HoldRows job group chosen first m a c
-hold_then job group chosen first n m a b c before after = record {
+pub hold_then : (job : JobData) (group : Group) (lone : Ink) (first n m : ℕ) (a b c : Chains) → HoldRows job group lone first n a b → HoldRows job group lone first m b c → HoldRows job group lone first m a c
+hold_then job group lone first n m a b c before after = record {
   left_held = after.left_held;
   right_held = after.right_held;
   left_front = after.left_front ∙ before.left_front;
   right_front = after.right_front ∙ before.right_front;
 }
 
-pub hold_past : (job : JobData) (group : Group) (chosen : Ink) (first k : ℕ) (a b : Chains) → job.plan.page_height ≤ first + k → HoldRows job group chosen first k a b → HoldRows job group chosen first (k + 1) a b
-hold_past job group chosen first k a b past hold = record {
-  left_held = held_past job group.left chosen first k b.left.held past hold.left_held;
-  right_held = held_past job group.right chosen first k b.right.held past hold.right_held;
+pub hold_past : (job : JobData) (group : Group) (lone : Ink) (first k : ℕ) (a b : Chains) → job.plan.page_height ≤ first + k → HoldRows job group lone first k a b → HoldRows job group lone first (k + 1) a b
+hold_past job group lone first k a b past hold = record {
+  left_held = held_past job group.left lone first k b.left.held past hold.left_held;
+  right_held = held_past job group.right lone first k b.right.held past hold.right_held;
   left_front = hold.left_front;
   right_front = hold.right_front;
 }
@@ -198,69 +182,30 @@ slot_at (suc (suc (suc (suc zero)))) d within = refl
 slot_at (suc (suc (suc (suc (suc i))))) d within = absurd (omega arith)
 
 -- the row is drawn in the inks up to one, and another one is drawn
-pub inks_more : (job : JobData) (group : Group) (chosen ink : Ink) (y k i : ℕ) (old new : List (List ℕ)) → slot_of ink ≡ i
-    → ((other : Ink) → slot_of other < i → has_ink group other ≡ true → other ≢ chosen → DrawsPages job group other y (sheet_at old k other))
-    → (has_ink group ink ≡ true → ink ≢ chosen → DrawsPages job group ink y (sheet_at new k ink)) → IsSetAt (5 * k + slot_of ink) old new
-    → (other : Ink) → slot_of other < i + 1 → has_ink group other ≡ true → other ≢ chosen → DrawsPages job group other y (sheet_at new k other)
-inks_more job group chosen ink y k i old new slot before here set other less has apart =
+pub inks_more : (job : JobData) (group : Group) (lone ink : Ink) (y k i : ℕ) (old new : List (List ℕ)) → slot_of ink ≡ i
+    → ((other : Ink) → slot_of other < i → has_ink group other ≡ true → other ≢ lone → DrawsPages job group other y (sheet_at old k other))
+    → (has_ink group ink ≡ true → ink ≢ lone → DrawsPages job group ink y (sheet_at new k ink)) → IsSetAt (5 * k + slot_of ink) old new
+    → (other : Ink) → slot_of other < i + 1 → has_ink group other ≡ true → other ≢ lone → DrawsPages job group other y (sheet_at new k other)
+inks_more job group lone ink y k i old new slot before here set other less has apart =
     elim (cases_eq (slot_of other) (slot_of ink)) [
       | inl same ↦
           (let is : ink ≡ other = slot_tells ink other (sym same) in
-          subst {A = Ink} (λ j. has_ink group j ≡ true → j ≢ chosen → DrawsPages job group j y (sheet_at new k j)) is here has apart)
+          subst {A = Ink} (λ j. has_ink group j ≡ true → j ≢ lone → DrawsPages job group j y (sheet_at new k j)) is here has apart)
       | inr differ ↦ subst {A = List ℕ} (DrawsPages job group other y) (sym (set.others (5 * k + slot_of other) (λ e. absurd (omega arith)))) (before other (omega arith) has apart)
     ]
 
--- what a compare of two inks tells
-pub same_ink : (ink other : Ink) → sameb the_type ink other ≡ true → ink ≡ other
-same_ink C C is = refl
-same_ink C M is = cc
-same_ink C Y is = cc
-same_ink C K is = cc
-same_ink C S is = cc
-same_ink M C is = cc
-same_ink M M is = refl
-same_ink M Y is = cc
-same_ink M K is = cc
-same_ink M S is = cc
-same_ink Y C is = cc
-same_ink Y M is = cc
-same_ink Y Y is = refl
-same_ink Y K is = cc
-same_ink Y S is = cc
-same_ink K C is = cc
-same_ink K M is = cc
-same_ink K Y is = cc
-same_ink K K is = refl
-same_ink K S is = cc
-same_ink S C is = cc
-same_ink S M is = cc
-same_ink S Y is = cc
-same_ink S K is = cc
-same_ink S S is = refl
-
-pub other_ink : (ink other : Ink) → sameb the_type ink other ≡ false → ink ≢ other
-other_ink ink other differ = λ same. unlike other (subst {A = Ink} (λ i. sameb the_type i other ≡ false) same differ)
-  where
-    unlike : (i : Ink) → sameb the_type i i ≡ false → ⊥
-    unlike C h = cc
-    unlike M h = cc
-    unlike Y h = cc
-    unlike K h = cc
-    unlike S h = cc
-
--- the row of the block that shows row y, of an ink that isn't diffused and of that which is
-module _ (job : JobData) (chosen : Ink) (chains : Chains) (sheet : List (List ℕ)) (held : Option Group) (blocks : ℕ) (are : AreBlocks job chosen chains sheet held blocks)
-    (group : Group) (there : held ≡ Some group) (y : ℕ) (row : blocks ≡ y / 8 + 1) (within : y < job.plan.page_height) where
-  place : 8 * (blocks - 1) + y % 8 ≡ y
-  place = omega arith
-
-  pub kept_tiled : (ink : Ink) → has_ink group ink ≡ true → ink ≢ chosen → DrawsPages job group ink y (sheet_at sheet (y % 8) ink)
-  kept_tiled ink has other =
-      subst {A = ℕ} (λ n. DrawsPages job group ink n (sheet_at sheet (y % 8) ink)) place (((are.block group there).tiled (omega arith)).each (y % 8) ink (omega arith) (omega arith) has other)
-
-  pub kept_diffused : (ink : Ink) → ink ≡ chosen → DrawsPages job group ink y (sheet_at sheet (y % 8) ink)
-  kept_diffused ink is =
-      rw is (subst {A = ℕ} (λ n. DrawsPages job group chosen n (sheet_at sheet (y % 8) chosen)) place (((are.block group there).diffused (omega arith)).each (y % 8) (omega arith) (omega arith)))
+-- the row of the block that shows row y, in an ink of the group
+pub row_kept : (job : JobData) (lone : Ink) (pages : PairData) (chains : Chains) (sheet : List (List ℕ)) (held : Option Group) (blocks : ℕ) (group : Group) (ink : Ink) (y : ℕ) → AreBlocks job lone pages chains sheet held blocks → held ≡ Some group
+    → has_ink group ink ≡ true → blocks ≡ y / 8 + 1 → y < job.plan.page_height → DrawsPages job group ink y (sheet_at sheet (y % 8) ink)
+row_kept job lone pages chains sheet held blocks group ink y are there has row within =
+    let place : 8 * (blocks - 1) + y % 8 ≡ y = omega arith in
+    let of = are.block group there in
+    subst {A = ℕ} (λ n. DrawsPages job group ink n (sheet_at sheet (y % 8) ink)) place (elim (cases_eq (slot_of ink) (slot_of lone)) [
+      | inl same ↦
+          (let is : ink ≡ lone = slot_tells ink lone same in
+          rw is ((of.diffused (omega arith)).each (y % 8) (omega arith) (omega arith)))
+      | inr other ↦ (of.tiled (omega arith)).each (y % 8) ink (omega arith) (omega arith) has (λ same. absurd (other (ap slot_of same)))
+    ])
 
 -- ---- the ink that is diffused alone
 
@@ -269,6 +214,7 @@ pub record IsLone (plan : PlanData) (count : ℕ) (found : Option Ink) : Type 0 
   pub none : found ≡ None → (ink : Ink) → slot_of ink < count → is_diffused plan ink ≡ false
   pub is : ForSome found (λ one. is_diffused plan one ≡ true)
   pub only : ForSome found (λ one. (ink : Ink) → slot_of ink < count → is_diffused plan ink ≡ true → ink ≡ one)
+  pub within : ForSome found (λ one. slot_of one < count)
 
 pub none_is : (found : Option Ink) → is_some found ≡ false → found ≡ None
 none_is None none = refl
@@ -279,6 +225,7 @@ lone_at_first plan = record {
   none = λ n ink less. absurd (omega arith);
   is = λ one there. cc;
   only = λ one there. cc;
+  within = λ one there. cc;
 }
 
 -- one that isn't diffused more
@@ -293,6 +240,7 @@ lone_same plan ink i found slot off lone = record {
     | inl same ↦ absurd (apart (is_diffused plan other) on (subst {A = Ink} (λ j. is_diffused plan j ≡ false) (slot_tells ink other (sym same)) off))
     | inr differ ↦ lone.only one there other (omega arith) on
   ];
+  within = λ one there. (let before = lone.within one there in omega arith);
 }
   where
     apart : (b : Bool) → b ≡ true → b ≡ false → ⊥
@@ -308,6 +256,7 @@ lone_found plan ink i slot on lone = record {
     | inl same ↦ sym (slot_tells ink other (sym same)) ∙ same_Some ink one there
     | inr differ ↦ absurd (apart (is_diffused plan other) other_on (lone.none refl other (omega arith)))
   ];
+  within = λ one there. subst {A = Ink} (λ j. slot_of j < i + 1) (same_Some ink one there) (omega arith);
 }
   where
     apart : (b : Bool) → b ≡ true → b ≡ false → ⊥
@@ -321,45 +270,65 @@ lone_all plan i found all lone = λ one there. record {
   only = λ other on. (let below = slot_below other in lone.only one there other (omega arith) on);
 }
 
+-- an ink that is diffused alone was found, where all were looked at
+pub lone_is : (plan : PlanData) (i : ℕ) (found : Option Ink) (ink : Ink) → 5 ≤ i → IsLone plan i found → IsOnly plan ink → found ≡ Some ink
+lone_is plan i None ink all lone only = absurd (apart (is_diffused plan ink) only.is (lone.none refl ink (let below = slot_below ink in omega arith)))
+  where
+    apart : (b : Bool) → b ≡ true → b ≡ false → ⊥
+    apart true on off = cc
+    apart false on off = cc
+lone_is plan i (Some one) ink all lone only = ap {A = Ink} Some (only.only one (lone.is one refl))
+
+-- and no ink is, where a second one was met
+pub lone_no_more : (plan : PlanData) (i : ℕ) (found : Option Ink) (second ink : Ink) → is_some found ≡ true → slot_of second ≡ i → is_diffused plan second ≡ true → IsLone plan i found → IsOnly plan ink → None ≡ Some ink
+lone_no_more plan i None second ink some slot on lone only = cc
+lone_no_more plan i (Some one) second ink some slot on lone only =
+    let same : one ≡ second = only.only one (lone.is one refl) ∙ sym (only.only second on) in
+    let before = lone.within one refl in
+    absurd (below (slot_of one) (slot_of second) (omega arith) (ap slot_of same))
+  where
+    below : (a b : ℕ) → a < b → a ≡ b → ⊥
+    below a b less same = omega arith
+
 -- ---- a block more
 
-wide_behind : (width : ℕ) (chain : ChainData) → IsWide width chain → IsWide width (behind_held chain)
+wide_behind : (width : ℕ) (chain : BlockFront) → IsWide width chain → IsWide width (behind_held chain)
 wide_behind width chain wide = record { width_is = wide.width_is; eight = wide.eight }
 
 -- the front of a side's chain, behind the rows of a block
-ahead_more : (job : JobData) (page : ℕ) (chosen : Ink) (blocks : ℕ) (old held new : ChainData) → IsAhead job page chosen (8 * blocks) old.front → held.front ≡ old.front → AreHeldFrom job page chosen (8 * blocks) 8 held.held
-    → IsWide job.plan.page_width held → new ≡ behind_held held → IsAhead job page chosen (8 * blocks + 8) new.front
-ahead_more job page chosen blocks old held new ahead same are wide new_is =
-    subst {A = ChainData} (λ chain. IsAhead job page chosen (8 * blocks + 8) chain.front) (sym new_is)
-    (ahead_next job page chosen (8 * blocks) held (subst {A = PageFront} (IsAhead job page chosen (8 * blocks)) (sym same) ahead) are wide.eight)
+ahead_more : (job : JobData) (page : ℕ) (lone : Ink) (blocks : ℕ) (old held new : BlockFront) → IsAhead job page lone (8 * blocks) old.front → held.front ≡ old.front → AreHeldFrom job page lone (8 * blocks) 8 held.held
+    → IsWide job.plan.page_width held → new ≡ behind_held held → IsAhead job page lone (8 * blocks + 8) new.front
+ahead_more job page lone blocks old held new ahead same are wide new_is =
+    subst {A = BlockFront} (λ chain. IsAhead job page lone (8 * blocks + 8) chain.front) (sym new_is)
+    (ahead_next job page lone (8 * blocks) held (subst {A = PageFront} (IsAhead job page lone (8 * blocks)) (sym same) ahead) are wide.eight)
 
 -- the chains of both pages, behind the rows of a block that was taken of the pages of the same job
-pub chains_more : (job own : JobData) (chosen : Ink) (group : Group) (old held new : Chains) (sheet : List (List ℕ)) (blocks : ℕ) → own ≡ job → IsBlockOf job chosen old sheet blocks group → HoldRows own group chosen (8 * blocks) 8 old held → AreWide own held
+pub chains_more : (job own : JobData) (lone : Ink) (group : Group) (old held new : Chains) (sheet : List (List ℕ)) (blocks : ℕ) → own ≡ job → IsBlockOf job lone old sheet blocks group → HoldRows own group lone (8 * blocks) 8 old held → AreWide own held
     → new.left ≡ behind_held held.left → new.right ≡ behind_held held.right
-    → IsAhead job group.left chosen (8 * blocks + 8) new.left.front × (IsAhead job group.right chosen (8 * blocks + 8) new.right.front × AreWide job new)
-chains_more job own chosen group old held new sheet blocks same of holds fits left right =
-    let hold : HoldRows job group chosen (8 * blocks) 8 old held = subst {A = JobData} (λ j. HoldRows j group chosen (8 * blocks) 8 old held) same holds in
+    → IsAhead job group.left lone (8 * blocks + 8) new.left.front × (IsAhead job group.right lone (8 * blocks + 8) new.right.front × AreWide job new)
+chains_more job own lone group old held new sheet blocks same of holds fits left right =
+    let hold : HoldRows job group lone (8 * blocks) 8 old held = subst {A = JobData} (λ j. HoldRows j group lone (8 * blocks) 8 old held) same holds in
     let wide : AreWide job held = subst {A = JobData} (λ j. AreWide j held) same fits in (
-      ahead_more job group.left chosen blocks old.left held.left new.left of.left_ahead hold.left_front hold.left_held wide.left_wide left,
+      ahead_more job group.left lone blocks old.left held.left new.left of.left_ahead hold.left_front hold.left_held wide.left_wide left,
       (
-        ahead_more job group.right chosen blocks old.right held.right new.right of.right_ahead hold.right_front hold.right_held wide.right_wide right,
+        ahead_more job group.right lone blocks old.right held.right new.right of.right_ahead hold.right_front hold.right_held wide.right_wide right,
         record {
-          left_wide = subst {A = ChainData} (IsWide job.plan.page_width) (sym left) (wide_behind job.plan.page_width held.left wide.left_wide);
-          right_wide = subst {A = ChainData} (IsWide job.plan.page_width) (sym right) (wide_behind job.plan.page_width held.right wide.right_wide);
+          left_wide = subst {A = BlockFront} (IsWide job.plan.page_width) (sym left) (wide_behind job.plan.page_width held.left wide.left_wide);
+          right_wide = subst {A = BlockFront} (IsWide job.plan.page_width) (sym right) (wide_behind job.plan.page_width held.right wide.right_wide);
         },
       ),
     )
 
-pub block_next : (job : JobData) (chosen : Ink) (group : Group) (new : Chains) (held sheet : List (List ℕ)) (blocks : ℕ) → IsAhead job group.left chosen (8 * blocks + 8) new.left.front → IsAhead job group.right chosen (8 * blocks + 8) new.right.front
-    → AreTiled job group chosen (8 * blocks) 8 held → ((k : ℕ) (ink : Ink) → ink ≢ chosen → sheet_at sheet k ink ≡ sheet_at held k ink) → AreDiffused job group chosen (8 * blocks) 8 sheet → IsBlockOf job chosen new sheet (blocks + 1) group
-block_next job chosen group new held sheet blocks left right tiled others diffused =
+pub block_next : (job : JobData) (lone : Ink) (group : Group) (new : Chains) (held sheet : List (List ℕ)) (blocks : ℕ) → IsAhead job group.left lone (8 * blocks + 8) new.left.front → IsAhead job group.right lone (8 * blocks + 8) new.right.front
+    → AreTiled job group lone (8 * blocks) 8 held → ((k : ℕ) (ink : Ink) → ink ≢ lone → sheet_at sheet k ink ≡ sheet_at held k ink) → AreDiffused job group lone (8 * blocks) 8 sheet → IsBlockOf job lone new sheet (blocks + 1) group
+block_next job lone group new held sheet blocks left right tiled others diffused =
     let count : 8 * blocks + 8 ≡ 8 * (blocks + 1) = omega arith in
     let first : 8 * blocks ≡ 8 * (blocks + 1 - 1) = omega arith in
     record {
-      left_ahead = subst {A = ℕ} (λ n. IsAhead job group.left chosen n new.left.front) count left;
-      right_ahead = subst {A = ℕ} (λ n. IsAhead job group.right chosen n new.right.front) count right;
-      tiled = λ some. subst {A = ℕ} (λ n. AreTiled job group chosen n 8 sheet) first (tiled_kept job group chosen (8 * blocks) held sheet tiled others);
-      diffused = λ some. subst {A = ℕ} (λ n. AreDiffused job group chosen n 8 sheet) first diffused;
+      left_ahead = subst {A = ℕ} (λ n. IsAhead job group.left lone n new.left.front) count left;
+      right_ahead = subst {A = ℕ} (λ n. IsAhead job group.right lone n new.right.front) count right;
+      tiled = λ some. subst {A = ℕ} (λ n. AreTiled job group lone n 8 sheet) first (tiled_kept job group lone (8 * blocks) held sheet tiled others);
+      diffused = λ some. subst {A = ℕ} (λ n. AreDiffused job group lone n 8 sheet) first diffused;
     }
 
 -- the group whose rows stand in the sheet

@@ -1,7 +1,6 @@
 pub mod AheadLemmas
 pub mod BandLemmas
 pub mod FeedLemmas
-pub mod InkLemmas
 pub mod PairLemmas
 pub mod PlateLemmas
 pub mod ScreenerLemmas

@@ -19,6 +19,7 @@ use Rattle.plan_json.specs.Data.{PlanData}
 use Rattle.press_feed.specs.declared.screener.Screener.{Screener}
 use Rattle.press_feed.specs.declared.screener.Screener.TheVariants.{Tile, Diffusion}
 use Rattle.press_job.specs.Printing.{bit_under, page_bit, page_values, printed_at, printed_row, screen_of}
+use Rattle.press_job.proofs.PlaneLemmas.{get_or-printed_row}
 use Rattle.press_feed.specs.Screener.{AreScreeners, IsScreener, diffuses, is_diffused, is_diffusion, threshold_in, threshold_under}
 use Rattle.press_feed.specs.Screens.{IsFrontOf, bit_by}
 
@@ -57,10 +58,6 @@ get_or-page_values plan files page ink y within = get_or-map-range_with_len (pri
 pub length-page_values : (plan : PlanData) (files : List (List ℕ)) (page : ℕ) (ink : Ink) → length (page_values plan files page ink) ≡ plan.page_height
 unfolding page_values
 length-page_values plan files page ink = length-map-range_with_len (printed_row plan files page ink) 0 plan.page_height
-
--- the value of column x of a row
-pub get_or-printed_row : (plan : PlanData) (files : List (List ℕ)) (page : ℕ) (ink : Ink) (x y : ℕ) → x < plan.page_width → get_or (printed_row plan files page ink y) x 0 ≡ printed_at plan files page ink x y
-get_or-printed_row plan files page ink x y within = get_or-map-range_with_len (λ x. printed_at plan files page ink x y) 0 plan.page_width x x 0 within (omega arith)
 
 -- a pixel of row y waits for the rows up to it alone
 diffused-front : (values : List (List ℕ)) (x y : ℕ) → diffused_bit (take (y + 1) values) x y ≡ diffused_bit values x y

@@ -70,10 +70,20 @@ some_kept : {A B : Type 0} (f : A → B) (o : Option A) → o ≢ None → optio
 some_kept f None some = λ e. some refl
 some_kept f (Some a) some = λ e. cc
 
+none_kept : {A B : Type 0} (f : A → B) (o : Option A) → o ≡ None → option_map f o ≡ None
+none_kept f o none = ap (option_map f) none
+
 -- they screen as before
 screens_kept : (plan : PlanData) (apart : Bool) (f g : EightFronts → EightFronts) (screens : Screens) → AreScreens plan apart screens → AreScreens plan apart (record screens { process = option_map f screens.process; spot = option_map g screens.spot })
-screens_kept plan apart f g screens are = record { screeners = are.screeners; diffused = by_ink }
+screens_kept plan apart f g screens are = record { screeners = are.screeners; diffused = by_ink; none = none_by_ink }
   where
+    none_by_ink : apart ≡ true → (ink : Ink) → bank_of (record screens { process = option_map f screens.process; spot = option_map g screens.spot }) ink ≡ None
+    none_by_ink away C = none_kept f screens.process (are.none away C)
+    none_by_ink away M = none_kept f screens.process (are.none away M)
+    none_by_ink away Y = none_kept f screens.process (are.none away Y)
+    none_by_ink away K = none_kept f screens.process (are.none away K)
+    none_by_ink away S = none_kept g screens.spot (are.none away S)
+
     by_ink : (ink : Ink) → is_diffused plan ink ≡ true → apart ≡ false → bank_of (record screens { process = option_map f screens.process; spot = option_map g screens.spot }) ink ≢ None
     by_ink C diffused here = some_kept f screens.process (are.diffused C diffused here)
     by_ink M diffused here = some_kept f screens.process (are.diffused M diffused here)

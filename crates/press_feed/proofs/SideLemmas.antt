@@ -1,13 +1,10 @@
 -- What the code of a side keeps, step by step.
 use Rattle.std.proofs.Common.{◌≡◌, ℕ, ◌+◌, ◌-◌, ◌<◌, Bool, List, length, get_or, ap, sym, ◌∙◌, subst, arith}
 use Rattle.std.specs.Prelude.{◌≤◌, Some, slice_get}
-use Rattle.std.proofs.lemmas.List.FromFn.{fill_by_all}
 use Rattle.std.proofs.lemmas.Option.{same_Some, slice_get-get_or}
 use Rattle.pr_base.specs.declared.ink.Ink.{Ink}
-use Rattle.pr_base.specs.declared.ink.Ink.TheVariants.{C, M, Y, K, S}
 use Rattle.page_layers.specs.Inks.{HasWidth, Planes, plane_of}
 use Rattle.page_layers.specs.Page.{Page}
-use Rattle.page_layers.specs.declared.layer.Layer.{Layer}
 use Rattle.plan_json.specs.Data.{PlanData}
 use Rattle.plan_json.specs.Plan.{IsPlan}
 use Rattle.pr_base.specs.Ink.{slot_of}
@@ -17,12 +14,12 @@ use Rattle.press_feed.specs.declared.screener.Screener.{Screener}
 use Rattle.press_feed.specs.declared.screener.Screener.TheVariants.{Diffusion}
 use Rattle.press_job.specs.Job.{JobData}
 use Rattle.press_job.specs.Layers.{layers_of, planned_layers}
-use Rattle.press_feed.specs.Planes.{ShowsInks}
-use Rattle.press_job.specs.Printing.{printed_at, printed_row}
+use Rattle.press_job.specs.Planes.{ShowsInks}
+use Rattle.press_job.specs.Printing.{printed_row}
+use Rattle.press_job.proofs.PlaneLemmas.{at_inks, plane_is, plane_width, shows_printed}
 use Rattle.press_feed.specs.Screener.{AreScreeners, IsScreener}
 use Rattle.press_feed.specs.SidePages.{IsSide}
 use Rattle.press_feed.specs.Sides.{page_before}
-use Rattle.press_feed.proofs.ScreenerLemmas.{get_or-printed_row}
 
 -- ---- to the top of a page
 
@@ -42,35 +39,6 @@ IsSide-begin job rows new old page shown tones planes is new_is =
     }
 
 -- ---- one row on
-
--- planes that show the inks of a row are the rows that are printed
-plane_width : (planes : Planes) (width : ℕ) (ink : Ink) → HasWidth planes width → length (plane_of planes ink) ≡ width
-plane_width planes width C wide = wide.cyan
-plane_width planes width M wide = wide.magenta
-plane_width planes width Y wide = wide.yellow
-plane_width planes width K wide = wide.black
-plane_width planes width S wide = wide.spot
-
-pub plane_is : (plan : PlanData) (files : List (List ℕ)) (page y : ℕ) (planes : Planes) (ink : Ink) → HasWidth planes plan.page_width
-    → ShowsInks plan (page_colour plan page) (page_spot plan page) (layers_of plan files page) plan.page_width y planes → plane_of planes ink ≡ printed_row plan files page ink y
-unfolding printed_at
-plane_is plan files page y planes ink wide shows =
-    fill_by_all (λ x. printed_at plan files page ink x y) (plane_of planes ink) plan.page_width 0 (plane_width planes plan.page_width ink wide) (λ x less. shows.each ink x less)
-
--- and the other way
-pub shows_printed : (plan : PlanData) (files : List (List ℕ)) (page y : ℕ) (planes : Planes) → ((ink : Ink) → plane_of planes ink ≡ printed_row plan files page ink y)
-    → ShowsInks plan (page_colour plan page) (page_spot plan page) (layers_of plan files page) plan.page_width y planes
-unfolding printed_at
-shows_printed plan files page y planes are = record {
-  each = λ ink x less. ap (λ row. get_or row x 0) (are ink) ∙ get_or-printed_row plan files page ink x y less;
-}
-
--- the inks that are shown, of another name of the plan and of what a page prints
-at_inks : (plan other : PlanData) (colour colour' spot spot' : Bool) (layers : List Layer) (width y : ℕ) (planes : Planes) → plan ≡ other → colour ≡ colour' → spot ≡ spot'
-    → ShowsInks plan colour spot layers width y planes → ShowsInks other colour' spot' layers width y planes
-at_inks plan other colour colour' spot spot' layers width y planes plans colours spots shows =
-    subst {A = PlanData} (λ p. ShowsInks p colour' spot' layers width y planes) plans
-    (subst {A = Bool} (λ c. ShowsInks plan c spot' layers width y planes) colours (subst {A = Bool} (λ s. ShowsInks plan colour s layers width y planes) spots shows))
 
 -- the row before its next one is shown, if there is one
 pub before_next : (job : JobData) (rows : Page) (page shown : ℕ) (tones : PlanData) (planes : Planes) (colour spot : Bool)

@@ -7,7 +7,7 @@ use Rattle.press_job.specs.Job.{JobData}
 -- a job, the ink that is diffused, whose rows are drawn, and how many blocks of eight rows were
 pub record BlocksData : Type 0 where
   pub job : JobData
-  pub chosen : Ink
+  pub lone : Ink
   pub group : Option Group
   pub blocks : ℕ
 

@@ -1,19 +1,20 @@
 -- Eight rows of the two pages of a plate, drawn ahead where one ink alone is diffused.
-use Rattle.std.specs.Prelude.{◌≡◌, ◌≢◌, ℕ, ◌+◌, ◌-◌, ◌*◌, ◌<◌, Bool, true, List, [], length}
-use Rattle.std.specs.Prelude.{Option, Some, slice_index_or}
+use Rattle.std.specs.Prelude.{◌≡◌, ◌≢◌, ℕ, ◌+◌, ◌-◌, ◌*◌, ◌<◌, true, List, [], length}
+use Rattle.std.specs.Prelude.{Option, slice_index_or}
 use Rattle.std.specs.Option.{ForSome}
 use Rattle.pr_base.specs.declared.ink.Ink.{Ink}
-use Rattle.pr_base.specs.declared.ink.Ink.TheVariants.{C, M, Y, K, S}
 use Rattle.pr_base.specs.Ink.{slot_of}
 use Rattle.pr_base.specs.Row.{row_size}
-use Rattle.plan_json.specs.Data.{PlanData, plate_width}
+use Rattle.plan_json.specs.Data.{plate_width}
 use Rattle.plan_json.specs.Plan.{IsPlan}
 use Rattle.plan_rows.specs.declared.group.Group.{Group}
-use Rattle.press_feed.specs.Chain.{AreRows, IsWide}
-use Rattle.press_feed.specs.declared.chain.Chains.{Chains}
-use Rattle.press_feed.specs.Pair.{PairData}
-use Rattle.press_feed.specs.Plates.{ShowsPages, page_row}
-use Rattle.press_feed.specs.Screener.{is_diffused}
+use Rattle.plan_rows.specs.Inks.{has_ink}
+use Rattle.press_feed.specs.Chain.{IsWide}
+use Rattle.press_feed.specs.declared.chains.Chains.{Chains}
+use Rattle.press_feed.specs.Pair.{AreApart, PairData}
+use Rattle.press_feed.specs.Plates.{DrawsPages}
+use Rattle.press_feed.specs.Rows.{AreRows}
+use Rattle.press_feed.specs.Screener.{IsOnly}
 use Rattle.press_job.specs.Job.{JobData}
 use Rattle.press_job.specs.Printing.{printed_row}
 use Rattle.scr_diffuse.specs.Diffuser.{PageFront}
@@ -39,66 +40,36 @@ pub record AreWide (job : JobData) (chains : Chains) : Type 0 where
   pub right_wide : IsWide job.plan.page_width chains.right
 
 -- they hold the first rows from row `first` on, and took what they took before
-pub record HoldRows (job : JobData) (group : Group) (chosen : Ink) (first count : ℕ) (old new : Chains)
+pub record HoldRows (job : JobData) (group : Group) (lone : Ink) (first count : ℕ) (old new : Chains)
     : Type 0 where
-  pub left_held : AreHeldFrom job group.left chosen first count new.left.held
-  pub right_held : AreHeldFrom job group.right chosen first count new.right.held
+  pub left_held : AreHeldFrom job group.left lone first count new.left.held
+  pub right_held : AreHeldFrom job group.right lone first count new.right.held
   pub left_front : new.left.front ≡ old.left.front
   pub right_front : new.right.front ≡ old.right.front
 
 -- ---- the sheet
 
--- one ink is diffused, and no other one
-pub record IsOnly (plan : PlanData) (ink : Ink) : Type 0 where
-  pub is : is_diffused plan ink ≡ true
-  pub only : (other : Ink) → is_diffused plan other ≡ true → other ≡ ink
-
--- whether the plates of a group print an ink
-abbrev pub has_ink : Group → Ink → Bool
-has_ink group C = group.colour
-has_ink group M = group.colour
-has_ink group Y = group.colour
-has_ink group K = true
-has_ink group S = group.spot
-
 -- the row of a plate in an ink, of the eight
 abbrev pub sheet_at : List (List ℕ) → ℕ → Ink → List ℕ
 sheet_at sheet k ink = slice_index_or sheet (5 * k + slot_of ink) []
 
--- a row of a plate that shows row y of the pages of a group, in an ink
-abbrev pub DrawsPages : JobData → Group → Ink → ℕ → List ℕ → Type 0
-DrawsPages job group ink y bits = (row : ℕ) → page_row job.plan row ≡ Some y
-    → ShowsPages job.plan job.files group.left group.right ink row bits
-
 -- the first of the eight rows are drawn in each ink that isn't diffused
-pub record AreTiled (job : JobData) (group : Group) (chosen : Ink) (first count : ℕ) (sheet : List (List ℕ))
+pub record AreTiled (job : JobData) (group : Group) (lone : Ink) (first count : ℕ) (sheet : List (List ℕ))
     : Type 0 where
   pub each : (k : ℕ) (ink : Ink) → k < count → first + k < job.plan.page_height
-      → has_ink group ink ≡ true → ink ≢ chosen → DrawsPages job group ink (first + k) (sheet_at sheet k ink)
+      → has_ink group ink ≡ true → ink ≢ lone → DrawsPages job group ink (first + k) (sheet_at sheet k ink)
 
 -- the first of them are drawn in the one that is
-pub record AreDiffused (job : JobData) (group : Group) (chosen : Ink) (first count : ℕ)
+pub record AreDiffused (job : JobData) (group : Group) (lone : Ink) (first count : ℕ)
     (sheet : List (List ℕ)) : Type 0 where
   pub each : (k : ℕ) → k < count → first + k < job.plan.page_height
-      → DrawsPages job group chosen (first + k) (sheet_at sheet k chosen)
+      → DrawsPages job group lone (first + k) (sheet_at sheet k lone)
 
 -- one row of a sheet was written
 pub record IsSetAt (i : ℕ) (old new : List (List ℕ)) : Type 0 where
   pub others : (j : ℕ) → j ≢ i → slice_index_or new j [] ≡ slice_index_or old j []
   pub count : length new ≡ length old
   pub long : length (slice_index_or new i []) ≡ length (slice_index_or old i [])
-
--- the pages of a job, of which what is diffused is drawn apart
-pub record AreApart (job : JobData) (pages : PairData) : Type 0 where
-  pub job_is : pages.job ≡ job
-  pub apart_is : pages.apart ≡ true
-
--- such pages, which show row y of a group
-pub record ShowsRow (job : JobData) (group : Group) (y : ℕ) (pages : PairData) : Type 0 where
-  pub pages_are : AreApart job pages
-  pub left_is : pages.left ≡ group.left
-  pub right_is : pages.right ≡ group.right
-  pub shown : pages.shown ≡ y + 1
 
 -- the rows of a plate have room in the sheet
 abbrev pub IsSheet : JobData → List (List ℕ) → Type 0
@@ -107,17 +78,19 @@ IsSheet job sheet = AreRows 40 (row_size (plate_width job.plan)) sheet
 -- ---- what blocks of rows keep
 
 -- both pages of a group were taken up to a block, which stands in the sheet
-pub record IsBlockOf (job : JobData) (chosen : Ink) (chains : Chains) (sheet : List (List ℕ)) (blocks : ℕ)
+pub record IsBlockOf (job : JobData) (lone : Ink) (chains : Chains) (sheet : List (List ℕ)) (blocks : ℕ)
     (group : Group) : Type 0 where
-  pub left_ahead : IsAhead job group.left chosen (8 * blocks) chains.left.front
-  pub right_ahead : IsAhead job group.right chosen (8 * blocks) chains.right.front
-  pub tiled : 0 < blocks → AreTiled job group chosen (8 * (blocks - 1)) 8 sheet
-  pub diffused : 0 < blocks → AreDiffused job group chosen (8 * (blocks - 1)) 8 sheet
+  pub left_ahead : IsAhead job group.left lone (8 * blocks) chains.left.front
+  pub right_ahead : IsAhead job group.right lone (8 * blocks) chains.right.front
+  pub tiled : 0 < blocks → AreTiled job group lone (8 * (blocks - 1)) 8 sheet
+  pub diffused : 0 < blocks → AreDiffused job group lone (8 * (blocks - 1)) 8 sheet
 
-pub record AreBlocks (job : JobData) (chosen : Ink) (chains : Chains) (sheet : List (List ℕ))
-    (group : Option Group) (blocks : ℕ) : Type 0 where
+-- the pages of a job, of which one ink alone is diffused, apart, and a group's blocks so far
+pub record AreBlocks (job : JobData) (lone : Ink) (pages : PairData) (chains : Chains)
+    (sheet : List (List ℕ)) (group : Option Group) (blocks : ℕ) : Type 0 where
   pub plan_is : IsPlan job.plan
-  pub only : IsOnly job.plan chosen
+  pub only : IsOnly job.plan lone
+  pub pages_are : AreApart job pages
   pub sheet_is : IsSheet job sheet
   pub wide : AreWide job chains
-  pub block : ForSome group (IsBlockOf job chosen chains sheet blocks)
+  pub block : ForSome group (IsBlockOf job lone chains sheet blocks)

@@ -1,5 +1,3 @@
-pub mod Tones
-pub mod Planes
 pub mod Screener
 pub mod Screens
 pub mod Sides
@@ -7,7 +5,9 @@ pub mod SidePages
 pub mod Plates
 pub mod Pair
 pub mod Ahead
+pub mod Rows
 pub mod Chain
 pub mod Blocks
+pub mod Maker
 pub mod Band
 pub mod Feed

@@ -1,5 +1,5 @@
 -- The two pages of a plate, shown side by side.
-use Rattle.std.specs.Prelude.{◌≡◌, ℕ, Bool}
+use Rattle.std.specs.Prelude.{◌≡◌, ℕ, ◌+◌, Bool, true}
 use Rattle.plan_json.specs.Plan.{IsPlan}
 use Rattle.plan_rows.specs.declared.group.Group.{Group}
 use Rattle.press_feed.specs.declared.screens.Screens.{Screens}
@@ -27,6 +27,18 @@ page_shown Right pair = pair.right
 abbrev pub of_group : Group → ℕ → PairData → PairData
 of_group group shown pair = record pair { left = group.left; right = group.right; shown = shown }
 
+-- the pages of a job, of which what is diffused is drawn apart
+pub record AreApart (job : JobData) (pages : PairData) : Type 0 where
+  pub job_is : pages.job ≡ job
+  pub apart_is : pages.apart ≡ true
+
+-- such pages, which show row y of a group
+pub record ShowsRow (job : JobData) (group : Group) (y : ℕ) (pages : PairData) : Type 0 where
+  pub pages_are : AreApart job pages
+  pub left_is : pages.left ≡ group.left
+  pub right_is : pages.right ≡ group.right
+  pub shown : pages.shown ≡ y + 1
+
 -- ---- what the code of two pages keeps
 
 -- a side is one of a job
@@ -35,7 +47,7 @@ pub record IsOf (job : JobData) (side : Side) (pages : SideData) : Type 0 where
   pub files_are : pages.files ≡ job.files
   pub side_is : pages.side ≡ side
 
--- as many rows were shown on both sides, and these were diffused where an ink is
+-- as many rows were shown on both sides, and these were diffused where an ink is, and not apart
 pub record IsPair (job : JobData) (apart : Bool) (left right : SideData) (screens : Screens) : Type 0 where
   pub plan_is : IsPlan job.plan
   pub left_is : IsOf job Left left

@@ -1,15 +1,11 @@
 -- A row of a plate as the two pages and the marks make it.
-use Rattle.std.specs.Prelude.{◌≡◌, ℕ, ◌-◌, true, false, ◌&&◌, ◌||◌, nat_lt, nat_le, if◌then◌else◌, List, length}
+use Rattle.std.specs.Prelude.{◌≡◌, ℕ, ◌-◌, ◌&&◌, ◌||◌, nat_lt, nat_le, if◌then◌else◌, List}
 use Rattle.std.specs.Prelude.{Option, Some, None}
-use Rattle.std.specs.Option.{ForSome}
 use Rattle.pr_base.specs.Bits.{bit_at}
 use Rattle.pr_base.specs.declared.ink.Ink.{Ink}
-use Rattle.pr_base.specs.Row.{row_size}
-use Rattle.plan_json.specs.Data.{PlanData, plate_width}
-use Rattle.plan_json.specs.Plan.{IsPlan}
+use Rattle.plan_json.specs.Data.{PlanData}
 use Rattle.plan_pages.specs.Plate.{shape_of_plate}
-use Rattle.press_feed.specs.Ahead.{BlocksData}
-use Rattle.press_feed.specs.Pair.{PairData}
+use Rattle.plan_rows.specs.declared.group.Group.{Group}
 use Rattle.press_job.specs.Job.{JobData}
 use Rattle.press_job.specs.Rows.{placed_bit}
 
@@ -26,17 +22,7 @@ pub record ShowsPages (plan : PlanData) (files : List (List ℕ)) (left right : 
       ≡ (placed_bit plan files left (shape_of_plate plan).left_x ink x y || placed_bit plan files right
       (shape_of_plate plan).right_x ink x y)
 
--- ---- what makes rows
-
--- two pages of a job, of which what is diffused is drawn apart, where rows are drawn ahead
-pub record AreSources (job : JobData) (blocks : Option BlocksData) (pages : PairData) : Type 0 where
-  pub job_is : pages.job ≡ job
-  pub apart : ForSome blocks (λ ahead. (ahead.job ≡ job) × (pages.apart ≡ true))
-  pub own : blocks ≡ None → pages.apart ≡ false
-
--- these of a job, and room for a row of a plate
-pub record IsMaker (job : JobData) (blocks : Option BlocksData) (pages : PairData) (bits : List ℕ)
-    : Type 0 where
-  pub plan_is : IsPlan job.plan
-  pub sources : AreSources job blocks pages
-  pub long : length bits ≡ row_size (plate_width job.plan)
+-- a row of a plate that shows row y of the pages of a group, in an ink
+abbrev pub DrawsPages : JobData → Group → Ink → ℕ → List ℕ → Type 0
+DrawsPages job group ink y bits = (row : ℕ) → page_row job.plan row ≡ Some y
+    → ShowsPages job.plan job.files group.left group.right ink row bits

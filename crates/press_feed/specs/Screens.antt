@@ -87,10 +87,11 @@ bit_by Diffusion bank lane y values x = option_map_or (λ front. last_bit lane f
 
 -- ---- what the code of a feed keeps
 
--- they screen as a plan says; where what is diffused is drawn apart, they hold no diffusers for it
+-- they screen as a plan says; where what is diffused is drawn apart, they hold no diffusers
 pub record AreScreens (plan : PlanData) (apart : Bool) (screens : Screens) : Type 0 where
   pub screeners : AreScreeners plan screens.screeners.items
   pub diffused : (ink : Ink) → is_diffused plan ink ≡ true → apart ≡ false → bank_of screens ink ≢ None
+  pub none : apart ≡ true → (ink : Ink) → bank_of screens ink ≡ None
 
 -- row y of two pages, by lanes
 abbrev pub printed_planes : PlanData → List (List ℕ) → ℕ → ℕ → Planes

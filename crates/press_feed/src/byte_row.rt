@@ -1,6 +1,6 @@
 // Room for the bytes of one row.
 ghost use Rattle.std.specs.Prelude.{◌≡◌, ℕ, List, IfOk, length, replicate};
-ghost use Rattle.press_feed.specs.Chain.{AreRows};
+ghost use Rattle.press_feed.specs.Rows.{AreRows};
 
 use pr_base::NoMemory;
 use std::alloc::Global;
@@ -57,7 +57,7 @@ pub(crate) fn byte_rows(alloc: Global, count: usize, len: usize) -> Result<Vec<B
     Ok(rows)
 }
 
-/// No pixel of a row.
+/// Leaves a row without a pixel.
 pub(crate) fn clear(bits: &mut [u8])
     ensures { bits.new ≡ replicate (length bits.old) 0 }
 {

@@ -4,14 +4,14 @@
 #![tactic(auto)]
 
 mod band;
+mod block_rows;
 mod byte_row;
-mod chain;
+mod chains;
 mod feed;
 mod frame;
 mod page_blocks;
 mod page_pair;
-mod plane;
-mod printed_row;
+mod page_source;
 mod row_maker;
 mod screener;
 mod screens;
@@ -19,7 +19,6 @@ mod share;
 mod sheet;
 mod side;
 mod side_pages;
-mod tones;
 
 pub use feed::Feed;
 pub use press_job::{Job, Refusal, prepare, spotless_law};

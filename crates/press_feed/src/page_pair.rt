@@ -5,21 +5,19 @@ ghost use Rattle.pr_base.specs.declared.ink.Ink.{Ink as InkData};
 ghost use Rattle.page_layers.specs.Inks.{HasWidth, plane_of};
 ghost use Rattle.plan_json.specs.Data.{plate_width};
 ghost use Rattle.plan_json.specs.Plan.{IsPlan};
-ghost use Rattle.press_feed.specs.Blocks.{DrawsPages};
 ghost use Rattle.press_feed.specs.Pair.{page_shown};
-ghost use Rattle.press_feed.specs.Plates.{ShowsPages, page_row};
+ghost use Rattle.press_feed.specs.Plates.{DrawsPages, ShowsPages, page_row};
 ghost use Rattle.press_feed.specs.Screener.{is_diffused};
 ghost use Rattle.press_job.specs.Printing.{printed_row};
 ghost use Rattle.press_feed.specs.declared.side.Side.TheVariants.{Left, Right};
 
 use crate::byte_row::clear;
-use crate::printed_row::PrintedRow;
 use crate::screens::Screens;
 use crate::side::Side;
 use crate::side_pages::SidePages;
 use plan_rows::Group;
 use pr_base::{Ink, NoMemory};
-use press_job::Job;
+use press_job::{Job, PrintedRow};
 use std::alloc::Global;
 use std::marker::Model;
 

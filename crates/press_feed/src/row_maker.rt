@@ -1,16 +1,15 @@
 // The frames of a job, each made when it is asked for.
-ghost use Rattle.std.specs.Prelude.{◌≡◌, ◌+◌, ◌<◌, ◌≤◌, IfOk, Some, length, slice_get};
-ghost use Rattle.std.specs.Option.{ForSome};
+ghost use Rattle.std.specs.Prelude.{◌≡◌, ◌<◌, IfOk, Some, length, slice_get, true};
 ghost use Rattle.pr_base.specs.Row.{row_size};
 ghost use Rattle.plan_json.specs.Data.{plate_height, plate_width};
 ghost use Rattle.plan_pages.specs.Plate.{shape_of_plate};
+ghost use Rattle.plan_rows.specs.Inks.{has_ink};
+ghost use Rattle.press_feed.specs.Maker.{IsSourceOf};
 ghost use Rattle.press_job.specs.Rows.{plate_row};
-ghost use Rattle.press_feed.specs.Plates.{AreSources, ShowsPages, page_row as row_of_pages};
+ghost use Rattle.press_feed.specs.Plates.{ShowsPages, page_row as row_of_pages};
 
 use crate::byte_row::clear;
-use crate::page_blocks::PageBlocks;
-use crate::page_pair::PagePair;
-use crate::screener::lone_diffused;
+use crate::page_source::PageSource;
 use plan_json::Plan;
 use plan_pages::{PlateShape, mark_row};
 use plan_rows::{Group, RowPlace, RowPlan};
@@ -25,9 +24,7 @@ use tif_packbits::frame_row;
 #[derive(Drop)]
 pub(crate) struct RowMaker<'j> {
     job: &'j Job,
-    /// Where one ink alone is diffused.
-    blocks: Option<PageBlocks<'j>>,
-    pages: PagePair<'j>,
+    pages: PageSource<'j>,
     /// A row of a plate, eight pixels a byte.
     bits: Vec<u8>,
 }
@@ -37,11 +34,11 @@ impl<'j> Model for RowMaker<'j> {
 
     ghost Value = { JobData };
 
-    ghost use Rattle.press_feed.specs.Plates.{IsMaker};
+    ghost use Rattle.press_feed.specs.Maker.{IsMaker};
 
     ghost view = { λ m. m.job.now };
 
-    ghost invariant = { λ m. IsMaker m.job.now m.blocks m.pages m.bits.items };
+    ghost invariant = { λ m. IsMaker m.job.now m.pages m.bits.items };
 }
 
 impl<'j> RowMaker<'j> {
@@ -53,14 +50,8 @@ impl<'j> RowMaker<'j> {
         ensures { IfOk result (λ maker. maker ≡ job.now) }
     {
         let bits = vec![in alloc; 0; row_bytes(job.shape().width)]?;
-        let blocks = open_blocks(alloc, job)?;
-        let pages = PagePair::open(alloc, job, blocks.is_some())?;
-        Ok(RowMaker {
-            job,
-            blocks,
-            pages,
-            bits,
-        })
+        let pages = PageSource::open(alloc, job)?;
+        Ok(RowMaker { job, pages, bits })
     }
 
     /// The number of frames.
@@ -80,14 +71,7 @@ impl<'j> RowMaker<'j> {
         let rows = self.job.rows();
         let place = rows.row_at(n);
         let group = group_at(rows, place.group);
-        draw_row(
-            self.job,
-            group,
-            place,
-            &mut self.blocks,
-            &mut self.pages,
-            &mut self.bits,
-        );
+        draw_row(self.job, group, place, &mut self.pages, &mut self.bits);
         frame_row(&self.bits, frame);
     }
 }
@@ -101,33 +85,17 @@ fn group_at(rows: &RowPlan, index: usize) -> &Group
     &groups[index]
 }
 
-/// What draws rows ahead, where one ink alone is diffused.
-fn open_blocks(alloc: Global, job: &Job) -> Result<Option<PageBlocks<'_>>, NoMemory>
-    ensures { IfOk result (λ blocks. ForSome blocks (λ made. made.job ≡ job.now)) }
-{
-    match lone_diffused(job.plan()) {
-        Some(ink) => Ok(Some(PageBlocks::open(alloc, job, ink)?)),
-        None => Ok(None),
-    }
-}
-
 /// Draws a row of a plate of a group: the two pages where they stand, the marks, and nothing else.
-fn draw_row(
-    job: &Job,
-    group: &Group,
-    place: RowPlace,
-    blocks: &mut Option<PageBlocks<'_>>,
-    pages: &mut PagePair<'_>,
-    bits: &mut [u8],
-)
-    requires sources { AreSources job.now blocks.old pages.old }
+fn draw_row(job: &Job, group: &Group, place: RowPlace, pages: &mut PageSource<'_>, bits: &mut [u8])
+    requires pages { IsSourceOf job.now pages.old }
+    requires ink { has_ink group.now place.ink ≡ true }
     requires y { place.y < plate_height job.now.plan }
     requires row { length bits.old ≡ row_size (plate_width job.now.plan) }
     ensures row { bits.new
         ≡ plate_row job.now.plan job.now.files group.now.left group.now.right place.ink place.y }
-    ensures sources { AreSources job.now blocks.new pages.new }
+    ensures source { IsSourceOf job.now pages.new }
 {
-    draw_pages(job, group, place, blocks, pages, bits);
+    draw_pages(job, group, place, pages, bits);
     mark_row(job.plan(), place.ink, place.y, bits);
 }
 
@@ -136,23 +104,23 @@ fn draw_pages(
     job: &Job,
     group: &Group,
     place: RowPlace,
-    blocks: &mut Option<PageBlocks<'_>>,
-    pages: &mut PagePair<'_>,
+    pages: &mut PageSource<'_>,
     bits: &mut [u8],
 )
-    requires sources { AreSources job.now blocks.old pages.old }
+    requires pages { IsSourceOf job.now pages.old }
+    requires ink { has_ink group.now place.ink ≡ true }
     requires row { length bits.old ≡ row_size (plate_width job.now.plan) }
     ensures pages { ShowsPages job.now.plan job.now.files group.now.left group.now.right
         place.ink place.y bits.new }
-    ensures sources { AreSources job.now blocks.new pages.new }
+    ensures source { IsSourceOf job.now pages.new }
 {
     let Some(y) = page_row(job.plan(), job.shape(), place.y) else {
         clear(bits);
         return;
     };
-    match blocks {
-        Some(blocks) => blocks.draw(pages, group, place.ink, y, bits),
-        None => pages.draw_at(group, place.ink, y, bits),
+    match pages {
+        PageSource::Rows(pages) => pages.draw_at(group, place.ink, y, bits),
+        PageSource::Blocks(blocks) => blocks.draw(group, place.ink, y, bits),
     }
 }
 

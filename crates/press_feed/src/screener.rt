@@ -1,11 +1,11 @@
 // How an ink is screened: by a tile, or by error diffusion.
-ghost use Rattle.std.specs.Prelude.{◌≡◌, ℕ, ◌<◌, IfOk, IsTrue, length};
+ghost use Rattle.std.specs.Prelude.{◌≡◌, ℕ, ◌<◌, IfOk, IsTrue, Some, length};
 ghost use Rattle.std.specs.Option.{ForSome};
+ghost use Rattle.pr_base.specs.declared.ink.Ink.{Ink as InkData};
 ghost use Rattle.plan_parts.specs.Parts.{is_bayer};
 ghost use Rattle.scr_tile.specs.AnyTile.{threshold_of};
 ghost use Rattle.scr_tile.specs.Tile.{threshold_at};
-ghost use Rattle.press_feed.specs.Blocks.{IsOnly};
-ghost use Rattle.press_feed.specs.Screener.{is_diffused};
+ghost use Rattle.press_feed.specs.Screener.{IsOnly, is_diffused};
 ghost use Rattle.press_job.specs.Printing.{own_threshold};
 
 use plan_json::{Plan, Screen};
@@ -48,7 +48,8 @@ pub(crate) fn has_diffused(plan: &Plan, ink: Ink) -> bool
 
 /// The ink that is diffused, if it is one alone.
 pub(crate) fn lone_diffused(plan: &Plan) -> Option<Ink>
-    ensures { ForSome result (IsOnly plan.now) }
+    ensures is { ForSome result (IsOnly plan.now) }
+    ensures only { (ink : InkData) → IsOnly plan.now ink → result ≡ Some ink }
 {
     let mut found = None;
     for ink in Ink::ALL {

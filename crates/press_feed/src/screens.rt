@@ -12,11 +12,11 @@ ghost use Rattle.press_feed.specs.declared.screener.Screener.{Screener as Screen
 ghost use Rattle.press_feed.specs.Screener.{AreScreeners, diffuses, is_diffused};
 ghost use Rattle.press_feed.specs.Screens.{AreScreens, behind_planes, behind_rows, bank_of, bit_by, from_top, front_at, lane_of, last_bit, process_rows, spot_rows, without_rows};
 
-use crate::printed_row::PrintedRow;
 use crate::screener::{Screener, has_diffused};
 use crate::side::Side;
 use plan_json::Plan;
 use pr_base::{Ink, NoMemory};
+use press_job::PrintedRow;
 use scr_diffuse::Diffusers;
 use scr_tile::screen_row;
 use std::alloc::Global;
@@ -137,6 +137,7 @@ fn open_process(alloc: Global, plan: &Plan, apart: bool) -> Result<Option<Diffus
         (λ front. front ≡ record { width = plan.now.page_width; rows = [] })) }
     ensures some { IfOk result (λ process. (ink : InkData) → ink ≢ S → is_diffused plan.now ink ≡ true →
         apart ≡ false → process ≢ None) }
+    ensures apart { IfOk result (λ process. apart ≡ true → process ≡ None) }
 {
     if !apart
         && (has_diffused(plan, Ink::C)
@@ -155,6 +156,7 @@ fn open_spot(alloc: Global, plan: &Plan, apart: bool) -> Result<Option<Diffusers
     ensures top { IfOk result (λ spot. ForSome spot
         (λ front. front ≡ record { width = plan.now.page_width; rows = [] })) }
     ensures some { IfOk result (λ spot. is_diffused plan.now S ≡ true → apart ≡ false → spot ≢ None) }
+    ensures apart { IfOk result (λ spot. apart ≡ true → spot ≡ None) }
 {
     if !apart && has_diffused(plan, Ink::S) {
         Ok(Some(Diffusers::new(alloc, plan.page_width)?))

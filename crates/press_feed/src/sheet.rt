@@ -3,12 +3,14 @@ ghost use Rattle.std.specs.Prelude.{◌≡◌, ℕ, ◌+◌, ◌-◌, ◌*◌, �
 ghost use Rattle.pr_base.specs.Ink.{slot_of};
 ghost use Rattle.pr_base.specs.Row.{row_size};
 ghost use Rattle.plan_json.specs.Data.{plate_width};
-ghost use Rattle.press_feed.specs.Blocks.{DrawsPages, IsAhead, IsSetAt, IsSheet, ShowsRow, sheet_at};
-ghost use Rattle.press_feed.specs.Chain.{AreRows};
+ghost use Rattle.press_feed.specs.Blocks.{IsAhead, IsSetAt, IsSheet, sheet_at};
+ghost use Rattle.press_feed.specs.Pair.{ShowsRow};
+ghost use Rattle.press_feed.specs.Plates.{DrawsPages};
+ghost use Rattle.press_feed.specs.Rows.{AreRows};
 ghost use Rattle.press_feed.specs.Screener.{is_diffused};
 
 use crate::byte_row::{ByteRow, byte_rows, clear};
-use crate::chain::Chains;
+use crate::chains::Chains;
 use crate::page_pair::PagePair;
 use crate::side::Side;
 use plan_rows::Group;
@@ -25,19 +27,16 @@ const INKS: usize = 5;
 #[derive(Drop)]
 pub(crate) struct Sheet {
     rows: Vec<ByteRow>,
-    /// A row that is being drawn.
-    bits: Vec<u8>,
 }
 
 impl Model for Sheet {
-    ghost use Rattle.std.specs.Prelude.{List, ℕ, length};
-    ghost use Rattle.press_feed.specs.Chain.{AreRows};
+    ghost use Rattle.std.specs.Prelude.{◌≡◌, List, ℕ, length};
 
     ghost Value = { List (List ℕ) };
 
     ghost view = { λ s. s.rows.items };
 
-    ghost invariant = { λ s. AreRows 40 (length s.bits.items) s.rows.items };
+    ghost invariant = { λ s. length s.rows.items ≡ 40 };
 }
 
 impl Sheet {
@@ -45,10 +44,8 @@ impl Sheet {
     pub(crate) fn new(alloc: Global, len: usize) -> Result<Sheet, NoMemory>
         ensures { IfOk result (AreRows 40 len) }
     {
-        let rows = byte_rows(alloc, 8 * INKS, len)?;
         Ok(Sheet {
-            rows,
-            bits: vec![in alloc; 0; len]?,
+            rows: byte_rows(alloc, 8 * INKS, len)?,
         })
     }
 
@@ -70,9 +67,7 @@ impl Sheet {
         ensures row { DrawsPages pages.now.job group.now ink y (sheet_at self.new k ink) }
         ensures others { IsSetAt (5 * k + slot_of ink) self.old self.new }
     {
-        clear(&mut self.bits);
-        pages.draw(ink, y, &mut self.bits);
-        self.rows[INKS * k + ink.slot()].set(&self.bits);
+        self.rows[INKS * k + ink.slot()].tile(pages, group, ink, y);
     }
 
     /// Draws one of the eight rows in the ink that is diffused: that of the chains' last rows.
@@ -95,13 +90,42 @@ impl Sheet {
         ensures row { DrawsPages job.now group.now ink y (sheet_at self.new k ink) }
         ensures others { IsSetAt (5 * k + slot_of ink) self.old self.new }
     {
-        diffuse_pages(k, job, group, ink, y, chains, &mut self.bits);
-        self.rows[INKS * k + ink.slot()].set(&self.bits);
+        self.rows[INKS * k + ink.slot()].diffuse(k, job, group, ink, y, chains);
     }
 }
 
-/// Draws a row of a plate that shows row `y` of the pages of a group, one of the last eight that the chains
-/// took: the two pages in the ink that is diffused, and nothing else.
+impl ByteRow {
+    /// Becomes the row of a plate that the pages show, in an ink that isn't diffused.
+    fn tile(&mut self, pages: &PagePair<'_>, group: &Group, ink: Ink, y: u32)
+        requires shows { ShowsRow pages.now.job group.now y pages.now }
+        requires within { y < pages.now.job.plan.page_height }
+        requires tiled { is_diffused pages.now.job.plan ink ≡ false }
+        requires room { length self.old ≡ row_size (plate_width pages.now.job.plan) }
+        ensures row { DrawsPages pages.now.job group.now ink y self.new }
+        ensures long { length self.new ≡ length self.old }
+    {
+        clear(&mut self.bytes);
+        pages.draw(ink, y, &mut self.bytes);
+    }
+
+    /// Becomes the row of a plate that shows row `y` of the pages of a group, one of the last eight that the
+    /// chains took: the two pages in the ink that is diffused, and nothing else.
+    fn diffuse(&mut self, k: usize, job: &Job, group: &Group, ink: Ink, y: u32, chains: &Chains)
+        requires k { k < 8 }
+        requires left { IsAhead job.now group.now.left ink (y - k + 8) chains.now.left.front }
+        requires right { IsAhead job.now group.now.right ink (y - k + 8) chains.now.right.front }
+        requires row { k ≤ y }
+        requires within { y < job.now.plan.page_height }
+        requires diffused { is_diffused job.now.plan ink ≡ true }
+        requires room { length self.old ≡ row_size (plate_width job.now.plan) }
+        ensures row { DrawsPages job.now group.now ink y self.new }
+        ensures long { length self.new ≡ length self.old }
+    {
+        diffuse_pages(k, job, group, ink, y, chains, &mut self.bytes);
+    }
+}
+
+/// Draws this row.
 fn diffuse_pages(
     k: usize,
     job: &Job,

@@ -11,14 +11,12 @@ ghost use Rattle.press_feed.specs.Screener.{AreScreeners, is_diffused};
 ghost use Rattle.press_feed.specs.Screens.{IsFrontOf, bank_of, lane_of};
 ghost use Rattle.press_feed.specs.Sides.{left_edge, page_before};
 
-use crate::printed_row::PrintedRow;
 use crate::screens::Screens;
 use crate::side::Side;
-use crate::tones::Tones;
 use page_layers::PageRows;
 use plan_json::Plan;
 use pr_base::{Ink, NoMemory};
-use press_job::{Job, most_layers, put_layers};
+use press_job::{Job, PrintedRow, Tones, most_layers, put_layers};
 use std::alloc::Global;
 use std::marker::Model;
 

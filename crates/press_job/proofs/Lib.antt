@@ -1,8 +1,10 @@
 pub mod FaultLemmas
 pub mod FitLemmas
 pub mod FrameLemmas
+pub mod InkLemmas
 pub mod LimitLemmas
 pub mod LoadLemmas
+pub mod PlaneLemmas
 pub mod SmallJob
 pub mod SpotlessLemmas
 pub mod UntoldLemmas

@@ -11,7 +11,6 @@ use Rattle.page_layers.specs.Layer.{ink_at}
 use Rattle.scr_tile.specs.Tile.{index_in}
 use Rattle.plan_parts.specs.declared.printing.Screen.TheVariants.{Bayer}
 use Rattle.plan_parts.specs.declared.layer.PlanLayer.{PlanLayer}
-use Rattle.plan_parts.specs.Data.{CurveData}
 use Rattle.plan_json.specs.Data.{PlanData}
 use Rattle.plan_pages.specs.Pages.{chosen_page}
 use Rattle.plan_pages.specs.Plate.{is_marked_at}
@@ -20,6 +19,7 @@ use Rattle.plan_rows.specs.Rows.{places_in}
 use Rattle.press_job.specs.Layers.{layers_of}
 use Rattle.press_job.specs.Printing.{page_bit, printed_at}
 use Rattle.press_job.specs.Rows.{plate_bit, plate_rows}
+use Rattle.press_job.specs.Tones.{identity}
 use Rattle.press_job.specs.Tests.{fault_of_file, fault_of_layers, layer_fault, fit_fault}
 
 -- an entry of one value: tag, type, count and value
@@ -34,9 +34,6 @@ image =
     ++ entry 21 3 1 4 ++ entry 22 4 1 1 ++ entry 23 4 1 16 ++ (0 ∷ 0 ∷ 0 ∷ 0 ∷ [])
     ++ (8 ∷ 0 ∷ 8 ∷ 0 ∷ 8 ∷ 0 ∷ 8 ∷ 0 ∷ [])
     ++ (0 ∷ 0 ∷ 0 ∷ 1 ∷ 0 ∷ 0 ∷ 0 ∷ 127 ∷ 0 ∷ 0 ∷ 0 ∷ 31 ∷ 0 ∷ 0 ∷ 0 ∷ 255 ∷ [])
-
-abbrev identity : CurveData
-identity = (0, 0) ∷ (255, 255) ∷ []
 
 abbrev layer : PlanLayer
 layer = record {

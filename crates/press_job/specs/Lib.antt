@@ -1,5 +1,7 @@
 pub mod Layers
 pub mod Printing
+pub mod Tones
+pub mod Planes
 pub mod Rows
 pub mod Tests
 pub mod Verdict

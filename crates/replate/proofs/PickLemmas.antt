@@ -7,11 +7,11 @@ use Rattle.pr_base.proofs.Inks.{slot_below}
 use Rattle.plan_json.specs.Plan.{IsPlan}
 use Rattle.plan_pages.specs.Ink.{slot_of}
 use Rattle.plan_rows.specs.Groups.{groups_of, page_colour, page_spot}
-use Rattle.plan_rows.specs.Inks.{inks_of}
+use Rattle.plan_rows.specs.Inks.{has_ink, inks_of}
 use Rattle.plan_rows.proofs.GroupLemmas.{inks_by}
 use Rattle.replate.specs.Inputs.{JobData}
 use Rattle.replate.specs.Picks.{MustMake, PicksData, is_made, recipe_at}
-use Rattle.replate.specs.Plates.{IsPlateOf, PlateAt, group_at, has_ink, path_below}
+use Rattle.replate.specs.Plates.{IsPlateOf, PlateAt, group_at, path_below}
 use Rattle.replate.specs.Recipe.{Recipe, page_recipe, recipe_of, screen_of, screen_recipe}
 use Rattle.replate.specs.Standing.{AreAllKept, IsAlike, SamePages, StandsFor}
 use Rattle.replate.proofs.GroupLemmas.{group_in_plan}

@@ -1,25 +1,25 @@
 -- Which plates a plan has, and which of them has a path.
 use Rattle.std.proofs.Common.{◌≡◌, ◌≢◌, ℕ, ◌<◌, Bool, true, false, cond, eqb, List, [], ◌∷◌, length, get_or, refl, ap, sym, zero-add, ◌∙◌, inl, inr, arith}
-use Rattle.std.specs.Prelude.{◌||◌, Contains}
+use Rattle.std.specs.Prelude.{◌||◌}
 use Rattle.std.specs.List.{enumerate_from, flat_map, list_any, range_with_len}
 use Rattle.std.specs.Str.{bytes_eq}
 use Rattle.std.specs.Cmp.Lexicographic.{bytes_decides}
-use Rattle.std.proofs.lemmas.Bool.{cases_Bool, false≢true, both_ways, false_from_ne_true, eq-eqb, eqb-true}
+use Rattle.std.proofs.lemmas.Bool.{cases_Bool, false≢true, both_ways, false_from_ne_true}
 use Rattle.std.proofs.lemmas.List.{length-map, get_or-map, get_or_default}
 use Rattle.std.proofs.lemmas.List.Folds.{Any-from_list_any, list_any-append, list_any_at}
 use Rattle.std.proofs.lemmas.List.FromFn.{length-range_with_len, get_or-range_with_len, length-enumerate_from, get_or-enumerate_from}
 use Rattle.pr_base.specs.declared.ink.Ink.{Ink}
 use Rattle.pr_base.specs.declared.ink.Ink.TheVariants.{K}
-use Rattle.pr_base.proofs.Inks.{slot_tells}
 use Rattle.plan_json.specs.Data.{PlanData}
 use Rattle.plan_json.specs.Plan.{IsPlan}
 use Rattle.plan_pages.specs.Ink.{slot_of}
 use Rattle.plan_rows.specs.declared.group.Group.{Group}
-use Rattle.plan_rows.specs.Inks.{has_site, inks_of}
+use Rattle.plan_rows.specs.Inks.{has_ink, has_site, inks_of}
 use Rattle.plan_rows.specs.Groups.{groups_of}
-use Rattle.replate.specs.Plates.{PlateAt, IsPlateOf, all_plates, group_at, has_ink, has_path, ink_plates, group_in, path_below, plates_in, plates_of}
+use Rattle.replate.specs.Plates.{PlateAt, IsPlateOf, all_plates, group_at, has_path, ink_plates, group_in, path_below, plates_in, plates_of}
 use Rattle.replate.specs.Standing.{StandsFor}
 use Rattle.replate.proofs.GroupLemmas.{group_in_plan, inks_alike, stand_alike}
+use Rattle.plan_rows.proofs.InkLemmas.{has_ink-at, has_ink-in}
 use Rattle.plan_rows.proofs.Names.{CanTell, paths_same, paths_tell}
 
 -- ---- some element
@@ -36,20 +36,6 @@ any-flat_map p f [] = refl
 any-flat_map p f (x ∷ xs) =
     list_any-append p (f x) (flat_map f xs) ∙ ap (λ b. list_any p (f x) || b) (any-flat_map p f xs)
 
--- ---- inks
-
-slots_apart : (a b : Ink) → eqb (slot_of a) (slot_of b) ≡ true → a ≡ b
-slots_apart a b same = slot_tells a b (eqb-true (slot_of a) (slot_of b) same)
-
-pub has_ink-at : (group : Group) (i : ℕ) (ink : Ink) → i < length (inks_of group) → ink ≡ get_or (inks_of group) i K → has_ink group ink ≡ true
-has_ink-at group i ink within is =
-    list_any_at (λ other. eqb (slot_of other) (slot_of ink)) (inks_of group) i K within (eq-eqb _ _ (ap slot_of (sym is)))
-
-pub has_ink-in : (group : Group) (ink : Ink) → has_ink group ink ≡ true → Contains (inks_of group) ink
-has_ink-in group ink of_ink =
-    let at = some_at (λ other. eqb (slot_of other) (slot_of ink)) (inks_of group) ink of_ink in
-    (at.0, at.1, slots_apart (get_or (inks_of group) at.0 ink) ink at.2)
-
 -- ---- plates
 
 -- whether a test passes for a plate of a group at a site
@@ -57,11 +43,10 @@ of_group : (test : PlateAt → Bool) (site index : ℕ) (group : Group) (ink : I
     → test (record { site = site; group = index; ink = ink }) ≡ true → list_any test (plates_in site (index, group)) ≡ true
 of_group test site index group ink of_site of_ink passes =
     let plate : Ink → PlateAt = λ i. record { site = site; group = index; ink = i } in
-    let at = some_at (λ other. eqb (slot_of other) (slot_of ink)) (inks_of group) K of_ink in
-    let is = slots_apart (get_or (inks_of group) at.0 K) ink at.2 in
+    let at = has_ink-in group ink of_ink in
     let low = at.1 in
     let here : test (get_or (ink_plates site index (inks_of group)) at.0 (plate K)) ≡ true =
-    ap test (get_or-map plate (inks_of group) at.0 K (plate K) low ∙ ap plate is) ∙ passes in
+    ap test (get_or-map plate (inks_of group) at.0 ink (plate K) low ∙ ap plate at.2) ∙ passes in
     ap (λ b. list_any test (cond b (ink_plates site index (inks_of group)) [])) of_site
     ∙ list_any_at test (ink_plates site index (inks_of group)) at.0 (plate K) (omega (arith, length-map (inks_of group) plate)) here
 

@@ -1,12 +1,11 @@
 -- The plates of a plan, told by site, index of the group and ink, and their paths below any folder.
-use Rattle.std.specs.Prelude.{◌<◌, ℕ, Bool, false, ◌==◌, IsTrue, if◌then◌else◌, List, [], map, length, slice_index_or}
+use Rattle.std.specs.Prelude.{◌<◌, ℕ, Bool, false, IsTrue, if◌then◌else◌, List, [], map, length, slice_index_or}
 use Rattle.std.specs.List.{enumerate_from, flat_map, list_any, range_with_len}
 use Rattle.std.specs.Str.{bytes_eq}
 use Rattle.pr_base.specs.declared.ink.Ink.{Ink}
 use Rattle.plan_json.specs.Data.{PlanData}
-use Rattle.plan_pages.specs.Ink.{slot_of}
 use Rattle.plan_rows.specs.declared.group.Group.{Group}
-use Rattle.plan_rows.specs.Inks.{inks_of, has_site}
+use Rattle.plan_rows.specs.Inks.{has_ink, has_site, inks_of}
 use Rattle.plan_rows.specs.Groups.{groups_of}
 use Rattle.plan_rows.specs.Paths.{path_of}
 use Rattle.replate.specs.declared.old_plate.OldPlate.{OldPlate}
@@ -31,10 +30,6 @@ group_in groups index = slice_index_or groups index (record {
 -- the group of a plan with this index
 abbrev pub group_at : PlanData → ℕ → Group
 group_at plan index = group_in (groups_of plan) index
-
--- whether a group has an ink
-abbrev pub has_ink : Group → Ink → Bool
-has_ink group ink = list_any (λ other. slot_of other == slot_of ink) (inks_of group)
 
 -- the plan has this plate
 pub record IsPlateOf (plan : PlanData) (plate : PlateAt) : Type 0 where

@@ -9,7 +9,7 @@ ghost use Rattle.replate.specs.Plates.{group_at, ink_plates, plates_in, plates_o
 ghost use Rattle.replate.specs.Standing.{StandsFor};
 
 use crate::alike::same_edition;
-use crate::standing::{counterpart, group_count, group_with, has_ink, site_count};
+use crate::standing::{counterpart, group_count, group_with, site_count};
 use crate::{Inputs, OldPlate};
 use pr_base::NoMemory;
 use std::alloc::Global;
@@ -137,7 +137,7 @@ fn is_dropped(
         return true;
     }
     match place {
-        Some((_its, index)) => !has_ink(group_with(after, index), plate.ink),
+        Some((_its, index)) => !group_with(after, index).has_ink(plate.ink),
         None => true,
     }
 }

@@ -39,7 +39,7 @@ impl<'a> Inputs<'a> {
     /// The plan. There is a file for each of its files.
     pub fn plan(&self) -> &'a Plan
         ensures plan { result.now ≡ self.now.plan }
-        ensures count { length self.now.files ≡ length self.now.plan.files }
+        ensures count { length result.now.files ≡ length self.now.files }
     {
         self.plan
     }

@@ -5,13 +5,12 @@ ghost use Rattle.plan_rows.specs.Groups.{groups_of};
 ghost use Rattle.plan_rows.specs.Inks.{has_site as is_of_site};
 ghost use Rattle.plan_rows.specs.Paths.{section_name as name_of_section, site_name as name_of_site};
 ghost use Rattle.plan_rows.specs.Rows.{rows_of};
-ghost use Rattle.replate.specs.Plates.{group_at, has_ink as prints};
+ghost use Rattle.replate.specs.Plates.{group_at};
 ghost use Rattle.replate.specs.Standing.{IsGroupOf, IsOfPlan, StandsFor};
 
 use crate::Inputs;
 use plan_json::Plan;
 use plan_rows::{Group, RowPlan, section_name, site_name};
-use pr_base::Ink;
 
 /// The site and the group of another plan whose plates have, but for the edition, the paths of the plates of
 /// this group at this site.
@@ -90,17 +89,6 @@ fn is_group_of(group: &Group, section: usize, pair: u32, site: usize) -> bool
         × IsTrue (is_of_site group.now site)) }
 {
     group.section as usize == section && group.pair == pair && group.has_site(site)
-}
-
-/// Whether a group has an ink.
-pub(crate) fn has_ink(group: &Group, ink: Ink) -> bool
-    ensures { result ≡ prints group.now ink }
-{
-    match ink {
-        Ink::C | Ink::M | Ink::Y => group.colour,
-        Ink::K => true,
-        Ink::S => group.spot,
-    }
 }
 
 fn site_named(plan: &Plan, name: &str) -> Option<usize>

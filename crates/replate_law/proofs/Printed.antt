@@ -31,6 +31,7 @@ use Rattle.plan_rows.specs.declared.group.Group.{Group}
 use Rattle.plan_rows.specs.Groups.{groups_of, page_colour, page_spot}
 use Rattle.plan_rows.specs.Inks.{inks_of}
 use Rattle.plan_rows.specs.Rows.{place_of, row_number, row_places}
+use Rattle.plan_rows.proofs.InkLemmas.{has_ink-in}
 use Rattle.plan_rows.proofs.Places.{row_placed}
 use Rattle.press_job.specs.Layers.{bilevel_of, bytes_at, crop_of, layer_of, layers_of, planned_layers, shape_told}
 use Rattle.press_job.specs.Printing.{bit_under, page_bit, page_values, printed_at, printed_ink, prints_ink, screen_of}
@@ -39,7 +40,6 @@ use Rattle.replate.specs.Inputs.{JobData}
 use Rattle.replate.specs.Picks.{recipe_at}
 use Rattle.replate.specs.Plates.{IsPlateOf, PlateAt, group_at}
 use Rattle.replate.specs.Recipe.{LayerRecipe, PageRecipe, Recipe, ScreenRecipe, Settings, Bayer, Diffuse, Own, file_at, layer_recipe, page_recipe, recipe_of, screen_recipe, settings_of}
-use Rattle.replate.proofs.PlateLemmas.{has_ink-in}
 use Rattle.replate_law.specs.Law.{bytes_of_plate}
 
 -- ---- layers

@@ -1,10 +1,12 @@
 -- The errors and the pixels of a block of eight rows are those that are defined.
-use Rattle.std.proofs.Common.{◌≡◌, ℕ, zero, suc, ◌+◌, ◌-◌, ◌*◌, ◌<◌, ◌≤◌, ℤ, pos, FitsSigned, to_z, of_z, List, [], ◌++◌, length, take, drop, get_or, slice_set, refl, ap, sym, subst, ◌∙◌, inl, inr, arith, add-one, add-zero, add-suc, w16}
+use Rattle.std.proofs.Common.{All, ◌≡◌, ℕ, zero, suc, ◌+◌, ◌-◌, ◌*◌, ◌<◌, ◌≤◌, ℤ, pos, FitsSigned, to_z, of_z, List, [], ◌∷◌, ◌++◌, length, take, drop, get_or, slice_set, refl, ap, sym, subst, ◌∙◌, inl, inr, arith, add-one, add-zero, add-suc, w16}
 use Rattle.std.proofs.Math.Path.{fun_ext}
 use Rattle.std.proofs.lemmas.Bool.{cases_eq, cases_lt}
 use Rattle.std.proofs.lemmas.Int.{to_z-of_z}
 use Rattle.std.proofs.lemmas.List.{get_or_append_left, get_or-append-add, length-append}
+use Rattle.std.proofs.lemmas.List.Elements.{All-get_or}
 use Rattle.scr_diffuse.specs.Block.{HoldsBelow, HoldsBlock, block_left, block_v}
+use Rattle.scr_diffuse.specs.Diffuser.{joined}
 use Rattle.scr_diffuse.specs.Diffusers.{bit_of}
 use Rattle.scr_diffuse.specs.Diffusion.{IsError, diffused_bit, error_above, error_left, left_of, prints, v_at, v_below}
 use Rattle.scr_diffuse.specs.Passes.{number_at}
@@ -164,9 +166,8 @@ made_all old rows step width now end long right made x =
 pub below_at_start : (rows : List (List ℕ)) (width : ℕ) (errors : List ℤ) → rows ≡ [] → length errors ≡ width + 16 → ((x : ℕ) → number_at errors x ≡ pos 0) → HoldsBelow rows width errors
 below_at_start rows width errors none room zeros = rw none (record {
   room = room;
-  margined = λ x. zeros x ∙ sym (nothing_above x);
+  below = record { margined = λ x. zeros x ∙ sym (nothing_above x); small = λ x. rw (zeros x) none-small };
   right = λ x behind. zeros x;
-  small = λ x. rw (zeros x) none-small;
 })
 
 pub below_next : (page rows : List (List ℕ)) (width : ℕ) (errors new : List ℤ) → HoldsBelow page width errors → length rows ≡ 8 → length (get_or rows 7 []) ≡ width → length new ≡ length errors
@@ -175,36 +176,70 @@ below_next page rows width errors new holds eight long same made small =
     let count : length page + 8 ≡ length (page ++ rows) = omega (arith, length-append page rows) in
     record {
       room = same ∙ holds.room;
-      margined = λ x. made x ∙ block_is page rows errors holds.margined 8 x ∙ ap (λ (n : ℕ). left_of (λ y. error_above (page ++ rows) y n) x) count;
+      below = record {
+        margined = λ x. made x ∙ block_is page rows errors holds.below.margined 8 x ∙ ap (λ (n : ℕ). left_of (λ y. error_above (page ++ rows) y n) x) count;
+        small = small;
+      };
       right = λ x behind. made x ∙ block-behind errors rows 7 x (omega arith);
-      small = small;
     }
 
-pub block_at_start : (rows : List (List ℕ)) (width : ℕ) (errors : List ℤ) (dots columns : List ℕ) → rows ≡ [] → length errors ≡ width + 16 → length dots ≡ width + 14 → length columns ≡ 8 * length dots → ((x : ℕ) → number_at errors x ≡ pos 0) → HoldsBlock rows errors dots columns
-block_at_start rows width errors dots columns none room long full zeros = record {
+pub block_at_start : (rows held : List (List ℕ)) (width : ℕ) (errors : List ℤ) (dots columns : List ℕ) → rows ≡ [] → length held ≡ 8 → All (λ row. length row ≡ width) held → length errors ≡ width + 16 → length dots ≡ width + 14 → length columns ≡ 8 * length dots
+    → ((x : ℕ) → number_at errors x ≡ pos 0) → HoldsBlock rows held errors dots columns
+block_at_start rows held width errors dots columns none eight wide room long full zeros = record {
   width = width;
+  eight = eight;
+  wide = wide;
   long = long;
   room = full;
   errors_are = below_at_start rows width errors none room zeros;
   dots_are = λ k x within inside handed. (let empty : length rows ≡ 0 = ap length none in absurd (omega arith));
 }
 
--- behind eight rows more
-pub block_held : (page rows : List (List ℕ)) (errors new : List ℤ) (before dots filled columns : List ℕ) → (held : HoldsBlock page errors before filled) → length rows ≡ 8 → ((k : ℕ) → k < 8 → length (get_or rows k []) ≡ held.width)
-    → length new ≡ length errors → length dots ≡ length before → length columns ≡ length filled → ((x : ℕ) → number_at new x ≡ block_left errors rows 8 x) → ((x : ℕ) → IsError (number_at new x))
-    → ((k x : ℕ) → k < 8 → x < held.width → bit_of (get_or dots (x + 2 * k) 0) k ≡ prints (block_v errors rows k x)) → HoldsBlock (page ++ rows) new dots columns
-block_held page rows errors new before dots filled columns held eight wide same whole full made small set = record {
-  width = held.width;
-  long = whole ∙ held.long;
-  room = full ∙ held.room ∙ ap (λ n. 8 * n) (sym whole);
-  errors_are = below_next page rows held.width errors new held.errors_are eight (wide 7 (omega arith)) same made small;
+-- behind a restart: the errors were lent whole and come back as 0
+pub block_restarted : (steps : List (List (List ℕ))) (page held : List (List ℕ)) (n : ℕ) (new old : List ℤ) (dots columns : List ℕ) → HoldsBlock page held old dots columns → steps ≡ [] → n ≡ length new → length new ≡ length old
+    → ((x : ℕ) → number_at new x ≡ pos 0) → HoldsBlock (joined steps) held (take n (new ++ drop (length new) old)) dots columns
+block_restarted steps page held n new old dots columns holds none whole same zeros =
+    subst (λ (errors : List ℤ). HoldsBlock (joined steps) held errors dots columns) (sym (lent_whole n new old whole))
+    (block_at_start (joined steps) held holds.width new dots columns (ap joined none) holds.eight holds.wide (same ∙ holds.errors_are.room) holds.long holds.room zeros)
+
+-- a row of the eight that are taken next has its width
+pub held_long : (page held : List (List ℕ)) (errors : List ℤ) (dots columns : List ℕ) → (holds : HoldsBlock page held errors dots columns) → (k : ℕ) → k < 8 → length (get_or held k []) ≡ holds.width
+held_long page held errors dots columns holds k within = All-get_or (λ row. length row ≡ holds.width) held k [] (omega (arith, holds.eight)) holds.wide
+
+-- behind the eight rows that were held
+pub block_held : (page rows : List (List ℕ)) (errors new : List ℤ) (before dots filled columns : List ℕ) → (holds : HoldsBlock page rows errors before filled) → length new ≡ length errors → length dots ≡ length before → length columns ≡ length filled
+    → ((x : ℕ) → number_at new x ≡ block_left errors rows 8 x) → ((x : ℕ) → IsError (number_at new x)) → ((k x : ℕ) → k < 8 → x < holds.width → bit_of (get_or dots (x + 2 * k) 0) k ≡ prints (block_v errors rows k x)) → HoldsBlock (page ++ rows) rows new dots columns
+block_held page rows errors new before dots filled columns holds same whole full made small set = record {
+  width = holds.width;
+  eight = holds.eight;
+  wide = holds.wide;
+  long = whole ∙ holds.long;
+  room = full ∙ holds.room ∙ ap (λ n. 8 * n) (sym whole);
+  errors_are = below_next page rows holds.width errors new holds.errors_are holds.eight (held_long page rows errors before filled holds 7 (omega arith)) same made small;
   dots_are = λ k x within inside handed.
-      (let place : length page + k ≡ length (page ++ rows) - 8 + k = omega (arith, length-append page rows) in
-      set k x within inside ∙ ap prints (block_v_is page rows errors held.errors_are.margined k x) ∙ ap (diffused_bit (page ++ rows) x) place);
+      (let place : length page + k ≡ length (page ++ rows) - 8 + k = omega (arith, length-append page rows, holds.eight) in
+      set k x within inside ∙ ap prints (block_v_is page rows errors holds.errors_are.below.margined k x) ∙ ap (diffused_bit (page ++ rows) x) place);
 }
 
 -- lists that were lent whole and come back
-pub block_lent : (rows : List (List ℕ)) (n m l : ℕ) (new old : List ℤ) (dots before columns filled : List ℕ) → n ≡ length new → m ≡ length dots → l ≡ length columns → HoldsBlock rows new dots columns
-    → HoldsBlock rows (take n (new ++ drop (length new) old)) (take m (dots ++ drop (length dots) before)) (take l (columns ++ drop (length columns) filled))
-block_lent rows n m l new old dots before columns filled whole_new whole_dots whole_columns held =
-    rw (lent_whole n new old whole_new) (rw (lent_whole m dots before whole_dots) (rw (lent_whole l columns filled whole_columns) held))
+pub block_lent : (rows held : List (List ℕ)) (n m l : ℕ) (new old : List ℤ) (dots before columns filled : List ℕ) → n ≡ length new → m ≡ length dots → l ≡ length columns → HoldsBlock rows held new dots columns
+    → HoldsBlock rows held (take n (new ++ drop (length new) old)) (take m (dots ++ drop (length dots) before)) (take l (columns ++ drop (length columns) filled))
+block_lent rows held n m l new old dots before columns filled whole_new whole_dots whole_columns holds =
+    rw (lent_whole n new old whole_new) (rw (lent_whole m dots before whole_dots) (rw (lent_whole l columns filled whole_columns) holds))
+
+-- eight rows, one by one
+pub eight_rows : (rows : List (List ℕ)) → length rows ≡ 8 → get_or rows 0 [] ∷ get_or rows 1 [] ∷ get_or rows 2 [] ∷ get_or rows 3 [] ∷ get_or rows 4 [] ∷ get_or rows 5 [] ∷ get_or rows 6 [] ∷ get_or rows 7 [] ∷ [] ≡ rows
+eight_rows [] long = absurd (omega arith)
+eight_rows (a ∷ []) long = absurd (omega arith)
+eight_rows (a ∷ b ∷ []) long = absurd (omega arith)
+eight_rows (a ∷ b ∷ c ∷ []) long = absurd (omega arith)
+eight_rows (a ∷ b ∷ c ∷ d ∷ []) long = absurd (omega arith)
+eight_rows (a ∷ b ∷ c ∷ d ∷ e ∷ []) long = absurd (omega arith)
+eight_rows (a ∷ b ∷ c ∷ d ∷ e ∷ f ∷ []) long = absurd (omega arith)
+eight_rows (a ∷ b ∷ c ∷ d ∷ e ∷ f ∷ g ∷ []) long = absurd (omega arith)
+eight_rows (a ∷ b ∷ c ∷ d ∷ e ∷ f ∷ g ∷ h ∷ []) long = refl
+eight_rows (a ∷ b ∷ c ∷ d ∷ e ∷ f ∷ g ∷ h ∷ i ∷ rest) long = absurd (omega arith)
+
+pub eight_are : (rows : List (List ℕ)) (a b c d e f g h : List ℕ) → length rows ≡ 8 → a ≡ get_or rows 0 [] → b ≡ get_or rows 1 [] → c ≡ get_or rows 2 [] → d ≡ get_or rows 3 [] → e ≡ get_or rows 4 [] → f ≡ get_or rows 5 [] → g ≡ get_or rows 6 [] → h ≡ get_or rows 7 []
+    → a ∷ b ∷ c ∷ d ∷ e ∷ f ∷ g ∷ h ∷ [] ≡ rows
+eight_are rows a b c d e f g h long ea eb ec ed ee ef eg eh = rw (ea, eb, ec, ed, ee, ef, eg, eh) (eight_rows rows long)

@@ -23,14 +23,13 @@ nothing_above (suc k) = refl
 pub stand_at_start : (rows : List (List ℕ)) (errors : List ℤ) (n : ℕ) → rows ≡ [] → length errors ≡ n + 2 → ((k : ℕ) → number_at errors k ≡ pos 0) → StandBelow rows errors
 stand_at_start rows errors n none size zeros = rw none (record {
   room = (n, size);
-  margined = λ k. zeros k ∙ sym (nothing_above k);
+  below = record { margined = λ k. zeros k ∙ sym (nothing_above k); small = λ k. rw (zeros k) none-small };
   right = zeros (length errors - 1);
-  small = λ k. rw (zeros k) none-small;
 })
 
 -- the errors of the list are those above the next row
 pub above_is : (rows : List (List ℕ)) (errors : List ℤ) → StandBelow rows errors → errors_in errors ≡ (λ x. error_above rows x (length rows))
-above_is rows errors stand = fun_ext (λ k. stand.margined (k + 1) ∙ left-next (λ x. error_above rows x (length rows)) k)
+above_is rows errors stand = fun_ext (λ k. stand.below.margined (k + 1) ∙ left-next (λ x. error_above rows x (length rows)) k)
 
 next_margined : (rows : List (List ℕ)) (values : List ℕ) (errors new : List ℤ) → StandBelow rows errors
     → ((k : ℕ) → number_at new k ≡ error_left (errors_in errors) values k)
@@ -49,16 +48,15 @@ stand_after rows all values errors new stand more size same small made =
     let end : length new - 1 ≡ suc (length values) = omega arith in
     rw more (record {
       room = (stand.room.0, same ∙ stand.room.1);
-      margined = next_margined rows values errors new stand made;
+      below = record { margined = next_margined rows values errors new stand made; small = small };
       right = ap (number_at new) end ∙ made (suc (length values)) ∙ error-outside (errors_in errors) values (length values) (omega arith);
-      small = small;
     })
 
 pub stand_next : (rows all : List (List ℕ)) (values : List ℕ) (errors new : List ℤ) → StandBelow rows errors → all ≡ rows ++ values ∷ [] → length errors ≡ length values + 2 → length new ≡ length errors
     → ((k : ℕ) → get_or values k 0 ≤ 255) → ((k : ℕ) → number_at new k ≡ error_left (errors_in errors) values k) → StandBelow all new
 stand_next rows all values errors new stand more size same bytes made =
     stand_after rows all values errors new stand more size same
-    (λ k. rw (made k) (error_left-small (errors_in errors) values (λ j. stand.small (j + 1)) bytes k)) made
+    (λ k. rw (made k) (error_left-small (errors_in errors) values (λ j. stand.below.small (j + 1)) bytes k)) made
 
 -- the numbers v of the next row
 pub v_next : (rows : List (List ℕ)) (values : List ℕ) (errors : List ℤ) (x : ℕ) → StandBelow rows errors → v_below (errors_in errors) values x ≡ v_at (rows ++ values ∷ []) x (length rows)

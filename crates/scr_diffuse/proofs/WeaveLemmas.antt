@@ -1,13 +1,13 @@
 -- Eight vectors of sixteen places: two halves that are taken in turn, three times, are the columns behind one
 -- another.
-use Rattle.std.proofs.Common.{◌≡◌, ℕ, ◌+◌, ◌-◌, ◌*◌, ◌/◌, ◌%◌, ◌<◌, ◌≤◌, List, [], ◌∷◌, ◌++◌, length, get_or, refl, ap, sym, subst, ◌∙◌, inl, inr, arith, mul-le-mul_left}
+use Rattle.std.proofs.Common.{◌≡◌, ℕ, ◌+◌, ◌-◌, ◌*◌, ◌/◌, ◌%◌, ◌<◌, ◌≤◌, cond, List, [], ◌∷◌, ◌++◌, length, get_or, refl, ap, sym, subst, ◌∙◌, inl, inr, arith, mul-le-mul_left}
 use Rattle.std.specs.Borrow.{Bor}
-use Rattle.std.proofs.lemmas.Bool.{cases_eq, cases_lt}
+use Rattle.std.proofs.lemmas.Bool.{cases_eq, cases_lt, le-ltb}
 use Rattle.std.proofs.lemmas.List.{get_or_append_left, get_or-append-add}
 use borrow.Rule.Slice.PartMut.{put_mid}
 use Rattle.pr_base.proofs.Parts.{part_below, part_here}
 use Rattle.scr_diffuse.specs.Diffusers.{row_in}
-use Rattle.scr_diffuse.specs.Weave.{AreVectors, HasColumns, woven_at}
+use Rattle.scr_diffuse.specs.Weave.{AreVectors, HasColumns, value_behind, woven_at}
 use Rattle.scr_diffuse.proofs.LaneLemmas.{each_of_eight}
 
 -- what holds of each number below 16
@@ -96,6 +96,10 @@ thrice_at v one two three k x few within first second third =
 
 -- ---- the columns of a list, of which a part was written
 
+-- from its first column on a row's own value stands there
+pub value-within : (row : List ℕ) (x behind : ℕ) → behind ≤ x → value_behind row x behind ≡ get_or row (x - behind) 0
+value-within row x behind from = ap (λ b. cond b 0 (get_or row (x - behind) 0)) (le-ltb x behind from)
+
 -- a vector more of a block
 pub block_more : (rows : List (Bor (List ℕ))) (first k at cut : ℕ) (columns part : List ℕ) (woven : List (List ℕ)) → at ≡ 8 * first + 16 * k → cut ≡ 16 → at + cut ≤ length columns
     → length part ≡ cut → part ≡ get_or woven k [] → (m : ℕ) → m < 16 * (k + 1) → ((m : ℕ) → m < 16 * k → get_or columns (8 * first + m) 0 ≡ woven_at woven m)
@@ -113,7 +117,7 @@ block_more rows first k at cut columns part woven at_is cut_is room long part_is
 -- what stood before a part
 pub columns_before : (rows : List (Bor (List ℕ))) (lag first at cut : ℕ) (columns part : List ℕ) → HasColumns rows lag first columns → 8 * first ≤ at → at + cut ≤ length columns → HasColumns rows lag first (put_mid at cut columns part)
 columns_before rows lag first at cut columns part has behind room = record {
-  each = λ k x few within from inside. part_below at cut columns part (8 * x + k) room (omega arith) ∙ has.each k x few within from inside;
+  each = λ k x few within. part_below at cut columns part (8 * x + k) room (omega arith) ∙ has.each k x few within;
 }
 
 -- a block behind the columns before it
@@ -121,14 +125,15 @@ pub block_done : (rows : List (Bor (List ℕ))) (lag first : ℕ) (columns : Lis
     → ((k x : ℕ) → k < 8 → x < 16 → woven_at woven (8 * x + k) ≡ woven_at v (16 * k + x)) → ((k x : ℕ) → k < 8 → x < 16 → woven_at v (16 * k + x) ≡ get_or (row_in rows k) (first - lag * k + x) 0)
     → HasColumns rows lag (first + 16) columns
 block_done rows lag first columns v woven late has here thrice values = record {
-  each = λ k x few within from inside.
+  each = λ k x few within.
       elim (cases_lt x first) [
-        | inl before ↦ has.each k x few before from inside
+        | inl before ↦ has.each k x few before
         | inr behind ↦
             (let y : ℕ = x - first in
             let place : 8 * x + k ≡ 8 * first + (8 * y + k) = omega arith in
             let most : lag * k ≤ lag * 7 = mul-le-mul_left lag (omega arith) in
             let column : first - lag * k + y ≡ x - lag * k = omega arith in
-            ap (λ n. get_or columns n 0) place ∙ here (8 * y + k) (omega arith) ∙ thrice k y few (omega arith) ∙ values k y few (omega arith) ∙ ap (λ n. get_or (row_in rows k) n 0) column)
+            ap (λ n. get_or columns n 0) place ∙ here (8 * y + k) (omega arith) ∙ thrice k y few (omega arith) ∙ values k y few (omega arith) ∙ ap (λ n. get_or (row_in rows k) n 0) column
+            ∙ sym (value-within (row_in rows k) x (lag * k) (omega arith)))
       ];
 }

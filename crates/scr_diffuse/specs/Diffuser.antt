@@ -12,10 +12,14 @@ pub record PageFront : Type 0 where
 abbrev pub joined : List (List (List ℕ)) → List (List ℕ)
 joined steps = flat_map (λ rows. rows) steps
 
--- a list holds the errors of the last of these rows, which are 0 before the first row, between two places
--- that hold 0; each is small enough for the sums that are made of it
+-- a list holds the errors of the last of these rows, which are 0 before the first row, behind a place that
+-- holds 0; each is small enough for the sums that are made of it
+pub record AreBelow (rows : List (List ℕ)) (errors : List ℤ) : Type 0 where
+  pub margined : (k : ℕ) → number_at errors k ≡ left_of (λ x. error_above rows x (length rows)) k
+  pub small : (k : ℕ) → IsError (number_at errors k)
+
+-- a list holds these errors between two places that hold 0
 pub record StandBelow (rows : List (List ℕ)) (errors : List ℤ) : Type 0 where
   pub room : (width : ℕ) × (length errors ≡ width + 2)
-  pub margined : (k : ℕ) → number_at errors k ≡ left_of (λ x. error_above rows x (length rows)) k
+  pub below : AreBelow rows errors
   pub right : number_at errors (length errors - 1) ≡ pos 0
-  pub small : (k : ℕ) → IsError (number_at errors k)

@@ -1,18 +1,19 @@
 -- Eight rows side by side.
-use Rattle.std.specs.Prelude.{◌≡◌, ℕ, ◌+◌, ◌-◌, ◌*◌, ◌/◌, ◌%◌, ◌<◌, ◌≤◌}
+use Rattle.std.specs.Prelude.{◌≡◌, ℕ, ◌+◌, ◌-◌, ◌*◌, ◌/◌, ◌%◌, ◌<◌, if◌then◌else◌, nat_lt}
 use Rattle.std.specs.Prelude.{List, [], length, slice_index, slice_index_or}
 use Rattle.std.specs.Borrow.{Bor}
 use Rattle.scr_diffuse.specs.Diffusers.{row_in}
 
--- a value of a row that so far behind stands in a column, if it has one there
-abbrev pub IsValue : List ℕ → ℕ → ℕ → ℕ → Type 0
-IsValue row x behind value = behind ≤ x → x - behind < length row → value ≡ slice_index row (x - behind)
+-- the value of a row that so far behind stands in a column, 0 where it has none there; so is what is read
+-- past the row's end
+abbrev pub value_behind : List ℕ → ℕ → ℕ → ℕ
+value_behind row x behind = (if nat_lt x behind then 0 else slice_index row (x - behind))
 
 -- what stands in the first columns of each row stands in eight places behind one another, where each row lags
 -- so many columns behind the one before it
 pub record HasColumns (rows : List (Bor (List ℕ))) (lag count : ℕ) (columns : List ℕ) : Type 0 where
   pub each : (k x : ℕ) → k < 8 → x < count
-      → IsValue (row_in rows k) x (lag * k) (slice_index columns (8 * x + k))
+      → slice_index columns (8 * x + k) ≡ value_behind (row_in rows k) x (lag * k)
 
 -- eight vectors of sixteen places each
 abbrev pub AreVectors : List (List ℕ) → Type 0

@@ -39,7 +39,6 @@ pub(crate) fn diffuse_block(
         ≡ prints (block_v errors.old (rows_in values.now) k x) }
     ensures errors { (x : ℕ) → number_at errors.new x ≡ block_left errors.old (rows_in values.now) 8 x }
     ensures small { (x : ℕ) → IsError (number_at errors.new x) }
-    ensures eight { length values.now ≡ 8 }
 {
     let width = dots.len() - LAST_LAG;
     set_columns(values, width, LAG, columns);
@@ -48,7 +47,7 @@ pub(crate) fn diffuse_block(
     let mut above_left = i16x8::splat(0);
     let mut above = moved_on(errors[1], left);
     for step in 0..dots.len() {
-        let above_right = moved_on(errors[step + 2], left);
+        let above_right = errors_above(errors, step, left);
         let sums = whole_sums(
             column_at(columns, step),
             left,
@@ -64,6 +63,21 @@ pub(crate) fn diffuse_block(
         above_left = above;
         above = above_right;
     }
+}
+
+/// The errors above to the right of the pixels of a step: for the first row that above the block, and for
+/// each other row that which the row above it made in the step before, of which these are all.
+#[inline(always)]
+fn errors_above(errors: &[i16], step: usize, made: i16x8) -> i16x8
+    requires room { step + 2 < length errors.now }
+    requires eight { length made ≡ 8 }
+    ensures eight { length result ≡ 8 }
+    ensures first { FitsSigned w16 (number_at errors.now (step + 2)) →
+        number_at result 0 ≡ number_at errors.now (step + 2) }
+    ensures others { (k : ℕ) → k < 7 → FitsSigned w16 (number_at made k) →
+        number_at result (k + 1) ≡ number_at made k }
+{
+    moved_on(errors[step + 2], made)
 }
 
 /// The errors that were made in a step, and 0 for each row that stands before its first column or behind its

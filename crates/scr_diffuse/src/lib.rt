@@ -9,6 +9,7 @@ mod columns;
 mod diffuser;
 mod diffusers;
 mod dots;
+mod held_row;
 mod history;
 mod lanes;
 mod laws;

@@ -2,7 +2,7 @@
 // row may lag behind the one before it.
 ghost use Rattle.std.specs.Prelude.{◌≡◌, ℕ, ◌+◌, ◌-◌, ◌*◌, ◌/◌, ◌%◌, ◌^◌, ◌<◌, ◌≤◌, length, slice_index};
 ghost use Rattle.scr_diffuse.specs.Diffusers.{row_in};
-ghost use Rattle.scr_diffuse.specs.Weave.{AreVectors, HasColumns, IsValue, woven_at};
+ghost use Rattle.scr_diffuse.specs.Weave.{AreVectors, HasColumns, value_behind, woven_at};
 
 use std::simd::prelude::*;
 
@@ -110,7 +110,7 @@ fn set_column(rows: &[&[u8]; 8], x: usize, lag: usize, columns: &mut [u8])
 /// The value of one of eight rows that so far behind stands in a column; 0 where it has none there.
 fn value_at(rows: &[&[u8]; 8], k: usize, x: usize, behind: usize) -> u8
     requires row { k < 8 }
-    ensures { IsValue (row_in rows.now k) x behind result }
+    ensures { result ≡ value_behind (row_in rows.now k) x behind }
 {
     if x >= behind && x - behind < rows[k].len() {
         rows[k][x - behind]

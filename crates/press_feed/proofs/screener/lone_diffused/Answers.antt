@@ -2,7 +2,7 @@
 use Rattle.std.proofs.Common.{◌∙◌, ◌+◌, sym, subst, arith}
 use Rattle.std.specs.Prelude.{Option}
 use Rattle.pr_base.specs.declared.ink.Ink.{Ink}
-use Rattle.press_feed.proofs.AheadLemmas.{IsLone, lone_all, lone_at_first, lone_found, lone_same, none_is, slot_at}
+use Rattle.press_feed.proofs.AheadLemmas.{IsLone, lone_all, lone_at_first, lone_found, lone_is, lone_no_more, lone_same, none_is, slot_at}
 use Rattle.press_feed.proofs.screener.lone_diffused.Goals as goal
 use Rattle.press_feed.proofs.screener.lone_diffused.Goals.{then-has_diffused+else-is_some, else-has_diffused}
 
@@ -21,5 +21,13 @@ loop-ink-preserved c =
           (lone_same plan _ i c.loop-ink.found (slot_at i _ (omega arith)) (sym c.has_diffused.ensures ∙ w.if-has_diffused.false) c.loop-ink.invariant)
     ]
 
-pub returns : goal.returns
-returns c = lone_all c.args.plan.now c.loop-ink.ink-index c.loop-ink.found (omega arith) c.loop-ink.invariant
+pub returns-then-is_some-clause-only : goal.returns-then-is_some-clause-only
+returns-then-is_some-clause-only c = λ ink only.
+    let i = c.loop-ink.ink-index in
+    lone_no_more c.args.plan.now i c.loop-ink.found _ ink (sym c.is_some.ensures ∙ c.if-is_some.true) (slot_at i _ (omega arith)) (sym c.has_diffused.ensures ∙ c.if-has_diffused.true) c.loop-ink.invariant only
+
+pub returns-clause-is : goal.returns-clause-is
+returns-clause-is c = lone_all c.args.plan.now c.loop-ink.ink-index c.loop-ink.found (omega arith) c.loop-ink.invariant
+
+pub returns-clause-only : goal.returns-clause-only
+returns-clause-only c = λ ink only. lone_is c.args.plan.now c.loop-ink.ink-index c.loop-ink.found ink (omega arith) c.loop-ink.invariant only

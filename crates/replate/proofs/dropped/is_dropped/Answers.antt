@@ -3,7 +3,7 @@ use Rattle.std.specs.Prelude.{not}
 use Rattle.std.proofs.lemmas.Bool.{both_ways}
 use Rattle.plan_json.specs.Data.{PlanData}
 use Rattle.plan_json.specs.Plan.{IsPlan}
-use Rattle.replate.specs.Plates.{has_ink}
+use Rattle.plan_rows.specs.Inks.{has_ink}
 use Rattle.replate.proofs.PlateLemmas.{absent_edition, absent_place, present}
 use Rattle.replate.proofs.dropped.is_dropped.Goals as goal
 

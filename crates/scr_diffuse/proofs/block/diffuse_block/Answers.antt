@@ -11,6 +11,7 @@ use Rattle.scr_diffuse.proofs.BlockLemmas.{IsMade, IsNext, block-corner, block-f
 use Rattle.scr_diffuse.proofs.ColumnLemmas.{IsPixel, bits_length, errors_are, fits_error, fits_value, kept_length, loaded_values, pixel_is, values_are}
 use Rattle.scr_diffuse.proofs.DiffusionLemmas.{none-small}
 use Rattle.scr_diffuse.proofs.LaneLemmas.{bits_length as numbers_length, each_of_eight, kept, kept_is}
+use Rattle.scr_diffuse.proofs.WeaveLemmas.{value-within}
 use Rattle.scr_diffuse.proofs.block.diffuse_block.Goals as goal
 use Rattle.scr_diffuse.proofs.block.diffuse_block.Goals.{then-step-ge-LAST_LAG, else-step-ge-LAST_LAG}
 
@@ -57,12 +58,13 @@ pub whole_sums-sums-requires-clause-left : goal.whole_sums-sums-requires-clause-
 whole_sums-sums-requires-clause-left c = record { eight = bits_length c.loop-step.left c.loop-step.invariant.left_long; each = c.loop-step.invariant.left_small }
 
 -- the errors above to the right: those of the row above, one step ago
-right_is : (old now left right : List ℤ) (rows : List (List ℕ)) (step : ℕ) → length right ≡ 8 → number_at right 0 ≡ to_z w16 (of_z w16 (number_at now (step + 2))) → ((k : ℕ) → k < 7 → FitsSigned w16 (number_at left k) → number_at right (k + 1) ≡ number_at left k)
+right_is : (old now left right : List ℤ) (rows : List (List ℕ)) (step : ℕ) → length right ≡ 8 → (FitsSigned w16 (number_at now (step + 2)) → number_at right 0 ≡ number_at now (step + 2)) → ((k : ℕ) → k < 7 → FitsSigned w16 (number_at left k) → number_at right (k + 1) ≡ number_at left k)
     → number_at now (step + 2) ≡ number_at old (step + 2) → ((k : ℕ) → k < 8 → number_at left k ≡ block_left old rows (k + 1) (step - 2 * k)) → IsError (number_at now (step + 2)) → ((k : ℕ) → k < 8 → IsError (number_at left k))
     → (k : ℕ) → k < 8 → (number_at (kept right) k ≡ block_left old rows k (step + 1 + 1 - 2 * k)) × IsError (block_left old rows k (step + 1 + 1 - 2 * k))
 right_is old now left right rows step eight first others same left_is small_first small =
     let two : step + 2 ≡ step + 1 + 1 - 2 * 0 = omega arith in
-    moved_is right left (number_at now (step + 2)) (λ k. block_left old rows k (step + 1 + 1 - 2 * k)) eight first others
+    let fits : FitsSigned w16 (number_at now (step + 2)) = fits_error _ small_first in
+    moved_is right left (number_at now (step + 2)) (λ k. block_left old rows k (step + 1 + 1 - 2 * k)) eight (first fits ∙ sym (to_z-of_z w16 _ fits)) others
     (same ∙ sym (block-first old rows (step + 2)) ∙ ap (block_left old rows 0) two)
     (λ k less. (let place : step - 2 * k ≡ step + 1 + 1 - 2 * (k + 1) = omega arith in left_is k (omega arith) ∙ ap (block_left old rows (k + 1)) place))
     small_first (λ k less. small k (omega arith))
@@ -70,10 +72,10 @@ right_is old now left right rows step eight first others same left_is small_firs
 pub whole_sums-sums-requires-clause-above_right : goal.whole_sums-sums-requires-clause-above_right
 whole_sums-sums-requires-clause-above_right c =
     let step = c.loop-step.step in
-    let right = right_is c.args.errors.now c.loop-step.errors (map (to_z w16) c.loop-step.left) c.moved_on-above_right.result (rows_in c.args.values.now) step
-    c.moved_on-above_right.ensures.eight c.moved_on-above_right.ensures.first c.moved_on-above_right.ensures.others (c.loop-step.invariant.made.rest (step + 2) (omega arith)) c.loop-step.invariant.left_is
+    let right = right_is c.args.errors.now c.loop-step.errors (map (to_z w16) c.loop-step.left) c.errors_above-above_right.result (rows_in c.args.values.now) step
+    c.errors_above-above_right.ensures.eight c.errors_above-above_right.ensures.first c.errors_above-above_right.ensures.others (c.loop-step.invariant.made.rest (step + 2) (omega arith)) c.loop-step.invariant.left_is
     (c.loop-step.invariant.made.small (step + 2)) c.loop-step.invariant.left_small in
-    errors_are _ (λ k. block_left c.args.errors.now (rows_in c.args.values.now) k (step + 1 + 1 - 2 * k)) (kept_length c.moved_on-above_right.result c.moved_on-above_right.ensures.eight)
+    errors_are _ (λ k. block_left c.args.errors.now (rows_in c.args.values.now) k (step + 1 + 1 - 2 * k)) (kept_length c.errors_above-above_right.result c.errors_above-above_right.ensures.eight)
     (λ k within. (right k within).0) (λ k within. (right k within).1)
 
 pub whole_sums-sums-requires-clause-above : goal.whole_sums-sums-requires-clause-above
@@ -93,20 +95,20 @@ loop-step-preserved c =
     let over : ℕ → ℕ → ℤ = λ k y. block_left old rows k (y + 1) in
     let some : 14 ≤ length c.args.dots.now = omega (arith, c.requires.values 0 (omega arith)) in
     let long : (k : ℕ) → k < 8 → length (get_or rows k []) ≡ width = λ k within. omega (arith, c.requires.values k within) in
-    let right = right_is old now (map (to_z w16) c.loop-step.left) c.moved_on-above_right.result rows step
-    c.moved_on-above_right.ensures.eight c.moved_on-above_right.ensures.first c.moved_on-above_right.ensures.others (c.loop-step.invariant.made.rest (step + 2) (omega arith)) c.loop-step.invariant.left_is
+    let right = right_is old now (map (to_z w16) c.loop-step.left) c.errors_above-above_right.result rows step
+    c.errors_above-above_right.ensures.eight c.errors_above-above_right.ensures.first c.errors_above-above_right.ensures.others (c.loop-step.invariant.made.rest (step + 2) (omega arith)) c.loop-step.invariant.left_is
     (c.loop-step.invariant.made.small (step + 2)) c.loop-step.invariant.left_small in
     let pixel : (k : ℕ) → k < 8 → 2 * k ≤ step → step < width + 2 * k → IsPixel (over k) (get_or rows k []) (step - 2 * k) k c.errors_of.result (bit_of c.dots_of.result) =
     λ k within from inside.
     (let x : ℕ = step - 2 * k in
     let row : List ℕ = get_or rows k [] in
-    let here_is : get_or c.set_columns.new.columns (8 * step + k) 0 ≡ get_or row x 0 = c.set_columns.ensures.each k step within (omega arith) from (omega (arith, long k within)) in
+    let here_is : get_or c.set_columns.new.columns (8 * step + k) 0 ≡ get_or row x 0 = c.set_columns.ensures.each k step within (omega arith) ∙ value-within row step (2 * k) from in
     let byte : get_or row x 0 ≤ 255 = subst (λ (n : ℕ). n ≤ 255) here_is (c.column_at.ensures.bytes k within) in
     let value : number_at (kept c.column_at.result) k ≡ pos (get_or row x 0) =
     kept_is c.column_at.result k (pos (get_or row x 0)) c.column_at.ensures.eight within (c.column_at.ensures.values k within ∙ ap pos here_is) (fits_value (get_or row x 0) byte) in
     let two : step + 1 + 1 - 2 * k ≡ x + 1 + 1 = omega arith in
     let one : step + 1 - 2 * k ≡ x + 1 = omega arith in
-    pixel_is (over k) row k x (kept c.column_at.result) (map (to_z w16) c.loop-step.left) (kept c.moved_on-above_right.result) (map (to_z w16) c.loop-step.above) (map (to_z w16) c.loop-step.above_left)
+    pixel_is (over k) row k x (kept c.column_at.result) (map (to_z w16) c.loop-step.left) (kept c.errors_above-above_right.result) (map (to_z w16) c.loop-step.above) (map (to_z w16) c.loop-step.above_left)
     c.whole_sums-sums.result c.errors_of.result (bit_of c.dots_of.result) within (omega (arith, long k within)) byte
     value (c.loop-step.invariant.left_is k within ∙ block-next old rows k x) ((right k within).0 ∙ ap (block_left old rows k) two)
     (c.loop-step.invariant.above_is k within ∙ ap (block_left old rows k) one) (c.loop-step.invariant.corner_is k within ∙ block-corner old rows k x c.requires.left)
@@ -125,7 +127,7 @@ loop-step-preserved c =
     (λ late. kept_left k (pos 0) within (c.within-left.ensures.behind k within late) none-small) in
     record {
       left_long = numbers_length left c.within-left.ensures.eight;
-      above_long = numbers_length c.moved_on-above_right.result c.moved_on-above_right.ensures.eight;
+      above_long = numbers_length c.errors_above-above_right.result c.errors_above-above_right.ensures.eight;
       corner_long = c.loop-step.invariant.above_long;
       left_is = λ k within. (next k within).error_is;
       above_is = λ k within. (right k within).0;

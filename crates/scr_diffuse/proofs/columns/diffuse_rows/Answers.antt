@@ -7,6 +7,7 @@ use Rattle.scr_diffuse.specs.Passes.{errors_in, number_at}
 use Rattle.scr_diffuse.proofs.ColumnLemmas.{IsPixel, above_is, above_left_is, above_right_is, behind, bits_length, errors_are, fits_error, kept_length, loaded, loaded_values, pixel_is, values_are}
 use Rattle.scr_diffuse.proofs.DiffusionLemmas.{error-margin}
 use Rattle.scr_diffuse.proofs.LaneLemmas.{bits_length as numbers_length, kept}
+use Rattle.scr_diffuse.proofs.WeaveLemmas.{value-within}
 use Rattle.scr_diffuse.proofs.columns.diffuse_rows.Goals as goal
 
 pub loop-x-init : goal.loop-x-init
@@ -66,7 +67,7 @@ loop-x-preserved c =
     let right : (k : ℕ) → k < 8 → number_at (kept c.load-above_right.result) k ≡ lane_at old (x + 1 + 1) k =
     λ k within. loaded c.load-above_right.result (lane_at now (x + 2)) c.load-above_right.ensures.eight c.load-above_right.ensures.same (c.loop-x.invariant.small (x + 2)) k within
     ∙ c.loop-x.invariant.rest k (x + 2) (omega arith) ∙ ap (λ p. lane_at old p k) two in
-    let here_is : (k : ℕ) → k < 8 → get_or c.set_columns.new.columns (8 * x + k) 0 ≡ get_or (rows k) x 0 = λ k within. (let place : x - 0 * k ≡ x = omega arith in c.set_columns.ensures.each k x within (omega arith) (omega arith) (omega (arith, c.requires.values k within)) ∙ ap (λ n. get_or (rows k) n 0) place) in
+    let here_is : (k : ℕ) → k < 8 → get_or c.set_columns.new.columns (8 * x + k) 0 ≡ get_or (rows k) x 0 = λ k within. (let place : x - 0 * k ≡ x = omega arith in c.set_columns.ensures.each k x within (omega arith) ∙ value-within (rows k) x (0 * k) (omega arith) ∙ ap (λ n. get_or (rows k) n 0) place) in
     let byte : (k : ℕ) → k < 8 → get_or (rows k) x 0 ≤ 255 = λ k within. subst (λ (n : ℕ). n ≤ 255) (here_is k within) (c.column_at.ensures.bytes k within) in
     let value : (k : ℕ) → k < 8 → number_at (kept c.column_at.result) k ≡ pos (get_or (rows k) x 0) =
     loaded_values c.column_at.result (λ k. get_or (rows k) x 0) c.column_at.ensures.eight (λ k within. c.column_at.ensures.values k within ∙ ap pos (here_is k within)) byte in

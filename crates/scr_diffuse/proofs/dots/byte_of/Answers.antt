@@ -3,7 +3,7 @@ use Rattle.scr_diffuse.proofs.DotLemmas.{dot_bit, dots-fit}
 use Rattle.scr_diffuse.proofs.dots.byte_of.Goals as goal
 
 pub overflow_cast-result : goal.overflow_cast-result
-overflow_cast-result c = record { fits = dots-fit c.args.page c.args.columns.now }
+overflow_cast-result c = record { fits = dots-fit c.args.lane c.args.columns.now }
 
 pub returns : goal.returns
-returns c = λ x within. dot_bit c.args.page c.args.columns.now x c.requires.page c.requires.whole within
+returns c = λ x within. dot_bit c.args.lane c.args.columns.now x c.requires.lane c.requires.whole within

@@ -3,6 +3,7 @@ use Rattle.std.specs.Prelude.{Some, slice_get}
 use Rattle.std.proofs.lemmas.List.{with_items_is}
 use Rattle.plan_rows.specs.Groups.{groups_of}
 use Rattle.plan_rows.specs.Rows.{RowPlanData, places_in, row_places}
+use Rattle.plan_rows.proofs.InkLemmas.{place_prints}
 use Rattle.tif_packbits.specs.Frame.{frame_of}
 use Rattle.press_job.specs.Job.{JobData}
 use Rattle.press_job.specs.Rows.{plate_frames}
@@ -17,6 +18,14 @@ row_at-place-requires c =
     let some : n < length (plate_frames job.plan job.files) = subst {A = JobData} (λ j. n < length (plate_frames j.plan j.files)) (sym c.self.view_is) c.requires.n in
     let within : n < length (row_places job.plan) = omega (arith, some, length-plate_frames job.plan job.files) in
     subst {A = RowPlanData} (λ r. n < length (places_in r)) (sym c.rows-rows.ensures) within
+
+-- the ink is one of the group's
+pub draw_row-requires-clause-ink : goal.draw_row-requires-clause-ink
+draw_row-requires-clause-ink c =
+    let job = c.self.inside.job.now in
+    let place = c.row_at-place.result in
+    place_prints job.plan c.args.n place (ap {A = RowPlanData} (λ r. slice_get (places_in r) c.args.n) (sym c.rows-rows.ensures) ∙ c.row_at-place.ensures.place) c.group_at-group.result.now
+    (ap {A = RowPlanData} (λ r. slice_get r.groups place.group) (sym c.rows-rows.ensures) ∙ c.group_at-group.ensures)
 
 pub returns-clause-frame : goal.returns-clause-frame
 returns-clause-frame c =

@@ -12,13 +12,13 @@ use Rattle.scr_diffuse.proofs.diffusers.Diffusers.advance.Goals as goal
 pub diffuse_rows-requires-clause-errors : goal.diffuse_rows-requires-clause-errors
 diffuse_rows-requires-clause-errors c = λ p k within.
     let items : List (List ℤ) = c.self.inside.errors.items in
-    let here : IsError (lane_at items p k) = subst IsError (lane_is items k p) ((c.self.invariant.stand.errors_are k within).small p) in
+    let here : IsError (lane_at items p k) = subst IsError (lane_is items k p) ((c.self.invariant.stand.errors_are k within).below.small p) in
     subst (λ (places : List (List ℤ)). IsError (lane_at places p k)) (sym c.deref_mut.ensures.value) here
 
 pub diffuse_rows-requires-clause-left : goal.diffuse_rows-requires-clause-left
 diffuse_rows-requires-clause-left c = λ k within.
     let items : List (List ℤ) = c.self.inside.errors.items in
-    ap (λ places. lane_at places 0 k) c.deref_mut.ensures.value ∙ sym (lane_is items k 0) ∙ (c.self.invariant.stand.errors_are k within).margined 0
+    ap (λ places. lane_at places 0 k) c.deref_mut.ensures.value ∙ sym (lane_is items k 0) ∙ (c.self.invariant.stand.errors_are k within).below.margined 0
 
 pub diffuse_rows-requires-clause-right : goal.diffuse_rows-requires-clause-right
 diffuse_rows-requires-clause-right c = λ k within.

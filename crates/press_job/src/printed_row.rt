@@ -1,0 +1,151 @@
+// A row of a page as it is printed: its layers laid, each ink behind its curve, and the limit on the ink of a
+// pixel.
+ghost use Rattle.std.specs.Prelude.{◌≡◌, ◌+◌, ◌-◌, ◌<◌, ◌≤◌, IfOk, length};
+ghost use Rattle.page_layers.specs.Inks.{HasWidth, plane_of};
+ghost use Rattle.page_tone.specs.Limit.{AreLimited};
+ghost use Rattle.press_job.specs.Planes.{IsSameKind, ShowsInks};
+
+use crate::plane::Plane;
+use crate::tones::Tones;
+use page_layers::{InkRow, PageRows};
+use page_tone::limit_row;
+use plan_json::Plan;
+use pr_base::{Ink, NoMemory};
+use std::alloc::Global;
+use std::marker::Model;
+
+/// The row of a page that was shown last, as it is printed: in each of the five inks a byte a pixel from the
+/// left, 0 for no ink and 255 for full ink. Contracts see these values.
+#[derive(Drop)]
+pub struct PrintedRow {
+    inks: InkRow,
+    cyan: Plane,
+    magenta: Plane,
+    yellow: Plane,
+    black: Plane,
+    spot: Plane,
+}
+
+impl Model for PrintedRow {
+    ghost use Rattle.page_layers.specs.Inks.{Planes};
+
+    ghost Value = { Planes };
+
+    ghost use Rattle.press_job.specs.Planes.{HaveWidth, shown_planes};
+
+    ghost view = { λ r. shown_planes r.inks r.cyan r.magenta r.yellow r.black r.spot };
+
+    ghost invariant = { λ r. HaveWidth r.inks r.cyan r.magenta r.yellow r.black r.spot };
+}
+
+impl PrintedRow {
+    /// Takes the room for a row of any page of the plan, as wide as its pages. It shows no row yet.
+    pub fn new(alloc: Global, plan: &Plan) -> Result<PrintedRow, NoMemory>
+        ensures { IfOk result (λ row. HasWidth row plan.now.page_width) }
+    {
+        let width = plan.page_width;
+        Ok(PrintedRow {
+            inks: InkRow::new(alloc, width)?,
+            cyan: Plane::new(alloc, width)?,
+            magenta: Plane::new(alloc, width)?,
+            yellow: Plane::new(alloc, width)?,
+            black: Plane::new(alloc, width)?,
+            spot: Plane::new(alloc, width)?,
+        })
+    }
+
+    /// Shows the next row of a page that prints C, M and Y or not (`colour`), and S or not (`spot`). A page
+    /// prints K. The page has a row left, is as wide as this row, and stands behind its next row afterwards.
+    /// Where the page is before its first row, anything may stand here; else its row before does, which was
+    /// shown with the same tone and the same inks. Where the two rows are equal nothing is painted.
+    pub fn advance(&mut self, page: &mut PageRows<'_>, tones: &Tones<'_>, colour: bool, spot: bool)
+        requires left { page.old.next < page.old.height }
+        requires width { HasWidth self.old page.old.width }
+        requires before { 0 < page.old.next →
+            ShowsInks tones.now colour spot page.old.layers page.old.width (page.old.next - 1) self.old }
+        ensures shows { ShowsInks tones.now colour spot page.old.layers page.old.width page.old.next
+            self.new }
+        ensures width { HasWidth self.new page.old.width }
+        ensures page { page.new ≡ record page.old { next = page.old.next + 1 } }
+    {
+        if page.repeats() {
+            page.pass();
+        } else {
+            self.paint(page, tones, colour, spot);
+        }
+    }
+
+    /// Shows the next row of a page as `advance` does, but paints it, whatever stands here. So the rows above
+    /// it may have been passed over.
+    pub fn paint(&mut self, page: &mut PageRows<'_>, tones: &Tones<'_>, colour: bool, spot: bool)
+        requires left { page.old.next < page.old.height }
+        requires width { HasWidth self.old page.old.width }
+        ensures shows { ShowsInks tones.now colour spot page.old.layers page.old.width page.old.next
+            self.new }
+        ensures width { HasWidth self.new page.old.width }
+        ensures page { page.new ≡ record page.old { next = page.old.next + 1 } }
+    {
+        page.next(&mut self.inks);
+        self.cyan
+            .tone(tones, Ink::C, colour, self.inks.plane(Ink::C));
+        self.magenta
+            .tone(tones, Ink::M, colour, self.inks.plane(Ink::M));
+        self.yellow
+            .tone(tones, Ink::Y, colour, self.inks.plane(Ink::Y));
+        self.black
+            .tone(tones, Ink::K, true, self.inks.plane(Ink::K));
+        self.spot.tone(tones, Ink::S, spot, self.inks.plane(Ink::S));
+        if tones.limits(Ink::K) {
+            limit_planes(
+                tones.limit(),
+                &mut self.cyan,
+                &mut self.magenta,
+                &mut self.yellow,
+                &mut self.black,
+            );
+        }
+    }
+
+    /// The values of an ink, a byte a pixel from the left. Those of an ink that the page doesn't print are 0.
+    pub fn values(&self, ink: Ink) -> &[u8]
+        ensures { result.now ≡ plane_of self.now ink }
+    {
+        let row = self.inks.plane(ink);
+        match ink {
+            Ink::C => self.cyan.of(row),
+            Ink::M => self.magenta.of(row),
+            Ink::Y => self.yellow.of(row),
+            Ink::K => self.black.of(row),
+            Ink::S => self.spot.of(row),
+        }
+    }
+}
+
+/// Limits the ink of each pixel of a row.
+fn limit_planes(
+    limit: u16,
+    cyan: &mut Plane,
+    magenta: &mut Plane,
+    yellow: &mut Plane,
+    black: &mut Plane,
+)
+    requires limit { limit ≤ 1020 }
+    requires magenta { length magenta.old.values.items ≡ length cyan.old.values.items }
+    requires yellow { length yellow.old.values.items ≡ length cyan.old.values.items }
+    requires black { length black.old.values.items ≡ length cyan.old.values.items }
+    ensures values { AreLimited limit
+        cyan.old.values.items magenta.old.values.items yellow.old.values.items black.old.values.items
+        cyan.new.values.items magenta.new.values.items yellow.new.values.items black.new.values.items }
+    ensures cyan { IsSameKind cyan.old cyan.new }
+    ensures magenta { IsSameKind magenta.old magenta.new }
+    ensures yellow { IsSameKind yellow.old yellow.new }
+    ensures black { IsSameKind black.old black.new }
+{
+    limit_row(
+        limit,
+        &mut cyan.values,
+        &mut magenta.values,
+        &mut yellow.values,
+        &mut black.values,
+    );
+}

@@ -1,0 +1,91 @@
+// The tone of a plan: what each ink value becomes by the curve of its ink, and the limit on the ink of a
+// pixel.
+ghost use Rattle.std.specs.Prelude.{◌≡◌, ◌<◌, ◌≤◌, ℕ, IfOk, IsTrue, slice_index};
+ghost use Rattle.press_job.specs.Tones.{identity};
+
+use page_tone::Curve;
+use plan_json::Plan;
+use pr_base::{Ink, NoMemory};
+use std::alloc::Global;
+use std::marker::Model;
+
+/// The most that four inks add up to. This limit changes nothing.
+const NO_LIMIT: u16 = 4 * 255;
+
+/// What each ink value from 0 to 255 becomes by the curve of its ink, as a table for each of the five inks,
+/// and the limit on the ink of a pixel. Contracts see the plan that these are of.
+#[derive(Drop)]
+pub struct Tones<'j> {
+    plan: &'j Plan,
+    curves: Vec<Curve>,
+}
+
+impl<'j> Model for Tones<'j> {
+    ghost use Rattle.plan_json.specs.Data.{PlanData};
+
+    ghost Value = { PlanData };
+
+    ghost use Rattle.press_job.specs.Tones.{AreCurves};
+
+    ghost view = { λ t. t.plan.now };
+
+    ghost invariant = { λ t. AreCurves t.plan.now t.curves.items };
+}
+
+impl<'j> Tones<'j> {
+    ghost use Rattle.press_job.specs.Printing.{toned};
+    ghost use Rattle.press_job.specs.Tones.{limits};
+
+    /// The tone of a plan. It takes the room for five tables; nothing else takes memory.
+    pub fn of(alloc: Global, plan: &'j Plan) -> Result<Tones<'j>, NoMemory>
+        ensures { IfOk result (λ tones. tones ≡ plan.now) }
+    {
+        let mut curves = Vec::with_capacity(alloc, 5)?;
+        for curve in &plan.curves {
+            curves.push(Curve::from_points(curve.points.as_slice()))?;
+        }
+        Ok(Tones { plan, curves })
+    }
+
+    /// The most that C, M, Y and K of a pixel may add up to.
+    pub(crate) fn limit(&self) -> u16
+        ensures limit { result ≡ self.now.limit }
+        ensures most { result ≤ 1020 }
+    {
+        let plan = self.plan;
+        plan.limit
+    }
+
+    /// Whether the plan's limit can change the values of this ink.
+    pub(crate) fn limits(&self, ink: Ink) -> bool
+        ensures { result ≡ limits self.now ink }
+    {
+        ink != Ink::S && self.limit() < NO_LIMIT
+    }
+
+    /// Whether the curve of an ink changes no value. Its points tell that.
+    pub(crate) fn is_plain(&self, ink: Ink) -> bool
+        ensures { IsTrue result → (value : ℕ) → value < 256 → toned self.now ink value ≡ value }
+    {
+        let plan = self.plan;
+        let curve = &plan.curves[ink.slot()];
+        is_identity(&curve.points)
+    }
+
+    /// The curve of an ink.
+    pub(crate) fn curve(&self, ink: Ink) -> &Curve
+        ensures { (value : ℕ) → value < 256 → slice_index result.now value ≡ toned self.now ink value }
+    {
+        &self.curves[ink.slot()]
+    }
+}
+
+/// Whether these are the two points of the curve that changes nothing.
+fn is_identity(points: &[(u8, u8)]) -> bool
+    ensures { IsTrue result → points.now ≡ identity }
+{
+    match points {
+        [first, last] => *first == (0, 0) && *last == (255, 255),
+        _ => false,
+    }
+}
