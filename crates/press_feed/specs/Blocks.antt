@@ -1,5 +1,5 @@
 -- Eight rows of the two pages of a plate, drawn ahead where one ink alone is diffused.
-use Rattle.std.specs.Prelude.{◌≡◌, ◌≢◌, ℕ, ◌+◌, ◌-◌, ◌*◌, ◌<◌, true, List, [], length}
+use Rattle.std.specs.Prelude.{◌≡◌, ◌≢◌, ℕ, ◌+◌, ◌-◌, ◌*◌, ◌<◌, ◌≤◌, true, List, [], length}
 use Rattle.std.specs.Prelude.{Option, slice_index_or}
 use Rattle.std.specs.Option.{ForSome}
 use Rattle.pr_base.specs.declared.ink.Ink.{Ink}
@@ -14,7 +14,7 @@ use Rattle.press_feed.specs.declared.chains.Chains.{Chains}
 use Rattle.press_feed.specs.Pair.{AreApart, PairData}
 use Rattle.press_feed.specs.Plates.{DrawsPages}
 use Rattle.press_feed.specs.Rows.{AreRows}
-use Rattle.press_feed.specs.Screener.{IsOnly}
+use Rattle.press_feed.specs.Screener.{IsOnly, is_diffused}
 use Rattle.press_job.specs.Job.{JobData}
 use Rattle.press_job.specs.Printing.{printed_row}
 use Rattle.scr_diffuse.specs.Diffuser.{PageFront}
@@ -46,6 +46,15 @@ pub record HoldRows (job : JobData) (group : Group) (lone : Ink) (first count : 
   pub right_held : AreHeldFrom job group.right lone first count new.right.held
   pub left_front : new.left.front ≡ old.left.front
   pub right_front : new.right.front ≡ old.right.front
+
+-- of the last eight rows that they took, number k is row y of the pages, in an ink that is diffused
+pub record HaveTaken (job : JobData) (group : Group) (ink : Ink) (k y : ℕ) (chains : Chains) : Type 0 where
+  pub place : k < 8
+  pub row : k ≤ y
+  pub within : y < job.plan.page_height
+  pub diffused : is_diffused job.plan ink ≡ true
+  pub left_ahead : IsAhead job group.left ink (y - k + 8) chains.left.front
+  pub right_ahead : IsAhead job group.right ink (y - k + 8) chains.right.front
 
 -- ---- the sheet
 

@@ -3,7 +3,7 @@ ghost use Rattle.std.specs.Prelude.{◌≡◌, ℕ, ◌+◌, ◌-◌, ◌*◌, �
 ghost use Rattle.pr_base.specs.Ink.{slot_of};
 ghost use Rattle.pr_base.specs.Row.{row_size};
 ghost use Rattle.plan_json.specs.Data.{plate_width};
-ghost use Rattle.press_feed.specs.Blocks.{IsAhead, IsSetAt, IsSheet, sheet_at};
+ghost use Rattle.press_feed.specs.Blocks.{HaveTaken, IsSetAt, IsSheet, sheet_at};
 ghost use Rattle.press_feed.specs.Pair.{ShowsRow};
 ghost use Rattle.press_feed.specs.Plates.{DrawsPages};
 ghost use Rattle.press_feed.specs.Rows.{AreRows};
@@ -80,12 +80,7 @@ impl Sheet {
         y: u32,
         chains: &Chains,
     )
-        requires k { k < 8 }
-        requires left { IsAhead job.now group.now.left ink (y - k + 8) chains.now.left.front }
-        requires right { IsAhead job.now group.now.right ink (y - k + 8) chains.now.right.front }
-        requires row { k ≤ y }
-        requires within { y < job.now.plan.page_height }
-        requires diffused { is_diffused job.now.plan ink ≡ true }
+        requires took { HaveTaken job.now group.now ink k y chains.now }
         requires sheet { IsSheet job.now self.old }
         ensures row { DrawsPages job.now group.now ink y (sheet_at self.new k ink) }
         ensures others { IsSetAt (5 * k + slot_of ink) self.old self.new }
@@ -111,12 +106,7 @@ impl ByteRow {
     /// Becomes the row of a plate that shows row `y` of the pages of a group, one of the last eight that the
     /// chains took: the two pages in the ink that is diffused, and nothing else.
     fn diffuse(&mut self, k: usize, job: &Job, group: &Group, ink: Ink, y: u32, chains: &Chains)
-        requires k { k < 8 }
-        requires left { IsAhead job.now group.now.left ink (y - k + 8) chains.now.left.front }
-        requires right { IsAhead job.now group.now.right ink (y - k + 8) chains.now.right.front }
-        requires row { k ≤ y }
-        requires within { y < job.now.plan.page_height }
-        requires diffused { is_diffused job.now.plan ink ≡ true }
+        requires took { HaveTaken job.now group.now ink k y chains.now }
         requires room { length self.old ≡ row_size (plate_width job.now.plan) }
         ensures row { DrawsPages job.now group.now ink y self.new }
         ensures long { length self.new ≡ length self.old }
@@ -135,12 +125,7 @@ fn diffuse_pages(
     chains: &Chains,
     bits: &mut [u8],
 )
-    requires k { k < 8 }
-    requires left { IsAhead job.now group.now.left ink (y - k + 8) chains.now.left.front }
-    requires right { IsAhead job.now group.now.right ink (y - k + 8) chains.now.right.front }
-    requires row { k ≤ y }
-    requires within { y < job.now.plan.page_height }
-    requires diffused { is_diffused job.now.plan ink ≡ true }
+    requires took { HaveTaken job.now group.now ink k y chains.now }
     requires room { length bits.old ≡ row_size (plate_width job.now.plan) }
     ensures { DrawsPages job.now group.now ink y bits.new }
 {
