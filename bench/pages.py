@@ -6,9 +6,10 @@ usage: bench/pages.py PROGRAM FOLDER [--jobs NAMES] [--runs N]
 Prints a line of a table for each job: the seconds of processor time, the system's with them, of the program
 and of plain C on one thread that makes the same plates (bench/run.c, bench/one.c, else bench/pages.c), the
 best of three runs in turn, and the first by the second. It ends where a plate of one isn't that of the other,
-byte for byte. The jobs are ordered4, diffused4, diffused1, black4, pages4, contone, line, mask, curves, limit,
-both, small32, mixed32, contone32, newspaper and one; NAMES stand between commas. Images and plates, some 3 GB,
-go to a new folder below FOLDER, which is deleted at the end: FOLDER should lie in memory, as /dev/shm does.
+byte for byte. The jobs are ordered4, diffused4, diffused1, black4, pages4, apart4, contone, line, mask,
+curves, limit, both, small32, mixed32, contone32, newspaper and one; NAMES stand between commas. Images and
+plates, some 3 GB, go to a new folder below FOLDER, which is deleted at the end: FOLDER should lie in memory,
+as /dev/shm does.
 """
 import argparse
 import filecmp
@@ -61,10 +62,10 @@ def pair(*layers, length=LENGTH, **keys):
     return run.plan("bayer8", 1) | {"page": [WIDTH, length], "pages": pages} | keys
 
 
-def black(inks):
-    """The pair at scale 4 whose pages print these inks, of which K alone is diffused."""
+def black(inks, diffused="K"):
+    """The pair at scale 4 whose pages print these inks, and of all inks one alone is diffused."""
     plan = run.plan("bayer8")
-    plan["screens"]["K"] = "diffuse"
+    plan["screens"][diffused] = "diffuse"
     return plan | {"pages": [page | {"inks": inks} for page in plan["pages"]]}
 
 
@@ -99,6 +100,7 @@ JOBS = {
     "diffused1": ("diffused, scale 1", make_pages, lambda: run.plan("diffuse", 1), 1),
     "black4": ("black diffused alone, scale 4", busy.make_pair, lambda: black("CMYK"), 4),
     "pages4": ("black pages diffused, scale 4", busy.make_pair, lambda: black("K"), 4),
+    "apart4": ("black pages, cyan diffused, scale 4", busy.make_pair, lambda: black("K", "C"), 4),
     "contone": ("contone at scale 1", make_pages, lambda: pair(PHOTO), None),
     "line": ("linework over contone", make_pages, lambda: pair(PHOTO, TEXT), None),
     "mask": ("masked linework over contone", make_pages, lambda: pair(PHOTO, TEXT | MASK), None),
@@ -161,9 +163,10 @@ def plain(plan, scale, files, out, folder):
     if scale is None:
         return [built(folder, "pages"), *words(plan, files, fronts)]
     images = [os.path.join(files, f"{page['name']}.tif") for page in shown(plan)]
-    screen = plan["screens"]["K"]
-    if plan["screens"]["C"] != screen:
-        screen = "black" if plan["pages"][0]["inks"] == "CMYK" else "black-alone"
+    screen, alone = plan["screens"]["K"], plan["pages"][0]["inks"] == "K"
+    if screen != plan["screens"]["M"]:
+        screen = "black"
+    screen += "-alone" if alone else ""
     return [built(folder, "run", f"-DSCALE={scale}"), *images, screen, f"{fronts[0]}-001"]
 
 

@@ -2,8 +2,9 @@
  * it is compiled with, by straightforward loops: what `plateroom run` is measured against. It reads ImageWidth, ImageLength
  * and StripOffsets and tests nothing. Then it prints how many pixels of each plate print in each of 32 keys, counted pixel
  * by pixel, where KEYS is set.
- * usage: run LEFT RIGHT bayer8|diffuse|black|black-alone PLATES..; the plate of ink I becomes PLATES-I.tif, for each PLATES;
- * of black K is diffused and the other inks aren't, and of black-alone there is no other ink */
+ * usage: run LEFT RIGHT bayer8|bayer8-alone|diffuse|black|black-alone PLATES..; the plate of ink I becomes
+ * PLATES-I.tif, for each PLATES; of black K is diffused and the other inks aren't, and of black-alone and bayer8-alone
+ * there is no other ink */
 #include "plate.h"
 
 #ifndef SCALE
@@ -81,7 +82,7 @@ int main(int argc, char **argv) {
             return 5;
     fill_thresholds();
     int diffused = strcmp(argv[3], "diffuse") == 0, counted = getenv("KEYS") != NULL;
-    int black = strncmp(argv[3], "black", 5) == 0, first = strcmp(argv[3], "black-alone") == 0 ? BLACK : 0;
+    int black = strncmp(argv[3], "black", 5) == 0, first = strstr(argv[3], "-alone") != NULL ? BLACK : 0;
     uint32_t wide = SCALE * pages[0].image.width, length = SCALE * pages[0].image.length;
     uint32_t row = 2 * wide / 8, each = 8192 / row ? 8192 / row : 1;
     uint8_t *bits = malloc(row), *packed = malloc(row + (row + 127) / 128);
