@@ -62,8 +62,8 @@ def pair(*layers, length=LENGTH, **keys):
     return run.plan("bayer8", 1) | {"page": [WIDTH, length], "pages": pages} | keys
 
 
-def black(inks, diffused="K"):
-    """The pair at scale 4 whose pages print these inks, and of all inks one alone is diffused."""
+def lone(inks, diffused="K"):
+    """The pair at scale 4 whose pages print these inks, in a plan that diffuses one ink alone."""
     plan = run.plan("bayer8")
     plan["screens"][diffused] = "diffuse"
     return plan | {"pages": [page | {"inks": inks} for page in plan["pages"]]}
@@ -98,9 +98,9 @@ JOBS = {
     "ordered4": ("ordered, scale 4", busy.make_pair, lambda: run.plan("bayer8"), 4),
     "diffused4": ("diffused, scale 4", busy.make_pair, lambda: run.plan("diffuse"), 4),
     "diffused1": ("diffused, scale 1", make_pages, lambda: run.plan("diffuse", 1), 1),
-    "black4": ("black diffused alone, scale 4", busy.make_pair, lambda: black("CMYK"), 4),
-    "pages4": ("black pages diffused, scale 4", busy.make_pair, lambda: black("K"), 4),
-    "apart4": ("black pages, cyan diffused, scale 4", busy.make_pair, lambda: black("K", "C"), 4),
+    "black4": ("black diffused alone, scale 4", busy.make_pair, lambda: lone("CMYK"), 4),
+    "pages4": ("black pages diffused, scale 4", busy.make_pair, lambda: lone("K"), 4),
+    "apart4": ("black pages, cyan diffused, scale 4", busy.make_pair, lambda: lone("K", "C"), 4),
     "contone": ("contone at scale 1", make_pages, lambda: pair(PHOTO), None),
     "line": ("linework over contone", make_pages, lambda: pair(PHOTO, TEXT), None),
     "mask": ("masked linework over contone", make_pages, lambda: pair(PHOTO, TEXT | MASK), None),

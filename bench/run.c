@@ -3,8 +3,8 @@
  * and StripOffsets and tests nothing. Then it prints how many pixels of each plate print in each of 32 keys, counted pixel
  * by pixel, where KEYS is set.
  * usage: run LEFT RIGHT bayer8|bayer8-alone|diffuse|black|black-alone PLATES..; the plate of ink I becomes
- * PLATES-I.tif, for each PLATES; of black K is diffused and the other inks aren't, and of black-alone and bayer8-alone
- * there is no other ink */
+ * PLATES-I.tif, for each PLATES; of black K is diffused and the other inks aren't; of black-alone and
+ * bayer8-alone there is no ink but K */
 #include "plate.h"
 
 #ifndef SCALE

@@ -1,5 +1,5 @@
 -- Rows that are drawn ahead, and the chains that they are diffused in.
-use Rattle.std.proofs.Common.{◌≡◌, ◌≢◌, ℕ, zero, suc, ◌+◌, ◌-◌, ◌*◌, ◌/◌, ◌%◌, ◌<◌, ◌≤◌, Bool, true, false, List, [], length, get_or, slice_set, is_some, refl, ap, sym, subst, ◌∙◌, inl, inr, arith, get_or-set_same, get_or-set_other}
+use Rattle.std.proofs.Common.{◌≡◌, ◌≢◌, ℕ, zero, suc, ◌+◌, ◌-◌, ◌*◌, ◌/◌, ◌%◌, ◌<◌, ◌≤◌, Bool, true, false, List, [], length, get_or, is_some, refl, ap, sym, subst, ◌∙◌, inl, inr, arith}
 use Rattle.std.proofs.lemmas.Bool.{cases_eq, cases_lt}
 use Rattle.std.proofs.lemmas.List.{get_or_append_left, get_or-append_right, get_or_default, length-append}
 use Rattle.pr_base.specs.Bits.{SetsBits}
@@ -57,9 +57,6 @@ chain_sets job page ink count y n from front old new ahead on before within row 
 
 -- ---- a chain, from block to block
 
-pub ahead_at_top : (job : JobData) (page : ℕ) (ink : Ink) (front : PageFront) → front.width ≡ job.plan.page_width → front.rows ≡ [] → IsAhead job page ink 0 front
-ahead_at_top job page ink front width none = record { width_is = width; count_is = ap length none; rows_are = λ y less. absurd (omega arith) }
-
 -- the rows that it holds are taken
 pub ahead_next : (job : JobData) (page : ℕ) (ink : Ink) (first : ℕ) (chain : BlockFront) → IsAhead job page ink first chain.front → AreHeldFrom job page ink first 8 chain.held → length chain.held ≡ 8 → IsAhead job page ink (first + 8) (behind_held chain).front
 ahead_next job page ink first chain ahead held eight = record {
@@ -74,20 +71,7 @@ ahead_next job page ink first chain ahead held eight = record {
   ];
 }
 
--- one row more is held
-pub held_more : (job : JobData) (page : ℕ) (ink : Ink) (first k : ℕ) (held : List (List ℕ)) (values : List ℕ) → AreHeldFrom job page ink first k held → k < length held → values ≡ printed_row job.plan job.files page ink (first + k)
-    → AreHeldFrom job page ink first (k + 1) (slice_set held k values)
-held_more job page ink first k held values are room values_are = record {
-  rows_are = λ j less within. elim (cases_eq j k) [
-    | inl same ↦ rw same (get_or-set_same held k values [] room ∙ values_are)
-    | inr other ↦ get_or-set_other held k j values [] other ∙ are.rows_are j (omega arith) within
-  ];
-}
-
--- nothing is held yet, or the page has no further row
-pub held_none : (job : JobData) (page : ℕ) (ink : Ink) (first : ℕ) (held : List (List ℕ)) → AreHeldFrom job page ink first 0 held
-held_none job page ink first held = record { rows_are = λ k less. absurd (omega arith) }
-
+-- the page has no further row
 pub held_past : (job : JobData) (page : ℕ) (ink : Ink) (first k : ℕ) (held : List (List ℕ)) → job.plan.page_height ≤ first + k → AreHeldFrom job page ink first k held → AreHeldFrom job page ink first (k + 1) held
 held_past job page ink first k held past are = record { rows_are = λ j less within. are.rows_are j (omega arith) within }
 
@@ -96,9 +80,6 @@ held_past job page ink first k held past are = record { rows_are = λ j less wit
 -- two places of a sheet
 pub places_apart : (k j : ℕ) (ink other : Ink) → k ≢ j → 5 * k + slot_of ink ≢ 5 * j + slot_of other
 places_apart k j ink other apart = λ same. apart (let a = slot_below ink in let b = slot_below other in omega arith)
-
-pub inks_apart : (k : ℕ) (ink other : Ink) → ink ≢ other → 5 * k + slot_of ink ≢ 5 * k + slot_of other
-inks_apart k ink other apart = λ same. apart (slot_tells ink other (omega arith))
 
 -- two inks have no place in common, of whichever rows
 pub slots_apart : (k j : ℕ) (ink other : Ink) → ink ≢ other → 5 * k + slot_of ink ≢ 5 * j + slot_of other
@@ -126,9 +107,6 @@ tiled_more job group lone first k old new tiled drawn others = record {
   ];
 }
 
-pub tiled_none : (job : JobData) (group : Group) (lone : Ink) (first : ℕ) (sheet : List (List ℕ)) → AreTiled job group lone first 0 sheet
-tiled_none job group lone first sheet = record { each = λ k ink less. absurd (omega arith) }
-
 pub tiled_past : (job : JobData) (group : Group) (lone : Ink) (first k : ℕ) (sheet : List (List ℕ)) → job.plan.page_height ≤ first + k → AreTiled job group lone first k sheet → AreTiled job group lone first (k + 1) sheet
 tiled_past job group lone first k sheet past tiled = record { each = λ j ink less within. tiled.each j ink (omega arith) within }
 
@@ -147,9 +125,6 @@ diffused_more job group lone first k old new diffused drawn set = record {
     | inr before ↦ subst {A = List ℕ} (DrawsPages job group lone (first + j)) (sym (set.others (5 * j + slot_of lone) (places_apart j k lone lone before))) (diffused.each j (omega arith) within)
   ];
 }
-
-pub diffused_none : (job : JobData) (group : Group) (lone : Ink) (first : ℕ) (sheet : List (List ℕ)) → AreDiffused job group lone first 0 sheet
-diffused_none job group lone first sheet = record { each = λ k less. absurd (omega arith) }
 
 pub diffused_past : (job : JobData) (group : Group) (lone : Ink) (first k : ℕ) (sheet : List (List ℕ)) → job.plan.page_height ≤ first + k → AreDiffused job group lone first k sheet → AreDiffused job group lone first (k + 1) sheet
 diffused_past job group lone first k sheet past diffused = record { each = λ j less within. diffused.each j (omega arith) within }
@@ -228,6 +203,11 @@ lone_at_first plan = record {
   within = λ one there. cc;
 }
 
+-- an ink that is diffused, and isn't
+apart : (b : Bool) → b ≡ true → b ≡ false → ⊥
+apart true on off = cc
+apart false on off = cc
+
 -- one that isn't diffused more
 pub lone_same : (plan : PlanData) (ink : Ink) (i : ℕ) (found : Option Ink) → slot_of ink ≡ i → is_diffused plan ink ≡ false → IsLone plan i found → IsLone plan (i + 1) found
 lone_same plan ink i found slot off lone = record {
@@ -242,10 +222,6 @@ lone_same plan ink i found slot off lone = record {
   ];
   within = λ one there. (let before = lone.within one there in omega arith);
 }
-  where
-    apart : (b : Bool) → b ≡ true → b ≡ false → ⊥
-    apart true on off = cc
-    apart false on off = cc
 
 -- the first one that is
 pub lone_found : (plan : PlanData) (ink : Ink) (i : ℕ) → slot_of ink ≡ i → is_diffused plan ink ≡ true → IsLone plan i None → IsLone plan (i + 1) (Some ink)
@@ -258,10 +234,6 @@ lone_found plan ink i slot on lone = record {
   ];
   within = λ one there. subst {A = Ink} (λ j. slot_of j < i + 1) (same_Some ink one there) (omega arith);
 }
-  where
-    apart : (b : Bool) → b ≡ true → b ≡ false → ⊥
-    apart true on off = cc
-    apart false on off = cc
 
 -- and of all inks
 pub lone_all : (plan : PlanData) (i : ℕ) (found : Option Ink) → 5 ≤ i → IsLone plan i found → ForSome found (IsOnly plan)
@@ -273,10 +245,6 @@ lone_all plan i found all lone = λ one there. record {
 -- an ink that is diffused alone was found, where all were looked at
 pub lone_is : (plan : PlanData) (i : ℕ) (found : Option Ink) (ink : Ink) → 5 ≤ i → IsLone plan i found → IsOnly plan ink → found ≡ Some ink
 lone_is plan i None ink all lone only = absurd (apart (is_diffused plan ink) only.is (lone.none refl ink (let below = slot_below ink in omega arith)))
-  where
-    apart : (b : Bool) → b ≡ true → b ≡ false → ⊥
-    apart true on off = cc
-    apart false on off = cc
 lone_is plan i (Some one) ink all lone only = ap {A = Ink} Some (only.only one (lone.is one refl))
 
 -- and no ink is, where a second one was met

@@ -62,7 +62,7 @@ pub record HaveTaken (job : JobData) (group : Group) (ink : Ink) (k y : ℕ) (ch
 abbrev pub sheet_at : List (List ℕ) → ℕ → Ink → List ℕ
 sheet_at sheet k ink = slice_index_or sheet (5 * k + slot_of ink) []
 
--- the first of the eight rows are drawn in each ink that isn't diffused
+-- the first of the eight rows are drawn in each ink of the group that isn't diffused
 pub record AreTiled (job : JobData) (group : Group) (lone : Ink) (first count : ℕ) (sheet : List (List ℕ))
     : Type 0 where
   pub each : (k : ℕ) (ink : Ink) → k < count → first + k < job.plan.page_height
@@ -94,7 +94,8 @@ pub record IsBlockOf (job : JobData) (lone : Ink) (chains : Chains) (sheet : Lis
   pub tiled : 0 < blocks → AreTiled job group lone (8 * (blocks - 1)) 8 sheet
   pub diffused : 0 < blocks → AreDiffused job group lone (8 * (blocks - 1)) 8 sheet
 
--- the pages of a job, of which one ink alone is diffused, apart, and a group's blocks so far
+-- the pages of a job that has one ink alone diffused, which is drawn apart from them, and the blocks of a
+-- group that were drawn so far
 pub record AreBlocks (job : JobData) (lone : Ink) (pages : PairData) (chains : Chains)
     (sheet : List (List ℕ)) (group : Option Group) (blocks : ℕ) : Type 0 where
   pub plan_is : IsPlan job.plan

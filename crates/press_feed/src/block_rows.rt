@@ -19,8 +19,8 @@ use press_job::Job;
 /// The rows of a block.
 pub(crate) const BLOCK: u32 = 8;
 
-/// Takes the rows of a block into the chains, as far as the pages have some, and draws them in each ink that
-/// isn't diffused.
+/// Takes the rows of a block into the chains, as far as the pages have some, and draws them in each ink of
+/// the group that isn't diffused.
 pub(crate) fn take_rows(
     pages: &mut PagePair<'_>,
     group: &Group,
@@ -75,7 +75,7 @@ fn take_row(
     chains.right.put(k as usize, values);
 }
 
-/// Draws the row that is shown in each ink that isn't diffused.
+/// Draws the row that is shown in each ink of the group that isn't diffused.
 fn tile_row(pages: &PagePair<'_>, group: &Group, lone: Ink, y: u32, k: usize, sheet: &mut Sheet)
     requires k { k < 8 }
     requires within { y < pages.now.job.plan.page_height }

@@ -6,7 +6,7 @@ use pr_base::NoMemory;
 use std::alloc::Global;
 use std::marker::Model;
 
-/// The bytes of a row of values, of a plate, or of its frame. Contracts see the bytes.
+/// The bytes of a row of a plate, or of its frame. Contracts see the bytes.
 #[derive(Drop)]
 pub(crate) struct ByteRow {
     pub(crate) bytes: Vec<u8>,
@@ -35,14 +35,6 @@ impl ByteRow {
         ensures { result.now ≡ self.now }
     {
         &self.bytes
-    }
-
-    /// Becomes these bytes.
-    pub(crate) fn set(&mut self, bytes: &[u8])
-        requires { length bytes.now ≡ length self.old }
-        ensures { self.new ≡ bytes.now }
-    {
-        self.bytes.copy_from_slice(bytes);
     }
 }
 

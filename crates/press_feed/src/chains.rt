@@ -1,6 +1,6 @@
 // The error diffusion of one ink of the two pages of a plate, eight rows at a time.
 ghost use Rattle.std.specs.Prelude.{IfOk};
-ghost use Rattle.press_feed.specs.Chain.{IsWide};
+ghost use Rattle.press_feed.specs.Chain.{IsAtTop};
 
 use plan_json::Plan;
 use pr_base::NoMemory;
@@ -17,8 +17,8 @@ pub(crate) struct Chains {
 impl Chains {
     /// The chains of two pages of a plan, before their first rows.
     pub(crate) fn open(alloc: Global, plan: &Plan) -> Result<Chains, NoMemory>
-        ensures left { IfOk result (λ chains. IsWide plan.now.page_width chains.left) }
-        ensures right { IfOk result (λ chains. IsWide plan.now.page_width chains.right) }
+        ensures left { IfOk result (λ chains. IsAtTop plan.now.page_width chains.left) }
+        ensures right { IfOk result (λ chains. IsAtTop plan.now.page_width chains.right) }
     {
         let left = BlockDiffuser::new(alloc, plan.page_width)?;
         Ok(Chains {

@@ -54,9 +54,9 @@ impl<'j> PageBlocks<'j> {
         ensures { IfOk result (λ made. made
             ≡ record { job = job.now; lone = lone; group = None; blocks = 0 }) }
     {
-        let pages = PagePair::open(alloc, job, true)?;
         let sheet = Sheet::new(alloc, row_bytes(job.shape().width))?;
         let chains = Chains::open(alloc, job.plan())?;
+        let pages = PagePair::open(alloc, job, true)?;
         Ok(PageBlocks {
             job,
             lone,

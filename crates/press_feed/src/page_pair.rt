@@ -22,7 +22,7 @@ use std::alloc::Global;
 use std::marker::Model;
 
 /// The pages of both sides and their screens. It holds one row of each page, and no whole page. Contracts see
-/// the job, the two pages, and how many of their rows were shown.
+/// the job, whether what is diffused is drawn apart, the two pages, and how many of their rows were shown.
 #[derive(Drop)]
 pub(crate) struct PagePair<'j> {
     job: &'j Job,

@@ -13,7 +13,7 @@ use crate::page_source::PageSource;
 use plan_json::Plan;
 use plan_pages::{PlateShape, mark_row};
 use plan_rows::{Group, RowPlace, RowPlan};
-use pr_base::{Deal, Ink, NoMemory, row_bytes};
+use pr_base::{Deal, NoMemory, row_bytes};
 use press_job::Job;
 use std::alloc::Global;
 use std::marker::Model;
@@ -42,7 +42,7 @@ impl<'j> Model for RowMaker<'j> {
 }
 
 impl<'j> RowMaker<'j> {
-    ghost use Rattle.press_feed.specs.Band.{IsFrameAt, frame_bytes};
+    ghost use Rattle.press_feed.specs.Band.{frame_bytes};
     ghost use Rattle.press_job.specs.Rows.{plate_frames};
 
     /// Takes all buffers.
@@ -87,7 +87,7 @@ fn group_at(rows: &RowPlan, index: usize) -> &Group
 
 /// Draws a row of a plate of a group: the two pages where they stand, the marks, and nothing else.
 fn draw_row(job: &Job, group: &Group, place: RowPlace, pages: &mut PageSource<'_>, bits: &mut [u8])
-    requires pages { IsSourceOf job.now pages.old }
+    requires source { IsSourceOf job.now pages.old }
     requires ink { has_ink group.now place.ink ≡ true }
     requires y { place.y < plate_height job.now.plan }
     requires row { length bits.old ≡ row_size (plate_width job.now.plan) }
@@ -107,7 +107,7 @@ fn draw_pages(
     pages: &mut PageSource<'_>,
     bits: &mut [u8],
 )
-    requires pages { IsSourceOf job.now pages.old }
+    requires source { IsSourceOf job.now pages.old }
     requires ink { has_ink group.now place.ink ≡ true }
     requires row { length bits.old ≡ row_size (plate_width job.now.plan) }
     ensures pages { ShowsPages job.now.plan job.now.files group.now.left group.now.right

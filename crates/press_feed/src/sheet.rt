@@ -1,5 +1,5 @@
 // The rows of a plate that are drawn ahead: eight rows of its pages, each in each ink.
-ghost use Rattle.std.specs.Prelude.{◌≡◌, ℕ, ◌+◌, ◌-◌, ◌*◌, ◌<◌, ◌≤◌, IfOk, false, length, true};
+ghost use Rattle.std.specs.Prelude.{◌≡◌, ◌+◌, ◌*◌, ◌<◌, IfOk, false, length};
 ghost use Rattle.pr_base.specs.Ink.{slot_of};
 ghost use Rattle.pr_base.specs.Row.{row_size};
 ghost use Rattle.plan_json.specs.Data.{plate_width};
@@ -115,7 +115,7 @@ impl ByteRow {
     }
 }
 
-/// Draws this row.
+/// Draws the row that `ByteRow::diffuse` becomes, into bytes that are lent.
 fn diffuse_pages(
     k: usize,
     job: &Job,
