@@ -1,7 +1,8 @@
 // The dots of finished plates, counted in their rows.
 ghost use Rattle.std.specs.Prelude.{◌≡◌, ◌*◌, ◌≤◌, ◌<◌, ℕ, List, All, count_ones, length, map, sum_by};
 ghost use Rattle.tif_plate.specs.Plate.{IsSide, plate_file};
-ghost use Rattle.drill_room.specs.Dots.{HasSides, all_dots, bytes_of, file_dots, ones_in as ones_of, row_bytes_of};
+ghost use Rattle.drill_room.specs.Dots.{HasSides, all_dots, bytes_of, file_dots, ones_in as ones_of};
+ghost use Rattle.drill_room.specs.Dots.{row_bytes_of};
 
 use pr_base::{PathText, row_bytes};
 use tif_packbits::Unpacker;

@@ -1,5 +1,6 @@
 -- What a key reader keeps, what its turn makes of it, and what an answer of a turn says.
-use Rattle.std.specs.Prelude.{◌≡◌, ℕ, ◌+◌, ◌-◌, ◌<◌, ◌≤◌, false, [], Result, Ok, Err, length, map, slice_get, slice_index_or, sum_by}
+use Rattle.std.specs.Prelude.{◌≡◌, ℕ, ◌+◌, ◌-◌, ◌<◌, ◌≤◌, false, [], Result, Ok, Err, length, map, slice_get}
+use Rattle.std.specs.Prelude.{slice_index_or, sum_by}
 use Rattle.std.specs.List.{range_with_len}
 use Rattle.std.specs.Option.{option_map_or}
 use Rattle.pr_base.specs.declared.ink.Ink.{Ink}

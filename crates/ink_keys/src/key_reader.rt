@@ -3,7 +3,8 @@ ghost use Rattle.std.specs.Prelude.{◌≡◌, ◌<◌, ◌≤◌, false, length
 ghost use Rattle.plan_rows.specs.Rows.{places_in};
 ghost use Rattle.ring_lanes.specs.Reader.{Waits};
 ghost use Rattle.ink_keys.specs.Counts.{IsBounded};
-ghost use Rattle.ink_keys.specs.Turn.{AreRowsOf, CountsNext, CountsRows, IfWaiting, IsReady, OnFinished, stage};
+ghost use Rattle.ink_keys.specs.Turn.{AreRowsOf, CountsNext, CountsRows, IfWaiting, IsReady, OnFinished};
+ghost use Rattle.ink_keys.specs.Turn.{stage};
 
 use crate::{Counts, KeyEnd};
 use plan_rows::RowPlan;

@@ -1,9 +1,11 @@
 -- The JSON value of a generated job's plan.
 use Rattle.std.specs.Prelude.{ℕ, ◌*◌, ◌%◌, ◌==◌, Bool, true, if◌then◌else◌, List, [], ◌∷◌, ◌++◌, map, codes}
 use Rattle.std.specs.List.{range_with_len}
-use Rattle.serde_json.specs.Data.{Data, Items, Members, array, item, no_items, no_members, number, object, put, string, unsigned}
+use Rattle.serde_json.specs.Data.{Data, Items, Members, array, item, no_items, no_members, number, object}
+use Rattle.serde_json.specs.Data.{put, string, unsigned}
 use Rattle.job_gen.specs.Numbers.{page_count, site_count, size_of}
-use Rattle.job_gen.specs.Plan.{is_colour, line_file, mask_file, other_file, other_name, page_file, page_name, site_name}
+use Rattle.job_gen.specs.Plan.{is_colour, line_file, mask_file, other_file, other_name, page_file, page_name}
+use Rattle.job_gen.specs.Plan.{site_name}
 
 -- ---- values
 

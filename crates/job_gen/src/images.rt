@@ -1,7 +1,10 @@
 // The images of a job: their rows, and the files that they make.
 ghost use Rattle.std.specs.Prelude.{◌≡◌, ◌≤◌, ◌*◌, ◌++◌, IfOk, OnOk, nat_lt, if◌then◌else◌};
 ghost use Rattle.tif_make.specs.Form.{IsForm};
-ghost use Rattle.job_gen.specs.Images.{contone_bytes, contone_form as contone_form_of, contone_pixel, contone_row, line_bytes, line_form as line_form_of, line_row, mask_bytes, mask_form as mask_form_of, mask_row, rows_of, sample as sample_of};
+ghost use Rattle.job_gen.specs.Images.{contone_bytes, contone_form as contone_form_of, contone_pixel};
+ghost use Rattle.job_gen.specs.Images.{contone_row, line_bytes, line_form as line_form_of, line_row};
+ghost use Rattle.job_gen.specs.Images.{mask_bytes, mask_form as mask_form_of, mask_row, rows_of};
+ghost use Rattle.job_gen.specs.Images.{sample as sample_of};
 
 use crate::numbers::size;
 use pr_base::NoMemory;

@@ -1,7 +1,9 @@
 // The pages, the section, the zone and the sites of a job, as JSON.
 ghost use Rattle.std.specs.Prelude.{◌≡◌, ◌<◌, ◌≤◌, IfOk, map};
 ghost use Rattle.std.specs.List.{range_with_len};
-ghost use Rattle.job_gen.specs.Text.{image_layer_value, layer_values, line_layer_value, list_of, name_values, other_page_value, page_value, pages_value, section_page_value, sections_value, site_value, sites_value, zones_value};
+ghost use Rattle.job_gen.specs.Text.{image_layer_value, layer_values, line_layer_value, list_of, name_values};
+ghost use Rattle.job_gen.specs.Text.{other_page_value, page_value, pages_value, section_page_value};
+ghost use Rattle.job_gen.specs.Text.{sections_value, site_value, sites_value, zones_value};
 ghost use Rattle.serde_json.specs.View.{view};
 
 use crate::names::{LINE_FILE, MASK_FILE, OTHER_FILE, OTHER_NAME, page_file, page_name, site_name};

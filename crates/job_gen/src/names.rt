@@ -1,6 +1,7 @@
 // The names of pages, files and sites.
 ghost use Rattle.std.specs.Prelude.{◌≡◌, IfOk, string_bytes};
-ghost use Rattle.job_gen.specs.Plan.{page_file as page_file_of, page_name as page_name_of, site_name as site_name_of};
+ghost use Rattle.job_gen.specs.Plan.{page_file as page_file_of, page_name as page_name_of};
+ghost use Rattle.job_gen.specs.Plan.{site_name as site_name_of};
 
 use pr_base::NoMemory;
 use std::alloc::Global;

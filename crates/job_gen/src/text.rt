@@ -1,7 +1,8 @@
 // The text of a job's plan.
 ghost use Rattle.std.specs.Prelude.{◌≡◌, ◌≤◌, IfOk, Ok, OnOk, map, string_bytes};
 ghost use Rattle.job_gen.specs.Plan.{job_plan};
-ghost use Rattle.job_gen.specs.Text.{job_value, layout_members, list_of, marks_value, printing_members, put_all, screens_value, value_with, whole};
+ghost use Rattle.job_gen.specs.Text.{job_value, layout_members, list_of, marks_value, printing_members};
+ghost use Rattle.job_gen.specs.Text.{put_all, screens_value, value_with, whole};
 ghost use Rattle.plan_json.specs.PlanOf.{plan_of};
 ghost use Rattle.serde_json.specs.View.{members_view, view};
 

@@ -1,5 +1,7 @@
 -- What the code of a layer's rows keeps.
-use Rattle.std.specs.Prelude.{◌≡◌, ℕ, ◌+◌, ◌-◌, ◌*◌, ◌/◌, ◌<◌, ◌≤◌, ◌==◌, min, Bool, true, false, if◌then◌else◌, IsTrue, List, All, length, map, not, replicate, slice_index, Option, Some, None, option_map}
+use Rattle.std.specs.Prelude.{◌≡◌, ℕ, ◌+◌, ◌-◌, ◌*◌, ◌/◌, ◌<◌, ◌≤◌, ◌==◌, min, Bool, true, false}
+use Rattle.std.specs.Prelude.{if◌then◌else◌, IsTrue, List, All, length, map, not, replicate, slice_index}
+use Rattle.std.specs.Prelude.{Option, Some, None, option_map}
 use Rattle.pr_base.specs.Bits.{bit_at}
 use Rattle.tif_strips.specs.Strips.{Cursor}
 use Rattle.tif_image.specs.Image.{BilevelImage}

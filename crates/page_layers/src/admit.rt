@@ -1,5 +1,6 @@
 // Which pixels of a layer show: those that its art marks and its mask lets through.
-ghost use Rattle.std.specs.Prelude.{◌≡◌, ℕ, ◌+◌, ◌-◌, ◌*◌, ◌/◌, ◌<◌, ◌≤◌, if◌then◌else◌, IsTrue, length, option_map, replicate, slice_index};
+ghost use Rattle.std.specs.Prelude.{◌≡◌, ℕ, ◌+◌, ◌-◌, ◌*◌, ◌/◌, ◌<◌, ◌≤◌, if◌then◌else◌, IsTrue, length};
+ghost use Rattle.std.specs.Prelude.{option_map, replicate, slice_index};
 ghost use Rattle.std.specs.Option.{ForSome};
 ghost use Rattle.page_layers.specs.Layer.{IsLayer, admits, paints_at, shows_through};
 ghost use Rattle.page_layers.specs.Reader.{Holds, IsOf, mask_cursor};

@@ -40,7 +40,8 @@ impl Model for InkRow {
 }
 
 impl InkRow {
-    ghost use Rattle.std.specs.Prelude.{◌≡◌, ℕ, ◌+◌, ◌*◌, ◌/◌, ◌<◌, ◌≤◌, IfOk, length, replicate, slice_index};
+    ghost use Rattle.std.specs.Prelude.{◌≡◌, ℕ, ◌+◌, ◌*◌, ◌/◌, ◌<◌, ◌≤◌, IfOk, length, replicate};
+    ghost use Rattle.std.specs.Prelude.{slice_index};
     ghost use Rattle.page_layers.specs.Inks.{HasWidth, Planes, blank_planes, plane_of};
     ghost use Rattle.page_layers.specs.Rows.{HasSamples, LaysSpan};
 

@@ -1,5 +1,6 @@
 // Paint laid over a row of one ink.
-ghost use Rattle.std.specs.Prelude.{◌≡◌, ℕ, ◌+◌, ◌<◌, ◌≤◌, ◌==◌, if◌then◌else◌, length, replicate, slice_index};
+ghost use Rattle.std.specs.Prelude.{◌≡◌, ℕ, ◌+◌, ◌<◌, ◌≤◌, ◌==◌, if◌then◌else◌, length, replicate};
+ghost use Rattle.std.specs.Prelude.{slice_index};
 ghost use Rattle.page_layers.specs.Rows.{IsLaid, LaysSpan};
 
 /// How a layer is painted.

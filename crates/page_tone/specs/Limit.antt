@@ -1,5 +1,6 @@
 -- The limit on the ink of a pixel.
-use Rattle.std.specs.Prelude.{◌≡◌, ℕ, ◌+◌, ◌-◌, ◌*◌, ◌/◌, ◌==◌, ◌<◌, ◌≤◌, if◌then◌else◌, nat_le, min, List, [], ◌∷◌, length, slice_index}
+use Rattle.std.specs.Prelude.{◌≡◌, ℕ, ◌+◌, ◌-◌, ◌*◌, ◌/◌, ◌==◌, ◌<◌, ◌≤◌, if◌then◌else◌, nat_le, min, List}
+use Rattle.std.specs.Prelude.{[], ◌∷◌, length, slice_index}
 
 -- the colours' part of the ink that black leaves, each in its share, rounded down
 abbrev pub share : ℕ → ℕ → ℕ → ℕ

@@ -1,5 +1,6 @@
 -- Reading pages and their layers, each by its table. Layers name their files here.
-use Rattle.std.specs.Prelude.{ℕ, ◌&&◌, Bool, true, false, if◌then◌else◌, List, [], ◌∷◌, map, Option, Some, None, Ok, Err, codes}
+use Rattle.std.specs.Prelude.{ℕ, ◌&&◌, Bool, true, false, if◌then◌else◌, List, [], ◌∷◌, map, Option, Some}
+use Rattle.std.specs.Prelude.{None, Ok, Err, codes}
 use Rattle.std.specs.Str.{bytes_eq}
 use Rattle.serde_json.specs.Data.{Items}
 use Rattle.serde_json.specs.Find.{get_item}
@@ -7,7 +8,9 @@ use Rattle.plan_parts.specs.declared.fault.PlanFault.TheVariants.{Range}
 use Rattle.plan_json.specs.declared.named.NamedLayer.{NamedLayer}
 use Rattle.plan_json.specs.declared.named.Painting.{Painting}
 use Rattle.plan_json.specs.declared.named.Placing.{Placing}
-use Rattle.plan_parts.specs.Reading.{Read, Reader, ◌>>=◌, at_item, object_with, required, optional, optional_in, number, text, file_name, new_name, items_within, list_of, nth}
+use Rattle.plan_parts.specs.Reading.{Read, Reader, ◌>>=◌, at_item, object_with, required, optional}
+use Rattle.plan_parts.specs.Reading.{optional_in, number, text, file_name, new_name, items_within, list_of}
+use Rattle.plan_parts.specs.Reading.{nth}
 
 -- a page whose layers name their files
 pub record PageText : Type 0 where

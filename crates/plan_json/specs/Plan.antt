@@ -1,12 +1,14 @@
 -- What holds of every plan that is read. Crates above rest on `IsPlan`.
-use Rattle.std.specs.Prelude.{◌≡◌, ◌<◌, ◌≤◌, ℕ, ◌%◌, ◌==◌, ◌&&◌, IsTrue, nat_eq, not, List, [], length, map, slice_index_or, IfSome, All, AllPairs}
+use Rattle.std.specs.Prelude.{◌≡◌, ◌<◌, ◌≤◌, ℕ, ◌%◌, ◌==◌, ◌&&◌, IsTrue, nat_eq, not, List, [], length, map}
+use Rattle.std.specs.Prelude.{slice_index_or, IfSome, All, AllPairs}
 use Rattle.std.specs.List.{range_with_len}
 use Rattle.indexmap.specs.IndexSet.{insert_all}
 use Rattle.plan_parts.specs.Forms.{is_name, is_file_name}
 use Rattle.pr_base.specs.Number.{IsWithin}
 use Rattle.plan_parts.specs.Words.{AreDistinct}
 use Rattle.plan_parts.specs.Parts.{IsTile, IsScreen, IsCurve, IsMark, IsPage}
-use Rattle.plan_json.specs.Data.{PlanData, SectionData, ZoneData, ReplaceData, SiteData, plate_width, plate_height, mentioned}
+use Rattle.plan_json.specs.Data.{PlanData, SectionData, ZoneData, ReplaceData, SiteData, plate_width}
+use Rattle.plan_json.specs.Data.{plate_height, mentioned}
 
 -- ---- zones
 

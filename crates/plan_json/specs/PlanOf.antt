@@ -1,5 +1,6 @@
 -- What a text is as a plan: the plan, or its first fault with its path.
-use Rattle.std.specs.Prelude.{ℕ, ◌==◌, ◌&&◌, Bool, if◌then◌else◌, nat_le, List, [], ◌∷◌, Option, None, Ok, codes}
+use Rattle.std.specs.Prelude.{ℕ, ◌==◌, ◌&&◌, Bool, if◌then◌else◌, nat_le, List, [], ◌∷◌, Option, None, Ok}
+use Rattle.std.specs.Prelude.{codes}
 use Rattle.std.specs.Str.{is_utf8}
 use Rattle.serde_json.specs.Data.{Data}
 use Rattle.serde_json.specs.Read.{read}
@@ -7,7 +8,8 @@ use Rattle.plan_parts.specs.declared.fault.PlanFault.TheVariants.{NotJson, Range
 use Rattle.plan_json.specs.declared.front.Front.{Front}
 use Rattle.plan_json.specs.Data.{PlanData, width_over, height_over}
 use Rattle.plan_json.specs.Printed.{Inks, Layout}
-use Rattle.plan_parts.specs.Reading.{Read, Reader, ◌>>=◌, ◌>>◌, must, some_or, at_key, object_with, required, optional, number, name, items_within, nth}
+use Rattle.plan_parts.specs.Reading.{Read, Reader, ◌>>=◌, ◌>>◌, must, some_or, at_key, object_with, required}
+use Rattle.plan_parts.specs.Reading.{optional, number, name, items_within, nth}
 use Rattle.plan_parts.specs.Printing.{tiles, screens, bayer_screens, curves, identities, marks}
 use Rattle.plan_json.specs.Pages.{pages, page_names}
 use Rattle.plan_json.specs.Files.{files_of, pages_of}

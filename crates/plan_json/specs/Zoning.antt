@@ -1,9 +1,11 @@
 -- Reading sections, zones and sites, each by its table.
-use Rattle.std.specs.Prelude.{ℕ, ◌%◌, ◌==◌, ◌&&◌, Bool, not, List, [], ◌∷◌, length, map, Option, Some, None, Ok, slice_index_or, codes}
+use Rattle.std.specs.Prelude.{ℕ, ◌%◌, ◌==◌, ◌&&◌, Bool, not, List, [], ◌∷◌, length, map, Option, Some, None}
+use Rattle.std.specs.Prelude.{Ok, slice_index_or, codes}
 use Rattle.std.specs.List.{list_any}
 use Rattle.plan_parts.specs.declared.fault.PlanFault.TheVariants.{Range, Repeat}
 use Rattle.plan_json.specs.Data.{SectionData, ZoneData, ReplaceData, SiteData}
-use Rattle.plan_parts.specs.Reading.{Reader, ◌>>=◌, ◌>>◌, must, object_with, required, optional, number, new_name, defined, count_of, items_within, each_after, list_of}
+use Rattle.plan_parts.specs.Reading.{Reader, ◌>>=◌, ◌>>◌, must, object_with, required, optional, number}
+use Rattle.plan_parts.specs.Reading.{new_name, defined, count_of, items_within, each_after, list_of}
 
 -- ---- sections
 

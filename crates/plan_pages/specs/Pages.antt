@@ -1,5 +1,6 @@
 -- Which page a site prints at each place of a section, and which two pages of a section make a plate.
-use Rattle.std.specs.Prelude.{ℕ, ◌+◌, ◌-◌, ◌%◌, Bool, ◌==◌, ◌&&◌, if◌then◌else◌, List, [], length, slice_get, slice_index}
+use Rattle.std.specs.Prelude.{ℕ, ◌+◌, ◌-◌, ◌%◌, Bool, ◌==◌, ◌&&◌, if◌then◌else◌, List, [], length, slice_get}
+use Rattle.std.specs.Prelude.{slice_index}
 use Rattle.std.specs.List.{find}
 use Rattle.std.specs.Option.{option_and_then, option_map_or}
 use Rattle.plan_json.specs.Data.{PlanData, ReplaceData}

@@ -1,7 +1,8 @@
 -- What a reading of the code gives, beside the definition: the same, unless memory ran out.
 use Rattle.std.specs.Prelude.{◌≡◌, Result, Ok, Err}
 use Rattle.plan_parts.specs.declared.fault.PlanFault.{PlanFault}
-use Rattle.plan_parts.specs.declared.fault.PlanFault.TheVariants.{Missing, Kind, Range, Unknown, Repeat, Memory, NotJson}
+use Rattle.plan_parts.specs.declared.fault.PlanFault.TheVariants.{Missing, Kind, Range, Unknown, Repeat}
+use Rattle.plan_parts.specs.declared.fault.PlanFault.TheVariants.{Memory, NotJson}
 use Rattle.plan_parts.specs.Reading.{Read}
 
 abbrev pub Fails : {B : Type 0} → PlanFault → Read B → Type 0

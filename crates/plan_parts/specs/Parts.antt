@@ -1,5 +1,6 @@
 -- What holds of the tiles, screens, curves, marks and pages of every plan that is read.
-use Rattle.std.specs.Prelude.{◌≡◌, ◌<◌, ◌≤◌, ℕ, ◌+◌, ◌-◌, ◌*◌, ◌==◌, ◌||◌, Bool, IsTrue, List, length, slice_index, slice_index_or, IfSome, All}
+use Rattle.std.specs.Prelude.{◌≡◌, ◌<◌, ◌≤◌, ℕ, ◌+◌, ◌-◌, ◌*◌, ◌==◌, ◌||◌, Bool, IsTrue, List, length}
+use Rattle.std.specs.Prelude.{slice_index, slice_index_or, IfSome, All}
 use Rattle.std.specs.List.{list_any}
 use Rattle.plan_parts.specs.Forms.{is_name}
 use Rattle.pr_base.specs.Number.{IsWithin}

@@ -1,5 +1,7 @@
 -- Reading tiles, screens, curves and marks, each by its table.
-use Rattle.std.specs.Prelude.{ℕ, ◌+◌, ◌-◌, ◌*◌, ◌==◌, ◌&&◌, ◌||◌, Bool, true, false, not, if◌then◌else◌, nat_le, nat_lt, nat_eq, List, [], ◌∷◌, length, map, drop, Option, Some, None, Ok, Err, option_map, slice_index_or, codes}
+use Rattle.std.specs.Prelude.{ℕ, ◌+◌, ◌-◌, ◌*◌, ◌==◌, ◌&&◌, ◌||◌, Bool, true, false, not, if◌then◌else◌}
+use Rattle.std.specs.Prelude.{nat_le, nat_lt, nat_eq, List, [], ◌∷◌, length, map, drop, Option, Some, None}
+use Rattle.std.specs.Prelude.{Ok, Err, option_map, slice_index_or, codes}
 use Rattle.std.specs.List.{list_any, starts_with}
 use Rattle.std.specs.Str.{bytes_eq}
 use Rattle.plan_parts.specs.declared.fault.PlanFault.TheVariants.{Range, Unknown}
@@ -7,7 +9,9 @@ use Rattle.plan_parts.specs.declared.printing.Screen.{Screen}
 use Rattle.plan_parts.specs.declared.printing.Screen.TheVariants.{Bayer, Diffuse, Own}
 use Rattle.plan_parts.specs.Data.{TileData, CurveData, MarkData}
 use Rattle.plan_parts.specs.Parts.{place}
-use Rattle.plan_parts.specs.Reading.{Read, Reader, ◌>>=◌, ◌>>◌, must, some_or, object_with, ink_keys, required, optional, number, text, new_name, index_in, items_within, list_of, nth}
+use Rattle.plan_parts.specs.Reading.{Read, Reader, ◌>>=◌, ◌>>◌, must, some_or, object_with, ink_keys}
+use Rattle.plan_parts.specs.Reading.{required, optional, number, text, new_name, index_in, items_within}
+use Rattle.plan_parts.specs.Reading.{list_of, nth}
 
 -- ---- tiles
 

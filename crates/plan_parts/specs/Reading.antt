@@ -1,9 +1,12 @@
 -- The words of reading: an object with these keys, what a key has, a list of so many items, a number in a
 -- range, a text, a name. Each gives a value or the first fault with its path.
-use Rattle.std.specs.Prelude.{ℕ, suc, ◌&&◌, Bool, true, false, not, if◌then◌else◌, nat_le, List, [], ◌∷◌, ◌++◌, length, Option, Some, None, Result, Ok, Err, option_and_then, is_some, decimal, codes}
+use Rattle.std.specs.Prelude.{ℕ, suc, ◌&&◌, Bool, true, false, not, if◌then◌else◌, nat_le, List, [], ◌∷◌}
+use Rattle.std.specs.Prelude.{◌++◌, length, Option, Some, None, Result, Ok, Err, option_and_then, is_some}
+use Rattle.std.specs.Prelude.{decimal, codes}
 use Rattle.std.specs.List.{list_any, position_from}
 use Rattle.std.specs.Str.{bytes_eq}
-use Rattle.serde_json.specs.Data.{Data, null, boolean, number as number_data, string, array, object, Items, no_items, item, Members, no_members, member as member_data}
+use Rattle.serde_json.specs.Data.{Data, null, boolean, number as number_data, string, array, object, Items}
+use Rattle.serde_json.specs.Data.{no_items, item, Members, no_members, member as member_data}
 use Rattle.serde_json.specs.Find.{as_number, as_u64, get, get_item}
 use Rattle.plan_parts.specs.declared.fault.PlanFault.{PlanFault}
 use Rattle.plan_parts.specs.declared.fault.PlanFault.TheVariants.{Missing, Kind, Range, Unknown, Repeat}

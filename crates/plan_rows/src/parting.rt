@@ -2,7 +2,8 @@
 ghost use Rattle.std.specs.Prelude.{◌≡◌, ◌≤◌, ◌<◌, ◌*◌, ℕ, length, sum_by, take};
 ghost use Rattle.std.specs.List.{enumerate_from, list_any};
 ghost use Rattle.plan_pages.specs.Pages.{page_count};
-ghost use Rattle.plan_rows.specs.Groups.{group_of as group_in, is_first as is_first_of, pages_of, same_pages as alike, site_bit, site_pages as pages_of_sites};
+ghost use Rattle.plan_rows.specs.Groups.{group_of as group_in, is_first as is_first_of, pages_of};
+ghost use Rattle.plan_rows.specs.Groups.{same_pages as alike, site_bit, site_pages as pages_of_sites};
 
 use crate::Group;
 use crate::counts::{pages_in, site_count};

@@ -1,6 +1,7 @@
 // The path of a plate: OUT/SITE/EDITION-SECTION-PPP-I.tif.
 ghost use Rattle.std.specs.Prelude.{◌≡◌, ◌<◌, ◌++◌, codes, length, string_bytes, IfOk};
-ghost use Rattle.plan_rows.specs.Paths.{path_of, path_text, plate_name_of, plate_text, site_name as name_of_site, section_name as name_of_section};
+ghost use Rattle.plan_rows.specs.Paths.{path_of, path_text, plate_name_of, plate_text};
+ghost use Rattle.plan_rows.specs.Paths.{site_name as name_of_site, section_name as name_of_section};
 
 use crate::Group;
 use plan_json::Plan;

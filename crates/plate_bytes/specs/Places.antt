@@ -1,5 +1,6 @@
 -- Which packed row of a plate holds a place: the rows stand one behind the other from byte 8 on.
-use Rattle.std.specs.Prelude.{ℕ, ◌+◌, ◌<◌, ◌≤◌, Bool, ◌&&◌, List, ◌∷◌, length, slice_index, map, take, find, nat_le, nat_lt, Option}
+use Rattle.std.specs.Prelude.{ℕ, ◌+◌, ◌<◌, ◌≤◌, Bool, ◌&&◌, List, ◌∷◌, length, slice_index, map, take, find}
+use Rattle.std.specs.Prelude.{nat_le, nat_lt, Option}
 use Rattle.std.specs.List.{flat_map, range_with_len}
 use Rattle.tif_packbits.specs.Packbits.{packing}
 

@@ -1,5 +1,6 @@
 // A plate in memory: the front and the packed rows as they come, then the bytes behind them.
-ghost use Rattle.std.specs.Prelude.{◌≡◌, ◌+◌, ◌^◌, ◌<◌, ◌≤◌, ◌∷◌, [], ◌++◌, ℕ, List, IfOk, OnOk, OnErr, length, slice_index, slice_set};
+ghost use Rattle.std.specs.Prelude.{◌≡◌, ◌+◌, ◌^◌, ◌<◌, ◌≤◌, ◌∷◌, [], ◌++◌, ℕ, List, IfOk, OnOk, OnErr};
+ghost use Rattle.std.specs.Prelude.{length, slice_index, slice_set};
 ghost use Rattle.tif_plate.specs.Plate.{IsSide, IsDpi, strip_count};
 ghost use Rattle.tif_plate.specs.Tail.{IsPlaceable, tail_bytes, tail_place, tail_room};
 ghost use Rattle.pr_base.specs.Place.{with_place};

@@ -1,5 +1,6 @@
 -- The words of a command line.
-use Rattle.std.specs.Prelude.{ℕ, if◌then◌else◌, ◌&&◌, not, ◌==◌, Bool, List, [], ◌∷◌, Option, Some, None, option_map, option_and_then, codes, map, length, nat_eq, String, string_bytes}
+use Rattle.std.specs.Prelude.{ℕ, if◌then◌else◌, ◌&&◌, not, ◌==◌, Bool, List, [], ◌∷◌, Option, Some, None}
+use Rattle.std.specs.Prelude.{option_map, option_and_then, codes, map, length, nat_eq, String, string_bytes}
 use Rattle.std.specs.Cmp.Lexicographic.{pointwise}
 use Rattle.plate_room.specs.Number.{number_within}
 use Rattle.room_run.specs.Edition.{Edition}

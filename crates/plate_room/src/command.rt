@@ -1,8 +1,13 @@
 // The words of a command line.
 ghost use Rattle.std.specs.Prelude.{◌≡◌, IfSome};
 ghost use Rattle.pr_base.specs.Number.{IsWithin};
-ghost use Rattle.plate_room.specs.Command.{asked_of as asked_meant, change_of as change_meant, command_of as meant, drill_of as drill_meant, edition_in as edition_in_meant, edition_of as edition_meant, keys_of as keys_meant, numbers_of as numbers_meant, one_of as one_meant, words_of};
-ghost use Rattle.plate_room.specs.Answer.{HasNumbers, HasTurns, IfRun, IsAskedFor, IsChange, IsCommand, IsDrill, IsEdition};
+ghost use Rattle.plate_room.specs.Command.{asked_of as asked_meant, change_of as change_meant};
+ghost use Rattle.plate_room.specs.Command.{command_of as meant, drill_of as drill_meant};
+ghost use Rattle.plate_room.specs.Command.{edition_in as edition_in_meant, edition_of as edition_meant};
+ghost use Rattle.plate_room.specs.Command.{keys_of as keys_meant, numbers_of as numbers_meant};
+ghost use Rattle.plate_room.specs.Command.{one_of as one_meant, words_of};
+ghost use Rattle.plate_room.specs.Answer.{HasNumbers, HasTurns, IfRun, IsAskedFor, IsChange, IsCommand};
+ghost use Rattle.plate_room.specs.Answer.{IsDrill, IsEdition};
 
 use crate::number::number_within;
 use room_replate::Change;

@@ -2,9 +2,11 @@
 ghost use Rattle.std.specs.Prelude.{◌≡◌, ◌≤◌, ◌⊎◌, ◌≢◌, None, Some, IfSome, length};
 ghost use Rattle.plate_room.specs.Command.{AsksDrill, AsksVerify, command_of, words_of};
 ghost use Rattle.room_base.specs.Status.{IsCutShort, IsDoneStatus, IsRefusal, IsStatus};
-ghost use Rattle.plate_room.specs.End.{FailsByOut, IsComplete, IsToldThere, Tells, TellsOfMemory, TellsPart, TellsVerdict};
+ghost use Rattle.plate_room.specs.End.{FailsByOut, IsComplete, IsToldThere, Tells, TellsOfMemory, TellsPart};
+ghost use Rattle.plate_room.specs.End.{TellsVerdict};
 ghost use Rattle.plate_room.specs.Ending.{Ending, seen_of};
-ghost use Rattle.room_base.specs.Seen.{AreIdle, Files, IsUntouched, PutFailed, RackFailed, shelf_seen, sink_seen};
+ghost use Rattle.room_base.specs.Seen.{AreIdle, Files, IsUntouched, PutFailed, RackFailed, shelf_seen};
+ghost use Rattle.room_base.specs.Seen.{sink_seen};
 ghost use Rattle.plate_room.specs.Tasks.{IsCut, IsDone, IsUnprinted, verdict_of};
 
 use crate::answer::answer;

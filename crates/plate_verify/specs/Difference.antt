@@ -1,5 +1,6 @@
 -- Where two lists of bytes first differ.
-use Rattle.std.specs.Prelude.{◌≡◌, ℕ, suc, ◌≤◌, ◌==◌, if◌then◌else◌, List, [], ◌∷◌, length, take, Option, Some, None, option_map}
+use Rattle.std.specs.Prelude.{◌≡◌, ℕ, suc, ◌≤◌, ◌==◌, if◌then◌else◌, List, [], ◌∷◌, length, take, Option}
+use Rattle.std.specs.Prelude.{Some, None, option_map}
 
 -- the first place at which one has a byte that the other lacks or has otherwise
 abbrev pub difference_of : List ℕ → List ℕ → Option ℕ

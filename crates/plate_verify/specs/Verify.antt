@@ -1,5 +1,6 @@
 -- All plates of an edition, group by group.
-use Rattle.std.specs.Prelude.{◌≡◌, ℕ, ◌+◌, ◌*◌, ◌≤◌, All, List, length, map, drop, Option, Some, None, Result, Ok, Err}
+use Rattle.std.specs.Prelude.{◌≡◌, ℕ, ◌+◌, ◌*◌, ◌≤◌, All, List, length, map, drop, Option, Some, None, Result}
+use Rattle.std.specs.Prelude.{Ok, Err}
 use Rattle.pr_base.specs.Row.{row_size}
 use Rattle.tif_packbits.specs.Frame.{frame_of, frame_size}
 use Rattle.plan_json.specs.Data.{PlanData, plate_width, plate_height}

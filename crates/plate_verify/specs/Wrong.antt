@@ -1,5 +1,6 @@
 -- What is wrong with the plates that are held.
-use Rattle.std.specs.Prelude.{◌≡◌, ℕ, ◌<◌, nat_lt, if◌then◌else◌, List, All, length, slice_get, Option, Some, None, option_map, unwrap_or}
+use Rattle.std.specs.Prelude.{◌≡◌, ℕ, ◌<◌, nat_lt, if◌then◌else◌, List, All, length, slice_get, Option, Some}
+use Rattle.std.specs.Prelude.{None, option_map, unwrap_or}
 use Rattle.std.specs.List.{filter_map}
 use Rattle.pr_ports.specs.Shelf.{held_at}
 use Rattle.plan_json.specs.Data.{PlanData}

@@ -2,7 +2,8 @@
 ghost use Rattle.std.specs.Prelude.{◌≡◌, ◌<◌, ◌≤◌, ◌∷◌, [], ℕ, List, Some, length, option_map, slice_get};
 ghost use Rattle.plate_bytes.specs.Places.{row_ends, row_holding};
 ghost use Rattle.plate_verify.specs.Difference.{difference_of};
-ghost use Rattle.plate_verify.specs.Looking.{AreMade, IsMade, Looked, group_sites, plates_at, shelf_told, told};
+ghost use Rattle.plate_verify.specs.Looking.{AreMade, IsMade, Looked, group_sites, plates_at, shelf_told};
+ghost use Rattle.plate_verify.specs.Looking.{told};
 ghost use Rattle.plan_rows.specs.Inks.{ink_count, inks_of};
 ghost use Rattle.plate_verify.specs.Order.{plate_sites};
 ghost use Rattle.plate_verify.specs.Wrong.{OtherAt};

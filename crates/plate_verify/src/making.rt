@@ -1,8 +1,11 @@
 // Making the plates of a group in memory, out of the rows of a feed.
-ghost use Rattle.std.specs.Prelude.{◌≡◌, ◌*◌, ◌∷◌, [], ◌++◌, ℕ, List, OnOk, drop, length, map, slice_index_or};
+ghost use Rattle.std.specs.Prelude.{◌≡◌, ◌*◌, ◌∷◌, [], ◌++◌, ℕ, List, OnOk, drop, length, map};
+ghost use Rattle.std.specs.Prelude.{slice_index_or};
 ghost use Rattle.tif_packbits.specs.Frame.{frame_of};
 ghost use Rattle.plate_bytes.specs.Made.{so_far};
-ghost use Rattle.plate_verify.specs.Making.{AreFed, AreFull, AreWhole, CanBeFed, CanFinish, CanTakeAll, CanTakeNext, EachCanTake, EachTakes, HaveRows, HaveSides, Sides, TakesNext, turn_rows};
+ghost use Rattle.plate_verify.specs.Making.{AreFed, AreFull, AreWhole, CanBeFed, CanFinish, CanTakeAll};
+ghost use Rattle.plate_verify.specs.Making.{CanTakeNext, EachCanTake, EachTakes, HaveRows, HaveSides, Sides};
+ghost use Rattle.plate_verify.specs.Making.{TakesNext, turn_rows};
 
 use plate_bytes::PlateBytes;
 use pr_base::{NoMemory, RowFeed};

@@ -1,6 +1,7 @@
 -- Pixels of one bit in bytes: eight a byte, the lower column in the higher bit
 -- (TIFF 6.0, Section 8, FillOrder 1).
-use Rattle.std.specs.Prelude.{◌≡◌, ◌<◌, ◌≤◌, ℕ, ◌+◌, ◌-◌, ◌*◌, ◌/◌, ◌%◌, ◌^◌, ◌==◌, ◌&&◌, Bool, cond, nat_lt, List, map, slice_index}
+use Rattle.std.specs.Prelude.{◌≡◌, ◌<◌, ◌≤◌, ℕ, ◌+◌, ◌-◌, ◌*◌, ◌/◌, ◌%◌, ◌^◌, ◌==◌, ◌&&◌, Bool, cond, nat_lt}
+use Rattle.std.specs.Prelude.{List, map, slice_index}
 use Rattle.std.specs.List.{range_with_len}
 use Rattle.pr_base.specs.Row.{row_size}
 

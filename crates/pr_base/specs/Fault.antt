@@ -1,7 +1,12 @@
 -- The table of file faults: each kind's number and text. Both are plateroom's own.
 use Rattle.std.specs.Prelude.{ℕ, List, codes}
 use Rattle.pr_base.specs.declared.fault.FaultKind.{FaultKind}
-use Rattle.pr_base.specs.declared.fault.FaultKind.TheVariants.{TooLong, Header, Directory, Missing, FieldType, FieldCount, FieldPlace, Tiled, Width, Length, Bits, Compression, Photometric, FillOrder, Orientation, Samples, RowsPerStrip, Planar, InkSet, DotRange, StripPlace, Short, MaskSize, Crop}
+use Rattle.pr_base.specs.declared.fault.FaultKind.TheVariants.{TooLong, Header, Directory, Missing, FieldType}
+use Rattle.pr_base.specs.declared.fault.FaultKind.TheVariants.{FieldCount, FieldPlace, Tiled, Width, Length}
+use Rattle.pr_base.specs.declared.fault.FaultKind.TheVariants.{Bits, Compression, Photometric, FillOrder}
+use Rattle.pr_base.specs.declared.fault.FaultKind.TheVariants.{Orientation, Samples, RowsPerStrip, Planar}
+use Rattle.pr_base.specs.declared.fault.FaultKind.TheVariants.{InkSet, DotRange, StripPlace, Short, MaskSize}
+use Rattle.pr_base.specs.declared.fault.FaultKind.TheVariants.{Crop}
 
 abbrev pub kind_number : FaultKind → ℕ
 kind_number TooLong = 1

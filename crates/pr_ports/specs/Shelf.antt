@@ -1,5 +1,6 @@
 -- What a shelf holds, and what a call of load tells of it.
-use Rattle.std.specs.Prelude.{◌≡◌, ℕ, ◌<◌, ◌≤◌, Bool, true, false, if◌then◌else◌, List, ◌++◌, length, Option, Some, IfSome, IsSomeAnd, Result, Ok, Err, nat_eq}
+use Rattle.std.specs.Prelude.{◌≡◌, ℕ, ◌<◌, ◌≤◌, Bool, true, false, if◌then◌else◌, List, ◌++◌, length, Option}
+use Rattle.std.specs.Prelude.{Some, IfSome, IsSomeAnd, Result, Ok, Err, nat_eq}
 use Rattle.std.specs.Option.{option_map}
 use Rattle.std.specs.Map.{lookup}
 use Rattle.std.specs.Io.KnownBytes.{Consumes, IsAtEnd}

@@ -1,5 +1,6 @@
 // The shelf of the machine's files.
-ghost use Rattle.std.specs.Prelude.{◌≡◌, ◌+◌, ◌<◌, ◌≤◌, None, IfOk, IfSome, IsErrOf, OnErr, ◌==◌, drop, if◌then◌else◌, is_some, length, min, not, take};
+ghost use Rattle.std.specs.Prelude.{◌≡◌, ◌+◌, ◌<◌, ◌≤◌, None, IfOk, IfSome, IsErrOf, OnErr, ◌==◌, drop};
+ghost use Rattle.std.specs.Prelude.{if◌then◌else◌, is_some, length, min, not, take};
 ghost use Rattle.std.specs.Io.KnownBytes.{Keeps};
 ghost use Rattle.pr_base.specs.Count.{Rose, count_unless};
 ghost use Rattle.pr_base.specs.Stream.{ReadsSome};

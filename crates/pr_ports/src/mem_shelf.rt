@@ -1,5 +1,6 @@
 // A shelf in memory that tells all, and fails at chosen calls.
-ghost use Rattle.std.specs.Prelude.{◌≡◌, ◌≤◌, ◌⊎◌, [], List, ℕ, None, Some, Contains, IfOk, IsErrOf, length, map, nat_eq};
+ghost use Rattle.std.specs.Prelude.{◌≡◌, ◌≤◌, ◌⊎◌, [], List, ℕ, None, Some, Contains, IfOk, IsErrOf, length};
+ghost use Rattle.std.specs.Prelude.{map, nat_eq};
 ghost use Rattle.std.specs.Cmp.Lexicographic.{pointwise};
 ghost use Rattle.std.specs.List.{IsDistinct};
 ghost use Rattle.std.specs.Option.{option_copied};

@@ -1,5 +1,7 @@
 -- What a rack holds, and what its calls make of it.
-use Rattle.std.specs.Prelude.{◌≡◌, ℕ, ◌+◌, ◌%◌, ◌⊎◌, Bool, true, false, if◌then◌else◌, List, [], ◌∷◌, ◌++◌, Option, Some, None, Result, Ok, Err, slice_index_or, slice_set, unwrap_or, option_and_then, option_to_list}
+use Rattle.std.specs.Prelude.{◌≡◌, ℕ, ◌+◌, ◌%◌, ◌⊎◌, Bool, true, false, if◌then◌else◌, List, [], ◌∷◌, ◌++◌}
+use Rattle.std.specs.Prelude.{Option, Some, None, Result, Ok, Err, slice_index_or, slice_set, unwrap_or}
+use Rattle.std.specs.Prelude.{option_and_then, option_to_list}
 use Rattle.std.specs.Option.{option_map}
 use Rattle.pr_base.specs.Place.{with_place}
 use Rattle.ring_lanes.specs.declared.source.Source.{Source}

@@ -1,5 +1,6 @@
 // The rack of the machine's files.
-ghost use Rattle.std.specs.Prelude.{refl, ◌≡◌, ◌≤◌, true, false, None, Some, IfErr, IsErrOf, OnErr, OnOk, is_ok, is_some, length, map, slice_get, slice_set};
+ghost use Rattle.std.specs.Prelude.{refl, ◌≡◌, ◌≤◌, true, false, None, Some, IfErr, IsErrOf, OnErr, OnOk};
+ghost use Rattle.std.specs.Prelude.{is_ok, is_some, length, map, slice_get, slice_set};
 ghost use Rattle.tif_packbits.specs.Frame.{IsFrame};
 ghost use Rattle.pr_base.specs.Count.{Rose, count_unless};
 ghost use Rattle.pr_rack.specs.Rack.{OthersBegun, none_begun};

@@ -1,9 +1,13 @@
 // A rack in memory that tells all, and fails at chosen calls.
-ghost use Rattle.std.specs.Prelude.{refl, ◌≡◌, ◌≤◌, ◌⊎◌, [], true, false, None, Some, Contains, IsTrue, OnOk, OnErr, IfOk, IfErr, IfSome, IsErrOf, is_some, length, map, slice_get, slice_set};
+ghost use Rattle.std.specs.Prelude.{refl, ◌≡◌, ◌≤◌, ◌⊎◌, [], true, false, None, Some, Contains, IsTrue, OnOk};
+ghost use Rattle.std.specs.Prelude.{OnErr, IfOk, IfErr, IfSome, IsErrOf, is_some, length, map, slice_get};
+ghost use Rattle.std.specs.Prelude.{slice_set};
 ghost use Rattle.tif_packbits.specs.Frame.{IsFrame, packed_in};
 ghost use Rattle.pr_base.specs.Count.{Rose, count_after};
-ghost use Rattle.pr_rack.specs.Mem.{IsAfter, after_begin, after_finish, after_row, empty_slots, files_of, plate_of};
-ghost use Rattle.pr_rack.specs.Rack.{IsBehind, OthersBegun, OthersStand, finished_with, has_failed, missed_after, path_in, plate_in, with_more, with_plate, with_row};
+ghost use Rattle.pr_rack.specs.Mem.{IsAfter, after_begin, after_finish, after_row, empty_slots, files_of};
+ghost use Rattle.pr_rack.specs.Mem.{plate_of};
+ghost use Rattle.pr_rack.specs.Rack.{IsBehind, OthersBegun, OthersStand, finished_with, has_failed};
+ghost use Rattle.pr_rack.specs.Rack.{missed_after, path_in, plate_in, with_more, with_plate, with_row};
 
 use crate::misses::Misses;
 use crate::slots::{Plate, Slots};

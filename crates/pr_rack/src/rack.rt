@@ -1,10 +1,13 @@
 // Where a site's plates are built and kept.
-ghost use Rattle.std.specs.Prelude.{◌≡◌, ◌≤◌, ℕ, List, Bool, true, false, None, Option, Some, IfSome, OnOk, OnErr, IsErrOf, is_some, length, map, slice_get, slice_set};
+ghost use Rattle.std.specs.Prelude.{◌≡◌, ◌≤◌, ℕ, List, Bool, true, false, None, Option, Some, IfSome, OnOk};
+ghost use Rattle.std.specs.Prelude.{OnErr, IsErrOf, is_some, length, map, slice_get, slice_set};
 ghost use Rattle.tif_packbits.specs.Frame.{IsFrame, packed_in};
 ghost use Rattle.ring_lanes.specs.declared.source.Source.{Source as SourceData};
 ghost use Rattle.pr_base.specs.Count.{Rose};
 ghost use Rattle.pr_rack.specs.declared.rack.RackCall.{RackCall as CallData};
-ghost use Rattle.pr_rack.specs.Rack.{IsBehind, OthersBegun, OthersStand, Plate, Slots, finished_with, has_failed, missed_after, path_in, plate_in, with_more, with_plate, with_row};
+ghost use Rattle.pr_rack.specs.Rack.{IsBehind, OthersBegun, OthersStand, Plate, Slots, finished_with};
+ghost use Rattle.pr_rack.specs.Rack.{has_failed, missed_after, path_in, plate_in, with_more, with_plate};
+ghost use Rattle.pr_rack.specs.Rack.{with_row};
 
 use ring_lanes::Held;
 use thiserror::Error;

@@ -1,5 +1,6 @@
 // The slots of a rack in memory.
-ghost use Rattle.std.specs.Prelude.{◌≡◌, ◌<◌, ◌≤◌, true, None, Some, is_some, length, map, slice_get, slice_index_or, slice_set};
+ghost use Rattle.std.specs.Prelude.{◌≡◌, ◌<◌, ◌≤◌, true, None, Some, is_some, length, map, slice_get};
+ghost use Rattle.std.specs.Prelude.{slice_index_or, slice_set};
 ghost use Rattle.pr_rack.specs.Mem.{empty_slots, plate_of};
 ghost use Rattle.pr_rack.specs.Rack.{path_in};
 

@@ -1,5 +1,6 @@
 // A band of frames, which as many threads make as there are shares.
-ghost use Rattle.std.specs.Prelude.{All, ◌≡◌, ℕ, ◌+◌, ◌*◌, ◌<◌, ◌≤◌, ◌^◌, IfOk, IsTrue, ◌↔◌, length, slice_index_or};
+ghost use Rattle.std.specs.Prelude.{All, ◌≡◌, ℕ, ◌+◌, ◌*◌, ◌<◌, ◌≤◌, ◌^◌, IfOk, IsTrue, ◌↔◌, length};
+ghost use Rattle.std.specs.Prelude.{slice_index_or};
 ghost use Rattle.press_feed.specs.Band.{AreMade, HoldsFrom, IsShareOf, ShareData};
 
 use crate::share::Share;

@@ -3,7 +3,8 @@ ghost use Rattle.std.specs.Prelude.{◌≡◌, ◌≢◌, ℕ, ◌+◌, ◌*◌,
 ghost use Rattle.pr_base.specs.Ink.{slot_of};
 ghost use Rattle.pr_base.specs.declared.ink.Ink.{Ink as InkData};
 ghost use Rattle.plan_rows.specs.Inks.{has_ink};
-ghost use Rattle.press_feed.specs.Blocks.{AreDiffused, AreHeldFrom, AreTiled, AreWide, HoldRows, IsAhead, IsSetAt, IsSheet, sheet_at};
+ghost use Rattle.press_feed.specs.Blocks.{AreDiffused, AreHeldFrom, AreTiled, AreWide, HoldRows, IsAhead};
+ghost use Rattle.press_feed.specs.Blocks.{IsSetAt, IsSheet, sheet_at};
 ghost use Rattle.press_feed.specs.Pair.{AreApart, ShowsRow, of_group};
 ghost use Rattle.press_feed.specs.Plates.{DrawsPages};
 ghost use Rattle.press_feed.specs.Screener.{IsOnly};

@@ -1,6 +1,7 @@
 // How the two pages of a plate are screened in each ink: by a tile, or by error diffusion of both pages at
 // once.
-ghost use Rattle.std.specs.Prelude.{◌≡◌, ◌≢◌, ◌+◌, ◌*◌, ◌<◌, ◌≤◌, IfOk, None, Some, [], false, true, length, slice_get};
+ghost use Rattle.std.specs.Prelude.{◌≡◌, ◌≢◌, ◌+◌, ◌*◌, ◌<◌, ◌≤◌, IfOk, None, Some, [], false, true, length};
+ghost use Rattle.std.specs.Prelude.{slice_get};
 ghost use Rattle.std.specs.Option.{ForSome, option_map};
 ghost use Rattle.pr_base.specs.Bits.{SetsBits};
 ghost use Rattle.pr_base.specs.Ink.{slot_of};
@@ -9,7 +10,8 @@ ghost use Rattle.pr_base.specs.declared.ink.Ink.TheVariants.{S};
 ghost use Rattle.page_layers.specs.Inks.{HasWidth};
 ghost use Rattle.press_feed.specs.declared.screener.Screener.{Screener as ScreenerData};
 ghost use Rattle.press_feed.specs.Screener.{AreScreeners, diffuses, is_diffused};
-ghost use Rattle.press_feed.specs.Screens.{AreScreens, behind_planes, behind_rows, bank_of, bit_by, from_top, lane_of, last_bit, process_rows, spot_rows, without_rows};
+ghost use Rattle.press_feed.specs.Screens.{AreScreens, behind_planes, behind_rows, bank_of, bit_by, from_top};
+ghost use Rattle.press_feed.specs.Screens.{lane_of, last_bit, process_rows, spot_rows, without_rows};
 
 use crate::screener::{Screener, has_diffused};
 use crate::side::Side;

@@ -1,5 +1,6 @@
 -- The layers of a page, from the plan and the bytes of its files in the order of the plan's list.
-use Rattle.std.specs.Prelude.{ℕ, false, if◌then◌else◌, List, [], map, slice_get, slice_index, slice_index_or, Option, Some, None, Result, option_map}
+use Rattle.std.specs.Prelude.{ℕ, false, if◌then◌else◌, List, [], map, slice_get, slice_index, slice_index_or}
+use Rattle.std.specs.Prelude.{Option, Some, None, Result, option_map}
 use Rattle.std.specs.Option.{option_map_or}
 use Rattle.std.specs.Result.{result_unwrap_or}
 use Rattle.pr_base.specs.declared.fault.TagFault.{TagFault}

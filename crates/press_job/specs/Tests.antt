@@ -1,5 +1,6 @@
 -- What is tested of a plan's files: each for its uses, and then each layer's crop and mask against its image.
-use Rattle.std.specs.Prelude.{◌≡◌, ℕ, ◌+◌, ◌==◌, ◌<◌, not, nat_lt, Bool, if◌then◌else◌, List, ◌∷◌, length, slice_index, Option, Some, None, option_map, option_to_list}
+use Rattle.std.specs.Prelude.{◌≡◌, ℕ, ◌+◌, ◌==◌, ◌<◌, not, nat_lt, Bool, if◌then◌else◌, List, ◌∷◌, length}
+use Rattle.std.specs.Prelude.{slice_index, Option, Some, None, option_map, option_to_list}
 use Rattle.std.specs.Option.{option_or}
 use Rattle.std.specs.Result.{result_err, result_unwrap_or}
 use Rattle.pr_base.specs.declared.fault.TagFault.{TagFault}

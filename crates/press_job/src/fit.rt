@@ -2,7 +2,8 @@
 ghost use Rattle.std.specs.Prelude.{◌≡◌, ℕ, List};
 ghost use Rattle.std.specs.Result.{result_err};
 ghost use Rattle.pr_base.specs.First.{first_some};
-ghost use Rattle.press_job.specs.Tests.{crop_fault, fault_of_layers, fit_fault, length_of, mask_fault, page_fit_fault, width_of};
+ghost use Rattle.press_job.specs.Tests.{crop_fault, fault_of_layers, fit_fault, length_of, mask_fault};
+ghost use Rattle.press_job.specs.Tests.{page_fit_fault, width_of};
 
 use crate::files::Files;
 use crate::usage::layers_on;

@@ -3,7 +3,8 @@ ghost use Rattle.std.specs.Prelude.{◌≡◌, ◌≤◌, ℕ, None, length, opt
 ghost use Rattle.std.specs.Option.{ForSome};
 ghost use Rattle.page_layers.specs.Layer.{shape_of};
 ghost use Rattle.press_job.specs.Fit.{PassesTests};
-ghost use Rattle.press_job.specs.Layers.{art_in, bilevel_of, bytes_at, crop_of, layer_of, layers_of, planned_layers};
+ghost use Rattle.press_job.specs.Layers.{art_in, bilevel_of, bytes_at, crop_of, layer_of, layers_of};
+ghost use Rattle.press_job.specs.Layers.{planned_layers};
 ghost use Rattle.press_job.specs.Tests.{fault_for, use_of};
 ghost use Rattle.tif_image.specs.declared.usage.Usage.TheVariants as uses;
 ghost use Rattle.tif_image.specs.declared.usage.BilevelUse.TheVariants as usages;

@@ -4,7 +4,9 @@ ghost use Rattle.plan_json.specs.Plan.{IsPlan};
 ghost use Rattle.pr_ports.specs.Shelf.{IsHeldAt, held_at};
 ghost use Rattle.press_job.specs.Tests.{ArePassed, fault_of_file};
 ghost use Rattle.press_job.specs.Told.{TellsShelf};
-ghost use Rattle.press_job.specs.Verdict.{AreFirst, IfFile, IfShelf, IsMissing, OfFiles, WasFound, limit_behind as limit_after, name_of, named_fault, path_of, verdict_before, verdict_on};
+ghost use Rattle.press_job.specs.Verdict.{AreFirst, IfFile, IfShelf, IsMissing, OfFiles, WasFound};
+ghost use Rattle.press_job.specs.Verdict.{limit_behind as limit_after, name_of, named_fault, path_of};
+ghost use Rattle.press_job.specs.Verdict.{verdict_before, verdict_on};
 
 use crate::Refusal;
 use crate::file_test::test_file;

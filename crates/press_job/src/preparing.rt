@@ -1,7 +1,8 @@
 // From a plan and a shelf to a job.
 ghost use Rattle.std.specs.Prelude.{◌≡◌, ◌≤◌, IfOk, IfSome, None, OnOk, Some, length, sum_by};
 ghost use Rattle.press_job.specs.Told.{TellsShelf};
-ghost use Rattle.press_job.specs.Verdict.{AreSound, IfFile, IfShelf, IsFirstFault, IsMissing, OfFiles, files_in, verdict_on_files};
+ghost use Rattle.press_job.specs.Verdict.{AreSound, IfFile, IfShelf, IsFirstFault, IsMissing, OfFiles};
+ghost use Rattle.press_job.specs.Verdict.{files_in, verdict_on_files};
 
 use crate::fit::test_fit;
 use crate::loading::{fault_of, load_files};

@@ -54,10 +54,10 @@ impl PrintedRow {
         })
     }
 
-    /// Shows the next row of a page that prints C, M and Y or not (`colour`), and S or not (`spot`). A page
-    /// prints K. The page has a row left, is as wide as this row, and stands behind its next row afterwards.
-    /// Where the page is before its first row, anything may stand here; else its row before does, which was
-    /// shown with the same tone and the same inks. Where the two rows are equal nothing is painted.
+    /// Shows the next row of a page that prints C, M and Y or not (`colour`), and S or not (`spot`). Each
+    /// page prints K. The page has a row left, is as wide as this row, and stands behind its next row
+    /// afterwards. Where the page is before its first row, anything may stand here; else its row before does,
+    /// which was shown with the same tone and the same inks. Where the two rows are equal nothing is painted.
     pub fn advance(&mut self, page: &mut PageRows<'_>, tones: &Tones<'_>, colour: bool, spot: bool)
         requires left { page.old.next < page.old.height }
         requires width { HasWidth self.old page.old.width }

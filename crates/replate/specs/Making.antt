@@ -1,5 +1,6 @@
 -- How far the sites of a delivery are. This is the contract of private calls.
-use Rattle.std.specs.Prelude.{◌≡◌, ℕ, ◌+◌, ◌-◌, ◌<◌, ◌≤◌, ◌==◌, Bool, true, false, not, List, length, map, count_by, Some, slice_get}
+use Rattle.std.specs.Prelude.{◌≡◌, ℕ, ◌+◌, ◌-◌, ◌<◌, ◌≤◌, ◌==◌, Bool, true, false, not, List, length, map}
+use Rattle.std.specs.Prelude.{count_by, Some, slice_get}
 use Rattle.std.specs.List.{range_with_len}
 use Rattle.ring_lanes.specs.declared.source.Source.TheVariants.{Deck}
 use Rattle.pr_rack.specs.Told.{RackTells}

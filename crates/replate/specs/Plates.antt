@@ -1,5 +1,6 @@
 -- The plates of a plan, told by site, index of the group and ink, and their paths below any folder.
-use Rattle.std.specs.Prelude.{◌<◌, ℕ, Bool, false, IsTrue, if◌then◌else◌, List, [], map, length, slice_index_or}
+use Rattle.std.specs.Prelude.{◌<◌, ℕ, Bool, false, IsTrue, if◌then◌else◌, List, [], map, length}
+use Rattle.std.specs.Prelude.{slice_index_or}
 use Rattle.std.specs.List.{enumerate_from, flat_map, list_any, range_with_len}
 use Rattle.std.specs.Str.{bytes_eq}
 use Rattle.pr_base.specs.declared.ink.Ink.{Ink}

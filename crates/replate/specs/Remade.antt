@@ -1,6 +1,7 @@
 -- What a delivery of the plates that must be made leaves on the racks of its sites, by what each of them told
 -- before and tells now.
-use Rattle.std.specs.Prelude.{◌≡◌, ℕ, ◌+◌, ◌<◌, ◌≤◌, Bool, List, length, map, take, Some, IfSome, slice_get, slice_index_or}
+use Rattle.std.specs.Prelude.{◌≡◌, ℕ, ◌+◌, ◌<◌, ◌≤◌, Bool, List, length, map, take, Some, IfSome, slice_get}
+use Rattle.std.specs.Prelude.{slice_index_or}
 use Rattle.pr_base.specs.Count.{Rose}
 use Rattle.pr_base.specs.Row.{row_size}
 use Rattle.tif_packbits.specs.Frame.{AreFrames, framed_row}

@@ -1,7 +1,8 @@
 // A site of a delivery.
 ghost use Rattle.std.specs.Prelude.{◌≡◌, ◌-◌, ◌<◌, false, OnErr, OnOk};
 ghost use Rattle.pr_rack.specs.Told.{told};
-ghost use Rattle.replate.specs.Making.{IsUp, Made, SomeServed, Stopped, has_left as has_left_lem, is_making as is_making_lem};
+ghost use Rattle.replate.specs.Making.{IsUp, Made, SomeServed, Stopped, has_left as has_left_lem};
+ghost use Rattle.replate.specs.Making.{is_making as is_making_lem};
 
 use crate::RemadeEnd;
 use pr_base::{Deal, NoMemory};

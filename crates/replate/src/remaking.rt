@@ -1,12 +1,14 @@
 // A delivery of the plates that must be made, row by row over a deck.
-ghost use Rattle.std.specs.Prelude.{◌≡◌, ◌-◌, ◌<◌, ◌^◌, ℕ, false, true, All, IfOk, OnErr, OnOk, count_by, length, map, slice_index_or};
+ghost use Rattle.std.specs.Prelude.{◌≡◌, ◌-◌, ◌<◌, ◌^◌, ℕ, false, true, All, IfOk, OnErr, OnOk, count_by};
+ghost use Rattle.std.specs.Prelude.{length, map, slice_index_or};
 ghost use Rattle.tif_packbits.specs.Frame.{framed_row};
 ghost use Rattle.pr_rack.specs.Told.{all_told, told};
 ghost use Rattle.plan_json.specs.Plan.{IsPlan};
 ghost use Rattle.plan_rows.specs.Groups.{groups_of};
 ghost use Rattle.site_agent.specs.Racks.{AllTellSlots, AreIdle, KeepCounts};
 ghost use Rattle.replate.specs.declared.maker.Maker.{Maker as MakerData};
-ghost use Rattle.replate.specs.Making.{AllMade, AllSomeServed, AllStopped, IsUp, fresh_maker, fresh_makers, is_making as is_making_lem};
+ghost use Rattle.replate.specs.Making.{AllMade, AllSomeServed, AllStopped, IsUp, fresh_maker, fresh_makers};
+ghost use Rattle.replate.specs.Making.{is_making as is_making_lem};
 ghost use Rattle.replate.specs.Remade.{AreRowsOf, RemadeFits, RemadePart, by_picks};
 
 use crate::maker::{Maker, hand};

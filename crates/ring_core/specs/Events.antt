@@ -1,9 +1,12 @@
 -- The eight events: when each is possible, and what it changes.
-use Rattle.std.specs.Prelude.{ℕ, zero, suc, ◌+◌, ◌%◌, Bool, true, false, not, ◌&&◌, ◌||◌, nat_lt, nat_eq, if◌then◌else◌, List, [], ◌∷◌, ◌++◌, map, Option, Some, None, is_some, is_none, unwrap_or, option_map, slice_index_or, slice_set}
+use Rattle.std.specs.Prelude.{ℕ, zero, suc, ◌+◌, ◌%◌, Bool, true, false, not, ◌&&◌, ◌||◌, nat_lt, nat_eq}
+use Rattle.std.specs.Prelude.{if◌then◌else◌, List, [], ◌∷◌, ◌++◌, map, Option, Some, None, is_some, is_none}
+use Rattle.std.specs.Prelude.{unwrap_or, option_map, slice_index_or, slice_set}
 use Rattle.ring_core.specs.declared.event.Stage.{Stage}
 use Rattle.ring_core.specs.declared.event.Stage.TheVariants.{Idle, Holding, Closed}
 use Rattle.ring_core.specs.declared.event.Event.{Event}
-use Rattle.ring_core.specs.declared.event.Event.TheVariants.{Look, Fill, Publish, See, Open, Close, Advance, Leave}
+use Rattle.ring_core.specs.declared.event.Event.TheVariants.{Look, Fill, Publish, See, Open, Close, Advance}
+use Rattle.ring_core.specs.declared.event.Event.TheVariants.{Leave}
 use Rattle.ring_core.specs.Schedule.{Schedule, readers, Progress, Lanes, progress_of, lanes_of, lane_place}
 
 abbrev pub is_idle : Stage → Bool

@@ -1,6 +1,7 @@
 -- What shared words and lanes can show of a schedule: a closed row counts as one that was not taken, and a
 -- row that its reader has passed doesn't count. So a schedule is read before it is compared with a ring.
-use Rattle.std.specs.Prelude.{List, ℕ, ◌*◌, ◌/◌, ◌%◌, nat_lt, if◌then◌else◌, map, Option, Some, None, unwrap_or, slice_set}
+use Rattle.std.specs.Prelude.{List, ℕ, ◌*◌, ◌/◌, ◌%◌, nat_lt, if◌then◌else◌, map, Option, Some, None}
+use Rattle.std.specs.Prelude.{unwrap_or, slice_set}
 use Rattle.std.specs.List.{range_with_len}
 use Rattle.ring_core.specs.declared.event.Stage.{Stage}
 use Rattle.ring_core.specs.declared.event.Stage.TheVariants.{Idle, Holding, Closed}

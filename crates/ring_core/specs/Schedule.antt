@@ -1,7 +1,8 @@
 -- The schedule of a ring as plain lists, and the part of one reader in it: how far it is, and its lanes. A
 -- ring of preallocated places with one sequence for each consumer, where the producer may not pass the
 -- slowest (LMAX Disruptor).
-use Rattle.std.specs.Prelude.{ℕ, ◌+◌, ◌*◌, ◌%◌, Bool, false, List, [], length, replicate, Option, Some, None, slice_index, slice_index_or}
+use Rattle.std.specs.Prelude.{ℕ, ◌+◌, ◌*◌, ◌%◌, Bool, false, List, [], length, replicate, Option, Some, None}
+use Rattle.std.specs.Prelude.{slice_index, slice_index_or}
 use Rattle.ring_core.specs.declared.event.Stage.{Stage}
 use Rattle.ring_core.specs.declared.event.Stage.TheVariants.{Idle}
 

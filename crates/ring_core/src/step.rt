@@ -1,5 +1,6 @@
 // The eight events, each one method: it does the event where it is possible, and else nothing.
-ghost use Rattle.std.specs.Prelude.{◌≡◌, ◌<◌, ◌++◌, ◌∷◌, [], OnErr, OnOk, IfOk, map, false, slice_set, slice_index_or, vec_len};
+ghost use Rattle.std.specs.Prelude.{◌≡◌, ◌<◌, ◌++◌, ◌∷◌, [], OnErr, OnOk, IfOk, map, false, slice_set};
+ghost use Rattle.std.specs.Prelude.{slice_index_or, vec_len};
 ghost use Rattle.ring_core.specs.Sound.{IsSound};
 ghost use Rattle.ring_core.specs.Events.{can_be, step};
 ghost use Rattle.ring_core.specs.Shown.{schedule_in, Steps, TakesMemory};

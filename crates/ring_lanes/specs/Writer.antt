@@ -1,5 +1,6 @@
 -- What contracts see of the writer's end of a ring, what its calls answer, and what it keeps.
-use Rattle.std.specs.Prelude.{◌≡◌, ◌≢◌, ℕ, ◌+◌, ◌<◌, ◌≤◌, ◌⊎◌, not, nat_eq, false, List, length, replicate, count_by, Option, Some, slice_index, slice_index_or}
+use Rattle.std.specs.Prelude.{◌≡◌, ◌≢◌, ℕ, ◌+◌, ◌<◌, ◌≤◌, ◌⊎◌, not, nat_eq, false, List, length, replicate}
+use Rattle.std.specs.Prelude.{count_by, Option, Some, slice_index, slice_index_or}
 use Rattle.atomic_table.specs.Seated.{TableId}
 use Rattle.ring_rule.specs.declared.view.RingNumbers.{RingNumbers}
 use Rattle.ring_rule.specs.declared.view.WriterView.{WriterView}

@@ -2,7 +2,8 @@
 ghost use Rattle.std.specs.Prelude.{◌≡◌, ◌+◌, ◌<◌, ◌≤◌, ℕ, Some, false, true, not, IfOk, IfErr};
 ghost use Rattle.ring_rule.specs.Marks.{ReaderMark};
 ghost use Rattle.ring_lanes.specs.Note.{told_by_reader};
-ghost use Rattle.ring_lanes.specs.Reader.{IsNextRow, IsNotYet, IsOpened, IsReader, ReaderState, SeesOnce, reader_state, source_of};
+ghost use Rattle.ring_lanes.specs.Reader.{IsNextRow, IsNotYet, IsOpened, IsReader, ReaderState, SeesOnce};
+ghost use Rattle.ring_lanes.specs.Reader.{reader_state, source_of};
 ghost use Rattle.ring_lanes.specs.Writer.{cursor_known};
 
 use crate::numbers::Numbers;

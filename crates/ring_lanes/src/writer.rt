@@ -1,9 +1,12 @@
 // The writer's end of a ring.
-ghost use Rattle.std.specs.Prelude.{◌≡◌, ◌≢◌, ◌+◌, ◌<◌, ◌≤◌, ◌⊎◌, ℕ, Some, length, IfOk, IfErr, None, OnOk, IsTrue, IsFalse, true, slice_get, slice_index};
+ghost use Rattle.std.specs.Prelude.{◌≡◌, ◌≢◌, ◌+◌, ◌<◌, ◌≤◌, ◌⊎◌, ℕ, Some, length, IfOk, IfErr, None, OnOk};
+ghost use Rattle.std.specs.Prelude.{IsTrue, IsFalse, true, slice_get, slice_index};
 ghost use Rattle.ring_rule.specs.Views.{left_word};
 ghost use Rattle.ring_rule.specs.Marks.{WriterMark};
 ghost use Rattle.ring_lanes.specs.Note.{told_by_writer};
-ghost use Rattle.ring_lanes.specs.Writer.{AreKnown, HasRoomFor, IsBehind, IsFull, IsKnown, IsLoaded, IsPass, IsWriter, LooksOnce, LooksOnceAt, OthersStand, WriterState, cursor_known, joined_count, writer_state};
+ghost use Rattle.ring_lanes.specs.Writer.{AreKnown, HasRoomFor, IsBehind, IsFull, IsKnown, IsLoaded, IsPass};
+ghost use Rattle.ring_lanes.specs.Writer.{IsWriter, LooksOnce, LooksOnceAt, OthersStand, WriterState};
+ghost use Rattle.ring_lanes.specs.Writer.{cursor_known, joined_count, writer_state};
 
 use crate::lanes::fill_lanes;
 use crate::numbers::Numbers;

@@ -1,6 +1,7 @@
 -- The rule of the ring's table, in two levels: over the writer's view and a function from reader to view,
 -- and over the list of views.
-use Rattle.std.specs.Prelude.{◌≡◌, ℕ, ◌+◌, ◌*◌, ◌%◌, ◌<◌, ◌≤◌, Bool, true, false, ◌&&◌, ◌||◌, nat_eq, List, [], length, Some, slice_index, slice_index_or}
+use Rattle.std.specs.Prelude.{◌≡◌, ℕ, ◌+◌, ◌*◌, ◌%◌, ◌<◌, ◌≤◌, Bool, true, false, ◌&&◌, ◌||◌, nat_eq, List}
+use Rattle.std.specs.Prelude.{[], length, Some, slice_index, slice_index_or}
 use Rattle.std.specs.List.{All}
 use mathlib.Core.Option.{Option as AtHome, none, some}
 use lib.ListN.{get_elem?}

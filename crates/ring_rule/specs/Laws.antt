@@ -1,11 +1,13 @@
 -- Each kind of step keeps the rule and is an event of the schedule.
-use Rattle.std.specs.Prelude.{◌≡◌, ℕ, ◌+◌, ◌*◌, ◌<◌, true, false, List, [], ◌∷◌, ◌++◌, length, replicate, Some, None, slice_index, slice_set}
+use Rattle.std.specs.Prelude.{◌≡◌, ℕ, ◌+◌, ◌*◌, ◌<◌, true, false, List, [], ◌∷◌, ◌++◌, length, replicate}
+use Rattle.std.specs.Prelude.{Some, None, slice_index, slice_set}
 use Rattle.std.specs.List.{All}
 use mathlib.Core.Option.{some}
 use lib.ListN.{get_elem?}
 use Rattle.atomic_table.specs.Table.{keeps, takes, gives, stepped, opening}
 use Rattle.ring_core.specs.declared.event.Event.{Event}
-use Rattle.ring_core.specs.declared.event.Event.TheVariants.{Look, Fill, Publish, See, Open, Close, Advance, Leave}
+use Rattle.ring_core.specs.declared.event.Event.TheVariants.{Look, Fill, Publish, See, Open, Close, Advance}
+use Rattle.ring_core.specs.declared.event.Event.TheVariants.{Leave}
 use Rattle.ring_core.specs.Schedule.{Schedule, start}
 use Rattle.ring_core.specs.Events.{can_be, after}
 use Rattle.ring_core.specs.Sound.{IsSound}
@@ -22,7 +24,9 @@ use Rattle.ring_rule.specs.Views.{left_word, new_writer, writer_of, reader_of}
 use Rattle.ring_rule.specs.Shown.{Slot, RingState, lanes_shown, lanes_known, schedule_shown}
 use Rattle.ring_rule.specs.Empty.{IsEmptyLane}
 use Rattle.ring_rule.specs.Kept.{Fits, Kept}
-use Rattle.ring_rule.specs.Plays.{slot_for, slot_of, looked_at, published, picked, placed, saw_head, took, gave, went_on, gone, MayPublish, MayFill, MayTake, made_more, made_reader, noted, met}
+use Rattle.ring_rule.specs.Plays.{slot_for, slot_of, looked_at, published, picked, placed, saw_head, took}
+use Rattle.ring_rule.specs.Plays.{gave, went_on, gone, MayPublish, MayFill, MayTake, made_more, made_reader}
+use Rattle.ring_rule.specs.Plays.{noted, met}
 
 -- the step from s to t keeps the rule, the event is possible in what was shown, and what is shown is the
 -- plain reading of what it does

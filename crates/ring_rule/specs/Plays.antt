@@ -1,5 +1,6 @@
 -- What each step does to the view of its seat, and what it tells.
-use Rattle.std.specs.Prelude.{◌≡◌, ◌≢◌, ℕ, ◌+◌, ◌<◌, ◌≤◌, ◌⊎◌, Bool, true, false, List, [], ◌∷◌, length, map, Option, Some, None, slice_index, slice_index_or, slice_set}
+use Rattle.std.specs.Prelude.{◌≡◌, ◌≢◌, ℕ, ◌+◌, ◌<◌, ◌≤◌, ◌⊎◌, Bool, true, false, List, [], ◌∷◌, length, map}
+use Rattle.std.specs.Prelude.{Option, Some, None, slice_index, slice_index_or, slice_set}
 use Rattle.atomic_table.specs.Table.{Me, Step, rest}
 use Rattle.ring_core.specs.Schedule.{lane_place}
 use Rattle.ring_rule.specs.declared.lane.Lane.{Lane}

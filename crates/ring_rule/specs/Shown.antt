@@ -1,5 +1,6 @@
 -- The schedule that shared words, lane slots and the views of the seats show.
-use Rattle.std.specs.Prelude.{ℕ, ◌+◌, Bool, true, false, ◌&&◌, nat_lt, nat_eq, if◌then◌else◌, List, Option, Some, None, slice_index, slice_index_or}
+use Rattle.std.specs.Prelude.{ℕ, ◌+◌, Bool, true, false, ◌&&◌, nat_lt, nat_eq, if◌then◌else◌, List, Option}
+use Rattle.std.specs.Prelude.{Some, None, slice_index, slice_index_or}
 use mathlib.Core.Option.{Option as AtHome, none, some}
 use Rattle.atomic_table.specs.Table.{State}
 use Rattle.ring_core.specs.declared.event.Stage.{Stage}

@@ -1,7 +1,10 @@
 // Each kind of step keeps the rule and is an event of the schedule, each law the contract of a function
 // with nothing to do.
-ghost use Rattle.ring_rule.specs.Laws.{RuleShowsSound, FirstIsStart, LookIsEvent, PickShowsTheSame, PlaceIsFill, PublishIsEvent, SeeIsEvent, TakeIsOpen, GiveIsClose, AdvanceIsEvent, LeaveIsEvent};
-ghost use Rattle.ring_rule.specs.Laws.{SplitShowsTheSame, HeadNoteShowsTheSame, CursorNoteShowsTheSame, MeetHeadShowsTheSame, MeetCursorShowsTheSame};
+ghost use Rattle.ring_rule.specs.Laws.{RuleShowsSound, FirstIsStart, LookIsEvent, PickShowsTheSame};
+ghost use Rattle.ring_rule.specs.Laws.{PlaceIsFill, PublishIsEvent, SeeIsEvent, TakeIsOpen, GiveIsClose};
+ghost use Rattle.ring_rule.specs.Laws.{AdvanceIsEvent, LeaveIsEvent};
+ghost use Rattle.ring_rule.specs.Laws.{SplitShowsTheSame, HeadNoteShowsTheSame, CursorNoteShowsTheSame};
+ghost use Rattle.ring_rule.specs.Laws.{MeetHeadShowsTheSame, MeetCursorShowsTheSame};
 
 /// Under the rule what words, slots and views show is sound, and the slots show what the views say.
 pub fn rule_shows_sound()

@@ -1,5 +1,6 @@
 // What each atomic step tells its caller.
-ghost use Rattle.ring_rule.specs.Plays.{LooksAt, PublishesAt, PlacesAt, SeesAt, TakesAt, GivesAt, AdvancesAt, LeavesAt};
+ghost use Rattle.ring_rule.specs.Plays.{LooksAt, PublishesAt, PlacesAt, SeesAt, TakesAt, GivesAt, AdvancesAt};
+ghost use Rattle.ring_rule.specs.Plays.{LeavesAt};
 
 use crate::{Lane, View};
 use atomic_table::Play;

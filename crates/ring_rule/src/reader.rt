@@ -2,7 +2,8 @@
 ghost use Rattle.std.specs.Prelude.{◌≡◌, ◌+◌, ◌<◌, ◌≤◌, true, false, []};
 ghost use Rattle.ring_rule.specs.Marks.{ReaderMark};
 ghost use Rattle.ring_rule.specs.Kept.{row_at};
-ghost use Rattle.ring_rule.specs.Plays.{reader_in, saw_head, took, gave, went_on, gone, cursor_note, reader_met, IsPastHead, MayTake};
+ghost use Rattle.ring_rule.specs.Plays.{reader_in, saw_head, took, gave, went_on, gone, cursor_note};
+ghost use Rattle.ring_rule.specs.Plays.{reader_met, IsPastHead, MayTake};
 ghost use Rattle.ring_rule.specs.Key.{key_ring};
 ghost use Rattle.ring_rule.specs.Seats.{IsReaderSeat};
 

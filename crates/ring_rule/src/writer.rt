@@ -2,7 +2,8 @@
 ghost use Rattle.std.specs.Prelude.{◌≡◌, ◌+◌, ◌<◌, [], slice_index};
 ghost use Rattle.ring_rule.specs.Marks.{WriterMark};
 ghost use Rattle.ring_rule.specs.Kept.{row_at};
-ghost use Rattle.ring_rule.specs.Plays.{writer_in, looked_at, published, filled_lane, head_note, writer_met, IsCursorOf, IsPastNote, MayPublish, MayFill};
+ghost use Rattle.ring_rule.specs.Plays.{writer_in, looked_at, published, filled_lane, head_note, writer_met};
+ghost use Rattle.ring_rule.specs.Plays.{IsCursorOf, IsPastNote, MayPublish, MayFill};
 ghost use Rattle.ring_rule.specs.Key.{key_ring};
 ghost use Rattle.ring_rule.specs.Seats.{IsWriterSeat};
 

@@ -1,5 +1,6 @@
 -- What a run leaves on the racks of its sites, by what each of them told before and tells now.
-use Rattle.std.specs.Prelude.{◌≡◌, ℕ, ◌<◌, false, List, length, map, take, count_by, Some, IfSome, IfOk, OnErr, Result, slice_get}
+use Rattle.std.specs.Prelude.{◌≡◌, ℕ, ◌<◌, false, List, length, map, take, count_by, Some, IfSome, IfOk}
+use Rattle.std.specs.Prelude.{OnErr, Result, slice_get}
 use Rattle.std.specs.List.{range_with_len}
 use Rattle.pr_base.specs.Count.{Rose}
 use Rattle.ring_rule.specs.declared.view.RingNumbers.{RingNumbers}

@@ -1,5 +1,6 @@
 -- How far the sites of a run are. This is the contract of private calls.
-use Rattle.std.specs.Prelude.{◌≡◌, ℕ, ◌-◌, ◌<◌, ◌≤◌, if◌then◌else◌, Bool, true, false, List, length, map, filter, slice_get, Option, Some, None}
+use Rattle.std.specs.Prelude.{◌≡◌, ℕ, ◌-◌, ◌<◌, ◌≤◌, if◌then◌else◌, Bool, true, false, List, length, map}
+use Rattle.std.specs.Prelude.{filter, slice_get, Option, Some, None}
 use Rattle.std.specs.List.{enumerate_from, flat_map}
 use Rattle.pr_base.specs.Row.{row_size}
 use Rattle.ring_rule.specs.declared.view.RingNumbers.{RingNumbers}

@@ -1,6 +1,7 @@
 -- Rows of two bytes that tell their number, which the tests pass through a ring, and what a test knows of a
 -- seat between its calls.
-use Rattle.std.specs.Prelude.{◌≡◌, ◌≢◌, ℕ, ◌+◌, ◌/◌, ◌%◌, ◌<◌, false, nat_eq, if◌then◌else◌, List, [], ◌∷◌, length, map, slice_index, slice_index_or}
+use Rattle.std.specs.Prelude.{◌≡◌, ◌≢◌, ℕ, ◌+◌, ◌/◌, ◌%◌, ◌<◌, false, nat_eq, if◌then◌else◌, List, [], ◌∷◌}
+use Rattle.std.specs.Prelude.{length, map, slice_index, slice_index_or}
 use Rattle.std.specs.List.{range_with_len}
 use Rattle.ring_rule.specs.declared.view.WriterView.{WriterView}
 use Rattle.ring_rule.specs.declared.view.ReaderView.{ReaderView}

@@ -1,5 +1,6 @@
 -- The writer's turn at a ring: what it answers, and what it leaves of the writer's end.
-use Rattle.std.specs.Prelude.{◌≡◌, ℕ, zero, suc, ◌+◌, ◌<◌, ◌≤◌, ◌⊎◌, List, length, drop, All, Some, None, slice_index}
+use Rattle.std.specs.Prelude.{◌≡◌, ℕ, zero, suc, ◌+◌, ◌<◌, ◌≤◌, ◌⊎◌, List, length, drop, All, Some, None}
+use Rattle.std.specs.Prelude.{slice_index}
 use Rattle.ring_rule.specs.declared.view.RingNumbers.{RingNumbers}
 use Rattle.ring_lanes.specs.Writer.{WriterState, HasRoom, cursor_known}
 use Rattle.ring_turns.specs.declared.feeding.FeedEnd.{FeedEnd}

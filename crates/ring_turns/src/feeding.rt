@@ -1,7 +1,8 @@
 // The turn of the writer at a ring: it publishes rows of a feed until it would wait too often.
 ghost use Rattle.std.specs.Prelude.{◌≡◌, ◌+◌, ◌<◌, ◌≤◌, ℕ, Some, drop, length, IfErr, OnErr, OnOk};
 ghost use Rattle.ring_lanes.specs.Writer.{HasRoom, IsFull, LooksOnce};
-ghost use Rattle.ring_turns.specs.Feeding.{Grows, HasRows, IfWaiting, IsFed, IsKnownWithin, OnDone, SomeJoined, WaitsFor, WaitsNoMore};
+ghost use Rattle.ring_turns.specs.Feeding.{Grows, HasRows, IfWaiting, IsFed, IsKnownWithin, OnDone};
+ghost use Rattle.ring_turns.specs.Feeding.{SomeJoined, WaitsFor, WaitsNoMore};
 
 use crate::turn::TurnWith;
 use pr_base::{Deal, RowFeed};

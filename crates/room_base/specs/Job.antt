@@ -1,6 +1,7 @@
 -- Loading a job: its plan, and then the files that the plan names. What is wrong with it, and the refusals
 -- that it may meet, each with its cause.
-use Rattle.std.specs.Prelude.{◌≡◌, ◌≤◌, ◌⊎◌, ℕ, if◌then◌else◌, nat_lt, List, length, Contains, Option, Some, None, IfSome, Result, Ok, Err, option_and_then}
+use Rattle.std.specs.Prelude.{◌≡◌, ◌≤◌, ◌⊎◌, ℕ, if◌then◌else◌, nat_lt, List, length, Contains, Option, Some}
+use Rattle.std.specs.Prelude.{None, IfSome, Result, Ok, Err, option_and_then}
 use Rattle.pr_base.specs.declared.fault.FileFault.{FileFault}
 use Rattle.pr_base.specs.declared.fault.FaultKind.TheVariants.{TooLong}
 use Rattle.pr_base.specs.Count.{Rose}

@@ -4,7 +4,8 @@ use Rattle.std.specs.Fmt.{decimal}
 use Rattle.pr_base.specs.declared.fault.FileFault.{FileFault}
 use Rattle.pr_base.specs.Fault.{kind_text}
 use Rattle.plan_parts.specs.declared.fault.PlanFault.{PlanFault}
-use Rattle.plan_parts.specs.declared.fault.PlanFault.TheVariants.{NotJson, Missing, Kind, Range, Unknown, Repeat, Memory}
+use Rattle.plan_parts.specs.declared.fault.PlanFault.TheVariants.{NotJson, Missing, Kind, Range, Unknown}
+use Rattle.plan_parts.specs.declared.fault.PlanFault.TheVariants.{Repeat, Memory}
 use Rattle.room_base.specs.declared.refusal.Whose.{Whose}
 use Rattle.room_base.specs.declared.refusal.Whose.TheVariants.{New, Old}
 

@@ -1,7 +1,8 @@
 // The lines that tell why a command wasn't done.
 ghost use Rattle.std.specs.Prelude.{◌≡◌, ◌++◌, IfOk, string_bytes};
 ghost use Rattle.pr_ports.specs.Sink.{GrewByPrefix};
-ghost use Rattle.room_base.specs.Line.{file_line as file_line_lem, job_word as job_word_lem, memory_line, plan_line as plan_line_lem, plan_line_at as line_at};
+ghost use Rattle.room_base.specs.Line.{file_line as file_line_lem, job_word as job_word_lem, memory_line};
+ghost use Rattle.room_base.specs.Line.{plan_line as plan_line_lem, plan_line_at as line_at};
 ghost use Rattle.room_base.specs.Refusal.{line_of};
 ghost use Rattle.room_base.specs.Note.{TellsRefusal, TellsStop};
 ghost use Rattle.room_base.specs.Seen.{sink_seen};

@@ -1,5 +1,6 @@
 -- The command `one`: the black plate of one file.
-use Rattle.std.specs.Prelude.{◌≡◌, ◌⊎◌, ℕ, if◌then◌else◌, nat_lt, List, length, Option, Some, None, Result, Ok, Err}
+use Rattle.std.specs.Prelude.{◌≡◌, ◌⊎◌, ℕ, if◌then◌else◌, nat_lt, List, length, Option, Some, None, Result}
+use Rattle.std.specs.Prelude.{Ok, Err}
 use Rattle.pr_base.specs.declared.fault.TagFault.{TagFault}
 use Rattle.pr_base.specs.declared.fault.FileFault.{FileFault}
 use Rattle.pr_base.specs.declared.fault.FaultKind.TheVariants.{TooLong}

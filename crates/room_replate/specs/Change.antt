@@ -1,5 +1,6 @@
 -- The command `replate`: the plates of an edition that changed, and these alone.
-use Rattle.std.specs.Prelude.{◌≡◌, ◌≤◌, ◌<◌, ◌↔◌, ℕ, ◌⊎◌, IsTrue, List, length, drop, Option, Result, string_bytes}
+use Rattle.std.specs.Prelude.{◌≡◌, ◌≤◌, ◌<◌, ◌↔◌, ℕ, ◌⊎◌, IsTrue, List, length, drop, Option, Result}
+use Rattle.std.specs.Prelude.{string_bytes}
 use Rattle.std.specs.Option.{option_or}
 use Rattle.pr_rack.specs.declared.rack.Rack.{Ghosts}
 use Rattle.pr_rack.specs.Told.{all_told}

@@ -3,7 +3,8 @@ ghost use Rattle.std.specs.Prelude.{◌≡◌, ◌≤◌, IfErr, IfOk, OnErr, On
 ghost use Rattle.plan_json.specs.Plan.{IsPlan};
 ghost use Rattle.plan_rows.specs.Groups.{groups_of};
 ghost use Rattle.press_job.specs.Rows.{plate_frames};
-ghost use Rattle.room_replate.specs.Change.{AnswersChange, change_told, ChangeRefused, DeliversPicked, DeliversPickedPart, IsLate, IsLoadedLate, compared};
+ghost use Rattle.room_replate.specs.Change.{AnswersChange, change_told, ChangeRefused, DeliversPicked};
+ghost use Rattle.room_replate.specs.Change.{DeliversPickedPart, IsLate, IsLoadedLate, compared};
 ghost use Rattle.room_base.specs.Seen.{AreIdle, shelf_seen, sink_seen};
 
 use crate::remade::{dropped_lines, remade_text, status_of};

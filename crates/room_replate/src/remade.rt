@@ -1,7 +1,10 @@
 // What `replate` prints: a line for each site, one for each dropped plate, and one of all.
 ghost use Rattle.std.specs.Prelude.{◌≡◌, ◌≤◌, ◌++◌, All, IfOk, length, string_bytes};
 ghost use Rattle.room_replate.specs.Change.{IsPlaced};
-ghost use Rattle.room_replate.specs.Remade.{dropped_line as dropped_line_lem, dropped_lines as dropped_lines_lem, is_done as is_done_lem, made_line as made_line_lem, made_of as made_of_lem, remade_line, status_of_remade, text_with, total_made as total_made_lem};
+ghost use Rattle.room_replate.specs.Remade.{dropped_line as dropped_line_lem};
+ghost use Rattle.room_replate.specs.Remade.{dropped_lines as dropped_lines_lem, is_done as is_done_lem};
+ghost use Rattle.room_replate.specs.Remade.{made_line as made_line_lem, made_of as made_of_lem, remade_line};
+ghost use Rattle.room_replate.specs.Remade.{status_of_remade, text_with, total_made as total_made_lem};
 ghost use Rattle.room_base.specs.Status.{number_of};
 
 use plan_json::{Plan, PlanSite};

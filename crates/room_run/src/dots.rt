@@ -2,7 +2,8 @@
 ghost use Rattle.std.specs.Prelude.{◌≡◌, ◌<◌, ◌++◌, IfOk, OnOk, codes, length, string_bytes};
 ghost use Rattle.plan_json.specs.Plan.{IsPlan};
 ghost use Rattle.plan_rows.specs.Plates.{site_files};
-ghost use Rattle.room_run.specs.Drill.{HaveFiles, dots_line as dots_line_lem, dots_lines, finished_ends, rows_in, told_of};
+ghost use Rattle.room_run.specs.Drill.{HaveFiles, dots_line as dots_line_lem, dots_lines, finished_ends};
+ghost use Rattle.room_run.specs.Drill.{rows_in, told_of};
 
 use crate::report::report;
 use drill_room::{SureRack, count_dots};

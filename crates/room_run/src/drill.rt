@@ -1,5 +1,6 @@
 // The command `drill`: a generated job, run in memory.
-ghost use Rattle.std.specs.Prelude.{◌≡◌, All, IfOk, IsOk, None, Ok, OnOk, [], codes, length, map, nat_eq, string_bytes};
+ghost use Rattle.std.specs.Prelude.{◌≡◌, All, IfOk, IsOk, None, Ok, OnOk, [], codes, length, map, nat_eq};
+ghost use Rattle.std.specs.Prelude.{string_bytes};
 ghost use Rattle.std.specs.Cmp.Lexicographic.{pointwise};
 ghost use Rattle.std.specs.List.{IsDistinct};
 ghost use Rattle.pr_ports.specs.Mem.{files_of};
@@ -7,7 +8,8 @@ ghost use Rattle.pr_rack.specs.Mem.{empty_slots};
 ghost use Rattle.pr_base.specs.Number.{IsWithin};
 ghost use Rattle.plan_json.specs.PlanOf.{plan_of};
 ghost use Rattle.press_job.specs.Verdict.{files_in, verdict_on_files};
-ghost use Rattle.room_run.specs.Drill.{HaveRun, PrintsDrill, drill_job, drill_rules, drill_text as text_for, finished_ends};
+ghost use Rattle.room_run.specs.Drill.{HaveRun, PrintsDrill, drill_job, drill_rules, drill_text as text_for};
+ghost use Rattle.room_run.specs.Drill.{finished_ends};
 ghost use Rattle.room_base.specs.Seen.{ShelfSeen, sink_seen};
 ghost use Rattle.room_base.specs.Task.{Told};
 

@@ -5,7 +5,9 @@ ghost use Rattle.plan_rows.specs.Groups.{groups_of};
 ghost use Rattle.press_job.specs.Rows.{plate_rows};
 ghost use Rattle.ink_keys.specs.Plates.{AreKeyCounts};
 ghost use Rattle.room_run.specs.Edition.{edition_told, Delivered};
-ghost use Rattle.room_run.specs.Keys.{KeysAnswers, further_keys, group_lines, key_line as key_line_lem, keys_lines, lines_with, numbers_at, numbers_for, plate_line as plate_line_lem};
+ghost use Rattle.room_run.specs.Keys.{KeysAnswers, further_keys, group_lines, key_line as key_line_lem};
+ghost use Rattle.room_run.specs.Keys.{keys_lines, lines_with, numbers_at, numbers_for};
+ghost use Rattle.room_run.specs.Keys.{plate_line as plate_line_lem};
 ghost use Rattle.room_run.specs.Report.{report_of};
 ghost use Rattle.room_base.specs.Seen.{AreIdle, shelf_seen, sink_seen};
 

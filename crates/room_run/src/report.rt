@@ -1,7 +1,8 @@
 // The report of a run: a line for each site, and one of all.
 ghost use Rattle.std.specs.Prelude.{◌≡◌, ◌++◌, IfOk, OnOk, length, string_bytes};
 ghost use Rattle.plan_rows.specs.Rows.{row_places};
-ghost use Rattle.room_run.specs.Report.{call_word as call_word_lem, report_of, site_line as site_line_lem, total_line as total_line_lem};
+ghost use Rattle.room_run.specs.Report.{call_word as call_word_lem, report_of, site_line as site_line_lem};
+ghost use Rattle.room_run.specs.Report.{total_line as total_line_lem};
 
 use plan_json::{Plan, PlanSite};
 use pr_rack::RackCall;

@@ -2,7 +2,9 @@
 ghost use Rattle.std.specs.Prelude.{◌≡◌, IfOk, OnOk, length, string_bytes};
 ghost use Rattle.press_job.specs.Rows.{plate_frames};
 ghost use Rattle.plate_verify.specs.Looking.{told as found_of};
-ghost use Rattle.room_verify.specs.Check.{asked_told, Looks, PrintsFound, byte_line as byte_line_lem, check_rules, found_line, found_status, row_line as row_line_lem, same_line as same_line_lem};
+ghost use Rattle.room_verify.specs.Check.{asked_told, Looks, PrintsFound, byte_line as byte_line_lem};
+ghost use Rattle.room_verify.specs.Check.{check_rules, found_line, found_status, row_line as row_line_lem};
+ghost use Rattle.room_verify.specs.Check.{same_line as same_line_lem};
 ghost use Rattle.room_base.specs.Seen.{shelf_seen, sink_seen};
 ghost use Rattle.room_base.specs.Status.{number_of};
 ghost use Rattle.room_base.specs.Task.{Told};

@@ -4,8 +4,8 @@ use Rattle.std.specs.Prelude.{List, [], length, slice_index, slice_index_or}
 use Rattle.std.specs.Borrow.{Bor}
 use Rattle.scr_diffuse.specs.Diffusers.{row_in}
 
--- the value of a row that so far behind stands in a column, 0 where it has none there; so is what is read
--- past the row's end
+-- what a row that so far behind has in a column: its value there, 0 before its first column, and 0 behind its
+-- last one, since past its end 0 is read
 abbrev pub value_behind : List ℕ → ℕ → ℕ → ℕ
 value_behind row x behind = (if nat_lt x behind then 0 else slice_index row (x - behind))
 

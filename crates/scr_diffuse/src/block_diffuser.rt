@@ -1,5 +1,5 @@
 // Error diffusion of one page, eight rows at a time, and room for the next eight.
-ghost use Rattle.std.specs.Prelude.{◌≡◌, ℕ, ◌+◌, ◌-◌, ◌*◌, ◌<◌, ◌≤◌, IfOk, [], length, slice_set};
+ghost use Rattle.std.specs.Prelude.{◌≡◌, ◌+◌, ◌-◌, ◌*◌, ◌<◌, ◌≤◌, IfOk, [], length, slice_set};
 ghost use Rattle.pr_base.specs.Bits.{SetsBits};
 ghost use Rattle.scr_diffuse.specs.Block.{behind_held};
 ghost use Rattle.scr_diffuse.specs.Diffusion.{diffused_bit};

@@ -1,5 +1,6 @@
 // Eight numbers side by side, a lane for each of eight pages, or of eight rows of one page.
-ghost use Rattle.std.specs.Prelude.{◌≡◌, ◌≢◌, ℕ, ◌+◌, ◌*◌, ◌<◌, ◌≤◌, ◌+ℤ◌, ◌*ℤ◌, ◌≤ℤ◌, neg_ℤ, length, pos, FitsSigned, slice_index};
+ghost use Rattle.std.specs.Prelude.{◌≡◌, ◌≢◌, ℕ, ◌+◌, ◌*◌, ◌<◌, ◌≤◌, ◌+ℤ◌, ◌*ℤ◌, ◌≤ℤ◌, neg_ℤ, length, pos};
+ghost use Rattle.std.specs.Prelude.{FitsSigned, slice_index};
 ghost use Rattle.std.specs.Int.{w16};
 ghost use Rattle.scr_diffuse.specs.Diffusers.{bit_of, lane_at};
 ghost use Rattle.scr_diffuse.specs.Diffusion.{error_of, prints};

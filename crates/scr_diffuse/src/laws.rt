@@ -1,5 +1,7 @@
 // What holds of the diffusion as it is defined.
-ghost use Rattle.std.specs.Prelude.{◌≡◌, ℕ, ◌+◌, ◌<◌, ◌≤◌, List, [], length, pos, take, slice_index_or};
+ghost use Rattle.std.specs.Prelude.{◌≡◌, ℕ, ◌+◌, ◌<◌, ◌≤◌, List, [], ◌∷◌, ◌++◌, length, pos, take};
+ghost use Rattle.std.specs.Prelude.{slice_index_or};
+ghost use Rattle.scr_diffuse.specs.Diffusers.{page_in};
 ghost use Rattle.scr_diffuse.specs.Diffusion.{ArePixels, IsError, diffused_bit, error_at, error_of, v_at};
 
 /// The errors of a page: inside it each is what its number v leaves, outside it is 0, and none passes 127.
@@ -15,4 +17,15 @@ pub fn error_law()
 pub fn row_law()
     ensures { (rows other : List (List ℕ)) (x y : ℕ) → take (y + 1) rows ≡ take (y + 1) other →
         diffused_bit rows x y ≡ diffused_bit other x y }
+{}
+
+/// Chains at once are the chains one by one. A step of `Diffusers` adds to each page its row of the eight,
+/// and row `k` of a block of `BlockDiffuser` has the pixels that it has where the rows behind it don't stand
+/// yet.
+pub fn lanes_law()
+    ensures lanes { (rows : List (List (List ℕ))) (step : List (List ℕ)) (k : ℕ) →
+        page_in (rows ++ step ∷ []) k ≡ (page_in rows k ++ slice_index_or step k [] ∷ []) }
+    ensures block { (rows held : List (List ℕ)) (x k : ℕ) → k < length held →
+        diffused_bit (rows ++ held) x (length rows + k)
+        ≡ diffused_bit (rows ++ take (k + 1) held) x (length rows + k) }
 {}

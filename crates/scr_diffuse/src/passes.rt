@@ -1,8 +1,10 @@
 // The passes over a row's numbers: what comes from the row above, what comes from the left, and the errors.
-ghost use Rattle.std.specs.Prelude.{◌≡◌, ℕ, ◌+◌, ◌-◌, ◌<◌, ◌≤◌, ◌≤ℤ◌, ◌+ℤ◌, ◌-ℤ◌, ◌*ℤ◌, length, pos, FitsSigned};
+ghost use Rattle.std.specs.Prelude.{◌≡◌, ℕ, ◌+◌, ◌-◌, ◌<◌, ◌≤◌, ◌≤ℤ◌, ◌+ℤ◌, ◌-ℤ◌, ◌*ℤ◌, length, pos};
+ghost use Rattle.std.specs.Prelude.{FitsSigned};
 ghost use Rattle.std.specs.Int.{w16};
 ghost use Rattle.scr_diffuse.specs.Diffusion.{error_of, IsError};
-ghost use Rattle.scr_diffuse.specs.Passes.{AreWords, IsNumber, IsSum, number_at, sum_above, floor_16, v_from, weighted};
+ghost use Rattle.scr_diffuse.specs.Passes.{AreWords, IsNumber, IsSum, number_at, sum_above, floor_16, v_from};
+ghost use Rattle.scr_diffuse.specs.Passes.{weighted};
 
 /// What a dot takes from the number of its pixel.
 pub(crate) const DOT: i16 = 255;

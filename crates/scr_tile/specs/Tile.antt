@@ -1,5 +1,6 @@
 -- Threshold tiles: the index matrix of ordered dither (Bayer 1973), its thresholds, and the bit of a pixel.
-use Rattle.std.specs.Prelude.{◌≡◌, ℕ, ◌+◌, ◌*◌, ◌/◌, ◌%◌, ◌^◌, ◌<◌, ◌≤◌, ◌⊎◌, zero, suc, Bool, true, false, nat_lt, nat_le, List, [], slice_index, slice_index_or, length, count_by}
+use Rattle.std.specs.Prelude.{◌≡◌, ℕ, ◌+◌, ◌*◌, ◌/◌, ◌%◌, ◌^◌, ◌<◌, ◌≤◌, ◌⊎◌, zero, suc, Bool, true, false}
+use Rattle.std.specs.Prelude.{nat_lt, nat_le, List, [], slice_index, slice_index_or, length, count_by}
 use Rattle.std.specs.List.{range_with_len}
 
 -- how often 1 is doubled to give n, for a power of two n

@@ -1,5 +1,6 @@
 // From a row of ink values to a row of packed pixels.
-ghost use Rattle.std.specs.Prelude.{◌≡◌, ℕ, ◌+◌, ◌*◌, ◌-◌, ◌/◌, ◌%◌, ◌^◌, ◌<◌, ◌≤◌, ◌==◌, length, slice_index};
+ghost use Rattle.std.specs.Prelude.{◌≡◌, ℕ, ◌+◌, ◌*◌, ◌-◌, ◌/◌, ◌%◌, ◌^◌, ◌<◌, ◌≤◌, ◌==◌, length};
+ghost use Rattle.std.specs.Prelude.{slice_index};
 ghost use Rattle.scr_tile.specs.AnyTile.{threshold_of};
 ghost use Rattle.pr_base.specs.Bits.{bit_at, SetsBits};
 ghost use Rattle.scr_tile.specs.Tile.{IsSide, Repeats, tile_bit};

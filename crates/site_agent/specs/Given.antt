@@ -1,6 +1,7 @@
 -- What the rows below row n are to a site: which of them it keeps, how many each plate has, and which
 -- plates are open.
-use Rattle.std.specs.Prelude.{◌≡◌, ◌≢◌, ◌<◌, ℕ, ◌==◌, ◌&&◌, Bool, nat_lt, List, [], length, map, filter, find, count_by, Option, slice_index_or}
+use Rattle.std.specs.Prelude.{◌≡◌, ◌≢◌, ◌<◌, ℕ, ◌==◌, ◌&&◌, Bool, nat_lt, List, [], length, map, filter, find}
+use Rattle.std.specs.Prelude.{count_by, Option, slice_index_or}
 use Rattle.std.specs.List.{list_any, range_with_len}
 use Rattle.std.specs.Option.{option_map_or}
 use Rattle.site_agent.specs.declared.plate.SitePlate.{SitePlate}

@@ -1,5 +1,6 @@
 -- What a plan gives a site to make, and what its rack shows where the site is done or has left.
-use Rattle.std.specs.Prelude.{◌≡◌, ℕ, ◌+◌, ◌<◌, Bool, true, false, nat_lt, ◌==◌, ◌&&◌, ◌||◌, List, length, map, filter, take, replicate, Contains}
+use Rattle.std.specs.Prelude.{◌≡◌, ℕ, ◌+◌, ◌<◌, Bool, true, false, nat_lt, ◌==◌, ◌&&◌, ◌||◌, List, length}
+use Rattle.std.specs.Prelude.{map, filter, take, replicate, Contains}
 use Rattle.std.specs.List.{range_with_len}
 use Rattle.ring_lanes.specs.declared.source.Source.{Source}
 use Rattle.tif_plate.specs.Plate.{strip_count}

@@ -1,5 +1,6 @@
 -- What contracts see of a site, and what it keeps.
-use Rattle.std.specs.Prelude.{◌≡◌, ℕ, ◌*◌, ◌<◌, ◌≤◌, Bool, List, All, length, map, replicate, sum, slice_index_or}
+use Rattle.std.specs.Prelude.{◌≡◌, ℕ, ◌*◌, ◌<◌, ◌≤◌, Bool, List, All, length, map, replicate, sum}
+use Rattle.std.specs.Prelude.{slice_index_or}
 use Rattle.tif_plate.specs.Plate.{strip_count}
 use Rattle.site_agent.specs.declared.plate.SitePlate.{SitePlate}
 use Rattle.site_agent.specs.declared.slot.Slot.{Slot}

@@ -1,5 +1,6 @@
 -- What the calls for one row make of what a rack tells of its plates.
-use Rattle.std.specs.Prelude.{◌≡◌, ℕ, ◌+◌, ◌/◌, ◌==◌, true, false, if◌then◌else◌, List, [], Some, None, length, replicate, slice_index, slice_index_or, slice_set}
+use Rattle.std.specs.Prelude.{◌≡◌, ℕ, ◌+◌, ◌/◌, ◌==◌, true, false, if◌then◌else◌, List, [], Some, None}
+use Rattle.std.specs.Prelude.{length, replicate, slice_index, slice_index_or, slice_set}
 use Rattle.ring_lanes.specs.Held.{HeldRow}
 use Rattle.ring_lanes.specs.declared.source.Source.{Source}
 use Rattle.tif_packbits.specs.Frame.{packed_in}

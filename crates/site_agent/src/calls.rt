@@ -1,5 +1,6 @@
 // The calls by which a row of a plate comes to the rack.
-ghost use Rattle.std.specs.Prelude.{◌≡◌, ◌+◌, ◌-◌, ◌<◌, ◌≤◌, None, Some, IfErr, IfSome, OnOk, length, nat_lt, slice_get, slice_index_or, sum, true};
+ghost use Rattle.std.specs.Prelude.{◌≡◌, ◌+◌, ◌-◌, ◌<◌, ◌≤◌, None, Some, IfErr, IfSome, OnOk, length, nat_lt};
+ghost use Rattle.std.specs.Prelude.{slice_get, slice_index_or, sum, true};
 ghost use Rattle.std.specs.Option.{option_map};
 ghost use Rattle.tif_packbits.specs.Frame.{IsFrame, packed_in};
 ghost use Rattle.tif_plate.specs.Plate.{strip_count};

@@ -1,5 +1,6 @@
 // The plates of a site, as a plan gives them.
-ghost use Rattle.std.specs.Prelude.{◌≡◌, ◌+◌, ◌++◌, ◌∷◌, ◌<◌, ◌≤◌, ◌^◌, [], if◌then◌else◌, IfOk, OnOk, length, map, replicate};
+ghost use Rattle.std.specs.Prelude.{◌≡◌, ◌+◌, ◌++◌, ◌∷◌, ◌<◌, ◌≤◌, ◌^◌, [], if◌then◌else◌, IfOk, OnOk};
+ghost use Rattle.std.specs.Prelude.{length, map, replicate};
 ghost use Rattle.plan_json.specs.Plan.{IsPlan};
 ghost use Rattle.plan_rows.specs.Inks.{has_site, ink_place};
 ghost use Rattle.plan_rows.specs.Plates.{group_plates, site_plates};

@@ -1,5 +1,6 @@
 // A print site and its turn for a row.
-ghost use Rattle.std.specs.Prelude.{◌≡◌, ◌≢◌, ◌==◌, ◌<◌, ◌≤◌, ℕ, [], Some, false, true, IfErr, IfNone, IfOk, IfSome, OnErr, OnOk, length, slice_index_or};
+ghost use Rattle.std.specs.Prelude.{◌≡◌, ◌≢◌, ◌==◌, ◌<◌, ◌≤◌, ℕ, [], Some, false, true, IfErr, IfNone, IfOk};
+ghost use Rattle.std.specs.Prelude.{IfSome, OnErr, OnOk, length, slice_index_or};
 ghost use Rattle.pr_base.specs.Row.{row_size};
 ghost use Rattle.tif_packbits.specs.Frame.{IsFrame, framed_row};
 ghost use Rattle.pr_base.specs.Count.{Rose};
@@ -7,7 +8,8 @@ ghost use Rattle.pr_rack.specs.Told.{told};
 ghost use Rattle.site_agent.specs.declared.plate.SitePlate.{SitePlate as SitePlateData};
 ghost use Rattle.site_agent.specs.Job.{IsJob};
 ghost use Rattle.site_agent.specs.Given.{IsNoRow, finished_count, is_kept};
-ghost use Rattle.site_agent.specs.Kept.{GoesOn, IfLeft, IsCauseAt, KeepsRow, OnDone, OnEnd, OnMemory, TakenOnce, kept_of};
+ghost use Rattle.site_agent.specs.Kept.{GoesOn, IfLeft, IsCauseAt, KeepsRow, OnDone, OnEnd, OnMemory};
+ghost use Rattle.site_agent.specs.Kept.{TakenOnce, kept_of};
 ghost use Rattle.plan_json.specs.Plan.{IsPlan};
 ghost use Rattle.plan_rows.specs.Rows.{rows_of};
 ghost use Rattle.site_agent.specs.Picked.{job_over, site_over};

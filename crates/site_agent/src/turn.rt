@@ -6,7 +6,8 @@ ghost use Rattle.pr_rack.specs.Told.{told};
 ghost use Rattle.site_agent.specs.Draw.{Draws, IsReady, stage};
 ghost use Rattle.site_agent.specs.Kept.{IsCauseAt};
 ghost use Rattle.site_agent.specs.Stands.{AreAsLong, AreBegun};
-ghost use Rattle.site_agent.specs.Turn.{AreRowsFor, GoesOnBy, GoesOnTo, IfLeft, IfWaiting, LeavesBy, OnEnd, OnFinished, OnGoing, OnMemory, StopsBy, WaitsNoMore};
+ghost use Rattle.site_agent.specs.Turn.{AreRowsFor, GoesOnBy, GoesOnTo, IfLeft, IfWaiting, LeavesBy, OnEnd};
+ghost use Rattle.site_agent.specs.Turn.{OnFinished, OnGoing, OnMemory, StopsBy, WaitsNoMore};
 
 use crate::{Kept, Site, TurnEnd};
 use pr_base::Deal;

@@ -1,13 +1,16 @@
 -- The first directory of a TIFF file, and the values of its fields (TIFF 6.0, Section 2).
 -- A file is its bytes.
-use Rattle.std.specs.Prelude.{ℕ, ◌+◌, ◌*◌, ◌==◌, nat_lt, nat_le, nat_eq, Bool, true, false, if◌then◌else◌, List, length, take, drop, map, slice_index, slice_range, Option, Some, None, Result, Ok, Err, option_map, option_and_then, ok_or, codes}
+use Rattle.std.specs.Prelude.{ℕ, ◌+◌, ◌*◌, ◌==◌, nat_lt, nat_le, nat_eq, Bool, true, false, if◌then◌else◌}
+use Rattle.std.specs.Prelude.{List, length, take, drop, map, slice_index, slice_range, Option, Some, None}
+use Rattle.std.specs.Prelude.{Result, Ok, Err, option_map, option_and_then, ok_or, codes}
 use Rattle.std.specs.List.{starts_with, find}
 use Rattle.std.specs.Result.{result_err}
 use Rattle.std.specs.Simd.{first_chunks}
 use Rattle.byteorder.specs.Endian.{little_number, little_bytes, big_number, big_bytes}
 use Rattle.pr_base.specs.declared.fault.TagFault.{TagFault}
 use Rattle.pr_base.specs.declared.fault.FaultKind.{FaultKind}
-use Rattle.pr_base.specs.declared.fault.FaultKind.TheVariants.{Header, Directory, Missing, FieldType, FieldCount, FieldPlace}
+use Rattle.pr_base.specs.declared.fault.FaultKind.TheVariants.{Header, Directory, Missing, FieldType}
+use Rattle.pr_base.specs.declared.fault.FaultKind.TheVariants.{FieldCount, FieldPlace}
 use Rattle.tif_dir.specs.declared.order.Order.{Order}
 use Rattle.tif_dir.specs.declared.order.Order.TheVariants.{Little, Big}
 use Rattle.tif_dir.specs.declared.value_type.ValueType.{ValueType}

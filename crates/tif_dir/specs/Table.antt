@@ -1,7 +1,10 @@
 -- The table of the fields that plateroom reads: which there are, their defaults and their least counts. The
 -- names and most defaults are those of TIFF 6.0, Section 8; the least counts are plateroom's own.
 use Rattle.std.specs.Prelude.{ℕ, Bool, Option, Some, None, ◌==◌, ◌%◌, ◌||◌, if◌then◌else◌}
-use Rattle.tif_dir.specs.Names.{image_width, image_length, bits_per_sample, compression, photometric_interpretation, fill_order, strip_offsets, orientation, samples_per_pixel, rows_per_strip, strip_byte_counts, planar_configuration, ink_set, dot_range}
+use Rattle.tif_dir.specs.Names.{image_width, image_length, bits_per_sample, compression}
+use Rattle.tif_dir.specs.Names.{photometric_interpretation, fill_order, strip_offsets, orientation}
+use Rattle.tif_dir.specs.Names.{samples_per_pixel, rows_per_strip, strip_byte_counts, planar_configuration}
+use Rattle.tif_dir.specs.Names.{ink_set, dot_range}
 
 -- the tag stands in the table
 abbrev pub is_listed : ℕ → Bool

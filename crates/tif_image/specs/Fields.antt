@@ -1,12 +1,14 @@
 -- The tests of an image's fields, each over the whole file: what the field says, or its fault (TIFF 6.0,
 -- Sections 8, 15 and 16; which values are taken is plateroom's own).
-use Rattle.std.specs.Prelude.{ℕ, ◌==◌, ◌%◌, ◌&&◌, ◌||◌, nat_lt, nat_le, Bool, true, false, if◌then◌else◌, List, [], ◌∷◌, length, take, replicate, Option, Some, None, Result, Ok, Err}
+use Rattle.std.specs.Prelude.{ℕ, ◌==◌, ◌%◌, ◌&&◌, ◌||◌, nat_lt, nat_le, Bool, true, false, if◌then◌else◌}
+use Rattle.std.specs.Prelude.{List, [], ◌∷◌, length, take, replicate, Option, Some, None, Result, Ok, Err}
 use Rattle.std.specs.List.{enumerate_from, find, list_all, list_any}
 use Rattle.pr_base.specs.declared.fault.TagFault.{TagFault}
 use Rattle.pr_base.specs.declared.fault.FaultKind.{FaultKind}
 use Rattle.pr_base.specs.declared.fault.FaultKind.TheVariants.{Bits, DotRange, FieldCount, Tiled}
 use Rattle.tif_dir.specs.Directory.{fault_at, field_of, is_present, number_at}
-use Rattle.tif_dir.specs.Names.{bits_per_sample, dot_range, tile_byte_counts, tile_length, tile_offsets, tile_width}
+use Rattle.tif_dir.specs.Names.{bits_per_sample, dot_range, tile_byte_counts, tile_length, tile_offsets}
+use Rattle.tif_dir.specs.Names.{tile_width}
 
 -- ---- tests in order
 

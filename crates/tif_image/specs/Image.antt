@@ -1,9 +1,12 @@
 -- The images that plateroom takes. A file is its bytes.
-use Rattle.std.specs.Prelude.{ℕ, ◌+◌, ◌*◌, ◌==◌, ◌≡◌, Bool, not, if◌then◌else◌, List, [], ◌∷◌, Result, Ok, slice_index}
+use Rattle.std.specs.Prelude.{ℕ, ◌+◌, ◌*◌, ◌==◌, ◌≡◌, Bool, not, if◌then◌else◌, List, [], ◌∷◌, Result, Ok}
+use Rattle.std.specs.Prelude.{slice_index}
 use Rattle.std.specs.Result.{result_unwrap_or}
 use Rattle.pr_base.specs.Bits.{bit_at}
 use Rattle.pr_base.specs.declared.fault.TagFault.{TagFault}
-use Rattle.pr_base.specs.declared.fault.FaultKind.TheVariants.{Width, Length, Samples, Compression, Photometric, FillOrder, Orientation, Planar, InkSet, RowsPerStrip}
+use Rattle.pr_base.specs.declared.fault.FaultKind.TheVariants.{Width, Length, Samples, Compression}
+use Rattle.pr_base.specs.declared.fault.FaultKind.TheVariants.{Photometric, FillOrder, Orientation, Planar}
+use Rattle.pr_base.specs.declared.fault.FaultKind.TheVariants.{InkSet, RowsPerStrip}
 use Rattle.tif_dir.specs.Directory.{dir_fault, number_at}
 use Rattle.tif_dir.specs.Names as tag
 use Rattle.tif_strips.specs.declared.shape.Shape.{Shape}
@@ -11,7 +14,8 @@ use Rattle.tif_strips.specs.Strips.{IsStriped, image_row, strip_fault}
 use Rattle.tif_image.specs.declared.usage.BilevelUse.{BilevelUse}
 use Rattle.tif_image.specs.declared.usage.Usage.{Usage}
 use Rattle.tif_image.specs.declared.usage.Usage.TheVariants.{Contone, Bilevel}
-use Rattle.tif_image.specs.Fields.{◌>>=◌, ◌>>◌, bits_each, full_dot_range, no_fault, no_tiles, number_among, number_within}
+use Rattle.tif_image.specs.Fields.{◌>>=◌, ◌>>◌, bits_each, full_dot_range, no_fault, no_tiles, number_among}
+use Rattle.tif_image.specs.Fields.{number_within}
 use Rattle.tif_image.specs.Usage.{depth_of, photometrics_of, samples_of}
 
 -- ---- the tests

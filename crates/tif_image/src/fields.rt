@@ -4,7 +4,8 @@ ghost use Rattle.std.specs.List.{enumerate_from, find, list_all, list_any};
 ghost use Rattle.std.specs.Option.{option_copied};
 ghost use Rattle.tif_dir.specs.Directory.{field_of, is_present};
 ghost use Rattle.tif_dir.specs.Table.{is_listed};
-ghost use Rattle.tif_image.specs.Fields.{bits_each, full_dot, full_dot_range, is_full_dot, no_tiles, number_among, number_within};
+ghost use Rattle.tif_image.specs.Fields.{bits_each, full_dot, full_dot_range, is_full_dot, no_tiles};
+ghost use Rattle.tif_image.specs.Fields.{number_among, number_within};
 
 use pr_base::{FaultKind, TagFault};
 use tif_dir::tag::{

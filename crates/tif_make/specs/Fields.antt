@@ -1,6 +1,7 @@
 -- A TIFF file of fields (TIFF 6.0, Section 2): the header, one directory right behind it, and the values that
 -- do not fit in an entry. The order of these parts is this crate's own choice among those that TIFF allows.
-use Rattle.std.specs.Prelude.{ℕ, ◌+◌, ◌-◌, ◌*◌, ◌≤◌, nat_le, if◌then◌else◌, List, [], ◌∷◌, ◌++◌, length, replicate}
+use Rattle.std.specs.Prelude.{ℕ, ◌+◌, ◌-◌, ◌*◌, ◌≤◌, nat_le, if◌then◌else◌, List, [], ◌∷◌, ◌++◌, length}
+use Rattle.std.specs.Prelude.{replicate}
 use Rattle.std.specs.List.{All, flat_map}
 use Rattle.tif_dir.specs.declared.order.Order.{Order}
 use Rattle.tif_dir.specs.Directory.{bytes_of, mark_of}

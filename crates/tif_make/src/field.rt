@@ -1,8 +1,10 @@
 // A field of a directory.
-ghost use Rattle.std.specs.Prelude.{◌≡◌, ◌≤◌, ◌+◌, ◌*◌, ◌++◌, ◌<◌, OnOk, length, map, replicate, nat_le, if◌then◌else◌};
+ghost use Rattle.std.specs.Prelude.{◌≡◌, ◌≤◌, ◌+◌, ◌*◌, ◌++◌, ◌<◌, OnOk, length, map, replicate, nat_le};
+ghost use Rattle.std.specs.Prelude.{if◌then◌else◌};
 ghost use Rattle.std.specs.List.{flat_map};
 ghost use Rattle.tif_dir.specs.Directory.{bytes_of};
-ghost use Rattle.tif_make.specs.Fields.{data_of, entry, outside, outside_size, total, value_bytes, value_or_place};
+ghost use Rattle.tif_make.specs.Fields.{data_of, entry, outside, outside_size, total, value_bytes};
+ghost use Rattle.tif_make.specs.Fields.{value_or_place};
 
 use pr_base::NoMemory;
 use tif_dir::Order;

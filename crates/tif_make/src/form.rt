@@ -1,6 +1,8 @@
 // The form of an image in its file.
 ghost use Rattle.std.specs.Prelude.{◌≡◌, ◌≤◌};
-ghost use Rattle.tif_make.specs.Form.{IsForm, bits_of, compression_of, field_count, photometric_of, plane_row_length, planes, row_length, samples_of, strip_count, strips_each};
+ghost use Rattle.tif_make.specs.Form.{IsForm, bits_of, compression_of, field_count, photometric_of};
+ghost use Rattle.tif_make.specs.Form.{plane_row_length, planes, row_length, samples_of, strip_count};
+ghost use Rattle.tif_make.specs.Form.{strips_each};
 
 use pr_base::row_bytes;
 use tif_dir::Order;

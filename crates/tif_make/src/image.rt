@@ -2,7 +2,8 @@
 ghost use Rattle.std.specs.Prelude.{◌≡◌, ◌≤◌, ◌++◌, IfOk, OnOk, length, map};
 ghost use Rattle.tif_make.specs.Fields.{data_of, front};
 ghost use Rattle.tif_make.specs.Form.{IsForm, strip_count};
-ghost use Rattle.tif_make.specs.Image.{first_strip as first_strip_of, all_fields as fields_of, image_fields, image_file, table_outside as table_outside_of};
+ghost use Rattle.tif_make.specs.Image.{first_strip as first_strip_of, all_fields as fields_of, image_fields};
+ghost use Rattle.tif_make.specs.Image.{image_file, table_outside as table_outside_of};
 ghost use Rattle.tif_make.specs.Made.{HasRows};
 
 use crate::directory::put_front;

@@ -4,7 +4,8 @@ ghost use Rattle.std.specs.List.{flat_map, range_with_len};
 ghost use Rattle.tif_packbits.specs.Packbits.{packing};
 ghost use Rattle.tif_make.specs.Form.{IsForm, planes, row_length, strips_each};
 ghost use Rattle.tif_make.specs.Made.{Grows, HasRows, HasStrips};
-ghost use Rattle.tif_make.specs.Strips.{ink_row as ink_row_of, joined, plane_strips, row_at, stored_at, stored_row, strip, strips};
+ghost use Rattle.tif_make.specs.Strips.{ink_row as ink_row_of, joined, plane_strips, row_at, stored_at};
+ghost use Rattle.tif_make.specs.Strips.{stored_row, strip, strips};
 
 use crate::form::{Compression, ImageForm, Kind, Planar};
 use crate::room::room;

@@ -1,5 +1,6 @@
 -- What a row begins with, what pairs of equal bytes tell of it, and what was written of its packing.
-use Rattle.std.specs.Prelude.{◌≡◌, ℕ, ◌+◌, ◌^◌, ◌<◌, ◌≤◌, if◌then◌else◌, ◌==◌, List, ◌++◌, length, drop, slice_index}
+use Rattle.std.specs.Prelude.{◌≡◌, ℕ, ◌+◌, ◌^◌, ◌<◌, ◌≤◌, if◌then◌else◌, ◌==◌, List, ◌++◌, length, drop}
+use Rattle.std.specs.Prelude.{slice_index}
 use Rattle.std.specs.Int.{bit_at}
 use Rattle.tif_packbits.specs.Packbits.{run_len, literal_len, packing}
 use Rattle.tif_packbits.specs.declared.row_front.Front.{Front}

@@ -1,5 +1,6 @@
 // The expansion of packed bytes, given piece by piece.
-ghost use Rattle.std.specs.Prelude.{◌≡◌, ◌<◌, ◌≤◌, ◌↔◌, List, ℕ, [], ◌∷◌, ◌++◌, length, take, drop, MatchOption, IfNone, IsOk, IsErr, OnOk, OnErr};
+ghost use Rattle.std.specs.Prelude.{◌≡◌, ◌<◌, ◌≤◌, ◌↔◌, List, ℕ, [], ◌∷◌, ◌++◌, length, take, drop};
+ghost use Rattle.std.specs.Prelude.{MatchOption, IfNone, IsOk, IsErr, OnOk, OnErr};
 ghost use Rattle.tif_packbits.specs.Packbits.{expansion};
 
 use crate::packet::{Packet, first_packet};

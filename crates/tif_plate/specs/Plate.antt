@@ -1,11 +1,14 @@
 -- The plate file: a TIFF 6.0 file of one bit a pixel whose rows are packed by PackBits, each by itself
 -- (Section 9), least significant byte first. The directory stands behind the rows. The order of the parts,
 -- the entries and the rows of a strip are plateroom's own choice among those that TIFF allows.
-use Rattle.std.specs.Prelude.{ℕ, ◌+◌, ◌-◌, ◌*◌, ◌/◌, ◌%◌, ◌≤◌, List, [], ◌∷◌, ◌++◌, length, map, max, take, drop, replicate, codes, nat_lt, if◌then◌else◌}
+use Rattle.std.specs.Prelude.{ℕ, ◌+◌, ◌-◌, ◌*◌, ◌/◌, ◌%◌, ◌≤◌, List, [], ◌∷◌, ◌++◌, length, map, max, take}
+use Rattle.std.specs.Prelude.{drop, replicate, codes, nat_lt, if◌then◌else◌}
 use Rattle.std.specs.List.{flat_map, range_with_len}
 use Rattle.byteorder.specs.Endian.{little_bytes}
 use Rattle.pr_base.specs.Row.{row_size}
-use Rattle.tif_dir.specs.Names.{image_width, image_length, bits_per_sample, compression, photometric_interpretation, strip_offsets, samples_per_pixel, rows_per_strip, strip_byte_counts, x_resolution, y_resolution, resolution_unit}
+use Rattle.tif_dir.specs.Names.{image_width, image_length, bits_per_sample, compression}
+use Rattle.tif_dir.specs.Names.{photometric_interpretation, strip_offsets, samples_per_pixel, rows_per_strip}
+use Rattle.tif_dir.specs.Names.{strip_byte_counts, x_resolution, y_resolution, resolution_unit}
 use Rattle.tif_packbits.specs.Packbits.{packing}
 use Rattle.tif_plate.specs.declared.entry.Entry.{Entry}
 

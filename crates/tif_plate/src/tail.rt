@@ -8,7 +8,8 @@ ghost use Rattle.std.specs.List.{flat_map, range_with_len};
 ghost use Rattle.byteorder.specs.Endian.{little_bytes};
 ghost use Rattle.tif_plate.specs.Plate.{IsSide, IsDpi, strip_count, strip_table, bytes_behind};
 ghost use Rattle.tif_plate.specs.Put.{Puts};
-ghost use Rattle.tif_plate.specs.Tail.{IsPlaceable, begin_of, begins, strips_end as strips_end_of, tail_bytes, tail_place, tail_room};
+ghost use Rattle.tif_plate.specs.Tail.{IsPlaceable, begin_of, begins, strips_end as strips_end_of};
+ghost use Rattle.tif_plate.specs.Tail.{tail_bytes, tail_place, tail_room};
 
 use crate::entry::put_directory;
 use crate::put::{put_all, put_u32, put_whole, put_zeros};

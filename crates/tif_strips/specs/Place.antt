@@ -1,5 +1,6 @@
 -- Where a cursor stands in an image.
-use Rattle.std.specs.Prelude.{◌≡◌, ℕ, ◌+◌, ◌*◌, ◌<◌, ◌≤◌, min, List, [], length, take, drop, slice_index_or, None}
+use Rattle.std.specs.Prelude.{◌≡◌, ℕ, ◌+◌, ◌*◌, ◌<◌, ◌≤◌, min, List, [], length, take, drop, slice_index_or}
+use Rattle.std.specs.Prelude.{None}
 use Rattle.tif_strips.specs.declared.place.Place.{Place}
 use Rattle.tif_strips.specs.Strips.{Image, IsStriped, plane_row, plane_row_length, planes, strip_fault}
 use Rattle.tif_strips.specs.Planes.{aheads_of}

@@ -1,5 +1,6 @@
 -- One strip in the file.
-use Rattle.std.specs.Prelude.{ℕ, ◌+◌, nat_lt, if◌then◌else◌, Bool, List, length, take, drop, Option, Some, None}
+use Rattle.std.specs.Prelude.{ℕ, ◌+◌, nat_lt, if◌then◌else◌, Bool, List, length, take, drop, Option, Some}
+use Rattle.std.specs.Prelude.{None}
 use Rattle.pr_base.specs.declared.fault.TagFault.{TagFault}
 use Rattle.pr_base.specs.declared.fault.FaultKind.TheVariants.{StripPlace, Short}
 use Rattle.tif_dir.specs.Directory.{fault_at}

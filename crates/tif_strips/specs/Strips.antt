@@ -1,6 +1,8 @@
 -- Strips and rows (TIFF 6.0, Section 3 "Physical Dimensions" and "RowsPerStrip", Section 8
 -- "PlanarConfiguration", Section 16 "CMYK Images").
-use Rattle.std.specs.Prelude.{ℕ, ◌+◌, ◌-◌, ◌*◌, ◌/◌, ◌%◌, ◌≤◌, min, ◌==◌, ◌&&◌, ◌||◌, nat_lt, if◌then◌else◌, IsTrue, Bool, List, [], ◌∷◌, length, take, drop, map, slice_index, Option, Some, None}
+use Rattle.std.specs.Prelude.{ℕ, ◌+◌, ◌-◌, ◌*◌, ◌/◌, ◌%◌, ◌≤◌, min, ◌==◌, ◌&&◌, ◌||◌, nat_lt, if◌then◌else◌}
+use Rattle.std.specs.Prelude.{IsTrue, Bool, List, [], ◌∷◌, length, take, drop, map, slice_index, Option, Some}
+use Rattle.std.specs.Prelude.{None}
 use Rattle.std.specs.Result.{result_err, result_unwrap_or}
 use Rattle.std.specs.List.{flat_map, range_with_len}
 use Rattle.pr_base.specs.First.{first_some}

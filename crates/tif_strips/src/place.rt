@@ -1,6 +1,7 @@
 // Where a cursor stands in an image.
 ghost use Rattle.std.specs.Prelude.{◌≡◌, ◌+◌, ◌<◌, ◌≤◌, length, None};
-ghost use Rattle.tif_strips.specs.Strips.{IsStriped, image_part, image_row, part_length, row_length, strip_fault};
+ghost use Rattle.tif_strips.specs.Strips.{IsStriped, image_part, image_row, part_length, row_length};
+ghost use Rattle.tif_strips.specs.Strips.{strip_fault};
 
 use crate::planes::Planes;
 use crate::samples::Samples;

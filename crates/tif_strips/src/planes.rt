@@ -1,5 +1,6 @@
 // The planes of the strip that a cursor stands in, and pixels laid from four of them.
-ghost use Rattle.std.specs.Prelude.{◌≡◌, ◌≢◌, ℕ, ◌+◌, ◌*◌, ◌<◌, ◌≤◌, [], ◌∷◌, length, map, take, drop, slice_index_or};
+ghost use Rattle.std.specs.Prelude.{◌≡◌, ◌≢◌, ℕ, ◌+◌, ◌*◌, ◌<◌, ◌≤◌, [], ◌∷◌, length, map, take, drop};
+ghost use Rattle.std.specs.Prelude.{slice_index_or};
 ghost use Rattle.tif_strips.specs.Planes.{HasPixels};
 
 use crate::samples::Samples;

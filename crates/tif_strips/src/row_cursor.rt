@@ -27,7 +27,8 @@ impl<'a> Model for RowCursor<'a> {
 
 impl<'a> RowCursor<'a> {
     ghost use Rattle.std.specs.Prelude.{◌≡◌, ◌+◌, ◌-◌, ◌<◌, ◌≤◌, length, None};
-    ghost use Rattle.tif_strips.specs.Strips.{IsStriped, image_part, image_row, part_length, row_length, strip_fault};
+    ghost use Rattle.tif_strips.specs.Strips.{IsStriped, image_part, image_row, part_length, row_length};
+    ghost use Rattle.tif_strips.specs.Strips.{strip_fault};
 
     /// Stands before the first row.
     pub(crate) fn new(table: StripTable<'a>) -> RowCursor<'a>

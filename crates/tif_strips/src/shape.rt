@@ -1,6 +1,8 @@
 // The shape of an image: what the fields of its directory say of its rows and strips.
 ghost use Rattle.std.specs.Prelude.{◌≡◌, ◌≤◌, ◌<◌};
-ghost use Rattle.tif_strips.specs.Strips.{IsStriped, needed_length, plane_part_length, plane_place, plane_row_length, planes, strip_count, strip_rows, strips_per_plane};
+ghost use Rattle.tif_strips.specs.Strips.{IsStriped, needed_length, plane_part_length, plane_place};
+ghost use Rattle.tif_strips.specs.Strips.{plane_row_length, planes, strip_count, strip_rows};
+ghost use Rattle.tif_strips.specs.Strips.{strips_per_plane};
 
 use pr_base::row_bytes;
 

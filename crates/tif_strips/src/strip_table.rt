@@ -34,7 +34,8 @@ impl<'a> Model for StripTable<'a> {
 }
 
 impl<'a> StripTable<'a> {
-    ghost use Rattle.tif_strips.specs.Strips.{IsStriped, samples_in, stored_bytes, strip_count, strip_fault, strips_per_plane};
+    ghost use Rattle.tif_strips.specs.Strips.{IsStriped, samples_in, stored_bytes, strip_count, strip_fault};
+    ghost use Rattle.tif_strips.specs.Strips.{strips_per_plane};
     ghost use Rattle.tif_strips.specs.Table.{field_fault};
     ghost use Rattle.tif_strips.specs.Strip.{strip_of};
     ghost use Rattle.tif_strips.specs.Planes.{ahead_of, aheads_of, strip_samples};
