@@ -3,9 +3,9 @@
 
 usage: check/allocations.py PROGRAM [COMMAND ..]
 
-The commands are those of plateroom (all), over the small edition of examples/. Each ends with 6 and the line on memory,
-with a front of the plates and of the text, or with 0 and all of both, where a run does without what it asked for, as
-without a thread. Texts and plates are those of the definitions. It wants a C compiler, as `cc`, and takes some minutes,
+The commands are those of plateroom (all): run, keys, verify and replate over the small edition of examples/, one of an
+image, and drill 7. Each ends with 6 and the line on memory, with a front of the text and of each plate, or with 0 and
+all of them, where it does without what it asked for, as without a thread. Texts and plates are those of the definitions. It wants a C compiler, as `cc`, and takes some minutes,
 so the gate doesn't run it. It prints how many allocations each command has and closes with `N passed, M failed`.
 """
 import json
@@ -26,7 +26,7 @@ from picks import Change
 from plates import Edition, black_plate, compared
 
 EXAMPLES = os.path.join(os.path.dirname(os.path.abspath(__file__)), "..", "examples")
-KEYS, NUMBER, AT_ONCE, MOST_SECONDS = 4, 7, 8, 60
+KEYS, NUMBER, BEYOND, MOST_SECONDS = 4, 7, 8, 60
 
 # In the place of the machine's `malloc`: that with the number ALLOCATION fails, and makes the file FAILED.
 SHIM = r"""
@@ -113,10 +113,10 @@ def fault(command, out, status, text, note):
 
 
 def tries(tried, shim, folder, name, command):
-    """Lets each allocation of a command fail, until so many in turn aren't made."""
+    """Lets each allocation of a command fail, until it has none with the next few numbers."""
     out, mark = os.path.join(folder, "OUT"), os.path.join(folder, "FAILED")
     number, last, ends = 0, 0, {}
-    while number < last + AT_ONCE:
+    while number < last + BEYOND:
         number += 1
         shutil.rmtree(out, ignore_errors=True)
         how = dict(os.environ, LD_PRELOAD=shim, ALLOCATION=str(number), FAILED=mark)
