@@ -16,7 +16,7 @@ def leave(status, line):
 
 def program_path(given):
     """Where the program is: as given, else by PLATEROOM, else on the path, else where it is built."""
-    built = os.path.join(HERE, "..", "crates", "plateroom", "out", "plateroom")
+    built = os.path.join(HERE, "..", "..", "crates", "plateroom", "out", "plateroom")
     for path in (given, os.environ.get("PLATEROOM"), shutil.which("plateroom"), built):
         if path:
             break

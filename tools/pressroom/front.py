@@ -1,0 +1,40 @@
+"""The command line `pressroom COMMAND ..`, which hands its arguments to the module of that command."""
+import importlib
+import sys
+
+from pressroom import __version__
+
+# Each command with what its line of help says. A command NAME is the function `main` of the module NAME, which reads
+# `sys.argv` and returns the exit status. A module is imported only where its command runs, so that a command needs its
+# own libraries alone.
+COMMANDS = {
+    "check": "report every fault of a plan and its files, and what would be lost without a fault",
+    "parts": "cut an edition into parts for several machines",
+    "proof": "draw a picture of what a site's plates print",
+    "tile": "write a clustered threshold tile for a plan",
+}
+
+USAGE = """usage: pressroom COMMAND [ARGUMENT ..]
+       pressroom COMMAND --help
+       pressroom --version
+"""
+
+
+def main():
+    """Runs the command that the arguments name and returns its exit status: 2 where they name none."""
+    words = sys.argv[1:]
+    if words in (["--version"], ["-V"]):
+        print(f"pressroom {__version__}")
+        return 0
+    if not words or words[0] in ("--help", "-h", "help"):
+        print(USAGE)
+        width = max(map(len, COMMANDS))
+        for name, summary in COMMANDS.items():
+            print(f"  {name:{width}}  {summary}")
+        return 0 if words else 2
+    name = words[0]
+    if name not in COMMANDS:
+        print(f"pressroom: no command {name!r}; `pressroom --help` lists them", file=sys.stderr)
+        return 2
+    sys.argv = [f"pressroom {name}", *words[1:]]
+    return importlib.import_module(f"pressroom.{name}").main()
