@@ -20,6 +20,7 @@ TOP = os.path.abspath(os.path.join(os.path.dirname(os.path.abspath(__file__)), "
 
 # The documents that follow the rules so far. A document is added when it has been rewritten.
 HELD = (
+    "README.md",
 )
 
 # The file whose every line, code and tables too, keeps to the width, and the most lines that it has.
