@@ -23,6 +23,7 @@ HELD = (
     "README.md",
     "docs/MANUAL.md",
     "docs/FORMATS.md",
+    "docs/plateroom.1.scd",
 )
 
 # The file whose every line, code and tables too, keeps to the width, and the most lines that it has.
@@ -74,7 +75,7 @@ LINK = re.compile(r"!?\[([^\]]*)\]\(([^)\s]*)\)")
 SPAN = re.compile(r"`[^`]*`")
 PATH = re.compile(r"(?<![\w.$/-])(?:\.\./)*((?:%s)/[\w./*-]*[\w*]|(?:%s)(?=[\s,.;:)`]))"
                   % ("|".join(map(re.escape, FOLDERS)), r"\.ci/run"))
-INSTALLED = re.compile(r"/usr/share/(doc/plateroom|plateroom)(?:/([\w./-]*\w))?")
+INSTALLED = re.compile(r"/usr/share/(doc/plateroom|plateroom)(?:/([\w./-]*[a-zA-Z0-9]))?")
 
 
 def lines_of(path, top=TOP):
