@@ -24,6 +24,7 @@ HELD = (
     "docs/MANUAL.md",
     "docs/FORMATS.md",
     "docs/plateroom.1.scd",
+    "docs/PROVED.md",
 )
 
 # The file whose every line, code and tables too, keeps to the width, and the most lines that it has.
@@ -56,7 +57,7 @@ WORDS = (
     (r"\b(goes|go|gone) by\b", "uses, follows", "It goes by the definitions."),
     (r"\b(wants|is wanted|are wanted)\b", "needs", "It wants both plans."),
     (r"\bnot believed\b", "is shown by", "is shown, not believed, by two calls"),
-    (r"(?<!what )(?<!thing )\belse\b", "otherwise", "saves the copies that are else thrown away"),
+    (r"(?<!what )(?<!whatever )(?<!thing )\belse\b", "otherwise", "saves the copies that are else thrown away"),
     (r"\bby chance\b", "random, at random", "editions by chance"),
     (r"\bone's own\b", "custom", "A screen of one's own"),
 )
@@ -75,6 +76,8 @@ LINK = re.compile(r"!?\[([^\]]*)\]\(([^)\s]*)\)")
 SPAN = re.compile(r"`[^`]*`")
 PATH = re.compile(r"(?<![\w.$/-])(?:\.\./)*((?:%s)/[\w./*-]*[\w*]|(?:%s)(?=[\s,.;:)`]))"
                   % ("|".join(map(re.escape, FOLDERS)), r"\.ci/run"))
+# A path with these names no one file: a pattern, or a name for any.
+HOLDER = re.compile(r"\*|/NAME\b")
 INSTALLED = re.compile(r"/usr/share/(doc/plateroom|plateroom)(?:/([\w./-]*[a-zA-Z0-9]))?")
 
 
@@ -156,7 +159,7 @@ def command_faults(path, lines, package):
         for named in PATH.finditer(line):
             name = named[1]
             known = any(re.fullmatch(made, name) for made in MADE)
-            if not known and "*" not in name and not os.path.exists(os.path.join(TOP, name)):
+            if not known and not HOLDER.search(name) and not os.path.exists(os.path.join(TOP, name)):
                 yield number, f"there is no file {name}"
         for place, name in INSTALLED.findall(line):
             folder = package if place.startswith("doc") else TOP
