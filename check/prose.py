@@ -25,6 +25,7 @@ HELD = (
     "docs/FORMATS.md",
     "docs/plateroom.1.scd",
     "docs/PROVED.md",
+    "docs/ARCHITECTURE.md",
 )
 
 # The file whose every line, code and tables too, keeps to the width, and the most lines that it has.
