@@ -27,6 +27,9 @@ HELD = (
     "docs/PROVED.md",
     "docs/ARCHITECTURE.md",
     "docs/DECISIONS.md",
+    "docs/EDITORS.md",
+    "docs/SPEED.md",
+    "CONTRIBUTING.md",
 )
 
 # The file whose every line, code and tables too, keeps to the width, and the most lines that it has.
