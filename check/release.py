@@ -1,0 +1,284 @@
+#!/usr/bin/env python3
+"""Tries the Debian package of the last commit: that it is the same twice, and that all in it says what it is.
+
+    check/release.py PROGRAM
+
+The package is made twice, in two clones whose path, times of files, umask, locale, time zone and threads differ. Then
+one is unpacked, not installed (check/package.py installs it). It needs git, dpkg-deb, scdoc, strip, objcopy and Debian's
+python3, and says so where one is missing; man, lintian and bash-completion are left out where they are. The last line is
+`N passed, M failed`, and the status is 1 where one failed.
+"""
+import gzip
+import hashlib
+import json
+import os
+import re
+import shutil
+import subprocess
+import sys
+import tempfile
+
+sys.dont_write_bytecode = True
+from trial import Trial
+
+TOP = os.path.abspath(os.path.join(os.path.dirname(os.path.abspath(__file__)), ".."))
+NEEDED = "git", "dpkg-deb", "scdoc", "strip", "objcopy", "/usr/bin/python3"
+COMPLETION = "/usr/share/bash-completion/bash_completion"
+DOCS = "usr/share/doc/plateroom"
+PAGES = "man1/plateroom.1", "man1/pressroom.1", "man5/plateroom-plan.5"
+KINDS = "missing", "kind", "range", "unknown", "repeat"
+
+# Where the second build differs from the first.
+SECOND = {"TZ": "Pacific/Kiritimati", "LC_ALL": "C.UTF-8", "LANG": "nb_NO.UTF-8", "DPKG_DEB_THREADS_MAX": "1",
+          "SOURCE_DATE_EPOCH": "1", "COLUMNS": "40", "GZIP": "", "HOME": "/nonexistent"}
+
+
+def text_of(path):
+    with open(path, encoding="utf-8") as file:
+        return file.read()
+
+
+def said(*words, **how):
+    """What a program prints on standard output; it has to succeed."""
+    return subprocess.run(words, check=True, capture_output=True, text=True, **how).stdout
+
+
+def built(folder, program, old=False, **how):
+    """A clone of the last commit in this folder, and the package that it makes."""
+    said("git", "clone", "-q", "--no-hardlinks", TOP, folder)
+    if old:
+        said("find", folder, "-path", "*/.git", "-prune", "-o", "-exec", "touch", "-h", "-d", "2001-02-03", "{}", "+")
+    return os.path.join(folder, said(os.path.join(folder, "package", "deb.sh"), program, cwd="/", **how).strip())
+
+
+def sum_of(path, kind="sha256"):
+    with open(path, "rb") as file:
+        return hashlib.file_digest(file, kind).hexdigest()
+
+
+def files_below(root):
+    return sorted(os.path.join(folder, name) for folder, _, names in os.walk(root) for name in names)
+
+
+def loaded(path, folder):
+    """What a program loads into memory, without symbols and notes for people."""
+    image = os.path.join(folder, "image")
+    said("objcopy", "-O", "binary", path, image)
+    return sum_of(image)
+
+
+# Versions.
+
+
+def try_versions(trial, root, control, version):
+    shown = said("/usr/bin/python3", "-B", os.path.join(root, "usr/bin/pressroom"), "--version", cwd="/")
+    trial.holds("pressroom --version", shown != f"pressroom {version}\n" and f"it says {shown!r}")
+    named = re.search(r"^Version: (.*)$", control, re.MULTILINE)[1]
+    trial.holds("the package's version", named != f"{version}-1" and f"it is {named}")
+    for page in PAGES:
+        with gzip.open(os.path.join(root, "usr/share/man", f"{page}.gz"), "rt") as file:
+            trial.holds(f"the version of {page}", f"plateroom {version}" not in file.read() and f"it isn't {version}")
+    with gzip.open(os.path.join(root, DOCS, "changelog.Debian.gz"), "rt") as file:
+        first = file.readline()
+    trial.holds("changelog.Debian", not first.startswith(f"plateroom ({version}-1) ") and f"it begins {first!r}")
+
+
+# What the package holds.
+
+
+def try_files(trial, root, program, folder):
+    trial.holds("the program is the one that was built",
+                loaded(os.path.join(root, "usr/bin/plateroom"), folder) != loaded(program, folder) and "it differs")
+    for path in files_below(root):
+        place = os.path.relpath(path, root)
+        if os.path.islink(path):
+            there = os.path.realpath(path)
+            trial.holds(place, not (there.startswith(root) and os.path.exists(there)) and "the link leads nowhere")
+            continue
+        with open(path, "rb") as file:
+            front = file.read(64).partition(b"\n")[0]
+        if front.startswith(b"#!") and place.endswith((".py", ".sh")):
+            fault = not os.access(path, os.X_OK) and "it can't be run" or b"env" in front and f"it begins {front!r}"
+            trial.holds(place, fault)
+    for name in "postinst", "prerm", "postrm":
+        asked = subprocess.run(["sh", "-n", os.path.join(TOP, "package", name)], capture_output=True, text=True)
+        trial.holds(name, asked.returncode and asked.stderr)
+    tools = {os.path.relpath(path, TOP) for path in said("git", "-C", TOP, "ls-files", "-z", "tools").split("\0") if path}
+    for path in tools:
+        name = os.path.basename(path)
+        missing = name != ".gitignore" and not os.path.exists(os.path.join(root, "usr/share/plateroom", path))
+        trial.holds(path, missing and "the package hasn't it")
+
+
+# Man pages.
+
+
+def numbers_of(rule):
+    """The bounds that a rule of the schema states."""
+    items = rule.get("items", [])
+    rules = [rule, *(items if isinstance(items, list) else [])]
+    names = "minimum", "maximum"
+    found = [one[name] for one in rules for name in names if name in one]
+    if isinstance(items, dict):
+        found += [rule[name] for name in ("minItems", "maxItems") if name in rule and rule.get("maxItems", 0) < 4096]
+    return found
+
+
+def try_plan_page(trial):
+    """Each key of the schema is in the page, with its bounds, and as required where it is."""
+    page = text_of(os.path.join(TOP, "docs", "plateroom-plan.5.scd"))
+    schema = json.loads(text_of(os.path.join(TOP, "docs", "plan.schema.json")))
+    entries = re.findall(r"^(\*.+\*)\n((?:\t.*\n)+)", page, re.MULTILINE)
+    for name, part in [("plan", schema), *schema["definitions"].items()]:
+        for key, rule in part.get("properties", {}).items():
+            texts = [text for keys, text in entries if f"*{key}*" in keys.split(", ") or name == "replace" and
+                     keys == "*replace*"]
+            fits = [text for text in texts if all(re.search(rf"(?<![\d.]){number}\b", text) for number in numbers_of(rule))
+                    and (("Required" in text or "required" in text) == (key in part["required"]))]
+            trial.holds(f"plateroom-plan(5) on {key} of {name}", not fits and "it isn't there, or has other bounds")
+    for kind in KINDS:
+        trial.holds(f"plateroom-plan(5) on {kind}", f"\n*{kind}*\n" not in page and "it isn't there")
+
+
+def try_pages(trial, root, commands):
+    with gzip.open(os.path.join(root, "usr/share/man/man1/pressroom.1.gz"), "rt") as file:
+        page = file.read()
+    for name in commands:
+        trial.holds(f"pressroom(1) on {name}", f'.SS "{name}"' not in page and f".SS {name}" not in page
+                    and "it has no section")
+    for name in PAGES if shutil.which("man") else ():
+        path = os.path.join(root, "usr/share/man", f"{name}.gz")
+        seen = subprocess.run(["man", "--warnings", "-E", "UTF-8", "-l", "-Tutf8", "-Z", path], capture_output=True,
+                              text=True, env=os.environ | {"LC_ALL": "C.UTF-8", "MANROFFSEQ": ""})
+        trial.holds(f"{name} in man", (seen.stderr or seen.returncode) and seen.stderr)
+
+
+# Completion.
+
+
+def completed(root, *words):
+    """What Tab offers after these words, of which the last may be begun."""
+    script = f"""
+        . {COMPLETION}
+        . "{root}/usr/share/bash-completion/completions/$1"
+        COMP_WORDS=("{root}/usr/bin/$1" "${{@:2}}") COMP_CWORD=$(($# - 1)) COMP_LINE="$*" COMP_POINT=${{#COMP_LINE}}
+        _"$1" "{root}/usr/bin/$1" && printf '%s\\n' "${{COMPREPLY[@]}}"
+    """
+    return said("bash", "-c", script, "bash", *words, cwd=os.path.join(TOP, "examples")).split()
+
+
+def try_completion(trial, root, commands):
+    def offers(wanted, *words):
+        got = completed(root, *words)
+        trial.holds(f"Tab after {' '.join(words)!r}", set(got) != set(wanted) and f"{got} and not {sorted(wanted)}")
+
+    page = text_of(os.path.join(TOP, "docs", "plateroom.1.scd"))
+    offers(set(re.findall(r"^\*plateroom (\w+)\*", page, re.MULTILINE)), "plateroom", "")
+    offers(["edition.json", "newspaper", "queue", "tiles"], "plateroom", "run", "")
+    offers(["newspaper", "queue", "tiles"], "plateroom", "replate", "a.json", "art", "b.json", "")
+    offers(["ramp.tif"], "plateroom", "one", "ra")
+    offers([], "plateroom", "keys", "a.json", "art", "out", "")
+    offers(commands, "pressroom", "")
+    offers(["section", "site", "both"], "pressroom", "parts", "--by", "")
+    for name in commands:
+        told = said(os.path.join(root, "usr/bin/pressroom"), name, "--help", env=os.environ | {"COLUMNS": "400"})
+        offers(set(re.findall(r"(?<![\w-])--[a-z][a-z-]*", told.partition("\n\n")[0])) | {"--help"},
+               "pressroom", name, "--")
+
+
+# The SPDX file.
+
+
+def try_sbom(trial, root, version):
+    path = os.path.join(root, DOCS, "plateroom.spdx.json")
+    told = json.loads(text_of(path))
+    heads = {"spdxVersion": "SPDX-2.3", "dataLicense": "CC0-1.0", "SPDXID": "SPDXRef-DOCUMENT",
+             "name": f"plateroom-{version}"}
+    for key, value in heads.items():
+        trial.holds(f"SPDX: {key}", told[key] != value and f"it is {told[key]}")
+    elements = [*told["packages"], *told["files"]]
+    names = [told["SPDXID"], *(element["SPDXID"] for element in elements)]
+    trial.holds("SPDX: identifiers", (len(set(names)) != len(names)) and "one comes twice")
+    wrong = [name for name in names if not re.fullmatch(r"SPDXRef-[A-Za-z0-9.-]+", name)]
+    trial.holds("SPDX: form of identifiers", wrong)
+    lost = [item for item in told["relationships"]
+            if item["spdxElementId"] not in names or item["relatedSpdxElement"] not in names]
+    trial.holds("SPDX: ends of relations", lost)
+    try_sums(trial, root, path, told)
+    linked = {item["relatedSpdxElement"] for item in told["relationships"] if item["relationshipType"] == "STATIC_LINK"}
+    kit = {element["name"] for element in told["packages"] if element["SPDXID"] in linked}
+    used = {word for line in text_of(os.path.join(TOP, "crates.txt")).splitlines() if not line.startswith("#")
+            for word in re.split(r"[:\s]+", line) if "=" not in word}
+    tests = {word for word in used if word.endswith("_tests") or word == "replate_law"}
+    trial.holds("SPDX: crates", {word for word in used - tests if word} - kit)
+
+
+def try_sums(trial, root, path, told):
+    """Each file of the package is listed, by its sums; and the package's code is that of all of them."""
+    listed = {os.path.normpath(os.path.join(root, item["fileName"])): item["checksums"] for item in told["files"]}
+    there = {name for name in files_below(root) if not os.path.islink(name) and name != path}
+    trial.holds("SPDX: files", there ^ set(listed))
+    for name in sorted(there & set(listed)):
+        wrong = [sum_["algorithm"] for sum_ in listed[name]
+                 if sum_of(name, sum_["algorithm"].lower()) != sum_["checksumValue"]]
+        trial.holds(f"SPDX: sums of {os.path.relpath(name, root)}", wrong)
+    code = hashlib.sha1("".join(sorted(sum_of(name, "sha1") for name in there)).encode()).hexdigest()
+    own = told["packages"][0]["packageVerificationCode"]["packageVerificationCodeValue"]
+    trial.holds("SPDX: verification code", own != code and f"{own} and not {code}")
+
+
+def try_twice(trial, folder):
+    """The package, made in two ways, and whether both are the same."""
+    one = built(os.path.join(folder, "one"), trial.program)
+    try:
+        other = built(os.path.join(folder, "a second place", "of another length"), trial.program, old=True,
+                      env=os.environ | SECOND, umask=0o077)
+        trial.holds("two builds", sum_of(one) != sum_of(other) and f"{sum_of(one)} and {sum_of(other)}")
+    except subprocess.CalledProcessError as error:
+        trial.holds("the second build", error.stderr)
+    print(f"{os.path.basename(one)}: sha256 {sum_of(one)}", flush=True)
+    return one
+
+
+def main():
+    if len(sys.argv) != 2:
+        print("usage: check/release.py PROGRAM", file=sys.stderr)
+        return 2
+    missing = [name for name in NEEDED if shutil.which(name) is None]
+    if missing or not os.path.exists(os.path.join(TOP, ".git")):
+        print(f"no package was made: {', '.join(missing) or 'this is no clone of git'}")
+        return 0
+    trial = Trial(sys.argv[1])
+    version = re.search(r"^## \[(\d[^\]]*)\]", text_of(os.path.join(TOP, "CHANGELOG.md")), re.MULTILINE)[1]
+    with tempfile.TemporaryDirectory(prefix="plateroom-release-") as folder:
+        deb = try_twice(trial, folder)
+        trial.part("two builds")
+        root = os.path.join(folder, "root")
+        said("dpkg-deb", "-x", deb, root)
+        front = said("/usr/bin/python3", "-B", os.path.join(root, "usr/bin/pressroom"), "--help")
+        commands = re.findall(r"^  ([a-z]+)  ", front, re.MULTILINE)
+        try_versions(trial, root, said("dpkg-deb", "-f", deb), version)
+        try_files(trial, root, trial.program, folder)
+        trial.part("versions and files")
+        try_plan_page(trial)
+        try_pages(trial, root, commands)
+        trial.part("man pages")
+        if os.path.exists(COMPLETION):
+            try_completion(trial, root, commands)
+            trial.part("completion")
+        try_sbom(trial, root, version)
+        trial.part("SPDX")
+        if shutil.which("lintian"):
+            seen = subprocess.run(["lintian", "--allow-root", "--fail-on", "error,warning", deb], capture_output=True,
+                                  text=True)
+            trial.holds("lintian", seen.returncode and seen.stdout)
+    left_out = [name for name, there in (("man", shutil.which("man")), ("lintian", shutil.which("lintian")),
+                                         ("bash-completion", os.path.exists(COMPLETION))) if not there]
+    if left_out:
+        print(f"left out, since not installed: {', '.join(left_out)}")
+    print(f"{trial.passed} passed, {trial.failed} failed")
+    return 1 if trial.failed else 0
+
+
+if __name__ == "__main__":
+    sys.exit(main())
