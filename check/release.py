@@ -119,8 +119,9 @@ def numbers_of(rule):
     rules = [rule, *(items if isinstance(items, list) else [])]
     names = "minimum", "maximum"
     found = [one[name] for one in rules for name in names if name in one]
-    if isinstance(items, dict):
-        found += [rule[name] for name in ("minItems", "maxItems") if name in rule and rule.get("maxItems", 0) < 4096]
+    # Of lists of numbers the page shows each item.
+    if "$ref" in items:
+        found += [rule[name] for name in ("minItems", "maxItems") if name in rule]
     return found
 
 
@@ -161,8 +162,10 @@ def completed(root, *words):
     script = f"""
         . {COMPLETION}
         . "{root}/usr/share/bash-completion/completions/$1"
-        COMP_WORDS=("{root}/usr/bin/$1" "${{@:2}}") COMP_CWORD=$(($# - 1)) COMP_LINE="$*" COMP_POINT=${{#COMP_LINE}}
-        _"$1" "{root}/usr/bin/$1" && printf '%s\\n' "${{COMPREPLY[@]}}"
+        COMP_WORDS=("{root}/usr/bin/$1" "${{@:2}}") COMP_CWORD=$(($# - 1))
+        COMP_LINE="${{COMP_WORDS[*]}}" COMP_POINT=${{#COMP_LINE}}
+        _"$1" "{root}/usr/bin/$1"
+        printf '%s\\n' "${{COMPREPLY[@]}}"
     """
     return said("bash", "-c", script, "bash", *words, cwd=os.path.join(TOP, "examples")).split()
 
