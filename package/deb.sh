@@ -65,12 +65,17 @@ documents() {
 
 # Units are installed, and neither enabled nor started.
 integration() {
-  local file
+  local file name
   for file in package/completion/*; do
     install -D -m 644 "$file" "$root/usr/share/bash-completion/completions/$(basename "$file")"
   done
-  git ls-files -z -- 'package/*.service' 'package/*.timer' 'package/*.path' | while read -r -d '' file; do
-    install -D -m 644 "$file" "$root/lib/systemd/system/$(basename "$file")"
+  git ls-files -z -- package/systemd | while read -r -d '' file; do
+    name=$(basename "$file")
+    case $name in
+      *.sysusers) install -D -m 644 "$file" "$root/usr/lib/sysusers.d/${name%.*}.conf" ;;
+      *.tmpfiles) install -D -m 644 "$file" "$root/usr/lib/tmpfiles.d/${name%.*}.conf" ;;
+      *) install -D -m 644 "$file" "$root/lib/systemd/system/$name" ;;
+    esac
   done
 }
 
