@@ -3,12 +3,12 @@
 
     check/package.py PROGRAM [--base FOLDER]
 
-Two packages are made with the program: of the last commit, and of the last commit that has an older version. They go
-into a root folder by debootstrap with the recommended packages and systemd, which doesn't run there. Each command is
-tried as a user of no privilege. At the end the root has to be as it was, file by file, but for caches, logs and what
-apt and dpkg know. FOLDER keeps the clean root for the next time; without it the root is made anew, some 200 MB from
-Debian's mirror. It needs root, debootstrap and what package/deb.sh needs. The last line is `N passed, M failed`, and the
-status is 1 where one failed.
+Two packages are made with the program: of the last commit, and of the last commit that has an older
+version. They go into a root folder by debootstrap with the recommended packages and systemd, which doesn't
+run there. The newspaper is made by a user of no privilege. At the end the root has to be as it was, file by
+file, but for caches, logs and what apt and dpkg know. FOLDER keeps the clean root for the next time;
+without it the root is made anew, some 200 MB from Debian's mirror. It needs root, debootstrap and what
+package/deb.sh needs. The last line is `N passed, M failed`, and the status is 1 where one failed.
 """
 import argparse
 import hashlib
@@ -21,7 +21,7 @@ import sys
 import tempfile
 
 sys.dont_write_bytecode = True
-from release import TOP, said, text_of
+from release import COMPLETION, TOP, said, text_of, version_in
 from trial import Trial
 
 SUITE = "bookworm"
@@ -29,9 +29,11 @@ NEEDED = "chroot", "debootstrap", "dpkg-deb", "git", "mount", "scdoc", "strip"
 # What is tried with the package and isn't one of its own needs.
 BESIDE = "bash-completion", "man-db", "systemd"
 # What isn't compared: mounts, caches, logs, and what apt, dpkg and systemd keep for themselves.
-PASSED_OVER = ("/dev", "/proc", "/run", "/sys", "/tmp", "/var/cache", "/var/log", "/var/lib/apt", "/var/lib/dpkg",
-               "/var/lib/systemd", "/etc/passwd-", "/etc/group-", "/etc/shadow-", "/etc/gshadow-", "/etc/ld.so.cache")
+PASSED_OVER = ("/dev", "/proc", "/run", "/sys", "/tmp", "/var/cache", "/var/log", "/var/lib/apt",
+               "/var/lib/dpkg", "/var/lib/systemd", "/etc/passwd-", "/etc/group-", "/etc/shadow-",
+               "/etc/gshadow-", "/etc/ld.so.cache")
 USER = 4321
+ENVIRONMENT = "PATH=/usr/sbin:/usr/bin:/sbin:/bin", "LC_ALL=C.UTF-8", "DEBIAN_FRONTEND=noninteractive"
 EXAMPLES = "/usr/share/doc/plateroom/examples"
 UNITS = "/lib/systemd/system"
 
@@ -39,8 +41,7 @@ UNITS = "/lib/systemd/system"
 def last_of_another_version(version):
     """The last commit whose changelog begins with another version."""
     for commit in said("git", "-C", TOP, "log", "--format=%H", "--", "CHANGELOG.md").split():
-        found = re.search(r"^## \[(\d[^\]]*)\]", said("git", "-C", TOP, "show", f"{commit}:CHANGELOG.md"), re.MULTILINE)
-        if found and found[1] != version:
+        if version_in(said("git", "-C", TOP, "show", f"{commit}:CHANGELOG.md")) != version:
             return commit
     return None
 
@@ -66,11 +67,11 @@ class Root:
 
     def run(self, *words, user=None, folder="/"):
         """Runs a program there, and returns its status and all that it wrote."""
-        asked = ["chroot", *([f"--userspec={user}:{user}"] if user else []), self.folder, "/usr/bin/env", "-i",
-                 "PATH=/usr/sbin:/usr/bin:/sbin:/bin", "LC_ALL=C.UTF-8", "DEBIAN_FRONTEND=noninteractive",
-                 f"HOME={folder}", "sh", "-c", 'cd "$0" && exec "$@"', folder, *words]
-        done = subprocess.run(asked, stdout=subprocess.PIPE, stderr=subprocess.STDOUT, stdin=subprocess.DEVNULL,
-                              text=True, errors="replace")
+        who = [f"--userspec={user}:{user}"] if user else []
+        asked = ["chroot", *who, self.folder, "/usr/bin/env", "-i", *ENVIRONMENT, f"HOME={folder}",
+                 "sh", "-c", 'cd "$0" && exec "$@"', folder, *words]
+        done = subprocess.run(asked, stdout=subprocess.PIPE, stderr=subprocess.STDOUT,
+                              stdin=subprocess.DEVNULL, text=True, errors="replace")
         return done.returncode, done.stdout
 
     def must(self, *words):
@@ -149,7 +150,8 @@ def try_install(tried, deb, version):
     """Installs a package over what is there."""
     shutil.copy(deb, tried.root.path("/tmp/plateroom.deb"))
     tried.runs("apt-get", "install", "-y", "--no-install-recommends", "/tmp/plateroom.deb")
-    tried.runs("dpkg-query", "-W", "-f", "${Version} ${db:Status-Status}", "plateroom", says=f"{version}-1 installed")
+    tried.runs("dpkg-query", "-W", "-f", "${Version} ${db:Status-Status}", "plateroom",
+               says=f"{version}-1 installed")
     changed = tried.runs("dpkg", "--verify", "plateroom")
     tried.holds("dpkg --verify", changed.strip())
     tried.runs("plateroom", "drill", "7", says="site S0 finished plates 13 rows 832")
@@ -177,7 +179,7 @@ def try_upgraded(tried, version):
     for section, page in ("1", "plateroom"), ("1", "pressroom"), ("5", "plateroom-plan"):
         tried.runs("man", section, page, says=f"plateroom {version}")
     for name in "plateroom", "pressroom":
-        loader = f". /usr/share/bash-completion/bash_completion; _completion_loader {name}; complete -p {name}"
+        loader = f". {COMPLETION}; _completion_loader {name}; complete -p {name}"
         tried.runs("bash", "-c", loader, says=f"-F _{name} {name}")
 
 
@@ -256,9 +258,10 @@ def try_all(trial, root, old, new, version):
 
 
 def read_words():
-    parser = argparse.ArgumentParser(description=__doc__, formatter_class=argparse.RawDescriptionHelpFormatter)
+    parser = argparse.ArgumentParser(description=__doc__,
+                                     formatter_class=argparse.RawDescriptionHelpFormatter)
     parser.add_argument("program", metavar="PROGRAM", help="the built program")
-    parser.add_argument("--base", metavar="FOLDER", help="the clean root; made where it isn't there, and kept")
+    parser.add_argument("--base", metavar="FOLDER", help="the clean root, made if it isn't there, and kept")
     return parser.parse_args()
 
 
@@ -269,7 +272,7 @@ def main():
         print(f"nothing was tried: {', '.join(missing) if missing else 'it needs root'}")
         return 2
     trial = Trial(words.program)
-    version = re.search(r"^## \[(\d[^\]]*)\]", text_of(os.path.join(TOP, "CHANGELOG.md")), re.MULTILINE)[1]
+    version = version_in(text_of(os.path.join(TOP, "CHANGELOG.md")))
     with tempfile.TemporaryDirectory(prefix="plateroom-package-") as folder:
         new = package_of("HEAD", os.path.join(folder, "new"), trial.program)
         old = package_of(last_of_another_version(version), os.path.join(folder, "old"), trial.program)

@@ -3,10 +3,11 @@
 
     check/release.py PROGRAM
 
-The package is made twice, in two clones whose path, times of files, umask, locale, time zone and threads differ. Then
-one is unpacked, not installed (check/package.py installs it). It needs git, dpkg-deb, scdoc, strip, objcopy and Debian's
-python3, and says so where one is missing; man, lintian and bash-completion are left out where they are. The last line is
-`N passed, M failed`, and the status is 1 where one failed.
+The package is made twice, in two clones whose path, times of files, umask, locale, time zone and threads
+differ. Then one is unpacked, not installed (check/package.py installs it). It needs git, dpkg-deb, scdoc,
+strip, objcopy and Debian's python3, and says so where one is missing; what needs man, lintian or
+bash-completion is left out where they are missing. The last line is `N passed, M failed`, and the status is
+1 where one failed.
 """
 import gzip
 import hashlib
@@ -47,8 +48,14 @@ def built(folder, program, old=False, **how):
     """A clone of the last commit in this folder, and the package that it makes."""
     said("git", "clone", "-q", "--no-hardlinks", TOP, folder)
     if old:
-        said("find", folder, "-path", "*/.git", "-prune", "-o", "-exec", "touch", "-h", "-d", "2001-02-03", "{}", "+")
-    return os.path.join(folder, said(os.path.join(folder, "package", "deb.sh"), program, cwd="/", **how).strip())
+        said("find", folder, "-name", ".git", "-prune", "-o", "-exec", "touch", "-d", "2001-02-03", "{}", "+")
+    made = said(os.path.join(folder, "package", "deb.sh"), program, cwd="/", **how).strip()
+    return os.path.join(folder, made)
+
+
+def version_in(changelog):
+    """The version that a changelog's text begins with."""
+    return re.search(r"^## \[(\d[^\]]*)\]", changelog, re.MULTILINE)[1]
 
 
 def sum_of(path, kind="sha256"):
@@ -77,37 +84,39 @@ def try_versions(trial, root, control, version):
     trial.holds("the package's version", named != f"{version}-1" and f"it is {named}")
     for page in PAGES:
         with gzip.open(os.path.join(root, "usr/share/man", f"{page}.gz"), "rt") as file:
-            trial.holds(f"the version of {page}", f"plateroom {version}" not in file.read() and f"it isn't {version}")
+            fault = f"plateroom {version}" not in file.read() and f"it isn't {version}"
+        trial.holds(f"the version of {page}", fault)
     with gzip.open(os.path.join(root, DOCS, "changelog.Debian.gz"), "rt") as file:
         first = file.readline()
-    trial.holds("changelog.Debian", not first.startswith(f"plateroom ({version}-1) ") and f"it begins {first!r}")
+    fault = not first.startswith(f"plateroom ({version}-1) ") and f"it begins {first!r}"
+    trial.holds("changelog.Debian", fault)
 
 
 # What the package holds.
 
 
 def try_files(trial, root, program, folder):
-    trial.holds("the program is the one that was built",
-                loaded(os.path.join(root, "usr/bin/plateroom"), folder) != loaded(program, folder) and "it differs")
+    same = loaded(os.path.join(root, "usr/bin/plateroom"), folder) == loaded(program, folder)
+    trial.holds("the program is the one that was built", not same and "it differs")
     for path in files_below(root):
         place = os.path.relpath(path, root)
         if os.path.islink(path):
             there = os.path.realpath(path)
-            trial.holds(place, not (there.startswith(root) and os.path.exists(there)) and "the link leads nowhere")
+            right = there.startswith(os.path.realpath(root)) and os.path.exists(there)
+            trial.holds(place, not right and "the link leads nowhere")
             continue
         with open(path, "rb") as file:
             front = file.read(64).partition(b"\n")[0]
         if front.startswith(b"#!") and place.endswith((".py", ".sh")):
-            fault = not os.access(path, os.X_OK) and "it can't be run" or b"env" in front and f"it begins {front!r}"
-            trial.holds(place, fault)
+            right = os.access(path, os.X_OK) and b"env" not in front
+            trial.holds(place, not right and f"it can't be run, or begins {front!r}")
     for name in "postinst", "prerm", "postrm":
-        asked = subprocess.run(["sh", "-n", os.path.join(TOP, "package", name)], capture_output=True, text=True)
+        path = os.path.join(TOP, "package", name)
+        asked = subprocess.run(["sh", "-n", path], capture_output=True, text=True)
         trial.holds(name, asked.returncode and asked.stderr)
-    tools = {os.path.relpath(path, TOP) for path in said("git", "-C", TOP, "ls-files", "-z", "tools").split("\0") if path}
-    for path in tools:
-        name = os.path.basename(path)
-        missing = name != ".gitignore" and not os.path.exists(os.path.join(root, "usr/share/plateroom", path))
-        trial.holds(path, missing and "the package hasn't it")
+    for path in said("git", "-C", TOP, "ls-tree", "-r", "-z", "--name-only", "HEAD", "tools").split("\0"):
+        there = os.path.exists(os.path.join(root, "usr/share/plateroom", path))
+        trial.holds(path, not there and not path.endswith(".gitignore") and "the package hasn't it")
 
 
 # Man pages.
@@ -125,6 +134,11 @@ def numbers_of(rule):
     return found
 
 
+def states(text, rule):
+    """Whether a text has all bounds of a rule."""
+    return all(re.search(rf"(?<![\d.]){number}\b", text) for number in numbers_of(rule))
+
+
 def try_plan_page(trial):
     """Each key of the schema is in the page, with its bounds, and as required where it is."""
     page = text_of(os.path.join(TOP, "docs", "plateroom-plan.5.scd"))
@@ -132,11 +146,11 @@ def try_plan_page(trial):
     entries = re.findall(r"^(\*.+\*)\n((?:\t.*\n)+)", page, re.MULTILINE)
     for name, part in [("plan", schema), *schema["definitions"].items()]:
         for key, rule in part.get("properties", {}).items():
-            texts = [text for keys, text in entries if f"*{key}*" in keys.split(", ") or name == "replace" and
-                     keys == "*replace*"]
-            fits = [text for text in texts if all(re.search(rf"(?<![\d.]){number}\b", text) for number in numbers_of(rule))
-                    and (("Required" in text or "required" in text) == (key in part["required"]))]
-            trial.holds(f"plateroom-plan(5) on {key} of {name}", not fits and "it isn't there, or has other bounds")
+            # What a zone replaces is described with the key *replace*.
+            term = "replace" if name == "replace" else key
+            fits = any(states(text, rule) and ("equired" in text) == (key in part["required"])
+                       for keys, text in entries if f"*{term}*" in keys.split(", "))
+            trial.holds(f"plateroom-plan(5) on {key} of {name}", not fits and "it isn't as in the schema")
     for kind in KINDS:
         trial.holds(f"plateroom-plan(5) on {kind}", f"\n*{kind}*\n" not in page and "it isn't there")
 
@@ -149,9 +163,10 @@ def try_pages(trial, root, commands):
                     and "it has no section")
     for name in PAGES if shutil.which("man") else ():
         path = os.path.join(root, "usr/share/man", f"{name}.gz")
-        seen = subprocess.run(["man", "--warnings", "-E", "UTF-8", "-l", "-Tutf8", "-Z", path], capture_output=True,
-                              text=True, env=os.environ | {"LC_ALL": "C.UTF-8", "MANROFFSEQ": ""})
-        trial.holds(f"{name} in man", (seen.stderr or seen.returncode) and seen.stderr)
+        asked = "man", "--warnings", "-E", "UTF-8", "-l", "-Tutf8", "-Z", path
+        seen = subprocess.run(asked, capture_output=True, text=True,
+                              env=os.environ | {"LC_ALL": "C.UTF-8", "MANROFFSEQ": ""})
+        trial.holds(f"{name} in man", (seen.stderr or seen.returncode) and f"{seen.returncode} {seen.stderr}")
 
 
 # Completion.
@@ -173,7 +188,8 @@ def completed(root, *words):
 def try_completion(trial, root, commands):
     def offers(wanted, *words):
         got = completed(root, *words)
-        trial.holds(f"Tab after {' '.join(words)!r}", set(got) != set(wanted) and f"{got} and not {sorted(wanted)}")
+        fault = set(got) != set(wanted) and f"{got} and not {sorted(wanted)}"
+        trial.holds(f"Tab after {' '.join(words)!r}", fault)
 
     page = text_of(os.path.join(TOP, "docs", "plateroom.1.scd"))
     offers(set(re.findall(r"^\*plateroom (\w+)\*", page, re.MULTILINE)), "plateroom", "")
@@ -183,8 +199,9 @@ def try_completion(trial, root, commands):
     offers([], "plateroom", "keys", "a.json", "art", "out", "")
     offers(commands, "pressroom", "")
     offers(["section", "site", "both"], "pressroom", "parts", "--by", "")
+    pressroom = os.path.join(root, "usr/bin/pressroom")
     for name in commands:
-        told = said(os.path.join(root, "usr/bin/pressroom"), name, "--help", env=os.environ | {"COLUMNS": "400"})
+        told = said(pressroom, name, "--help", env=os.environ | {"COLUMNS": "400"})
         offers(set(re.findall(r"(?<![\w-])--[a-z][a-z-]*", told.partition("\n\n")[0])) | {"--help"},
                "pressroom", name, "--")
 
@@ -208,7 +225,8 @@ def try_sbom(trial, root, version):
             if item["spdxElementId"] not in names or item["relatedSpdxElement"] not in names]
     trial.holds("SPDX: ends of relations", lost)
     try_sums(trial, root, path, told)
-    linked = {item["relatedSpdxElement"] for item in told["relationships"] if item["relationshipType"] == "STATIC_LINK"}
+    linked = {item["relatedSpdxElement"] for item in told["relationships"]
+              if item["relationshipType"] == "STATIC_LINK"}
     kit = {element["name"] for element in told["packages"] if element["SPDXID"] in linked}
     used = {word for line in text_of(os.path.join(TOP, "crates.txt")).splitlines() if not line.startswith("#")
             for word in re.split(r"[:\s]+", line) if "=" not in word}
@@ -218,7 +236,8 @@ def try_sbom(trial, root, version):
 
 def try_sums(trial, root, path, told):
     """Each file of the package is listed, by its sums; and the package's code is that of all of them."""
-    listed = {os.path.normpath(os.path.join(root, item["fileName"])): item["checksums"] for item in told["files"]}
+    listed = {os.path.normpath(os.path.join(root, item["fileName"])): item["checksums"]
+              for item in told["files"]}
     there = {name for name in files_below(root) if not os.path.islink(name) and name != path}
     trial.holds("SPDX: files", there ^ set(listed))
     for name in sorted(there & set(listed)):
@@ -252,7 +271,7 @@ def main():
         print(f"no package was made: {', '.join(missing) or 'this is no clone of git'}")
         return 0
     trial = Trial(sys.argv[1])
-    version = re.search(r"^## \[(\d[^\]]*)\]", text_of(os.path.join(TOP, "CHANGELOG.md")), re.MULTILINE)[1]
+    version = version_in(text_of(os.path.join(TOP, "CHANGELOG.md")))
     with tempfile.TemporaryDirectory(prefix="plateroom-release-") as folder:
         deb = try_twice(trial, folder)
         trial.part("two builds")
@@ -272,8 +291,8 @@ def main():
         try_sbom(trial, root, version)
         trial.part("SPDX")
         if shutil.which("lintian"):
-            seen = subprocess.run(["lintian", "--allow-root", "--fail-on", "error,warning", deb], capture_output=True,
-                                  text=True)
+            asked = "lintian", "--allow-root", "--fail-on", "error,warning", deb
+            seen = subprocess.run(asked, capture_output=True, text=True)
             trial.holds("lintian", seen.returncode and seen.stdout)
     left_out = [name for name, there in (("man", shutil.which("man")), ("lintian", shutil.which("lintian")),
                                          ("bash-completion", os.path.exists(COMPLETION))) if not there]

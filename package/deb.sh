@@ -1,9 +1,10 @@
 #!/usr/bin/env bash
-# Makes the Debian package of the built program, with pressroom, man pages, documents, completion and examples.
-# Build the program first: (cd crates/plateroom && rt run -- drill 7)
+# Makes the Debian package of the built program, with pressroom, man pages, documents, completion and
+# examples. Build the program first: (cd crates/plateroom && rt run -- drill 7)
 # usage: package/deb.sh [PROGRAM]      it leaves package/out/plateroom_VERSION_amd64.deb and prints its path
-# It needs dpkg-deb, git, Debian's python3, scdoc and strip. One commit and one program give the same package, byte for byte,
-# wherever and whenever it is made. DEBFULLNAME and DEBEMAIL name another maintainer than the last commit's author.
+# It needs dpkg-deb, git, Debian's python3, scdoc and strip. One commit and one program give the same package,
+# byte for byte, wherever and whenever it is made. DEBFULLNAME and DEBEMAIL name another maintainer than the
+# last commit's author.
 set -euo pipefail
 program=$(realpath "${1:-$(dirname "$0")/../crates/plateroom/out/plateroom}")
 cd "$(dirname "$0")/.."
@@ -99,9 +100,10 @@ control() {
   # Policy 5.6.20: files in whole KiB, and one KiB for anything else.
   size=$(find "$root" -mindepth 1 -path "$root/DEBIAN" -prune -o -printf '%y %s\n' |
     awk '{ sum += $1 == "f" ? int(($2 + 1023) / 1024) : 1 } END { print sum }')
-  sed -e "s/@VERSION@/$version-1/" -e "s/@MAINTAINER@/$maintainer/" -e "s/@LIBC@/$libc/" -e "s/@SIZE@/$size/" \
-    package/control > "$root/DEBIAN/control"
-  (cd "$root" && find . -path ./DEBIAN -prune -o -type f -printf '%P\0' | sort -z | xargs -0 md5sum > DEBIAN/md5sums)
+  sed -e "s/@VERSION@/$version-1/" -e "s/@MAINTAINER@/$maintainer/" -e "s/@LIBC@/$libc/" \
+    -e "s/@SIZE@/$size/" package/control > "$root/DEBIAN/control"
+  (cd "$root" && find . -path ./DEBIAN -prune -o -type f -printf '%P\0' | sort -z |
+    xargs -0 md5sum > DEBIAN/md5sums)
   chmod 644 "$root/DEBIAN/control" "$root/DEBIAN/md5sums"
   for script in postinst prerm postrm; do
     install -m 755 "package/$script" "$root/DEBIAN/$script"

@@ -3,8 +3,8 @@
 
     package/page.py PAGE VERSION | scdoc
 
-PAGE is a file of docs/. Its @VERSION@ becomes VERSION, and its line @COMMANDS@ a section for each command of pressroom:
-usage, description, arguments and exit statuses, out of `pressroom COMMAND --help`.
+PAGE is a file of docs/. Its @VERSION@ becomes VERSION, and its line @COMMANDS@ a section for each command of
+pressroom: usage, description, arguments and exit statuses, out of `pressroom COMMAND --help`.
 """
 import os
 import re
@@ -30,8 +30,8 @@ def plain(text):
 
 def help_of(command):
     """What a command of pressroom prints for --help."""
-    told = subprocess.run([sys.executable, "-B", FRONT, command, "--help"], capture_output=True, text=True, check=True,
-                          env=os.environ | {"COLUMNS": str(COLUMNS), "LC_ALL": "C.UTF-8"})
+    told = subprocess.run([sys.executable, "-B", FRONT, command, "--help"], capture_output=True, text=True,
+                          check=True, env=os.environ | {"COLUMNS": str(COLUMNS), "LC_ALL": "C.UTF-8"})
     return HERE.sub("", told.stdout)
 
 

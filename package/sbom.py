@@ -3,9 +3,10 @@
 
     package/sbom.py ROOT VERSION DAY
 
-ROOT is the folder from which the package is built: each of its files is listed with its checksums. The crates in the
-program are those of crates.txt that `plateroom` reaches, the parts of the kit those of NOTICE's table, and the Debian
-packages those of package/control. The text depends on nothing else, so that two builds have the same.
+ROOT is the folder from which the package is built: each of its files is listed with its checksums. The
+crates in the program are those of crates.txt that `plateroom` reaches, the parts of the kit those of
+NOTICE's table, and the Debian packages those of package/control. The text depends on nothing else, so that
+two builds have the same.
 """
 import hashlib
 import json
@@ -99,7 +100,7 @@ def debian_packages():
 def files_of(root):
     """Each file of the package with its checksums."""
     for folder, folders, names in os.walk(root):
-        folders[:] = sorted(name for name in folders if os.path.join(folder, name) != os.path.join(root, "DEBIAN"))
+        folders[:] = sorted(name for name in folders if (folder, name) != (root, "DEBIAN"))
         for name in sorted(names):
             path = os.path.join(folder, name)
             place = "./" + os.path.relpath(path, root)
@@ -136,6 +137,7 @@ def document(root, version, day):
     files, crates = list(files_of(root)), linked_crates()
     sums = sorted(file["checksums"][0]["checksumValue"] for file in files)
     code = hashlib.sha1("".join(sums).encode()).hexdigest()
+    title = f"plateroom-{version}"
     own = package("package", "plateroom", OWN, versionInfo=version, filesAnalyzed=True,
                   packageVerificationCode={"packageVerificationCodeValue": code,
                                            "packageVerificationCodeExcludedFiles":
@@ -159,8 +161,8 @@ def document(root, version, day):
         "spdxVersion": "SPDX-2.3",
         "dataLicense": "CC0-1.0",
         "SPDXID": "SPDXRef-DOCUMENT",
-        "name": f"plateroom-{version}",
-        "documentNamespace": f"https://spdx.org/spdxdocs/plateroom-{version}-{uuid.uuid5(uuid.NAMESPACE_URL, code)}",
+        "name": title,
+        "documentNamespace": f"https://spdx.org/spdxdocs/{title}-{uuid.uuid5(uuid.NAMESPACE_URL, code)}",
         "creationInfo": {"created": f"{day}T00:00:00Z",
                          "creators": [f"Organization: {AUTHORS}", f"Tool: package/sbom.py-{version}"]},
         "packages": packages,
