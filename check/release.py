@@ -86,6 +86,8 @@ def try_versions(trial, root, control, version):
         with gzip.open(os.path.join(root, "usr/share/man", f"{page}.gz"), "rt") as file:
             fault = f"plateroom {version}" not in file.read() and f"it isn't {version}"
         trial.holds(f"the version of {page}", fault)
+    shown = set(re.findall(r"plateroom_([\d.]+)_amd64", text_of(os.path.join(TOP, "README.md"))))
+    trial.holds("the version in README.md", shown != {version} and f"it is {shown}")
     with gzip.open(os.path.join(root, DOCS, "changelog.Debian.gz"), "rt") as file:
         first = file.readline()
     fault = not first.startswith(f"plateroom ({version}-1) ") and f"it begins {first!r}"
