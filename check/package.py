@@ -33,6 +33,7 @@ PASSED_OVER = ("/dev", "/proc", "/run", "/sys", "/tmp", "/var/cache", "/var/log"
                "/var/lib/dpkg", "/var/lib/systemd", "/etc/passwd-", "/etc/group-", "/etc/shadow-",
                "/etc/gshadow-", "/etc/ld.so.cache")
 USER = 4321
+ACCOUNTS = "/etc/passwd", "/etc/group", "/etc/shadow", "/etc/gshadow"
 ENVIRONMENT = "PATH=/usr/sbin:/usr/bin:/sbin:/bin", "LC_ALL=C.UTF-8", "DEBIAN_FRONTEND=noninteractive"
 EXAMPLES = "/usr/share/doc/plateroom/examples"
 UNITS = "/lib/systemd/system"
@@ -206,6 +207,37 @@ def try_newspaper(tried, commands):
     tried.runs("pressroom", "check", "/tmp/root.json", "/tmp/root", says="0 faults, 0 notes")
 
 
+def try_night(tried):
+    """The newspaper from PDFs: converted, made, shown; and by a pass over the spool, as by the unit."""
+    folder = "/tmp/newspaper"
+    how = {"user": USER, "folder": folder}
+    house = f"{EXAMPLES}/newspaper/house.toml"
+    tried.runs("python3", f"{EXAMPLES}/newspaper/make.py", "--art", "art", "--plan", "plan.json", "--pages",
+               "pages", **how)
+    tried.runs("pressroom", "intake", house, "pages", "work", **how)
+    tried.runs("pressroom", "make", "work", "out", **how)
+    tried.runs("sh", "-c", "ls out/current/*/READY | wc -l", says="3\n", **how)
+    tried.runs("pressroom", "web", "out/current", "proof", **how)
+    tried.runs("test", "-s", "proof/index.html", **how)
+    spool = tried.root.path("/var/spool/pressroom")
+    account = re.search(r"^pressroom:[^:]*:(\d+):", text_of(tried.root.path("/etc/passwd")), re.MULTILINE)
+    if not account or not os.path.isdir(f"{spool}/in"):
+        tried.holds("user and spool of the units", "they aren't there")
+        return
+    os.mkdir(tried.root.path("/tmp/oslo"))
+    os.chown(tried.root.path("/tmp/oslo"), int(account[1]), int(account[1]))
+    with open(f"{spool}/house.toml", "w", encoding="utf-8") as file:
+        file.write(text_of(tried.root.path(house)) + '\n[night]\nleast_free = 0\n\n'
+                   '[delivery.sites]\nOSLO = "/tmp/oslo"\n')
+    shutil.copytree(tried.root.path(f"{folder}/pages"), f"{spool}/in/monday")
+    with open(f"{spool}/in/monday/READY", "w", encoding="utf-8"):
+        pass
+    said("chown", "-R", f"{account[1]}:{account[1]}", f"{spool}/in/monday")
+    tried.runs("pressroom", "night", "/var/spool/pressroom", user=int(account[1]))
+    tried.runs("test", "-d", "/var/spool/pressroom/done/monday")
+    tried.runs("find", "/tmp/oslo", "-name", "READY", says="READY")
+
+
 def try_units(tried):
     """Units are there, right, and not enabled; a house enables them."""
     folder = tried.root.path(UNITS)
@@ -222,14 +254,27 @@ def try_units(tried):
         tried.runs("test", "-d", "/var/spool/pressroom/in")
 
 
-def try_gone(tried, before, after_remove):
-    """After purge all is as it was before the first installation."""
-    tried.holds("files after remove", [name for name in after_remove if "/plateroom" in name])
+def try_gone(tried, before, but=()):
+    """After purge all is as it was before the first installation, but for what is at these paths or below."""
     after = tried.root.state()
-    changed = sorted(name for name in before.keys() | after.keys() if before.get(name) != after.get(name))
+    changed = sorted(name for name in before.keys() | after.keys()
+                     if before.get(name) != after.get(name) and not name.startswith(tuple(but)))
     tried.holds("the root after purge", changed)
     known = tried.root.run("dpkg-query", "-W", "plateroom")
     tried.holds("dpkg after purge", known[0] == 0 and known[1])
+
+
+def try_purge(tried, before, editions):
+    """Removes and purges the package. Editions in the spool are the house's: they stay, with their user."""
+    tried.runs("apt-get", "remove", "-y", "plateroom")
+    tried.holds("files after remove", [name for name in tried.root.state() if "/plateroom" in name])
+    told = tried.runs("apt-get", "purge", "-y", "plateroom")
+    if not editions:
+        try_gone(tried, before)
+        return
+    tried.holds("a spool that isn't empty", "it stays" not in told and told)
+    try_gone(tried, before, but=("/var/spool", *ACCOUNTS))
+    shutil.rmtree(tried.root.path("/var/spool/pressroom"))
 
 
 def try_all(trial, root, old, new, version):
@@ -241,19 +286,20 @@ def try_all(trial, root, old, new, version):
     try_install(tried, new, version)
     try_upgraded(tried, version)
     trial.part(f"upgrade to {version}")
-    front = root.run("pressroom", "--help")[1]
-    try_newspaper(tried, re.findall(r"^  ([a-z]+)  ", front, re.MULTILINE))
+    commands = re.findall(r"^  ([a-z]+)  ", root.run("pressroom", "--help")[1], re.MULTILINE)
+    try_newspaper(tried, commands)
     trial.part("newspaper")
     try_units(tried)
     trial.part("units")
-    tried.runs("apt-get", "remove", "-y", "plateroom")
-    after_remove = root.state()
-    tried.runs("apt-get", "purge", "-y", "plateroom")
-    try_gone(tried, before, after_remove)
+    night = {"intake", "make", "night", "web"} <= set(commands)
+    if night:
+        try_night(tried)
+        trial.part("night")
+    try_purge(tried, before, night)
     trial.part("remove and purge")
     try_install(tried, new, version)
     tried.runs("apt-get", "purge", "-y", "plateroom")
-    try_gone(tried, before, {})
+    try_gone(tried, before)
     trial.part("install and purge")
 
 
