@@ -94,7 +94,21 @@ def try_versions(trial, root, control, version):
     trial.holds("changelog.Debian", fault)
 
 
-# What the package holds.
+# What the package needs and holds.
+
+
+def try_needs(trial, control):
+    """The package names each Debian package that a command of pressroom tells its user to install."""
+    fields = re.findall(r"^(?:Depends|Recommends|Suggests): (.*)$", control, re.MULTILINE)
+    named = set(re.findall(r"[\w.+-]+", " ".join(fields)))
+    folder = os.path.join(TOP, "tools", "pressroom")
+    table = text_of(os.path.join(folder, "console.py"))
+    told = set(re.findall(r'^    "[\w-]+": "([\w.+-]+)",$', table, re.MULTILINE))
+    for name in os.listdir(folder):
+        if name.endswith(".py"):
+            told |= set(re.findall(r"apt-get install ([a-z][\w.+-]*)", text_of(os.path.join(folder, name))))
+    for name in sorted(told - {"util-linux"}):
+        trial.holds(f"the package {name}", name not in named and "package/control doesn't name it")
 
 
 def try_files(trial, root, program, folder):
@@ -281,7 +295,9 @@ def main():
         said("dpkg-deb", "-x", deb, root)
         front = said("/usr/bin/python3", "-B", os.path.join(root, "usr/bin/pressroom"), "--help")
         commands = re.findall(r"^  ([a-z]+)  ", front, re.MULTILINE)
-        try_versions(trial, root, said("dpkg-deb", "-f", deb), version)
+        control = said("dpkg-deb", "-f", deb)
+        try_versions(trial, root, control, version)
+        try_needs(trial, control)
         try_files(trial, root, trial.program, folder)
         trial.part("versions and files")
         try_plan_page(trial)

@@ -2,9 +2,9 @@
 # Makes the Debian package of the built program, with pressroom, man pages, documents, completion and
 # examples. Build the program first: (cd crates/plateroom && rt run -- drill 7)
 # usage: package/deb.sh [PROGRAM]      it leaves package/out/plateroom_VERSION_amd64.deb and prints its path
-# It needs dpkg-deb, git, Debian's python3, scdoc and strip. One commit and one program give the same package,
-# byte for byte, wherever and whenever it is made. DEBFULLNAME and DEBEMAIL name another maintainer than the
-# last commit's author.
+# It needs dpkg-deb, git, Debian's python3, scdoc and strip. With these of one release of Debian, one commit
+# and one program give the same package, byte for byte, wherever and whenever it is made. DEBFULLNAME and
+# DEBEMAIL name another maintainer than the last commit's author.
 set -euo pipefail
 program=$(realpath "${1:-$(dirname "$0")/../crates/plateroom/out/plateroom}")
 cd "$(dirname "$0")/.."
