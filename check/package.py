@@ -197,7 +197,7 @@ def try_newspaper(tried, commands):
     tried.runs("pressroom", "proof", "plates/OSLO", "oslo.png", **how)
     tried.runs("pressroom", "parts", "plan.json", "parts", "--files", "art", says="sections A", **how)
     tried.runs(f"{EXAMPLES}/queue/make.sh", "plan.json", "art", "again", "--by", "both",
-               says="total rows 148720 sites 3", **how)
+               says="site TROMSO finished plates 15 rows 85800", **how)
     tried.runs("plateroom", "verify", "plan.json", "art", "again", says="same plates 45 sites 3", **how)
     tried.runs("pressroom", "tile", "K45", "--angle", "45", "--ruling", "100", says="K45: side 17", **how)
     for name in commands:
