@@ -30,6 +30,11 @@ HELD = (
     "docs/EDITORS.md",
     "docs/SPEED.md",
     "CONTRIBUTING.md",
+    "bench/README.md",
+    "examples/README.md",
+    "examples/newspaper/README.md",
+    "examples/queue/README.md",
+    "examples/tiles/README.md",
 )
 
 # The file whose every line, code and tables too, keeps to the width, and the most lines that it has.
