@@ -87,7 +87,7 @@ SPAN = re.compile(r"`[^`]*`")
 PATH = re.compile(r"(?<![\w.$/-])(?:\.\./)*((?:%s)/[\w./*-]*[\w*]|(?:%s)(?=[\s,.;:)`]))"
                   % ("|".join(map(re.escape, FOLDERS)), r"\.ci/run"))
 # A path with these names no one file: a pattern, or a name for any.
-HOLDER = re.compile(r"\*|/NAME\b")
+HOLDER = re.compile(r"\*|/(NAME|CRATE)\b")
 INSTALLED = re.compile(r"/usr/share/(doc/plateroom|plateroom)(?:/([\w./-]*[a-zA-Z0-9]))?")
 
 
