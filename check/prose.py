@@ -31,6 +31,7 @@ HELD = (
     "docs/EDITORS.md",
     "docs/PROOFS.md",
     "docs/SPEED.md",
+    "CHANGELOG.md",
     "CONTRIBUTING.md",
     "bench/README.md",
     "examples/README.md",
