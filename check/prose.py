@@ -4,9 +4,10 @@
     check/prose.py [FILE ..]
 
 Links are checked in every Markdown file of the repository, and again as the package installs its documents.
-The other rules are checked in the files of HELD, or in each FILE. Fenced and indented code, code spans and
-links' targets aren't prose. Each fault is printed as `FILE:LINE: fault`. The last line is `N passed, M
-failed`, counted by file and rule, and the status is 1 where one failed. It needs git and no other program.
+The other rules are checked in the files of HELD, or in each FILE. Fenced and indented code, code spans,
+quotations and links' targets aren't prose. Each fault is printed as `FILE:LINE: fault`. The last line is
+`N passed, M failed`, counted by file and rule, and the status is 1 where one failed. It needs git and no other
+program.
 """
 import importlib.util
 import os
@@ -30,8 +31,15 @@ HELD = (
     "docs/ARCHITECTURE.md",
     "docs/DECISIONS.md",
     "docs/EDITORS.md",
+    "docs/PROOFS.md",
     "docs/SPEED.md",
+    "CHANGELOG.md",
     "CONTRIBUTING.md",
+    "bench/README.md",
+    "examples/README.md",
+    "examples/newspaper/README.md",
+    "examples/queue/README.md",
+    "examples/tiles/README.md",
 )
 
 # The file whose every line, code and tables too, keeps to the width, and the most lines that it has.
@@ -43,7 +51,7 @@ WORDS = (
     (r"want of memory", "out of memory", "6 | want of memory |"),
     (r"\bgets on\b|\bget on\b", "makes progress", "In each round somebody gets on."),
     (r"\btells? nothing\b", "reports nothing", "The shelf tells nothing."),
-    (r"what is neither|^#+ Neither$", "not claimed", "What is tested, and what is neither"),
+    (r"what is neither|^#+ Neither\b", "not claimed", "What is tested, and what is neither"),
     (r"\b(lies?|stands?) there\b", "is present", "A plate that lies there stays."),
     (r"\bby the clock\b", "wall-clock time", "Seconds by the clock"),
     (r"\bbeside plain C\b", "compared with plain C", "one processor beside plain C"),
@@ -82,7 +90,10 @@ MADE_INSTALLED = ("plateroom.spdx.json",)
 FENCE = re.compile(r"^\s*(```|~~~)")
 HEADING = re.compile(r"^(#+)\s+(.*?)\s*$")
 LINK = re.compile(r"!?\[([^\]]*)\]\(([^)\s]*)\)")
+# What is no prose: code spans, targets of links, and what a program said, which is quoted.
 SPAN = re.compile(r"`[^`]*`")
+TARGET = re.compile(r"(?<=\])\([^)\s]*\)")
+QUOTED = re.compile(r"\"[^\"]*\"")
 PATH = re.compile(r"(?<![\w.$/-])(?:\.\./)*((?:%s)/[\w./*-]*[\w*]|(?:%s)(?=[\s,.;:)`]))"
                   % ("|".join(map(re.escape, FOLDERS)), r"\.ci/run"))
 # A path with these names no one file: a pattern, or a name for any.
@@ -105,18 +116,35 @@ def split(lines):
         yield number, line, within or bool(fence) or line.startswith(("    ", "\t"))
 
 
-def prose_of(line):
-    """The line without its code spans and without the targets of its links."""
-    return LINK.sub(lambda link: link[1], SPAN.sub("`", line))
+def prose_of(text):
+    """The text with its code spans, quotations and links' targets blanked, each character in its place."""
+    for unread in SPAN, TARGET, QUOTED:
+        text = unread.sub(lambda found: "`" * len(found[0]), text)
+    return text
+
+
+def paragraphs(lines):
+    """Each paragraph as its lines' numbers, with the places at which they begin, and its text on one line."""
+    starts, text = [], ""
+    for number, line, code in [*split(lines), (0, "", False)]:
+        if code or not line.strip() or line.lstrip().startswith("|") or HEADING.match(line):
+            if text:
+                yield starts, text
+            starts, text = [], ""
+        if not code and line.strip():
+            starts.append((len(text), number))
+            text += line.strip() + " "
+            if HEADING.match(line) or line.lstrip().startswith("|"):
+                yield starts, text
+                starts, text = [], ""
 
 
 def word_faults(path, lines):
-    """A wording may be broken between two lines, so each line is read together with the next."""
-    prose = ["" if code else prose_of(line) for _, line, code in split(lines)]
-    for number, (line, further) in enumerate(zip(prose, [*prose[1:], ""]), 1):
+    """A wording may be broken between two lines, so whole paragraphs are read."""
+    for starts, text in paragraphs(lines):
         for pattern, instead, _ in WORDS:
-            found = re.search(pattern, f"{line} {further.lstrip()}", re.IGNORECASE)
-            if found and found.start() < len(line):
+            for found in re.finditer(pattern, prose_of(text), re.IGNORECASE):
+                number = max(line for begin, line in starts if begin <= found.start())
                 yield number, f"“{found[0]}”: write “{instead}”"
 
 
@@ -192,7 +220,8 @@ class Count:
 
 # Each rule, lines of a document in which it must find one fault, and lines in which it must find none.
 SAMPLES = (
-    ("words", word_faults, ["It takes half as", "much again."], ["```", "by the clock", "```", "`lies`"]),
+    ("words", word_faults, ["It takes half as", "much again."],
+     ["```", "by the clock", "```", "`lies`", '"It', 'lies"']),
     ("width", width_faults, ["a" * 101], ["| " + "a" * 101, "a" * 100, "```", "a" * 101, "```"]),
     ("heading", heading_faults, ["## Is it right?"], ["## Verifying plates", "Is it right?"]),
     ("link", link_faults, ["[it](no-such-file.md)"], ["[it](README.md)", "`[it](no-such-file.md)`"]),
