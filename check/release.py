@@ -174,9 +174,12 @@ def try_plan_page(trial):
 def try_pages(trial, root, commands):
     with gzip.open(os.path.join(root, "usr/share/man/man1/pressroom.1.gz"), "rt") as file:
         page = file.read()
+    source = text_of(os.path.join(TOP, "docs", "pressroom.1.scd"))
+    unknown = set(re.findall(r"^pressroom ([a-z]+)", source, re.MULTILINE)) - set(commands)
+    trial.holds("pressroom(1): examples", unknown and f"no commands: {unknown}")
     for name in commands:
-        trial.holds(f"pressroom(1) on {name}", f'.SS "{name}"' not in page and f".SS {name}" not in page
-                    and "it has no section")
+        there = f'.SS "{name}"' in page or f".SS {name}\n" in page
+        trial.holds(f"pressroom(1) on {name}", not there and "it has no section")
     for name in PAGES if shutil.which("man") else ():
         path = os.path.join(root, "usr/share/man", f"{name}.gz")
         asked = "man", "--warnings", "-E", "UTF-8", "-l", "-Tutf8", "-Z", path
