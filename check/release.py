@@ -318,7 +318,8 @@ def main():
         return 2
     missing = [name for name in NEEDED if shutil.which(name) is None]
     if missing or not os.path.exists(os.path.join(TOP, ".git")):
-        print(f"no package was made: {', '.join(missing) + ' missing' if missing else 'this is no clone of git'}")
+        print(f"no package was made, since not installed: {', '.join(missing)}" if missing
+              else "no package was made: this is no clone of git")
         return 0
     trial = Trial(sys.argv[1])
     with tempfile.TemporaryDirectory(prefix="plateroom-release-") as folder:
