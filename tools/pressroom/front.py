@@ -12,6 +12,7 @@ COMMANDS = {
     "parts": "cut an edition into parts for several machines",
     "proof": "draw a picture of what a site's plates print",
     "tile": "write a clustered threshold tile for a plan",
+    "web": "make a proof of an edition's plates for the browser",
 }
 
 USAGE = """usage: pressroom COMMAND [ARGUMENT ..]
