@@ -20,6 +20,7 @@ import tempfile
 from pressroom import __version__, proof
 from pressroom.console import Console, Missing, need
 from pressroom.tiff import Broken
+from pressroom.web_tiles import Failed
 
 LEAFLET = "/usr/share/javascript/leaflet"
 LICENCE = "/usr/share/doc/libjs-leaflet/copyright"
@@ -128,7 +129,7 @@ def main():
     try:
         need_all()
         return 1 if make(words, console) else 0
-    except (Missing, Broken) as error:
+    except (Missing, Broken, Failed) as error:
         console.leave(2, error)
     except OSError as error:
         console.leave(2, f"{error.filename or words.out}: {error.strerror or error}")

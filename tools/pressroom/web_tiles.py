@@ -8,11 +8,13 @@ import os
 import shutil
 import subprocess
 
-from pressroom.tiff import Broken
-
 SIDE = 512
 BITS = ".png[compression=6,bitdepth=1,strip]"
 GREYS = ".png[compression=6,strip]"
+
+
+class Failed(Exception):
+    """vips failed, as where a disk is full; the text is its own."""
 
 
 def levels_of(width, length):
@@ -24,11 +26,11 @@ def levels_of(width, length):
 
 
 def vips(*words):
-    """Runs vips on one processor; its complaint is Broken."""
+    """Runs vips on one processor."""
     environment = os.environ | {"VIPS_CONCURRENCY": "1", "VIPS_WARNING": "0"}
     answer = subprocess.run(["vips", *words], capture_output=True, text=True, env=environment)
     if answer.returncode:
-        raise Broken(f"vips {words[0]} {words[1]}: {(answer.stderr.strip() or 'failed').splitlines()[-1]}")
+        raise Failed(f"vips {words[0]} {words[1]}: {(answer.stderr.strip() or 'failed').splitlines()[-1]}")
 
 
 def save(image, folder, suffix, *words):

@@ -438,6 +438,7 @@ function leavePair() {
   if (map) map.remove();
   map = plates = chart = frame = pointer = cross = null;
   now.view = now.rect = null;
+  delete document.body.dataset.ready;
 }
 function showPair(view, site, at, rect) {
   leavePair();
@@ -452,8 +453,7 @@ function showPair(view, site, at, rect) {
   const part = 1 / 2 ** view.native;
   const crs = L.extend({}, L.CRS.Simple, {transformation: new L.Transformation(part, 0, part, 0)});
   map = L.map('map', {crs, minZoom: 0, maxZoom: view.native + CLOSEST, zoomControl: false, attributionControl: false,
-    boxZoom: false, keyboard: false, fadeAnimation: false, zoomAnimation: !matchMedia('(prefers-reduced-motion: reduce)').matches,
-    maxBounds: [[-view.length / 2, -view.width / 2], [view.length * 1.75, view.width * 1.5]]});
+    boxZoom: false, keyboard: false, fadeAnimation: false, zoomAnimation: !matchMedia('(prefers-reduced-motion: reduce)').matches});
   if (at.x !== null && at.y !== null && at.z !== null) place([at.y, at.x], view.native + at.z);
   else fit();
   plates = new Plates({tileSize: TILE, minZoom: 0, maxZoom: view.native + CLOSEST, maxNativeZoom: view.native, noWrap: true,
@@ -463,6 +463,7 @@ function showPair(view, site, at, rect) {
   map.on('mousemove', event => { pointer = event.latlng; cross.hidden = true; fillBar(); });
   map.on('mouseout', () => { pointer = null; cross.hidden = false; fillBar(); });
   map.on('move', fillBar);
+  map.on('dragend', () => { if (!map.getBounds().intersects([[0, 0], [view.length, view.width]])) fit(); });
   map.on('moveend', () => { fillScale(); fillBar(); writeLink(); });
   fillScale();
   fillBar();
