@@ -3,9 +3,9 @@
 
     python3 check/ppf.py PROGRAM
 
-Plates are read by check/tiff.py, which shares no code with the tools, and the tables are compared with the program's
-own `keys`. What is missing of numpy, Pillow and Ghostscript is named, and the trials that need it are skipped. The
-last line is `N passed, M failed`, and the status is 1 where one failed.
+Plates are read by check/tiff.py, which shares no code with the tools, and the tables are compared with the
+program's own `keys`. What is missing of numpy, Pillow and Ghostscript is named, and the trials that need it
+are skipped. The last line is `N passed, M failed`, and the status is 1 where one failed.
 """
 import csv
 import json
@@ -18,14 +18,20 @@ import tempfile
 
 sys.dont_write_bytecode = True
 from newspaper import Results, missing
-from tiff import Image
-from web import EXAMPLES, TOP, edition, run
+from two_sites import EXAMPLES, TOP, edition, plates_of, run
+
+try:
+    import numpy
+    from PIL import Image
+except ImportError:
+    numpy = None
 
 NAMES = {"C": "Cyan", "M": "Magenta", "Y": "Yellow", "K": "Black", "S": "Spot"}
 # What reads a PPF file as PostScript: each preview becomes a page of its extent.
 PROLOG = """
 /CIP3BeginSheet {} def /CIP3EndSheet {} def /CIP3BeginFront {} def /CIP3EndFront {} def
-/CIP3BeginPreviewImage {} def /CIP3EndPreviewImage {} def /CIP3BeginSeparation {} def /CIP3EndSeparation {} def
+/CIP3BeginPreviewImage {} def /CIP3EndPreviewImage {} def
+/CIP3BeginSeparation {} def /CIP3EndSeparation {} def
 /CIP3PreviewImage {
   gsave CIP3AdmPSExtent aload pop scale
   /text currentfile CIP3PreviewImageEncoding filter def
@@ -43,19 +49,6 @@ def tool(*words):
     return answer.returncode, answer.stdout, answer.stderr
 
 
-def bits(path):
-    """A plate's pixels as an array of 0 and 1."""
-    image = Image(path)
-    rows = numpy.frombuffer(bytes(image.samples), numpy.uint8).reshape(image.length, -1)
-    return numpy.unpackbits(rows, axis=1, count=image.width)
-
-
-def plates_of(folder, pair):
-    """The plates of a pair at a site, by ink."""
-    paths = {ink: os.path.join(folder, f"E1-{pair}-{ink}.tif") for ink in NAMES}
-    return {ink: bits(path) for ink, path in paths.items() if os.path.exists(path)}
-
-
 def blocks(plate, side):
     """The dots of each block of so many pixels across and down."""
     rows, columns = plate.shape
@@ -65,19 +58,28 @@ def blocks(plate, side):
 
 def drawn(path, folder, size, resolution):
     """The pages that Ghostscript draws of a PPF file."""
-    from PIL import Image as Picture
-
     prolog = os.path.join(folder, "prolog.ps")
     with open(prolog, "w", encoding="ascii") as file:
         file.write(PROLOG)
-    words = ["gs", "-q", "-dSAFER", "-dNOPAUSE", "-dBATCH", "-sDEVICE=pnggray", f"-g{size[0]}x{size[1]}", f"-r{resolution}",
-             "-sOutputFile=" + os.path.join(folder, "page-%d.png"), prolog, path]
+    words = [
+        "gs",
+        "-q",
+        "-dSAFER",
+        "-dNOPAUSE",
+        "-dBATCH",
+        "-sDEVICE=pnggray",
+        f"-g{size[0]}x{size[1]}",
+        f"-r{resolution}",
+        "-sOutputFile=" + os.path.join(folder, "page-%d.png"),
+        prolog,
+        path,
+    ]
     answer = subprocess.run(words, capture_output=True, text=True)
     if answer.returncode or answer.stdout or answer.stderr:
         return answer.stdout + answer.stderr or f"status {answer.returncode}"
     pages = []
     while os.path.exists(page := os.path.join(folder, f"page-{len(pages) + 1}.png")):
-        with Picture.open(page) as picture:
+        with Image.open(page) as picture:
             pages.append(numpy.asarray(picture.convert("L")).astype(numpy.int64))
     for number in range(len(pages)):
         os.remove(os.path.join(folder, f"page-{number + 1}.png"))
@@ -88,14 +90,30 @@ def see_text(results, name, text, sites, inks, names):
     """The file is 7-bit text of short lines, and has each separation once."""
     results.see(all(byte < 128 for byte in text), f"{name}: a byte has 8 bits")
     lines = text.decode("latin-1").split("\n")
-    results.see(max(map(len, lines)) < 255 and b"\r" not in text, f"{name}: a line has {max(map(len, lines))} characters")
-    results.see(lines[:2] == ["%!PS-Adobe-3.0", "%%CIP3-File Version 3.0"] and lines[-2:] == ["%%CIP3EndOfFile", ""], f"{name}: {lines[:2]}, {lines[-2:]}")
-    results.see([line[7:] for line in lines if line.startswith("% site ")] == sites, f"{name}: its sites aren't {sites}")
+    results.see(
+        max(map(len, lines)) < 255 and b"\r" not in text,
+        f"{name}: a line has {max(map(len, lines))} characters",
+    )
+    results.see(
+        lines[:2] == ["%!PS-Adobe-3.0", "%%CIP3-File Version 3.0"] and lines[-2:] == ["%%CIP3EndOfFile", ""],
+        f"{name}: {lines[:2]}, {lines[-2:]}",
+    )
+    results.see(
+        [line[7:] for line in lines if line.startswith("% site ")] == sites,
+        f"{name}: its sites aren't {sites}",
+    )
     said = [line for line in lines if line.startswith("/CIP3AdmSeparationNames ")]
     wanted = f"/CIP3AdmSeparationNames [{' '.join(names[ink] for ink in inks)}] def"
     results.see(said == [wanted], f"{name}: {said}, not {wanted}")
-    for word, count in (("CIP3BeginSeparation", len(inks)), ("CIP3PreviewImage", len(inks)), ("CIP3EndSeparation", len(inks)),
-                        ("CIP3BeginSheet", 1), ("CIP3EndSheet", 1), ("/CIP3AdmJobName (E1) def", 1), ("CIP3EndPreviewImage", 1)):
+    for word, count in (
+        ("CIP3BeginSeparation", len(inks)),
+        ("CIP3PreviewImage", len(inks)),
+        ("CIP3EndSeparation", len(inks)),
+        ("CIP3BeginSheet", 1),
+        ("CIP3EndSheet", 1),
+        ("/CIP3AdmJobName (E1) def", 1),
+        ("CIP3EndPreviewImage", 1),
+    ):
         results.see(lines.count(word) == count, f"{name}: {word} is there {lines.count(word)} times")
     software = [line for line in lines if re.fullmatch(r"/CIP3AdmSoftware \(pressroom [0-9.]+\) def", line)]
     results.see(len(software) == 1, f"{name}: its software is {software}")
@@ -106,8 +124,12 @@ def see_files(results, folder, plates, dpi):
     out, side = os.path.join(folder, f"ppf-{dpi}"), max(1, round(dpi / 50.8))
     status, said, error = tool(plates, out, "--jobs", 2)
     results.see((status, error) == (0, ""), f"ppf ends with {status}: {said}{error}")
-    sheets = {("A-001", "BERGEN"): ["BERGEN", "OSLO"], ("A-002", "BERGEN"): ["BERGEN"], ("A-002", "OSLO"): ["OSLO"],
-              ("C-001", "BERGEN"): ["BERGEN", "OSLO"]}
+    sheets = {
+        ("A-001", "BERGEN"): ["BERGEN", "OSLO"],
+        ("A-002", "BERGEN"): ["BERGEN"],
+        ("A-002", "OSLO"): ["OSLO"],
+        ("C-001", "BERGEN"): ["BERGEN", "OSLO"],
+    }
     names = sorted(f"E1-{pair}-{site}.ppf" for pair, site in sheets)
     results.see(sorted(os.listdir(out)) == names, f"there are {sorted(os.listdir(out))}")
     for (pair, site), sites in sheets.items():
@@ -121,17 +143,26 @@ def see_files(results, folder, plates, dpi):
         extent = [float(value) for value in re.search(rb"/CIP3AdmPSExtent \[(.*)\] def", text)[1].split()]
         off = max(abs(given - pixels * side * 72 / dpi) for given, pixels in zip(extent, (width, height)))
         results.see(off < 0.001, f"{name}: its extent is {extent}")
-        for key, value in (("Width", width), ("Height", height), ("Matrix", f"[{width} 0 0 -{height} 0 {height}]")):
+        for key, value in (
+            ("Width", width),
+            ("Height", height),
+            ("Matrix", f"[{width} 0 0 -{height} 0 {height}]"),
+        ):
             line = f"/CIP3PreviewImage{key} {value} def\n".encode()
             results.see(text.count(line) == len(read), f"{name}: {line} is there {text.count(line)} times")
         given = re.findall(rb"/CIP3PreviewImageResolution \[([0-9.]+) ([0-9.]+)\] def", text)
-        results.see(len(given) == len(read) and all(abs(float(value) - dpi / side) < 0.001 for two in given for value in two), f"{name}: {given}")
+        results.see(
+            len(given) == len(read)
+            and all(abs(float(value) - dpi / side) < 0.001 for two in given for value in two),
+            f"{name}: {given}",
+        )
         if shutil.which("gs"):
             see_drawn(results, name, drawn(path, folder, (width, height), dpi / side), wanted, side)
 
 
 def see_drawn(results, name, pages, wanted, side):
-    """The pages are the shares of the plates' dots, rounded to the nearest of 256 greys, where 0 is full ink."""
+    """The pages are the shares of the plates' dots, rounded to the nearest of 256 greys, where 0 is full
+    ink."""
     if isinstance(pages, str):
         results.see(False, f"{name}: Ghostscript says {pages}")
         return
@@ -140,34 +171,67 @@ def see_drawn(results, name, pages, wanted, side):
         area, wrong = side * side, -1
         if page.shape == dots.shape:
             wrong = int((numpy.abs(page * area - 255 * (area - dots)) * 2 > area).sum())
-        results.see(wrong == 0 and len(numpy.unique(dots)) > 1, f"{name}: separation {number} has {page.shape}, {wrong} wrong pixels")
+        results.see(
+            wrong == 0 and len(numpy.unique(dots)) > 1,
+            f"{name}: separation {number} has {page.shape}, {wrong} wrong pixels",
+        )
 
 
 def see_tables(results, program, folder, plan, plates):
     """The tables have the counts of `plateroom keys`, and a press's keys their printed area."""
     house, out = os.path.join(folder, "house.toml"), os.path.join(folder, "tables")
     with open(house, "w", encoding="utf-8") as file:
-        file.write('[spot]\nseparation = "HUS (1) å"\ncolour = "#123456"\n\n[keys]\nwidth = 6.3\noffset = -2.5\n')
+        file.write(
+            '[spot]\nseparation = "HUS (1) å"\ncolour = "#123456"\n\n[keys]\nwidth = 6.3\noffset = -2.5\n'
+        )
     status, said, error = tool(plates, out, "--keys", 5, "--keys", 64, "--house", house)
     results.see((status, error) == (0, ""), f"ppf with --keys ends with {status}: {said}{error}")
     names = {ink: f"({NAMES[ink]})" for ink in NAMES} | {"S": r"(HUS \0501\051 \345)"}
     with open(os.path.join(out, "E1-A-001-BERGEN.ppf"), "rb") as file:
         see_text(results, "a spot's name", file.read(), ["BERGEN", "OSLO"], list(NAMES), names)
     for count in (5, 64):
-        answer = subprocess.run([program, "keys", plan, EXAMPLES, os.path.join(folder, "keys"), str(count)], capture_output=True, text=True)
-        wanted = sorted((name, list(map(int, dots))) for _, _, name, *dots in
-                        (line.split() for line in answer.stdout.splitlines() if line.startswith("keys ")))
+        answer = subprocess.run(
+            [program, "keys", plan, EXAMPLES, os.path.join(folder, "keys"), str(count)],
+            capture_output=True,
+            text=True,
+        )
+        wanted = sorted(
+            (name, list(map(int, dots)))
+            for _, _, name, *dots in (
+                line.split() for line in answer.stdout.splitlines() if line.startswith("keys ")
+            )
+        )
         with open(os.path.join(out, f"keys-{count}.json"), encoding="utf-8") as file:
             table = json.load(file)
         found = sorted((f"{plate['pair']}-{plate['ink']}", plate["dots"]) for plate in table["plates"])
-        results.see(found == wanted and len(wanted) == 11, f"keys-{count}.json isn't what `plateroom keys` says")
-        results.see((table["keys"], table["press"]) == (count, {"width": 6.3, "offset": -2.5}), f"keys-{count}.json: {table['press']}")
+        results.see(
+            found == wanted and len(wanted) == 11, f"keys-{count}.json isn't what `plateroom keys` says"
+        )
+        results.see(
+            (table["keys"], table["press"]) == (count, {"width": 6.3, "offset": -2.5}),
+            f"keys-{count}.json: {table['press']}",
+        )
         with open(os.path.join(out, f"keys-{count}.csv"), encoding="utf-8", newline="") as file:
             lines = list(csv.DictReader(file))
-        flat = [(plate["pair"], " ".join(plate["sites"]), plate["ink"], str(key + 1), str(plate["dots"][key]), str(plate["pixels"][key]),
-                 f"{plate['percent'][key]:.3f}", f"{plate['press_percent'][key]:.3f}") for plate in table["plates"] for key in range(count)]
+        flat = [
+            (
+                plate["pair"],
+                " ".join(plate["sites"]),
+                plate["ink"],
+                str(key + 1),
+                str(plate["dots"][key]),
+                str(plate["pixels"][key]),
+                f"{plate['percent'][key]:.3f}",
+                f"{plate['press_percent'][key]:.3f}",
+            )
+            for plate in table["plates"]
+            for key in range(count)
+        ]
         keys = "pair", "sites", "ink", "key", "dots", "pixels", "percent", "press_percent"
-        results.see([tuple(line[key] for key in keys) for line in lines] == flat, f"keys-{count}.csv differs from the JSON")
+        results.see(
+            [tuple(line[key] for key in keys) for line in lines] == flat,
+            f"keys-{count}.csv differs from the JSON",
+        )
         for plate in table["plates"]:
             read = plates_of(os.path.join(plates, plate["sites"][0]), plate["pair"])[plate["ink"]]
             see_shares(results, plate, read, count)
@@ -179,14 +243,18 @@ def see_shares(results, plate, read, count):
     sums, pixels, press = read.sum(axis=0), [0] * count, [0] * count
     for x in range(width):
         pixels[x * count // width] += length
-        # In tenths of a millimetre times the resolution: keys of 6.3 mm from -2.5 mm on, and the column's middle.
+        # Keys of 6.3 mm from -2.5 mm on, and the middle of the column, in whole numbers.
         key = ((2 * x + 1) * 254 + 25 * 2400) // (63 * 2400)
         if 0 <= key < count:
             press[key] += int(sums[x])
     what = f"{plate['pair']}-{plate['ink']} of {count} keys"
-    results.see(plate["pixels"] == pixels and sum(plate["dots"]) == int(read.sum()), f"{what}: pixels or total")
+    results.see(
+        plate["pixels"] == pixels and sum(plate["dots"]) == int(read.sum()), f"{what}: pixels or total"
+    )
     percent = [100 * dots / all_ for dots, all_ in zip(plate["dots"], pixels)]
-    results.see(max(abs(a - b) for a, b in zip(plate["percent"], percent)) <= 0.00051, f"{what}: {plate['percent']}")
+    results.see(
+        max(abs(a - b) for a, b in zip(plate["percent"], percent)) <= 0.00051, f"{what}: {plate['percent']}"
+    )
     area = 6.3 / 25.4 * 1200 * length
     off = max(abs(given - 100 * dots / area) for given, dots in zip(plate["press_percent"], press))
     results.see(off <= 0.00051, f"{what}: a press's keys are off by {off}")
@@ -199,11 +267,22 @@ def see_damage(results, folder, plates):
     path = os.path.join(hurt, "OSLO", "E1-A-001-Y.tif")
     with open(path, "r+b") as file:
         file.truncate(4000)
-    shutil.copyfile(os.path.join(hurt, "OSLO", "E1-A-001-K.tif"), os.path.join(hurt, "OSLO", "E1-A-002-K.tif.part"))
+    shutil.copyfile(
+        os.path.join(hurt, "OSLO", "E1-A-001-K.tif"), os.path.join(hurt, "OSLO", "E1-A-002-K.tif.part")
+    )
     status, said, _ = tool(hurt, out, "--keys", 4)
     results.see(status == 1 and f"fault: {path}: cut off" in said, f"a damaged plate: {status}, {said}")
-    names = ["E1-A-001-BERGEN.ppf", "E1-A-002-BERGEN.ppf", "E1-A-002-OSLO.ppf", "E1-C-001-BERGEN.ppf", "keys-4.csv", "keys-4.json"]
-    results.see(sorted(os.listdir(out)) == names, f"beside a damaged plate there are {sorted(os.listdir(out))}")
+    names = [
+        "E1-A-001-BERGEN.ppf",
+        "E1-A-002-BERGEN.ppf",
+        "E1-A-002-OSLO.ppf",
+        "E1-C-001-BERGEN.ppf",
+        "keys-4.csv",
+        "keys-4.json",
+    ]
+    results.see(
+        sorted(os.listdir(out)) == names, f"beside a damaged plate there are {sorted(os.listdir(out))}"
+    )
 
 
 def see_refusals(results, folder, plates):
@@ -225,7 +304,10 @@ def see_refusals(results, folder, plates):
         with open(house, "w", encoding="utf-8") as file:
             file.write(text)
         status, _, error = tool(*words)
-        results.see(status == 2 and said in error and not os.path.exists(out), f"ppf {words[1:]} {text!r}: {status}, {error}")
+        results.see(
+            status == 2 and said in error and not os.path.exists(out),
+            f"ppf {words[1:]} {text!r}: {status}, {error}",
+        )
 
 
 def main():
@@ -235,9 +317,6 @@ def main():
     if lacks:
         print(f"skipped: ink key files ({lacks} isn't installed)")
         results.end()
-    global numpy
-    import numpy
-
     if not shutil.which("gs"):
         print("skipped: the pictures of previews (Ghostscript isn't installed)")
     with tempfile.TemporaryDirectory(prefix="plateroom-ppf-") as folder:

@@ -3,14 +3,12 @@
 
     python3 check/web.py PROGRAM
 
-Plates are read by check/tiff.py, which shares no code with the tools. What is missing of vips, Leaflet, numpy, Pillow,
-selenium, chromium and chromedriver is named, and the trials that need it are skipped. The last line is `N passed, M
-failed`, and the status is 1 where one failed.
+Plates are read by check/tiff.py, which shares no code with the tools. What is missing of vips, Leaflet,
+numpy, Pillow, selenium, chromium and chromedriver is named, and the trials that need it are skipped. The
+last line is `N passed, M failed`, and the status is 1 where one failed.
 """
-import copy
 import functools
 import http.server
-import io
 import json
 import os
 import re
@@ -22,56 +20,19 @@ import threading
 import time
 
 sys.dont_write_bytecode = True
+from browser import MIDDLE, Keys, Page, drag, touch
 from newspaper import Results, missing
-from tiff import Image
+from two_sites import EXAMPLES, LENGTH, TOP, WIDTH, earlier, edition, plates_of, run
 
-TOP = os.path.join(os.path.dirname(os.path.abspath(__file__)), "..")
-EXAMPLES = os.path.join(TOP, "examples")
+try:
+    import numpy
+except ImportError:
+    numpy = None
+
 LEAFLET = "/usr/share/javascript/leaflet/leaflet.min.js"
 COLOURS = {"C": (0, 255, 255), "M": (255, 0, 255), "Y": (255, 255, 0), "K": (0, 0, 0), "S": (18, 120, 60)}
 CAME, WENT = (0, 96, 255), (255, 60, 0)
-CELL, WIDTH, LENGTH = 64, 1500, 1100
-WAIT = 20
-
-
-def edition():
-    """Four pages of 700 by 1040 pixels for two sites, on plates of 1500 by 1100: five inks, and black alone."""
-    picture, line = {"kind": "contone", "file": "packed.tif"}, {"kind": "line", "file": "line.tif"}
-    spot = line | {"ink": [0, 0, 0, 0, 255], "paint": "overprint", "scale": 4, "x": 60, "y": 330}
-    return {
-        "plan": 2, "edition": "E1", "dpi": 1200, "page": [700, 1040], "margins": [30, 20, 30, 40], "gutter": 40,
-        "limit": 765, "screens": {"K": "diffuse", "S": "bayer4"},
-        "marks": [{"inks": "CMYKS", "x": 0, "y": 0, "w": 9, "h": 5}, {"inks": "CK", "x": 1499, "y": 1099, "w": 1, "h": 1}],
-        "pages": [
-            {"name": "front", "inks": "CMYKS", "layers": [picture | {"scale": 7}, picture | {"scale": 5, "y": 600}, spot]},
-            {"name": "inside", "inks": "K", "layers": [line | {"x": 300, "y": 700}]},
-            {"name": "third", "inks": "K", "layers": [line | {"scale": 5, "ink": [0, 0, 0, 99]}]},
-            {"name": "back", "inks": "CMYK", "layers": [line | {"scale": 2, "x": 400, "ink": [0, 255, 90, 0]}]},
-            {"name": "local", "inks": "K", "layers": [line | {"scale": 3}]},
-        ],
-        "sections": [{"name": "A", "pages": ["front", "inside", "third", "back"]}, {"name": "C", "pages": ["third", "back"]}],
-        "zones": [{"name": "west", "replace": [{"section": "A", "page": 2, "with": "local"}]}],
-        "sites": [{"name": "OSLO"}, {"name": "BERGEN", "zone": "west"}],
-    }
-
-
-def earlier():
-    """An earlier edition: the spot and the zone's page lie elsewhere, page 4 has no magenta, and C was called B."""
-    plan = copy.deepcopy(edition())
-    plan["edition"], plan["sections"][1]["name"] = "E0", "B"
-    plan["pages"][0]["layers"][2]["x"] = 71
-    plan["pages"][3]["layers"][0]["ink"] = [40, 0, 90, 0]
-    plan["pages"][4]["layers"][0]["y"] = 5
-    return plan
-
-
-def run(program, folder, name, plan):
-    """Makes an edition's plates and returns its plan's path and its folder of plates."""
-    path, out = os.path.join(folder, f"{name}.json"), os.path.join(folder, name)
-    with open(path, "w", encoding="utf-8") as file:
-        json.dump(plan, file)
-    subprocess.run([program, "run", path, EXAMPLES, out], check=True, capture_output=True)
-    return path, out
+CELL = 64
 
 
 def tool(*words, **how):
@@ -81,26 +42,9 @@ def tool(*words, **how):
     return answer.returncode, answer.stdout, answer.stderr
 
 
-@functools.lru_cache(None)
-def bits(path):
-    """A plate's pixels as an array of 0 and 1, by the reader of these checks."""
-    image = Image(path)
-    rows = numpy.frombuffer(bytes(image.samples), numpy.uint8).reshape(image.length, -1)
-    return numpy.unpackbits(rows, axis=1, count=image.width)
-
-
-def plates_of(folder, pair):
-    """The bits of each ink of a pair at a site."""
-    found = {}
-    for ink in COLOURS:
-        for name in os.listdir(folder):
-            if name.endswith(f"-{pair}-{ink}.tif"):
-                found[ink] = bits(os.path.join(folder, name))
-    return found
-
-
 def composite(plates, inks, black=False):
-    """What a screen shows of these inks: each takes from the light of white paper what its colour doesn't have."""
+    """What a screen shows of these inks: each takes from the light of white paper what its colour doesn't
+    have."""
     light = numpy.ones((LENGTH, WIDTH, 3))
     for ink in inks:
         colour = numpy.array((0, 0, 0) if black else COLOURS[ink]) / 255
@@ -108,96 +52,6 @@ def composite(plates, inks, black=False):
     return numpy.rint(light * 255).astype(numpy.int16)
 
 
-class Page:
-    """The proof in a browser."""
-
-    def __init__(self, address):
-        from selenium import webdriver
-        from selenium.webdriver.chrome.options import Options
-        from selenium.webdriver.chrome.service import Service
-
-        options = Options()
-        for word in ("--headless=new", "--no-sandbox", "--disable-gpu", "--disable-dev-shm-usage", "--window-size=1850,1320",
-                     "--force-prefers-reduced-motion", "--hide-scrollbars", "--force-color-profile=srgb",
-                     "--force-device-scale-factor=1"):
-            options.add_argument(word)
-        options.set_capability("goog:loggingPrefs", {"browser": "ALL"})
-        self.driver = webdriver.Chrome(service=Service(shutil.which("chromedriver")), options=options)
-        self.address = address
-
-    def script(self, text, *words):
-        return self.driver.execute_script(text, *words)
-
-    def find(self, name):
-        return self.driver.find_element("css selector", name)
-
-    def settle(self):
-        """Waits until the data of the pair and all tiles are there, and the screen has drawn them."""
-        end = time.monotonic() + WAIT
-        while time.monotonic() < end:
-            if self.script("return document.body.dataset.ready && !document.querySelector('.leaflet-tile:not(.leaflet-tile-loaded)')"):
-                break
-            time.sleep(0.05)
-        else:
-            raise TimeoutError("tiles didn't load")
-        self.driver.execute_async_script(
-            "const done = arguments[0]; requestAnimationFrame(() => requestAnimationFrame(() => setTimeout(done, 120)))")
-
-    def open(self, link="", anew=False):
-        """Goes to a link, in the page that is open already or in a new one."""
-        if anew or not link or self.driver.current_url.split("#")[0] != self.address:
-            self.driver.get("about:blank")
-            self.driver.get(self.address + link)
-        else:
-            self.script("history.replaceState(null, '', '#'); location.hash = arguments[0]", link)
-            time.sleep(0.05)
-        if "pair=" in link:
-            self.settle()
-
-    def box(self):
-        """Where the map lies: left, top, width, height."""
-        box = self.script("const b = document.getElementById('map').getBoundingClientRect(); return [b.left, b.top, b.width, b.height]")
-        return [round(value) for value in box]
-
-    def picture(self):
-        """The pixels of the map on the screen, without the cross in its middle."""
-        from PIL import Image as Picture
-
-        self.script("document.querySelectorAll('.cross').forEach(cross => cross.style.display = 'none')")
-        picture = Picture.open(io.BytesIO(self.driver.get_screenshot_as_png())).convert("RGB")
-        left, top, width, height = self.box()
-        return numpy.asarray(picture.crop((left, top, left + width, top + height))).astype(numpy.int16)
-
-    def seen(self, x, y):
-        """The part of the plate that is on the screen at one pixel a plate pixel, whose middle is (x, y): its place, and
-        its pixels on the screen."""
-        _, _, width, height = self.box()
-        left, top = x - width // 2, y - height // 2
-        picture = self.picture()
-        x0, y0, x1, y1 = max(0, left), max(0, top), min(WIDTH, left + width), min(LENGTH, top + height)
-        return (slice(y0, y1), slice(x0, x1)), picture[y0 - top:y1 - top, x0 - left:x1 - left]
-
-    def whole(self, side):
-        """All whole blocks of so many plate pixels, each one pixel on the screen; the view's middle is MIDDLE."""
-        picture = self.picture()
-        left, top = (picture.shape[1 - i] // 2 - MIDDLE[i] // side for i in (0, 1))
-        return picture[top:top + LENGTH // side, left:left + WIDTH // side]
-
-    def press(self, *keys):
-        from selenium.webdriver.common.action_chains import ActionChains
-
-        ActionChains(self.driver).send_keys(*keys).perform()
-
-    def complaints(self):
-        return [line["message"] for line in self.driver.get_log("browser") if line["level"] == "SEVERE"]
-
-    def hash(self):
-        from urllib.parse import parse_qs
-
-        return {key: values[0] for key, values in parse_qs(self.script("return location.hash.slice(1)")).items()}
-
-
-MIDDLE = 752, 552
 # The first shows the whole plate.
 MIDDLES = [(750, 550), (1211, 237)]
 
@@ -207,17 +61,29 @@ def see_tool(results, folder, plan, plates):
     out = os.path.join(folder, "web")
     with open(os.path.join(plates, "OSLO", "E1-A-009-K.tif.part"), "wb") as file:
         file.write(b"half a plate")
-    status, said, error = tool(plates, out, "--plan", plan, "--spot", "18,120,60", "--keys", 8, "--keys", 5, "--jobs", 2)
+    status, said, error = tool(
+        plates, out, "--plan", plan, "--spot", "18,120,60", "--keys", 8, "--keys", 5, "--jobs", 2
+    )
     results.see((status, error) == (0, ""), f"web ends with {status}: {said}{error}")
-    files = [os.path.join(at, name) for at, _, names in os.walk(plates) for name in names if name.endswith(".tif")]
+    files = [
+        os.path.join(at, name) for at, _, names in os.walk(plates) for name in names if name.endswith(".tif")
+    ]
     contents = {open(path, "rb").read() for path in files}
     tiles = os.listdir(os.path.join(out, "tiles"))
-    results.see(len(tiles) == len(contents) < len(files), f"{len(tiles)} plates are cut, of {len(contents)} contents")
+    results.see(
+        len(tiles) == len(contents) < len(files), f"{len(tiles)} plates are cut, of {len(contents)} contents"
+    )
     text = open(os.path.join(out, "proof.js"), encoding="ascii").read()
     results.see("A-009" not in text, "a .tif.part is read")
-    results.see(os.path.getsize(os.path.join(out, "leaflet", "LICENCE.txt")) > 500, "Leaflet's licence isn't there")
-    outside = [line for name in ("index.html", "web.js", "web.css") for line in open(os.path.join(out, name), encoding="utf-8")
-               if re.search(r"(src|href)=.?https?:|@import|url\(.?http", line)]
+    results.see(
+        os.path.getsize(os.path.join(out, "leaflet", "LICENCE.txt")) > 500, "Leaflet's licence isn't there"
+    )
+    outside = [
+        line
+        for name in ("index.html", "web.js", "web.css")
+        for line in open(os.path.join(out, name), encoding="utf-8")
+        if re.search(r"(src|href)=.?https?:|@import|url\(.?http", line)
+    ]
     results.see(not outside, f"the page loads from outside: {outside}")
     return out
 
@@ -250,56 +116,83 @@ def see_refusals(results, folder, plan, plates, out):
         text = open(os.path.join(out, "proof.js"), encoding="ascii").read()
         status, _, error = tool(*words, env=os.environ | environment)
         results.see(status == 2 and said in error, f"web {words[1:]}: {status}, {error}")
-        results.see(text == open(os.path.join(out, "proof.js"), encoding="ascii").read(), f"{said}: OUT was changed")
+        results.see(
+            text == open(os.path.join(out, "proof.js"), encoding="ascii").read(), f"{said}: OUT was changed"
+        )
     results.see(os.listdir(kept) == ["letter.txt"], "a folder that is no proof was changed")
     left = sorted(set(os.listdir(folder)) - set(before))
     results.see(left == ["bin", "empty", "kept"], f"runs that failed leave {left}")
-    status, said, _ = tool(plates, out, "--plan", plan, "--spot", "18,120,60", "--keys", 8, "--keys", 5, "--json")
+    status, said, _ = tool(
+        plates, out, "--plan", plan, "--spot", "18,120,60", "--keys", 8, "--keys", 5, "--json"
+    )
     event = json.loads(said.splitlines()[-1])
-    results.see(status == 0 and event["event"] == "done" and event["damaged"] == 0, f"an earlier proof isn't replaced: {said}")
+    results.see(
+        status == 0 and event["event"] == "done" and event["damaged"] == 0,
+        f"an earlier proof isn't replaced: {said}",
+    )
 
 
 def see_index(results, page):
     """The index: a card for each form of a pair, with its picture, inks, sites and zones."""
     page.open()
     cards = [card.text.replace("\n", " ") for card in page.driver.find_elements("css selector", ".card")]
-    results.see(cards == [
-        "A-001 back | front OSLO, BERGEN (zone west)".replace("OSLO, BERGEN (zone west)", "BERGEN (zone west), OSLO"),
-        "A-002 local | third BERGEN (zone west)", "A-002 inside | third OSLO", "C-001 back | third BERGEN (zone west), OSLO",
-    ], f"the index has {cards}")
-    inks = [len(card.find_elements("css selector", ".chip")) for card in page.driver.find_elements("css selector", ".card")]
+    results.see(
+        cards
+        == [
+            "A-001 back | front OSLO, BERGEN (zone west)".replace(
+                "OSLO, BERGEN (zone west)", "BERGEN (zone west), OSLO"
+            ),
+            "A-002 local | third BERGEN (zone west)",
+            "A-002 inside | third OSLO",
+            "C-001 back | third BERGEN (zone west), OSLO",
+        ],
+        f"the index has {cards}",
+    )
+    inks = [
+        len(card.find_elements("css selector", ".chip"))
+        for card in page.driver.find_elements("css selector", ".card")
+    ]
     results.see(inks == [5, 1, 1, 4], f"the cards have {inks} inks")
     sizes = page.script("return [...document.images].map(image => image.naturalWidth)")
     results.see(len(sizes) == 4 and min(sizes) > 100, f"the thumbnails are {sizes} pixels wide")
     page.find(".card").click()
     page.settle()
-    results.see(page.hash()["pair"] == "A-001" and page.hash()["site"] == "BERGEN", f"a card leads to {page.hash()}")
+    results.see(
+        page.hash()["pair"] == "A-001" and page.hash()["site"] == "BERGEN", f"a card leads to {page.hash()}"
+    )
 
 
 def see_native(results, page, plates):
-    """At one screen pixel a plate pixel the screen shows the plates' bits: of each ink alone, of two, of all."""
+    """At one screen pixel a plate pixel the screen shows the plates' bits: of each ink alone, of two, of
+    all."""
     for site, pair, choices in (
-        ("OSLO", "A-001", ["C", "M", "Y", "K", "S", "CM", "KS", "CMYKS"]), ("BERGEN", "A-002", ["K"]), ("OSLO", "A-002", ["K"]),
+        ("OSLO", "A-001", ["C", "M", "Y", "K", "S", "CM", "KS", "CMYKS"]),
+        ("BERGEN", "A-002", ["K"]),
+        ("OSLO", "A-002", ["K"]),
         ("OSLO", "C-001", ["MY", "CMYK"]),
     ):
         read = plates_of(os.path.join(plates, site), pair)
         for inks in choices:
             for black in (False, True) if len(inks) == 1 else (False,):
                 wanted, wrong, seen = composite(read, inks, black), 0, numpy.zeros((LENGTH, WIDTH), bool)
-                for x, y in MIDDLES[:1 if len(inks) == 1 else 2]:
+                for x, y in MIDDLES[: 1 if len(inks) == 1 else 2]:
                     page.open(f"#pair={pair}&site={site}&inks={inks}&x={x}&y={y}&z=0" + "&black=1" * black)
                     part, picture = page.seen(x, y)
                     wrong += int((picture != wanted[part]).any(axis=2).sum())
                     seen[part] = True
-                results.see(wrong == 0 and seen.all(), f"{site} {pair} {inks}{' in black' * black}: {wrong} pixels differ")
+                results.see(
+                    wrong == 0 and seen.all(),
+                    f"{site} {pair} {inks}{' in black' * black}: {wrong} pixels differ",
+                )
     left, top, width, height = page.box()
     page.open("#pair=A-001&site=OSLO&x=0&y=0&z=0")
-    around = page.picture()[:height // 2 - 1, :width // 2 - 1]
+    around = page.picture()[: height // 2 - 1, : width // 2 - 1]
     results.see(len(numpy.unique(around.reshape(-1, 3), axis=0)) == 1, "something is drawn outside the plate")
 
 
 def see_zooms(results, page, plates):
-    """Eight screen pixels a plate pixel are that pixel; below one to one each ink takes its share of the light."""
+    """Eight screen pixels a plate pixel are that pixel; below one to one each ink takes its share of the
+    light."""
     read = plates_of(os.path.join(plates, "OSLO"), "A-001")
     x, y = 700, 460
     page.open(f"#pair=A-001&site=OSLO&x={x}&y={y}&z=3")
@@ -309,11 +202,15 @@ def see_zooms(results, page, plates):
     wrong = int((picture != composite(read, "CMYKS")[rows][:, columns]).any(axis=2).sum())
     results.see(wrong == 0, f"{wrong} pixels differ at eight to one")
     for zoom in (1, 2):
-        side = 2 ** zoom
+        side = 2**zoom
         page.open(f"#pair=A-001&site=OSLO&x={MIDDLE[0]}&y={MIDDLE[1]}&z=-{zoom}")
         light = numpy.ones((LENGTH // side, WIDTH // side, 3))
         for ink, plate in read.items():
-            share = plate[:LENGTH // side * side, :WIDTH // side * side].reshape(LENGTH // side, side, -1, side).mean(axis=(1, 3))
+            share = (
+                plate[: LENGTH // side * side, : WIDTH // side * side]
+                .reshape(LENGTH // side, side, -1, side)
+                .mean(axis=(1, 3))
+            )
             light *= 1 - share[:, :, None] * (1 - numpy.array(COLOURS[ink]) / 255)
         part = page.whole(side)
         off = numpy.abs(part - light * 255).max()
@@ -329,10 +226,17 @@ def see_switches(results, page, plates):
     def shows(what, inks, black=False):
         part, picture = page.seen(x, y)
         wrong = int((picture != composite(read, inks, black)[part]).any(axis=2).sum())
-        same = page.script("const now = [...document.querySelectorAll('#map canvas')];"
-                           "return now.length === window.kept.length && now.every((tile, i) => tile === window.kept[i])")
-        checked = [ink for ink in COLOURS if page.find(f"#switch-{ink}").get_attribute("aria-checked") == "true"]
-        results.see(wrong == 0 and same and checked == list(inks), f"{what}: {wrong} pixels, {checked}, tiles kept: {same}")
+        same = page.script(
+            "const now = [...document.querySelectorAll('#map canvas')];"
+            "return now.length === window.kept.length && now.every((tile, i) => tile === window.kept[i])"
+        )
+        checked = [
+            ink for ink in COLOURS if page.find(f"#switch-{ink}").get_attribute("aria-checked") == "true"
+        ]
+        results.see(
+            wrong == 0 and same and checked == list(inks),
+            f"{what}: {wrong} pixels, {checked}, tiles kept: {same}",
+        )
         results.see(page.hash()["inks"] == inks, f"{what}: the link has {page.hash()}")
 
     shows("all inks", "CMYKS")
@@ -354,88 +258,74 @@ def see_switches(results, page, plates):
     results.see(told == "All inks", f"a screen reader is told {told!r}")
     unnamed = page.script(
         "return [...document.querySelectorAll('button, select, input, #map')].filter(element =>"
-        " !(element.getAttribute('aria-label') || element.textContent.trim() || element.labels && element.labels.length))"
-        ".map(element => element.outerHTML)")
+        " !(element.getAttribute('aria-label') || element.textContent.trim()"
+        " || element.labels && element.labels.length))"
+        ".map(element => element.outerHTML)"
+    )
     results.see(not unnamed, f"without a label: {unnamed}")
 
 
 def see_moves(results, page):
     """Keys, wheel and touch move and zoom; a link names what is shown, and shows it again."""
     page.open("#pair=A-001&site=OSLO&x=700&y=500&z=0")
-    from selenium.webdriver.common.keys import Keys
-
     page.press(Keys.ARROW_RIGHT, Keys.ARROW_DOWN)
     page.settle()
     results.see((page.hash()["x"], page.hash()["y"]) == ("780", "580"), f"arrows lead to {page.hash()}")
     for key, zoom, scale in (("8", "3", "8:1"), ("-", "2", "4:1"), ("1", "0", "1:1"), ("+", "1", "2:1")):
         page.press(key)
         page.settle()
-        results.see((page.hash()["z"], page.find("#scale").text) == (zoom, scale), f"{key!r}: {page.hash()}, {page.find('#scale').text}")
+        results.see(
+            (page.hash()["z"], page.find("#scale").text) == (zoom, scale),
+            f"{key!r}: {page.hash()}, {page.find('#scale').text}",
+        )
     page.press("0")
     page.settle()
     picture, (_, _, width, height) = page.picture(), page.box()
     whole = min((width - 24) / WIDTH, (height - 24) / LENGTH)
     results.see(abs(2 ** float(page.hash()["z"]) - whole) < 0.01, f"the whole pair is at {page.hash()['z']}")
-    results.see((picture[0] == picture[0, 0]).all() and (picture[:, 0] == picture[0, 0]).all(), "the whole pair leaves the window")
+    results.see(
+        (picture[0] == picture[0, 0]).all() and (picture[:, 0] == picture[0, 0]).all(),
+        "the whole pair leaves the window",
+    )
     page.press("]")
     page.settle()
     results.see(page.hash()["pair"] == "A-002" and page.hash()["site"] == "OSLO", f"] leads to {page.hash()}")
-    page.script("const pick = document.getElementById('pick-site'); pick.value = 'BERGEN'; pick.onchange({target: pick})")
+    page.script(
+        "const pick = document.getElementById('pick-site');"
+        "pick.value = 'BERGEN'; pick.onchange({target: pick})"
+    )
     page.settle()
-    results.see("BERGEN · zone west" in page.find("#bar-view").text, f"another site: {page.find('#bar-view').text}")
+    results.see(
+        "BERGEN · zone west" in page.find("#bar-view").text, f"another site: {page.find('#bar-view').text}"
+    )
     page.press(Keys.HOME)
-    results.see(page.find("#edition").is_displayed() and not page.find("#pair").is_displayed(), "Home doesn't lead to the index")
+    results.see(
+        page.find("#edition").is_displayed() and not page.find("#pair").is_displayed(),
+        "Home doesn't lead to the index",
+    )
     page.open("#pair=A-001&site=OSLO&x=700&y=500&z=0")
     touch(page, (600, 500), (540, 470))
     page.settle()
     moved = float(page.hash()["x"]) - 700, float(page.hash()["y"]) - 500
     # A browser passes over a finger's first pixels.
     results.see(45 <= moved[0] <= 60 and 22 <= moved[1] <= 30, f"a touch moves by {moved}")
-    page.open("#pair=A-001&site=OSLO&inks=MK&x=612&y=433&z=1&show=keys,limit&over=150&keys=5&rect=64,128,640,512")
+    page.open(
+        "#pair=A-001&site=OSLO&inks=MK&x=612&y=433&z=1&show=keys,limit&over=150&keys=5&rect=64,128,640,512"
+    )
     before, link = page.picture(), page.script("return location.hash")
     page.open(link, anew=True)
-    results.see((page.picture() == before).all() and page.script("return location.hash") == link, "a link shows something else")
+    results.see(
+        (page.picture() == before).all() and page.script("return location.hash") == link,
+        "a link shows something else",
+    )
     was = page.script("return getComputedStyle(document.getElementById('map')).backgroundColor")
     page.press("n")
     is_dark = page.script("return getComputedStyle(document.getElementById('map')).backgroundColor")
-    results.see(was != is_dark and page.find("#panel .dark-switch").get_attribute("aria-pressed") == "true", "n doesn't darken")
+    results.see(
+        was != is_dark and page.find("#panel .dark-switch").get_attribute("aria-pressed") == "true",
+        "n doesn't darken",
+    )
     page.press("n")
-
-
-def touch(page, start, end):
-    """Drags a finger over the screen."""
-    from selenium.webdriver.common.actions.action_builder import ActionBuilder
-    from selenium.webdriver.common.actions.pointer_input import PointerInput
-
-    actions = ActionBuilder(page.driver, mouse=PointerInput("touch", "finger"))
-    finger = actions.pointer_action
-    finger.move_to_location(*start)
-    finger.pointer_down()
-    for part in range(1, 9):
-        finger.move_to_location(*(a + (b - a) * part // 8 for a, b in zip(start, end)))
-    finger.pause(0.4)
-    finger.pointer_up()
-    actions.perform()
-
-
-def drag(page, start, end, shift=False):
-    """Drags from one place of the screen to another."""
-    from selenium.webdriver.common.actions.action_builder import ActionBuilder
-    from selenium.webdriver.common.action_chains import ActionChains
-    from selenium.webdriver.common.keys import Keys
-
-    if shift:
-        ActionChains(page.driver).key_down(Keys.SHIFT).perform()
-    actions = ActionBuilder(page.driver)
-    mouse = actions.pointer_action
-    mouse.move_to_location(*start)
-    mouse.pointer_down()
-    mouse.move_to_location(*((a + b) // 2 for a, b in zip(start, end)))
-    mouse.move_to_location(*end)
-    mouse.pointer_up()
-    actions.perform()
-    if shift:
-        ActionChains(page.driver).key_up(Keys.SHIFT).perform()
 
 
 def see_measures(results, page, plates):
@@ -450,38 +340,49 @@ def see_measures(results, page, plates):
     totals = {ink: row.text for ink in COLOURS for row in [page.find(f"#ink-{ink} td")]}
     wanted = {ink: f"{100 * plate.mean():.1f} %" for ink, plate in read.items()}
     results.see(totals == wanted, f"the plates have {totals}, not {wanted}")
-    for way, (a, b), shift in (("the button", ((530, 700), (300, 401)), False), ("Shift", ((900, 200), (1090, 380)), True)):
+    for way, (a, b), shift in (
+        ("the button", ((530, 700), (300, 401)), False),
+        ("Shift", ((900, 200), (1090, 380)), True),
+    ):
         if not shift:
             page.press("r")
         drag(page, screen(*a), screen(*b), shift)
         x0, y0 = (min(p, q) // CELL * CELL for p, q in zip(a, b))
         x1, y1 = (-(-max(p, q) // CELL) * CELL for p, q in zip(a, b))
-        dots = {ink: int(page.find(f"#ink-{ink}").find_elements("css selector", "td")[1].get_attribute("data-dots")) for ink in COLOURS}
+        dots = {
+            ink: int(
+                page.find(f"#ink-{ink}").find_elements("css selector", "td")[1].get_attribute("data-dots")
+            )
+            for ink in COLOURS
+        }
         counted = {ink: int(plate[y0:y1, x0:x1].sum()) for ink, plate in read.items()}
         results.see(dots == counted, f"a rectangle by {way}: {dots}, not {counted}")
         results.see(page.hash()["rect"] == f"{x0},{y0},{x1},{y1}", f"a rectangle by {way}: {page.hash()}")
         sides = f"{(x1 - x0) * 25.4 / 1200:.1f} by {(y1 - y0) * 25.4 / 1200:.1f} mm"
-        results.see(sides in page.find("#rect-line").text, f"it says {page.find('#rect-line').text}, not {sides}")
+        results.see(
+            sides in page.find("#rect-line").text, f"it says {page.find('#rect-line').text}, not {sides}"
+        )
         if not shift:
             page.press("r")
     page.press("v")
-    inside = [max(0, x - width // 2) // CELL * CELL, max(0, y - height // 2) // CELL * CELL,
-              min(WIDTH, -(-(x - width // 2 + width) // CELL) * CELL), min(LENGTH, -(-(y - height // 2 + height) // CELL) * CELL)]
-    results.see(page.hash()["rect"] == ",".join(map(str, inside)), f"what is in view: {page.hash()['rect']}, not {inside}")
-    from selenium.webdriver.common.keys import Keys
-
+    inside = [
+        max(0, x - width // 2) // CELL * CELL,
+        max(0, y - height // 2) // CELL * CELL,
+        min(WIDTH, -(-(x - width // 2 + width) // CELL) * CELL),
+        min(LENGTH, -(-(y - height // 2 + height) // CELL) * CELL),
+    ]
+    results.see(
+        page.hash()["rect"] == ",".join(map(str, inside)),
+        f"what is in view: {page.hash()['rect']}, not {inside}",
+    )
     page.press(Keys.ESCAPE)
     results.see("rect" not in page.hash(), "Escape leaves the rectangle")
-    from selenium.webdriver.common.actions.action_builder import ActionBuilder
-
     for place, wanted in (
         ((310, 150), ["6.6, 3.2 mm · pixel 310, 150", "page 4 (back): 5.9, 2.8 mm"]),
         ((1000, 130), ["21.2, 2.8 mm · pixel 1000, 130", "page 1 (front): 4.9, 2.3 mm"]),
         ((740, 200), ["15.7, 4.2 mm · pixel 740, 200", "no page"]),
     ):
-        actions = ActionBuilder(page.driver)
-        actions.pointer_action.move_to_location(*screen(*place))
-        actions.perform()
+        page.point(screen(*place))
         said = [page.find(name).text for name in ("#bar-place", "#bar-page")]
         results.see(said == wanted, f"at {place} the bar says {said}, not {wanted}")
 
@@ -490,17 +391,32 @@ def see_keys(results, page, program, folder, plan):
     """The bars below the plate are the counts of `plateroom keys`."""
     for count in (8, 5):
         page.open(f"#pair=A-001&site=OSLO&show=keys&keys={count}")
-        bars = page.script("return [...document.querySelectorAll('#map rect[data-key]')].map(bar => [bar.dataset.ink, +bar.dataset.key, +bar.dataset.dots])")
-        found = {ink: [dots for _, dots in sorted((key, dots) for of, key, dots in bars if of == ink)] for ink in COLOURS}
-        answer = subprocess.run([program, "keys", plan, EXAMPLES, os.path.join(folder, "keys"), str(count)], capture_output=True, text=True)
+        bars = page.script(
+            "return [...document.querySelectorAll('#map rect[data-key]')]"
+            ".map(bar => [bar.dataset.ink, +bar.dataset.key, +bar.dataset.dots])"
+        )
+        found = {
+            ink: [dots for _, dots in sorted((key, dots) for of, key, dots in bars if of == ink)]
+            for ink in COLOURS
+        }
+        answer = subprocess.run(
+            [program, "keys", plan, EXAMPLES, os.path.join(folder, "keys"), str(count)],
+            capture_output=True,
+            text=True,
+        )
         lines = [line.split() for line in answer.stdout.splitlines() if line.startswith("keys ")]
         wanted = {name[-1]: list(map(int, dots)) for _, _, name, *dots in lines if name.startswith("A-001-")}
         results.see(found == wanted, f"{count} keys: {found}, not {wanted}")
     page.press("c", "m", "y", "s")
-    inks = page.script("return [...new Set([...document.querySelectorAll('#map rect[data-key]')].map(bar => bar.dataset.ink))].join('')")
+    inks = page.script(
+        "const bars = [...document.querySelectorAll('#map rect[data-key]')];"
+        "return [...new Set(bars.map(bar => bar.dataset.ink))].join('')"
+    )
     results.see(inks == "K", f"with black alone the keys show {inks}")
     page.press("i")
-    results.see(not page.driver.find_elements("css selector", "#map rect[data-key]"), "i doesn't take the keys away")
+    results.see(
+        not page.driver.find_elements("css selector", "#map rect[data-key]"), "i doesn't take the keys away"
+    )
 
 
 def see_limit(results, page, plates):
@@ -510,9 +426,14 @@ def see_limit(results, page, plates):
     sums = numpy.zeros((rows, columns))
     for row in range(rows):
         for column in range(columns):
-            sums[row, column] = 100 * sum(read[ink][row * CELL:row * CELL + CELL, column * CELL:column * CELL + CELL].mean() for ink in "CMYK")
+            sums[row, column] = 100 * sum(
+                read[ink][row * CELL : row * CELL + CELL, column * CELL : column * CELL + CELL].mean()
+                for ink in "CMYK"
+            )
     page.open("#pair=A-001&site=OSLO")
-    results.see(page.find("#over").get_attribute("value") == "305", "the plan's limit of 300 percent isn't the first")
+    results.see(
+        page.find("#over").get_attribute("value") == "305", "the plan's limit of 300 percent isn't the first"
+    )
     for over in (int(numpy.median(sums[sums > 1])), int(sums.max()) - 8):
         wanted = numpy.kron(sums > over, numpy.ones((CELL, CELL), bool))[:LENGTH, :WIDTH]
         wrong = 0
@@ -520,16 +441,24 @@ def see_limit(results, page, plates):
             page.open(f"#pair=A-001&site=OSLO&inks=&x={x}&y={y}&z=0&show=limit&over={over}")
             part, picture = page.seen(x, y)
             wrong += int(((picture != 255).any(axis=2) != wanted[part]).sum())
-        results.see(wrong == 0 and 0 < wanted.mean() < 0.9, f"above {over}: {wrong} pixels are marked wrongly")
+        results.see(
+            wrong == 0 and 0 < wanted.mean() < 0.9, f"above {over}: {wrong} pixels are marked wrongly"
+        )
         line = page.find("#over-line").text
-        results.see(line.startswith(f"{int((sums > over).sum())} squares") and "limit is 300 %" in line, f"it says {line!r}")
+        results.see(
+            line.startswith(f"{int((sums > over).sum())} squares") and "limit is 300 %" in line,
+            f"it says {line!r}",
+        )
 
 
 def see_changes(results, page, folder, plates, old):
     """The difference layer shows the pixels that differ, and the list names the pairs that changed."""
     page.open()
     lines = [line.text for line in page.driver.find_elements("css selector", "#changed li")]
-    both = {site: [plates_of(os.path.join(where, site), "A-001") for where in (plates, old)] for site in ("OSLO", "BERGEN")}
+    both = {
+        site: [plates_of(os.path.join(where, site), "A-001") for where in (plates, old)]
+        for site in ("OSLO", "BERGEN")
+    }
     new, was = both["OSLO"]
 
     def told(ink):
@@ -538,13 +467,30 @@ def see_changes(results, page, folder, plates, old):
 
     changed = [ink for ink in COLOURS if (new[ink] != was[ink]).any()]
     wanted = "A-001 at BERGEN, OSLO: " + "; ".join(map(told, changed))
-    results.see(lines[0] == wanted and set(changed) >= {"M", "S"} and len(changed) < 5, f"the list has {lines[0]!r}, not {wanted!r}")
-    results.see([line.split(":")[0] for line in lines] == ["A-001 at BERGEN, OSLO", "A-002 at BERGEN", "C-001 at BERGEN, OSLO", "B-001 at BERGEN", "B-001 at OSLO"],
-                f"changed: {lines}")
-    results.see(lines[2:] == ["C-001 at BERGEN, OSLO: is new", "B-001 at BERGEN: is gone", "B-001 at OSLO: is gone"], f"changed: {lines[2:]}")
+    results.see(
+        lines[0] == wanted and set(changed) >= {"M", "S"} and len(changed) < 5,
+        f"the list has {lines[0]!r}, not {wanted!r}",
+    )
+    results.see(
+        [line.split(":")[0] for line in lines]
+        == [
+            "A-001 at BERGEN, OSLO",
+            "A-002 at BERGEN",
+            "C-001 at BERGEN, OSLO",
+            "B-001 at BERGEN",
+            "B-001 at OSLO",
+        ],
+        f"changed: {lines}",
+    )
+    results.see(
+        lines[2:] == ["C-001 at BERGEN, OSLO: is new", "B-001 at BERGEN: is gone", "B-001 at OSLO: is gone"],
+        f"changed: {lines[2:]}",
+    )
     page.find("#changed a").click()
     page.settle()
-    results.see(page.hash()["pair"] == "A-001" and page.hash()["show"] == "changes", f"a line leads to {page.hash()}")
+    results.see(
+        page.hash()["pair"] == "A-001" and page.hash()["show"] == "changes", f"a line leads to {page.hash()}"
+    )
     for inks in ("M", "S", "K", "CMYKS"):
         came, went = numpy.zeros((LENGTH, WIDTH), bool), numpy.zeros((LENGTH, WIDTH), bool)
         for ink in inks:
@@ -562,7 +508,9 @@ def see_changes(results, page, folder, plates, old):
     differs = (new["S"] != was["S"]).reshape(LENGTH // 4, 4, -1, 4).any(axis=(1, 3))
     part = page.whole(4)
     marked = numpy.abs(part[:, :, 0] - part[:, :, 2]) > 100
-    results.see((marked == differs).all(), f"from afar {int((marked != differs).sum())} blocks are marked wrongly")
+    results.see(
+        (marked == differs).all(), f"from afar {int((marked != differs).sum())} blocks are marked wrongly"
+    )
     page.press("d")
     page.settle()
     results.see("show" not in page.hash(), "d doesn't take the changes away")
@@ -582,8 +530,13 @@ def see_damage(results, page, folder, plan, plates):
     status, said, _ = tool(hurt, out, "--plan", plan, "--spot", "18,120,60", "--jobs", 2)
     faults = [line for line in said.splitlines() if line.startswith("fault: ")]
     results.see(status == 1 and len(faults) == 2, f"damaged plates: {status}, {said}")
-    results.see(any(line.startswith(f"fault: {path}: strip ") for line in faults), f"the first isn't named: {faults}")
-    results.see(any("A-002-K.tif: begun and not finished" in line for line in faults), f"the second isn't named: {faults}")
+    results.see(
+        any(line.startswith(f"fault: {path}: strip ") for line in faults), f"the first isn't named: {faults}"
+    )
+    results.see(
+        any("A-002-K.tif: begun and not finished" in line for line in faults),
+        f"the second isn't named: {faults}",
+    )
     page.address = "file://" + os.path.join(out, "index.html")
     page.open()
     lines = [line.text for line in page.driver.find_elements("css selector", "#damaged li")]
@@ -592,8 +545,14 @@ def see_damage(results, page, folder, plan, plates):
     page.open(f"#pair=A-001&site=OSLO&x={x}&y={y}&z=0")
     part, picture = page.seen(x, y)
     wrong = int((picture != composite(read, "CYKS")[part]).any(axis=2).sum())
-    results.see(wrong == 0 and not page.find("#switch-M").is_enabled(), f"beside a damaged plate {wrong} pixels differ")
-    results.see("Magenta is damaged" in page.find("#pair-damage").text, f"the pair says {page.find('#pair-damage').text!r}")
+    results.see(
+        wrong == 0 and not page.find("#switch-M").is_enabled(),
+        f"beside a damaged plate {wrong} pixels differ",
+    )
+    results.see(
+        "Magenta is damaged" in page.find("#pair-damage").text,
+        f"the pair says {page.find('#pair-damage').text!r}",
+    )
     page.open(f"#pair=A-001&site=BERGEN&x={x}&y={y}&z=0")
     part, picture = page.seen(x, y)
     results.see((picture == composite(read, "CMYKS")[part]).all(), "the other site's plates aren't shown")
@@ -639,9 +598,6 @@ def main():
     if lacks:
         print(f"skipped: the proof in the browser ({', '.join(lacks)} isn't installed)")
         results.end()
-    global numpy
-    import numpy
-
     with tempfile.TemporaryDirectory(prefix="plateroom-web-") as folder:
         plan, plates = run(sys.argv[1], folder, "new", edition())
         _, old = run(sys.argv[1], folder, "old", earlier())
@@ -650,15 +606,23 @@ def main():
         page = Page("file://" + os.path.join(out, "index.html"))
         try:
             for see, words in (
-                (see_index, ()), (see_native, (plates,)), (see_zooms, (plates,)), (see_switches, (plates,)), (see_moves, ()),
-                (see_measures, (plates,)), (see_keys, (sys.argv[1], folder, plan)), (see_limit, (plates,)),
+                (see_index, ()),
+                (see_native, (plates,)),
+                (see_zooms, (plates,)),
+                (see_switches, (plates,)),
+                (see_moves, ()),
+                (see_measures, (plates,)),
+                (see_keys, (sys.argv[1], folder, plan)),
+                (see_limit, (plates,)),
             ):
                 begun = time.monotonic()
                 see(results, page, *words)
                 print(f"{see.__name__}: {time.monotonic() - begun:.0f} s", flush=True)
             both = os.path.join(folder, "web-both")
             status, said, error = tool(plates, both, "--plan", plan, "--old", old, "--spot", "18,120,60")
-            results.see(status == 0 and "3 of 4 views changed" in said, f"with --old: {status}, {said}{error}")
+            results.see(
+                status == 0 and "3 of 4 views changed" in said, f"with --old: {status}, {said}{error}"
+            )
             page.address = "file://" + os.path.join(both, "index.html")
             see_changes(results, page, folder, plates, old)
             see_damage(results, page, folder, plan, plates)

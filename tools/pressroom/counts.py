@@ -5,7 +5,8 @@ from pressroom.proof import rows_of
 
 
 def bands(plate, rows):
-    """The plate's rows from the top as arrays of packed bytes, so many rows in each; the last may have fewer."""
+    """The plate's rows from the top as arrays of packed bytes, so many rows in each; the last may have
+    fewer."""
     kept, count = [], 0
     for strip in range(plate.strips):
         data = rows_of(plate, strip)

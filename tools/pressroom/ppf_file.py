@@ -1,8 +1,8 @@
 """Writes CIP3 PPF 3.0: one sheet with its front, and a preview image of each separation.
 
-A sample is PostScript's grey: 0 is full ink, 255 bare paper. Samples are run-length coded and then written as hex
-digits, so that the file is 7-bit text of short lines. The preview has whole pixels: where the plate ends within one,
-the rest of it is paper, and so the extent is that of the preview.
+A sample is PostScript's grey: 0 is full ink, 255 bare paper. Samples are run-length coded and then written
+as hex digits, so that the file is 7-bit text of short lines. The preview has whole pixels: where the plate
+ends within one, the rest of it is paper, and so the extent is that of the preview.
 """
 from pressroom import __version__
 
@@ -24,7 +24,9 @@ def number(value):
 def string(text):
     """A PostScript string in 7-bit characters; what Latin-1 doesn't have becomes a question mark."""
     codes = text.encode("latin-1", "replace")
-    inner = "".join(chr(code) if 32 <= code < 127 and code not in b"()\\" else f"\\{code:03o}" for code in codes)
+    inner = "".join(
+        chr(code) if 32 <= code < 127 and code not in b"()\\" else f"\\{code:03o}" for code in codes
+    )
     return f"({inner})"
 
 
@@ -67,16 +69,18 @@ def separation(samples, matrix, resolution):
     digits = run_lengths(samples.tobytes()).hex().upper()
     return [
         "CIP3BeginSeparation",
-        *definitions([
-            ("CIP3PreviewImageWidth", width),
-            ("CIP3PreviewImageHeight", height),
-            ("CIP3PreviewImageBitsPerComp", 8),
-            ("CIP3PreviewImageComponents", 1),
-            ("CIP3PreviewImageMatrix", matrix),
-            ("CIP3PreviewImageResolution", f"[{number(resolution)} {number(resolution)}]"),
-            ("CIP3PreviewImageEncoding", "/ASCIIHexDecode"),
-            ("CIP3PreviewImageCompression", "/RunLengthDecode"),
-        ]),
+        *definitions(
+            [
+                ("CIP3PreviewImageWidth", width),
+                ("CIP3PreviewImageHeight", height),
+                ("CIP3PreviewImageBitsPerComp", 8),
+                ("CIP3PreviewImageComponents", 1),
+                ("CIP3PreviewImageMatrix", matrix),
+                ("CIP3PreviewImageResolution", f"[{number(resolution)} {number(resolution)}]"),
+                ("CIP3PreviewImageEncoding", "/ASCIIHexDecode"),
+                ("CIP3PreviewImageCompression", "/RunLengthDecode"),
+            ]
+        ),
         "CIP3PreviewImage",
         *(digits[at : at + LINE] for at in range(0, len(digits), LINE)),
         ">",
@@ -95,13 +99,15 @@ def text_of(job, sheet, sites, dpi, separations):
         "%%CIP3-File Version 3.0",
         *(f"% site {site}" for site in sites),
         "CIP3BeginSheet",
-        *definitions([
-            ("CIP3AdmJobName", string(job)),
-            ("CIP3AdmSheetName", string(sheet)),
-            ("CIP3AdmMake", string("plateroom")),
-            ("CIP3AdmSoftware", string(f"pressroom {__version__}")),
-            ("CIP3AdmPSExtent", f"[{' '.join(extent)}]"),
-        ]),
+        *definitions(
+            [
+                ("CIP3AdmJobName", string(job)),
+                ("CIP3AdmSheetName", string(sheet)),
+                ("CIP3AdmMake", string("plateroom")),
+                ("CIP3AdmSoftware", string(f"pressroom {__version__}")),
+                ("CIP3AdmPSExtent", f"[{' '.join(extent)}]"),
+            ]
+        ),
         "CIP3BeginFront",
         *definitions([("CIP3AdmSeparationNames", f"[{' '.join(string(name) for name, _ in separations)}]")]),
         "CIP3BeginPreviewImage",

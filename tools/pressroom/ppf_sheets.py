@@ -1,4 +1,5 @@
-"""The sheets of an edition's plates: counts each plate once, and writes a PPF file for each pair and its sites."""
+"""The sheets of an edition's plates: counts each plate once, and writes a PPF file for each pair and its
+sites."""
 import os
 from concurrent.futures import ThreadPoolExecutor
 
@@ -86,6 +87,7 @@ class Sheets:
 
     def counted(self, sheets):
         """Each pair with its sites and counted plates, sheet by sheet; a damaged plate is its fault."""
+
         def count(path):
             try:
                 return Plate(path)
@@ -111,11 +113,19 @@ class Sheets:
         name = f"{self.edition}-{pair}-{sites[0]}.ppf"
         self.put(name, ppf_file.text_of(self.edition, pair, sites, dpi, separations))
         for count, rows in self.rows.items():
-            rows += [key_table.Row(pair, sites, ink, self.names[ink], plate, count, self.press)
-                     for ink, plate in plates.items()]
+            rows += [
+                key_table.Row(pair, sites, ink, self.names[ink], plate, count, self.press)
+                for ink, plate in plates.items()
+            ]
         dots = {ink: plate.counts.total() for ink, plate in plates.items()}
-        self.console.tell("file", f"{name}: {' '.join(plates)} for {' '.join(sites)}", name=name, pair=pair, sites=sites,
-                          dots=dots)
+        self.console.tell(
+            "file",
+            f"{name}: {' '.join(plates)} for {' '.join(sites)}",
+            name=name,
+            pair=pair,
+            sites=sites,
+            dots=dots,
+        )
 
     def put(self, name, text):
         """Writes a file under another name first, so that none is there in part."""

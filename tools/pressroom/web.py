@@ -1,15 +1,15 @@
 """Makes a folder in which plates are looked at with a browser, from any web server or straight from a disk.
 
-PLATES is the folder of a run, with a folder for each site, or one site's folder. OUT gets index.html, tiles of each
-plate and the data of the page. Plates that sites share are cut into tiles once. OUT appears when all is made; an
-earlier proof there is replaced. A damaged plate is named, and the others are shown.
+PLATES is the folder of a run, with a folder for each site, or one site's folder. OUT gets index.html, tiles
+of each plate and the data of the page. Plates that sites share are cut into tiles once. OUT appears when all
+is made; an earlier proof there is replaced. A damaged plate is named, and the others are shown.
 
 With --plan the proof knows zones, pages and the ink limit, with --old what changed since an earlier edition.
 
 example: pressroom web plates proof --plan plan.json --old yesterday/plates --jobs 4
 
-status: 0 the proof is made; 1 it is made and plates are damaged: the lines name them; 2 the arguments are wrong, or
-there are no plates, or a program or a library isn't installed, or OUT can't be written
+status: 0 the proof is made; 1 it is made and plates are damaged: the lines name them; 2 the arguments are
+wrong, or there are no plates, or a program or a library isn't installed, or OUT can't be written
 """
 import argparse
 import os
@@ -35,19 +35,40 @@ def whole(least, most):
 
 
 def read_words():
-    parser = argparse.ArgumentParser(description=__doc__, formatter_class=argparse.RawDescriptionHelpFormatter)
+    parser = argparse.ArgumentParser(
+        description=__doc__, formatter_class=argparse.RawDescriptionHelpFormatter
+    )
     parser.add_argument("plates", metavar="PLATES", help="the folder of a run, or of one site")
     parser.add_argument("out", metavar="OUT", help="the folder to make")
     parser.add_argument("--old", metavar="PLATES", help="plates of an earlier edition: shows what changed")
-    parser.add_argument("--plan", metavar="PLAN", action="append", default=[],
-                        help="the edition plan, for zones, pages and the limit; once for each press")
+    parser.add_argument(
+        "--plan",
+        metavar="PLAN",
+        action="append",
+        default=[],
+        help="the edition plan, for zones, pages and the limit; once for each press",
+    )
     parser.add_argument("--house", metavar="FILE", help="the house file, for the spot's name and colour")
-    parser.add_argument("--spot", metavar="R,G,B", help="the spot's colour on paper (255,100,0)",
-                        type=proof.numbers("RED,GREEN,BLUE of 0 to 255", (0, 255), (0, 255), (0, 255)))
-    parser.add_argument("--keys", metavar="N", action="append", type=whole(1, 64),
-                        help="ink keys over a plate, as in `plateroom keys`; may be repeated (32)")
-    parser.add_argument("--jobs", metavar="N", type=whole(1, 256), default=os.cpu_count() or 1,
-                        help="plates at a time (as many as there are processors)")
+    parser.add_argument(
+        "--spot",
+        metavar="R,G,B",
+        help="the spot's colour on paper (255,100,0)",
+        type=proof.numbers("RED,GREEN,BLUE of 0 to 255", (0, 255), (0, 255), (0, 255)),
+    )
+    parser.add_argument(
+        "--keys",
+        metavar="N",
+        action="append",
+        type=whole(1, 64),
+        help="ink keys over a plate, as in `plateroom keys`; may be repeated (32)",
+    )
+    parser.add_argument(
+        "--jobs",
+        metavar="N",
+        type=whole(1, 256),
+        default=os.cpu_count() or 1,
+        help="plates at a time (as many as there are processors)",
+    )
     parser.add_argument("--json", action="store_true", help="tell events as JSON, one a line")
     parser.add_argument("--version", action="version", version=f"pressroom {__version__}")
     return parser.parse_args()
@@ -99,7 +120,7 @@ def size_of(folder):
 
 
 def make(words, console):
-    """Makes the proof in a folder beside OUT, which then gets its name. Returns how many plates are damaged."""
+    """Makes the proof beside OUT, gives it that name, and returns how many plates are damaged."""
     from pressroom.web_proof import Proof
 
     out = os.path.abspath(words.out)
@@ -118,8 +139,14 @@ def make(words, console):
     finally:
         shutil.rmtree(room, ignore_errors=True)
     page = os.path.join(words.out, "index.html")
-    console.tell("done", f"{page}: {made.summary()}, {size / 1e6:.1f} MB", page=page, bytes=size,
-                 plates=len(made.plates), damaged=len(made.damaged))
+    console.tell(
+        "done",
+        f"{page}: {made.summary()}, {size / 1e6:.1f} MB",
+        page=page,
+        bytes=size,
+        plates=len(made.plates),
+        damaged=len(made.damaged),
+    )
     return len(made.damaged)
 
 

@@ -28,11 +28,13 @@ class Changes:
             number = len(self.asked)
             size = next(((plate.width, plate.length) for plate in view.plates.values()), None)
             found[ink] = self.asked.setdefault(
-                (new, old, size), {"key": f"{view.pair}-{ink}-{number}", "dots": [0, 0], "fault": None})
+                (new, old, size), {"key": f"{view.pair}-{ink}-{number}", "dots": [0, 0], "fault": None}
+            )
         return found
 
     def make(self, pool):
         """Compares what differs, several plates at a time."""
+
         def one(item):
             (new, old, size), change = item
             try:
@@ -49,7 +51,9 @@ class Changes:
         plates = [open_plate(self.paths[content]) if content else None for content in (new, old)]
         for plate in plates:
             if plate and (plate.width, plate.length) != size:
-                raise Broken(f"the plates differ in size: {plate.path} has {plate.width} by {plate.length} pixels")
+                raise Broken(
+                    f"the plates differ in size: {plate.path} has {plate.width} by {plate.length} pixels"
+                )
         names = [os.path.join(self.proof.folder, f"{change['key']}.{kind}.pbm") for kind in ("came", "went")]
         try:
             change["dots"] = self.images(plates, size, names)
@@ -68,8 +72,10 @@ class Changes:
     def images(self, plates, size, names):
         """Writes the dots that came and those that went as bitmaps and returns how many they are."""
         bare = numpy.zeros((ROWS, (size[0] + 7) // 8), numpy.uint8)
-        rows = [bands(plate, ROWS) if plate else (bare[: size[1] - y] for y in range(0, size[1], ROWS))
-                for plate in plates]
+        rows = [
+            bands(plate, ROWS) if plate else (bare[: size[1] - y] for y in range(0, size[1], ROWS))
+            for plate in plates
+        ]
         dots = [0, 0]
         with open(names[0], "wb") as came, open(names[1], "wb") as went:
             for file in (came, went):

@@ -7,7 +7,8 @@ NO_LIMIT = 1020
 
 
 class Sheet:
-    """The plates of one site by its plan: the zone, the limit in percent or None, and the pages of each pair."""
+    """The plates of one site by its plan: the zone, the limit in percent or None, and the pages of each
+    pair."""
 
     def __init__(self, plan, site):
         self.zone = site.get("zone")
@@ -19,8 +20,9 @@ class Sheet:
         zones = {zone["name"]: zone["replace"] for zone in plan.get("zones", [])}
         other = {(item["section"], item["page"]): item["with"] for item in zones.get(self.zone, [])}
         self.sections = {
-            section["name"]: [other.get((section["name"], number), name)
-                              for number, name in enumerate(section["pages"], 1)]
+            section["name"]: [
+                other.get((section["name"], number), name) for number, name in enumerate(section["pages"], 1)
+            ]
             for section in plan["sections"]
         }
 

@@ -1,8 +1,8 @@
 """Cuts a plate into tiles by vips: `Z/Y/X.png`, where at Z = 0 the whole plate is one tile.
 
-At the native level, the last, a tile holds the plate's bits, one bit a pixel. The level above it isn't stored, since a
-page draws it from four native tiles; above that come tiles of grey, the means of the dots. Tiles without a dot aren't
-stored either: a bit for each tile of a level says which are there.
+At the native level, the last, a tile holds the plate's bits, one bit a pixel. The level above it isn't
+stored, since a page draws it from four native tiles; above that come tiles of grey, the means of the dots.
+Tiles without a dot aren't stored either: a bit for each tile of a level says which are there.
 """
 import os
 import shutil
@@ -34,8 +34,22 @@ def vips(*words):
 
 
 def save(image, folder, suffix, *words):
-    vips("dzsave", image, folder, "--layout", "google", "--suffix", suffix, "--tile-size", str(SIDE),
-         "--background", "255", "--skip-blanks", "0", *words)
+    vips(
+        "dzsave",
+        image,
+        folder,
+        "--layout",
+        "google",
+        "--suffix",
+        suffix,
+        "--tile-size",
+        str(SIDE),
+        "--background",
+        "255",
+        "--skip-blanks",
+        "0",
+        *words,
+    )
 
 
 def move_levels(made, folder, names):
@@ -71,14 +85,15 @@ def cut_changes(image, folder, width, length):
 
 
 def described(folder, width, length, levels):
-    """Which tiles of each level there are, as the digits of a number in base 16: the first tile is its highest bit."""
+    """Which tiles of each level there are, as a number in base 16 whose highest bit is the first tile."""
     native, there = levels_of(width, length), {}
     for level in levels:
         side = SIDE << (native - level)
         columns, rows = -(-width // side), -(-length // side)
         bits = "".join(
             "01"[os.path.exists(os.path.join(folder, str(level), str(y), f"{x}.png"))]
-            for y in range(rows) for x in range(columns)
+            for y in range(rows)
+            for x in range(columns)
         )
         bits += "0" * (-len(bits) % 4)
         there[level] = f"{int(bits, 2):0{len(bits) // 4}x}"
