@@ -2,7 +2,8 @@
 // Places are pixels of the plate: Leaflet's lat is y, from the top, and its lng is x.
 'use strict';
 (() => {
-const TILE = 512, CLOSEST = 3, SEPARATION = [0, 0, 0];
+// Zooms: the closest shows eight screen pixels a plate pixel, the farthest a quarter of the first level.
+const TILE = 512, CLOSEST = 3, FARTHEST = -2, SEPARATION = [0, 0, 0];
 const CAME = [0, 96, 255], WENT = [255, 60, 0];
 const OVER = 'rgba(255, 0, 110, 0.6)', FADED = 'rgba(255, 255, 255, 0.7)';
 const LETTERS = Object.keys(PROOF.inks), LIMITED = ['C', 'M', 'Y', 'K'];
@@ -374,7 +375,7 @@ function fillScale() {
   const zoom = map.getZoom() - now.view.native;
   const times = 2 ** Math.abs(zoom), text = Number.isInteger(zoom) ? times : times.toFixed(1);
   byId('scale').textContent = zoom >= 0 ? `${text}:1` : `1:${text}`;
-  byId('map').classList.toggle('enlarged', zoom > 0);
+  byId('map').classList.toggle('enlarged', zoom >= 0);
 }
 
 // Links: everything that is shown stands behind the # of the address.
@@ -415,7 +416,7 @@ function readLink() {
   now.over = number('over', 0, 400) ?? (view.limit ? view.limit + GRAIN : NO_LIMIT);
   const x = number('x', 0, view.width), y = number('y', 0, 2 * view.length);
   const rect = link.has('rect') ? link.get('rect').split(',').map(Number) : null;
-  showPair(view, site, {x, y, z: number('z', -view.native, CLOSEST)}, rect);
+  showPair(view, site, {x, y, z: number('z', FARTHEST - view.native, CLOSEST)}, rect);
 }
 
 // The index.
@@ -500,8 +501,9 @@ function showPair(view, site, at, rect) {
   if (at.x !== null && at.y !== null && at.z !== null) place([at.y, at.x], view.native + at.z);
   else fit();
   plates = new Plates({
-    tileSize: TILE, minZoom: 0, maxZoom: view.native + CLOSEST, maxNativeZoom: view.native, noWrap: true,
-    bounds: [[0, 0], [view.length, view.width]], updateWhenIdle: false, keepBuffer: 3,
+    tileSize: TILE, minZoom: FARTHEST, maxZoom: view.native + CLOSEST, minNativeZoom: 0,
+    maxNativeZoom: view.native, noWrap: true, bounds: [[0, 0], [view.length, view.width]],
+    updateWhenIdle: false, keepBuffer: 3,
   }).addTo(map);
   fillScale();
   fillBar();
@@ -517,8 +519,10 @@ function showPair(view, site, at, rect) {
 function makeMap(view) {
   const part = 1 / 2 ** view.native, calm = matchMedia('(prefers-reduced-motion: reduce)').matches;
   const crs = L.extend({}, L.CRS.Simple, {transformation: new L.Transformation(part, 0, part, 0)});
-  map = L.map('map', {crs, minZoom: 0, maxZoom: view.native + CLOSEST, zoomControl: false, boxZoom: false,
-    attributionControl: false, keyboard: false, fadeAnimation: false, zoomAnimation: !calm});
+  map = L.map('map', {
+    crs, minZoom: FARTHEST, maxZoom: view.native + CLOSEST, zoomControl: false, boxZoom: false,
+    attributionControl: false, keyboard: false, fadeAnimation: false, zoomAnimation: !calm,
+  });
   cross = make('div', {class: 'cross', 'aria-hidden': true});
   byId('map').append(cross);
   map.on('mousemove', event => { pointer = event.latlng; cross.hidden = true; fillBar(); });
@@ -537,7 +541,7 @@ function fit() {
   const {length, width, native} = now.view, size = map.getSize();
   const below = now.keys ? width / 9 + width / 80 : 0;
   const zoom = Math.log2(Math.min((size.x - 24) / width, (size.y - 24) / (length + below)));
-  place([(length + below) / 2, width / 2], Math.max(0, Math.min(native + CLOSEST, native + zoom)));
+  place([(length + below) / 2, width / 2], Math.max(FARTHEST, Math.min(native + CLOSEST, native + zoom)));
 }
 function fillPanel() {
   const {view, site} = now, damage = Object.entries(view.damaged);
