@@ -19,7 +19,7 @@ try:
 except ImportError:
     numpy = Keys = None
 
-WAIT = 20
+WAIT = 60
 # Where the middle of the window lies when whole blocks are looked at.
 MIDDLE = 752, 552
 ARGUMENTS = (
