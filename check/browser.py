@@ -112,6 +112,11 @@ class Page:
         left, top = (picture.shape[1 - i] // 2 - MIDDLE[i] // side for i in (0, 1))
         return picture[top : top + LENGTH // side, left : left + WIDTH // side]
 
+    def on_screen(self, pixel, middle):
+        """Where a plate pixel lies on the screen at one to one, when another is in the middle of the map."""
+        left, top, width, height = self.box()
+        return left + width // 2 + pixel[0] - middle[0], top + height // 2 + pixel[1] - middle[1]
+
     def point(self, place):
         """Moves the mouse to a place of the screen."""
         actions = ActionBuilder(self.driver)

@@ -190,17 +190,10 @@ def see_tables(results, program, folder, plan, plates):
     with open(os.path.join(out, "E1-A-001-BERGEN.ppf"), "rb") as file:
         see_text(results, "a spot's name", file.read(), ["BERGEN", "OSLO"], list(NAMES), names)
     for count in (5, 64):
-        answer = subprocess.run(
-            [program, "keys", plan, EXAMPLES, os.path.join(folder, "keys"), str(count)],
-            capture_output=True,
-            text=True,
-        )
-        wanted = sorted(
-            (name, list(map(int, dots)))
-            for _, _, name, *dots in (
-                line.split() for line in answer.stdout.splitlines() if line.startswith("keys ")
-            )
-        )
+        words = [program, "keys", plan, EXAMPLES, os.path.join(folder, "keys"), str(count)]
+        answer = subprocess.run(words, capture_output=True, text=True)
+        lines = [line.split() for line in answer.stdout.splitlines() if line.startswith("keys ")]
+        wanted = sorted((name, list(map(int, dots))) for _, _, name, *dots in lines)
         with open(os.path.join(out, f"keys-{count}.json"), encoding="utf-8") as file:
             table = json.load(file)
         found = sorted((f"{plate['pair']}-{plate['ink']}", plate["dots"]) for plate in table["plates"])
@@ -211,30 +204,32 @@ def see_tables(results, program, folder, plan, plates):
             (table["keys"], table["press"]) == (count, {"width": 6.3, "offset": -2.5}),
             f"keys-{count}.json: {table['press']}",
         )
-        with open(os.path.join(out, f"keys-{count}.csv"), encoding="utf-8", newline="") as file:
-            lines = list(csv.DictReader(file))
-        flat = [
-            (
-                plate["pair"],
-                " ".join(plate["sites"]),
-                plate["ink"],
-                str(key + 1),
-                str(plate["dots"][key]),
-                str(plate["pixels"][key]),
-                f"{plate['percent'][key]:.3f}",
-                f"{plate['press_percent'][key]:.3f}",
-            )
-            for plate in table["plates"]
-            for key in range(count)
-        ]
-        keys = "pair", "sites", "ink", "key", "dots", "pixels", "percent", "press_percent"
-        results.see(
-            [tuple(line[key] for key in keys) for line in lines] == flat,
-            f"keys-{count}.csv differs from the JSON",
-        )
+        see_same(results, os.path.join(out, f"keys-{count}.csv"), table)
         for plate in table["plates"]:
             read = plates_of(os.path.join(plates, plate["sites"][0]), plate["pair"])[plate["ink"]]
             see_shares(results, plate, read, count)
+
+
+def see_same(results, path, table):
+    """The CSV has the rows of the JSON."""
+    with open(path, encoding="utf-8", newline="") as file:
+        lines = list(csv.DictReader(file))
+    flat = [
+        {
+            "pair": plate["pair"],
+            "sites": " ".join(plate["sites"]),
+            "ink": plate["ink"],
+            "name": plate["name"],
+            "key": str(key + 1),
+            "dots": str(plate["dots"][key]),
+            "pixels": str(plate["pixels"][key]),
+            "percent": f"{plate['percent'][key]:.3f}",
+            "press_percent": f"{plate['press_percent'][key]:.3f}",
+        }
+        for plate in table["plates"]
+        for key in range(table["keys"])
+    ]
+    results.see(lines == flat, f"{os.path.basename(path)} differs from the JSON")
 
 
 def see_shares(results, plate, read, count):

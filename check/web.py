@@ -266,7 +266,7 @@ def see_switches(results, page, plates):
 
 
 def see_moves(results, page):
-    """Keys, wheel and touch move and zoom; a link names what is shown, and shows it again."""
+    """Keys move and zoom."""
     page.open("#pair=A-001&site=OSLO&x=700&y=500&z=0")
     page.press(Keys.ARROW_RIGHT, Keys.ARROW_DOWN)
     page.settle()
@@ -287,6 +287,11 @@ def see_moves(results, page):
         (picture[0] == picture[0, 0]).all() and (picture[:, 0] == picture[0, 0]).all(),
         "the whole pair leaves the window",
     )
+
+
+def see_pairs(results, page):
+    """Keys and lists lead to other pairs and sites, and to the index; a finger moves the plates."""
+    page.open("#pair=A-001&site=OSLO&x=700&y=500&z=0")
     page.press("]")
     page.settle()
     results.see(page.hash()["pair"] == "A-002" and page.hash()["site"] == "OSLO", f"] leads to {page.hash()}")
@@ -309,6 +314,10 @@ def see_moves(results, page):
     moved = float(page.hash()["x"]) - 700, float(page.hash()["y"]) - 500
     # A browser passes over a finger's first pixels.
     results.see(45 <= moved[0] <= 60 and 22 <= moved[1] <= 30, f"a touch moves by {moved}")
+
+
+def see_links(results, page):
+    """A link names what is shown, and shows it again; surroundings are dark by choice."""
     page.open(
         "#pair=A-001&site=OSLO&inks=MK&x=612&y=433&z=1&show=keys,limit&over=150&keys=5&rect=64,128,640,512"
     )
@@ -329,24 +338,19 @@ def see_moves(results, page):
 
 
 def see_measures(results, page, plates):
-    """A dragged rectangle has the dots of its whole cells, and the bar the place under the pointer."""
+    """The table has each plate's share, and a dragged rectangle the dots of its whole cells."""
     read, (x, y) = plates_of(os.path.join(plates, "OSLO"), "A-001"), (700, 500)
     page.open(f"#pair=A-001&site=OSLO&x={x}&y={y}&z=0")
-    left, top, width, height = page.box()
-
-    def screen(px, py):
-        return left + width // 2 + px - x, top + height // 2 + py - y
-
     totals = {ink: row.text for ink in COLOURS for row in [page.find(f"#ink-{ink} td")]}
     wanted = {ink: f"{100 * plate.mean():.1f} %" for ink, plate in read.items()}
     results.see(totals == wanted, f"the plates have {totals}, not {wanted}")
     for way, (a, b), shift in (
-        ("the button", ((530, 700), (300, 401)), False),
+        ("the button", ((1130, 700), (800, 401)), False),
         ("Shift", ((900, 200), (1090, 380)), True),
     ):
         if not shift:
             page.press("r")
-        drag(page, screen(*a), screen(*b), shift)
+        drag(page, page.on_screen(a, (x, y)), page.on_screen(b, (x, y)), shift)
         x0, y0 = (min(p, q) // CELL * CELL for p, q in zip(a, b))
         x1, y1 = (-(-max(p, q) // CELL) * CELL for p, q in zip(a, b))
         dots = {
@@ -364,6 +368,13 @@ def see_measures(results, page, plates):
         )
         if not shift:
             page.press("r")
+
+
+def see_places(results, page):
+    """What is in view is measured by a key, and the bar says the place under the pointer."""
+    x, y = 700, 500
+    page.open(f"#pair=A-001&site=OSLO&x={x}&y={y}&z=0")
+    _, _, width, height = page.box()
     page.press("v")
     inside = [
         max(0, x - width // 2) // CELL * CELL,
@@ -382,7 +393,7 @@ def see_measures(results, page, plates):
         ((1000, 130), ["21.2, 2.8 mm · pixel 1000, 130", "page 1 (front): 4.9, 2.3 mm"]),
         ((740, 200), ["15.7, 4.2 mm · pixel 740, 200", "no page"]),
     ):
-        page.point(screen(*place))
+        page.point(page.on_screen(place, (x, y)))
         said = [page.find(name).text for name in ("#bar-place", "#bar-page")]
         results.see(said == wanted, f"at {place} the bar says {said}, not {wanted}")
 
@@ -451,15 +462,11 @@ def see_limit(results, page, plates):
         )
 
 
-def see_changes(results, page, folder, plates, old):
-    """The difference layer shows the pixels that differ, and the list names the pairs that changed."""
+def see_changes(results, page, plates, old):
+    """The list names the pairs that changed, and by how many dots; each line leads to its pair."""
     page.open()
     lines = [line.text for line in page.driver.find_elements("css selector", "#changed li")]
-    both = {
-        site: [plates_of(os.path.join(where, site), "A-001") for where in (plates, old)]
-        for site in ("OSLO", "BERGEN")
-    }
-    new, was = both["OSLO"]
+    new, was = (plates_of(os.path.join(where, "OSLO"), "A-001") for where in (plates, old))
 
     def told(ink):
         came, went = (int((a & ~b & 1).sum()) for a, b in ((new[ink], was[ink]), (was[ink], new[ink])))
@@ -491,6 +498,11 @@ def see_changes(results, page, folder, plates, old):
     results.see(
         page.hash()["pair"] == "A-001" and page.hash()["show"] == "changes", f"a line leads to {page.hash()}"
     )
+
+
+def see_differences(results, page, plates, old):
+    """The difference layer shows the pixels that differ, and no others; from afar all places with one."""
+    new, was = (plates_of(os.path.join(where, "OSLO"), "A-001") for where in (plates, old))
     for inks in ("M", "S", "K", "CMYKS"):
         came, went = numpy.zeros((LENGTH, WIDTH), bool), numpy.zeros((LENGTH, WIDTH), bool)
         for ink in inks:
@@ -611,7 +623,10 @@ def main():
                 (see_zooms, (plates,)),
                 (see_switches, (plates,)),
                 (see_moves, ()),
+                (see_pairs, ()),
+                (see_links, ()),
                 (see_measures, (plates,)),
+                (see_places, ()),
                 (see_keys, (sys.argv[1], folder, plan)),
                 (see_limit, (plates,)),
             ):
@@ -624,7 +639,8 @@ def main():
                 status == 0 and "3 of 4 views changed" in said, f"with --old: {status}, {said}{error}"
             )
             page.address = "file://" + os.path.join(both, "index.html")
-            see_changes(results, page, folder, plates, old)
+            see_changes(results, page, plates, old)
+            see_differences(results, page, plates, old)
             see_damage(results, page, folder, plan, plates)
             see_server(results, page, out)
             complaints = page.complaints()
