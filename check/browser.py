@@ -36,10 +36,7 @@ ARGUMENTS = (
 LOADED = """
 return document.body.dataset.ready && !document.querySelector('.leaflet-tile:not(.leaflet-tile-loaded)')
 """
-DRAWN = """
-const done = arguments[0];
-requestAnimationFrame(() => requestAnimationFrame(() => setTimeout(done, 120)));
-"""
+DRAWN = "setTimeout(arguments[0], 150)"
 BOX = """
 const box = document.getElementById('map').getBoundingClientRect();
 return [box.left, box.top, box.width, box.height];
@@ -55,6 +52,7 @@ class Page:
             options.add_argument(word)
         options.set_capability("goog:loggingPrefs", {"browser": "ALL"})
         self.driver = webdriver.Chrome(service=Service(shutil.which("chromedriver")), options=options)
+        self.driver.set_script_timeout(2 * WAIT)
         self.address = address
 
     def script(self, text, *words):
@@ -64,7 +62,7 @@ class Page:
         return self.driver.find_element("css selector", name)
 
     def settle(self):
-        """Waits until the data of the pair and all tiles are there, and the screen has drawn them."""
+        """Waits until the data of the pair and all tiles are there. A screenshot then draws them."""
         end = time.monotonic() + WAIT
         while time.monotonic() < end:
             if self.script(LOADED):
