@@ -10,8 +10,10 @@ from pressroom import __version__
 COMMANDS = {
     "check": "report every fault of a plan and its files, and what would be lost without a fault",
     "parts": "cut an edition into parts for several machines",
+    "ppf": "write ink key files (CIP3 PPF) and tables of ink keys",
     "proof": "draw a picture of what a site's plates print",
     "tile": "write a clustered threshold tile for a plan",
+    "web": "make a proof of an edition's plates for the browser",
 }
 
 USAGE = """usage: pressroom COMMAND [ARGUMENT ..]
