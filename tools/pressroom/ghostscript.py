@@ -1,49 +1,23 @@
-"""The calls of Ghostscript: a page to inks at a resolution, in a folder of its own."""
+"""The calls of Ghostscript: a page to planes of ink at a resolution, in a folder of its own."""
 import os
-import re
 from dataclasses import dataclass
 
+from pressroom.limits import Limits
 from pressroom.pdf import Refused, first_line
-
-# More separations than this no page has; each costs a file of the page's size.
-MOST_SPOTS = 12
-PROCESS = ("Cyan", "Magenta", "Yellow", "Black")
-TINT = re.compile(rb'^%%SeparationColor: "(.*)" 100% ink = (\d+) (\d+) (\d+) (\d+) CMYK$', re.MULTILINE)
-# Ghostscript's full ink where it tells the colour of a separation.
-FULL = 32760
+from pressroom.planes import Planes
 
 
 @dataclass(frozen=True)
-class Spot:
-    """A separation of a page: its name as bytes, its file, and its mixture of the four inks, 0 to 1 each."""
-
-    name: bytes
-    file: str
-    mixture: tuple
-
-    def is_named(self, text):
-        """Whether this is the separation that the house calls so, in either encoding that PDFs have."""
-        return text in (decoded(self.name, "utf-8"), decoded(self.name, "latin-1"))
-
-    def shown(self):
-        return decoded(self.name, "utf-8") or self.name.decode("latin-1")
-
-
-def decoded(name, encoding):
-    try:
-        return name.decode(encoding)
-    except UnicodeDecodeError:
-        return None
-
-
 class Ghostscript:
     """Renders one page: a PDF in a folder, where write_profiles' files are too. `box` is the box that is taken."""
 
-    def __init__(self, limits, pdf, box, folder):
-        self.limits, self.pdf, self.box, self.folder = limits, pdf, box, folder
+    limits: Limits
+    pdf: str
+    box: str
+    folder: str
 
-    def render(self, device, dpi, size, name, colours="colour", more=()):
-        """Renders to the file `name` in the folder and returns what Ghostscript said on standard error."""
+    def render(self, dpi, size, name, colours="colour"):
+        """Renders so many pixels of the page to a file of this name in the folder, and returns its planes."""
         words = [
             "gs",
             "-q",
@@ -61,37 +35,14 @@ class Ghostscript:
             f"-sSourceObjectICC={colours}.txt",
             "-sOutputICCProfile=press.icc",
             "-sDefaultCMYKProfile=press.icc",
-            f"-sDEVICE={device}",
+            "-sDEVICE=psdcmyk",
             f"-r{dpi}",
             f"-g{size[0]}x{size[1]}",
-            *more,
             f"-sOutputFile={name}",
             self.pdf,
         ]
         status, out, note = self.limits.run(words, self.folder)
-        if status or not os.path.isfile(os.path.join(self.folder, name)):
+        path = os.path.join(self.folder, name)
+        if status or not os.path.isfile(path):
             raise Refused("damaged", f"can't be rendered: {first_line(note or out)}")
-        return note
-
-    def separations(self, dpi, size, stem, colours="colour"):
-        """Renders each separation to a file of its own and returns the spots."""
-        more = ["-sCompression=pack", "-dPrintSpotCMYK"]
-        said = self.render("tiffsep", dpi, size, f"{stem}.tif", colours, more)
-        mixtures = {
-            name: tuple(min(1.0, int(value) / FULL) for value in inks) for name, *inks in TINT.findall(said)
-        }
-        spots, start, end = [], f"{stem}(", ").tif"
-        for file in sorted(os.listdir(self.folder)):
-            if file.startswith(start) and file.endswith(end):
-                name = unescaped(file[len(start) : -len(end)])
-                if name.decode("latin-1") not in PROCESS:
-                    spots.append(Spot(name, file, mixtures.get(name)))
-        if len(spots) > MOST_SPOTS:
-            raise Refused("spot", f"it has {len(spots)} spots; at most {MOST_SPOTS} are taken")
-        return spots
-
-
-def unescaped(text):
-    """The bytes of a separation's name out of a file name: Ghostscript writes `%2F` where a path would go wrong."""
-    data = os.fsencode(text)
-    return re.sub(rb"%([0-9A-Fa-f]{2})", lambda found: bytes([int(found[1], 16)]), data)
+        return Planes(path, size)

@@ -204,7 +204,7 @@ def read_words():
                         help="how long a file that somebody still writes is waited for (20 s)")  # fmt: skip
     parser.add_argument("--seconds", metavar="S", type=whole, default=120, help="limit of time of a program (120)")
     parser.add_argument("--memory", metavar="MB", type=whole, default=2000, help="limit of its memory (2000)")
-    parser.add_argument("--output", metavar="MB", type=whole, default=2000, help="limit of a file it writes (2000)")
+    parser.add_argument("--output", metavar="MB", type=whole, default=4000, help="limit of a file it writes (4000)")
     parser.add_argument("--json", action="store_true", help="one JSON object a line for each event")
     parser.add_argument("--version", action="version", version=f"pressroom {__version__}")
     return parser.parse_args()

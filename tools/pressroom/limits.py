@@ -17,7 +17,7 @@ class Limits:
 
     seconds: int = 120
     memory: int = 2000
-    output: int = 2000
+    output: int = 4000
 
     def run(self, words, folder):
         """Runs the program in this folder and returns its status, standard output and standard error as bytes.

@@ -3,7 +3,6 @@
 Places are boxes in millimetres from the upper left corner of the trimmed page: left, top, width and height.
 """
 import math
-import os
 import re
 from dataclasses import dataclass
 
@@ -22,40 +21,22 @@ TEXT = re.compile(
 
 @dataclass
 class Survey:
-    """What the look found: spots that show, each with its place, and the page's four inks as an array."""
+    """What the look found: the places of spots that show by name, of RGB, and the four inks as an array."""
 
-    spots: list
     places: dict
     inks: object
     rgb: tuple | None
     millimetres: float
 
 
-def picture(path):
-    """The samples of a TIFF file as an array."""
-    import numpy as np
-    from PIL import Image
-
-    Image.MAX_IMAGE_PIXELS = None
-    with Image.open(path) as image:
-        return np.asarray(image)
-
-
 def survey(gs, trim_size):
     """Renders the page twice at a low resolution and returns what shows."""
     size = tuple(max(1, math.ceil(side / 25.4 * DPI)) for side in trim_size)
-    spots = gs.separations(DPI, size, "survey")
-    gs.separations(DPI, size, "marked", colours="marked")
-    # Beside its separations Ghostscript writes what they mix to.
-    inks = picture(os.path.join(gs.folder, "survey.tif"))
-    other = picture(os.path.join(gs.folder, "marked.tif"))
-    one = 25.4 / DPI
-    places = {}
-    for spot in spots:
-        place = box_of(picture(os.path.join(gs.folder, spot.file)) < 255, one)
-        if place:
-            places[spot.name] = place
-    return Survey(spots, places, inks, box_of((inks != other).any(axis=2), one), one)
+    planes = gs.render(DPI, size, "survey.psd")
+    inks, one = planes.mixed(), 25.4 / DPI
+    other = gs.render(DPI, size, "marked.psd", "marked").mixed()
+    places = {spot.name: box_of(planes.plane(spot.plane) > 0, one) for spot in planes.spots}
+    return Survey(places, inks, box_of((inks != other).any(axis=2), one), one)
 
 
 def box_of(marked, one):
