@@ -44,5 +44,5 @@ class Ghostscript:
         status, out, note = self.limits.run(words, self.folder)
         path = os.path.join(self.folder, name)
         if status or not os.path.isfile(path):
-            raise Refused("damaged", f"can't be rendered: {first_line(note or out)}")
+            raise Refused("damaged", f"can't be rendered: {first_line(out + note)}")
         return Planes(path, size)

@@ -68,6 +68,8 @@ class Intake:
         except OSError as error:
             text = f"{os.path.basename(error.filename or source.path)}: {error.strerror}"
             return Outcome(source, fault=Refused("file", text))
+        except Exception as error:  # Whatever is wrong with one page, the others are made.
+            return Outcome(source, fault=Refused("error", f"can't be made: {type(error).__name__}: {error}"))
 
     def page(self, source):
         """The outcome of a file without a fault."""

@@ -6,6 +6,9 @@ import signal
 import subprocess
 from dataclasses import dataclass
 
+# What a program may print, in bytes: it's read whole.
+MOST_TEXT = 64 << 20
+
 
 class Passed(Exception):
     """A program passed a limit; the text says which."""
@@ -24,43 +27,53 @@ class Limits:
 
         Raises Passed where it passes a limit. Nothing of what the program started runs on.
         """
-        size = 1 << 20
         prefix = [
             "prlimit",
-            f"--as={self.memory * size}",
-            f"--fsize={self.output * size}",
-            f"--cpu={self.seconds}",
+            f"--as={self.memory << 20}",
+            f"--fsize={self.output << 20}",
+            # The first stops the program by a signal of its own, the second one that ignores it.
+            f"--cpu={self.seconds}:{self.seconds + 1}",
             "--core=0",
             "--",
         ]
-        process = subprocess.Popen(
-            [*without_network(), *prefix, *words], cwd=folder, stdin=subprocess.DEVNULL, stdout=subprocess.PIPE,
-            stderr=subprocess.PIPE, start_new_session=True, env=environment(folder),
-        )  # fmt: skip
-        try:
-            out, note = process.communicate(timeout=self.seconds)
-        except subprocess.TimeoutExpired:
-            stop(process)
-            raise Passed(f"{words[0]} took more than {self.seconds} s") from None
-        except BaseException:
-            stop(process)
-            raise
-        self.see(words[0], process.returncode, note, folder)
-        return process.returncode, out, note
+        paths = [os.path.join(folder, name) for name in (".out", ".note")]
+        with open(paths[0], "wb") as out, open(paths[1], "wb") as note:
+            process = subprocess.Popen(
+                [*without_network(), *prefix, *words], cwd=folder, stdin=subprocess.DEVNULL, stdout=out,
+                stderr=note, start_new_session=True, env=environment(folder),
+            )  # fmt: skip
+            try:
+                status = process.wait(self.seconds)
+            except subprocess.TimeoutExpired:
+                raise Passed(f"{words[0]} took more than {self.seconds} s") from None
+            finally:
+                stop(process)
+        if any(os.path.getsize(path) > MOST_TEXT for path in paths):
+            raise Passed(f"{words[0]} printed more than {MOST_TEXT >> 20} MB")
+        texts = [read(path) for path in paths]
+        self.see(words[0], status, b"".join(texts), folder)
+        return status, *texts
 
-    def see(self, name, status, note, folder):
+    def see(self, name, status, said, folder):
         """Raises Passed where a status says that a limit was passed."""
-        if status == -signal.SIGXCPU or (status == -signal.SIGKILL and self.seconds):
+        if status == -signal.SIGXCPU:
             raise Passed(f"{name} took more than {self.seconds} s of processor time")
         if status == -signal.SIGXFSZ or (status and self.is_full(folder)):
             raise Passed(f"{name} wrote a file of more than {self.output} MB")
-        if status and (b"VMerror" in note or b"emory" in note or status == -signal.SIGABRT):
+        if status and (b"VMerror" in said or b"emory" in said or b"bad_alloc" in said):
             raise Passed(f"{name} wanted more than {self.memory} MB of memory")
+        if status < 0:
+            raise Passed(f"{name} was ended by {signal.Signals(-status).name}")
 
     def is_full(self, folder):
         """Whether a file in the folder is as long as files may be."""
         with os.scandir(folder) as items:
             return any(item.is_file() and item.stat().st_size >= self.output << 20 for item in items)
+
+
+def read(path):
+    with open(path, "rb") as file:
+        return file.read()
 
 
 def stop(process):
@@ -69,7 +82,7 @@ def stop(process):
         os.killpg(process.pid, signal.SIGKILL)
     except ProcessLookupError:
         pass
-    process.communicate()
+    process.wait()
 
 
 def environment(folder):

@@ -46,9 +46,10 @@ def is_whole(path):
 
 
 def first_line(note):
-    """The first line that a program wrote, for a message."""
+    """The first line of an error that a program wrote, or else its first, for a message."""
     lines = [line for line in note.decode("utf-8", "replace").splitlines() if line.strip()]
-    return printable(lines[0]) if lines else "no reason given"
+    named = [line for line in lines if line.startswith("Error")]
+    return printable((named + lines)[0]) if lines else "no reason given"
 
 
 def printable(text):
@@ -92,27 +93,19 @@ def numbers_of(text, box):
 
 
 def page_object(objects):
-    """The dictionary of the first page, and its key."""
+    """The dictionary of the first page."""
 
     def followed(value):
-        while isinstance(value, str) and f"obj:{value}" in objects:
-            key = f"obj:{value}"
-            value = objects[key].get("value")
-            yield key, value
+        """What a reference leads to; other values are what they are."""
+        return objects[f"obj:{value}"]["value"] if isinstance(value, str) and value.endswith(" R") else value
 
-    *_, (_, root) = followed(objects["trailer"]["value"]["/Root"])
-    key = root.get("/Pages")
-    seen = set()
-    while isinstance(key, str) and key not in seen:
-        seen.add(key)
-        node = objects.get(f"obj:{key}", {}).get("value", {})
+    node = followed(followed(objects["trailer"]["value"]["/Root"])["/Pages"])
+    # A tree of pages is no deeper than it has objects.
+    for _ in objects:
         if "/Kids" not in node:
-            return f"obj:{key}", node
-        kids = node["/Kids"]
-        if isinstance(kids, str):
-            kids = objects.get(f"obj:{kids}", {}).get("value", [])
-        key = kids[0] if kids else None
-    raise Refused("damaged", "it has no page")
+            return node
+        node = followed(followed(node["/Kids"])[0])
+    raise ValueError("the tree of pages has a ring")
 
 
 def read_objects(limits, name, folder):
@@ -179,6 +172,15 @@ def is_rgb(space, objects):
     return space[0] in ("/CalRGB", "/DeviceRGB")
 
 
+def structure(head, objects):
+    """The dictionary of the first page, and the edit of blended_in_cmyk; Refused where objects aren't what PDFs have."""
+    try:
+        page = page_object(objects)
+        return page, blended_in_cmyk(head, objects)
+    except (AttributeError, LookupError, RecursionError, TypeError, ValueError):
+        raise Refused("damaged", "damaged: its pages or groups aren't what a PDF has") from None
+
+
 def inspect(limits, name, folder):
     """Looks at the first page of a PDF in the folder; the PDF to render, whose groups blend in CMYK, and Inspected."""
     see_damage(limits, name, folder)
@@ -189,8 +191,7 @@ def inspect(limits, name, folder):
     if status or not trim or not crop or not count:
         raise Refused("damaged", f"damaged: {first_line(note)}")
     turn = int(re.search(r"^Page\s+1 rot:\s+(-?\d+)", text, re.MULTILINE)[1]) % 360
-    head, objects = read_objects(limits, name, folder)
-    _, page = page_object(objects)
+    page, edit = structure(*read_objects(limits, name, folder))
     if "/UserUnit" in page:
         raise Refused("unit", "its unit isn't a point (UserUnit)")
     see_fonts(limits, name, folder)
@@ -201,7 +202,6 @@ def inspect(limits, name, folder):
         notes.append(("rotated", f"rotated by {turn} degrees"))
     if "/TrimBox" not in page:
         notes.append(("trim", "no trim box; the whole page is taken"))
-    edit = blended_in_cmyk(head, objects)
     if edit:
         name = edited(limits, name, folder, edit)
     box = "Trim" if "/TrimBox" in page else "Crop"
