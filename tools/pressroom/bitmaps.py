@@ -46,16 +46,21 @@ def made_of(house, limits, name, folder):
     status, out, note = limits.run(["tiffinfo", name], folder)
     if status:
         raise Refused("damaged", f"damaged or incomplete: {first_line(note)}")
-    count = len(re.findall(rb"^(?:TIFF Directory|=== TIFF directory)", out, re.MULTILINE))
+    count = len(re.findall(rb"^TIFF Directory at", out, re.MULTILINE))
     notes = [("pages", f"it has {count} images; the first is taken", None)] if count > 1 else []
     try:
-        copy = packed(limits, folder, f"{name},0", "packed.tif", "-s", "-f", "msb2lsb", "-p", "separate")
-        image = Tiff(copy)
+        file = "packed.tif"
+        image = Tiff(packed(limits, folder, f"{name},0", file, "-s", "-f", "msb2lsb"))
         kind = form(image)
         scale = scale_of(house, image.width, image.length)
         image.close()
-        colours = inked(copy) if kind == "contone" else "K"
+        colours = "K"
+        if kind == "contone":
+            # The four inks apart take less room; of other depths tiffcp refuses that.
+            file = "planar.tif"
+            colours = inked(packed(limits, folder, "packed.tif", file, "-p", "separate"))
     except Broken as error:
         raise Refused("damaged", f"damaged: {printable(str(error).rpartition(': ')[2])}") from None
     keys = {"kind": kind} | ({"scale": scale} if scale > 1 else {})
-    return Made(letters(colours, ""), (Layer("packed.tif", "cmyk" if kind == "contone" else "line", keys),), tuple(notes))
+    layer = Layer(file, "cmyk" if kind == "contone" else "line", keys)
+    return Made(letters(colours, ""), (layer,), tuple(notes))

@@ -220,7 +220,7 @@ def curve(value):
     if not isinstance(value, list) or not 2 <= len(value) <= 32:
         raise wrong(value, words)
     points = [numbers(2, 0, 100, "a point of two numbers of 0 to 100 percent")(point) for point in value]
-    levels = [round(point[0] * 2.55) for point in points]
+    levels = [round(point[0] * 255 / 100) for point in points]
     if levels[0] != 0 or levels[-1] != 255 or any(a >= b for a, b in zip(levels, levels[1:])):
         raise wrong(value, words)
     return tuple(points)

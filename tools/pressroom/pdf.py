@@ -120,11 +120,12 @@ def read_objects(limits, name, folder):
         raise Refused("damaged", "damaged: its objects can't be listed") from None
 
 
-def blended_in_cmyk(head, objects):
-    """The edit by which groups that blend in RGB blend in CMYK; None where there are none.
+def in_cmyk(head, objects):
+    """The edit by which CMYK keeps its numbers, and whether groups change by it; None where there is nothing to edit.
 
-    Ghostscript makes a whole group RGB and then CMYK again, and black text in it comes out in four inks. Masks of
-    luminosity keep their colours: their groups print nothing.
+    Groups that blend in RGB blend in CMYK: Ghostscript makes a whole group RGB and then CMYK again, and black text in
+    it comes out in four inks. Masks of luminosity keep their colours, as their groups print nothing. CMYK with a
+    profile of its own becomes that of the device, which isn't converted.
     """
     masks = {
         value["/G"]
@@ -132,19 +133,37 @@ def blended_in_cmyk(head, objects):
         for value in dictionaries(holder)
         if isinstance(value.get("/G"), str) and value.get("/S") == "/Luminosity"
     }
-    edits = {}
+    edits, blends = {}, False
     for key, holder in objects.items():
         part = "stream" if "stream" in holder else "value"
         value = holder["stream"]["dict"] if part == "stream" else holder.get("value")
-        if key.removeprefix("obj:") in masks or not isinstance(value, dict):
-            continue
-        group = value.get("/Group")
-        direct = isinstance(group, dict)
-        group = group if direct else objects.get(f"obj:{group}", {}).get("value")
-        if isinstance(group, dict) and is_rgb(group.get("/CS"), objects):
-            changed = value | {"/Group": group | {"/CS": "/DeviceCMYK"}}
+        changed = untagged(value, objects)
+        if key.removeprefix("obj:") not in masks and isinstance(value, dict):
+            group = value.get("/Group")
+            group = group if isinstance(group, dict) else objects.get(f"obj:{group}", {}).get("value")
+            if isinstance(group, dict) and is_rgb(group.get("/CS"), objects):
+                changed, blends = changed | {"/Group": group | {"/CS": "/DeviceCMYK"}}, True
+        if changed != value:
             edits[key] = {"stream": {"dict": changed}} if part == "stream" else {"value": changed}
-    return {"version": 2, "qpdf": [head, edits]} if edits else None
+    return ({"version": 2, "qpdf": [head, edits]} if edits else None), blends
+
+
+def untagged(value, objects):
+    """The value with CMYK of the device wherever it has CMYK with a profile of its own."""
+    if isinstance(value, dict):
+        kept = {key: inner for key, inner in value.items() if key != "/DefaultCMYK"}
+        return {key: untagged(inner, objects) for key, inner in kept.items()}
+    if isinstance(value, list):
+        if value[:1] == ["/ICCBased"] and channels(value, objects) == 4:
+            return "/DeviceCMYK"
+        return [untagged(inner, objects) for inner in value]
+    return value
+
+
+def channels(space, objects):
+    """How many colours a space with a profile has."""
+    stream = objects.get(f"obj:{space[1]}", {}).get("stream", {})
+    return stream.get("dict", {}).get("/N")
 
 
 def dictionaries(value):
@@ -166,23 +185,21 @@ def is_rgb(space, objects):
         return True
     if not isinstance(space, list) or not space:
         return False
-    if space[0] == "/ICCBased" and isinstance(space[1], str):
-        stream = objects.get(f"obj:{space[1]}", {}).get("stream", {})
-        return stream.get("dict", {}).get("/N") == 3
+    if space[0] == "/ICCBased":
+        return channels(space, objects) == 3
     return space[0] in ("/CalRGB", "/DeviceRGB")
 
 
 def structure(head, objects):
-    """The dictionary of the first page, and the edit of blended_in_cmyk; Refused where objects aren't what PDFs have."""
+    """The dictionary of the first page, and what in_cmyk gives; Refused where objects aren't what PDFs have."""
     try:
-        page = page_object(objects)
-        return page, blended_in_cmyk(head, objects)
+        return page_object(objects), *in_cmyk(head, objects)
     except (AttributeError, LookupError, RecursionError, TypeError, ValueError):
         raise Refused("damaged", "damaged: its pages or groups aren't what a PDF has") from None
 
 
 def inspect(limits, name, folder):
-    """Looks at the first page of a PDF in the folder; the PDF to render, whose groups blend in CMYK, and Inspected."""
+    """Looks at the first page of a PDF in the folder; the PDF to render, which may be edited, and Inspected."""
     see_damage(limits, name, folder)
     status, out, note = limits.run(["pdfinfo", "-f", "1", "-l", "1", "-box", name], folder)
     text = out.decode("utf-8", "replace")
@@ -191,7 +208,7 @@ def inspect(limits, name, folder):
     if status or not trim or not crop or not count:
         raise Refused("damaged", f"damaged: {first_line(note)}")
     turn = int(re.search(r"^Page\s+1 rot:\s+(-?\d+)", text, re.MULTILINE)[1]) % 360
-    page, edit = structure(*read_objects(limits, name, folder))
+    page, edit, blends = structure(*read_objects(limits, name, folder))
     if "/UserUnit" in page:
         raise Refused("unit", "its unit isn't a point (UserUnit)")
     see_fonts(limits, name, folder)
@@ -202,6 +219,8 @@ def inspect(limits, name, folder):
         notes.append(("rotated", f"rotated by {turn} degrees"))
     if "/TrimBox" not in page:
         notes.append(("trim", "no trim box; the whole page is taken"))
+    if blends:
+        notes.append(("blending", "it blends in RGB; it's blended in CMYK"))
     if edit:
         name = edited(limits, name, folder, edit)
     box = "Trim" if "/TrimBox" in page else "Crop"

@@ -44,7 +44,7 @@ def screens(press, dpi):
 def curves(press):
     """The plan's curves: percent as 255ths."""
     return {
-        ink: [[round(x * 2.55), round(y * 2.55)] for x, y in points]
+        ink: [[round(x * 255 / 100), round(y * 255 / 100)] for x, y in points]
         for ink, points in sorted(press.curves.items(), key=lambda pair: INKS.index(pair[0]))
     }
 

@@ -86,7 +86,7 @@ def write_profiles(folder, profile):
     """Writes what Ghostscript reads: `press.icc`, `colour.txt`, by which pages are made, and `marked.txt`.
 
     A page that is rendered by the last two differs where RGB shows that isn't white, or neutral text or line art.
-    CMYK keeps its numbers, whatever profile it is tagged by.
+    CMYK keeps its numbers.
     """
     import numpy as np
 
@@ -105,6 +105,5 @@ def write_profiles(folder, profile):
     for name, first in (("colour", ""), ("marked", "marked-")):
         rows = [f"{kind}_RGB\t{first}art.icc\t1\t1\t1" for kind in ("Text", "Graphic")]
         rows += [f"Image_RGB\t{first}images.icc\t1\t1\t1"] if first else []
-        # Of CMYK Ghostscript wants a fifth column, and refuses the file without it.
-        rows += [f"{kind}_CMYK\tpress.icc\t1\t1\t1\t0" for kind in ("Text", "Graphic", "Image")]
+        # Rows of CMYK here would turn off overprint mode 1, by which black overprints on nearly every page.
         write(os.path.join(folder, f"{name}.txt"), ("\n".join(rows) + "\n").encode())
