@@ -1,10 +1,14 @@
 """The calls of Ghostscript: a page to planes of ink at a resolution, in a folder of its own."""
 import os
+import re
 from dataclasses import dataclass
 
 from pressroom.limits import Limits
-from pressroom.pdf import Refused, first_line
+from pressroom.pdf import Refused, first_line, printable
 from pressroom.planes import Planes
+
+# The lines of what Ghostscript repaired; that these are errors or warnings it says on standard error.
+REPAIRED = re.compile(rb"^\t(.+)$", re.MULTILINE)
 
 
 @dataclass(frozen=True)
@@ -20,7 +24,6 @@ class Ghostscript:
         """Renders so many pixels of the page to a file of this name in the folder, and returns its planes."""
         words = [
             "gs",
-            "-q",
             "-dNOPAUSE",
             "-dBATCH",
             "-dSAFER",
@@ -45,4 +48,9 @@ class Ghostscript:
         path = os.path.join(self.folder, name)
         if status or not os.path.isfile(path):
             raise Refused("damaged", f"can't be rendered: {first_line(out + note)}")
+        repaired = REPAIRED.findall(out)
+        # Of a picture with too few samples Ghostscript paints what there is, and ends with 0.
+        if b"errors were encountered" in note or any(b"image error" in line for line in repaired):
+            said = b", ".join(repaired).decode("utf-8", "replace")
+            raise Refused("damaged", f"damaged: {printable(said) or 'Ghostscript had to repair it'}")
         return Planes(path, size)
