@@ -1,12 +1,12 @@
 #!/usr/bin/env python3
 """Tries `pressroom intake`: pages that are made here become plates, and what is wrong with one is named.
 
-    python3 check/intake.py PROGRAM
+python3 check/intake.py PROGRAM
 
-The pages are PDFs by Ghostscript's pdfwrite, by other writers that are installed, and by hand. What their plates
-print is counted in pixels, or compared with what poppler draws. It needs Ghostscript, qpdf, poppler-utils,
-libtiff-tools, numpy and Pillow, and is skipped without them. The last line is `N passed, M failed`, and the status is
-1 where one failed.
+The pages are PDFs by Ghostscript's pdfwrite, by other writers that are installed, and by hand. What their
+plates print is counted in pixels, or compared with what poppler draws. It needs Ghostscript, qpdf,
+poppler-utils, libtiff-tools, numpy and Pillow, and is skipped without them. The last line is `N passed, M
+failed`, and the status is 1 where one failed.
 """
 import json
 import os
@@ -35,16 +35,19 @@ def events(found, event):
 
 
 def box(x, y, width, height):
-    """A box of points of the page, whose corner is the lower left one, as pixels of the plate of the first page."""
+    """A box of points of the page, whose corner is the lower left one, as pixels of the plate of the first
+    page.
+    """
     left = HOUSE.right + round(x * DPI / 72)
-    return left, HOUSE.top + HOUSE.height - round((y + height) * DPI / 72), *(round(n * DPI / 72) for n in (width, height))
+    top = HOUSE.top + HOUSE.height - round((y + height) * DPI / 72)
+    return left, top, round(width * DPI / 72), round(height * DPI / 72)
 
 
 def see_pixels(results, program, folder):
     """Solid, bare, white text, knock out and overprint: counted on the plates of one page.
 
-    The letters stand at whole pixels, so that they have the same pixels wherever they stand: those that black ones
-    print on bare paper are those that white ones take away.
+    The letters stand at whole pixels, so that they have the same pixels wherever they stand: those that
+    black ones print on bare paper are those that white ones take away.
     """
     pages = Pages(folder, "pixels")
     pages.write("A1", PIXELS)
@@ -123,8 +126,11 @@ FOUR = "0.4 0.4 0.4 0.4 setcmykcolor 10 20 150 60 rectfill 0 0 0 0 setcmykcolor\
 TEXT = "/Helvetica findfont {} scalefont setfont 20 40 moveto (small and white) show\n"
 OTHER = "[/Separation (OTHER) cvn /DeviceCMYK {{ dup 0 exch 0 }}] setcolorspace {} setcolor 40 20 30 30 rectfill\n"
 
-# What brings a note or a fault, and beside it what nearly does: the page's body, how it's made, and the kind of event
-# of a house that converts and mixes, and of one that refuses; the empty kind is none.
+RAMP = "[/Separation /HOUSE /DeviceCMYK {{ 0 exch dup 0 exch }}] setcolorspace "
+RAMP += "0 1 {} {{ dup {} div setcolor {} mul 50 {} 20 rectfill }} for"
+
+# What brings a note or a fault, and beside it what nearly does: the page's body, how it's made, and the
+# kind of event of a house that converts and mixes, and of one that refuses; the empty kind is none.
 TRIED = {
     1: (BLACK, {}, "", ""),
     2: (BLACK + "1 0 0 setrgbcolor 30 20 40 40 rectfill", {}, "note rgb", "fault rgb"),
@@ -150,11 +156,10 @@ TRIED = {
     22: (BLACK, {"cut": 0.97}, "fault damaged", "fault damaged"),
     23: (BLACK, {"broken": True}, "fault damaged", "fault damaged"),
     26: (None, {}, "fault damaged", "fault damaged"),
-    24: ("[/Separation /HOUSE /DeviceCMYK { 0 exch dup 0 exch }] setcolorspace 0 1 99 { dup 100 div setcolor 1 mul 50 1 "
-         "20 rectfill } for", {}, "note tints", "note tints"),
-    25: ("[/Separation /HOUSE /DeviceCMYK { 0 exch dup 0 exch }] setcolorspace 0 1 19 { dup 20 div setcolor 5 mul 50 5 "
-         "20 rectfill } for", {}, "", ""),
-    # 26 has a picture of too few samples, 29 isn't there, 27 is there twice, 28 is listed as blank and there, 30 is listed as blank.
+    24: (RAMP.format(99, 100, 1, 1), {}, "note tints", "note tints"),
+    25: (RAMP.format(19, 20, 5, 5), {}, "", ""),
+    # 26 has a picture of too few samples, 27 is there twice, 28 is listed as blank and there, 29 isn't there,
+    # and 30 is listed as blank.
     27: (BLACK, {}, "fault second", "fault second"),
     28: (BLACK, {}, "fault blank", "fault blank"),
 }  # fmt: skip
@@ -229,7 +234,8 @@ def by_hand(path, content, resources="", **more):
     stream, size = pdf.add("", content), "[0 0 172.8 230.4]"
     number = len(pdf.objects) + 1
     keys = f"/Resources << {resources.format(*numbers)} >> {more.get('keys', '').format(*numbers)}"
-    pdf.add(f"<< /Type /Page /Parent {number + 1} 0 R /MediaBox {size} /TrimBox {size} /Contents {stream} 0 R {keys} >>")
+    head = f"/Type /Page /Parent {number + 1} 0 R /MediaBox {size} /TrimBox {size}"
+    pdf.add(f"<< {head} /Contents {stream} 0 R {keys} >>")
     pdf.add(f"<< /Type /Pages /Kids [{number} 0 R] /Count 1 >>")
     pdf.write(path, pdf.add(f"<< /Type /Catalog /Pages {number + 1} 0 R >>"))
 
@@ -276,7 +282,9 @@ def see_colours(results, program, folder):
 
 
 def see_hostile(results, folder):
-    """Pages that pass a limit, and names that would be paths or commands: each is named, and the others are made."""
+    """Pages that pass a limit, and names that would be paths or commands: each is named, and the others are
+    made.
+    """
     pages = Pages(folder, "hostile", count=6)
     forms = [("/Type /XObject /Subtype /Form /BBox [0 0 200 300]", b"0 0 200 300 re f\n" * 10)]
     for number in range(1, 10):
@@ -351,7 +359,8 @@ def see_changes(results, program, folder):
     again = [item["file"] for item in found if item["event"] == "page" and not item["kept"]]
     results.see(status == 0 and again == ["A2.pdf"], f"after a change of A2 a call makes {again}")
     files = os.path.join(pages.work, "files")
-    answer = subprocess.run([program, "replate", old, files, plan, files, pages.plates], capture_output=True, text=True)
+    words = [program, "replate", old, files, plan, files, pages.plates]
+    answer = subprocess.run(words, capture_output=True, text=True)
     wanted = "site OSLO made 1 kept 1\nsite BERGEN made 1 kept 1\ntotal made 2\n"
     results.see(answer.stdout == wanted, f"replate says {answer.stdout!r} {answer.stderr!r}")
     answer = subprocess.run([program, "verify", plan, files, pages.plates], capture_output=True, text=True)
@@ -389,7 +398,9 @@ def see_writing(results, pages, house):
 
 
 def see_tiffs(results, program, folder):
-    """TIFF files in place of PDFs: what a copy cures prints as the lawful one does, the rest is refused by name."""
+    """TIFF files in place of PDFs: what a copy cures prints as the lawful one does, the rest is refused by
+    name.
+    """
     from PIL import Image
 
     pages = Pages(folder, "tiffs", count=14)
@@ -407,7 +418,8 @@ def see_tiffs(results, program, folder):
     for name, words in copies.items():
         subprocess.run(["tiffcp", *words, lawful, pages.path(name, "tif")], check=True, capture_output=True)
     subprocess.run(["tiffcp", "-f", "lsb2msb", lawful, pages.path("A4", "TIFF")], check=True)
-    subprocess.run(["tiffcp", "-f", "lsb2msb", "-c", "none", pages.path("A5", "tif"), pages.path("A6", "tif")], check=True)
+    words = ["tiffcp", "-f", "lsb2msb", "-c", "none", pages.path("A5", "tif"), pages.path("A6", "tif")]
+    subprocess.run(words, check=True)
     half.save(pages.path("A7", "tif"), compression="raw")
     picture.convert("RGB").save(pages.path("A8", "tif"))
     picture.crop((0, 0, width - 9, height)).save(pages.path("A9", "tif"))
@@ -426,7 +438,8 @@ def see_tiffs(results, program, folder):
     results.see(events(found, "note") == [("A12.tif", "pages")], f"notes of TIFF files: {events(found, 'note')}")
     inks = {item["file"]: item["inks"] for item in found if item["event"] == "page"}
     results.see(inks.get("A5.tif") == "K" and inks.get("A2.tif") == "CMYK", f"inks of TIFF files: {inks}")
-    # The same pixels in another form make the same plates, so a plan of the lawful files is a plan of the others.
+    # The same pixels in another form make the same plates, so a plan of the lawful files is a plan of the
+    # others.
     plan = fields(os.path.join(pages.work, "plan.json"))
     if not plan:
         return
@@ -510,12 +523,14 @@ anything = true
 def see_newspaper(results, program, folder):
     """The newspaper's PDFs: plates by the three commands, and those of its TIFF files byte for byte."""
     folder = os.path.join(folder, "newspaper")
-    art, plan, given, work, plates = (os.path.join(folder, name) for name in ("art", "plan.json", "pages", "work", "plates"))
+    names = "art", "plan.json", "pages", "work", "plates"
+    art, plan, given, work, plates = (os.path.join(folder, name) for name in names)
     os.makedirs(folder)
-    words = [sys.executable, "-B", os.path.join(NEWSPAPER, "make.py"), "--art", art, "--plan", plan, "--pages", given]
-    subprocess.run(words, check=True)
+    words = [sys.executable, "-B", os.path.join(NEWSPAPER, "make.py")]
+    subprocess.run([*words, "--art", art, "--plan", plan, "--pages", given], check=True)
     words = [sys.executable, "-B", os.path.join(TOP, "tools", "pressroom.py"), "intake"]
-    answer = subprocess.run([*words, os.path.join(NEWSPAPER, "house.toml"), given, work], capture_output=True, text=True)
+    words += [os.path.join(NEWSPAPER, "house.toml"), given, work]
+    answer = subprocess.run(words, capture_output=True, text=True)
     wanted = "11 pages made, 0 kept, 0 faults, 0 notes; plans plan.json"
     results.see(answer.stdout.splitlines()[-1:] == [wanted], f"the newspaper: {answer.stdout}{answer.stderr}")
     if answer.returncode:
@@ -561,7 +576,8 @@ def main():
         ):
             begun, before = time.monotonic(), results.passed
             part(*words)
-            print(f"{part.__name__[4:]}: {results.passed - before} passed, {time.monotonic() - begun:.0f} s", flush=True)
+            passed, seconds = results.passed - before, time.monotonic() - begun
+            print(f"{part.__name__[4:]}: {passed} passed, {seconds:.0f} s", flush=True)
     results.end()
 
 

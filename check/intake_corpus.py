@@ -1,9 +1,9 @@
 """Pages by other writers of PDF: each becomes plates that look like what poppler draws of it.
 
-A page has black text and fields of full colours. What its plates print and what pdftoppm draws are compared ink by
-ink in squares of a millimetre: the sum of the differences is at most so much of the ink that either has. A page
-without its text, or without its fields, passes these bounds. Of writers of CMYK poppler draws the inks; of writers of
-RGB it draws RGB, and the inks are made of that here, as the house says.
+A page has black text and fields of full colours. What its plates print and what pdftoppm draws are compared
+ink by ink in squares of a millimetre: the sum of the differences is at most so much of the ink that either
+has. A page without its text, or without its fields, passes these bounds. Of writers of CMYK poppler draws
+the inks; of writers of RGB it draws RGB, and the inks are made of that here, as the house says.
 """
 import os
 import subprocess
@@ -15,12 +15,16 @@ BOUNDS = {"K": 0.15, "C": 0.06, "M": 0.06, "Y": 0.06}
 # Inks that cover less than this part of the page on both aren't compared.
 LEAST = 0.002
 CELL = 12
-WORDS = ["The council voted late", "on Tuesday to close", "the harbour road for", "three weeks while the", "sea wall is mended."]
+WORDS = "The council voted late/on Tuesday to close/the harbour road for/three weeks while the/sea wall is mended."
+WORDS = WORDS.split("/")
 FIELDS = (("#00ffff", 10), ("#ff00ff", 22), ("#ffff00", 34), ("#000000", 46))
 
 SVG = (
     '<svg xmlns="http://www.w3.org/2000/svg" width="60.96mm" height="81.28mm" viewBox="0 0 60.96 81.28">'
-    + "".join(f'<text x="6" y="{12 + 6 * n}" font-size="4" font-family="DejaVu Sans">{w}</text>' for n, w in enumerate(WORDS))
+    + "".join(
+        f'<text x="6" y="{12 + 6 * number}" font-size="4" font-family="DejaVu Sans">{words}</text>'
+        for number, words in enumerate(WORDS)
+    )
     + "".join(f'<rect x="{x}" y="50" width="10" height="14" fill="{colour}"/>' for colour, x in FIELDS)
     + "</svg>"
 )
@@ -28,7 +32,8 @@ HTML = (
     "<!DOCTYPE html><style>@page { size: 60.96mm 81.28mm; margin: 0 } body { margin: 0 }</style>"
     + SVG.replace("81.28", "79")
 )
-TEX = r"""\pdfpagewidth=60.96mm \pdfpageheight=81.28mm \hoffset=-1in \voffset=-1in \hsize=60mm \vsize=81mm \parindent=6mm \nopagenumbers
+TEX = r"""\pdfpagewidth=60.96mm \pdfpageheight=81.28mm \hoffset=-1in \voffset=-1in
+\hsize=60mm \vsize=81mm \parindent=6mm \nopagenumbers
 \topskip=12mm \font\f=cmr10 scaled 1400 \f \baselineskip=6mm
 %s
 \vskip 8mm \moveright 10mm\hbox{%s}
@@ -76,8 +81,9 @@ def by_inkscape(pages, name):
 def by_chromium(pages, name):
     path = pages.path(name, "html")
     write(path, HTML)
-    words = ["chromium", "--headless", "--no-sandbox", "--disable-gpu", "--no-pdf-header-footer", "--print-to-pdf-no-header"]
-    run([*words, f"--user-data-dir={pages.work}-chromium", f"--print-to-pdf={pages.path(name)}", f"file://{path}"], pages)
+    words = ["chromium", "--headless", "--no-sandbox", "--disable-gpu", "--no-pdf-header-footer"]
+    words += ["--print-to-pdf-no-header", f"--user-data-dir={pages.work}-chromium"]
+    run([*words, f"--print-to-pdf={pages.path(name)}", f"file://{path}"], pages)
     os.remove(path)
 
 
@@ -137,7 +143,9 @@ def cells(samples):
 
 
 def drawn(pages, name, is_cmyk):
-    """What poppler draws of a page, as ink of 0 to 1 in squares. Ghostscript's pages begin at the lower left corner."""
+    """What poppler draws of a page, as ink of 0 to 1 in squares. Ghostscript's pages begin at the lower
+    left corner.
+    """
     import numpy as np
     from PIL import Image
 
@@ -153,7 +161,9 @@ def drawn(pages, name, is_cmyk):
 
 
 def inked(image):
-    """The four inks of an RGB picture: by the house's profile, and neutral colours by black of the same lightness."""
+    """The four inks of an RGB picture: by the house's profile, and neutral colours by black of the same
+    lightness.
+    """
     import numpy as np
     from PIL import Image, ImageCms
 
@@ -167,7 +177,8 @@ def inked(image):
     light = light[0, :, 0].astype(float)
     samples = np.asarray(image)
     neutral = (samples == samples[:, :, :1]).all(axis=2)
-    wanted = np.asarray(ImageCms.applyTransform(image, ImageCms.buildTransform(rgb, lab, "RGB", "LAB")))[:, :, 0]
+    from_rgb = ImageCms.buildTransform(rgb, lab, "RGB", "LAB")
+    wanted = np.asarray(ImageCms.applyTransform(image, from_rgb))[:, :, 0]
     wanted = light[255] + wanted[neutral] / 255 * (light[0] - light[255])
     inks[neutral] = 0
     inks[neutral, 3] = np.interp(wanted, light[::-1], np.arange(256)[::-1])

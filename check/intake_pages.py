@@ -15,7 +15,9 @@ BLEED = 9
 
 @dataclass(frozen=True)
 class Sheet:
-    """The pixels of the house that pages are made for: 60.96 by 81.28 mm at 300 dpi, margins and gutter of 2 mm."""
+    """The pixels of the house that pages are made for: 60.96 by 81.28 mm at 300 dpi, margins and gutter of
+    2 mm.
+    """
 
     width: int = 720
     height: int = 960
@@ -45,7 +47,8 @@ class Pages:
 
     def __init__(self, folder, name, count=2, blank=()):
         self.count, self.blank, self.said = count, blank, ""
-        self.folder, self.work, self.plates = (os.path.join(folder, name, part) for part in ("in", "work", "plates"))
+        parts = (os.path.join(folder, name, part) for part in ("in", "work", "plates"))
+        self.folder, self.work, self.plates = parts
         os.makedirs(self.folder)
 
     def path(self, name, ending="pdf"):
@@ -53,8 +56,8 @@ class Pages:
 
     def house(self, spot=None, colour="refuse", limit=400, sites=None):
         """The text of a house file. `colour` says what becomes of RGB and of spots."""
-        lines = ['edition = "E1"', "dpi = 300", "trim = [60.96, 81.28]", "margins = [2, 2, 2, 2]", "gutter = 2"]
-        lines += [f"limit = {limit}"] + ([f"blank = {json.dumps(self.blank)}"] if self.blank else [])
+        lines = ['edition = "E1"', "dpi = 300", "trim = [60.96, 81.28]", "margins = [2, 2, 2, 2]"]
+        lines += ["gutter = 2", f"limit = {limit}"] + ([f"blank = {json.dumps(self.blank)}"] if self.blank else [])
         lines += ["[sections]", f"A = {self.count}", "[colour]"]
         if colour == "refuse":
             lines += ['rgb = "refuse"', 'spots = "refuse"']
@@ -74,15 +77,17 @@ class Pages:
         text += f"[ /TrimBox {box} /PAGE pdfmark\n" if trim else ""
         text += f"{edge} {edge} translate\n{body}\nshowpage\n"
         path, options = self.path(name), "<< /NeverEmbed [] >> setdistillerparams" if embed else ""
-        words = ["gs", "-q", "-dNOPAUSE", "-dBATCH", "-dSAFER", "-sDEVICE=pdfwrite", "-dAutoRotatePages=/None"]
-        words += ["-dAutoFilterColorImages=false", "-sColorImageFilter=FlateEncode", f"-dEmbedAllFonts={'true' if embed else 'false'}"]
+        words = ["gs", "-q", "-dNOPAUSE", "-dBATCH", "-dSAFER", "-sDEVICE=pdfwrite"]
+        words += ["-dAutoRotatePages=/None", "-dAutoFilterColorImages=false", "-sColorImageFilter=FlateEncode"]
+        words += [f"-dEmbedAllFonts={'true' if embed else 'false'}"]
         words += [f"-sOutputFile={path}", "-c", options, "-f", "-"]
         subprocess.run(words, input=text.encode(), check=True)
         if "turn" in how:
             subprocess.run(["qpdf", path, "--replace-input", f"--rotate={how['turn']}"], check=True)
         if "password" in how or "owner" in how:
             user, owner = how.get("password", ""), how.get("password") or how["owner"]
-            subprocess.run(["qpdf", path, "--replace-input", "--encrypt", user, owner, "256", "--"], check=True)
+            words = ["qpdf", path, "--replace-input", "--encrypt", user, owner, "256", "--"]
+            subprocess.run(words, check=True)
         if "cut" in how:
             os.truncate(path, int(os.path.getsize(path) * how["cut"]))
         if "broken" in how:
@@ -93,12 +98,14 @@ class Pages:
 
 
 def intake(pages, house, *more, quiet=False):
-    """Runs the command: its events, and its status. What it says on standard error is kept in `pages.said`."""
+    """Runs the command: its events, and its status. What it says on standard error is kept in `pages.said`.
+    """
     path = os.path.join(os.path.dirname(pages.folder), "house.toml")
     with open(path, "w", encoding="utf-8") as file:
         file.write(house)
-    words = [sys.executable, "-B", os.path.join(TOP, "tools", "pressroom.py"), "intake", path, pages.folder, pages.work]
-    answer = subprocess.run([*words, "--json", *more], capture_output=True, text=True)
+    words = [sys.executable, "-B", os.path.join(TOP, "tools", "pressroom.py"), "intake", path]
+    words += [pages.folder, pages.work, "--json"]
+    answer = subprocess.run([*words, *more], capture_output=True, text=True)
     pages.said = answer.stderr
     if answer.stderr and not quiet:
         print(answer.stderr)

@@ -1,7 +1,8 @@
-"""The newspaper's pages as PDF files, out of the layers that the plan has for them: see ISO 32000-1, 8.9 and 11.7.4.
+"""The newspaper's pages as PDF files, out of the layers that the plan has for them: see ISO 32000-1, 8.9
+and 11.7.4.
 
-A contone layer is an image in DeviceCMYK, a line layer an image mask that is filled with its ink; S is the separation
-HOUSE. Each page has a bleed of its own width around its trim box, and nothing in it.
+A contone layer is an image in DeviceCMYK, a line layer an image mask that is filled with its ink; S is the
+separation HOUSE. Each page has a bleed of its own width around its trim box, and nothing in it.
 """
 import zlib
 

@@ -1,4 +1,6 @@
-"""Pages that come as TIFF files: taken where a copy by tiffcp, which changes no pixel, is what plateroom reads."""
+"""Pages that come as TIFF files: taken where a copy by tiffcp, which changes no pixel, is what plateroom
+reads.
+"""
 import re
 
 from pressroom.layers import Layer, Made, inked, letters, packed
@@ -33,7 +35,9 @@ def form(image):
 
 
 def scale_of(house, width, height):
-    """How many pixels of the page one of the image covers either way; Refused where it doesn't fill the page."""
+    """How many pixels of the page one of the image covers either way; Refused where it doesn't fill the
+    page.
+    """
     page = house.page_pixels()
     scale = page[0] // width if width else 0
     if 1 <= scale <= 64 and (width * scale, height * scale) == page:

@@ -13,7 +13,9 @@ REPAIRED = re.compile(rb"^\t(.+)$", re.MULTILINE)
 
 @dataclass(frozen=True)
 class Ghostscript:
-    """Renders one page: a PDF in a folder, where write_profiles' files are too. `box` is the box that is taken."""
+    """Renders one page: a PDF in a folder, where write_profiles' files are too. `box` is the box that is
+    taken.
+    """
 
     limits: Limits
     pdf: str

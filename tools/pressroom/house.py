@@ -1,7 +1,8 @@
 """The house file: what a newspaper's editions have in common, in TOML, tested key by key.
 
-`read_house(path)` returns a House. All lengths in it are millimetres, limits and curves percent; `pixels` makes
-pixels of millimetres. What is wrong is raised as HouseFault, whose lines each name the file, the line and the key.
+`read_house(path)` returns a House. All lengths in it are millimetres, limits and curves percent; `pixels`
+makes pixels of millimetres. What is wrong is raised as HouseFault, whose lines each name the file, the line
+and the key.
 """
 import os
 import re
@@ -191,9 +192,10 @@ class Reading:
         sites = self.sites(presses)
         house = None
         if not self.faults.found:
+            others = {name: keys.table[name] for name in OTHERS if name in keys.table}
             house = House(
-                path=self.path, **sheet, sections=sections, blank=frozenset(), spot=spot, **colour, sites=sites,
-                presses=presses, tables={name: keys.table[name] for name in OTHERS if name in keys.table},
+                path=self.path, **sheet, sections=sections, blank=frozenset(), spot=spot, **colour,
+                sites=sites, presses=presses, tables=others,
             )  # fmt: skip
             house = self.with_blanks(house)
             self.see_sizes(house)
@@ -265,7 +267,8 @@ class Reading:
     def tone(self, keys, dpi, base):
         """Limit, screens, curves and marks of a table; what it hasn't is taken from the base."""
         found = {"limit": keys.take("limit", PERCENT, base["limit"])}
-        for name, read in (("screens", self.screen), ("curves", lambda inner, ink, _: inner.take(ink, curve))):
+        readers = {"screens": self.screen, "curves": lambda inner, ink, _: inner.take(ink, curve)}
+        for name, read in readers.items():
             inner = keys.inside(name)
             own = {ink: read(inner, ink, dpi) for ink in INKS if ink in inner.table}
             inner.end()

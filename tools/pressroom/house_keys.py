@@ -1,4 +1,5 @@
-"""The values of a house file: what each key takes, and the tables that keys are taken from, fault by fault."""
+"""The values of a house file: what each key takes, and the tables that keys are taken from, fault by fault.
+"""
 import re
 
 REQUIRED = object()

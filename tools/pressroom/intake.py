@@ -4,14 +4,14 @@ HOUSE is the house file (tools/README.md has its keys). IN holds A01.pdf and so 
 ZONE/A01.pdf for a zone's own page. WORK gets `files`, and PRESS.json for each press: a plan, where every page
 is right. Only pages that changed since the last call are made again.
 
-Faults: nothing is made of such a page, the others are made, and no plan is written (but see --partial). Notes:
-the page is made, and something of it isn't as its file says. Both have the file, and the place in millimetres
-from the upper left corner of the page where there is one.
+Faults: nothing is made of such a page, the others are made, and no plan is written (but see --partial).
+Notes: the page is made, and something of it isn't as its file says. Both have the file, and the place in
+millimetres from the upper left corner of the page where there is one.
 
 example: pressroom intake house.toml in work && plateroom run work/plan.json work/files plates
 
-status: 0 the plans are written; 1 a page has a fault; 2 the words or the house file are wrong, a program isn't
-installed, or WORK can't be written or is another intake's
+status: 0 the plans are written; 1 a page has a fault; 2 the words or the house file are wrong, a program
+isn't installed, or WORK can't be written or is another intake's
 """
 import argparse
 import os
@@ -108,8 +108,8 @@ class Intake:
         for press in self.house.presses.values():
             heavy = above(seen, press.limit)
             if heavy:
-                words = f"ink above {press.limit:g} percent ({press.name}) on {heavy[0] / 100:.0f} square centimetres"
-                notes.append(("limit", words, heavy[1]))
+                words = f"ink above {press.limit:g} percent ({press.name}) on {heavy[0] / 100:.0f}"
+                notes.append(("limit", f"{words} square centimetres", heavy[1]))
         for place in thin_white(self.limits, name, inspected, seen, folder):
             notes.append(("white", "thin white text over four inks", place))
         return Made(made.inks, made.layers, tuple(notes))
@@ -168,8 +168,8 @@ class Told:
         said = "kept" if outcome.kept else f"made in {outcome.seconds:.1f} s"
         inks = outcome.page["inks"]
         self.console.tell(
-            "page", f"{name}: {inks}, {said}", file=name, zone=place.zone, section=place.section, page=place.page,
-            inks=inks, kept=outcome.kept, seconds=round(outcome.seconds, 2),
+            "page", f"{name}: {inks}, {said}", file=name, zone=place.zone, section=place.section,
+            page=place.page, inks=inks, kept=outcome.kept, seconds=round(outcome.seconds, 2),
         )  # fmt: skip
 
 
@@ -200,13 +200,16 @@ def read_words():
     parser.add_argument("folder", metavar="IN", help="the folder of the pages")
     parser.add_argument("work", metavar="WORK", help="the folder for files and plans")
     count = len(os.sched_getaffinity(0))
-    parser.add_argument("--jobs", metavar="N", type=whole, default=count, help=f"pages at once ({count} here)")
-    parser.add_argument("--partial", action="store_true", help="write plans in spite of faults, such pages blank")
-    parser.add_argument("--wait", metavar="S", type=positive(float, "seconds"), default=20.0,
-                        help="how long a file that somebody still writes is waited for (20 s)")  # fmt: skip
-    parser.add_argument("--seconds", metavar="S", type=whole, default=120, help="limit of time of a program (120)")
-    parser.add_argument("--memory", metavar="MB", type=whole, default=2000, help="limit of its memory (2000)")
-    parser.add_argument("--output", metavar="MB", type=whole, default=4000, help="limit of a file it writes (4000)")
+    for option, metavar, kind, default, text in (
+        ("--jobs", "N", whole, count, f"pages at once ({count} here)"),
+        ("--wait", "S", positive(float, "seconds"), 20.0, "wait so long for a file that is written (20)"),
+        ("--seconds", "S", whole, 120, "limit of time of each program (120)"),
+        ("--memory", "MB", whole, 2000, "limit of its memory (2000)"),
+        ("--output", "MB", whole, 4000, "limit of each file that it writes (4000)"),
+    ):
+        parser.add_argument(option, metavar=metavar, type=kind, default=default, help=text)
+    partial = "write plans in spite of faults, with such pages blank"
+    parser.add_argument("--partial", action="store_true", help=partial)
     parser.add_argument("--json", action="store_true", help="one JSON object a line for each event")
     parser.add_argument("--version", action="version", version=f"pressroom {__version__}")
     return parser.parse_args()
@@ -237,7 +240,8 @@ def write_plans(house, work, ready, console):
             words = f"{name}: its files have {total} bytes, and plateroom loads {plans.MOST_BYTES}: cut it by"
             console.tell("note", f"{words} pressroom parts", file=name, kind="bytes")
         changed = plans.write(os.path.join(work.path, name), plan)
-        console.tell("plan", f"{name}: {'written' if changed else 'unchanged'}", file=name, changed=changed, bytes=total)
+        said = "written" if changed else "unchanged"
+        console.tell("plan", f"{name}: {said}", file=name, changed=changed, bytes=total)
         names.append(name)
     return names
 

@@ -101,7 +101,9 @@ class Rendering:
                 added[ink].append(((np.arange(256) * part + 0.5).astype(np.uint8), spot.plane))
 
     def tints(self, planes, spot, counts, place):
-        """A line image for each tint of the spot; where there are too many, tints are rounded to even steps."""
+        """A line image for each tint of the spot; where there are too many, tints are rounded to even
+        steps.
+        """
         import numpy as np
 
         values, steps = [value for value in range(1, 256) if counts[value]], np.arange(256)

@@ -1,4 +1,6 @@
-"""Runs programs on files that nobody vouches for: each call has limits, a folder of its own, and no network."""
+"""Runs programs on files that nobody vouches for: each call has limits, a folder of its own, and no
+network.
+"""
 import functools
 import os
 import shutil
@@ -23,7 +25,8 @@ class Limits:
     output: int = 4000
 
     def run(self, words, folder):
-        """Runs the program in this folder and returns its status, standard output and standard error as bytes.
+        """Runs the program in this folder and returns its status, standard output and standard error as
+        bytes.
 
         Raises Passed where it passes a limit. Nothing of what the program started runs on.
         """

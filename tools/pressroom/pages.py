@@ -74,7 +74,9 @@ def find(house, folder):
 
 
 def is_quiet(path, patience):
-    """Waits until nobody writes the file any more; False where somebody still does after `patience` seconds."""
+    """Waits until nobody writes the file any more; False where somebody still does after `patience`
+    seconds.
+    """
     end = time.monotonic() + patience
     while True:
         before = os.stat(path)

@@ -121,11 +121,12 @@ def read_objects(limits, name, folder):
 
 
 def in_cmyk(head, objects):
-    """The edit by which CMYK keeps its numbers, and whether groups change by it; None where there is nothing to edit.
+    """The edit by which CMYK keeps its numbers, and whether groups change by it; None where there is
+    nothing to edit.
 
-    Groups that blend in RGB blend in CMYK: Ghostscript makes a whole group RGB and then CMYK again, and black text in
-    it comes out in four inks. Masks of luminosity keep their colours, as their groups print nothing. CMYK with a
-    profile of its own becomes that of the device, which isn't converted.
+    Groups that blend in RGB blend in CMYK: Ghostscript makes a whole group RGB and then CMYK again, and
+    black text in it comes out in four inks. Masks of luminosity keep their colours, as their groups print
+    nothing. CMYK with a profile of its own becomes that of the device, which isn't converted.
     """
     masks = {
         value["/G"]
@@ -191,7 +192,9 @@ def is_rgb(space, objects):
 
 
 def structure(head, objects):
-    """The dictionary of the first page, and what in_cmyk gives; Refused where objects aren't what PDFs have."""
+    """The dictionary of the first page, and what in_cmyk gives; Refused where objects aren't what PDFs
+    have.
+    """
     try:
         return page_object(objects), *in_cmyk(head, objects)
     except (AttributeError, LookupError, RecursionError, TypeError, ValueError):
@@ -199,7 +202,9 @@ def structure(head, objects):
 
 
 def inspect(limits, name, folder):
-    """Looks at the first page of a PDF in the folder; the PDF to render, which may be edited, and Inspected."""
+    """Looks at the first page of a PDF in the folder; the PDF to render, which may be edited, and
+    Inspected.
+    """
     see_damage(limits, name, folder)
     status, out, note = limits.run(["pdfinfo", "-f", "1", "-l", "1", "-box", name], folder)
     text = out.decode("utf-8", "replace")

@@ -1,7 +1,8 @@
-"""The planes of a page as Ghostscript's device psdcmyk writes them: the four inks and each spot, 255 where bare.
+"""The planes of a page as Ghostscript's device psdcmyk writes them: the four inks and each spot, 255 where
+bare.
 
-A PSD file (Adobe Photoshop File Formats) has a head of 26 bytes, colour data, resources, layers and the planes; all
-numbers begin with the high byte. Names of spots stand in it, so none becomes a file's name.
+A PSD file (Adobe Photoshop File Formats) has a head of 26 bytes, colour data, resources, layers and the
+planes; all numbers begin with the high byte. Names of spots stand in it, so none becomes a file's name.
 """
 import os
 import struct
@@ -21,7 +22,8 @@ STRIP = 64
 
 @dataclass(frozen=True)
 class Spot:
-    """A separation beside the four: its name as bytes, its plane, and its mixture of the four, 0 to 1 each."""
+    """A separation beside the four: its name as bytes, its plane, and its mixture of the four, 0 to 1 each.
+    """
 
     name: bytes
     plane: int
@@ -122,7 +124,8 @@ class Planes:
         return sum(np.bincount(stored[rows].ravel(), minlength=256) for rows in self.blocks())[::-1]
 
     def to_tiff(self, added):
-        """Makes the file itself an uncompressed planar TIFF file of the four inks; tells which of them it holds.
+        """Makes the file itself an uncompressed planar TIFF file of the four inks; tells which of them it
+        holds.
 
         Of each ink `added` has pairs of what a spot adds to it for each value, and the spot's plane.
         """

@@ -12,8 +12,11 @@ BLANK = {"name": "blank", "inks": "K", "layers": []}
 
 def page_names(places):
     """A name of at most 16 letters, digits and _ for each place, all different."""
-    names = {place: f"{place.section}{place.page:02}" + (f"_{place.zone}" if place.zone else "") for place in places}
-    if len(set(names.values()) | {"blank"}) == len(names) + 1 and max(map(len, names.values()), default=0) <= 16:
+    names = {}
+    for place in places:
+        names[place] = f"{place.section}{place.page:02}" + (f"_{place.zone}" if place.zone else "")
+    short = all(len(name) <= 16 for name in names.values())
+    if short and len(set(names.values()) | {"blank"}) == len(names) + 1:
         return names
     return {place: f"page{number:04}" for number, place in enumerate(places, 1)}
 
@@ -63,8 +66,9 @@ def plan_of(house, press, pages):
     """The plan of a press. `pages` has the inks and layers of each place that isn't blank."""
     sites = [site for site in house.sites if site.press == press.name]
     zones = list(dict.fromkeys(site.zone for site in sites if site.zone))
-    order = sorted(pages, key=lambda place: (place.zone or "", list(house.sections).index(place.section), place.page))
-    order = [place for place in order if place.zone is None or place.zone in zones]
+    first = {section: number for number, section in enumerate(house.sections)}
+    order = [place for place in pages if place.zone is None or place.zone in zones]
+    order.sort(key=lambda place: (place.zone or "", first[place.section], place.page))
     names = page_names(order)
 
     def name(place):
@@ -116,7 +120,9 @@ def files_of(plan):
 
 
 def write(path, value):
-    """Writes JSON under a name of its own and renames it, unless the file holds it already; True where it's new."""
+    """Writes JSON under a name of its own and renames it, unless the file holds it already; True where it's
+    new.
+    """
     data = (json.dumps(value, ensure_ascii=False, indent=1) + "\n").encode()
     try:
         with open(path, "rb") as file:

@@ -1,8 +1,8 @@
 """ICC device links: what becomes of RGB on the way to the four inks.
 
-Ghostscript's `-dBlackText` makes all text black, coloured text too, and a profile makes black of four inks. So RGB
-text and line art go through a link that is made here: by the house's profile, but for neutral colours, which become
-black ink alone of the same lightness.
+Ghostscript's `-dBlackText` makes all text black, coloured text too, and a profile makes black of four inks.
+So RGB text and line art go through a link that is made here: by the house's profile, but for neutral
+colours, which become black ink alone of the same lightness.
 """
 import os
 import shutil
@@ -27,8 +27,9 @@ def converted(profile):
     from PIL import Image, ImageCms
 
     change = ImageCms.buildTransform(
-        ImageCms.createProfile("sRGB"), profile, "RGB", "CMYK", renderingIntent=1, flags=ImageCms.FLAGS["BLACKPOINTCOMPENSATION"]
-    )
+        ImageCms.createProfile("sRGB"), profile, "RGB", "CMYK", renderingIntent=1,
+        flags=ImageCms.FLAGS["BLACKPOINTCOMPENSATION"],
+    )  # fmt: skip
     inks = np.asarray(ImageCms.applyTransform(Image.fromarray(colours()), change))
     return inks.reshape(SIDE, SIDE, SIDE, 4).copy()
 
@@ -85,8 +86,8 @@ def write(path, data):
 def write_profiles(folder, profile):
     """Writes what Ghostscript reads: `press.icc`, `colour.txt`, by which pages are made, and `marked.txt`.
 
-    A page that is rendered by the last two differs where RGB shows that isn't white, or neutral text or line art.
-    CMYK keeps its numbers.
+    A page that is rendered by the last two differs where RGB shows that isn't white, or neutral text or
+    line art. CMYK keeps its numbers.
     """
     import numpy as np
 

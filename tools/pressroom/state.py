@@ -1,7 +1,8 @@
 """What an intake made of each page, so that the next one makes only what changed.
 
-A page is known by the SHA-256 of its file and of all that its layers come from: the house's keys, the programs'
-versions and this package's. Its files bear that sum in their names, so files of older plans stay as they are.
+A page is known by the SHA-256 of its file and of all that its layers come from: the house's keys, the
+programs' versions and this package's. Its files bear that sum in their names, so files of older plans stay
+as they are.
 """
 import fcntl
 import hashlib

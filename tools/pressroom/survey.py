@@ -1,4 +1,5 @@
-"""A look at a page at a low resolution, before it's rendered at the plate's: which spots, RGB and too much ink it has.
+"""A look at a page at a low resolution, before it's rendered at the plate's: which spots, RGB and too much
+ink it has.
 
 Places are boxes in millimetres from the upper left corner of the trimmed page: left, top, width and height.
 """
@@ -9,7 +10,8 @@ from dataclasses import dataclass
 from pressroom.pdf import MILLIMETRE
 
 DPI = 72
-# A cell of so many millimetres has too much ink where half of it has; so many square millimetres are a large area.
+# A cell of so many millimetres has too much ink where half of it has; so many square millimetres are a
+# large area.
 CELL, LARGE = 5, 400
 # White text below so many points is thin; it lies on four inks where each has at least so much of 255.
 THIN, INKED = 10, 26
@@ -49,7 +51,9 @@ def box_of(marked, one):
 
 
 def above(seen, limit):
-    """The area above an ink limit in percent, in square millimetres, and its place; None where it isn't large."""
+    """The area above an ink limit in percent, in square millimetres, and its place; None where it isn't
+    large.
+    """
     import numpy as np
 
     heavy = seen.inks.astype(np.uint16).sum(axis=2) > limit * 2.55 + 2
@@ -64,8 +68,8 @@ def above(seen, limit):
 
 def thin_white(limits, name, inspected, seen, folder):
     """The places of small white text over four inks."""
-    words = ["pdftohtml", "-xml", "-i", "-stdout", "-zoom", "1", "-f", "1", "-l", "1", "-nomerge", "-noroundcoord"]
-    status, out, _ = limits.run([*words, name, "text"], folder)
+    words = ["pdftohtml", "-xml", "-i", "-stdout", "-zoom", "1", "-f", "1", "-l", "1", "-nomerge"]
+    status, out, _ = limits.run([*words, "-noroundcoord", name, "text"], folder)
     text = out.decode("utf-8", "replace")
     white = {
         number for number, size, colour in FONT.findall(text) if colour == "ffffff" and 0 < int(size) < THIN
@@ -83,7 +87,8 @@ def thin_white(limits, name, inspected, seen, folder):
 
 
 def corner(inspected):
-    """The trim's upper left corner, as poppler counts points: from that of the crop box of the turned page."""
+    """The trim's upper left corner, as poppler counts points: from that of the crop box of the turned page.
+    """
     left, lower, right, upper = inspected.trim
     crop_left, crop_lower, crop_right, crop_upper = inspected.crop
     return {
