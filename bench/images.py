@@ -104,4 +104,5 @@ def main():
         print(f"{name}: plateroom {ours:.0f}, plain C {theirs:.0f} million pixels a second; {whole / best[name, 0]:.2f} of chunky")
 
 
-main()
+if __name__ == "__main__":
+    main()

@@ -69,7 +69,8 @@ class Late:
         self.tried.holds(f"plates, {self.what}", compared(wanted, self.out, begun))
         now = self.stats()
         written = {path for path in now if now[path] != self.stood.get(path)}
-        wrong = sorted(written ^ (set(now) & (set(made) | set(begun))))
+        parts = {f"{path}.part" for path in begun}
+        wrong = sorted(written ^ (set(now) & (set(made) | parts)))
         self.tried.holds(f"plates that are written, {self.what}", ", ".join(wrong[:3]))
 
     def done(self, text=None):
@@ -164,13 +165,12 @@ def by_hand(tried, folder):
     late.answers(1, "site OSLO left made 0 file OUT/OSLO/E2-A-001-K.tif\n"
                     "dropped OUT/OSLO/E1-A-001-K.tif\ntotal made 0\n")
     late.looked(["OSLO/E2-A-001-K.tif"])
-    late = Late(tried, folder, "a plate on a full disk", two, negative)
-    os.remove(late.full("BERGEN/E1-A-002-K.tif"))
-    os.symlink("/dev/full", late.full("BERGEN/E1-A-002-K.tif"))
+    late = Late(tried, folder, "a plate whose file can't be made", two, negative)
+    stood = plates_of(two)["BERGEN/E1-A-002-K.tif"]
+    os.mkdir(late.full("BERGEN/E1-A-002-K.tif.part"))
     late.answers(1, "site OSLO made 2 kept 0\nsite BERGEN left made 1 file OUT/BERGEN/E1-A-002-K.tif\n"
                     "total made 3\n")
-    os.remove(late.full("BERGEN/E1-A-002-K.tif"))
-    late.looked(["BERGEN/E1-A-002-K.tif"])
+    late.looked(["BERGEN/E1-A-002-K.tif"], {"BERGEN/E1-A-002-K.tif": stood})
     tried.part("plates made again, by hand")
     not_looked_at(tried, folder, two, Edition(double(), other))
     streams(tried, folder, two, negative)

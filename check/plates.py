@@ -226,7 +226,8 @@ def row_of(bits):
 
 
 def compared(wanted, out, parts=None):
-    """How a folder of plates differs from those that are wanted, if it does. Of `parts` a front may be there."""
+    """How a folder of plates differs from those that are wanted, if it does. Of `parts` a front may be there,
+    under the name that a plate has until it is whole."""
     faults, parts = [], parts or {}
     found = {os.path.relpath(os.path.join(at, name), out) for at, _, names in os.walk(out) for name in names}
     for path in sorted(found | set(wanted)):
@@ -238,8 +239,10 @@ def compared(wanted, out, parts=None):
         if path in wanted and plate != wanted[path]:
             same = os.path.commonprefix([plate, wanted[path]])
             faults.append(f"{path} differs at byte {len(same)}")
-        elif path not in wanted and not (path in parts and is_begun(plate, parts[path])):
-            faults.append(f"{path} should not be there")
+        elif path not in wanted:
+            name = path.removesuffix(".part")
+            if name == path or name not in parts or not is_begun(plate, parts[name]):
+                faults.append(f"{path} should not be there")
     return "; ".join(faults[:3] + [f"and {len(faults) - 3} more"] * (len(faults) > 3))
 
 

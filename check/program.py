@@ -24,6 +24,7 @@ import held
 import keyed
 import late
 import trial
+import whole
 from plates import Edition, black_plate, compared
 from tiff import Image
 
@@ -176,6 +177,7 @@ def trials(tried, folder):
     held.trials(tried, folder, five)
     keyed.trials(tried, folder, EXAMPLES, small, five)
     late.trials(tried, folder, files, small)
+    whole.trials(tried, folder, files)
     beside_others(tried, folder, files)
 
 

@@ -156,7 +156,7 @@ class Engine:
         line = "failed: sections B sites OSLO,BERGEN,TROMSO status 137: "
         every = ["run A-OSLO.json", "run B-OSLO.json"]
         self.answers("killed", 137, report.splitlines(True)[-1], [line], every, text)
-        self.same("killed", text, [f"{site}/MORNING-B-" for site in ("OSLO", "BERGEN", "TROMSO")])
+        self.same("killed", text, [".B-OSLO/", *(f"{site}/MORNING-B-" for site in ("OSLO", "BERGEN", "TROMSO"))])
         self.holds("a plate in part", held(self.out) != self.news.plates[text], "all plates are there")
         self.answers("run again", 0, report, [], every[1:], text)
         self.same("run again", text)
@@ -165,17 +165,23 @@ class Engine:
         shutil.rmtree(self.out + ".parts")
 
     def blocked(self):
-        """A file stands where a site's folder should be: its part alone fails."""
+        """A file stands where a part's folder should be, and then a site's: its part alone fails."""
         text, report = self.news.small, self.news.reports[self.news.small]
         os.mkdir(self.out)
-        self.file("plates/TROMSO", "")
+        self.file("plates/.A-TROMSO", "")
         oslo, bergen, tromso, _ = report.splitlines(True)
         left = f"site TROMSO left plates 0 row 0 call begin file {self.out}/TROMSO/MORNING-A-001-C.tif"
         line = f"failed: sections A,B sites TROMSO status 1: {left}"
         total = f"total rows {self.news.rows_apart()} sites 3\n"
         every = ["run A-OSLO.json", "run A-TROMSO.json"]
         self.answers("blocked", 1, oslo + bergen + left + "\n" + total, [line], every, text, "--by", "site")
-        self.same("blocked", text, ["TROMSO"])
+        self.same("blocked", text, ["TROMSO", ".A-TROMSO"])
+        self.file("plates/.A-TROMSO")
+        self.file("plates/TROMSO", "")
+        line = "failed: sections A,B sites TROMSO status 1: "
+        line += f"mkdir: cannot create directory '{self.out}/TROMSO': File exists"
+        self.answers("not moved", 1, oslo + bergen + total, [line], every[1:], text, "--by", "site", LC_ALL="C")
+        self.same("not moved", text, ["TROMSO", ".A-TROMSO/"])
         self.file("plates/TROMSO")
         self.answers("mended", 0, oslo + bergen + tromso + total, [], every[1:], text, "--by", "site")
         self.same("mended", text)

@@ -2,7 +2,8 @@
 # Makes a Debian package of the built program, its man page, documents, tools and examples.
 # Build the program first: (cd crates/plateroom && rt run -- drill 7)
 # usage: package/deb.sh [PROGRAM]      it leaves package/out/plateroom_VERSION_amd64.deb and prints its path
-# It needs dpkg-deb, git and strip. DEBFULLNAME and DEBEMAIL name the maintainer; else the last commit's author is named.
+# It needs dpkg-deb, git, python3 and strip. DEBFULLNAME and DEBEMAIL name the maintainer; else the last commit's author
+# is named.
 set -euo pipefail
 program=$(realpath "${1:-$(dirname "$0")/../crates/plateroom/out/plateroom}")
 cd "$(dirname "$0")/.."
@@ -27,7 +28,7 @@ install -D -m 755 "$program" "$root/usr/bin/plateroom"
 strip --strip-unneeded --remove-section=.comment "$root/usr/bin/plateroom"
 install -d "$root/usr/share/man/man1"
 gzip -9nc docs/plateroom.1 > "$root/usr/share/man/man1/plateroom.1.gz"
-install -m 644 README.md NOTICE docs/MANUAL.md docs/FORMATS.md docs/SPEED.md "$docs"
+package/documents.py "$docs"
 install -m 644 package/copyright "$docs/copyright"
 gzip -9nc CHANGELOG.md > "$docs/changelog.gz"
 gzip -9nc > "$docs/changelog.Debian.gz" <<END
@@ -44,9 +45,7 @@ copy() { # FOLDER FILES..
   shift
   git ls-files -z -- "$@" ':!:**/.gitignore' | tar --null -T - -c | tar -x -C "$to" --no-same-owner
 }
-copy "$docs" examples
 copy "$root/usr/share/plateroom" tools
-install -m 644 docs/EDITORS.md docs/plan.schema.json "$docs"
 find "$root" -type d -exec chmod 755 {} +
 find "$root/usr/share" -type f -exec chmod 644 {} +
 find "$root/usr/share" -type f \( -name '*.py' -o -name '*.sh' \) -exec sh -c \

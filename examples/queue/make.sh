@@ -11,9 +11,9 @@ parts := $(echo $names)
 run: \$(parts:=.report)
 late: \$(parts:=.late)
 \$(parts:=.report): %.report: %.json
-	"\$\$here/part.sh" \$* run \$< "\$\$files" "\$\$out"
+	"\$\$here/part.sh" \$* "\$\$out" run \$< "\$\$files"
 \$(parts:=.late): %.late: %.json
-	"\$\$here/part.sh" \$@ replate \$< "\$\$files" \$< "\$\$late" "\$\$out"
+	"\$\$here/part.sh" \$@ "\$\$out" replate \$< "\$\$files" \$< "\$\$late"
 .PHONY: run late \$(parts:=.late)
 END
 exec "$here/collect.py" "$plan" "$parts" ${late:+late}

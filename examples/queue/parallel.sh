@@ -9,5 +9,5 @@ if [ -e "$log" ] && [ -n "$(find "$parts" -newer "$log" \( -name '*.json' -o -na
   rm "$log"
 fi
 echo "$names" | parallel --will-cite --quote --jobs "${JOBS:-4}" --joblog "$log" --resume-failed \
-  "$here/part.sh" "$parts/{}" run "$parts/{}.json" "$files" "$out"
+  "$here/part.sh" "$parts/{}" "$out" run "$parts/{}.json" "$files"
 exec "$here/collect.py" "$plan" "$parts"

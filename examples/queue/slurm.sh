@@ -11,7 +11,7 @@ if [ -n "$missing" ]; then
   sbatch --wait --array "$missing" --job-name plateroom --output /dev/null << 'END' >&2
 #!/bin/sh
 name=$(sed -n "${SLURM_ARRAY_TASK_ID}s/^plan \(.*\)\.json .*/\1/p" "$parts/list")
-exec "$here/part.sh" "$parts/$name" run "$parts/$name.json" "$files" "$out"
+exec "$here/part.sh" "$parts/$name" "$out" run "$parts/$name.json" "$files"
 END
 fi
 exec "$here/collect.py" "$plan" "$parts"

@@ -392,7 +392,7 @@ def main():
         for line in notes:
             print(f"note: {line}")
         if found:
-            print("what to do: docs/FORMATS.md, 'What is wrong with a file'")
+            print("what to do: docs/FORMATS.md, 'Faults of a file'")
         files = len({name for _, name in single})
         print(f"{files} files in {len(single)} uses: {len(found)} faults, {len(notes)} notes")
     sys.exit(4 if found else 1 if notes and words.strict else 0)

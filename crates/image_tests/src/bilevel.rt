@@ -43,7 +43,8 @@ fn marks(image: &Bilevel<'_>, row: [u8; 1]) -> u8
     marks
 }
 
-// The file with these changes has two rows AA, of which these pixels are marked.
+// The file with these changes has two rows AA, of which these pixels are marked, also where it is opened
+// again.
 fn assert_image(
     rt: &impl Abort,
     changes: &[(usize, u8)],
@@ -52,10 +53,15 @@ fn assert_image(
 ) -> Result<(), TagFault> {
     let bytes = changed(LINE, changes);
     let image = Bilevel::check(&bytes, usage)?;
+    assert_shown(rt, &image, marked);
+    assert_shown(rt, &Bilevel::of_tested(&bytes, usage), marked);
+    Ok(())
+}
+
+fn assert_shown(rt: &impl Abort, image: &Bilevel<'_>, marked: u8) {
     assert!(rt; image.width() == 8 && image.length() == 2);
     assert_rows(rt, image.rows(), &[[0xaa], [0xaa]]);
-    assert!(rt; marks(&image, [0xaa]) == marked, "{changes:?}");
-    Ok(())
+    assert!(rt; marks(image, [0xaa]) == marked);
 }
 
 #[test]

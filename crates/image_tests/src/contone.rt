@@ -44,13 +44,18 @@ fn assert_refused(rt: &impl Abort, changes: &[(usize, u8)], tag: u16, kind: Faul
     );
 }
 
-// An image 4 pixels wide has exactly these rows.
+// An image 4 pixels wide has exactly these rows, also where it is opened again.
 fn assert_image(rt: &impl Abort, bytes: &[u8], rows: &[[u8; 16]]) -> Result<(), TagFault> {
     let image = Contone::check(bytes)?;
+    assert_shown(rt, &image, rows);
+    assert_shown(rt, &Contone::of_tested(bytes), rows);
+    Ok(())
+}
+
+fn assert_shown(rt: &impl Abort, image: &Contone<'_>, rows: &[[u8; 16]]) {
     assert!(rt; image.width() == 4);
     assert!(rt; image.length() as usize == rows.len());
     assert_rows(rt, image.rows(), rows);
-    Ok(())
 }
 
 #[test]

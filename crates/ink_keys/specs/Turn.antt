@@ -29,6 +29,12 @@ abbrev pub OnFinished : KeyEnd → Type 0 → Type 0
 OnFinished (Waiting head) P = Unit {0}
 OnFinished Finished P = P
 
+-- how often a turn of this patience looked in vain: each other load found a row more. Waiting comes at the
+-- last look that the patience allows, and Finished before it
+abbrev pub WaitsNoMore : ℕ → ReaderState → ReaderState → KeyEnd → Type 0
+WaitsNoMore patience old new (Waiting head) = new.loads + old.seen ≤ old.loads + patience + new.seen
+WaitsNoMore patience old new Finished = new.loads + old.seen < old.loads + patience + new.seen
+
 -- the rows of a ring are frames of rows of this width, as many as the ring is to pass
 pub record AreRowsOf (width : ℕ) (ring : RingNumbers) : Type 0 where
   pub count : length ring.rows ≡ ring.total

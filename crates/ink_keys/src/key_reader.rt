@@ -4,7 +4,7 @@ ghost use Rattle.plan_rows.specs.Rows.{places_in};
 ghost use Rattle.ring_lanes.specs.Reader.{Waits};
 ghost use Rattle.ink_keys.specs.Counts.{IsBounded};
 ghost use Rattle.ink_keys.specs.Turn.{AreRowsOf, CountsNext, CountsRows, IfWaiting, IsReady, OnFinished};
-ghost use Rattle.ink_keys.specs.Turn.{stage};
+ghost use Rattle.ink_keys.specs.Turn.{WaitsNoMore, stage};
 
 use crate::{Counts, KeyEnd};
 use plan_rows::RowPlan;
@@ -80,6 +80,7 @@ impl<'p> KeyReader<'p> {
         ensures known { reader.new.cursor ≤ reader.new.seen }
         ensures seen_grows { reader.old.seen ≤ reader.new.seen }
         ensures gets_on { reader.old.cursor < reader.old.seen → reader.old.cursor < reader.new.cursor }
+        ensures waits { WaitsNoMore patience reader.old reader.new result }
         ensures waiting { IfWaiting result (Waits reader.old reader.new patience) }
         ensures finished { OnFinished result (reader.new.cursor ≡ reader.old.ring.total) }
     {

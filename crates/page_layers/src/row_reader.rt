@@ -53,9 +53,7 @@ impl<'a> RowReader<'a> {
         ensures part { Holds self.new crop room.new }
         ensures room { length room.new ≡ length room.old }
     {
-        for _row in self.read..y {
-            self.rows.skip_row();
-        }
+        self.rows.skip_rows(y - self.read);
         let len = self.rows.part_len(crop.x, crop.width);
         self.rows.next_part(crop.x, crop.width, &mut room[..len]);
         self.read = y + 1;

@@ -10,4 +10,4 @@ mod number;
 pub use main_call::plate_main;
 pub use ring_run::{FeedEnd, Outcome, SiteEnd, feed_turn};
 pub use room_base::{Refusal, Whose};
-pub use room_run::{generated_jobs_pass, run_job};
+pub use room_run::{generated_jobs_pass, run_job, run_keys};

@@ -1,3 +1,4 @@
 pub mod Rack
 pub mod Mem
 pub mod Told
+pub mod Delivery

@@ -1,30 +1,32 @@
 // The rack of the machine's files.
 ghost use Rattle.std.specs.Prelude.{refl, ◌≡◌, ◌≤◌, true, false, None, Some, IfErr, IsErrOf, OnErr, OnOk};
-ghost use Rattle.std.specs.Prelude.{is_ok, is_some, length, map, slice_get, slice_set};
+ghost use Rattle.std.specs.Prelude.{is_ok, is_some, length, map, not, slice_get, slice_set};
 ghost use Rattle.tif_packbits.specs.Frame.{IsFrame};
 ghost use Rattle.pr_base.specs.Count.{Rose, count_unless};
-ghost use Rattle.pr_rack.specs.Rack.{OthersBegun, none_begun};
+ghost use Rattle.pr_rack.specs.Rack.{OthersBegun, has_failed, none_begun};
 
+use crate::begun_plate::{begin_plate, complete};
+use crate::folders::Folders;
 use crate::open_files::OpenFiles;
-use crate::plate_file::{BLOCK, append_row, complete};
+use crate::plate_file::append_row;
 use crate::{Rack, RackFault};
-use pr_base::{Counted, raised};
+use pr_base::raised;
 use ring_lanes::Held;
 use std::fs::File;
-use std::io::BufWriter;
 use std::marker::Model;
-use std::path::Path;
 use std::rt::Files;
-use std::{fs, io};
 
-/// The files of the machine. A plate's file is written by blocks as its rows come, and a file that stood at
-/// its path is replaced; the folders of the path are made. An error of the machine is a counted `Failed` of
-/// the call that wrote the block. The partial file of a plate that isn't finished stays. It tells nothing
-/// but which slots are begun, and its count.
+/// The files of the machine. A plate's file is written by blocks as its rows come, as `PLATE.part` in the
+/// plate's folder, which is made. `finish` syncs it and renames it, so a file under a plate's name is whole;
+/// a file that stood there is replaced then. The partial file of a plate that isn't finished stays. An error
+/// of the machine is a counted `Failed` of the call that wrote the block. The folder is locked from the first
+/// `begin` there until the rack is let go; where another run has it `begin` fails. It tells nothing but which
+/// slots are begun, and its count.
 #[derive(Drop)]
 pub struct HostRack<R: Files<File = File> + AllocGlobal> {
     rt: R,
     files: OpenFiles,
+    folders: Folders,
     faults: u64,
 }
 
@@ -41,30 +43,13 @@ impl<R: Files<File = File> + AllocGlobal> HostRack<R> {
     pub fn new(rt: R) -> HostRack<R>
         ensures { result ≡ record { begun = none_begun; faults = 0 } }
     {
+        let folders = Folders::new(rt.alloc());
         HostRack {
             rt,
             files: OpenFiles::new(),
+            folders,
             faults: 0,
         }
-    }
-}
-
-/// Makes the folders of a path and an empty file there.
-fn create<R: Files<File = File>>(rt: &R, path: &str) -> io::Result<File> {
-    if let Some(folder) = Path::new(path).parent() {
-        fs::create_dir_all(rt, folder)?;
-    }
-    fs::create(rt, path)
-}
-
-/// The same with a block for its bytes. Where there is no memory for one they go to the machine as they come.
-fn create_plate<R: Files<File = File> + AllocGlobal>(
-    rt: &R,
-    path: &str,
-) -> io::Result<BufWriter<File>> {
-    match BufWriter::with_capacity(rt.alloc(), BLOCK, create(rt, path)?) {
-        Ok(file) => Ok(file),
-        Err(_) => BufWriter::with_capacity(rt.alloc(), 0, create(rt, path)?),
     }
 }
 
@@ -95,21 +80,19 @@ impl<R: Files<File = File> + AllocGlobal> Rack for HostRack<R> {
         ensures counted { IsErrOf result RackFault.Failed → Rose self.old.faults self.new.faults }
         ensures faults_stay { self.old.faults ≤ self.new.faults }
 
-        ensures count { self.new.faults ≡ count_unless (is_ok result) self.old.faults }
-        ensures failed { IfErr result (λ fault. fault ≡ RackFault.Failed) }
+        ensures count { self.new.faults ≡ count_unless (not (has_failed result)) self.old.faults }
     {
-        let Ok(file) = create_plate(&self.rt, path) else {
-            self.faults = raised(self.faults);
-            return Err(RackFault::Failed);
-        };
-        let mut file = Counted::new(file, self.faults);
-        let written = file.append(head) && file.flush();
-        self.faults = file.faults();
-        if !written {
-            return Err(RackFault::Failed);
+        match begin_plate(&self.rt, &mut self.folders, path, head) {
+            Ok(plate) => {
+                self.files.put(slot, plate);
+                Ok(())
+            }
+            Err(RackFault::Failed) => {
+                self.faults = raised(self.faults);
+                Err(RackFault::Failed)
+            }
+            Err(RackFault::Memory) => Err(RackFault::Memory),
         }
-        self.files.put(slot, file.into_stream());
-        Ok(())
     }
 
     fn row(&mut self, slot: usize, held: &Held) -> Result<(), RackFault>
@@ -123,13 +106,12 @@ impl<R: Files<File = File> + AllocGlobal> Rack for HostRack<R> {
         ensures count { self.new.faults ≡ count_unless (is_ok result) self.old.faults }
         ensures failed { IfErr result (λ fault. fault ≡ RackFault.Failed) }
     {
-        let mut file = Counted::new(self.files.take(slot), self.faults);
-        let written = append_row(&mut file, held);
-        self.faults = file.faults();
-        if !written {
+        let mut plate = self.files.take(slot);
+        if !append_row(&mut plate.file, held) {
+            self.faults = raised(self.faults);
             return Err(RackFault::Failed);
         }
-        self.files.put(slot, file.into_stream());
+        self.files.put(slot, plate);
         Ok(())
     }
 
@@ -143,9 +125,9 @@ impl<R: Files<File = File> + AllocGlobal> Rack for HostRack<R> {
         ensures count { self.new.faults ≡ count_unless (is_ok result) self.old.faults }
         ensures failed { IfErr result (λ fault. fault ≡ RackFault.Failed) }
     {
-        let file = self.files.take(slot);
-        let closed = complete(file, tail, at, &mut self.faults);
-        if !closed {
+        let plate = self.files.take(slot);
+        if !complete(&self.rt, plate, tail, at) {
+            self.faults = raised(self.faults);
             return Err(RackFault::Failed);
         }
         Ok(())

@@ -2,14 +2,19 @@
 // rack is, one in memory that tells all, and one that writes files on the machine.
 #![tactic(auto)]
 
+mod begun_plate;
+mod delivery;
+mod folders;
 mod host_rack;
 mod mem_rack;
 mod misses;
 mod open_files;
 mod plate_file;
+mod plate_name;
 mod rack;
 mod slots;
 
+pub use delivery::{FileCall, PlateFile, deliver};
 pub use host_rack::HostRack;
 pub use mem_rack::MemRack;
 pub use rack::{Rack, RackCall, RackFault};

@@ -2,14 +2,13 @@
 ghost use Rattle.std.specs.Prelude.{◌≡◌, ◌<◌, true, false, Some, length, slice_get, slice_set};
 ghost use Rattle.pr_rack.specs.Rack.{none_begun};
 
-use std::fs::File;
-use std::io::BufWriter;
+use crate::begun_plate::BegunPlate;
 use std::marker::Model;
 
-/// The file of each slot where a plate is begun, with its block. Contracts see which slots are begun.
+/// The plate of each slot where one is begun. Contracts see which slots are begun.
 #[derive(Drop)]
 pub(crate) struct OpenFiles {
-    files: [Option<BufWriter<File>>; 5],
+    files: [Option<BegunPlate>; 5],
 }
 
 impl Model for OpenFiles {
@@ -30,8 +29,8 @@ impl OpenFiles {
         }
     }
 
-    /// Takes the file of a slot.
-    pub(crate) fn take(&mut self, slot: usize) -> BufWriter<File>
+    /// Takes the plate of a slot.
+    pub(crate) fn take(&mut self, slot: usize) -> BegunPlate
         requires { slice_get self.old slot ≡ Some true }
         ensures { self.new ≡ slice_set self.old slot false }
     {
@@ -42,8 +41,8 @@ impl OpenFiles {
         }
     }
 
-    /// Puts a file into a slot.
-    pub(crate) fn put(&mut self, slot: usize, file: BufWriter<File>)
+    /// Puts a plate into a slot.
+    pub(crate) fn put(&mut self, slot: usize, file: BegunPlate)
         requires { slot < length self.old }
         ensures { self.new ≡ slice_set self.old slot true }
     {

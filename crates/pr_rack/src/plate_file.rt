@@ -1,15 +1,15 @@
-// A plate's file, whose bytes go to the machine by blocks.
-ghost use Rattle.std.specs.Prelude.{◌≡◌, ◌≤◌, IfSome, is_some};
+// What is written to a plate's file: its head, its rows, its tail, and the place of its directory.
+ghost use Rattle.std.specs.Prelude.{◌≡◌, ◌≤◌, IfSome, length};
 ghost use Rattle.std.specs.Bool.{OnTrue};
 ghost use Rattle.std.specs.Io.Buffered.{writer_contents};
 ghost use Rattle.std.specs.Io.KnownBytes.{Appends};
 ghost use Rattle.tif_packbits.specs.Frame.{IsFrame, packed_in};
 ghost use Rattle.pr_base.specs.Count.{count_unless};
+ghost use Rattle.pr_rack.specs.Delivery.{IsPlaced};
 
 use byteorder::{ByteOrder, LittleEndian};
-use pr_base::{Counted, raised};
+use pr_base::Counted;
 use ring_lanes::Held;
-use std::fs::OpenFile;
 use std::io::{BufWriter, Seek, Write};
 use tif_packbits::framed;
 
@@ -18,6 +18,18 @@ pub(crate) const BLOCK: usize = 65_536;
 
 /// Where the place of a plate's directory stands in its file.
 const PLACE: u64 = 4;
+
+/// Writes the eight bytes that stand before the rows of a plate, and passes them on. False where the file
+/// failed.
+pub(crate) fn append_head<W: Write>(file: &mut Counted<W>, head: &[u8]) -> bool
+    requires { length head.now ≡ 8 }
+    ensures head { OnTrue result
+        (Appends (W.contents file.old.stream) (W.contents file.new.stream) head.now) }
+    ensures count { file.new.faults ≡ count_unless result file.old.faults }
+    ensures faults_stay { file.old.faults ≤ file.new.faults }
+{
+    file.append(head) && file.flush()
+}
 
 /// Puts the packed bytes of a row behind those of its plate. False where the file failed.
 pub(crate) fn append_row<W: Write>(file: &mut Counted<W>, held: &Held) -> bool
@@ -31,45 +43,32 @@ pub(crate) fn append_row<W: Write>(file: &mut Counted<W>, held: &Held) -> bool
 }
 
 /// Writes the tail of a plate and all that waits before it, and answers the file. None where that failed.
-fn close_block<W: Write + Drop>(file: BufWriter<W>, tail: &[u8], faults: &mut u64) -> Option<W>
+pub(crate) fn close_block<W: Write + Drop>(
+    mut file: Counted<BufWriter<W>>,
+    tail: &[u8],
+) -> Option<Counted<W>>
     ensures all { IfSome result
-        (λ whole. Appends (writer_contents W.contents file) (W.contents whole) tail.now) }
-    ensures count { faults.new ≡ count_unless (is_some result) faults.old }
-    ensures faults_stay { faults.old ≤ faults.new }
+        (λ whole. Appends (writer_contents W.contents file.stream) (W.contents whole.stream) tail.now) }
 {
-    let mut file = Counted::new(file, *faults);
-    let written = file.append(tail);
-    *faults = file.faults();
-    if !written {
+    if !file.append(tail) {
         return None;
     }
+    let faults = file.faults();
     match file.into_stream().into_inner() {
-        Ok(whole) => Some(whole),
-        Err(_) => {
-            *faults = raised(*faults);
-            None
-        }
+        Ok(whole) => Some(Counted::new(whole, faults)),
+        Err(_) => None,
     }
 }
 
-/// Writes the tail of a plate and the place `at` of its directory, and has the machine keep the file. False
+/// Writes the place `at` of a plate's directory over its bytes 4 to 7, least significant byte first. False
 /// where the file failed.
-pub(crate) fn complete<F: Write + Seek + OpenFile + Drop>(
-    file: BufWriter<F>,
-    tail: &[u8],
-    at: u32,
-    faults: &mut u64,
-) -> bool
-    ensures count { faults.new ≡ count_unless result faults.old }
-    ensures faults_stay { faults.old ≤ faults.new }
+pub(crate) fn write_place<F: Write + Seek>(file: &mut Counted<F>, at: u32) -> bool
+    ensures place { OnTrue result
+        (IsPlaced F.stream_position F.contents file.old.stream file.new.stream at) }
+    ensures count { file.new.faults ≡ count_unless result file.old.faults }
+    ensures faults_stay { file.old.faults ≤ file.new.faults }
 {
-    let Some(whole) = close_block(file, tail, faults) else {
-        return false;
-    };
     let mut place = [0u8; 4];
     LittleEndian::write_u32(&mut place, at);
-    let mut whole = Counted::new(whole, *faults);
-    let kept = whole.go_to(PLACE) && whole.append(&place) && whole.keep();
-    *faults = whole.faults();
-    kept
+    file.go_to(PLACE) && file.append(&place)
 }

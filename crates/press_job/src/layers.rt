@@ -1,4 +1,4 @@
-// The layers of a page with their images. Each was tested when the job was prepared, so no test fails here.
+// The layers of a page with their images. Each was tested when the job was prepared, and none is tested here.
 ghost use Rattle.std.specs.Prelude.{◌≡◌, ◌≤◌, ℕ, None, length, option_map};
 ghost use Rattle.std.specs.Option.{ForSome};
 ghost use Rattle.page_layers.specs.Layer.{shape_of};
@@ -78,12 +78,9 @@ fn open_art<'j>(bytes: &'j [u8], layer: &PlanLayer) -> Art<'j>
     ensures { result ≡ art_in bytes.now layer.now }
 {
     if layer.line {
-        Art::Line(open_bilevel(bytes, BilevelUse::Line), layer.ink)
+        Art::Line(Bilevel::of_tested(bytes, BilevelUse::Line), layer.ink)
     } else {
-        match Contone::check(bytes) {
-            Ok(image) => Art::Contone(image),
-            Err(_) => unreachable!(),
-        }
+        Art::Contone(Contone::of_tested(bytes))
     }
 }
 
@@ -93,18 +90,8 @@ fn open_mask<'j>(files: &'j Files, mask: Option<usize>) -> Option<Bilevel<'j>>
     ensures { result ≡ option_map (λ file. bilevel_of usages.Mask (bytes_at files.now file)) mask }
 {
     match mask {
-        Some(file) => Some(open_bilevel(files.bytes(file), BilevelUse::Mask)),
+        Some(file) => Some(Bilevel::of_tested(files.bytes(file), BilevelUse::Mask)),
         None => None,
-    }
-}
-
-fn open_bilevel(bytes: &[u8], usage: BilevelUse) -> Bilevel<'_>
-    requires { fault_for (uses.Bilevel usage) bytes.now ≡ None }
-    ensures { result ≡ bilevel_of usage bytes.now }
-{
-    match Bilevel::check(bytes, usage) {
-        Ok(image) => image,
-        Err(_) => unreachable!(),
     }
 }
 

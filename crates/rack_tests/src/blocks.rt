@@ -103,5 +103,13 @@ fn are_whole(rt: &HostRuntime, first: &str, second: &str) -> bool {
     let held = deck.take();
     let built = is_built(rt, &held, first, second);
     deck.give(held);
-    built && has_plate(rt, first, &PLACE, &[0, 7]) && has_plate(rt, second, &[0; 4], &[])
+    built && has_plate(rt, first, &PLACE, &[0, 7]) && has_part(rt, second)
+}
+
+// Whether the plate that was left has its rows.
+fn has_part(rt: &HostRuntime, path: &str) -> bool {
+    match format!(in rt.alloc(); "{path}.part") {
+        Ok(part) => has_plate(rt, part.as_str(), &[0; 4], &[]),
+        Err(_) => false,
+    }
 }

@@ -4,11 +4,15 @@
 #[cfg(test)]
 mod blocks;
 #[cfg(test)]
+mod delivery;
+#[cfg(test)]
 mod folder;
 #[cfg(test)]
 mod keys;
 #[cfg(test)]
 mod machine;
+#[cfg(test)]
+mod places;
 #[cfg(test)]
 mod rows;
 #[cfg(test)]

@@ -116,7 +116,7 @@ fn write_row(rt: &HostRuntime, first: &str, second: &str) -> bool {
     written
 }
 
-// A file that is there is replaced, and one that isn't finished stays in part.
+// A plate that isn't finished stays under its own name, and the one that is there as it was.
 fn write(rt: &HostRuntime, held: &Held, first: &str, second: &str) -> bool
     requires { IsFrame held.now.bytes }
 {
@@ -124,7 +124,12 @@ fn write(rt: &HostRuntime, held: &Held, first: &str, second: &str) -> bool
         && has(rt, first, &SHORT)
         && has(rt, second, &LONG)
         && is_left(rt, held, second)
-        && has(rt, second, &PART)
+        && has(rt, second, &LONG)
+        && has_part(rt, second, &PART)
+        && are_built(rt, held, second, first)
+        && has(rt, first, &LONG)
+        && has(rt, second, &SHORT)
+        && !has_part(rt, second, &PART)
 }
 
 // Compares the bytes of a file.
@@ -135,25 +140,10 @@ fn has(rt: &HostRuntime, path: &str, bytes: &[u8]) -> bool {
     }
 }
 
-// A file in the place of a folder, a device that is full, and one that takes all bytes and keeps none.
-#[test]
-fn counts_what_the_machine_refuses(rt: HostRuntime) {
-    assert!(rt; refuses(&rt, "/dev/null/a.tif"));
-    assert!(rt; refuses(&rt, "/dev/full"));
-    assert!(rt; keeps_none(&rt, "/dev/null"));
-}
-
-fn refuses(rt: &HostRuntime, path: &str) -> bool {
-    let Ok(rt) = rt.clone() else {
-        return false;
-    };
-    HostRack::new(rt).begin(0, path, &HEAD) == Err(RackFault::Failed)
-}
-
-fn keeps_none(rt: &HostRuntime, path: &str) -> bool {
-    let Ok(rt) = rt.clone() else {
-        return false;
-    };
-    let mut rack = HostRack::new(rt);
-    rack.begin(0, path, &HEAD).is_ok() && rack.finish(0, &[0, 7], 12) == Err(RackFault::Failed)
+// Compares the bytes of a plate that isn't whole.
+fn has_part(rt: &HostRuntime, path: &str, bytes: &[u8]) -> bool {
+    match format!(in rt.alloc(); "{path}.part") {
+        Ok(part) => has(rt, part.as_str(), bytes),
+        Err(_) => false,
+    }
 }

@@ -1,22 +1,24 @@
--- Sixty-four compares in one number, of which the first is the highest bit, and a row with its eight bytes.
-use Rattle.std.proofs.Common.{◌≡◌, ℕ, ◌+◌, ◌-◌, ◌*◌, ◌/◌, ◌%◌, ◌^◌, ◌<◌, ◌≤◌, Bool, true, false, cond, List, ◌++◌, length, take, map, nat_lt, eqb, get_or, refl, ap, ◌∙◌, arith}
+-- Sixty-four compares in one number, whose eight bytes show them in their order, and a row with these bytes.
+use Rattle.std.proofs.Common.{◌≡◌, ℕ, zero, suc, ◌+◌, ◌-◌, ◌*◌, ◌/◌, ◌%◌, ◌^◌, ◌<◌, ◌≤◌, Bool, true, false, cond, List, ◌++◌, length, take, map, nat_lt, eqb, get_or, refl, ap, sym, ◌∙◌, arith, w64}
+use Rattle.std.specs.Int.{byte_at, bytes_high_first, bytes_low_first, to_be_bytes, to_le_bytes}
 use Rattle.std.specs.List.{range_with_len}
 use Rattle.std.proofs.lemmas.List.FromFn.{get_or-map-range_with_len, length-map-range_with_len}
 use Rattle.std.proofs.lemmas.Simd.{bit_mask_l, mask_l-mod}
 use borrow.Rule.Slice.PartMut.{put_mid}
 use lib.Lanes.{mask_l, top}
-use Rattle.pr_base.specs.Bits.{byte_bit, SetsBits}
+use Rattle.pr_base.specs.Bits.{bit_at, byte_bit, SetsBits}
+use Rattle.pr_base.proofs.Words.{byte_bit-number}
 use Rattle.pr_base.proofs.Parts.{loaded, part_above, part_below, part_here}
 use Rattle.scr_tile.specs.Tile.{tile_bit}
 
--- what lane x of the compare of two vectors reads, before they are reversed
+-- what lane x of the compare of two vectors reads, before their eights are reversed
 abbrev pub lane_test : List ℕ → List ℕ → ℕ → Bool
 lane_test values thresholds x =
     top 7 (cond (nat_lt (get_or (take 64 thresholds ++ take 64 thresholds) x 0) (get_or (take 64 values ++ take 64 values) x 0)) 255 0)
 
--- the lanes of the compare of two reversed vectors
+-- the lanes of the compare of two vectors whose eights are reversed
 abbrev pub lane_tests : List ℕ → List ℕ → List Bool
-lane_tests values thresholds = map (λ i. lane_test values thresholds (63 - i)) (range_with_len 0 64)
+lane_tests values thresholds = map (λ i. lane_test values thresholds (8 * (i / 8) + 7 - i % 8)) (range_with_len 0 64)
 
 top_of_mask : (b : Bool) → top 7 (cond b 255 0) ≡ b
 top_of_mask true = refl
@@ -31,14 +33,43 @@ lane_test_is values thresholds x whole_values whole_thresholds within =
     top_of_mask _ ∙ ap (λ t. nat_lt t (get_or (take 64 values ++ take 64 values) x 0)) (loaded 64 thresholds x whole_thresholds within)
     ∙ ap (λ v. nat_lt (get_or thresholds x 0) v) (loaded 64 values x whole_values within)
 
-pub bit-mask : (values thresholds : List ℕ) (x : ℕ) → length values ≡ 64 → length thresholds ≡ 64 → x < 64 → eqb (mask_l (lane_tests values thresholds) % 2 ^ 64 / 2 ^ (63 - x) % 2) 1 ≡ tile_bit (get_or values x 0) (get_or thresholds x 0)
-bit-mask values thresholds x whole_values whole_thresholds within =
-    let back : 63 - (63 - x) ≡ x = omega arith in
-    ap (λ m. eqb (m / 2 ^ (63 - x) % 2) 1) (mask_l-mod (lane_tests values thresholds) 64 (omega (arith, length-map-range_with_len (λ i. lane_test values thresholds (63 - i)) 0 64)))
-    ∙ ap (λ b. eqb b 1) (bit_mask_l (lane_tests values thresholds) (63 - x)) ∙ one_if _
-    ∙ get_or-map-range_with_len (λ i. lane_test values thresholds (63 - i)) 0 64 (63 - x) (63 - x) false (omega arith) (omega arith)
+-- a byte of a number, the lowest first, is one of its bytes with the highest first
+low_first : (i k n j : ℕ) → j < k → get_or (bytes_low_first i k n) j 0 ≡ byte_at (i + j) n
+low_first i zero n j within = absurd (omega arith)
+low_first i (suc k) n zero within = ap (λ m. byte_at m n) (omega arith)
+low_first i (suc k) n (suc j) within = low_first (suc i) k n j (omega arith) ∙ ap (λ m. byte_at m n) (omega arith)
+
+high_first : (k n j : ℕ) → j < k → get_or (bytes_high_first k n) j 0 ≡ byte_at (k - 1 - j) n
+high_first zero n j within = absurd (omega arith)
+high_first (suc k) n zero within = ap (λ i. byte_at i n) (omega arith)
+high_first (suc k) n (suc j) within = high_first k n j (omega arith) ∙ ap (λ i. byte_at i n) (omega arith)
+
+low_is_high : (n j : ℕ) → j < 8 → get_or (to_le_bytes w64 n) j 0 ≡ get_or (to_be_bytes w64 n) (7 - j) 0
+low_is_high n j within =
+    let place : 8 - 1 - (7 - j) ≡ 0 + j = omega arith in
+    low_first 0 8 n j within ∙ sym (high_first 8 n (7 - j) (omega arith) ∙ ap (λ i. byte_at i n) place)
+
+-- the eight bytes of the mask, the lowest first, show the pixels in their order
+pub mask_shows : (values thresholds : List ℕ) (x : ℕ) → length values ≡ 64 → length thresholds ≡ 64 → x < 64 → bit_at (to_le_bytes w64 (mask_l (lane_tests values thresholds) % 2 ^ 64)) x ≡ tile_bit (get_or values x 0) (get_or thresholds x 0)
+mask_shows values thresholds x whole_values whole_thresholds within =
+    let test = λ (i : ℕ). lane_test values thresholds (8 * (i / 8) + 7 - i % 8) in
+    let mask = mask_l (lane_tests values thresholds) in
+    let lane = 63 - (8 * (7 - x / 8) + x % 8) in
+    let back : 8 * (lane / 8) + 7 - lane % 8 ≡ x = omega arith in
+    ap (λ byte. byte_bit byte (x % 8)) (low_is_high (mask % 2 ^ 64) (x / 8) (omega arith))
+    ∙ byte_bit-number (mask % 2 ^ 64) (7 - x / 8) (x % 8) (omega arith) (omega arith)
+    ∙ ap (λ m. eqb (m / 2 ^ lane % 2) 1) (mask_l-mod (lane_tests values thresholds) 64 (omega (arith, length-map-range_with_len test 0 64)))
+    ∙ ap (λ b. eqb b 1) (bit_mask_l (lane_tests values thresholds) lane) ∙ one_if _
+    ∙ get_or-map-range_with_len test 0 64 lane lane false (omega arith) (omega arith)
     ∙ ap (λ y. lane_test values thresholds y) back
     ∙ lane_test_is values thresholds x whole_values whole_thresholds within
+
+-- a pixel by its byte
+pub bit_at-place : (bytes : List ℕ) (j y : ℕ) → y < 8 → byte_bit (get_or bytes j 0) y ≡ bit_at bytes (8 * j + y)
+bit_at-place bytes j y within =
+    let byte : j ≡ (8 * j + y) / 8 = omega arith in
+    let column : y ≡ (8 * j + y) % 8 = omega arith in
+    ap (λ k. byte_bit (get_or bytes k 0) y) byte ∙ ap (λ k. byte_bit (get_or bytes ((8 * j + y) / 8) 0) k) column
 
 -- the pixels of eight bytes that were written
 pub SetsBits_block : (test : ℕ → Bool) (bits bytes : List ℕ) (first count : ℕ) → count ≡ 8 → first + 8 ≤ length bits → length bytes ≡ 8 → ((j y : ℕ) → j < 8 → y < 8 → byte_bit (get_or bytes j 0) y ≡ test (8 * j + y)) → SetsBits test (8 * first) 64 bits (put_mid first count bits bytes)

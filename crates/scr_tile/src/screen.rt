@@ -12,6 +12,14 @@ use std::simd::prelude::*;
 /// How many pixels are screened in one step: the lanes of the widest vector, and eight whole bytes.
 const BLOCK: usize = 64;
 
+/// The lanes of a block, those of each byte reversed: a mask has lane 0 as its lowest bit, a byte of pixels
+/// has the first of them as its highest.
+const EIGHTS: [usize; BLOCK] = [
+    7, 6, 5, 4, 3, 2, 1, 0, 15, 14, 13, 12, 11, 10, 9, 8, 23, 22, 21, 20, 19, 18, 17, 16, 31, 30,
+    29, 28, 27, 26, 25, 24, 39, 38, 37, 36, 35, 34, 33, 32, 47, 46, 45, 44, 43, 42, 41, 40, 55, 54,
+    53, 52, 51, 50, 49, 48, 63, 62, 61, 60, 59, 58, 57, 56,
+];
+
 /// Room for a tile's widest row and the thresholds of a block more, so that those of any block stand side by
 /// side.
 const ROOM: usize = 128;
@@ -106,7 +114,7 @@ fn set_blocks(
         let at = BLOCK * k;
         let block = block_of(&values[at..at + BLOCK], &repeated[column..column + BLOCK]);
         let byte = first + 8 * k;
-        bits[byte..byte + 8].copy_from_slice(&block.to_be_bytes()[..]);
+        bits[byte..byte + 8].copy_from_slice(&block[..]);
         column += step;
         if column >= width {
             column -= width;
@@ -114,15 +122,15 @@ fn set_blocks(
     }
 }
 
-/// The pixels of a block, the first as the highest bit: each is set where its value is above its threshold.
-fn block_of(values: &[u8], thresholds: &[u8]) -> u64
+/// The pixels of a block as a row has them: each is set where its value is above its threshold.
+#[tactic(auto, using(crate::proofs::BlockLemmas::mask_shows))]
+fn block_of(values: &[u8], thresholds: &[u8]) -> [u8; 8]
     requires values { length values.now ≡ BLOCK }
     requires thresholds { length thresholds.now ≡ BLOCK }
     ensures { (x : ℕ) → x < BLOCK →
-        (result / 2 ^ (63 - x) % 2 == 1)
-        ≡ tile_bit (slice_index values.now x) (slice_index thresholds.now x) }
+        bit_at result x ≡ tile_bit (slice_index values.now x) (slice_index thresholds.now x) }
 {
-    let values = u8x64::from_slice(values).reverse();
-    let thresholds = u8x64::from_slice(thresholds).reverse();
-    values.simd_gt(thresholds).to_bitmask()
+    let values = u8x64::from_slice(values).swizzle(EIGHTS);
+    let thresholds = u8x64::from_slice(thresholds).swizzle(EIGHTS);
+    values.simd_gt(thresholds).to_bitmask().to_le_bytes()
 }

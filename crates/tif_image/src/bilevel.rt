@@ -1,5 +1,5 @@
 // Bilevel images: one sample of one bit a pixel, linework or a mask (TIFF 6.0, Sections 3 and 8).
-use crate::check::check_image;
+use crate::check::{Checked, check_image, open_image};
 use crate::usage::{BilevelUse, Usage};
 use pr_base::TagFault;
 use std::marker::Model;
@@ -32,7 +32,8 @@ impl<'a> Model for Bilevel<'a> {
 }
 
 impl<'a> Bilevel<'a> {
-    ghost use Rattle.std.specs.Prelude.{◌≡◌, ◌==◌, ◌≤◌, ◌<◌, IfErr, IfOk, length};
+    ghost use Rattle.std.specs.Prelude.{◌≡◌, ◌==◌, ◌≤◌, ◌<◌, IfErr, IfOk, None, Ok, length};
+    ghost use Rattle.std.specs.Result.{result_err};
     ghost use Rattle.pr_base.specs.Row.{row_size};
     ghost use Rattle.tif_strips.specs.Strips.{row_length};
     ghost use Rattle.tif_image.specs.Image.{IsBilevel, bilevel_shape, is_marked, photometric};
@@ -45,17 +46,35 @@ impl<'a> Bilevel<'a> {
         ensures refused { IfErr result (λ fault. bilevel_shape usage bytes.now ≡ Err fault) }
     {
         let image = check_image(bytes, Usage::Bilevel(usage))?;
+        Ok(Bilevel::of(image, usage))
+    }
+
+    /// The image in a file whose tests pass: its directory and its fields are read, and no strip.
+    pub fn of_tested(bytes: &'a [u8], usage: BilevelUse) -> Bilevel<'a>
+        requires { result_err (bilevel_shape usage bytes.now) ≡ None }
+        ensures image { (result.bytes ≡ bytes.now) × (result.usage ≡ usage) }
+        ensures passed { bilevel_shape usage bytes.now ≡ Ok result.shape }
+    {
+        Bilevel::of(open_image(bytes, Usage::Bilevel(usage)), usage)
+    }
+
+    fn of(image: Checked<'a>, usage: BilevelUse) -> Bilevel<'a>
+        requires shape { IsBilevel image.shape }
+        requires passed { bilevel_shape usage image.dir ≡ Ok image.shape }
+        requires strips { image.strips ≡ record { shape = image.shape; bytes = image.dir } }
+        ensures { result ≡ record { usage = usage; shape = image.entry.shape; bytes = image.entry.dir } }
+    {
         // The field was read among the tests.
         let photometric = image
             .dir
             .number(tag::PHOTOMETRIC_INTERPRETATION, 0, 1)
             .unwrap_or(0);
-        Ok(Bilevel {
+        Bilevel {
             usage,
             shape: image.shape,
             marks_zeros: photometric == BLACK_IS_ZERO,
             strips: image.strips,
-        })
+        }
     }
 
     /// Pixels of a row.

@@ -1,5 +1,6 @@
 // The tests of an image in their order, for every use.
-ghost use Rattle.std.specs.Prelude.{◌≡◌, IfErr, IfOk};
+ghost use Rattle.std.specs.Prelude.{◌≡◌, IfErr, IfOk, None, Ok};
+ghost use Rattle.std.specs.Result.{result_err};
 ghost use Rattle.tif_image.specs.Image.{IsShapeFor, image_fields, ink_fields, shape_of};
 
 use crate::fields::{bits_each, full_dot_range, no_tiles, number_among, number_within};
@@ -39,6 +40,25 @@ pub(crate) fn check_image<'a>(bytes: &'a [u8], usage: Usage) -> Result<Checked<'
     let shape = image_fields(&dir, usage)?;
     let strips = Strips::check(bytes, &dir, shape)?;
     Ok(Checked { dir, shape, strips })
+}
+
+/// Reads the directory and the fields of a file whose tests pass. No strip is looked at.
+#[tactic(auto, unfolding(crate::specs::Image::shape_of))]
+pub(crate) fn open_image<'a>(bytes: &'a [u8], usage: Usage) -> Checked<'a>
+    requires { result_err (shape_of usage bytes.now) ≡ None }
+    ensures dir { result.dir ≡ bytes.now }
+    ensures passed { shape_of usage bytes.now ≡ Ok result.shape }
+    ensures shape { IsShapeFor usage result.shape }
+    ensures strips { result.strips ≡ record { shape = result.shape; bytes = bytes.now } }
+{
+    let Ok(dir) = read_dir(bytes) else {
+        unreachable!()
+    };
+    let Ok(shape) = image_fields(&dir, usage) else {
+        unreachable!()
+    };
+    let strips = Strips::of_tested(bytes, &dir, shape);
+    Checked { dir, shape, strips }
 }
 
 // The tests of the fields, in their order.

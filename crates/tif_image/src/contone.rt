@@ -1,5 +1,5 @@
 // Contone images: four inks with 8 bits a sample (TIFF 6.0, Section 16, "CMYK Images").
-use crate::check::check_image;
+use crate::check::{Checked, check_image, open_image};
 use crate::usage::Usage;
 use pr_base::TagFault;
 use std::marker::Model;
@@ -26,7 +26,8 @@ impl<'a> Model for Contone<'a> {
 }
 
 impl<'a> Contone<'a> {
-    ghost use Rattle.std.specs.Prelude.{◌≡◌, ◌≤◌, ◌*◌, IfErr, IfOk};
+    ghost use Rattle.std.specs.Prelude.{◌≡◌, ◌≤◌, ◌*◌, IfErr, IfOk, None, Ok};
+    ghost use Rattle.std.specs.Result.{result_err};
     ghost use Rattle.tif_strips.specs.Strips.{row_length};
     ghost use Rattle.tif_image.specs.Image.{contone_shape, IsContone};
 
@@ -38,10 +39,28 @@ impl<'a> Contone<'a> {
         ensures refused { IfErr result (λ fault. contone_shape bytes.now ≡ Err fault) }
     {
         let image = check_image(bytes, Usage::Contone)?;
-        Ok(Contone {
+        Ok(Contone::of(image))
+    }
+
+    /// The image in a file whose tests pass: its directory and its fields are read, and no strip.
+    pub fn of_tested(bytes: &'a [u8]) -> Contone<'a>
+        requires { result_err (contone_shape bytes.now) ≡ None }
+        ensures bytes { result.bytes ≡ bytes.now }
+        ensures passed { contone_shape bytes.now ≡ Ok result.shape }
+    {
+        Contone::of(open_image(bytes, Usage::Contone))
+    }
+
+    fn of(image: Checked<'a>) -> Contone<'a>
+        requires shape { IsContone image.shape }
+        requires passed { contone_shape image.dir ≡ Ok image.shape }
+        requires strips { image.strips ≡ record { shape = image.shape; bytes = image.dir } }
+        ensures { result ≡ image.entry.strips }
+    {
+        Contone {
             shape: image.shape,
             strips: image.strips,
-        })
+        }
     }
 
     /// Pixels of a row.

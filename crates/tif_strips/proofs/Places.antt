@@ -34,23 +34,26 @@ HoldsRows-begin image plane i striped passed known below =
           rw (div-mul-add i shape.rows_per_strip k small, mod-mul-add i shape.rows_per_strip k small) at row;
     }
 
--- behind the first of them
-pub HoldsRows-next : (image : Image) (plane y rows : ℕ) (samples : List ℕ) → HoldsRows image plane y rows samples → 0 < rows
-    → HoldsRows image plane (y + 1) (rows - 1) (drop (plane_row_length image.shape) samples)
-HoldsRows-next image plane y rows samples holds some =
+-- behind some of them
+pub HoldsRows-later : (image : Image) (plane y rows count : ℕ) (samples : List ℕ) → HoldsRows image plane y rows samples → count ≤ rows
+    → HoldsRows image plane (y + count) (rows - count) (drop (count * plane_row_length image.shape) samples)
+HoldsRows-later image plane y rows count samples holds fits =
     let b = plane_row_length image.shape in
     record {
-      enough = rw (length-drop b samples) (fewer rows b (length samples) some holds.enough);
+      enough = rw (length-drop (count * b) samples) (rest_enough rows count b (length samples) fits holds.enough);
       each = λ k under.
-          let next : k + 1 < rows = omega arith in
-          let place : b + k * b ≡ (k + 1) * b = omega arith in
-          let row : y + (k + 1) ≡ y + 1 + k = omega arith in
-          ap (take b) (drop-drop (k * b) b samples ∙ ap (λ n. drop n samples) place) ∙ holds.each (k + 1) next ∙ ap (plane_row image.shape image.bytes plane) row;
+          let place : count * b + k * b ≡ (count + k) * b = omega arith in
+          let row : y + (count + k) ≡ y + count + k = omega arith in
+          ap (take b) (drop-drop (k * b) (count * b) samples ∙ ap (λ n. drop n samples) place) ∙ holds.each (count + k) (omega arith)
+          ∙ ap (plane_row image.shape image.bytes plane) row;
     }
   where
-    fewer : (rows b n : ℕ) → 0 < rows → rows * b ≤ n → (rows - 1) * b ≤ n - b
-    fewer zero b n some enough = absurd (omega arith)
-    fewer (suc rows) b n some enough = let one : suc rows - 1 ≡ rows = omega arith in rw one (omega arith)
+    rest_enough : (rows count b n : ℕ) → count ≤ rows → rows * b ≤ n → (rows - count) * b ≤ n - count * b
+    rest_enough rows count b n fits enough =
+        let rest = rows - count in
+        let both : rows ≡ count + rest = omega arith in
+        let all : (count + rest) * b ≤ n = rw both at enough in
+        omega arith
 
 -- where no row of a strip is left, the next strip begins
 at_strip_end : (image : Image) (place : Place) → IsPlace image place → place.rows ≡ 0 → place.next < image.shape.length → place.next ≡ place.begun * image.shape.rows_per_strip
@@ -87,19 +90,19 @@ IsPlace-begin image place begun rows is none left samples rows_are =
       omega arith,
     )
 
--- one row later
-pub IsPlace-next : (image : Image) (place : Place) (row : ℕ) (later : Planes) → IsPlace image place → 0 < place.rows → row ≡ plane_row_length image.shape
-    → aheads_of later ≡ map (drop row) (aheads_of place.planes)
-    → IsPlace image (record { next = place.next + 1; begun = place.begun; rows = place.rows - 1; planes = later })
-IsPlace-next image place row later is some row_is left = record {
+-- some rows later
+pub IsPlace-later : (image : Image) (place : Place) (count len : ℕ) (later : Planes) → IsPlace image place → 0 < place.rows → count ≤ place.rows
+    → len ≡ count * plane_row_length image.shape → aheads_of later ≡ map (drop len) (aheads_of place.planes)
+    → IsPlace image (record { next = place.next + count; begun = place.begun; rows = place.rows - count; planes = later })
+IsPlace-later image place count len later is some fits len_is left = record {
   striped = is.striped;
   passed = is.passed;
   to_strip_end = omega (arith, is.to_strip_end);
-  all_planes = λ more. ap length left ∙ length-map (aheads_of place.planes) (drop row) ∙ is.all_planes some;
+  all_planes = λ more. ap length left ∙ length-map (aheads_of place.planes) (drop len) ∙ is.all_planes some;
   each = λ plane known.
-      let own : get_or (aheads_of later) plane [] ≡ drop row (get_or (aheads_of place.planes) plane []) =
-      ap (λ lists. get_or lists plane []) left ∙ get_or-map (drop row) (aheads_of place.planes) plane [] [] (omega (arith, is.all_planes some)) in
-      rw (own, row_is) (HoldsRows-next image plane place.next place.rows _ (is.each plane known) some);
+      let own : get_or (aheads_of later) plane [] ≡ drop len (get_or (aheads_of place.planes) plane []) =
+      ap (λ lists. get_or lists plane []) left ∙ get_or-map (drop len) (aheads_of place.planes) plane [] [] (omega (arith, is.all_planes some)) in
+      rw (own, len_is) (HoldsRows-later image plane place.next place.rows count _ (is.each plane known) fits);
 }
 
 -- a row of each plane is ahead

@@ -59,12 +59,58 @@ impl<'a> Place<'a> {
         self.next += 1;
     }
 
+    /// Goes over the next `count` rows. Strips that end among them are passed over without a look at them.
+    pub(crate) fn skip(&mut self, table: &StripTable<'a>, count: u32)
+        requires place { IsPlace table.now self.old }
+        requires left { self.old.next + count ≤ table.now.shape.length }
+        ensures place { IsPlace table.now self.new }
+        ensures next { self.new.next ≡ self.old.next + count }
+    {
+        if count < self.rows {
+            self.pass(table, count);
+        } else {
+            self.stand_before(table, self.next + count);
+        }
+    }
+
+    // Stands before row `y`, in the strip that holds it.
+    fn stand_before(&mut self, table: &StripTable<'a>, y: u32)
+        requires place { IsPlace table.now self.old }
+        requires within { y ≤ table.now.shape.length }
+        ensures place { IsPlace table.now self.new }
+        ensures next { self.new.next ≡ y }
+    {
+        let strip_rows = table.shape().rows_per_strip;
+        self.begun = y / strip_rows;
+        self.rows = 0;
+        self.next = self.begun * strip_rows;
+        let above = y % strip_rows;
+        if above > 0 {
+            self.enter(table);
+            self.pass(table, above);
+        }
+    }
+
+    // Goes over the next `count` rows of the strip.
+    fn pass(&mut self, table: &StripTable<'a>, count: u32)
+        requires place { IsPlace table.now self.old }
+        requires rows { (0 < self.old.rows) × (count ≤ self.old.rows) }
+        ensures place { IsPlace table.now self.new }
+        ensures next { self.new.next ≡ self.old.next + count }
+    {
+        let len = count as usize * table.shape().plane_row_len();
+        self.planes.skip(len);
+        self.rows -= count;
+        self.next += count;
+    }
+
     // Begins the next strip where no row of the last one is left.
     fn enter(&mut self, table: &StripTable<'a>)
         requires place { IsPlace table.now self.old }
         requires left { self.old.next < table.now.shape.length }
         ensures place { IsPlace table.now self.new }
         ensures rows { 0 < self.new.rows }
+        ensures strip { self.old.rows ≡ 0 → self.new.begun ≡ self.old.begun + 1 }
         ensures next { self.new.next ≡ self.old.next }
     {
         if self.rows == 0 {

@@ -60,8 +60,8 @@ impl<'a> Planes<'a> {
         }
     }
 
-    // Goes over the next `count` bytes in each plane.
-    fn skip(&mut self, count: usize)
+    /// Goes over the next `count` bytes in each plane.
+    pub(crate) fn skip(&mut self, count: usize)
         requires enough { (plane : ℕ) → plane < length (aheads_of self.old)
             → count ≤ length (slice_index_or (aheads_of self.old) plane []) }
         ensures left { aheads_of self.new ≡ map (drop count) (aheads_of self.old) }

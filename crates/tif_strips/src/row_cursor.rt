@@ -84,11 +84,11 @@ impl<'a> RowCursor<'a> {
         self.place.read(&self.table, first, count, into);
     }
 
-    /// Goes over the next row.
-    pub fn skip_row(&mut self)
-        requires left { self.old.next < self.old.shape.length }
-        ensures next { self.new ≡ record self.old { next = self.old.next + 1 } }
+    /// Goes over the next `count` rows. Strips that end among them are passed over without a look at them.
+    pub fn skip_rows(&mut self, count: u32)
+        requires left { self.old.next + count ≤ self.old.shape.length }
+        ensures next { self.new ≡ record self.old { next = self.old.next + count } }
     {
-        self.place.read(&self.table, 0, 0, &mut []);
+        self.place.skip(&self.table, count);
     }
 }

@@ -1,5 +1,5 @@
 // The strips of an image, tested.
-ghost use Rattle.std.specs.Prelude.{◌≡◌, ◌↔◌, IsTrue, IfOk};
+ghost use Rattle.std.specs.Prelude.{◌≡◌, ◌↔◌, IsTrue, IfOk, None};
 ghost use Rattle.std.specs.Result.{result_err};
 ghost use Rattle.tif_strips.specs.Strips.{IsStriped, strip_fault};
 
@@ -48,6 +48,20 @@ impl<'a> Strips<'a> {
             }
         }
         Ok(Strips { table })
+    }
+
+    /// The strips of an image whose tests pass. None of them is looked at. `dir` is the directory of `bytes`,
+    /// and `shape` has passed the tests of the other fields.
+    pub fn of_tested(bytes: &'a [u8], dir: &Dir<'a>, shape: Shape) -> Strips<'a>
+        requires dir { dir.now ≡ bytes.now }
+        requires shape { IsStriped shape }
+        requires passed { strip_fault shape bytes.now ≡ None }
+        ensures { result ≡ record { shape = shape; bytes = bytes.now } }
+    {
+        let Ok(table) = StripTable::read(bytes, dir, shape) else {
+            unreachable!()
+        };
+        Strips { table }
     }
 
     /// The rows of the image, from the top.

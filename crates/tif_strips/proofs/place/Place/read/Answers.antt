@@ -1,6 +1,6 @@
-use Rattle.std.proofs.Common.{◌≡◌, ◌∙◌}
+use Rattle.std.proofs.Common.{◌≡◌, ◌∙◌, arith}
 use Rattle.tif_strips.specs.Strips.{plane_part_length, plane_place, plane_row_length}
-use Rattle.tif_strips.proofs.Places.{IsPlace-next, image_part-place, image_row-long}
+use Rattle.tif_strips.proofs.Places.{IsPlace-later, image_part-place, image_row-long}
 use Rattle.tif_strips.proofs.Shapes.{part_in_row, part_length-planes}
 use Rattle.tif_strips.proofs.place.Place.read.Goals as goal
 
@@ -34,4 +34,4 @@ returns-clause-long c =
 pub returns-clause-place : goal.returns-clause-place
 returns-clause-place c =
     let row : c.plane_row_len.result ≡ plane_row_length c.args.table.now.shape = rw c.shape-shape.ensures.shape at c.plane_row_len.ensures.len in
-    IsPlace-next c.args.table.now c.enter.new.self c.plane_row_len.result c.part.new.self c.enter.ensures.place c.enter.ensures.rows row c.part.ensures.left
+    IsPlace-later c.args.table.now c.enter.new.self 1 c.plane_row_len.result c.part.new.self c.enter.ensures.place c.enter.ensures.rows (omega arith) (omega arith) c.part.ensures.left
