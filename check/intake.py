@@ -381,20 +381,25 @@ def see_writing(results, pages, house):
     with open(pages.path("A4"), "rb") as file:
         data = file.read()
 
-    def write(seconds):
+    def write(stop, most):
+        """Writes the file anew, part by part, until it's told to stop or so many seconds are over."""
+        end, part = time.monotonic() + most, 0
+        while time.monotonic() < end and not stop.wait(0.2):
+            part = part % 19 + 1
+            with open(pages.path("A4"), "wb") as file:
+                file.write(data[: len(data) * part // 20])
         with open(pages.path("A4"), "wb") as file:
-            for part in range(20):
-                file.write(data[len(data) * part // 20 : len(data) * (part + 1) // 20])
-                file.flush()
-                time.sleep(seconds / 20)
+            file.write(data)
 
-    for seconds, wait, wanted in ((6, "1", [("A4.pdf", "written")]), (3, "30", [])):
-        writer = threading.Thread(target=write, args=(seconds,))
+    for most, wait, wanted in ((600, "1", [("A4.pdf", "written")]), (3, "60", [])):
+        stop = threading.Event()
+        writer = threading.Thread(target=write, args=(stop, most))
         writer.start()
-        time.sleep(0.2)
+        time.sleep(0.5)
         found, _ = intake(pages, house, "--wait", wait)
+        stop.set()
         writer.join()
-        results.see(events(found, "fault") == wanted, f"while it's written for {seconds} s: {found}")
+        results.see(events(found, "fault") == wanted, f"while it's written for {most} s: {found}")
 
 
 def see_tiffs(results, program, folder):
