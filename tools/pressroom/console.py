@@ -13,9 +13,11 @@ PACKAGES = {
     "qpdf": "qpdf",
     "pdfinfo": "poppler-utils",
     "pdffonts": "poppler-utils",
-    "pdfimages": "poppler-utils",
+    "pdftohtml": "poppler-utils",
     "pdftoppm": "poppler-utils",
+    "prlimit": "util-linux",
     "tiffcp": "libtiff-tools",
+    "tiffinfo": "libtiff-tools",
     "vips": "libvips-tools",
     "rsync": "rsync",
 }
@@ -40,6 +42,7 @@ class Console:
         self.name = name
         self.as_json = as_json
         self.counts = {}
+        self.drawn = None
 
     def tell(self, event, text, **fields):
         """Tells one event: its text to people, all fields as JSON. `event` is a word such as fault, note, page."""
@@ -47,6 +50,8 @@ class Console:
         if self.as_json:
             print(json.dumps({"event": event, "text": text, **fields}, ensure_ascii=False), flush=True)
         else:
+            if self.drawn is not None:
+                self.drawn.clear()
             print(text if event == "done" else f"{event}: {text}", flush=True)
 
     def bar(self, items, words, total=None):
@@ -55,7 +60,9 @@ class Console:
             from tqdm import tqdm
         except ImportError:
             return items
-        return tqdm(items, desc=words, total=total, delay=2, leave=False, disable=True if self.as_json else None)
+        hidden = True if self.as_json else None
+        self.drawn = tqdm(items, desc=words, total=total, delay=2, leave=False, disable=hidden)
+        return self.drawn
 
     def leave(self, status, text):
         """Ends the command with this status and line, under its name, on standard error."""

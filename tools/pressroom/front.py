@@ -8,6 +8,7 @@ from pressroom import __version__
 # `sys.argv` and returns the exit status. A module is imported only where its command runs, so that a command needs its
 # own libraries alone.
 COMMANDS = {
+    "intake": "make plans and files out of the PDFs of a night",
     "check": "report every fault of a plan and its files, and what would be lost without a fault",
     "parts": "cut an edition into parts for several machines",
     "ppf": "write ink key files (CIP3 PPF) and tables of ink keys",
