@@ -18,6 +18,9 @@ PACKAGES = {
     "tiffcp": "libtiff-tools",
     "vips": "libvips-tools",
     "rsync": "rsync",
+    "make": "make",
+    "parallel": "parallel",
+    "sbatch": "slurm-wlm",
 }
 
 
@@ -31,6 +34,16 @@ def need(*programs):
         if shutil.which(program) is None:
             package = PACKAGES.get(program, program)
             raise Missing(f"{program} is not installed: apt-get install {package}")
+
+
+class NoBar:
+    """Stands for a bar of progress where tqdm isn't installed."""
+
+    def update(self, count):
+        pass
+
+    def close(self):
+        pass
 
 
 class Console:
@@ -56,6 +69,14 @@ class Console:
         except ImportError:
             return items
         return tqdm(items, desc=words, total=total, delay=2, leave=False, disable=True if self.as_json else None)
+
+    def gauge(self, words, total):
+        """A bar that `update(N)` moves and `close()` ends, shown under the same conditions as `bar`."""
+        try:
+            from tqdm import tqdm
+        except ImportError:
+            return NoBar()
+        return tqdm(desc=words, total=total, delay=2, leave=False, disable=True if self.as_json else None)
 
     def leave(self, status, text):
         """Ends the command with this status and line, under its name, on standard error."""

@@ -9,6 +9,9 @@ from pressroom import __version__
 # own libraries alone.
 COMMANDS = {
     "check": "report every fault of a plan and its files, and what would be lost without a fault",
+    "late": "make the plates of a page that came late, beside those of its edition",
+    "make": "make the plates of an edition: check, run, verify, READY",
+    "night": "one pass over a spool of editions, for systemd or cron",
     "parts": "cut an edition into parts for several machines",
     "proof": "draw a picture of what a site's plates print",
     "tile": "write a clustered threshold tile for a plan",
