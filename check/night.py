@@ -13,6 +13,7 @@ import tempfile
 sys.dont_write_bytecode = True
 
 import trial
+from lately import late_trials
 from made import make_trials
 from press import Paper
 
@@ -26,6 +27,7 @@ def main():
     with tempfile.TemporaryDirectory(prefix="plateroom-night-") as folder:
         paper = Paper(folder)
         make_trials(tried, paper, folder)
+        late_trials(tried, paper, folder)
     print(f"{tried.passed} passed, {tried.failed} failed")
     return 1 if tried.failed else 0
 
