@@ -51,8 +51,9 @@ class Late:
         paths = [os.path.join(at, name) for at, _, names in os.walk(folder) for name in names]
         return {path: (os.stat(path).st_ino, os.stat(path).st_mtime_ns, digest(path)) for path in paths}
 
-    def made(self, what, page, changed):
-        """A page comes late: exactly these plates are new files, all are right, and the version before stays."""
+    def made(self, what, page, sites, *names):
+        """What comes late makes these plates of these sites: exactly they are new files, all plates are right, and the
+        version before stays."""
         old, stood = self.current(), self.tree(self.current())
         before = self.wanted
         answer = pressroom(self.program, "late", self.work, page, self.out)
@@ -60,32 +61,34 @@ class Late:
         new = self.current()
         self.wanted = self.paper.plates(self.tried.program, self.work)
         differ = {path for path in self.wanted if self.wanted[path] != before.get(path)}
-        self.holds(f"{what}, the page changes plates", {path.partition("/")[2] for path in differ} == changed, differ)
+        made = {f"{site}/{name}" for site in sites for name in names}
+        self.holds(f"{what}, plates differ", set() < differ <= made, differ)
         self.holds(f"{what}, another version", new > old, new)
         self.tried.holds(f"late, {what}, READY", faults_of_ready(new, self.wanted, SITES))
         self.tried.holds(f"late, {what}, verify", faults_of_verify(self.tried.program, new))
         self.holds(f"{what}, the version before", self.tree(old) == stood, "it changed")
         linked = {path for path in self.wanted if os.path.exists(os.path.join(old, path))
                   and os.path.samefile(os.path.join(new, path), os.path.join(old, path))}
-        self.holds(f"{what}, links", linked == set(self.wanted) - differ, sorted(linked ^ set(self.wanted)))
+        self.holds(f"{what}, links", linked == set(self.wanted) - made, sorted(linked ^ set(self.wanted)))
         told = set()
         for site in SITES:
             with open(os.path.join(new, site, "READY"), encoding="utf-8") as file:
                 lines = file.read().splitlines()
             self.holds(f"{what}, since", f"since {os.path.basename(old)}" in lines, lines)
             told |= {f"{site}/{line.split()[1]}" for line in lines if line.startswith("made ")}
-        self.holds(f"{what}, READY names what changed", told == differ, told)
+        self.holds(f"{what}, READY names what changed", told == made, told)
 
     def pages(self):
         """Another text on page A3, and another plan."""
-        self.made("page A3", self.page("A3-text.tif", "A2-text.tif"), {"MORNING-A-002-K.tif"})
+        self.made("page A3", self.page("A3-text.tif", "A2-text.tif"), SITES, "MORNING-A-002-K.tif")
         with open(os.path.join(self.work, "south.json"), encoding="utf-8") as file:
             plan = json.load(file)
         plan["screens"]["Y"] = "bayer4"
         text = os.path.join(self.folder, "south.json")
         with open(text, "w", encoding="utf-8") as file:
             json.dump(plan, file)
-        self.made("a screen", text, {f"MORNING-{pair}-Y.tif" for pair in ("A-001", "B-001", "B-002")})
+        names = [f"MORNING-{pair}-Y.tif" for pair in ("A-001", "B-001", "B-002")]
+        self.made("a screen", text, press.PRESSES["south"], *names)
 
     def stays(self, what, status, line, *words):
         """late ends so: no version is new, and WORK is as it was."""

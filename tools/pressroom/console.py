@@ -52,13 +52,20 @@ class Console:
     def __init__(self, name, as_json=False):
         self.name = name
         self.as_json = as_json
-        self.counts = {}
+        self.counts, self.fields = {}, {}
+
+    def about(self, **fields):
+        """A console that counts with this one, and whose events have these fields too."""
+        other = Console(self.name, self.as_json)
+        other.counts, other.fields = self.counts, self.fields | fields
+        return other
 
     def tell(self, event, text, **fields):
         """Tells one event: its text to people, all fields as JSON. `event` is a word such as fault, note, page."""
         self.counts[event] = self.counts.get(event, 0) + 1
         if self.as_json:
-            print(json.dumps({"event": event, "text": text, **fields}, ensure_ascii=False), flush=True)
+            fields = {"event": event, "text": text, **self.fields, **fields}
+            print(json.dumps(fields, ensure_ascii=False), flush=True)
         else:
             print(text if event == "done" else f"{event}: {text}", flush=True)
 

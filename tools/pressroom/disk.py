@@ -98,8 +98,11 @@ def sha256(path):
 class Lock:
     """An exclusive `flock` on a file, made where it isn't there; raises Busy where another process has it.
 
-    The kernel releases it when the process ends, however it ends. `remove` removes the file while it is held.
+    The kernel releases it when this process and all programs that it started have ended, however they ended: `held`
+    has the handles that they inherit. `remove` removes the file while it is held.
     """
+
+    held = set()
 
     def __init__(self, path):
         self.path = path
@@ -113,6 +116,7 @@ class Lock:
                 self.file.close()
                 raise Busy(self.path) from None
             if self.is_named():
+                Lock.held.add(self.file.fileno())
                 return self
             self.file.close()
 
@@ -127,4 +131,5 @@ class Lock:
         os.remove(self.path)
 
     def __exit__(self, *error):
+        Lock.held.discard(self.file.fileno())
         self.file.close()

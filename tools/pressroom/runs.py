@@ -7,6 +7,7 @@ import tempfile
 import time
 
 from pressroom.ask import HERE
+from pressroom.disk import Lock
 
 LOOK = 0.2
 
@@ -34,7 +35,7 @@ def call(words, look=lambda: None, environment=None):
     """Runs a program and calls `look` every now and then until it ends. A signal N is the status 128 + N."""
     with tempfile.TemporaryFile() as out, tempfile.TemporaryFile() as note:
         process = subprocess.Popen(words, stdin=subprocess.DEVNULL, stdout=out, stderr=note,
-                                   env=os.environ | (environment or {}))
+                                   env=os.environ | (environment or {}), pass_fds=Lock.held)
         while process.poll() is None:
             look()
             try:

@@ -1,0 +1,346 @@
+"""What a pass of the night does for one edition: each step finds on the disk what is done, and may be repeated."""
+import os
+import shutil
+import time
+
+from pressroom import clock, disk, runs, version
+from pressroom.delivery import deliver, sums_of
+from pressroom.job import ALL_READY, FILE_REFUSED, OTHER_WORKS, PLAN_REFUSED
+from pressroom.late import late
+from pressroom.make import make
+from pressroom.plans import plans_of
+from pressroom.spool import Edition, remove_empty, signature
+
+# How long a pass waits for another one, or for a make by hand, before it looks again.
+BUSY = 5
+
+
+class Visit:
+    """One edition, under its lock. `due` are the seconds until it is worth another look, None where it rests."""
+
+    def __init__(self, night, name):
+        self.night, self.house, self.program = night, night.house, night.program
+        self.edition = Edition(night.spool, name)
+        self.state, self.console, self.due = {}, night.console.about(edition=name), None
+        self.sums = None
+
+    def go(self):
+        """Does all that can be done for the edition now."""
+        self.edition.load()
+        self.state = self.edition.state
+        if self.state.get("removing"):
+            self.edition.remove_all()
+            return
+        self.rejoin()
+        if os.path.isdir(self.edition.done):
+            self.join_late()
+        self.advance()
+        if os.path.isdir(self.edition.incoming) or self.state:
+            self.edition.save()
+
+    def look_in(self, seconds):
+        """Notes when the edition is worth another look."""
+        self.due = seconds if self.due is None else min(self.due, seconds)
+
+    def tell_once(self, event, text, **fields):
+        """Tells why the edition waits, where that isn't what was told last."""
+        if self.state.get("told") != [event, text]:
+            self.state["told"] = [event, text]
+            self.console.tell(event, text, **fields)
+
+    # ---- what comes in
+
+    def rejoin(self):
+        """What comes in for an edition that failed joins what came before, and the edition begins again."""
+        edition = self.edition
+        if not os.path.isdir(edition.failed) or not os.path.isdir(edition.incoming):
+            return
+        if not signature(edition.incoming) and not os.path.lexists(os.path.join(edition.incoming, version.READY)):
+            return
+        if not self.is_settled(edition.incoming, edition.watch(edition.incoming)):
+            return
+        edition.merge(edition.incoming, edition.failed)
+        remove_empty(edition.incoming)
+        if os.path.isdir(edition.incoming):
+            self.look_in(self.house.night["settle"])
+            return
+        edition.move(edition.failed, edition.incoming)
+        self.state.pop("failed", None)
+        edition.watch(edition.incoming)
+        edition.seen(edition.incoming)["ready"] = True
+        self.console.tell("begin", "what failed begins again, with what came since")
+
+    def join_late(self):
+        """Pages that come late join those of an edition that was delivered."""
+        edition = self.edition
+        if not os.path.isdir(edition.incoming):
+            return
+        now = edition.watch(edition.incoming)
+        if now and self.is_settled(edition.incoming, now):
+            edition.merge(edition.incoming, edition.done)
+            edition.watch(edition.done)
+            edition.seen(edition.done)["ready"] = True
+            edition.save()
+            self.console.tell("late", "pages came late")
+
+    def is_settled(self, folder, now):
+        """Whether what lies in a folder is complete by its READY, or unchanged for the house's time."""
+        seen = self.edition.seen(folder)
+        if seen.get("ready"):
+            return True
+        if clock.elapsed(seen["since"]) is None:
+            seen["since"] = clock.stamp()
+        rest = clock.left(seen["since"], self.house.night["settle"])
+        if rest and now:
+            self.look_in(rest)
+        return not rest
+
+    # ---- the steps
+
+    def advance(self):
+        """Takes the edition as far as it gets: into WORK, plates, sites, done/."""
+        edition = self.edition
+        home = edition.home()
+        if not os.path.isdir(home):
+            return
+        now = edition.watch(home)
+        if now is None or self.state.get("given_up") == now:
+            return
+        if self.state.get("complete") == now:
+            self.move_done(home)
+        elif self.is_settled(home, now):
+            if self.state.get("working") != now:
+                for key in ("make", "delivery", "undelivered", "refused"):
+                    self.state.pop(key, None)
+                self.state["working"] = now
+            if self.state.get("refused"):
+                self.wait_for_pages(home)
+            elif self.take(home, now):
+                self.finish(home, now, self.make(home))
+
+    def take(self, home, now):
+        """Takes what came in into WORK. Returns whether it is there whole."""
+        if self.state.get("taken_of") == now and os.path.isdir(self.edition.work):
+            return True
+        if not self.has_room():
+            return False
+        begun = time.monotonic()
+        plans = self.edition.plans()
+        taken = self.adopt(plans) if plans else self.intake(home)
+        if taken and signature(home) != now:
+            self.look_in(self.house.night["settle"])
+            return False
+        if taken:
+            self.state["taken_of"] = now
+            self.state.setdefault("seconds", {})["take"] = round(time.monotonic() - begun, 3)
+            self.console.tell("taken", "all that the plans name is there", step="take")
+            self.edition.save()
+        return taken
+
+    def adopt(self, plans):
+        missing = self.edition.missing(plans)
+        if missing:
+            self.refuse([f"{name} isn't there" for name in missing])
+        else:
+            self.edition.adopt(plans)
+        return not missing
+
+    def intake(self, home):
+        """Calls `pressroom intake` on what came in."""
+        if self.attempts("make").wait():
+            self.look_in(self.attempts("make").wait())
+            return False
+        own = os.path.join(home, "house.toml")
+        house = own if os.path.isfile(own) else self.night.house_file
+        answer = runs.call(runs.command("intake", house, home, self.edition.work))
+        lines = [*answer.lines, *answer.note.splitlines()]
+        if answer.status == 1:
+            self.refuse([line for line in lines if line.startswith(("fault", "{\"event\": \"fault\""))] or lines)
+        elif answer.status:
+            self.stumble(home, "make", f"intake ended with status {answer.status}: {'; '.join(lines[-3:])}")
+        return answer.status == 0
+
+    def make(self, home):
+        """Makes the plates, or those that changed. Returns whether all sites are READY."""
+        edition = self.edition
+        ready = version.current(edition.out)
+        if ready and ready.taken_sums() == self.sources():
+            self.note_ready(ready)
+            return True
+        attempts = self.attempts("make")
+        if attempts.over() or attempts.wait() or not self.has_room():
+            if not attempts.over():
+                self.look_in(attempts.wait() or self.house.night["pause"])
+            return False
+        settings = self.house.night
+        try:
+            if ready:
+                status, new = late(edition.work, edition.out, self.console, self.program)
+            else:
+                engine = "make" if settings["parts"] else None
+                keys = 0 if engine else settings["keys"]
+                status, new = make(edition.work, edition.out, self.console, self.program, keys, engine, resume=True)
+        except OSError as error:
+            self.stumble(home, "make", f"{error.filename}: {error.strerror}")
+            return False
+        if status == ALL_READY:
+            self.note_ready(new)
+        elif status in (PLAN_REFUSED, FILE_REFUSED):
+            self.refuse(["the program refuses a plan or a file"])
+        elif status == OTHER_WORKS:
+            self.look_in(BUSY)
+        else:
+            self.stumble(home, "make", "not all sites are READY")
+        return status == ALL_READY
+
+    def sources(self):
+        """The sums of what is in WORK, taken once in a visit."""
+        if self.sums is None:
+            self.sums = version.source_sums(self.edition.work)
+        return self.sums
+
+    def note_ready(self, ready):
+        if self.state.get("ready", {}).get("version") != ready.name:
+            self.state["ready"] = {"version": ready.name, "at": clock.stamp()}
+        self.state.pop("make", None)
+        self.edition.save()
+
+    def finish(self, home, now, made):
+        """Delivers the sites that are READY; when all are, the edition is done."""
+        if self.state.get("refused"):
+            self.wait_for_pages(home)
+            return
+        waiting = self.deliver_all()
+        if self.state["undelivered"] != waiting:
+            self.state["undelivered"] = waiting
+        if made and not waiting:
+            self.state["complete"] = now
+            self.state["number"] = self.night.next_number()
+            self.edition.save()
+            self.console.tell("delivered", f"version {self.state['ready']['version']} is with all sites",
+                              version=self.state["ready"]["version"])
+            self.move_done(home)
+        elif self.attempts("make").over():
+            self.fail(home, "no try is left to make the plates")
+        elif any(self.site_attempts(site).over() for site in waiting):
+            self.fail(home, "no try is left to deliver " + ", ".join(sorted(waiting)))
+
+    def deliver_all(self):
+        """Delivers what is READY and due. Returns the sites that wait, each with why."""
+        self.state.setdefault("undelivered", {})
+        waiting = {}
+        for site in (site for plan in plans_of(self.edition.work) for site in plan.sites()):
+            ready = self.ready_version(site)
+            if ready:
+                why = self.deliver(site, ready)
+                if why:
+                    waiting[site] = why
+        return waiting
+
+    def ready_version(self, site):
+        """The last version of what is in WORK in which a site is READY."""
+        for name in reversed(version.versions(self.edition.out)):
+            one = version.Version(self.edition.out, name)
+            if one.is_ready(site) and one.taken_sums() == self.sources():
+                return one
+        return None
+
+    def deliver(self, site, ready):
+        """Delivers a site, where that is due. Returns why it waits, or nothing."""
+        delivered = self.state.setdefault("delivered", {})
+        before, sums = delivered.get(site, {}), sums_of(ready, site)
+        target = self.house.targets.get(site)
+        if before.get("sums") == sums or target is None:
+            return ""
+        attempts = self.site_attempts(site)
+        if attempts.over():
+            return self.state["undelivered"].get(site, "no try is left")
+        if attempts.wait():
+            self.look_in(attempts.wait())
+            return self.state["undelivered"].get(site, "waits")
+        begun = time.monotonic()
+        why = deliver(ready, site, self.edition.name, target, before.get("version"), self.house.delivery)
+        if why:
+            attempts.failed()
+            self.console.tell("fault", f"site {site} can't be reached: {why}", site=site, why=why,
+                              tries=attempts.kept["tries"])
+            self.look_in(attempts.wait())
+        else:
+            seconds = round(time.monotonic() - begun, 3)
+            delivered[site] = {"version": ready.name, "sums": sums}
+            self.state["delivery"].pop(site)
+            self.state.setdefault("seconds", {})["deliver"] = seconds
+            self.console.tell("sent", f"site {site} has version {ready.name}", site=site, version=ready.name,
+                              seconds=seconds)
+        self.edition.save()
+        return why
+
+    # ---- what goes wrong
+
+    def attempts(self, step):
+        settings = self.house.night
+        return clock.Attempts(self.state.setdefault(step, {}), settings["pause"], settings["longest_pause"],
+                              settings["tries"])
+
+    def site_attempts(self, site):
+        settings = self.house.delivery
+        kept = self.state.setdefault("delivery", {}).setdefault(site, {})
+        return clock.Attempts(kept, settings["pause"], settings["longest_pause"], settings["tries"])
+
+    def has_room(self):
+        """Whether the disk has the house's free bytes; else the edition waits."""
+        free = shutil.disk_usage(self.night.spool).free
+        if free < self.house.night["least_free"] * 1000000:
+            self.tell_once("waits", "too little free disk", step="disk")
+            self.look_in(self.house.night["pause"])
+            return False
+        return True
+
+    def refuse(self, lines):
+        """The pages aren't right or not all there: nothing is tried again until they change."""
+        self.state["refused"] = lines[:100]
+        self.console.tell("fault", f"waits for its pages: {'; '.join(lines[:5])}", lines=lines[:100])
+        self.edition.save()
+
+    def wait_for_pages(self, home):
+        """Gives the edition up where its pages didn't change for the house's time."""
+        seen = self.edition.seen(home)
+        if clock.elapsed(seen["since"]) is None:
+            seen["since"] = clock.stamp()
+        rest = clock.left(seen["since"], self.house.night["give_up"])
+        if rest:
+            self.look_in(rest)
+        else:
+            self.fail(home, "; ".join(self.state["refused"][:5]))
+
+    def stumble(self, home, step, why):
+        """One try of a step failed; the next one comes after a pause."""
+        attempts = self.attempts(step)
+        attempts.failed()
+        self.console.tell("fault", why, step=step, tries=attempts.kept["tries"])
+        self.edition.save()
+        if attempts.over():
+            self.fail(home, why)
+        else:
+            self.look_in(attempts.wait())
+
+    def fail(self, home, why):
+        """Moves the edition to failed/. One that was delivered before stays in done/, with its last good version."""
+        for key in ("make", "delivery", "undelivered", "working", "taken_of", "refused"):
+            self.state.pop(key, None)
+        self.state["failed"], self.state["number"] = why, self.night.next_number()
+        if home == self.edition.done:
+            self.state["given_up"] = self.edition.seen(home)["signature"]
+        self.edition.save()
+        self.console.tell("failed", why)
+        self.night.failed += 1
+        if home == self.edition.incoming:
+            self.edition.move(home, self.edition.failed)
+        self.due = None
+
+    def move_done(self, home):
+        """Moves what came in to done/, when all plates are delivered."""
+        if home == self.edition.incoming:
+            self.edition.move(home, self.edition.done)
+            self.console.tell("finished", "done")
+            self.look_in(0)
