@@ -36,6 +36,11 @@ def need(*programs):
             raise Missing(f"{program} is not installed: apt-get install {package}")
 
 
+def fault_of(error):
+    """What an OSError says, with its file where it names one."""
+    return f"{error.filename}: {error.strerror}" if error.filename else str(error)
+
+
 class NoBar:
     """Stands for a bar of progress where tqdm isn't installed."""
 

@@ -8,6 +8,7 @@ import tempfile
 import time
 
 from pressroom import disk, runs
+from pressroom.console import fault_of
 from pressroom.version import REPORT
 
 ALL_READY, SOME_NOT_READY, CANT_BEGIN, PLAN_REFUSED, FILE_REFUSED, OTHER_WORKS = range(6)
@@ -130,7 +131,7 @@ class Job:
             disk.remove(self.version.file(site))
             answer = self.run(plan, [site])
         except OSError as error:
-            return f"{error.filename}: {error.strerror}"
+            return fault_of(error)
         if site not in answer.finished():
             return answer.why(site)
         return "" if self.verify(plan, [site]) else self.wrong[site]
@@ -141,7 +142,7 @@ class Job:
             try:
                 self.version.ready(site, plan.plates(site), plan.value["edition"], **changed)
             except OSError as error:
-                return f"{error.filename}: {error.strerror}"
+                return fault_of(error)
         return ""
 
     def end(self, plans):
@@ -156,7 +157,7 @@ class Job:
             if all_ready:
                 self.version.make_current()
         except OSError as error:
-            self.console.tell("fault", f"{error.filename}: {error.strerror}")
+            self.console.tell("fault", fault_of(error))
             return SOME_NOT_READY
         ready = sum(site["ready"] for site in self.sites.values())
         text = f"{self.version.path}: {ready} of {len(self.sites)} sites READY, {counts['plates']} plates"

@@ -18,7 +18,7 @@ import os
 
 from pressroom import disk, runs, version
 from pressroom.ask import program_path
-from pressroom.console import Console
+from pressroom.console import Console, fault_of
 from pressroom.job import ALL_READY, CANT_BEGIN, FILE_REFUSED, OTHER_WORKS, PLAN_REFUSED, Job, Refused
 from pressroom.plans import plans_of
 
@@ -80,7 +80,7 @@ class Changes:
                 self.join(plan, site)
             except OSError as error:
                 # The plates that are missing then are named by `verify`.
-                self.job.console.tell("fault", f"{error.filename}: {error.strerror}", site=site)
+                self.job.console.tell("fault", fault_of(error), site=site)
         disk.remove(self.fresh)
         return answer
 
@@ -194,4 +194,4 @@ def main():
     try:
         return take_and_make(words, console, program)
     except OSError as error:
-        console.leave(CANT_BEGIN, f"{error.filename}: {error.strerror}")
+        console.leave(CANT_BEGIN, fault_of(error))

@@ -18,7 +18,7 @@ import shutil
 
 from pressroom import disk, runs, version
 from pressroom.ask import HERE, program_path
-from pressroom.console import Console, Missing, need
+from pressroom.console import Console, Missing, fault_of, need
 from pressroom.job import CANT_BEGIN, OTHER_WORKS, Job, Refused
 from pressroom.plans import plans_of
 
@@ -131,6 +131,6 @@ def main():
             need(ENGINES[engine])
         return make(words.work, words.out, console, program, words.keys, engine, words.resume)[0]
     except OSError as error:
-        console.leave(CANT_BEGIN, f"{error.filename}: {error.strerror}")
+        console.leave(CANT_BEGIN, fault_of(error))
     except Missing as missing:
         console.leave(CANT_BEGIN, str(missing))

@@ -20,7 +20,7 @@ import shutil
 
 from pressroom import disk, metrics, night_house, spool, version
 from pressroom.ask import program_path
-from pressroom.console import Console, Missing, need
+from pressroom.console import Console, Missing, fault_of, need
 from pressroom.visit import BUSY, Visit
 
 NOTHING_WRONG, SOME_FAILED, CANT_BEGIN, SPOOL_FAULT = range(4)
@@ -71,7 +71,7 @@ class Night:
         try:
             step(*what)
         except OSError as error:
-            self.console.tell("fault", f"{error.filename}: {error.strerror}")
+            self.console.tell("fault", fault_of(error))
             return SPOOL_FAULT
         return 0
 
@@ -170,4 +170,4 @@ def main():
     except (night_house.Fault, Missing) as fault:
         console.leave(CANT_BEGIN, str(fault))
     except OSError as error:
-        console.leave(SPOOL_FAULT, f"{error.filename}: {error.strerror}")
+        console.leave(SPOOL_FAULT, fault_of(error))

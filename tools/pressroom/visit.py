@@ -4,6 +4,7 @@ import shutil
 import time
 
 from pressroom import clock, disk, runs, version
+from pressroom.console import fault_of
 from pressroom.delivery import deliver, sums_of
 from pressroom.job import ALL_READY, FILE_REFUSED, OTHER_WORKS, PLAN_REFUSED
 from pressroom.late import late
@@ -78,6 +79,7 @@ class Visit:
         now = edition.watch(edition.incoming)
         if now and self.is_settled(edition.incoming, now):
             edition.merge(edition.incoming, edition.done)
+            remove_empty(edition.incoming)
             edition.watch(edition.done)
             edition.seen(edition.done)["ready"] = True
             edition.save()
@@ -113,10 +115,10 @@ class Visit:
                 for key in ("make", "delivery", "undelivered", "refused"):
                     self.state.pop(key, None)
                 self.state["working"] = now
+            if not self.state.get("refused") and self.take(home, now):
+                self.finish(home, now, self.make(home))
             if self.state.get("refused"):
                 self.wait_for_pages(home)
-            elif self.take(home, now):
-                self.finish(home, now, self.make(home))
 
     def take(self, home, now):
         """Takes what came in into WORK. Returns whether it is there whole."""
@@ -181,7 +183,7 @@ class Visit:
                 keys = 0 if engine else settings["keys"]
                 status, new = make(edition.work, edition.out, self.console, self.program, keys, engine, resume=True)
         except OSError as error:
-            self.stumble(home, "make", f"{error.filename}: {error.strerror}")
+            self.stumble(home, "make", fault_of(error))
             return False
         if status == ALL_READY:
             self.note_ready(new)
@@ -207,9 +209,6 @@ class Visit:
 
     def finish(self, home, now, made):
         """Delivers the sites that are READY; when all are, the edition is done."""
-        if self.state.get("refused"):
-            self.wait_for_pages(home)
-            return
         waiting = self.deliver_all()
         if self.state["undelivered"] != waiting:
             self.state["undelivered"] = waiting
