@@ -13,8 +13,10 @@ from spools import Spool
 
 SEED = 68
 EDITIONS = ["MORNING", "EVENING", "NIGHT"]
-# A pass is killed within so many seconds; one that ends before isn't counted.
-LONGEST = 4.0
+# Of each half of a round: the most kills; every other one comes within so many seconds, the others soon after one of so
+# many events.
+HALVES = {"three editions": (9, 5.0, 20), "late page": (6, 2.0, 6)}
+SOON = 0.4
 STEPS = {
     None: "before the first event", "taken": "edition taken, plates not begun", "begin": "check, run or verify",
     "ready": "sites made READY", "done": "version READY, delivery", "sent": "delivery", "delivered": "move to done/",
@@ -52,25 +54,44 @@ class Kills:
 
     def until_done(self, spool, phase):
         """Passes that are killed, until one ends by itself with nothing to do, or there were enough kills."""
-        while self.done < self.kills:
-            after, alone = self.chance.uniform(0.2, LONGEST), self.chance.random() < 0.3
-            events = self.one(spool, phase, after, alone)
+        enough = min(self.kills, self.done + HALVES[phase][0])
+        while self.done < enough:
+            events = self.one(spool, phase)
             spool.look()
-            if events and events[-1]["event"] == "rest" and (events[-1]["seconds"] or 0) == 0 and not alone:
+            if events and events[-1]["event"] == "rest" and not events[-1]["seconds"]:
                 return
 
-    def one(self, spool, phase, after, alone):
-        """A pass that is killed after so many seconds: alone, or with all that it started."""
+    def moment(self, phase):
+        """A moment by chance: a function that says whether it has come, by the events so far."""
+        _, longest, events = HALVES[phase]
+        if self.done % 2:
+            end = time.monotonic() + self.chance.uniform(0, longest)
+            return lambda count: time.monotonic() >= end
+        wanted, soon, since = self.chance.randrange(events), self.chance.uniform(0, SOON), []
+
+        def come(count):
+            if count >= wanted and not since:
+                since.append(time.monotonic())
+            return bool(since) and time.monotonic() >= since[0] + soon
+
+        return come
+
+    def one(self, spool, phase):
+        """A pass that is killed: alone, or with all that it started."""
         words = [sys.executable, "-B", press.ENTRY, "night", spool.path, "--json"]
-        with open(os.path.join(spool.folder, "said"), "w+", encoding="utf-8") as said:
+        alone, come, path = self.chance.random() < 0.3, self.moment(phase), os.path.join(spool.folder, "said")
+        with open(path, "w", encoding="utf-8") as said:
             process = subprocess.Popen(words, stdout=said, stderr=subprocess.STDOUT, start_new_session=True,
                                        env=os.environ | {"PLATEROOM": spool.program})
-            try:
-                process.wait(after)
-            except subprocess.TimeoutExpired:
+        while process.poll() is None:
+            with open(path, encoding="utf-8") as said:
+                count = said.read().count("\n")
+            if come(count):
                 os.kill(process.pid, signal.SIGKILL) if alone else os.killpg(process.pid, signal.SIGKILL)
-                process.wait()
-            said.seek(0)
+                break
+            time.sleep(0.005)
+        process.wait()
+        with open(path, encoding="utf-8") as said:
             text = said.read()
         lines = text.splitlines(keepends=True)
         events = [json.loads(line) for line in lines if line.startswith("{") and line.endswith("\n")]

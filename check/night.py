@@ -7,6 +7,9 @@ Plates are compared with those of a run of the program alone. What isn't install
 line is `N passed, M failed`, and the status is 1 where one failed.
 """
 import argparse
+import functools
+import os
+import shutil
 import sys
 import tempfile
 
@@ -18,23 +21,34 @@ from kills import kill_trials
 from lately import late_trials
 from made import make_trials
 from press import Paper
+from units import unit_trials
+
+
+def place():
+    """Where the trials are made: in memory, where there is enough for files, since each plate is synced to its disk."""
+    memory = "/dev/shm"
+    if os.access(memory, os.W_OK) and shutil.disk_usage(memory).free > 2 * 10 ** 9:
+        return memory
+    return None
 
 
 def main():
     parser = argparse.ArgumentParser(description=__doc__, formatter_class=argparse.RawDescriptionHelpFormatter)
     parser.add_argument("program", metavar="PROGRAM")
     parser.add_argument("--kills", type=int, default=12, help="how often a night is killed (12)")
-    parser.add_argument("--only", metavar="NAME", help="the parts whose function has this in its name")
+    parser.add_argument("--only", metavar="NAME", help="this part alone, as kills")
     words = parser.parse_args()
     tried = trial.Trial(words.program)
-    with tempfile.TemporaryDirectory(prefix="plateroom-night-") as folder:
+    with tempfile.TemporaryDirectory(prefix="plateroom-night-", dir=place()) as folder:
         paper = Paper(folder)
-        for part in (make_trials, late_trials, spools.whole_night, spools.delivery, spools.two_at_once, spools.clock,
-                     spools.full_disk, spools.houses, spools.strangers):
-            if not words.only or words.only in part.__name__:
-                part(tried, paper, folder)
-        if words.kills and (not words.only or words.only in kill_trials.__name__):
-            kill_trials(tried, paper, folder, words.kills)
+        kills = functools.partial(kill_trials, kills=words.kills)
+        for name, part in {"make": make_trials, "late": late_trials, "night": spools.whole_night, "delivery": spools.delivery,
+                           "two": spools.two_at_once, "clock": spools.clock, "disk": spools.full_disk,
+                           "house": spools.houses, "strangers": spools.strangers, "units": unit_trials,
+                           "kills": kills}.items():
+            if words.only in (None, name):
+                with tempfile.TemporaryDirectory(prefix=f"{name}-", dir=folder) as its:
+                    part(tried, paper, its)
     print(f"{tried.passed} passed, {tried.failed} failed")
     return 1 if tried.failed else 0
 

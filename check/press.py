@@ -39,7 +39,7 @@ class Paper:
 
     def __init__(self, folder):
         self.folder, self.art = folder, os.path.join(folder, "art")
-        text = os.path.join(folder, "newspaper.json")
+        self.known, text = {}, os.path.join(folder, "newspaper.json")
         make = [sys.executable, "-B", os.path.join(NEWSPAPER, "make.py"), "--art", self.art, "--plan", text]
         subprocess.run(make, check=True)
         with open(text, encoding="utf-8") as file:
@@ -63,12 +63,16 @@ class Paper:
 
     def plates(self, program, work):
         """The plates of a WORK folder by the program alone, SITE/NAME to SHA-256."""
-        out = os.path.join(self.folder, "reference")
-        shutil.rmtree(out, ignore_errors=True)
-        for press in PRESSES:
-            words = ["run", os.path.join(work, f"{press}.json"), os.path.join(work, "files"), out]
-            subprocess.run([program, *words], check=True, stdout=subprocess.DEVNULL)
-        return sums_below(out)
+        paths = sorted(os.path.join(at, name) for at, _, names in os.walk(work) for name in names)
+        key = tuple((os.path.relpath(path, work), digest(path)) for path in paths)
+        if key not in self.known:
+            out = os.path.join(self.folder, "reference")
+            shutil.rmtree(out, ignore_errors=True)
+            for press in PRESSES:
+                words = ["run", os.path.join(work, f"{press}.json"), os.path.join(work, "files"), out]
+                subprocess.run([program, *words], check=True, stdout=subprocess.DEVNULL)
+            self.known[key] = sums_below(out)
+        return self.known[key]
 
 
 def sums_below(folder):

@@ -37,7 +37,7 @@ class Spool:
         os.mkdir(self.folder)
         self.path, self.sites = os.path.join(root or self.folder, "spool"), os.path.join(self.folder, "sites")
         os.makedirs(self.file("in"))
-        self.wanted, self.ledger, self.environment = {}, {}, {}
+        self.ledger, self.environment = {}, {}
         self.house(**night)
 
     def house(self, delivery=(), **night):
@@ -57,7 +57,6 @@ class Spool:
     def comes(self, edition, ready=True):
         """An edition comes in whole; READY comes last, or not at all."""
         self.paper.work(self.file("in", edition), edition)
-        self.wanted[edition] = self.paper.plates(self.tried.program, self.file("in", edition))
         if ready:
             self.ready(edition)
 
@@ -141,8 +140,8 @@ class Spool:
                        and not os.path.isdir(self.file("failed", edition)), os.listdir(self.path))
             if not os.path.isdir(self.file("done", edition)):
                 continue
-            self.wanted[edition] = self.paper.plates(self.tried.program, self.file("done", edition))
-            self.tried.holds(f"{self.name}: {what}, {edition}", faults_of_ready(current, self.wanted[edition], SITES))
+            wanted = self.paper.plates(self.tried.program, self.file("done", edition))
+            self.tried.holds(f"{self.name}: {what}, {edition}", faults_of_ready(current, wanted, SITES))
             self.tried.holds(f"{self.name}: {what}, {edition}, verify", faults_of_verify(self.tried.program, current))
             for site in SITES:
                 with open(os.path.join(current, site, "SHA256SUMS"), "rb") as file:

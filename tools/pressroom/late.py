@@ -20,7 +20,7 @@ from pressroom import disk, runs, version
 from pressroom.ask import program_path
 from pressroom.console import Console, fault_of
 from pressroom.job import ALL_READY, CANT_BEGIN, FILE_REFUSED, OTHER_WORKS, PLAN_REFUSED, Job, Refused
-from pressroom.plans import plans_of
+from pressroom.plan_reader import plans_of
 
 FRESH = "fresh.parts"
 

@@ -20,7 +20,7 @@ from pressroom import disk, runs, version
 from pressroom.ask import HERE, program_path
 from pressroom.console import Console, Missing, fault_of, need
 from pressroom.job import CANT_BEGIN, OTHER_WORKS, Job, Refused
-from pressroom.plans import plans_of
+from pressroom.plan_reader import plans_of
 
 # Where the scripts of the queues are: in the repository, and as Debian's package has them.
 QUEUES = os.path.join(HERE, "..", "..", "examples", "queue"), "/usr/share/doc/plateroom/examples/queue"

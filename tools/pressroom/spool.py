@@ -16,7 +16,7 @@ import stat
 
 from pressroom import disk
 from pressroom.clock import stamp
-from pressroom.plans import plans_of
+from pressroom.plan_reader import plans_of
 
 FOLDERS = "in", "work", "out", "done", "failed", "state"
 NAME = re.compile(r"[A-Za-z0-9][A-Za-z0-9_.-]{0,63}")
@@ -53,6 +53,11 @@ def files_below(folder):
             except FileNotFoundError:
                 pass
     return sorted(found)
+
+
+def is_marked(folder):
+    """Whether READY is in a folder, or was and the state couldn't be written since."""
+    return any(os.path.lexists(os.path.join(folder, name)) for name in (READY, f".{READY}"))
 
 
 def signature(folder):
@@ -102,8 +107,11 @@ class Edition:
 
     def watch(self, folder):
         """Notes what lies in a folder and since when, takes its READY away, and returns its signature."""
-        ready, name = os.path.join(folder, READY), os.path.basename(os.path.dirname(folder))
-        is_ready = os.path.lexists(ready)
+        ready, kept = os.path.join(folder, READY), os.path.join(folder, f".{READY}")
+        name, is_ready = os.path.basename(os.path.dirname(folder)), is_marked(folder)
+        if os.path.lexists(ready):
+            # It goes also where the state can't be written, or a path unit would start a pass at once again.
+            os.rename(ready, kept)
         now = signature(folder)
         every = self.state.setdefault("seen", {})
         if every.get(name, {}).get("signature", "") != now:
@@ -115,7 +123,7 @@ class Edition:
             self.state.pop("given_up", None)
         self.save()
         if is_ready:
-            disk.remove(ready)
+            disk.remove(kept)
         return now
 
     def seen(self, folder):

@@ -13,7 +13,7 @@ import re
 import time
 
 from pressroom import disk
-from pressroom.plans import plans_of
+from pressroom.plan_reader import plans_of
 
 FORM = "%Y%m%d-%H%M%S"
 CURRENT, LOCK, SOURCE, SUMS, READY, REPORT = "current", ".lock", "made-from", "SHA256SUMS", "READY", "report.json"

@@ -9,8 +9,8 @@ from pressroom.delivery import deliver, sums_of
 from pressroom.job import ALL_READY, FILE_REFUSED, OTHER_WORKS, PLAN_REFUSED
 from pressroom.late import late
 from pressroom.make import make
-from pressroom.plans import plans_of
-from pressroom.spool import Edition, remove_empty, signature
+from pressroom.plan_reader import plans_of
+from pressroom.spool import Edition, is_marked, remove_empty, signature
 
 # How long a pass waits for another one, or for a make by hand, before it looks again.
 BUSY = 5
@@ -56,7 +56,7 @@ class Visit:
         edition = self.edition
         if not os.path.isdir(edition.failed) or not os.path.isdir(edition.incoming):
             return
-        if not signature(edition.incoming) and not os.path.lexists(os.path.join(edition.incoming, version.READY)):
+        if not signature(edition.incoming) and not is_marked(edition.incoming):
             return
         if not self.is_settled(edition.incoming, edition.watch(edition.incoming)):
             return
