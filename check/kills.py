@@ -1,4 +1,5 @@
-"""A night that is killed at moments by chance, again and again, until it rests: nothing that is READY is ever wrong."""
+"""A night that is killed at moments by chance, again and again, until it rests: nothing that is READY is
+ever wrong."""
 import collections
 import json
 import os
@@ -13,15 +14,24 @@ from spools import Spool
 
 SEED = 68
 EDITIONS = ["MORNING", "EVENING", "NIGHT"]
-# Of each half of a round: the most kills; every other one comes within so many seconds, the others soon after one of so
-# many events.
+# Of each half of a round: the most kills; every other one comes within so many seconds, the others soon after
+# one of so many events.
 HALVES = {"three editions": (9, 5.0, 20), "late page": (6, 2.0, 6)}
 SOON = 0.4
 STEPS = {
-    None: "before the first event", "taken": "edition taken, plates not begun", "begin": "check, run or verify",
-    "ready": "sites made READY", "done": "version READY, delivery", "sent": "delivery", "delivered": "move to done/",
-    "finished": "move to done/", "late": "late page taken", "fault": "after a fault", "removed": "old version removed",
-    "retry": "retry of a site", "rest": "end of the pass",
+    None: "before the first event",
+    "taken": "edition taken, plates not begun",
+    "begin": "check, run or verify",
+    "ready": "sites made READY",
+    "done": "version READY, delivery",
+    "sent": "delivery",
+    "delivered": "move to done/",
+    "finished": "move to done/",
+    "late": "late page taken",
+    "fault": "after a fault",
+    "removed": "old version removed",
+    "retry": "retry of a site",
+    "rest": "end of the pass",
 }
 
 
@@ -81,8 +91,13 @@ class Kills:
         words = [sys.executable, "-B", press.ENTRY, "night", spool.path, "--json"]
         alone, come, path = self.chance.random() < 0.3, self.moment(phase), os.path.join(spool.folder, "said")
         with open(path, "w", encoding="utf-8") as said:
-            process = subprocess.Popen(words, stdout=said, stderr=subprocess.STDOUT, start_new_session=True,
-                                       env=os.environ | {"PLATEROOM": spool.program})
+            process = subprocess.Popen(
+                words,
+                stdout=said,
+                stderr=subprocess.STDOUT,
+                start_new_session=True,
+                env=os.environ | {"PLATEROOM": spool.program},
+            )
         while process.poll() is None:
             with open(path, encoding="utf-8") as said:
                 count = said.read().count("\n")

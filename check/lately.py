@@ -1,12 +1,13 @@
-"""What `pressroom late` does: which plates it makes, that the version before stays, and which pages it refuses."""
+"""What `pressroom late` does: which plates it makes, that the version before stays, and which pages it
+refuses."""
 import json
 import os
 import shutil
 
 import press
-from press import SITES, digest, faults_of_ready, faults_of_verify, pressroom, sums_below
+from press import SITES, digest, faults_of_ready, faults_of_verify, pressroom
 
-# Stands in for `pressroom intake`: copies each page IN/NAME.pdf, which is a TIFF here, to the file NAME of WORK.
+# Stands in for `pressroom intake`: copies each page IN/NAME.pdf, which is a TIFF here, to WORK's file NAME.
 INTAKE = """#!/bin/sh
 [ "$1" = intake ] || exec '{entry}' "$@"
 [ -f "$2" ] || exit 2
@@ -47,13 +48,14 @@ class Late:
         return path
 
     def tree(self, folder):
-        """Each file below a folder with its number on the disk, its bytes and its times but for that of its links."""
+        """Each file below a folder with its number on the disk, its bytes and its times but for that of
+        its links."""
         paths = [os.path.join(at, name) for at, _, names in os.walk(folder) for name in names]
         return {path: (os.stat(path).st_ino, os.stat(path).st_mtime_ns, digest(path)) for path in paths}
 
     def made(self, what, page, sites, *names):
-        """What comes late makes these plates of these sites: exactly they are new files, all plates are right, and the
-        version before stays."""
+        """What comes late makes these plates of these sites: exactly they are new files, all plates are
+        right, and the version before stays."""
         old, stood = self.current(), self.tree(self.current())
         before = self.wanted
         answer = pressroom(self.program, "late", self.work, page, self.out)
@@ -67,8 +69,12 @@ class Late:
         self.tried.holds(f"late, {what}, READY", faults_of_ready(new, self.wanted, SITES))
         self.tried.holds(f"late, {what}, verify", faults_of_verify(self.tried.program, new))
         self.holds(f"{what}, the version before", self.tree(old) == stood, "it changed")
-        linked = {path for path in self.wanted if os.path.exists(os.path.join(old, path))
-                  and os.path.samefile(os.path.join(new, path), os.path.join(old, path))}
+        linked = {
+            path
+            for path in self.wanted
+            if os.path.exists(os.path.join(old, path))
+            and os.path.samefile(os.path.join(new, path), os.path.join(old, path))
+        }
         self.holds(f"{what}, links", linked == set(self.wanted) - made, sorted(linked ^ set(self.wanted)))
         told = set()
         for site in SITES:
@@ -94,46 +100,81 @@ class Late:
         """late ends so: no version is new, and WORK is as it was."""
         before, work, names = self.current(), self.tree(self.work), os.listdir(self.out)
         answer = pressroom(self.program, "late", *words)
-        self.holds(f"{what}, status", answer.returncode == status and "Traceback" not in answer.stderr, answer)
+        self.holds(
+            f"{what}, status", answer.returncode == status and "Traceback" not in answer.stderr, answer
+        )
         self.holds(f"{what}, line", line in answer.stdout + answer.stderr, answer)
         shas = {path: entry[2] for path, entry in work.items()}
-        self.holds(f"{what}, WORK", {path: entry[2] for path, entry in self.tree(self.work).items()} == shas, "changed")
-        ready = [name for name in os.listdir(self.out) if name not in names
-                 and press.sites_ready(os.path.join(self.out, name))]
+        self.holds(
+            f"{what}, WORK",
+            {path: entry[2] for path, entry in self.tree(self.work).items()} == shas,
+            "changed",
+        )
+        ready = [
+            name
+            for name in os.listdir(self.out)
+            if name not in names and press.sites_ready(os.path.join(self.out, name))
+        ]
         self.holds(f"{what}, no version", not ready and self.current() == before, ready)
 
     def refuses(self):
         """The same page again, a damaged one, one of no plan, an OUT without an edition."""
-        self.stays("the same page", 0, "nothing changed", self.work, self.page("A3-text.tif", "A2-text.tif"), self.out)
+        self.stays(
+            "the same page",
+            0,
+            "nothing changed",
+            self.work,
+            self.page("A3-text.tif", "A2-text.tif"),
+            self.out,
+        )
         cut = self.page("A2-text.tif", "A3-text.tif")
         os.truncate(cut, 1000)
         self.stays("a damaged page", 4, "fault: A2-text.tif (line)", self.work, cut, self.out)
-        self.stays("no page of it", 2, "has a file A9.tif", self.work, self.page("A9.tif", "A2-text.tif"), self.out)
+        self.stays(
+            "no page of it", 2, "has a file A9.tif", self.work, self.page("A9.tif", "A2-text.tif"), self.out
+        )
         empty = os.path.join(self.folder, "empty")
         os.mkdir(empty)
-        self.stays("no edition", 2, "no version that is READY", self.work, self.page("B2-text.tif", "A2-text.tif"), empty)
+        self.stays(
+            "no edition",
+            2,
+            "no version that is READY",
+            self.work,
+            self.page("B2-text.tif", "A2-text.tif"),
+            empty,
+        )
 
     def leaves(self):
         """A site fails in replate: it is made again alone, in full, and the version before stays."""
         with open(os.path.join(self.folder, "fault"), "w", encoding="utf-8") as file:
             file.write("killed 1\n")
         old, stood = self.current(), self.tree(self.current())
-        answer = pressroom(self.program, "late", self.work, self.page("A1-photo.tif", "A1north-photo.tif"), self.out)
+        answer = pressroom(
+            self.program, "late", self.work, self.page("A1-photo.tif", "A1north-photo.tif"), self.out
+        )
         self.wanted = self.paper.plates(self.tried.program, self.work)
-        self.holds("killed, status", answer.returncode == 0 and "retry: site TROMSO alone" in answer.stdout, answer)
+        self.holds(
+            "killed, status", answer.returncode == 0 and "retry: site TROMSO alone" in answer.stdout, answer
+        )
         self.tried.holds("late, killed, READY", faults_of_ready(self.current(), self.wanted, SITES))
-        self.holds("killed, the version before", self.tree(old) == stood and self.current() > old, "it changed")
+        self.holds(
+            "killed, the version before", self.tree(old) == stood and self.current() > old, "it changed"
+        )
 
     def written_in_place(self):
-        """A file of WORK was written in place, so that the version before lost what it was made of: all is made anew."""
-        shutil.copyfile(os.path.join(self.paper.art, "A2-text.tif"), os.path.join(self.work, "files", "B2-text.tif"))
+        """A file of WORK was written in place, so that the version before lost what it was made of: all is
+        made anew."""
+        shutil.copyfile(
+            os.path.join(self.paper.art, "A2-text.tif"), os.path.join(self.work, "files", "B2-text.tif")
+        )
         answer = pressroom(self.program, "late", self.work, self.page("B3-text.tif", "A2-text.tif"), self.out)
         self.wanted = self.paper.plates(self.tried.program, self.work)
         self.holds("in place, status", answer.returncode == 0, answer)
         self.tried.holds("late, in place, READY", faults_of_ready(self.current(), self.wanted, SITES))
 
     def intake(self):
-        """With --house and --in the page goes through `pressroom intake`, and comes back where that refuses it."""
+        """With --house and --in the page goes through `pressroom intake`, and comes back where that
+        refuses it."""
         stand, into = os.path.join(self.folder, "pressroom"), os.path.join(self.folder, "in")
         with open(stand, "w", encoding="utf-8") as file:
             file.write(INTAKE.format(entry=press.ENTRY))

@@ -31,7 +31,8 @@ class Make:
         return sorted(set(os.listdir(self.out)) - {"current", ".lock"}) if os.path.isdir(self.out) else []
 
     def makes(self, what, status, ready, *words, current=True):
-        """make ends with this status, these sites are READY and right in its version, and `current` moves or not."""
+        """make ends with this status, these sites are READY and right in its version, and `current` moves
+        or not."""
         before = set(self.versions())
         led = os.readlink(self.file("current")) if os.path.lexists(self.file("current")) else None
         answer = pressroom(self.program, "make", self.work, self.out, *words)
@@ -59,7 +60,9 @@ class Make:
         self.tried.holds("make, verify", faults_of_verify(self.tried.program, self.file("current")))
         self.holds("whole, plates", sums_below(self.file("current")) == self.wanted, "other plates")
         self.holds("whole, steps", {"check", "run", "verify", "sums"} <= set(report["seconds"]), report)
-        self.holds("whole, pages", report["pages"] == 22 and report["plates"] == len(self.wanted), report["plates"])
+        self.holds(
+            "whole, pages", report["pages"] == 22 and report["plates"] == len(self.wanted), report["plates"]
+        )
         each = {site: (entry["ready"], entry["retried"]) for site, entry in report["sites"].items()}
         self.holds("whole, sites of the report", each == {site: (True, False) for site in SITES}, each)
 
@@ -68,8 +71,12 @@ class Make:
         self.makes("keys", 0, SITES, "--keys", "4")
         for name in press.PRESSES:
             words = ["keys", os.path.join(self.work, f"{name}.json"), os.path.join(self.work, "files")]
-            said = subprocess.run([self.tried.program, *words, os.path.join(self.folder, "keys"), "4"], text=True,
-                                  capture_output=True, check=True).stdout
+            said = subprocess.run(
+                [self.tried.program, *words, os.path.join(self.folder, "keys"), "4"],
+                text=True,
+                capture_output=True,
+                check=True,
+            ).stdout
             with open(self.file("current", f"{name}.report"), encoding="utf-8") as file:
                 self.holds(f"keys of {name}", file.read() == said, said)
 
@@ -82,8 +89,11 @@ class Make:
 
     def recovers(self):
         """A site that fails once is made again alone, and no other one."""
-        for word, why in (("blocked", "left plates 0 row 0 call begin"), ("killed", "the program ended with status 137"),
-                          ("spoiled", "verify: differs ")):
+        for word, why in (
+            ("blocked", "left plates 0 row 0 call begin"),
+            ("killed", "the program ended with status 137"),
+            ("spoiled", "verify: differs "),
+        ):
             self.fault(f"{word} 1")
             answer, report = self.makes(word, 0, SITES)
             retried = [site for site in SITES if report["sites"][site]["retried"]]
@@ -91,7 +101,8 @@ class Make:
             self.holds(f"{word}, why", why in answer.stdout, answer.stdout)
 
     def leaves(self):
-        """A site that fails twice isn't READY, the others are, and `current` stays; --resume makes that site alone."""
+        """A site that fails twice isn't READY, the others are, and `current` stays; --resume makes that
+        site alone."""
         self.fault("blocked 2")
         answer, report = self.makes("blocked twice", 1, SITES[:2], current=False)
         why = report["sites"]["TROMSO"]["why"]
@@ -114,18 +125,25 @@ class Make:
             with open(os.path.join(self.work, f"{name}.json"), "w", encoding="utf-8") as file:
                 file.write(text)
             _, report = self.makes(f"plan {name}", 3, [], current=False)
-            wanted = {"wrong": "wrong: plateroom: plan: not JSON", "again": "site TROMSO is in the plans again and north"}
+            wanted = {
+                "wrong": "wrong: plateroom: plan: not JSON",
+                "again": "site TROMSO is in the plans again and north",
+            }
             self.holds(f"plan {name}, line", report["refused"] == [wanted[name]], report["refused"])
             os.remove(os.path.join(self.work, f"{name}.json"))
 
     def begins_not(self):
-        """No plan, an OUT that can't be made, a lock that is held, words that are wrong: no version is begun."""
+        """No plan, an OUT that can't be made, a lock that is held, words that are wrong: no version is
+        begun."""
         before = self.versions()
         empty = os.path.join(self.folder, "empty")
         os.mkdir(empty)
-        for what, status, words in (("no plan", 2, [empty, self.out]), ("no WORK", 2, [empty + "/no", self.out]),
-                                    ("OUT in a file", 2, [self.work, os.path.join(self.work, "north.json", "out")]),
-                                    ("65 keys", 2, [self.work, self.out, "--keys", "65"])):
+        for what, status, words in (
+            ("no plan", 2, [empty, self.out]),
+            ("no WORK", 2, [empty + "/no", self.out]),
+            ("OUT in a file", 2, [self.work, os.path.join(self.work, "north.json", "out")]),
+            ("65 keys", 2, [self.work, self.out, "--keys", "65"]),
+        ):
             answer = pressroom(self.program, "make", *words)
             self.holds(what, answer.returncode == status and "Traceback" not in answer.stderr, answer)
         with open(self.file(".lock"), "w", encoding="utf-8") as file:
@@ -143,7 +161,15 @@ class Make:
 
 def make_trials(tried, paper, folder):
     trial = Make(tried, paper, folder)
-    for part in (trial.whole, trial.keys, trial.parts, trial.recovers, trial.leaves, trial.refuses, trial.begins_not,
-                 trial.later):
+    for part in (
+        trial.whole,
+        trial.keys,
+        trial.parts,
+        trial.recovers,
+        trial.leaves,
+        trial.refuses,
+        trial.begins_not,
+        trial.later,
+    ):
         part()
     tried.part("make")

@@ -1,5 +1,5 @@
-"""What the trials of make, late and night share: the newspaper at a quarter of its size, a program that fails when it
-is told to, and what READY folders must hold."""
+"""What the trials of make, late and night share: the newspaper at a quarter of its size, a program that
+fails when it is told to, and what READY folders must hold."""
 import hashlib
 import json
 import os
@@ -77,9 +77,13 @@ class Paper:
 
 def sums_below(folder):
     """SITE/NAME of each plate below a folder of sites, to its SHA-256."""
-    return {f"{site}/{name}": digest(os.path.join(folder, site, name))
-            for site in SITES if os.path.isdir(os.path.join(folder, site))
-            for name in os.listdir(os.path.join(folder, site)) if name.endswith(".tif")}
+    return {
+        f"{site}/{name}": digest(os.path.join(folder, site, name))
+        for site in SITES
+        if os.path.isdir(os.path.join(folder, site))
+        for name in os.listdir(os.path.join(folder, site))
+        if name.endswith(".tif")
+    }
 
 
 def digest(path):
@@ -100,8 +104,12 @@ def stand_in(program, folder):
 
 def pressroom(program, *words, **environment):
     """Runs a command of pressroom to its end."""
-    return subprocess.run([sys.executable, "-B", ENTRY, *words], capture_output=True, text=True,
-                          env=os.environ | {"PLATEROOM": program} | environment)
+    return subprocess.run(
+        [sys.executable, "-B", ENTRY, *words],
+        capture_output=True,
+        text=True,
+        env=os.environ | {"PLATEROOM": program} | environment,
+    )
 
 
 def sites_ready(version):
@@ -117,15 +125,21 @@ def faults_of_ready(version, wanted=None, sites=None):
         if not os.path.exists(os.path.join(folder, "READY")):
             faults.append(f"{site} isn't READY")
             continue
-        checked = subprocess.run(["sha256sum", "--strict", "--quiet", "-c", "SHA256SUMS"], cwd=folder, text=True,
-                                 capture_output=True)
+        checked = subprocess.run(
+            ["sha256sum", "--strict", "--quiet", "-c", "SHA256SUMS"],
+            cwd=folder,
+            text=True,
+            capture_output=True,
+        )
         if checked.returncode:
             faults.append(f"{site}: sha256sum says {checked.stdout + checked.stderr}")
         with open(os.path.join(folder, "SHA256SUMS"), encoding="utf-8") as file:
             named = dict(reversed(line.split()) for line in file)
         with open(os.path.join(folder, "READY"), encoding="utf-8") as file:
             ready = dict(line.split() for line in file if not line.startswith("made "))
-        if int(ready["plates"]) != len(named) or ready["version"] != os.path.basename(os.path.realpath(version)):
+        if int(ready["plates"]) != len(named) or ready["version"] != os.path.basename(
+            os.path.realpath(version)
+        ):
             faults.append(f"{site}: READY says {ready} of {len(named)} plates")
         right = {path: sha for path, sha in (wanted or {}).items() if path.startswith(f"{site}/")}
         if wanted is not None and {f"{site}/{name}": sha for name, sha in named.items()} != right:
@@ -146,8 +160,11 @@ def faults_of_verify(program, version):
         with open(text, "w", encoding="utf-8") as file:
             json.dump(plan, file)
         if plan["sites"]:
-            said = subprocess.run([program, "verify", text, os.path.join(source, "files"), version],
-                                  capture_output=True, text=True)
+            said = subprocess.run(
+                [program, "verify", text, os.path.join(source, "files"), version],
+                capture_output=True,
+                text=True,
+            )
             if not said.stdout.startswith("same plates "):
                 return f"{version}, {name}: {said.stdout}{said.stderr}"
         os.remove(text)

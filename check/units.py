@@ -45,8 +45,13 @@ def write_unit(name, units, old="", new=""):
 
 def analyzed(units, *words):
     """Status and words of systemd-analyze, for which only these units and the system's are there."""
-    answer = subprocess.run(["systemd-analyze", *words], capture_output=True, text=True, cwd=units,
-                            env=os.environ | {"SYSTEMD_UNIT_PATH": units + ":"})
+    answer = subprocess.run(
+        ["systemd-analyze", *words],
+        capture_output=True,
+        text=True,
+        cwd=units,
+        env=os.environ | {"SYSTEMD_UNIT_PATH": units + ":"},
+    )
     return answer.returncode, answer.stdout + answer.stderr
 
 
@@ -57,15 +62,30 @@ def tmpfiles(tried, folder):
         return
     root = os.path.join(folder, "root")
     os.makedirs(os.path.join(root, "etc"))
-    for name, line in (("passwd", "pressroom:x:990:990::/var/spool/pressroom:/usr/sbin/nologin\n"),
-                       ("group", "pressroom:x:990:\n")):
+    for name, line in (
+        ("passwd", "pressroom:x:990:990::/var/spool/pressroom:/usr/sbin/nologin\n"),
+        ("group", "pressroom:x:990:\n"),
+    ):
         with open(os.path.join(root, "etc", name), "w", encoding="utf-8") as file:
             file.write(line)
     conf = os.path.join(UNITS, "pressroom.tmpfiles")
-    answer = subprocess.run(["systemd-tmpfiles", "--create", f"--root={root}", conf], capture_output=True, text=True)
+    answer = subprocess.run(
+        ["systemd-tmpfiles", "--create", f"--root={root}", conf], capture_output=True, text=True
+    )
     spool = os.path.join(root, "var", "spool", "pressroom")
-    found = {name: (oct(os.stat(os.path.join(spool, name)).st_mode)[-4:], os.stat(os.path.join(spool, name)).st_uid)
-             for name in sorted(os.listdir(spool))} if os.path.isdir(spool) else {}
-    wanted = {name: ("2770" if name in ("in", "failed") else "0750", 990)
-              for name in ("done", "failed", "in", "out", "state", "work")}
+    found = (
+        {
+            name: (
+                oct(os.stat(os.path.join(spool, name)).st_mode)[-4:],
+                os.stat(os.path.join(spool, name)).st_uid,
+            )
+            for name in sorted(os.listdir(spool))
+        }
+        if os.path.isdir(spool)
+        else {}
+    )
+    wanted = {
+        name: ("2770" if name in ("in", "failed") else "0750", 990)
+        for name in ("done", "failed", "in", "out", "state", "work")
+    }
     tried.holds("systemd-tmpfiles", "" if found == wanted else f"{found}, {answer.stderr}")

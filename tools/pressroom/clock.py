@@ -1,4 +1,5 @@
-"""Time that passes, also where the clock is set back: a stamp names the boot and its own clock beside the hour."""
+"""Time that passes, also where the clock is set back: a stamp names the boot and its own clock beside the
+hour."""
 import time
 
 
@@ -10,12 +11,16 @@ def boot():
 
 def stamp():
     """The present moment, to be kept in a file."""
-    return {"boot": boot(), "uptime": round(time.clock_gettime(time.CLOCK_BOOTTIME), 3), "hour": round(time.time(), 3)}
+    return {
+        "boot": boot(),
+        "uptime": round(time.clock_gettime(time.CLOCK_BOOTTIME), 3),
+        "hour": round(time.time(), 3),
+    }
 
 
 def elapsed(before):
-    """The seconds since a stamp: by the clock of this boot, else by the hour. None where the stamp is none, or lies in
-    the future, so that nobody knows."""
+    """The seconds since a stamp: by the clock of this boot, else by the hour. None where the stamp is
+    none, or lies in the future, so that nobody knows."""
     try:
         if before["boot"] == boot():
             seconds = time.clock_gettime(time.CLOCK_BOOTTIME) - before["uptime"]
@@ -33,7 +38,8 @@ def left(before, pause):
 
 
 class Attempts:
-    """Tries that failed, kept in a state: each pause is twice as long as the one before, up to the longest."""
+    """Tries that failed, kept in a state: each pause is twice as long as the one before, up to the
+    longest."""
 
     def __init__(self, kept, first, longest, most):
         self.kept, self.first, self.longest, self.most = kept, first, longest, most
@@ -46,7 +52,9 @@ class Attempts:
     def wait(self):
         """The seconds until the next try."""
         tries = self.kept.get("tries", 0)
-        return left(self.kept.get("at"), min(self.longest, self.first * 2 ** min(tries - 1, 30))) if tries else 0
+        return (
+            left(self.kept.get("at"), min(self.longest, self.first * 2 ** min(tries - 1, 30))) if tries else 0
+        )
 
     def over(self):
         """Whether no try is left."""

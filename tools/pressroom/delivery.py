@@ -11,14 +11,16 @@ def sums_of(version, site):
 
 
 def deliver(version, site, edition, target, before, settings):
-    """Sends a site to TARGET/EDITION/VERSION. Plates that TARGET/EDITION/BEFORE has are copied there and not sent.
+    """Sends a site to TARGET/EDITION/VERSION. Plates that TARGET/EDITION/BEFORE has are copied there and not
+    sent.
 
-    Returns why it failed, or nothing."""
+    Returns why it failed, or nothing.
+    """
     folder = version.file(site)
     to = "/".join([target.rstrip("/") or "/", edition, version.name, ""])
     limit = settings["timeout"]
     rsync = ["timeout", "--kill-after=10", str(limit), "rsync", "-rt", "--mkpath", *settings["rsync"]]
-    plates = ["--checksum", "--delay-updates", f"--include=/*.tif", f"--include=/{SUMS}", "--exclude=*"]
+    plates = ["--checksum", "--delay-updates", "--include=/*.tif", f"--include=/{SUMS}", "--exclude=*"]
     if before and before != version.name:
         plates.append(f"--copy-dest=../{before}")
     for words in ([*rsync, *plates, folder + "/", to], [*rsync, os.path.join(folder, READY), to]):

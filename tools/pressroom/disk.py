@@ -1,4 +1,5 @@
-"""Files that arrive whole, hard links, checksums, and locks: what the commands that run at night do on disks."""
+"""Files that arrive whole, hard links, checksums, and locks: what the commands that run at night do on
+disks."""
 import errno
 import fcntl
 import hashlib
@@ -98,8 +99,8 @@ def sha256(path):
 class Lock:
     """An exclusive `flock` on a file, made where it isn't there; raises Busy where another process has it.
 
-    The kernel releases it when this process and all programs that it started have ended, however they ended: `held`
-    has the handles that they inherit. `remove` removes the file while it is held.
+    The kernel releases it when this process and all programs that it started have ended, however they ended:
+    `held` has the handles that they inherit. `remove` removes the file while it is held.
     """
 
     held = set()

@@ -1,4 +1,5 @@
-"""One version of an edition under way: its plans checked, plates made and verified, sites made READY, and the report.
+"""One version of an edition under way: its plans checked, plates made and verified, sites made READY, and the
+report.
 
 `make` runs the plans, `late` makes what changed; both hand in how plates come into a version's folder.
 """
@@ -45,7 +46,9 @@ class Job:
                     lines += [f"{plan.name}: {line}" for line in found or [answer.note]]
                     status = status or (answer.status if answer.status in (3, 4) else CANT_BEGIN)
         if not status:
-            lines = [f"site {site} is in the plans {first} and {second}" for site, first, second in twice(plans)]
+            lines = [
+                f"site {site} is in the plans {first} and {second}" for site, first, second in twice(plans)
+            ]
             status = PLAN_REFUSED if lines else 0
         if status:
             raise Refused(status, lines)
@@ -77,15 +80,20 @@ class Job:
             return runs.call([self.program, *words], self.done.look)
 
     def press(self, plan, sites, plates, changes=None):
-        """Makes the plates of a press by `plates(plan, sites)`, verifies them, tries each site once more that isn't
-        right, and makes the right ones READY. `changes(site)` gives the words of READY on what changed."""
+        """Makes the plates of a press by `plates(plan, sites)`, verifies them, tries each site once more
+        that isn't right, and makes the right ones READY. `changes(site)` gives the words of READY on what
+        changed."""
         answer = plates(plan, sites)
         self.note_press(plan, answer)
         finished = [site for site in sites if site in answer.finished()]
         right = self.verify(plan, finished)
         for site in sites:
             why = "" if site in right else self.wrong.get(site) or answer.why(site)
-            entry = self.sites[site] = {"press": plan.name, "plates": len(plan.plates(site)), "retried": bool(why)}
+            entry = self.sites[site] = {
+                "press": plan.name,
+                "plates": len(plan.plates(site)),
+                "retried": bool(why),
+            }
             if why:
                 why = self.retry(plan, site, why)
             if not why:
@@ -125,7 +133,8 @@ class Job:
         return answer.status == 0
 
     def retry(self, plan, site, why):
-        """Makes one site again from nothing, alone, since disks recover. Returns why it still isn't right, or nothing."""
+        """Makes one site again from nothing, alone, since disks recover. Returns why it still isn't right,
+        or nothing."""
         self.console.tell("retry", f"site {site} alone: {why}", site=site, why=why)
         try:
             disk.remove(self.version.file(site))
@@ -150,8 +159,10 @@ class Job:
         self.bar.close()
         all_ready = all(self.sites[site]["ready"] for plan in plans for site in plan.sites())
         status = ALL_READY if all_ready else SOME_NOT_READY
-        counts = {"pages": sum(len(plan.value["pages"]) for plan in plans),
-                  "plates": sum(site["plates"] for site in self.sites.values() if site["ready"])}
+        counts = {
+            "pages": sum(len(plan.value["pages"]) for plan in plans),
+            "plates": sum(site["plates"] for site in self.sites.values() if site["ready"]),
+        }
         try:
             self.write_report(status, **counts)
             if all_ready:
@@ -161,8 +172,9 @@ class Job:
             return SOME_NOT_READY
         ready = sum(site["ready"] for site in self.sites.values())
         text = f"{self.version.path}: {ready} of {len(self.sites)} sites READY, {counts['plates']} plates"
-        self.console.tell("done", text, version=self.version.name, status=status, seconds=self.seconds.by_step,
-                          **counts)
+        self.console.tell(
+            "done", text, version=self.version.name, status=status, seconds=self.seconds.by_step, **counts
+        )
         return status
 
     def refuse(self, refused):

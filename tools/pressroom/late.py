@@ -1,15 +1,15 @@
 """Makes the plates of pages that came late, and READY folders of the whole edition beside those that stand.
 
-PAGE is taken into the edition: with --house and --in as a page of IN, which `pressroom intake` converts into WORK;
-without them as a file of WORK/files, or as a plan PRESS.json of WORK, each by its name. A new version OUT/DATE-TIME
-gets the plates that changed, made by `plateroom replate`, and hard links to all others of the version to which
-OUT/current leads. That version stays as it is, so a site may still be fetching it. Then all is as after make:
-every plate is verified, each site gets SHA256SUMS and READY, and OUT/current moves. READY names the version before
-and each plate that changed.
+PAGE is taken into the edition: with --house and --in as a page of IN, which `pressroom intake` converts into
+WORK; without them as a file of WORK/files, or as a plan PRESS.json of WORK, each by its name. A new version
+OUT/DATE-TIME gets the plates that changed, made by `plateroom replate`, and hard links to all others of the
+version to which OUT/current leads. That version stays as it is, so a site may still be fetching it. Then all
+is as after make: every plate is verified, each site gets SHA256SUMS and READY, and OUT/current moves. READY
+names the version before and each plate that changed.
 
 status: 0 all sites are READY, or nothing changed; 1 a site isn't READY; 2 the arguments are wrong, OUT has no
-version that is READY, or a file can't be written; 3 a plan is refused; 4 a page is refused: WORK and IN are as they
-were; 5 another make or late works in OUT
+version that is READY, or a file can't be written; 3 a plan is refused; 4 a page is refused: WORK and IN are
+as they were; 5 another make or late works in OUT
 
 example: pressroom late work/monday A03.pdf out/monday --house house.toml --in in/monday
 """
@@ -26,7 +26,8 @@ FRESH = "fresh.parts"
 
 
 def late(work, out, console, program):
-    """Makes a version of WORK by what changed since OUT/current. Returns the status and the version that is current."""
+    """Makes a version of WORK by what changed since OUT/current. Returns the status and the version that
+    is current."""
     try:
         with disk.Lock(os.path.join(out, version.LOCK)):
             old = version.current(out)
@@ -85,7 +86,8 @@ class Changes:
         return answer
 
     def join(self, plan, site):
-        """Moves a site's new plates into its folder, by their names, and links the old ones of all other names."""
+        """Moves a site's new plates into its folder, by their names, and links the old ones of all other
+        names."""
         folder, fresh = self.job.version.file(site), os.path.join(self.fresh, site)
         os.makedirs(folder, exist_ok=True)
         made = []
@@ -104,7 +106,8 @@ class Changes:
 
 
 class Placed:
-    """Files that were put in the place of others, which are kept until it is clear that the new ones are taken."""
+    """Files that were put in the place of others, which are kept until it is clear that the new ones are
+    taken."""
 
     def __init__(self, work):
         self.kept, self.before = os.path.join(work, ".before"), []
@@ -171,15 +174,22 @@ def take_and_make(words, console, program):
 
 
 def read_words():
-    parser = argparse.ArgumentParser(description=__doc__, formatter_class=argparse.RawDescriptionHelpFormatter)
+    parser = argparse.ArgumentParser(
+        description=__doc__, formatter_class=argparse.RawDescriptionHelpFormatter
+    )
     parser.add_argument("work", metavar="WORK", help="the folder of the edition's plans and files")
     parser.add_argument("pages", metavar="PAGE", nargs="+", help="a page that came late")
     parser.add_argument("out", metavar="OUT", help="the folder of the edition's versions")
     parser.add_argument("--house", metavar="FILE", help="the house file, for `pressroom intake`")
     parser.add_argument("--in", dest="into", metavar="IN", help="the folder of the edition's pages")
-    parser.add_argument("--base", metavar="FOLDER",
-                        help="a page's name is its path below this folder, as for west/A03.pdf; else it is its last part")
-    parser.add_argument("--program", metavar="PATH", help="the program; without it PLATEROOM, then the path, are asked")
+    parser.add_argument(
+        "--base",
+        metavar="FOLDER",
+        help="a page's name is its path below this folder, as for west/A03.pdf; else it is its last part",
+    )
+    parser.add_argument(
+        "--program", metavar="PATH", help="the program; without it PLATEROOM, then the path, are asked"
+    )
     parser.add_argument("--json", action="store_true", help="one JSON object a line for each event")
     words = parser.parse_args()
     if bool(words.house) != bool(words.into):

@@ -1,14 +1,15 @@
-"""Makes the plates of an edition: checks its plans, runs them, verifies every plate, and marks each site READY.
+"""Makes the plates of an edition: checks its plans, runs them, verifies every plate, and marks each site
+READY.
 
-WORK has a plan PRESS.json for each press and the folder files, as `pressroom intake` leaves them or as written by
-hand. The plates go to a new folder OUT/DATE-TIME (UTC) with a folder for each site. A site whose plates are all
-verified gets SHA256SUMS and last a file READY; when all sites have it, the link OUT/current moves to the new folder.
-A site that couldn't be written, or whose plates differ, is made once more alone. OUT/DATE-TIME/report.json says what
-became of each press and site, and how long each step took.
+WORK has a plan PRESS.json for each press and the folder files, as `pressroom intake` leaves them or as
+written by hand. The plates go to a new folder OUT/DATE-TIME (UTC) with a folder for each site. A site whose
+plates are all verified gets SHA256SUMS and last a file READY; when all sites have it, the link OUT/current
+moves to the new folder. A site that couldn't be written, or whose plates differ, is made once more alone.
+OUT/DATE-TIME/report.json says what became of each press and site, and how long each step took.
 
-status: 0 all sites are READY and OUT/current leads to them; 1 a site isn't READY, the others are; 2 the arguments
-are wrong, WORK has no plan, a program is missing, or OUT can't be written; 3 a plan is refused; 4 a file is refused
-or isn't there; 5 another make or late works in OUT
+status: 0 all sites are READY and OUT/current leads to them; 1 a site isn't READY, the others are; 2 the
+arguments are wrong, WORK has no plan, a program is missing, or OUT can't be written; 3 a plan is refused; 4 a
+file is refused or isn't there; 5 another make or late works in OUT
 
 example: pressroom make work/monday out/monday --keys 32
 """
@@ -30,9 +31,11 @@ ENGINES = {"make": "make", "parallel": "parallel", "slurm": "sbatch"}
 def make(work, out, console, program, keys=0, engine=None, resume=False):
     """Makes a version of an edition in OUT. Returns the status, and the version where one was begun.
 
-    With `resume` the sites that are READY in the last version of the same plans and files are taken from there."""
+    With `resume` the sites that are READY in the last version of the same plans and files are taken from
+    there.
+    """
     if not plans_of(work):
-        console.tell("fault", f"{work} has no plan: no file PRESS.json with the key \"plan\"")
+        console.tell("fault", f'{work} has no plan: no file PRESS.json with the key "plan"')
         return CANT_BEGIN, None
     os.makedirs(out, exist_ok=True)
     try:
@@ -91,8 +94,11 @@ def run_parts(job, plan, sites, engine):
     """Runs a plan in parts under an engine of examples/queue; the report is the joined one."""
     queue = next(folder for folder in QUEUES if os.path.isdir(folder))
     words = [job.plan_file(plan, sites), job.version.files, job.version.path]
-    environment = {"PLATEROOM": os.path.abspath(shutil.which(job.program)), "TOOLS": os.path.join(HERE, ".."),
-                   "PARTS": os.path.abspath(job.version.file(f"{plan.name}.parts"))}
+    environment = {
+        "PLATEROOM": os.path.abspath(shutil.which(job.program)),
+        "TOOLS": os.path.join(HERE, ".."),
+        "PARTS": os.path.abspath(job.version.file(f"{plan.name}.parts")),
+    }
     with job.seconds.of("run"):
         return runs.call([os.path.join(queue, f"{engine}.sh"), *words], job.done.look, environment)
 
@@ -104,16 +110,32 @@ def key_count(text):
 
 
 def read_words():
-    parser = argparse.ArgumentParser(description=__doc__, formatter_class=argparse.RawDescriptionHelpFormatter)
-    parser.add_argument("work", metavar="WORK", help="the folder of the plans PRESS.json, with the folder files")
+    parser = argparse.ArgumentParser(
+        description=__doc__, formatter_class=argparse.RawDescriptionHelpFormatter
+    )
+    parser.add_argument(
+        "work", metavar="WORK", help="the folder of the plans PRESS.json, with the folder files"
+    )
     parser.add_argument("out", metavar="OUT", help="the folder of this edition's versions")
-    parser.add_argument("--keys", metavar="N", type=key_count, default=0,
-                        help="also count the pixels of each plate in N ink keys, 1 to 64, into PRESS.report")
-    parser.add_argument("--parts", action="store_true", help="run each plan in parts, for editions too large for one run")
+    parser.add_argument(
+        "--keys",
+        metavar="N",
+        type=key_count,
+        default=0,
+        help="also count the pixels of each plate in N ink keys, 1 to 64, into PRESS.report",
+    )
+    parser.add_argument(
+        "--parts", action="store_true", help="run each plan in parts, for editions too large for one run"
+    )
     parser.add_argument("--engine", choices=ENGINES, default="make", help="what runs the parts (make)")
-    parser.add_argument("--resume", action="store_true",
-                        help="take the sites that are READY in the last version of the same plans and files from there")
-    parser.add_argument("--program", metavar="PATH", help="the program; without it PLATEROOM, then the path, are asked")
+    parser.add_argument(
+        "--resume",
+        action="store_true",
+        help="take the sites that are READY in the last version of the same plans and files from there",
+    )
+    parser.add_argument(
+        "--program", metavar="PATH", help="the program; without it PLATEROOM, then the path, are asked"
+    )
     parser.add_argument("--json", action="store_true", help="one JSON object a line for each event")
     words = parser.parse_args()
     if words.parts and words.keys:

@@ -16,7 +16,10 @@ HELP = {
     "faults_total": ("counter", "Faults that were told since the counter's file was made."),
     "passes_total": ("counter", "Passes over the spool that came to their end."),
     "last_pass_timestamp_seconds": ("gauge", "When the last pass ended."),
-    "last_ready_age_seconds": ("gauge", "How long ago all sites of an edition were READY last; absent before the first."),
+    "last_ready_age_seconds": (
+        "gauge",
+        "How long ago all sites of an edition were READY last; absent before the first.",
+    ),
     "undelivered_sites": ("gauge", "Sites that are READY and wait for their delivery."),
     "disk_free_bytes": ("gauge", "Free bytes of the spool's disk."),
 }
@@ -35,20 +38,35 @@ def text(values):
 
 def values(spool, states, counts):
     """The metrics of a spool, by the states of its editions."""
-    ages = sorted((age, name) for name, state in states.items()
-                  for age in [elapsed(state.get("ready", {}).get("at"))] if age is not None)
-    found = {"editions": [(f'{{folder="{folder}"}}', folders(os.path.join(spool, folder)))
-                          for folder in ("in", "done", "failed")]}
+    ages = sorted(
+        (age, name)
+        for name, state in states.items()
+        for age in [elapsed(state.get("ready", {}).get("at"))]
+        if age is not None
+    )
+    found = {
+        "editions": [
+            (f'{{folder="{folder}"}}', folders(os.path.join(spool, folder)))
+            for folder in ("in", "done", "failed")
+        ]
+    }
     if ages:
         report = last_report(spool, ages[0][1], states[ages[0][1]])
         steps = report.get("seconds", {}) | states[ages[0][1]].get("seconds", {})
-        found |= {"pages": report.get("pages", 0), "plates": report.get("plates", 0),
-                  "step_seconds": [(f'{{step="{step}"}}', seconds) for step, seconds in sorted(steps.items())],
-                  "last_ready_age_seconds": round(ages[0][0], 3)}
+        found |= {
+            "pages": report.get("pages", 0),
+            "plates": report.get("plates", 0),
+            "step_seconds": [(f'{{step="{step}"}}', seconds) for step, seconds in sorted(steps.items())],
+            "last_ready_age_seconds": round(ages[0][0], 3),
+        }
     waiting = sum(len(state.get("undelivered", {})) for state in states.values())
-    return found | {"faults_total": counts["faults"], "passes_total": counts["passes"],
-                    "last_pass_timestamp_seconds": round(time.time(), 3), "undelivered_sites": waiting,
-                    "disk_free_bytes": shutil.disk_usage(spool).free}
+    return found | {
+        "faults_total": counts["faults"],
+        "passes_total": counts["passes"],
+        "last_pass_timestamp_seconds": round(time.time(), 3),
+        "undelivered_sites": waiting,
+        "disk_free_bytes": shutil.disk_usage(spool).free,
+    }
 
 
 def folders(path):

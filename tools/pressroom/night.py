@@ -1,20 +1,20 @@
 """One pass over a spool of editions: what is complete is made, verified, delivered, and moved to done/.
 
-SPOOL has house.toml with the tables [night] and [delivery], and the folders in/, work/, out/, done/, failed/ and
-state/, which are made where they aren't there. An edition is a folder in/NAME: pages as `pressroom intake` takes
-them, or a plan PRESS.json for each press with the folder files. It begins when it has a file READY, or is unchanged
-for the house's time. A folder in/NAME of an edition that is in done/ has pages that came late. A pass ends when
-nothing can be done at once, and says in how many seconds the next one is worth while. It may be killed at any moment:
-the next one goes on. Two at once share the editions.
+SPOOL has house.toml with the tables [night] and [delivery], and the folders in/, work/, out/, done/, failed/
+and state/, which are made where they aren't there. An edition is a folder in/NAME: pages as `pressroom
+intake` takes them, or a plan PRESS.json for each press with the folder files. It begins when it has a file
+READY, or is unchanged for the house's time. A folder in/NAME of an edition that is in done/ has pages that
+came late. A pass ends when nothing can be done at once, and says in how many seconds the next one is worth
+while. It may be killed at any moment: the next one goes on. Two at once share the editions.
 
-status: 0 nothing is wrong, or what is wrong is tried again by a later pass; 1 an edition was moved to failed/, or
-given up; 2 the arguments or the house file are wrong, or a program is missing; 3 the spool can't be read or written
+status: 0 nothing is wrong, or what is wrong is tried again by a later pass; 1 an edition was moved to
+failed/, or given up; 2 the arguments or the house file are wrong, or a program is missing; 3 the spool can't
+be read or written
 
 example: pressroom night /var/spool/pressroom --json
 """
 import argparse
 import fcntl
-import json
 import os
 import shutil
 
@@ -105,8 +105,11 @@ class Night:
         states = self.states()
         keep = self.house.night["keep"]
         for folder in ("done", "failed"):
-            ended = [(state.get("number"), name) for name, state in states.items()
-                     if state.get("number") and os.path.isdir(os.path.join(self.spool, folder, name))]
+            ended = [
+                (state.get("number"), name)
+                for name, state in states.items()
+                if state.get("number") and os.path.isdir(os.path.join(self.spool, folder, name))
+            ]
             for _, name in sorted(ended)[:-keep]:
                 self.remove(name)
         for name, state in states.items():
@@ -141,8 +144,8 @@ class Night:
 
 
 def old_versions(out, keep):
-    """The versions that go: those that aren't READY anywhere, but for the last one, and those that are READY and older
-    than `current` and the last `keep`."""
+    """The versions that go: those that aren't READY anywhere, but for the last one, and those that are
+    READY and older than `current` and the last `keep`."""
     every = [version.Version(out, name) for name in version.versions(out)]
     now = version.current(out)
     some = [one for one in every if one.ready_sites()]
@@ -151,9 +154,13 @@ def old_versions(out, keep):
 
 
 def read_words():
-    parser = argparse.ArgumentParser(description=__doc__, formatter_class=argparse.RawDescriptionHelpFormatter)
+    parser = argparse.ArgumentParser(
+        description=__doc__, formatter_class=argparse.RawDescriptionHelpFormatter
+    )
     parser.add_argument("spool", metavar="SPOOL", help="the folder of the spool, with house.toml")
-    parser.add_argument("--program", metavar="PATH", help="the program; without it PLATEROOM, then the path, are asked")
+    parser.add_argument(
+        "--program", metavar="PATH", help="the program; without it PLATEROOM, then the path, are asked"
+    )
     parser.add_argument("--json", action="store_true", help="one JSON object a line for each event")
     return parser.parse_args()
 

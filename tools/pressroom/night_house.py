@@ -12,20 +12,33 @@ class Fault(Exception):
 
 def number(least, most):
     words = f"a number of {least} to {most}"
-    return words, lambda value: isinstance(value, (int, float)) and not isinstance(value, bool) and least <= value <= most
+    return (
+        words,
+        lambda value: isinstance(value, (int, float))
+        and not isinstance(value, bool)
+        and least <= value <= most,
+    )
 
 
 def whole(least, most):
     words = f"a whole number of {least} to {most}"
-    return words, lambda value: isinstance(value, int) and not isinstance(value, bool) and least <= value <= most
+    return (
+        words,
+        lambda value: isinstance(value, int) and not isinstance(value, bool) and least <= value <= most,
+    )
 
 
 TRUTH = "true or false", lambda value: isinstance(value, bool)
-PATH = "a path from the root", lambda value: isinstance(value, str) and value.startswith("/") and "\0" not in value
-WORDS = "a list of options, such as [\"-e\", \"ssh -p 2222\"]", lambda value: isinstance(value, list) and all(
-    isinstance(word, str) and word and word.isprintable() for word in value)
-TARGET = "a folder, such as \"oslo.example:plates\"", lambda value: isinstance(value, str) and bool(
-    re.fullmatch(r"[^-\x00-\x1f][^\x00-\x1f]*", value))
+PATH = (
+    "a path from the root",
+    lambda value: isinstance(value, str) and value.startswith("/") and "\0" not in value,
+)
+WORDS = 'a list of options, such as ["-e", "ssh -p 2222"]', lambda value: isinstance(value, list) and all(
+    isinstance(word, str) and word and word.isprintable() for word in value
+)
+TARGET = 'a folder, such as "oslo.example:plates"', lambda value: isinstance(value, str) and bool(
+    re.fullmatch(r"[^-\x00-\x1f][^\x00-\x1f]*", value)
+)
 SITE = re.compile(r"[A-Za-z0-9_]{1,16}")
 
 # Each key with the value that it has where it isn't given, and what it takes.
@@ -37,7 +50,7 @@ NIGHT = {
     "tries": (10, whole(1, 1000)),
     "keep": (14, whole(1, 1000)),
     "versions": (3, whole(1, 100)),
-    "least_free": (2000, number(0, 10 ** 9)),
+    "least_free": (2000, number(0, 10**9)),
     "keys": (0, whole(0, 64)),
     "parts": (False, TRUTH),
     "metrics": (None, PATH),
@@ -72,10 +85,15 @@ def read(path):
         raise Fault(f"{place(path, text, 'delivery', 'sites')}: delivery.sites isn't a table")
     for site, target in sites.items():
         if not SITE.fullmatch(site):
-            raise Fault(f"{place(path, text, 'delivery.sites', site)}: delivery.sites: {site!r} isn't a site's name")
+            raise Fault(
+                f"{place(path, text, 'delivery.sites', site)}: delivery.sites: {site!r} isn't a site's name"
+            )
         test(path, text, "delivery.sites", site, target, TARGET)
-    return NightHouse(filled(path, text, "night", table(path, text, tables, "night"), NIGHT),
-                      filled(path, text, "delivery", delivery, DELIVERY), sites)
+    return NightHouse(
+        filled(path, text, "night", table(path, text, tables, "night"), NIGHT),
+        filled(path, text, "delivery", delivery, DELIVERY),
+        sites,
+    )
 
 
 def table(path, text, tables, name):
@@ -90,7 +108,9 @@ def filled(path, text, name, given, keys):
     """All keys of a table, as given or as they are where they aren't."""
     for key, value in given.items():
         if key not in keys:
-            raise Fault(f"{place(path, text, name, key)}: {name}.{key} is unknown; there are {', '.join(keys)}")
+            raise Fault(
+                f"{place(path, text, name, key)}: {name}.{key} is unknown; there are {', '.join(keys)}"
+            )
         test(path, text, name, key, value, keys[key][1])
     return {key: given.get(key, without) for key, (without, _) in keys.items()}
 

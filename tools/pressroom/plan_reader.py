@@ -43,7 +43,9 @@ class Plan:
             pages = printed(self.value, section, the_site)
             for number, pair in enumerate(zip(pages[: len(pages) // 2], reversed(pages)), 1):
                 both = inks[pair[0]] + inks[pair[1]]
-                has = [ink for ink in INKS if ink in ("K" if "C" not in both else "CMYK") or ink == "S" in both]
+                has = [
+                    ink for ink in INKS if ink in ("K" if "C" not in both else "CMYK") or ink == "S" in both
+                ]
                 names += [f"{self.value['edition']}-{section['name']}-{number:03}-{ink}.tif" for ink in has]
         return names
 

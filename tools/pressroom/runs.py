@@ -34,8 +34,14 @@ class Call:
 def call(words, look=lambda: None, environment=None):
     """Runs a program and calls `look` every now and then until it ends. A signal N is the status 128 + N."""
     with tempfile.TemporaryFile() as out, tempfile.TemporaryFile() as note:
-        process = subprocess.Popen(words, stdin=subprocess.DEVNULL, stdout=out, stderr=note,
-                                   env=os.environ | (environment or {}), pass_fds=Lock.held)
+        process = subprocess.Popen(
+            words,
+            stdin=subprocess.DEVNULL,
+            stdout=out,
+            stderr=note,
+            env=os.environ | (environment or {}),
+            pass_fds=Lock.held,
+        )
         while process.poll() is None:
             look()
             try:
@@ -52,7 +58,8 @@ def call(words, look=lambda: None, environment=None):
 
 
 def command(name, *words):
-    """The words that start a command of pressroom: by the entry that PRESSROOM names, else by this package's."""
+    """The words that start a command of pressroom: by the entry that PRESSROOM names, else by this
+    package's."""
     entry = os.environ.get("PRESSROOM")
     start = [entry] if entry else [sys.executable, "-B", os.path.join(HERE, "..", "pressroom.py")]
     return [*start, name, *words]

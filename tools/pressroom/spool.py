@@ -1,12 +1,13 @@
 """A spool of editions, as it lies on the disk:
 
     house.toml          what holds for all editions
-    in/NAME/            an edition as it arrives: pages, or plans PRESS.json with the folder files; READY when all is there
+    in/NAME/            an edition as it arrives: pages, or plans PRESS.json with the folder files; last READY
     work/NAME/          what is made of it for the plates: WORK of `pressroom make`
     out/NAME/           its versions: OUT of `pressroom make`
     done/NAME/          what came in, when all plates are delivered
     failed/NAME/        what came in, where no plates can be made of it, or a site can't be reached
-    state/NAME.json     what was seen and tried, for the next pass; NAME.lock, held while a pass works on the edition
+    state/NAME.json     what was seen and tried, for the next pass
+    state/NAME.lock     held while a pass works on the edition
 """
 import hashlib
 import json
@@ -27,9 +28,14 @@ def editions(spool):
     """The names of all editions of a spool, those that wait first in the order of their names."""
     names = []
     for folder in ("in", "done", "failed"):
-        names += sorted(name for name in os.listdir(os.path.join(spool, folder)) if is_edition(spool, folder, name))
-    names += sorted(name[:-5] for name in os.listdir(os.path.join(spool, "state"))
-                    if name.endswith(".json") and NAME.fullmatch(name[:-5]))
+        names += sorted(
+            name for name in os.listdir(os.path.join(spool, folder)) if is_edition(spool, folder, name)
+        )
+    names += sorted(
+        name[:-5]
+        for name in os.listdir(os.path.join(spool, "state"))
+        if name.endswith(".json") and NAME.fullmatch(name[:-5])
+    )
     return list(dict.fromkeys(names))
 
 
@@ -39,7 +45,8 @@ def is_edition(spool, folder, name):
 
 
 def files_below(folder):
-    """The paths of the regular files below a folder: none that is hidden, under way (.part), or the mark READY."""
+    """The paths of the regular files below a folder: none that is hidden, under way (.part), or the mark
+    READY."""
     found = []
     for at, folders, names in os.walk(folder):
         folders[:] = sorted(name for name in folders if not name.startswith("."))
@@ -61,7 +68,8 @@ def is_marked(folder):
 
 
 def signature(folder):
-    """What tells whether any file below a folder is another one, or was written to; None where there is no file."""
+    """What tells whether any file below a folder is another one, or was written to; None where there is no
+    file."""
     lines = []
     for name in files_below(folder):
         try:
@@ -78,7 +86,8 @@ class Edition:
     def __init__(self, spool, name):
         self.name = name
         self.incoming, self.work, self.out, self.done, self.failed, _ = (
-            os.path.join(spool, folder, name) for folder in FOLDERS)
+            os.path.join(spool, folder, name) for folder in FOLDERS
+        )
         self.state_file = os.path.join(spool, "state", f"{name}.json")
         self.lock_file = os.path.join(spool, "state", f"{name}.lock")
         self.state, self.saved = {}, None
@@ -117,17 +126,18 @@ class Edition:
         if every.get(name, {}).get("signature", "") != now:
             every[name] = {"signature": now, "since": stamp()}
         if is_ready:
-            # READY says that it is worth another try, also of what was refused before.
+            # READY says that it is worth another look, also at what was refused, or is done.
             every[name]["ready"] = True
-            self.state.pop("refused", None)
-            self.state.pop("given_up", None)
+            for key in ("refused", "given_up", "complete"):
+                self.state.pop(key, None)
         self.save()
         if is_ready:
             disk.remove(kept)
         return now
 
     def seen(self, folder):
-        """What `watch` noted of a folder: its signature, since when it has it, and whether READY was there."""
+        """What `watch` noted of a folder: its signature, since when it has it, and whether READY was
+        there."""
         return self.state["seen"][os.path.basename(os.path.dirname(folder))]
 
     def plans(self):
@@ -170,7 +180,8 @@ class Edition:
             disk.sync_folder(os.path.dirname(path))
 
     def remove_all(self):
-        """Removes all that there is of the edition, its state last, so that a pass that is killed goes on with it."""
+        """Removes all that there is of the edition, its state last, so that a pass that is killed goes on
+        with it."""
         self.state = {"removing": True}
         self.save()
         for path in (self.out, self.work, self.done, self.failed, self.state_file):

@@ -1,4 +1,5 @@
-"""The versions of an edition: OUT has a folder DATE-TIME for each time that plates were made, and a link `current`.
+"""The versions of an edition: OUT has a folder DATE-TIME for each time that plates were made, and a link
+`current`.
 
 A version holds, with names that no site can have:
 
@@ -16,7 +17,14 @@ from pressroom import disk
 from pressroom.plan_reader import plans_of
 
 FORM = "%Y%m%d-%H%M%S"
-CURRENT, LOCK, SOURCE, SUMS, READY, REPORT = "current", ".lock", "made-from", "SHA256SUMS", "READY", "report.json"
+CURRENT, LOCK, SOURCE, SUMS, READY, REPORT = (
+    "current",
+    ".lock",
+    "made-from",
+    "SHA256SUMS",
+    "READY",
+    "report.json",
+)
 
 
 def versions(out):
@@ -36,7 +44,8 @@ def current(out):
 
 
 def begin(out):
-    """Makes the folder of a new version. Its name is later than all others, also where the clock went back."""
+    """Makes the folder of a new version. Its name is later than all others, also where the clock went
+    back."""
     now = time.time()
     for name in versions(out)[-1:]:
         now = max(now, calendar.timegm(time.strptime(name, FORM)) + 1)
@@ -69,7 +78,8 @@ class Version:
         return plans_of(self.source)
 
     def take(self, work):
-        """Takes the plans of WORK and the files that they name, so that what comes later changes nothing here."""
+        """Takes the plans of WORK and the files that they name, so that what comes later changes nothing
+        here."""
         os.makedirs(self.files)
         for plan in plans_of(work):
             disk.write_whole(os.path.join(self.source, f"{plan.name}.json"), plan.text)
@@ -89,7 +99,8 @@ class Version:
         return self.taken_sums() == self.source_sums()
 
     def taken_sums(self):
-        """The sums of plans and files as they were when this version was begun; None where it never got so far."""
+        """The sums of plans and files as they were when this version was begun; None where it never got so
+        far."""
         try:
             with open(os.path.join(self.source, SUMS), "rb") as file:
                 return file.read()
@@ -107,7 +118,8 @@ class Version:
         return sorted(name for name in os.listdir(self.path) if self.is_ready(name))
 
     def ready(self, site, plates, edition, since=None, made=()):
-        """Writes a site's SHA256SUMS and then READY. `since` names the version of which `made` are the changes."""
+        """Writes a site's SHA256SUMS and then READY. `since` names the version of which `made` are the
+        changes."""
         sums = sums_text({name: disk.sha256(self.file(site, name)) for name in plates})
         disk.write_whole(self.file(site, SUMS), sums)
         lines = [f"edition {edition}", f"version {self.name}", f"plates {len(plates)}"]
