@@ -13,7 +13,7 @@ from spools import Spool
 
 RSYNC = """#!/bin/sh
 case "$*" in *bergen*)
-  echo x >> '{folder}/calls'
+  echo "$*" >> '{folder}/calls'
   if [ "$(wc -l < '{folder}/calls')" -le {fails} ]; then
     echo 'rsync: no route to host' >&2
     exit 12
@@ -46,7 +46,8 @@ def delivery(tried, paper, folder):
             events = spool.rest(name)
             spool.done(name, "MORNING")
             with open(os.path.join(spool.folder, "calls"), encoding="utf-8") as file:
-                spool.holds("calls", len(file.readlines()) == 4, "plates twice in vain, plates, READY")
+                calls = [("--delay-updates" in line, "/READY " in line) for line in file]
+            spool.holds("calls", calls == [(True, False)] * 3 + [(False, True)], calls)
         else:
             spool.rest(name, status=1)
             spool.holds(

@@ -113,6 +113,13 @@ class Make:
         now = os.stat(self.file("current", "OSLO", "MORNING-A-001-K.tif")).st_ino
         self.holds("resumed, OSLO isn't made again", now == before, "another file")
 
+    def no_sums(self):
+        """SHA256SUMS can't be written: the site has no READY, since that comes behind it."""
+        self.fault("sums 1")
+        _, report = self.makes("no SHA256SUMS", 1, SITES[:2], current=False)
+        why = report["sites"]["TROMSO"]["why"]
+        self.holds("no SHA256SUMS, why", why.endswith("SHA256SUMS: Is a directory"), why)
+
     def refuses(self):
         """A plan or a file that is refused, a site twice: nothing is READY, and the report says why."""
         path = os.path.join(self.work, "files", "A3-text.tif")
@@ -167,6 +174,7 @@ def make_trials(tried, paper, folder):
         trial.parts,
         trial.recovers,
         trial.leaves,
+        trial.no_sums,
         trial.refuses,
         trial.begins_not,
         trial.later,

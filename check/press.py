@@ -28,6 +28,11 @@ if [ "$times" -gt 0 ] && grep -q TROMSO "$2"; then
       status=$?
       printf x | dd of="$out/TROMSO/MORNING-A-001-K.tif" bs=1 seek=200 conv=notrunc status=none
       exit $status ;;
+    sums)
+      '{program}' "$@"
+      status=$?
+      mkdir "$out/TROMSO/SHA256SUMS"
+      exit $status ;;
   esac
 fi
 exec '{program}' "$@"
