@@ -109,7 +109,7 @@ def clock(tried, paper, folder):
         ahead = ["faketime", "-f", "+2h", sys.executable, "-B", press.ENTRY, "night", spool.path]
         environment = {"PLATEROOM": spool.program}
         answer = subprocess.run(ahead, capture_output=True, text=True, env=os.environ | environment)
-        spool.holds("ahead", answer.returncode == 0 and "done" in answer.stdout, answer)
+        spool.holds("ahead", answer.returncode == 0 and "finished: " in answer.stdout, answer)
         spool.late("MORNING", "A3-text.tif", "A2-text.tif", ready=False)
         spool.rest("back")
         spool.done("back", "MORNING")

@@ -134,6 +134,7 @@ class Arrival:
             self.tell_once("waits", "too little free disk", step="disk")
             self.look_in(self.house.night["pause"])
             return False
+        self.state.pop("told", None)
         return True
 
     def refuse(self, lines):

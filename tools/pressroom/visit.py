@@ -202,5 +202,5 @@ class Visit(Arrival):
         """Moves what came in to done/, when all plates are delivered."""
         if home == self.edition.incoming:
             self.edition.move(home, self.edition.done)
-            self.console.tell("finished", "done")
+            self.console.tell("finished", "what came in is in done/ now")
             self.look_in(0)
