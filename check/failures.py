@@ -34,14 +34,16 @@ def delivery(tried, paper, folder):
         os.chmod(os.path.join(stand, "rsync"), 0o755)
         spool.environment = {"PATH": f"{stand}:{os.environ['PATH']}"}
         spool.comes("MORNING")
-        spool.house(delivery={"pause": 3, "longest_pause": 3, "tries": 4})
+        spool.house(delivery={"pause": 600, "longest_pause": 600, "tries": 4})
         code, events, _ = spool.once()
         sent = [event["site"] for event in events if event["event"] == "sent"]
         spool.holds("the others have theirs", code == 0 and sorted(sent) == ["OSLO", "TROMSO"], events)
         faults = [event["why"] for event in events if event["event"] == "fault"]
         spool.holds("the fault is named", faults == ["rsync: no route to host"], faults)
         again = spool.once()[1]
-        spool.holds("not at once again", not [event for event in again if event["event"] == "fault"], again)
+        spool.holds("not at once again", [event["event"] for event in again] == ["rest"], again)
+        spool.holds("the next try", 300 < again[-1]["seconds"] <= 600, again)
+        spool.house(delivery={"tries": 4})
         if fails == 2:
             events = spool.rest(name)
             spool.done(name, "MORNING")
