@@ -46,8 +46,16 @@ copy() { # FOLDER FILES..
   git ls-files -z -- "$@" ':!:**/.gitignore' | tar --null -T - -c | tar -x -C "$to" --no-same-owner
 }
 copy "$root/usr/share/plateroom" tools
+ln -s ../share/plateroom/tools/pressroom.py "$root/usr/bin/pressroom"
+
+# The units of a night's service. Nothing enables or starts them: docs/MANUAL.md says how.
+units=$root/usr/lib/systemd/system
+install -d "$units" "$root/usr/lib/tmpfiles.d" "$root/usr/lib/sysusers.d"
+install -m 644 package/systemd/*.service package/systemd/*.path package/systemd/*.timer "$units"
+install -m 644 package/systemd/pressroom.tmpfiles "$root/usr/lib/tmpfiles.d/pressroom.conf"
+install -m 644 package/systemd/pressroom.sysusers "$root/usr/lib/sysusers.d/pressroom.conf"
 find "$root" -type d -exec chmod 755 {} +
-find "$root/usr/share" -type f -exec chmod 644 {} +
+find "$root/usr/share" "$root/usr/lib" -type f -exec chmod 644 {} +
 find "$root/usr/share" -type f \( -name '*.py' -o -name '*.sh' \) -exec sh -c \
   'for file; do head -c 2 "$file" | grep -q "^#!" && chmod 755 "$file"; done; true' sh {} +
 
