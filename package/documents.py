@@ -25,6 +25,7 @@ DOCUMENTS = {
     "docs/EDITORS.md": "EDITORS.md",
     "docs/plan.schema.json": "plan.schema.json",
     "docs/newspaper.png": "newspaper.png",
+    "docs/web.png": "web.png",
 }
 
 # An image's link begins with `!`. A link's place is a path, a fragment or both.

@@ -14,6 +14,7 @@ import random
 import sys
 
 from draw import Bitmap, Face, Fields, Picture, fitted, write_line, write_picture
+from pdf import write_page
 from pictures import FRUIT, GLOBE, aurora, city, hills, sunset
 
 HERE = os.path.dirname(os.path.abspath(__file__))
@@ -167,19 +168,30 @@ class Edition:
     """Where the images go, and what all pages share."""
 
     def __init__(self, folder):
-        self.folder, self.files = folder, set()
+        self.folder, self.images = folder, {}
         os.makedirs(folder, exist_ok=True)
 
     def save_line(self, name, bitmap, photometric=0):
-        if name not in self.files:
+        if name not in self.images:
             write_line(os.path.join(self.folder, name), bitmap, photometric)
-            self.files.add(name)
+            self.images[name] = bitmap
 
     def draw(self, name, picture, **form):
         """Draws a picture, once where several pages have it."""
-        if name not in self.files:
-            write_picture(os.path.join(self.folder, name), picture(), **form)
-            self.files.add(name)
+        if name not in self.images:
+            self.images[name] = picture()
+            write_picture(os.path.join(self.folder, name), self.images[name], **form)
+
+    def write_pages(self, plan, folder):
+        """Writes each page as a PDF file: A1.pdf and so on, those of a zone in a folder of its name."""
+        files = {page["name"]: f"{page['name']}.pdf" for page in plan["pages"]}
+        for zone in plan["zones"]:
+            os.makedirs(os.path.join(folder, zone["name"]), exist_ok=True)
+            for item in zone["replace"]:
+                files[item["with"]] = f"{zone['name']}/{item['section']}{item['page']}.pdf"
+        for page in plan["pages"]:
+            path = os.path.join(folder, files[page["name"]])
+            write_page(path, page, self.images, plan["page"], plan["dpi"])
 
     def slugs(self, name):
         """The names of plates that a page carries: of an ink the even page of a pair, where it prints it."""
@@ -355,9 +367,8 @@ def tile(name):
         return json.load(file)
 
 
-def make(folder):
+def make(edition):
     """Draws all images and gives the plan."""
-    edition = Edition(folder)
     pages = [
         front(edition, "A1", 1, "Harbour opens after winter", sunset, {"each": 16}),
         news(edition, "A2", 2, "News", "A bridge that nobody asked for", "Library stays open at night", city),
@@ -447,11 +458,17 @@ def main():
         default=os.path.join(HERE, "plan.json"),
         help="the plan to write (plan.json, beside this file)",
     )
+    parser.add_argument(
+        "--pages", metavar="FOLDER", help="write the pages as PDF files too, for `pressroom intake`"
+    )
     words = parser.parse_args()
     try:
-        plan = make(words.art)
+        edition = Edition(words.art)
+        plan = make(edition)
         with open(words.plan, "w", encoding="utf-8") as file:
             file.write(laid(plan) + "\n")
+        if words.pages:
+            edition.write_pages(plan, words.pages)
     except OSError as error:
         print(f"make.py: {error.filename}: {error.strerror}", file=sys.stderr)
         return 2

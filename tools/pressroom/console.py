@@ -13,11 +13,16 @@ PACKAGES = {
     "qpdf": "qpdf",
     "pdfinfo": "poppler-utils",
     "pdffonts": "poppler-utils",
-    "pdfimages": "poppler-utils",
+    "pdftohtml": "poppler-utils",
     "pdftoppm": "poppler-utils",
+    "prlimit": "util-linux",
     "tiffcp": "libtiff-tools",
+    "tiffinfo": "libtiff-tools",
     "vips": "libvips-tools",
     "rsync": "rsync",
+    "make": "make",
+    "parallel": "parallel",
+    "sbatch": "slurm-wlm",
 }
 
 
@@ -33,20 +38,44 @@ def need(*programs):
             raise Missing(f"{program} is not installed: apt-get install {package}")
 
 
+def fault_of(error):
+    """What an OSError says, with its file where it names one."""
+    return f"{error.filename}: {error.strerror}" if error.filename else str(error)
+
+
+class NoBar:
+    """Stands for a bar of progress where tqdm isn't installed."""
+
+    def update(self, count):
+        pass
+
+    def close(self):
+        pass
+
+
 class Console:
     """Writes events as text or as JSON lines, and counts them by kind."""
 
     def __init__(self, name, as_json=False):
         self.name = name
         self.as_json = as_json
-        self.counts = {}
+        self.counts, self.fields, self.drawn = {}, {}, None
+
+    def about(self, **fields):
+        """A console that counts with this one, and whose events have these fields too."""
+        other = Console(self.name, self.as_json)
+        other.counts, other.fields = self.counts, self.fields | fields
+        return other
 
     def tell(self, event, text, **fields):
         """Tells one event: its text to people, all fields as JSON. `event` is a word such as fault, note, page."""
         self.counts[event] = self.counts.get(event, 0) + 1
         if self.as_json:
-            print(json.dumps({"event": event, "text": text, **fields}, ensure_ascii=False), flush=True)
+            fields = {"event": event, "text": text, **self.fields, **fields}
+            print(json.dumps(fields, ensure_ascii=False), flush=True)
         else:
+            if self.drawn is not None:
+                self.drawn.clear()
             print(text if event == "done" else f"{event}: {text}", flush=True)
 
     def bar(self, items, words, total=None):
@@ -55,7 +84,17 @@ class Console:
             from tqdm import tqdm
         except ImportError:
             return items
-        return tqdm(items, desc=words, total=total, delay=2, leave=False, disable=True if self.as_json else None)
+        hidden = True if self.as_json else None
+        self.drawn = tqdm(items, desc=words, total=total, delay=2, leave=False, disable=hidden)
+        return self.drawn
+
+    def gauge(self, words, total):
+        """A bar that `update(N)` moves and `close()` ends, shown under the same conditions as `bar`."""
+        try:
+            from tqdm import tqdm
+        except ImportError:
+            return NoBar()
+        return tqdm(desc=words, total=total, delay=2, leave=False, disable=True if self.as_json else None)
 
     def leave(self, status, text):
         """Ends the command with this status and line, under its name, on standard error."""

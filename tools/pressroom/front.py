@@ -8,10 +8,16 @@ from pressroom import __version__
 # `sys.argv` and returns the exit status. A module is imported only where its command runs, so that a command needs its
 # own libraries alone.
 COMMANDS = {
+    "intake": "make plans and files out of the PDFs of a night",
     "check": "report every fault of a plan and its files, and what would be lost without a fault",
+    "late": "make the plates of a page that came late, beside those of its edition",
+    "make": "make the plates of an edition: check, run, verify, READY",
+    "night": "one pass over a spool of editions, for systemd or cron",
     "parts": "cut an edition into parts for several machines",
+    "ppf": "write ink key files (CIP3 PPF) and tables of ink keys",
     "proof": "draw a picture of what a site's plates print",
     "tile": "write a clustered threshold tile for a plan",
+    "web": "make a proof of an edition's plates for the browser",
 }
 
 USAGE = """usage: pressroom COMMAND [ARGUMENT ..]

@@ -10,6 +10,7 @@ PACKBITS = 32773
 DEFAULTS = {258: (1,), 259: (1,), 277: (1,), 278: (4294967295,), 284: (1,)}
 # What values of a field's type take: BYTE, SHORT and LONG.
 TYPES = {1: (1, "B"), 3: (2, "H"), 4: (4, "I")}
+RATIONAL = 5
 
 
 class Broken(Exception):
@@ -74,12 +75,14 @@ class Tiff:
         if place == 0:
             raise Broken(f"{self.path}: begun and not finished: it has no directory")
         count = struct.unpack(self.order + "H", self.at(place, 2))[0]
-        self.fields = {}
+        self.fields, self.rationals = {}, {}
         entries = self.at(place + 2, 12 * count)
         for i in range(0, len(entries), 12):
             tag, kind, number = struct.unpack(self.order + "HHI", entries[i : i + 8])
             if tag not in self.fields and kind in TYPES:
                 self.fields[tag] = kind, number, entries[i + 8 : i + 12]
+            elif kind == RATIONAL:
+                self.rationals.setdefault(tag, struct.unpack(self.order + "I", entries[i + 8 : i + 12])[0])
         self.width, self.length = self.number(256), self.number(257)
         self.bits, self.samples = self.number(258), self.number(277)
         self.packed, self.photometric = self.number(259) == PACKBITS, self.number(262)
@@ -113,6 +116,15 @@ class Tiff:
         if not values:
             raise Broken(f"{self.path}: tag {tag} has no value")
         return values[0]
+
+    def rational(self, tag):
+        """The first value of a field of fractions."""
+        if tag not in self.rationals:
+            raise Broken(f"{self.path}: tag {tag} isn't there")
+        above, below = struct.unpack(self.order + "II", self.at(self.rationals[tag], 8))
+        if not above or not below:
+            raise Broken(f"{self.path}: tag {tag} is {above}/{below}")
+        return above / below
 
     def rows_of(self, strip):
         """How many rows a strip of a plane has."""

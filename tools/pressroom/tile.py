@@ -104,6 +104,12 @@ def nearest(angle, ruling, dpi, largest):
     return [grid for _, grid in sorted(found.values(), key=lambda pair: pair[0])]
 
 
+def is_near(grid, angle, ruling, dpi):
+    """Whether a grid is near enough to what is wanted to print by it."""
+    turn, part = grid.off(angle, ruling, dpi)
+    return turn <= OFF_ANGLE and part <= OFF_RULING
+
+
 def tile_text(name, grid, at):
     """The tile as the plan wants it, a row on each line."""
     rows = (", ".join(map(str, at[i : i + grid.side])) for i in range(0, len(at), grid.side))
@@ -204,8 +210,7 @@ def main():
         for grid in grids[:SHOWN]:
             print(grid.line(dpi))
         return 0
-    turn, part = grids[0].off(words.angle, words.ruling, dpi) if grids else (math.inf, math.inf)
-    if turn > OFF_ANGLE or part > OFF_RULING:
+    if not grids or not is_near(grids[0], words.angle, words.ruling, dpi):
         near = f"the nearest has {grids[0].line(dpi)}" if grids else "there is none"
         print(
             f"tile.py: no tile of side up to {words.largest:.0f} comes near {words.angle:g} degrees and "

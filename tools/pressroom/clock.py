@@ -1,0 +1,61 @@
+"""Time that passes, also where the clock is set back: a stamp names the boot and its own clock beside the
+hour."""
+import time
+
+
+def boot():
+    """What names this boot of the machine."""
+    with open("/proc/sys/kernel/random/boot_id", encoding="ascii") as file:
+        return file.read().strip()
+
+
+def stamp():
+    """The present moment, to be kept in a file."""
+    return {
+        "boot": boot(),
+        "uptime": round(time.clock_gettime(time.CLOCK_BOOTTIME), 3),
+        "hour": round(time.time(), 3),
+    }
+
+
+def elapsed(before):
+    """The seconds since a stamp: by the clock of this boot, else by the hour. None where the stamp is
+    none, or lies in the future, so that nobody knows."""
+    try:
+        if before["boot"] == boot():
+            seconds = time.clock_gettime(time.CLOCK_BOOTTIME) - before["uptime"]
+        else:
+            seconds = time.time() - before["hour"]
+    except (KeyError, TypeError):
+        return None
+    return seconds if seconds >= 0 else None
+
+
+def left(before, pause):
+    """The seconds until a pause since a stamp is over, 0 where it is over or nobody knows."""
+    seconds = elapsed(before)
+    return 0 if seconds is None else max(0, pause - seconds)
+
+
+class Attempts:
+    """Tries that failed, kept in a state: each pause is twice as long as the one before, up to the
+    longest."""
+
+    def __init__(self, kept, first, longest, most):
+        self.kept, self.first, self.longest, self.most = kept, first, longest, most
+
+    def failed(self):
+        """Notes one more try that failed."""
+        self.kept["tries"] = self.kept.get("tries", 0) + 1
+        self.kept["at"] = stamp()
+
+    def wait(self):
+        """The seconds until the next try."""
+        tries = self.kept.get("tries", 0)
+        return (
+            left(self.kept.get("at"), min(self.longest, self.first * 2 ** min(tries - 1, 30))) if tries else 0
+        )
+
+    def over(self):
+        """Whether no try is left."""
+        return self.kept.get("tries", 0) >= self.most

@@ -1,0 +1,136 @@
+"""Files that arrive whole, hard links, checksums, and locks: what the commands that run at night do on
+disks."""
+import errno
+import fcntl
+import hashlib
+import os
+import shutil
+
+PART = ".part"
+# Errors of a file system, or of two of them, that has no hard links or no room for one more.
+NO_LINK = (errno.EXDEV, errno.EPERM, errno.EMLINK, errno.EOPNOTSUPP, errno.ENOSYS)
+
+
+class Busy(Exception):
+    """Another process holds the lock; the text names its file."""
+
+
+def sync_folder(path):
+    """Makes the names in a folder survive a loss of power."""
+    handle = os.open(path or ".", os.O_RDONLY | os.O_DIRECTORY)
+    try:
+        os.fsync(handle)
+    finally:
+        os.close(handle)
+
+
+def part_of(path):
+    """The name under which a file is written until it is whole: hidden, and this process's own."""
+    folder, name = os.path.split(path)
+    return os.path.join(folder, f".{name}.{os.getpid()}{PART}")
+
+
+def write_whole(path, data):
+    """Writes a file: it has its old bytes or the new ones at any moment."""
+    part = part_of(path)
+    try:
+        with open(part, "wb") as file:
+            file.write(data)
+            file.flush()
+            os.fsync(file.fileno())
+        os.rename(part, path)
+    except OSError:
+        remove(part)
+        raise
+    sync_folder(os.path.dirname(path))
+
+
+def copy_whole(source, target):
+    """Copies a file with its times: the name has its old bytes or all of the new ones at any moment."""
+    part = part_of(target)
+    os.makedirs(os.path.dirname(target), exist_ok=True)
+    try:
+        shutil.copyfile(source, part)
+        shutil.copystat(source, part)
+        with open(part, "rb+") as file:
+            os.fsync(file.fileno())
+        os.rename(part, target)
+    except OSError:
+        remove(part)
+        raise
+    sync_folder(os.path.dirname(target))
+
+
+def link_or_copy(source, target):
+    """Gives a file a second name that isn't there yet: a hard link, or a copy where there can't be one."""
+    try:
+        os.link(source, target)
+    except OSError as error:
+        if error.errno not in NO_LINK:
+            raise
+        copy_whole(source, target)
+
+
+def remove(path):
+    """Removes a file, a link or a folder with all in it; one that isn't there is no fault."""
+    try:
+        os.remove(path)
+    except IsADirectoryError:
+        shutil.rmtree(path)
+    except FileNotFoundError:
+        pass
+
+
+def move_link(path, target):
+    """Points a symbolic link somewhere else: it leads to the old or the new place at any moment."""
+    part = part_of(path)
+    remove(part)
+    os.symlink(target, part)
+    os.rename(part, path)
+    sync_folder(os.path.dirname(path))
+
+
+def sha256(path):
+    """The SHA-256 of a file, in hexadecimal digits."""
+    with open(path, "rb") as file:
+        return hashlib.file_digest(file, "sha256").hexdigest()
+
+
+class Lock:
+    """An exclusive `flock` on a file, made where it isn't there; raises Busy where another process has it.
+
+    The kernel releases it when this process and all programs that it started have ended, however they ended:
+    `held` has the handles that they inherit. `remove` removes the file while it is held.
+    """
+
+    held = set()
+
+    def __init__(self, path):
+        self.path = path
+
+    def __enter__(self):
+        while True:
+            self.file = open(self.path, "a", encoding="ascii")
+            try:
+                fcntl.flock(self.file, fcntl.LOCK_EX | fcntl.LOCK_NB)
+            except BlockingIOError:
+                self.file.close()
+                raise Busy(self.path) from None
+            if self.is_named():
+                Lock.held.add(self.file.fileno())
+                return self
+            self.file.close()
+
+    def is_named(self):
+        """Whether the locked file still has its name: the holder before may have removed it."""
+        try:
+            return os.path.samestat(os.fstat(self.file.fileno()), os.stat(self.path))
+        except FileNotFoundError:
+            return False
+
+    def remove(self):
+        os.remove(self.path)
+
+    def __exit__(self, *error):
+        Lock.held.discard(self.file.fileno())
+        self.file.close()

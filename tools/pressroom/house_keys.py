@@ -1,0 +1,170 @@
+"""The values of a house file: what each key takes, and the tables that keys are taken from, fault by fault.
+"""
+import re
+
+REQUIRED = object()
+
+
+class HouseFault(Exception):
+    """What is wrong with a house file: `lines` has each fault with its file, line and key."""
+
+    def __init__(self, lines):
+        super().__init__("\n".join(lines))
+        self.lines = lines
+
+
+class Wrong(Exception):
+    """A value isn't what its key takes; the text says what it is and what the key takes."""
+
+
+def wrong(value, words):
+    shown = repr(value)
+    return Wrong(f"{shown if len(shown) <= 60 else shown[:57] + '...'} isn't {words}")
+
+
+def number(least, most, words):
+    def read(value):
+        if isinstance(value, bool) or not isinstance(value, (int, float)) or not least <= value <= most:
+            raise wrong(value, words)
+        return value
+
+    return read
+
+
+def whole(least, most, words):
+    def read(value):
+        if isinstance(value, bool) or not isinstance(value, int) or not least <= value <= most:
+            raise wrong(value, words)
+        return value
+
+    return read
+
+
+def matching(pattern, words):
+    def read(value):
+        if not isinstance(value, str) or not re.fullmatch(pattern, value):
+            raise wrong(value, words)
+        return value
+
+    return read
+
+
+def one_of(*names):
+    return matching("|".join(names), " or ".join(map(repr, names)))
+
+
+def numbers(count, least, most, words):
+    each = number(least, most, words)
+
+    def read(value):
+        if not isinstance(value, list) or len(value) != count:
+            raise wrong(value, words)
+        return tuple(each(item) for item in value)
+
+    return read
+
+
+NAME = matching(r"[A-Za-z0-9_]{1,16}", "a name of 1 to 16 letters A to Z and a to z, digits and _")
+LENGTH = number(0, 5000, "a length of 0 to 5000 mm")
+PERCENT = number(0, 400, "a limit of 0 to 400 percent")
+COLOUR = matching(r"#[0-9A-Fa-f]{6}", "a colour such as \"#d4002a\"")
+SEPARATION = matching(r"[^\x00-\x1f]{1,60}", "the name of a separation, of 1 to 60 characters")
+INK_LETTERS = matching("(?=.)C?M?Y?K?S?", "some of the letters CMYKS, in this order")
+
+
+def pattern(value):
+    """A pattern of file names: {section}, {page}, * for anything, and text."""
+    if (
+        not isinstance(value, str)
+        or value.count("{section}") != 1
+        or value.count("{page}") != 1
+        or re.search(r"[{}/\x00-\x1f]", value.replace("{section}", "").replace("{page}", ""))
+    ):
+        raise wrong(value, "a pattern of file names with {section} and {page}, such as \"{section}{page}\"")
+    return value
+
+
+def curve(value):
+    """Points of percent and what becomes of it; each stands to the right of the one before in 255ths too."""
+    words = "a list of 2 to 32 points [percent, percent] from 0 to 100, each to the right of the one before"
+    if not isinstance(value, list) or not 2 <= len(value) <= 32:
+        raise wrong(value, words)
+    points = [numbers(2, 0, 100, "a point of two numbers of 0 to 100 percent")(point) for point in value]
+    levels = [round(point[0] * 255 / 100) for point in points]
+    if levels[0] != 0 or levels[-1] != 255 or any(a >= b for a, b in zip(levels, levels[1:])):
+        raise wrong(value, words)
+    return tuple(points)
+
+
+def cmyk_profile(path):
+    """A path that leads to an ICC profile of CMYK."""
+    try:
+        with open(path, "rb") as file:
+            head = file.read(40)
+    except OSError as error:
+        raise Wrong(f"{path} can't be read: {error.strerror}") from None
+    if head[36:40] != b"acsp" or head[16:20] != b"CMYK":
+        raise wrong(path, "an ICC profile of CMYK")
+    return path
+
+
+class Keys:
+    """The keys of one table while they are read; faults are gathered, each with its line."""
+
+    def __init__(self, table, path, faults):
+        self.table, self.path, self.faults, self.left = table, path, faults, set(table)
+
+    def take(self, key, read, default=REQUIRED):
+        """The value of a key as `read` takes it; the default where it's absent, None where it's wrong."""
+        self.left.discard(key)
+        if key not in self.table:
+            if default is REQUIRED:
+                self.faults.add(self.path, key, "is missing")
+                return None
+            return default
+        try:
+            return read(self.table[key])
+        except Wrong as error:
+            self.faults.add(self.path + (key,), None, str(error))
+            return None
+
+    def inside(self, key):
+        """The keys of a table in this one, which is empty where it's absent."""
+        self.left.discard(key)
+        table = self.table.get(key, {})
+        if not isinstance(table, dict):
+            self.faults.add(self.path + (key,), None, str(wrong(table, "a table")))
+            table = {}
+        return Keys(table, self.path + (key,), self.faults)
+
+    def each(self, key):
+        """The tables of a list of tables."""
+        self.left.discard(key)
+        items = self.table.get(key, [])
+        if not isinstance(items, list) or not all(isinstance(item, dict) for item in items):
+            self.faults.add(self.path + (key,), None, str(wrong(items, "a list of tables")))
+            items = []
+        return [Keys(item, self.path + (key, place), self.faults) for place, item in enumerate(items)]
+
+    def end(self):
+        """Names each key that nothing took."""
+        for key in self.table:
+            if key in self.left:
+                self.faults.add(self.path + (key,), None, "is no key of a house file")
+
+
+class Faults:
+    """The faults of one file, in the order of its lines."""
+
+    def __init__(self, path, lines):
+        self.path, self.lines, self.found = path, lines, []
+
+    def add(self, path, key, words):
+        """One fault at this path; `key` is one that is missing there."""
+        line = self.lines.line(path)
+        full = ".".join(map(str, path + ((key,) if key else ())))
+        self.found.append((line, f"{self.path} line {line}: {full}: {words}"))
+
+    def end(self):
+        if self.found:
+            raise HouseFault([text for _, text in sorted(self.found, key=lambda pair: pair[0])])

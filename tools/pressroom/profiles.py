@@ -1,0 +1,110 @@
+"""ICC device links: what becomes of RGB on the way to the four inks.
+
+Ghostscript's `-dBlackText` makes all text black, coloured text too, and a profile makes black of four inks.
+So RGB text and line art go through a link that is made here: by the house's profile, but for neutral
+colours, which become black ink alone of the same lightness.
+"""
+import os
+import shutil
+import struct
+
+SIDE = 33
+# Ghostscript's own profile of CMYK, for a house that names none.
+PLAIN = "/usr/share/color/icc/ghostscript/default_cmyk.icc"
+
+
+def colours():
+    """The RGB colours of the link's table: blue runs first."""
+    import numpy as np
+
+    steps = np.array([round(255 * i / (SIDE - 1)) for i in range(SIDE)], dtype=np.uint8)
+    return np.stack(np.meshgrid(steps, steps, steps, indexing="ij"), -1).reshape(SIDE * SIDE, SIDE, 3)
+
+
+def converted(profile):
+    """The four inks of all colours of the table by a CMYK profile."""
+    import numpy as np
+    from PIL import Image, ImageCms
+
+    change = ImageCms.buildTransform(
+        ImageCms.createProfile("sRGB"), profile, "RGB", "CMYK", renderingIntent=1,
+        flags=ImageCms.FLAGS["BLACKPOINTCOMPENSATION"],
+    )  # fmt: skip
+    inks = np.asarray(ImageCms.applyTransform(Image.fromarray(colours()), change))
+    return inks.reshape(SIDE, SIDE, SIDE, 4).copy()
+
+
+def blacks(profile):
+    """How much black ink alone has the lightness of each neutral step; 255 for black, 0 for white."""
+    import numpy as np
+    from PIL import Image, ImageCms
+
+    lab = ImageCms.createProfile("LAB")
+    ramp = np.zeros((1, 256, 4), dtype=np.uint8)
+    ramp[0, :, 3] = np.arange(256)
+    to_lab = ImageCms.buildTransform(profile, lab, "CMYK", "LAB", renderingIntent=1)
+    inked = np.asarray(ImageCms.applyTransform(Image.frombytes("CMYK", (256, 1), ramp.tobytes()), to_lab))
+    steps = np.array([[[round(255 * i / (SIDE - 1))] * 3 for i in range(SIDE)]], dtype=np.uint8)
+    from_rgb = ImageCms.buildTransform(ImageCms.createProfile("sRGB"), lab, "RGB", "LAB", renderingIntent=1)
+    wanted = np.asarray(ImageCms.applyTransform(Image.fromarray(steps), from_rgb))[0, :, 0].astype(float)
+    light = inked[0, :, 0].astype(float)
+    # Black ink alone doesn't reach an RGB black, so the range of lightness is stretched to the ink's.
+    stretched = light[255] + (wanted - wanted[0]) / (wanted[-1] - wanted[0]) * (light[0] - light[255])
+    return [int(np.argmin(abs(light - value))) for value in stretched]
+
+
+def link(table):
+    """The bytes of a device link from RGB to CMYK with these inks, SIDE steps either way."""
+    lut = b"mft2" + bytes(4) + bytes([3, 4, SIDE, 0])
+    lut += struct.pack(">9i", 65536, 0, 0, 0, 65536, 0, 0, 0, 65536) + struct.pack(">2H", 2, 2)
+    lut += struct.pack(">6H", *[0, 65535] * 3) + (table.astype(">u2") * 257).astype(">u2").tobytes()
+    lut += struct.pack(">8H", *[0, 65535] * 4)
+    name = b"pressroom\0"
+    described = b"desc" + bytes(4) + struct.pack(">I", len(name)) + name + bytes(78)
+    tags = {
+        b"desc": described,
+        b"cprt": b"text" + bytes(4) + b"none\0",
+        b"pseq": b"pseq" + bytes(8),
+        b"A2B0": lut,
+    }
+    place, directory, body = 132 + 12 * len(tags), struct.pack(">I", len(tags)), b""
+    for sign, data in tags.items():
+        data += bytes(-len(data) % 4)
+        directory += sign + struct.pack(">2I", place + len(body), len(data))
+        body += data
+    head = struct.pack(">I4sI", 132 + 12 * len(tags) + len(body), b"lcms", 0x02400000)
+    head += b"link" + b"RGB " + b"CMYK" + struct.pack(">6H", 2026, 1, 1, 0, 0, 0) + b"acsp"
+    head = head.ljust(68, b"\0") + struct.pack(">3I", 0xF6D6, 0x10000, 0xD32D)
+    return head.ljust(128, b"\0") + directory + body
+
+
+def write(path, data):
+    with open(path, "wb") as file:
+        file.write(data)
+
+
+def write_profiles(folder, profile):
+    """Writes what Ghostscript reads: `press.icc`, `colour.txt`, by which pages are made, and `marked.txt`.
+
+    A page that is rendered by the last two differs where RGB shows that isn't white, or neutral text or
+    line art. CMYK keeps its numbers.
+    """
+    import numpy as np
+
+    press = os.path.join(folder, "press.icc")
+    shutil.copyfile(profile or PLAIN, press)
+    table = converted(press)
+    neutral = np.arange(SIDE)
+    art = table.copy()
+    art[neutral, neutral, neutral] = [(0, 0, 0, black) for black in blacks(press)]
+    art[-1, -1, -1] = table[-1, -1, -1] = 0
+    marked_art, marked = 255 - art, 255 - table
+    marked_art[neutral, neutral, neutral] = art[neutral, neutral, neutral]
+    marked[-1, -1, -1] = 0
+    for name, data in (("art", art), ("marked-art", marked_art), ("marked-images", marked)):
+        write(os.path.join(folder, f"{name}.icc"), link(data))
+    for name, first in (("colour", ""), ("marked", "marked-")):
+        rows = [f"{kind}_RGB\t{first}art.icc\t1\t1\t1" for kind in ("Text", "Graphic")]
+        rows += [f"Image_RGB\t{first}images.icc\t1\t1\t1"] if first else []
+        # Rows of CMYK here would turn off overprint mode 1, by which black overprints on nearly every page.
+        write(os.path.join(folder, f"{name}.txt"), ("\n".join(rows) + "\n").encode())

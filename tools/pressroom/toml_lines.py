@@ -1,0 +1,122 @@
+"""The line on which each key of a TOML text stands, which tomllib doesn't report.
+
+The text has passed tomllib before, so this only follows its tables, keys, strings and brackets.
+"""
+import tomllib
+
+
+class KeyLines:
+    """Finds the line of a key by its path: a tuple of keys, with a number for each place in a list."""
+
+    def __init__(self, text):
+        self.text, self.at, self.lines, self.lists = text, 0, {(): 1}, {}
+        table = ()
+        while self.skip_blank():
+            table = self.header() if self.text[self.at] == "[" else self.pair(table)
+
+    def line(self, path):
+        """The line of this path, or of the nearest one around it that the text has."""
+        while path not in self.lines:
+            path = path[:-1]
+        return self.lines[path]
+
+    def skip_blank(self):
+        """Passes over blanks, ends of lines and comments; False at the end of the text."""
+        while self.at < len(self.text) and self.text[self.at] in " \t\r\n#":
+            if self.text[self.at] == "#":
+                self.at = (self.text + "\n").index("\n", self.at)
+            else:
+                self.at += 1
+        return self.at < len(self.text)
+
+    def record(self, path):
+        line = self.text.count("\n", 0, self.at) + 1
+        for length in range(1, len(path) + 1):
+            self.lines.setdefault(path[:length], line)
+
+    def header(self):
+        """Reads `[table]` or `[[list]]` and returns the path of what follows."""
+        start, double = self.at, self.text.startswith("[[", self.at)
+        self.at += 2 if double else 1
+        *outer, last = self.keys("]")
+        path = ()
+        for key in outer:
+            path += (key,)
+            path += (self.lists[path],) if path in self.lists else ()
+        path += (last,)
+        end, self.at = self.at + (2 if double else 1), start
+        if double:
+            self.lists[path] = self.lists.get(path, -1) + 1
+            path += (self.lists[path],)
+        self.record(path)
+        self.at = end
+        return path
+
+    def pair(self, table):
+        """Reads `key = value` and returns the table's path unchanged."""
+        start = self.at
+        path = table + tuple(self.keys("="))
+        end, self.at = self.at + 1, start
+        self.record(path)
+        self.at = end
+        self.value(path)
+        return table
+
+    def keys(self, end):
+        """The parts of a dotted key, up to this sign."""
+        while self.text[self.at] != end:
+            sign = self.text[self.at]
+            if sign in " \t.":
+                self.at += 1
+            elif sign in "\"'":
+                start = self.at
+                self.string()
+                yield self.unquoted(self.text[start : self.at])
+            else:
+                start = self.at
+                while self.text[self.at] not in " \t." + end:
+                    self.at += 1
+                yield self.text[start : self.at]
+
+    @staticmethod
+    def unquoted(text):
+        return next(iter(tomllib.loads(f"{text} = 0")))
+
+    def string(self):
+        """Passes over a string of one or several lines."""
+        quote = self.text[self.at]
+        long = self.text.startswith(quote * 3, self.at)
+        mark = quote * 3 if long else quote
+        self.at += len(mark)
+        while not self.text.startswith(mark, self.at):
+            self.at += 2 if quote == '"' and self.text[self.at] == "\\" else 1
+        self.at += len(mark)
+        while long and self.text.startswith(quote, self.at):
+            self.at += 1
+
+    def value(self, path):
+        """Passes over a value, and records what a list or an inline table holds."""
+        self.skip_blank()
+        sign = self.text[self.at]
+        if sign in "\"'":
+            self.string()
+        elif sign in "[{":
+            self.at += 1
+            self.held(path, "]" if sign == "[" else "}")
+        else:
+            while self.at < len(self.text) and self.text[self.at] not in ",]}#\n":
+                self.at += 1
+
+    def held(self, path, end):
+        """Passes over what stands between the brackets of a list or an inline table."""
+        number = 0
+        while self.skip_blank() and self.text[self.at] != end:
+            if self.text[self.at] == ",":
+                self.at += 1
+            elif end == "}":
+                self.pair(path)
+            else:
+                self.record(path + (number,))
+                self.value(path + (number,))
+                number += 1
+        self.at += 1
