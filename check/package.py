@@ -44,7 +44,7 @@ def last_of_another_version(version):
     for commit in said("git", "-C", TOP, "log", "--format=%H", "--", "CHANGELOG.md").split():
         if version_in(said("git", "-C", TOP, "show", f"{commit}:CHANGELOG.md")) != version:
             return commit
-    return None
+    sys.exit("check/package.py: no commit here has an older version; it needs a clone with its history")
 
 
 def package_of(commit, folder, program):

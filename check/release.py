@@ -269,16 +269,47 @@ def try_sums(trial, root, path, told):
 
 
 def try_twice(trial, folder):
-    """The package, made in two ways, and whether both are the same."""
-    one = built(os.path.join(folder, "one"), trial.program)
+    """The package, made in two ways, and whether both are the same; None where it can't be made."""
+    second = os.path.join(folder, "a second place", "of another length")
     try:
-        other = built(os.path.join(folder, "a second place", "of another length"), trial.program, old=True,
-                      env=os.environ | SECOND, umask=0o077)
-        trial.holds("two builds", sum_of(one) != sum_of(other) and f"{sum_of(one)} and {sum_of(other)}")
+        one = built(os.path.join(folder, "one"), trial.program)
+        other = built(second, trial.program, old=True, env=os.environ | SECOND, umask=0o077)
     except subprocess.CalledProcessError as error:
-        trial.holds("the second build", error.stderr)
+        trial.holds("package/deb.sh", f"status {error.returncode}: {error.stderr}")
+        return None
+    trial.holds("two builds", sum_of(one) != sum_of(other) and f"{sum_of(one)} and {sum_of(other)}")
     print(f"{os.path.basename(one)}: sha256 {sum_of(one)}", flush=True)
     return one
+
+
+def try_lintian(trial, deb):
+    asked = "lintian", "--allow-root", "--fail-on", "error,warning", deb
+    seen = subprocess.run(asked, capture_output=True, text=True)
+    trial.holds("lintian", seen.returncode and seen.stdout + seen.stderr)
+
+
+def try_held(trial, deb, folder, version):
+    """All that the package holds, and what it says of itself."""
+    root = os.path.join(folder, "root")
+    said("dpkg-deb", "-x", deb, root)
+    control = said("dpkg-deb", "-f", deb)
+    front = said("/usr/bin/python3", "-B", os.path.join(root, "usr/bin/pressroom"), "--help")
+    commands = re.findall(r"^  ([a-z]+)  ", front, re.MULTILINE)
+    try_versions(trial, root, control, version)
+    try_needs(trial, control)
+    try_files(trial, root, trial.program, folder)
+    trial.part("versions and files")
+    try_plan_page(trial)
+    try_pages(trial, root, commands)
+    trial.part("man pages")
+    if os.path.exists(COMPLETION):
+        try_completion(trial, root, commands)
+        trial.part("completion")
+    try_sbom(trial, root, version)
+    trial.part("SPDX")
+    if shutil.which("lintian"):
+        try_lintian(trial, deb)
+        trial.part("lintian")
 
 
 def main():
@@ -287,36 +318,17 @@ def main():
         return 2
     missing = [name for name in NEEDED if shutil.which(name) is None]
     if missing or not os.path.exists(os.path.join(TOP, ".git")):
-        print(f"no package was made: {', '.join(missing) or 'this is no clone of git'}")
+        print(f"no package was made, since not installed: {', '.join(missing)}" if missing
+              else "no package was made: this is no clone of git")
         return 0
     trial = Trial(sys.argv[1])
-    version = version_in(text_of(os.path.join(TOP, "CHANGELOG.md")))
     with tempfile.TemporaryDirectory(prefix="plateroom-release-") as folder:
         deb = try_twice(trial, folder)
         trial.part("two builds")
-        root = os.path.join(folder, "root")
-        said("dpkg-deb", "-x", deb, root)
-        front = said("/usr/bin/python3", "-B", os.path.join(root, "usr/bin/pressroom"), "--help")
-        commands = re.findall(r"^  ([a-z]+)  ", front, re.MULTILINE)
-        control = said("dpkg-deb", "-f", deb)
-        try_versions(trial, root, control, version)
-        try_needs(trial, control)
-        try_files(trial, root, trial.program, folder)
-        trial.part("versions and files")
-        try_plan_page(trial)
-        try_pages(trial, root, commands)
-        trial.part("man pages")
-        if os.path.exists(COMPLETION):
-            try_completion(trial, root, commands)
-            trial.part("completion")
-        try_sbom(trial, root, version)
-        trial.part("SPDX")
-        if shutil.which("lintian"):
-            asked = "lintian", "--allow-root", "--fail-on", "error,warning", deb
-            seen = subprocess.run(asked, capture_output=True, text=True)
-            trial.holds("lintian", seen.returncode and seen.stdout)
-    left_out = [name for name, there in (("man", shutil.which("man")), ("lintian", shutil.which("lintian")),
-                                         ("bash-completion", os.path.exists(COMPLETION))) if not there]
+        if deb:
+            try_held(trial, deb, folder, version_in(text_of(os.path.join(TOP, "CHANGELOG.md"))))
+    left_out = [name for name in ("man", "lintian") if shutil.which(name) is None]
+    left_out += [] if os.path.exists(COMPLETION) else ["bash-completion"]
     if left_out:
         print(f"left out, since not installed: {', '.join(left_out)}")
     print(f"{trial.passed} passed, {trial.failed} failed")
