@@ -83,8 +83,10 @@ def kit_parts():
     for part, after, licence, copyright in rows[1:]:
         if licence not in LICENCES:
             sys.exit(f"package/sbom.py: NOTICE has a licence that LICENCES doesn't know: {licence}")
-        notes = {"copyrightText": "NONE" if copyright == "none" else copyright, "comment": f"After {after}."}
-        yield part.partition(" (")[0].partition(", with")[0], package("kit", part, LICENCES[licence], **notes)
+        name = re.match(r"\w+", part)[0]
+        notes = {"copyrightText": "NONE" if copyright == "none" else copyright}
+        notes["comment"] = f"NOTICE: {part}; after {after}."
+        yield name, package("kit", name, LICENCES[licence], **notes)
 
 
 def debian_packages():

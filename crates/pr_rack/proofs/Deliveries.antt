@@ -1,5 +1,5 @@
 -- The calls that make a written file the plate, as far as they came.
-use Rattle.std.proofs.Common.{◌≡◌, ◌∙◌, ℕ, ◌<◌, Bool, true, false, List, [], ◌∷◌, length, take, Option, arith}
+use Rattle.std.proofs.Common.{◌≡◌, ◌∙◌, ℕ, Bool, true, false, List, take, Option, arith}
 use Rattle.std.specs.Bool.{OnFalse}
 use Rattle.pr_rack.specs.declared.delivery.FileCall.{FileCall}
 use Rattle.pr_rack.specs.Delivery.{IsCutShort, delivery, with_all}

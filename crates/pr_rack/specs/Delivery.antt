@@ -1,10 +1,14 @@
 -- How a plate's file becomes the plate.
-use Rattle.std.specs.Prelude.{◌≡◌, ℕ, ◌<◌, List, [], ◌∷◌, ◌++◌, length, take, Option, Some, IfSome}
+use Rattle.std.specs.Prelude.{◌≡◌, ℕ, ◌<◌, List, [], ◌∷◌, ◌++◌, codes, length, take, Option, Some, IfSome}
 use Rattle.std.specs.Io.KnownBytes.{Appends}
 use Rattle.std.specs.Option.{option_map}
 use Rattle.byteorder.specs.Endian.{little_bytes}
 use Rattle.pr_rack.specs.declared.delivery.FileCall.{FileCall}
 use Rattle.pr_rack.specs.declared.delivery.FileCall.TheVariants.{Place, Sync, Rename, SyncFolder}
+
+-- the name under which a plate's file is written until it is whole
+abbrev pub part_of : List ℕ → List ℕ
+part_of path = path ++ codes ".part"
 
 -- the calls that make a written file the plate, in order
 abbrev pub delivery : ℕ → List FileCall
