@@ -81,8 +81,8 @@ class Change:
         return "".join(line + "\n" for line in [*lines, f"total made {total}"])
 
     def files(self, broken):
-        """The plates that lie there then: those that are made, those that stay as they were, and those begun, which
-        lie there under other names."""
+        """The plates that lie there then: those that are made, those that stay as they were, and those begun,
+        which lie there under other names."""
         plates, stays, made, begun = plates_of(self.after), dict(plates_of(self.before)), {}, {}
         for site, spans in self.after.spans()[0].items():
             finished, left = self.end(site, broken)

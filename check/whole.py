@@ -1,4 +1,4 @@
-"""Plates are whole under their names: beside another run, after a kill, on a full disk, and where links or folders lie."""
+"""Plates are whole under their names: beside another run, after a kill, on a full disk, among links."""
 import contextlib
 import fcntl
 import os
@@ -46,7 +46,7 @@ class Pair:
                                 stdin=subprocess.DEVNULL, stdout=subprocess.PIPE, stderr=subprocess.PIPE)
 
     def found(self):
-        """What lies there: of which edition each plate is, or that it is of none, and which files are begun."""
+        """What lies there: of which editions each plate is, none of them maybe, and which files are begun."""
         plates, parts = {}, []
         for at, _, names in os.walk(self.out):
             for name in names:
@@ -65,7 +65,7 @@ class Pair:
 
 
 def at_once(pair, rng):
-    """Two runs into one folder, fifty times. Answers how often a site was refused to one, and how often to both."""
+    """Two runs into one folder, fifty times. Each site is delivered by one of them."""
     counts = {"none": 0, "one": 0, "both": 0}
     for _ in range(TIMES):
         shutil.rmtree(pair.out, ignore_errors=True)
@@ -104,10 +104,13 @@ def at_once(pair, rng):
 
 def killed(pair, rng):
     """A run is killed over an older edition, fifty times. The next run replaces what it began."""
-    pair.lay()
-    begun = time.monotonic()
-    pair.begin("new").communicate(timeout=60)
-    took, counts = time.monotonic() - begun, {"old": 0, "new": 0, "begun": 0, "ended": 0}
+    counts, runs = {"old": 0, "new": 0, "begun": 0, "ended": 0}, []
+    for _ in range(3):
+        pair.lay()
+        begun = time.monotonic()
+        pair.begin("new").communicate(timeout=60)
+        runs.append(time.monotonic() - begun)
+    took = min(runs)
     for _ in range(TIMES):
         pair.lay()
         run = pair.begin("new")
@@ -116,7 +119,8 @@ def killed(pair, rng):
         run.communicate()
         plates, parts = pair.found()
         faults = [f"{path} is of no edition" for path, names in plates.items() if not names]
-        faults += [f"{part} is no plate's" for part in parts if part.removesuffix(".part") not in pair.plates["new"]]
+        names = {f"{path}.part" for path in pair.plates["new"]}
+        faults += [f"{part} is no plate's" for part in parts if part not in names]
         if set(plates) != set(pair.plates["new"]):
             faults.append("not all plates are there")
         for names in plates.values():
@@ -127,15 +131,20 @@ def killed(pair, rng):
         pair.tried.holds("plates after a kill", "; ".join(faults[:3]))
         pair.tried.answers(WORDS, 0, pair.editions["new"].report("OUT").encode(), b"", folder=pair.folder)
         pair.tried.holds("plates of the run after a kill", compared(pair.plates["new"], pair.out))
-    pair.tried.part(f"a run that is killed, {TIMES} times: {counts['old']} plates were old, {counts['new']} new, "
-                    f"{counts['begun']} files begun, {counts['ended']} runs ended before")
+    pair.tried.part(f"a run that is killed, {TIMES} times: {counts['old']} plates were old, {counts['new']} "
+                    f"new, {counts['begun']} files begun, {counts['ended']} runs ended before")
+
+
+def says(pair, what, status, pattern, words=WORDS, limits=()):
+    """A run ends with this status and says this."""
+    got, text, note = pair.tried.run(words, folder=pair.folder, limits=limits)
+    is_said = got == status and note == b"" and re.search(pattern, text.decode())
+    pair.tried.holds(what, "" if is_said else f"{got}, {text[:200]}, {note}")
 
 
 def stays(pair, what, status, pattern, limits=(), names=("old",), words=WORDS):
-    """A run ends with this status and says this, and each plate that lies there is whole, of these editions."""
-    got, text, note = pair.tried.run(words, folder=pair.folder, limits=limits)
-    fault = "" if got == status and note == b"" and re.search(pattern, text.decode()) else f"{got}, {text[:200]}, {note}"
-    pair.tried.holds(what, fault)
+    """The same, and each plate that lies there then is whole, of one of these editions."""
+    says(pair, what, status, pattern, words, limits)
     plates, _ = pair.found()
     wrong = [path for path, of in plates.items() if not set(of) & set(names)]
     lacking = sorted(set(pair.plates["new"]) - set(plates))
@@ -147,7 +156,8 @@ def mounted(folder, size):
     """A small disk, where this user may mount one: whether there is one."""
     os.makedirs(folder, exist_ok=True)
     words = ["mount", "-t", "tmpfs", "-o", f"size={size}", "tmpfs", folder]
-    is_there = shutil.which("mount") is not None and subprocess.run(words, capture_output=True).returncode == 0
+    can = shutil.which("mount") is not None
+    is_there = can and subprocess.run(words, capture_output=True).returncode == 0
     try:
         yield is_there
     finally:
@@ -162,9 +172,11 @@ def full_disk(pair):
     pages = sum(-(-len(plate) // 4096) for plate in pair.plates["old"].values())
     with mounted(pair.out, 4096 * (pages + 24)) as is_there:
         if is_there:
-            pair.tried.answers(["run", "old.json", *WORDS[2:]], 0, None, b"", "a small disk", folder=pair.folder)
+            words = ["run", "old.json", *WORDS[2:]]
+            pair.tried.answers(words, 0, None, b"", "a small disk", folder=pair.folder)
             stays(pair, "a disk that has room for some plates", 1, left, names=("old", "new"))
-            with contextlib.suppress(OSError), open(os.path.join(pair.out, "filler.part"), "wb", buffering=0) as file:
+            filler = os.path.join(pair.out, "filler.part")
+            with contextlib.suppress(OSError), open(filler, "wb", buffering=0) as file:
                 while file.write(bytes(4096)):
                     pass
             stays(pair, "a full disk", 1, left, names=("old", "new"))
@@ -179,9 +191,9 @@ def full_disk(pair):
 
 def in_the_way(pair):
     """Links, folders and a lock in the places of a plate, of its file and of its folder."""
-    site, path = pair.sites[0], min(path for path in pair.plates["new"] if path.startswith(pair.sites[0] + "/"))
-    plate, lying = os.path.join(pair.out, path), os.path.join(pair.folder, "lying")
+    site = pair.sites[0]
     first = pair.editions["new"].spans()[0][site][0][0]
+    plate, lying = os.path.join(pair.out, first), os.path.join(pair.folder, "lying")
     left = rf"site {site} left plates 0 row \d+ call begin file OUT/{first}\n"
     for place in (plate, plate + ".part"):
         pair.lay()
@@ -206,8 +218,8 @@ def in_the_way(pair):
         before = os.stat(os.path.join(pair.out, first)).st_mtime_ns
         stays(pair, "a folder that another run has", 1, left, names=("old", "new"))
         stays(pair, "the same with keys", 1, left, names=("old", "new"), words=["keys", *WORDS[1:], "4"])
-        stays(pair, "the same with replate", 1, rf"site {site} left made 0 file OUT/{first}\n", names=("old", "new"),
-              words=["replate", "old.json", "images", *WORDS[1:]])
+        stays(pair, "the same with replate", 1, rf"site {site} left made 0 file OUT/{first}\n",
+              names=("old", "new"), words=["replate", "old.json", "images", *WORDS[1:]])
         same = os.stat(os.path.join(pair.out, first)).st_mtime_ns == before
         pair.tried.holds("the folder of the other run", "" if same else "it was written")
         lines = pair.tried.run(["verify", *WORDS[1:]], folder=pair.folder)
@@ -216,9 +228,7 @@ def in_the_way(pair):
     pair.tried.holds("plates once the other run ended", compared(pair.plates["new"], pair.out))
     shutil.rmtree(os.path.join(pair.out, site))
     os.symlink("/proc", os.path.join(pair.out, site))
-    got, text, note = pair.tried.run(WORDS, folder=pair.folder)
-    fault = "" if got == 1 and note == b"" and re.search(left, text.decode()) else f"{got}, {text[:200]}, {note}"
-    pair.tried.holds("a link in a folder's place, to one that can't be written", fault)
+    says(pair, "a link in a folder's place, to one that can't be written", 1, left)
     os.remove(os.path.join(pair.out, site))
     pair.tried.part("links, folders and locks in the places of plates")
 
