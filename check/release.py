@@ -44,9 +44,10 @@ def said(*words, **how):
     return subprocess.run(words, check=True, capture_output=True, text=True, **how).stdout
 
 
-def built(folder, program, old=False, **how):
-    """A clone of the last commit in this folder, and the package that it makes."""
+def built(commit, folder, program, old=False, **how):
+    """The package that a commit makes, in a clone in this folder."""
     said("git", "clone", "-q", "--no-hardlinks", TOP, folder)
+    said("git", "-C", folder, "checkout", "-q", commit)
     if old:
         said("find", folder, "-name", ".git", "-prune", "-o", "-exec", "touch", "-d", "2001-02-03", "{}", "+")
     made = said(os.path.join(folder, "package", "deb.sh"), program, cwd="/", **how).strip()
@@ -272,8 +273,9 @@ def try_twice(trial, folder):
     """The package, made in two ways, and whether both are the same; None where it can't be made."""
     second = os.path.join(folder, "a second place", "of another length")
     try:
-        one = built(os.path.join(folder, "one"), trial.program)
-        other = built(second, trial.program, old=True, env=os.environ | SECOND, umask=0o077)
+        commit = said("git", "-C", TOP, "rev-parse", "HEAD").strip()
+        one = built(commit, os.path.join(folder, "one"), trial.program)
+        other = built(commit, second, trial.program, old=True, env=os.environ | SECOND, umask=0o077)
     except subprocess.CalledProcessError as error:
         trial.holds("package/deb.sh", f"status {error.returncode}: {error.stderr}")
         return None
