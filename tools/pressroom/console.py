@@ -39,8 +39,9 @@ def need(*programs):
 
 
 def fault_of(error):
-    """What an OSError says, with its file where it names one."""
-    return f"{error.filename}: {error.strerror}" if error.filename else str(error)
+    """What an OSError says, with its file where it names one, or the name to which it was to be renamed."""
+    name = error.filename2 or error.filename
+    return f"{name}: {error.strerror}" if name else str(error)
 
 
 class NoBar:
