@@ -4,6 +4,8 @@
 #[cfg(test)]
 mod diffusion;
 #[cfg(test)]
+mod lanes;
+#[cfg(test)]
 mod layers;
 #[cfg(test)]
 mod offsets;

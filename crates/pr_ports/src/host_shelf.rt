@@ -1,6 +1,6 @@
 // The shelf of the machine's files.
 ghost use Rattle.std.specs.Prelude.{◌≡◌, ◌+◌, ◌<◌, ◌≤◌, None, IfOk, IfSome, IsErrOf, OnErr, ◌==◌, drop};
-ghost use Rattle.std.specs.Prelude.{if◌then◌else◌, is_some, length, min, not, take};
+ghost use Rattle.std.specs.Prelude.{false, if◌then◌else◌, is_some, length, min, not, take};
 ghost use Rattle.std.specs.Io.KnownBytes.{Keeps};
 ghost use Rattle.pr_base.specs.Count.{Rose, count_unless};
 ghost use Rattle.pr_base.specs.Stream.{ReadsSome};
@@ -150,6 +150,7 @@ impl<R: Files + AllocGlobal> Shelf for HostShelf<R> {
         ensures too_long { IfTooLong result (λ told. told ≡ limit) }
         ensures long_counted { IfTooLong result (λ _. Rose self.old.longs self.new.longs) }
         ensures counted { IsErrOf result LoadFault.Failed → Rose self.old.faults self.new.faults }
+        ensures uncounted { has_failed result ≡ false → self.new.faults ≡ self.old.faults }
         ensures faults_stay { self.old.faults ≤ self.new.faults }
         ensures longs_stay { self.old.longs ≤ self.new.longs }
 

@@ -1,6 +1,6 @@
 // A shelf in memory that tells all, and fails at chosen calls.
 ghost use Rattle.std.specs.Prelude.{◌≡◌, ◌≤◌, ◌⊎◌, [], List, ℕ, None, Some, Contains, IfOk, IsErrOf, length};
-ghost use Rattle.std.specs.Prelude.{map, nat_eq};
+ghost use Rattle.std.specs.Prelude.{false, map, nat_eq};
 ghost use Rattle.std.specs.Cmp.Lexicographic.{pointwise};
 ghost use Rattle.std.specs.List.{IsDistinct};
 ghost use Rattle.std.specs.Option.{option_copied};
@@ -109,6 +109,7 @@ impl Shelf for MemShelf {
         ensures longer { IfTooLong result (λ _. IsLongerAt (Some self.old.files) path.now limit) }
         ensures long_counted { IfTooLong result (λ _. Rose self.old.longs self.new.longs) }
         ensures counted { IsErrOf result LoadFault.Failed → Rose self.old.faults self.new.faults }
+        ensures uncounted { has_failed result ≡ false → self.new.faults ≡ self.old.faults }
         ensures missed { Some self.new.missed
             ≡ missed_after (has_failed result) path.now (Some self.old.missed) }
         ensures faults_stay { self.old.faults ≤ self.new.faults }

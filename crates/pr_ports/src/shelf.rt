@@ -1,5 +1,5 @@
 // Where input files come from.
-ghost use Rattle.std.specs.Prelude.{◌≡◌, ◌≤◌, ℕ, List, Option, Bool, IfOk, IsErrOf, length};
+ghost use Rattle.std.specs.Prelude.{◌≡◌, ◌≤◌, ℕ, List, Option, Bool, false, IfOk, IsErrOf, length};
 ghost use Rattle.pr_base.specs.Count.{Rose};
 ghost use Rattle.pr_ports.specs.Shelf.{IsHeldAt, IsLongerAt, missed_after, has_failed, IfTooLong};
 
@@ -46,6 +46,7 @@ pub trait Shelf {
         ensures longer { IfTooLong result (λ _. IsLongerAt (held self.old) path.now limit) }
         ensures long_counted { IfTooLong result (λ _. Rose (longs self.old) (longs self.new)) }
         ensures counted { IsErrOf result LoadFault.Failed → Rose (faults self.old) (faults self.new) }
+        ensures uncounted { has_failed result ≡ false → faults self.new ≡ faults self.old }
         ensures missed { missed self.new ≡ missed_after (has_failed result) path.now (missed self.old) }
         ensures faults_stay { faults self.old ≤ faults self.new }
         ensures longs_stay { longs self.old ≤ longs self.new }

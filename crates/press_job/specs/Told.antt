@@ -20,6 +20,9 @@ pub record TellsShelf {H T : Type 0} (g : shelf.Ghosts H) (plan : PlanData) (old
   pub done_missed : OnOk result (g.missed new ≡ g.missed old)
   pub file_missed : IfFile result (λ fault. g.missed new ≡ g.missed old)
   pub memory_missed : IsErrOf result Memory → g.missed new ≡ g.missed old
+  pub done_faults : OnOk result (g.faults new ≡ g.faults old)
+  pub file_faults : IfFile result (λ fault. g.faults new ≡ g.faults old)
+  pub memory_faults : IsErrOf result Memory → g.faults new ≡ g.faults old
   -- what it holds stays, and no count falls
   pub held : g.held new ≡ g.held old
   pub faults_stay : g.faults old ≤ g.faults new

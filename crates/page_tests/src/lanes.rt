@@ -1,0 +1,148 @@
+// Eight pages at once, and eight rows of one page at once, beside code that takes one column after the other.
+ghost use Rattle.std.specs.Prelude.{◌≡◌, ◌≤◌, ◌<◌, length};
+
+use scr_diffuse::{BlockDiffuser, Diffusers};
+use std::process::Abort;
+
+const WIDEST: usize = 40;
+
+const HEIGHT: u32 = 20;
+
+/// The errors of a row: that of column x at x + 1, and 0 on either side of the row.
+type Errors = [i32; WIDEST + 2];
+
+/// Draws a row by the formula, column by column. `errors` has those of the row above, and then those of this
+/// one. The first pixel is the highest bit.
+fn plain_row(values: &[u8], errors: &mut Errors) -> u64
+    requires { length values.now ≤ 40 }
+{
+    let above = *errors;
+    let mut bits = 0;
+    for x in 0..values.len() {
+        let sum = (16 * values[x] as i32)
+            .wrapping_add(errors[x].wrapping_mul(7))
+            .wrapping_add(above[x + 2].wrapping_mul(3))
+            .wrapping_add(above[x + 1].wrapping_mul(5))
+            .wrapping_add(above[x]);
+        let corrected = sum >> 4;
+        let prints = corrected >= 128;
+        if prints {
+            bits |= 1 << (63 - x);
+        }
+        errors[x + 1] = corrected.wrapping_sub(if prints { 255 } else { 0 });
+    }
+    bits
+}
+
+/// The values of a row of a page, up to the widest: any numbers, others in each page and row.
+fn row_of(page: usize, y: u32) -> [u8; WIDEST] {
+    let mut seed = (page as u32).wrapping_mul(40_503).wrapping_add(y.wrapping_mul(2_246_822_519));
+    let mut values = [0; WIDEST];
+    for value in values.iter_mut() {
+        seed = seed.wrapping_mul(1_664_525).wrapping_add(1_013_904_223);
+        *value = (seed >> 24) as u8;
+    }
+    values
+}
+
+fn rows_at(y: u32) -> [[u8; WIDEST]; 8] {
+    let mut rows = [[0; WIDEST]; 8];
+    for page in 0..8 {
+        rows[page] = row_of(page, y);
+    }
+    rows
+}
+
+/// Hands in row `y` of eight pages; whether each page then has the pixels that the plain code draws.
+fn are_drawn(diffusers: &mut Diffusers, errors: &mut [Errors; 8], width: usize, y: u32) -> bool
+    requires width { diffusers.old.width ≡ width }
+    requires narrow { width ≤ 40 }
+    ensures { diffusers.new.width ≡ width }
+{
+    let rows = rows_at(y);
+    let [a, b, c, d, e, f, g, h] = &rows;
+    diffusers.advance([
+        &a[..width],
+        &b[..width],
+        &c[..width],
+        &d[..width],
+        &e[..width],
+        &f[..width],
+        &g[..width],
+        &h[..width],
+    ]);
+    let mut same = true;
+    for page in 0..8 {
+        let mut bits = [0; 8];
+        diffusers.draw(page, &mut bits, 0);
+        same &= u64::from_be_bytes(bits) == plain_row(&rows[page][..width], &mut errors[page]);
+    }
+    same
+}
+
+#[test]
+fn eight_pages_of_each_width(rt: HostRuntime) {
+    for width in 1..WIDEST + 1 {
+        let mut diffusers = Diffusers::new(rt.alloc(), width as u32).expect(&rt, "memory");
+        let mut errors = [[0; WIDEST + 2]; 8];
+        for y in 0..HEIGHT {
+            let same = are_drawn(&mut diffusers, &mut errors, width, y);
+            assert!(rt; same, "width {width} row {y}");
+        }
+    }
+}
+
+/// Hands in eight rows of a page, from row `first` on; whether those that lie on the page have the pixels
+/// that the plain code draws.
+fn is_drawn(diffuser: &mut BlockDiffuser, errors: &mut Errors, width: usize, first: u32) -> bool
+    requires width { diffuser.old.front.width ≡ width }
+    requires eight { length diffuser.old.held ≡ 8 }
+    requires narrow { width ≤ 40 }
+    requires first { first ≤ 1000 }
+    ensures width { diffuser.new.front.width ≡ width }
+    ensures eight { length diffuser.new.held ≡ 8 }
+{
+    for k in 0..8 {
+        let row = row_of(0, first + k);
+        diffuser.put(k as usize, &row[..width]);
+    }
+    diffuser.advance();
+    let mut same = true;
+    for k in 0..8 {
+        if first + k < HEIGHT {
+            let mut bits = [0; 8];
+            diffuser.draw(k as usize, &mut bits, 0);
+            let row = row_of(0, first + k);
+            same &= u64::from_be_bytes(bits) == plain_row(&row[..width], errors);
+        }
+    }
+    same
+}
+
+// The third block has four rows of the page, and four behind it.
+#[test]
+fn blocks_of_each_width(rt: HostRuntime) {
+    for width in 1..WIDEST + 1 {
+        let mut diffuser = BlockDiffuser::new(rt.alloc(), width as u32).expect(&rt, "memory");
+        let mut errors = [0; WIDEST + 2];
+        for first in [0, 8, 16] {
+            let same = is_drawn(&mut diffuser, &mut errors, width, first);
+            assert!(rt; same, "width {width} block {first}");
+        }
+    }
+}
+
+// All 128: v is 128, 72, 159, 86 and then 101, 168, 80, 183, in each of the eight pages.
+#[test]
+fn four_by_two_in_each_lane(rt: HostRuntime) {
+    let mut diffusers = Diffusers::new(rt.alloc(), 4).expect(&rt, "memory");
+    let row = [128; 4];
+    for want in [0xA0, 0x50] {
+        diffusers.advance([&row, &row, &row, &row, &row, &row, &row, &row]);
+        for page in 0..8 {
+            let mut bits = [0];
+            diffusers.draw(page, &mut bits, 0);
+            assert!(rt; bits == [want]);
+        }
+    }
+}
