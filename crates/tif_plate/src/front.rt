@@ -5,8 +5,8 @@
 ghost use Rattle.std.specs.Prelude.{◌≡◌};
 ghost use Rattle.tif_plate.specs.Tail.{front_bytes};
 
-/// The first eight bytes of a plate, with 0 in bytes 4 to 7.
-/// There the place of the directory is to stand at the end.
+/// Returns the first eight bytes of a plate, with 0 in bytes 4 to 7. The offset of the directory goes there
+/// once all rows are written.
 pub fn plate_front() -> [u8; 8]
     ensures { result ≡ front_bytes }
 {
