@@ -1,6 +1,6 @@
-// Frames, which hold the packing of a row in a space of fixed length.
+// Frames, which hold the packing of a row padded to a fixed length.
 //   0  the length of the packing, least significant byte first
-//   2  the packing, and zeros behind it
+//   2  the packing, then zeros
 ghost use Rattle.std.specs.Prelude.{◌≡◌, ◌≤◌, length};
 ghost use Rattle.tif_packbits.specs.Frame.{frame_size, frame_of, packed_in, framed_row, IsFrame};
 ghost use Rattle.tif_packbits.specs.Packbits.{packing};
