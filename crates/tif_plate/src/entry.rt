@@ -2,7 +2,7 @@
 //   0  tag     2 bytes
 //   2  type    2 bytes
 //   4  count   4 bytes
-//   8  value   4 bytes, or the place of the values
+//   8  value   4 bytes, or the offset of the values
 ghost use Rattle.std.specs.Prelude.{◌≡◌, ◌+◌, ◌-◌, ◌*◌, ◌≤◌, nat_lt, if◌then◌else◌, length};
 ghost use Rattle.std.specs.List.{flat_map};
 ghost use Rattle.tif_plate.specs.Plate.{IsSide, entry_bytes, plate_directory, plate_entries};

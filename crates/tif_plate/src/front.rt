@@ -1,7 +1,7 @@
 // The front of a plate.
 //   0  II
 //   2  42
-//   4  the place of the directory, which isn't known before all rows are packed
+//   4  the offset of the directory, which isn't known before all rows are packed
 ghost use Rattle.std.specs.Prelude.{◌≡◌};
 ghost use Rattle.tif_plate.specs.Tail.{front_bytes};
 

@@ -1,8 +1,8 @@
-// The tail of a plate, behind its packed rows.
-//        a zero byte where the rows end at an odd place
-//   0    the directory of twelve entries, and no next one
+// The tail of a plate, after its packed rows.
+//        a zero byte if the rows end at an odd offset
+//   0    the directory of twelve entries, and 0 for no next directory
 //   150  XResolution and YResolution
-//   166  the table of strips where there are two or more: their places, then their byte counts
+//   166  the table of strips, if there are two or more: their offsets, then their byte counts
 ghost use Rattle.std.specs.Prelude.{◌≡◌, ◌+◌, ◌*◌, ◌≤◌, ◌++◌, length, drop, map, sum, take};
 ghost use Rattle.std.specs.List.{flat_map, range_with_len};
 ghost use Rattle.byteorder.specs.Endian.{little_bytes};
