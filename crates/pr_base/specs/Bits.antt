@@ -1,5 +1,5 @@
--- One-bit pixels in bytes: eight per byte, lower columns in higher-order bits (TIFF 6.0, Section 8,
--- FillOrder 1).
+-- One-bit pixels in bytes: eight per byte, lower columns in higher-order bits
+-- (TIFF 6.0, Section 8, FillOrder 1).
 use Rattle.std.specs.Prelude.{◌≡◌, ◌<◌, ◌≤◌, ℕ, ◌+◌, ◌-◌, ◌*◌, ◌/◌, ◌%◌, ◌^◌, ◌==◌, ◌&&◌, Bool, cond, nat_lt}
 use Rattle.std.specs.Prelude.{List, map, slice_index}
 use Rattle.std.specs.List.{range_with_len}
@@ -13,7 +13,7 @@ byte_bit byte x = byte / 2 ^ (7 - x) % 2 == 1
 abbrev pub bit_at : List ℕ → ℕ → Bool
 bit_at bytes x = byte_bit (slice_index bytes (x / 8)) (x % 8)
 
--- the n pixels from index from on have the values of test at 0 to n - 1; all other pixels are unchanged
+-- the `n` pixels from index `from` on have the values of `test` at 0 to n - 1; all other pixels are unchanged
 pub record SetsBits (test : ℕ → Bool) (from n : ℕ) (old new : List ℕ) : Type 0 where
   pub inside : (x : ℕ) → x < n → bit_at new (from + x) ≡ test x
   pub before : (k : ℕ) → k < from → bit_at new k ≡ bit_at old k

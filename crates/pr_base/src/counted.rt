@@ -135,8 +135,7 @@ impl<W: Write> Counted<W> {
 }
 
 impl<F: Seek> Counted<F> {
-    /// Seeks to `place`, in bytes from the start of the file. Returns false if that failed, which is
-    /// counted.
+    /// Seeks to byte `place` of the file. Returns false if that failed, which is counted.
     pub fn go_to(&mut self, place: u64) -> bool
         ensures there { OnTrue result
             (IfSome (F.stream_position self.old.stream)

@@ -1,5 +1,5 @@
--- The first directory of a TIFF file, and the values of its fields (TIFF 6.0, Section 2). A file is a list
--- of bytes.
+-- The first directory of a TIFF file and the values of its fields (TIFF 6.0, Section 2).
+-- A file is a list of bytes.
 use Rattle.std.specs.Prelude.{ℕ, ◌+◌, ◌*◌, ◌==◌, nat_lt, nat_le, nat_eq, Bool, true, false, if◌then◌else◌}
 use Rattle.std.specs.Prelude.{List, length, take, drop, map, slice_index, slice_range, Option, Some, None}
 use Rattle.std.specs.Prelude.{Result, Ok, Err, option_map, option_and_then, ok_or, codes}
@@ -47,8 +47,7 @@ bytes_of Big width n = big_bytes width n
 
 -- ---- the header and the directory
 
--- the byte order of a file with a valid header: at least 8 bytes, a known order, and 42 ("Image File
--- Header")
+-- the byte order of a file with a valid header: 8 bytes or more, a known order, 42 ("Image File Header")
 abbrev pub header_of : List ℕ → Option Order
 header_of bytes =
     option_and_then
@@ -149,13 +148,11 @@ abbrev pub field_from : List ℕ → ℕ → Result FirstDirectory TagFault → 
 field_from bytes tag (Err fault) = Err fault
 field_from bytes tag (Ok dir) = field_in dir.order bytes tag (entry_of dir tag)
 
--- the field of a tag in the first directory of a file: all its values, or none if absent, or the first
--- fault
+-- the field of a tag in the first directory of a file: all its values, none if absent, or the first fault
 unfoldable pub field_of : List ℕ → ℕ → Result (Option (List ℕ)) TagFault
 field_of bytes tag = field_from bytes tag (directory_of bytes)
 
--- whether the first directory has an entry with the tag, whatever its type and offset; also true for a
--- fault
+-- whether the first directory has an entry with the tag, of any type and offset; true for any fault
 abbrev pub is_present : Result (Option (List ℕ)) TagFault → Bool
 is_present (Ok None) = false
 is_present (Ok (Some values)) = true
@@ -170,6 +167,6 @@ number_in tag i least (Ok (Some values)) =
     if nat_lt (length values) least then Err (fault_at tag FieldCount) else Ok (slice_index values i)
 
 -- value i of the field of a tag, or its default if the file has no such field. A field that is present must
--- have at least least values.
+-- have `least` values or more.
 unfoldable pub number_at : List ℕ → ℕ → ℕ → ℕ → Result ℕ TagFault
 number_at bytes tag i least = number_in tag i least (field_of bytes tag)

@@ -28,8 +28,7 @@ default_of tag i =
     else if tag == dot_range then Some (if i % 2 == 0 then 0 else 255)
     else None
 
--- the minimum number of values of a field, for an image with this many samples per pixel and this many
--- strips
+-- the minimum number of values of a field, given the numbers of samples per pixel and of strips
 abbrev pub least_of : ℕ → ℕ → ℕ → ℕ
 least_of tag samples strips =
     if tag == bits_per_sample then samples

@@ -3,8 +3,7 @@ use crate::order::Order;
 use crate::value_type::ValueType;
 use std::marker::Model;
 
-/// A field of a directory. Contracts see the list of its values; each value is read from the file's bytes
-/// on demand.
+/// A field of a directory. Contracts see the list of its values; each is read from the file on demand.
 #[derive(Debug, Drop)]
 pub struct Field<'a> {
     order: Order,

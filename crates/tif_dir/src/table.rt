@@ -66,8 +66,7 @@ pub fn default_value(tag: u16, i: u32) -> Option<u32>
     fields!(default_cases(tag, i))
 }
 
-/// Returns the minimum number of values of a field, in an image with `samples` samples per pixel and
-/// `strips` strips.
+/// Returns the minimum number of values of a field, given the numbers of samples per pixel and of strips.
 pub fn least_count(tag: u16, samples: u32, strips: u32) -> u32
     requires { IsTrue (is_listed tag) }
     ensures { result ≡ least_of tag samples strips }

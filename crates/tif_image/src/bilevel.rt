@@ -14,7 +14,7 @@ const BLACK_IS_ZERO: u32 = 1;
 pub struct Bilevel<'a> {
     usage: BilevelUse,
     shape: Shape,
-    /// Whether a pixel is marked if its bit is 0.
+    /// Whether pixels with bit 0 are the marked ones.
     marks_zeros: bool,
     strips: Strips<'a>,
 }
@@ -49,8 +49,7 @@ impl<'a> Bilevel<'a> {
         Ok(Bilevel::of(image, usage))
     }
 
-    /// Returns the image in a file that is known to pass all tests. Reads its directory and fields, but no
-    /// strip.
+    /// Returns the image in a file that is known to pass all tests. Reads the directory and fields, no strip.
     pub fn of_tested(bytes: &'a [u8], usage: BilevelUse) -> Bilevel<'a>
         requires { result_err (bilevel_shape usage bytes.now) ≡ None }
         ensures image { (result.bytes ≡ bytes.now) × (result.usage ≡ usage) }
@@ -112,8 +111,7 @@ impl<'a> Bilevel<'a> {
         self.strips.rows()
     }
 
-    /// Returns whether pixels with bit 0 are the marked ones, that is, whether PhotometricInterpretation is
-    /// 1.
+    /// Returns whether the marked pixels are those with bit 0: PhotometricInterpretation is 1.
     pub fn marks_zeros(&self) -> bool
         ensures { result ≡ (photometric self.now.bytes == 1) }
     {

@@ -26,8 +26,7 @@ pub(crate) struct Checked<'a> {
     pub strips: Strips<'a>,
 }
 
-/// Tests the header and directory of a file, its fields and its strips, in this order, and returns the
-/// first fault.
+/// Tests a file's header and directory, fields and strips, in this order, and returns the first fault.
 #[tactic(auto, unfolding(crate::specs::Image::shape_of))]
 pub(crate) fn check_image<'a>(bytes: &'a [u8], usage: Usage) -> Result<Checked<'a>, TagFault>
     ensures dir { IfOk result (λ image. image.dir ≡ bytes.now) }

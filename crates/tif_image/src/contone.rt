@@ -31,8 +31,7 @@ impl<'a> Contone<'a> {
     ghost use Rattle.tif_strips.specs.Strips.{row_length};
     ghost use Rattle.tif_image.specs.Image.{contone_shape, IsContone};
 
-    /// Tests the header and directory of a file, its fields and its strips, in this order, and returns the
-    /// first fault.
+    /// Tests a file's header and directory, fields and strips, in this order, and returns the first fault.
     pub fn check(bytes: &'a [u8]) -> Result<Contone<'a>, TagFault>
         ensures passed { IfOk result
             (λ image. (image.bytes ≡ bytes.now) × (contone_shape bytes.now ≡ Ok image.shape)) }
@@ -42,8 +41,7 @@ impl<'a> Contone<'a> {
         Ok(Contone::of(image))
     }
 
-    /// Returns the image in a file that is known to pass all tests. Reads its directory and fields, but no
-    /// strip.
+    /// Returns the image in a file that is known to pass all tests. Reads the directory and fields, no strip.
     pub fn of_tested(bytes: &'a [u8]) -> Contone<'a>
         requires { result_err (contone_shape bytes.now) ≡ None }
         ensures bytes { result.bytes ≡ bytes.now }

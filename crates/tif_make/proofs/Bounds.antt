@@ -25,7 +25,7 @@ take-range zero n from h = refl
 take-range (suc i) zero from h = absurd (omega arith)
 take-range (suc i) (suc n) from h = ap (λ xs. from ∷ xs) (take-range i n (from + 1) (omega arith))
 
--- count pieces of at most most bytes each
+-- `count` pieces of at most `most` bytes each
 pub flat_map-within : (f : ℕ → List ℕ) (most from count : ℕ) → ((k : ℕ) → length (f k) ≤ most) → length (flat_map f (range_with_len from count)) ≤ count * most
 flat_map-within f most from zero each = omega arith
 flat_map-within f most from (suc count) each =

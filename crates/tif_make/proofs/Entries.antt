@@ -11,7 +11,7 @@ use Rattle.tif_make.specs.Fields.{AreFields, FieldData, data_of, directory_end, 
 abbrev pub no_field : Field
 no_field = record { tag = 0; values = Short 0 }
 
--- the entries of the first i fields are written, and place is the offset for the outside values of the next
+-- the entries of the first i fields are written, and `place` is the offset for the outside values of the next
 pub record WritesEntries (order : Order) (fields : List FieldData) (i place : ℕ) (old new : List ℕ) : Type 0 where
   pub place_is : place ≡ directory_end (length fields) + outside_total (take i fields)
   pub bytes : new ≡ old ++ entries order (directory_end (length fields)) (take i fields)

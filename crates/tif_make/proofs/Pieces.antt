@@ -87,7 +87,7 @@ joined-map f (x ∷ xs) = ap (λ ys. f x ++ ys) (joined-map f xs)
 
 -- ---- rows in strips
 
--- the rows before an index, then the next each rows, as far as there are rows
+-- the rows before index `place`, then the next `each` rows, as far as there are rows
 rows-two : (f : ℕ → List ℕ) (rows each place : ℕ) → (place < rows) ⊎ (rows ≤ place)
     → flat_map f (range_with_len 0 (min place rows)) ++ flat_map f (range_with_len place (min each (rows - place)))
     ≡ flat_map f (range_with_len 0 (min place rows + min each (rows - place)))
@@ -131,7 +131,7 @@ unfolding begins
 length-begins place [] = refl
 length-begins place (piece ∷ pieces) = ap (λ n. suc n) (length-begins (place + length piece) pieces)
 
--- count lists of each pieces
+-- `count` lists of `each` pieces
 length-pieces : (f : ℕ → List (List ℕ)) (each from count : ℕ) → ((k : ℕ) → length (f k) ≡ each) → length (flat_map f (range_with_len from count)) ≡ count * each
 length-pieces f each from zero h = omega arith
 length-pieces f each from (suc count) h =

@@ -1,6 +1,5 @@
 -- A TIFF file made of fields (TIFF 6.0, Section 2): the header, one directory directly after it, then the
--- values that do not fit in an entry. The order of these parts is this crate's choice among those that TIFF
--- allows.
+-- values that do not fit in an entry. The order of these parts is this crate's choice; others are valid too.
 use Rattle.std.specs.Prelude.{ℕ, ◌+◌, ◌-◌, ◌*◌, ◌≤◌, nat_le, if◌then◌else◌, List, [], ◌∷◌, ◌++◌, length}
 use Rattle.std.specs.Prelude.{replicate}
 use Rattle.std.specs.List.{All, flat_map}

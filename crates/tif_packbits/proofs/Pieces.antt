@@ -4,8 +4,7 @@ use Rattle.std.proofs.Math.Seq.{take-add}
 use Rattle.std.proofs.lemmas.List.{append-nil, append_assoc, length-append, length-drop, length-take-le, take-append-le, drop-append-le, drop-drop, drop_all, drop_at, take_all, take_at, take_rest}
 use borrow.Rule.Slice.PartMut.{put_mid}
 
--- the first at bytes of ahead are at the start of the buffer, the rest of the buffer is unchanged, and left
--- remains
+-- the first `at` bytes of `ahead` are in the buffer, whose other bytes are unchanged, and `left` remains
 pub record HasGiven (ahead start into left : List ℕ) (at : ℕ) : Type 0 where
   pub in_room : at ≤ length start
   pub in_ahead : at ≤ length ahead
@@ -91,7 +90,7 @@ HasGiven-all ahead start into at given not_full =
     let whole : take (length ahead) ahead ≡ ahead = take_all (length ahead) ahead (omega arith) in
     (short, given.written ∙ (rw (at_end, whole) refl), sym (drop_all (length start) ahead (omega arith)))
 
--- of n bytes to skip, most are still to be skipped, and left remains
+-- of `n` bytes to skip, `most` are still to be skipped, and `left` remains
 pub record HasPassed (ahead left : List ℕ) (n most : ℕ) : Type 0 where
   pub of_n : most ≤ n
   pub in_ahead : n ≤ length ahead + most

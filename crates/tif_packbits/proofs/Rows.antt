@@ -7,8 +7,7 @@ use Rattle.tif_packbits.specs.Packbits.{packing, run_len, literal_len, first_len
 use Rattle.tif_packbits.proofs.Packing.{packing_more, packing-none, packing_bounded, first_len-le-length, first_len-some, first_len-run, first_len-literal, first_packet-run, first_packet-literal, literal_len-le-length, run_len-le-length}
 use Rattle.tif_packbits.proofs.Pieces.{HasGiven, HasGiven-none, HasGiven-piece, HasGiven-next, HasGiven-length}
 
--- the packing of the row is written up to at; the packing of its bytes from index from on is still to be
--- written
+-- the packing of the row is written up to `at`; that of its bytes from index `from` on is still to come
 pub record IsPacked (row start into : List ℕ) (from at : ℕ) : Type 0 where
   pub in_row : from ≤ length row
   pub given : HasGiven (packing row) start into (packing (drop from row)) at

@@ -71,8 +71,7 @@ packets_packing (suc packets) [] = []
 packets_packing (suc packets) (byte ∷ row) =
     first_packet (byte ∷ row) ++ packets_packing packets (drop (first_len (byte ∷ row)) (byte ∷ row))
 
--- the packing of a row; each packet represents at least one byte, so there are at most as many packets as
--- bytes
+-- the packing of a row; each packet represents at least one byte, so there are no more packets than bytes
 unfoldable pub packing : List ℕ → List ℕ
 packing row = packets_packing (length row) row
 

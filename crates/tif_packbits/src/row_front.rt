@@ -69,8 +69,8 @@ fn first_run(row: &[u8], pairs: u64) -> Option<usize>
     Some(n)
 }
 
-/// Returns a bit for each byte of the first block, the first byte in the lowest bit: set if the byte equals
-/// the next.
+/// Returns a word with a bit for each byte of the first block, the first byte in the lowest bit. A bit is set
+/// if its byte equals the next.
 #[tactic(auto, using(crate::proofs::Pairs::pairs_of_mask))]
 fn pairs(row: &[u8]) -> u64
     requires { BLOCK < length row.now }

@@ -12,8 +12,7 @@ use thiserror::Error;
 #[error("too few bytes are left")]
 pub struct Short;
 
-/// Produces the expansion of packed bytes in order (TIFF 6.0, Section 9). Contracts see the bytes still to
-/// come.
+/// Expands packed bytes in order (TIFF 6.0, Section 9). Contracts see the bytes still to come.
 #[derive(Debug, Drop)]
 pub struct Unpacker<'a> {
     packet: Packet<'a>,

@@ -74,13 +74,11 @@ rational = 5
 abbrev pub places_value : ℕ → ℕ → ℕ
 places_value strips end = if nat_lt strips 2 then 8 else directory_place end + 166
 
--- the value of StripByteCounts: the byte count of the only strip, or the offset of the counts after the
--- offsets
+-- the value of StripByteCounts: the byte count of the only strip, or the offset of the table of counts
 abbrev pub counts_value : ℕ → ℕ → ℕ
 counts_value strips end = if nat_lt strips 2 then end - 8 else directory_place end + 166 + 4 * strips
 
--- the twelve entries of a plate whose rows end at offset end: one bit per pixel, PackBits, WhiteIsZero,
--- inches
+-- the twelve entries of a plate whose rows end at offset `end`: bilevel, PackBits, WhiteIsZero, inches
 unfoldable pub plate_entries : ℕ → ℕ → ℕ → List Entry
 plate_entries width height end =
     record { tag = image_width; kind = long; count = 1; value = width }
@@ -137,8 +135,8 @@ header_bytes place = (codes "II" ++ little_bytes 2 42) ++ little_bytes 4 place
 abbrev pub rows_end : List (List ℕ) → ℕ
 rows_end rows = 8 + length (flat_map packing rows)
 
--- a plate of this width and resolution with these rows from top to bottom, each row_size width bytes long
--- before packing
+-- a plate of this width and resolution with these rows from top to bottom, each of row_size width bytes
+-- before it is packed
 unfoldable pub plate_file : ℕ → ℕ → List (List ℕ) → List ℕ
 plate_file width dpi rows =
     (header_bytes (directory_place (rows_end rows)) ++ flat_map packing rows)

@@ -31,8 +31,7 @@ tail_place counts = directory_place (strips_end counts)
 abbrev pub tail_bytes : ℕ → ℕ → ℕ → List ℕ → List ℕ
 tail_bytes width height dpi counts = bytes_behind width height dpi (strips_end counts) (begins counts) counts
 
--- the maximum length of those bytes: a zero byte, the directory and the resolutions, and the table of
--- strips
+-- the maximum length of those bytes: a zero byte, the directory, the resolutions, the table of strips
 abbrev pub tail_room : ℕ → ℕ → ℕ
 tail_room width height = 167 + 8 * strip_count width height
 

@@ -17,7 +17,7 @@ enough-later n rest most aheads later is within enough plane below =
     let known : plane < length aheads = omega (arith, length-later n aheads later is) in
     rw (get_or-later n plane aheads later is known) (omega (arith, length-drop n (get_or aheads plane []), enough plane known))
 
--- a samples consumed, then b more
+-- `a` samples consumed, then `b` more
 pub map-drop-drop : (a b : ℕ) (lists : List (List ℕ)) → map (drop b) (map (drop a) lists) ≡ map (drop (a + b)) lists
 map-drop-drop a b [] = refl
 map-drop-drop a b (list ∷ rest) =

@@ -66,7 +66,7 @@ HasPixels-more cyan magenta yellow black into x room has = record {
         (kept three (4 * x + 3) (4 * x + 2) _ (omega arith) ∙ get_or-set_same two (4 * x + 2) _ 0 (omega arith))
         (get_or-set_same three (4 * x + 3) _ 0 (omega arith))
 
--- a piece of n more pixels, interleaved from the samples at index at and after it
+-- a piece of n more pixels, interleaved from the samples from index `at` on
 pub HasPixels-piece : (inks pieces : List (List ℕ)) (at n size : ℕ) (into part : List ℕ) → 4 * at + size ≤ length into → size ≡ 4 * n → length part ≡ size
     → ((ink x : ℕ) → ink < 4 → x < n → get_or (get_or pieces ink []) x 0 ≡ get_or (get_or inks ink []) (at + x) 0)
     → HasPixels inks at into → HasPixels pieces n part → HasPixels inks (at + n) (put_mid (4 * at) size into part)

@@ -90,7 +90,7 @@ IsPlace-begin image place begun rows is none left samples rows_are =
       omega arith,
     )
 
--- count rows later
+-- `count` rows later
 pub IsPlace-later : (image : Image) (place : Place) (count len : ℕ) (later : Planes) → IsPlace image place → 0 < place.rows → count ≤ place.rows
     → len ≡ count * plane_row_length image.shape → aheads_of later ≡ map (drop len) (aheads_of place.planes)
     → IsPlace image (record { next = place.next + count; begun = place.begun; rows = place.rows - count; planes = later })

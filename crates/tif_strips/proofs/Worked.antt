@@ -61,8 +61,7 @@ outside = refl
 abbrev inks : Shape
 inks = record { width = 2; length = 3; samples = 4; bits = 8; planar = 2; packed = false; rows_per_strip = 2 }
 
--- the strips of cyan, magenta, yellow and black, two rows and then one, after the offsets and the byte
--- counts
+-- the strips of cyan, magenta, yellow and black, two rows and then one, after the offsets and the counts
 abbrev planes_file : List ℕ
 planes_file =
     file 8 (34 ∷ 0 ∷ 0 ∷ 0 ∷ []) (42 ∷ 0 ∷ 0 ∷ 0 ∷ [])

@@ -7,8 +7,7 @@ use crate::planes::Planes;
 use crate::samples::Samples;
 use crate::strip_table::StripTable;
 
-/// A position before a row, in the current strip of each plane. Reading rows in order starts each strip
-/// once.
+/// A position before a row, in the current strip of each plane. Reading in order starts each strip once.
 #[derive(Debug, Drop)]
 pub(crate) struct Place<'a> {
     /// The number of the next row.
@@ -60,8 +59,8 @@ impl<'a> Place<'a> {
         self.next += 1;
     }
 
-    /// Skips the next `count` rows. Strips that end among them are not read any further, except a last
-    /// strip with fewer rows than the others.
+    /// Skips the next `count` rows. Strips that end among them are not read any further, except a last strip
+    /// with fewer than RowsPerStrip rows.
     pub(crate) fn skip(&mut self, table: &StripTable<'a>, count: u32)
         requires place { IsPlace table.now self.old }
         requires left { self.old.next + count ≤ table.now.shape.length }

@@ -27,8 +27,7 @@ pub(crate) struct Inks<'a> {
 impl<'a> Planes<'a> {
     ghost use Rattle.tif_strips.specs.Planes.{HasPixels, aheads_of};
 
-    /// Reads `count` bytes in each plane of the next row, which is `row` bytes long, from byte `from` of it
-    /// on.
+    /// Reads `count` bytes, from byte `from` on, in each plane of the next row, which is `row` bytes long.
     pub(crate) fn part(&mut self, row: usize, from: usize, count: usize, into: &mut [u8])
         requires room { length into.old ≡ length (aheads_of self.old) * count }
         requires within { from + count ≤ row }

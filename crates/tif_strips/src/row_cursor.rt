@@ -73,8 +73,7 @@ impl<'a> RowCursor<'a> {
         }
     }
 
-    /// Reads the bytes of the next row that contain `count` columns from `first` on, in the layout of
-    /// `next_row`.
+    /// Reads the bytes of the next row that contain `count` columns from `first` on, as in `next_row`.
     pub fn next_part(&mut self, first: u32, count: u32, into: &mut [u8])
         requires left { self.old.next < self.old.shape.length }
         requires columns { first + count ≤ self.old.shape.width }
@@ -85,8 +84,8 @@ impl<'a> RowCursor<'a> {
         self.place.read(&self.table, first, count, into);
     }
 
-    /// Skips the next `count` rows. Strips that end among them are not read any further, except a last
-    /// strip with fewer rows than the others.
+    /// Skips the next `count` rows. Strips that end among them are not read any further, except a last strip
+    /// with fewer than RowsPerStrip rows.
     pub fn skip_rows(&mut self, count: u32)
         requires left { self.old.next + count ≤ self.old.shape.length }
         ensures next { self.new ≡ record self.old { next = self.old.next + count } }

@@ -13,8 +13,7 @@ use std::marker::Model;
 use tif_dir::tag::{STRIP_BYTE_COUNTS, STRIP_OFFSETS};
 use tif_dir::{Dir, Field};
 
-/// The offsets and sizes of an image's strips, with a value of each for every strip. Contracts see the
-/// image.
+/// The offsets and sizes of an image's strips, at least one of each per strip. Contracts see the image.
 #[derive(Debug, Drop)]
 pub(crate) struct StripTable<'a> {
     bytes: &'a [u8],
