@@ -98,7 +98,7 @@ rows-two f rows each place (inr past) =
     let none : min each (rows - place) ≡ 0 = omega arith in
     rw none (append-nil _ ∙ ap (λ n. flat_map f (range_with_len 0 n)) (omega arith))
 
--- the first k strips of each rows hold the first rows
+-- the first k strips of `each` rows hold the first rows
 pub rows-joined : (f : ℕ → List ℕ) (each rows k : ℕ)
     → flat_map (λ i. flat_map f (range_with_len (i * each) (min each (rows - i * each)))) (range_with_len 0 k)
     ≡ flat_map f (range_with_len 0 (min (k * each) rows))

@@ -1,4 +1,4 @@
--- Rows cut into strips: the offset of each strip is the sum of the byte counts before it.
+-- Rows cut into strips: the offset of each strip is 8 plus the byte counts of the strips before it.
 use Rattle.std.proofs.Common.{◌≡◌, ℕ, zero, suc, ◌+◌, ◌*◌, ◌<◌, ◌≤◌, List, [], ◌∷◌, length, map, sum, take, get_or, sym, ap, ◌∙◌, arith}
 use Rattle.std.specs.Int.{div_ceil}
 use Rattle.std.specs.List.{flat_map, range_with_len}
