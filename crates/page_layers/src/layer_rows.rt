@@ -15,8 +15,8 @@ use crate::room::{ReadRoom, refill};
 use crate::row_reader::RowReader;
 use std::marker::Model;
 
-/// A layer, with the row of its image that was read last as paint over the page's columns. Contracts see the
-/// layer, the page's width, and the number of image rows passed so far.
+/// A layer, with the row of its image that was read last, expanded to the page's columns as paint. Contracts
+/// see the layer, the page's width, and the number of image rows passed so far.
 #[derive(Debug, Drop)]
 pub(crate) struct LayerRows<'a> {
     layer: Layer<'a>,

@@ -135,8 +135,9 @@ impl<'a> PageRows<'a> {
         self.next += 1;
     }
 
-    /// Returns whether a row has been written or skipped since the start and the next one equals it. Always
-    /// true then if each layer shows the same row of its image on both, or nothing on both.
+    /// Returns true only if a row has been written or skipped since the start and the next row equals it.
+    /// Equality is detected where every layer shows the same row of its image on both rows, or nothing on
+    /// both.
     pub fn repeats(&self) -> bool
         ensures given { IsTrue result → 0 < self.now.next }
         ensures equal { IsTrue result
