@@ -61,7 +61,7 @@ abbrev pub first_unknown : List (List ℕ) → Members → Option (List ℕ)
 first_unknown keys no_members = None
 first_unknown keys (member_data key d more) = if is_among keys key then first_unknown keys more else Some key
 
--- the value where no key is unknown
+-- the value, or a fault where a key is unknown
 abbrev pub all_known : List ℕ → Data → Option (List ℕ) → Read Data
 all_known path d None = Ok d
 all_known path d (Some key) = Err (Unknown (at_key path key))
