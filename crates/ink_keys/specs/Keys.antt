@@ -26,7 +26,7 @@ key_count plan rows group ink keys k =
 unfoldable pub first_column : ℕ → ℕ → ℕ → ℕ
 first_column width keys k = div_ceil (k * width) keys
 
--- how many pixels of a row are 1 from column from to before column to
+-- how many pixels of a row are 1 at the columns in the range from..to
 unfoldable pub dots_between : List ℕ → ℕ → ℕ → ℕ
 dots_between row from to = count_by (bit_at row) (range_with_len from (to - from))
 

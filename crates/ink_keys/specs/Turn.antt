@@ -47,7 +47,7 @@ row_part rows ring width keys g i k n =
     let place = slice_get (places_in rows) n in
     option_map_or (λ at. row_adds width keys at.group at.ink row g i k) place 0
 
--- each count grew by what the rows from number from to before number to add to it, each row once
+-- each count grew by what the rows in the range from..to add to it, each row once
 pub record CountsRows (rows : RowPlanData) (ring : RingNumbers) (from to : ℕ) (old new : CountsData)
     : Type 0 where
   pub same : new ≡ record old { numbers = new.numbers }
