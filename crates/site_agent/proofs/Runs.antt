@@ -1,5 +1,5 @@
--- A run of a site over all rows of a plan: its start, its end, and what stands where it left. A run over any carrier of rows
--- cites these, and `row_passed` and the clause `keeps` of Site::keep between them.
+-- A run of a site over all rows of a plan: its start, its end, and its state where it dropped out. A run over
+-- any carrier of rows cites these, and `row_passed` and the clause `keeps` of `Site::keep` in between.
 use Rattle.std.proofs.Common.{◌≡◌, ℕ, ◌+◌, ◌<◌, ◌≤◌, false, List, [], ◌∷◌, length, map, sum, take, Option, Some, None, refl, sym, ap, subst, ◌∙◌, arith}
 use Rattle.std.specs.Prelude.{is_some, slice_get, slice_index_or, IfSome}
 use Rattle.std.specs.List.{flat_map, range_with_len}
@@ -42,7 +42,7 @@ kept-start : (job : SiteJob) → kept_below job 0 ≡ []
 unfolding kept_below
 kept-start job = refl
 
--- no slot of the rack is begun, and none holds a plate where told
+-- no slot of the rack is begun, and where the contents are known, none holds a plate
 pub record IsIdle (tells : Tells) : Type 0 where
   pub begun : (slot : ℕ) → slot < 5 → slice_get tells.begun slot ≡ Some false
   pub working : IfSome tells.working (λ slots. (slot : ℕ) → slot < 5 → slice_get slots slot ≡ Some None)
@@ -128,7 +128,7 @@ files_are plan rows out site =
     ∙ map-alike (λ plate. file_of (job_of plan out site) rows (plate_of plan out site plate)) (plan_file_of plan rows out site) (site_plates plan site)
     (λ plate. ap (λ list. ((plate_of plan out site plate).path, plate_file (plate_width plan) plan.dpi list)) (rows-are plan rows out site plate))
 
--- after the last row the rack's finished plates grew by exactly the site's files
+-- after the last row, the rack's finished plates grew by exactly the site's files
 pub site_at_end : (plan : PlanData) (rows : List (List ℕ)) (out : List ℕ) (site : ℕ) (source : Source) (before now : Tells) (counts : List (List ℕ)) → IsPlan plan
     → StandsAfter (job_of plan out site) rows source (length (row_places plan)) before now counts → now.finished ≡ grown (site_files plan rows out site) before.finished
 site_at_end plan rows out site source before now counts is stands =
