@@ -1,5 +1,5 @@
--- Without a spot, what a plan says of the spot ink has no part in its rows. A plan without the last of each of
--- its lists of five is what the other inks see of it.
+-- Without a spot, what a plan says about the spot ink does not affect its rows. The other inks depend only on
+-- the plan without the last entry of each of its lists of five.
 use Rattle.std.proofs.Common.{zero, suc, ◌≡◌, ◌≢◌, ℕ, ◌+◌, ◌-◌, ◌<◌, Bool, true, false, cond, ◌&&◌, ◌||◌, List, [], ◌∷◌, ◌++◌, map, take, refl, ap, sym, ◌∙◌, arith}
 use Rattle.std.specs.Prelude.{All, Option, Some, None, slice_get, slice_index}
 use Rattle.std.specs.List.{enumerate_from, flat_map, fold, list_any, range_with_len}
@@ -128,7 +128,7 @@ slot-within Y other = omega arith
 slot-within K other = omega arith
 slot-within S other = absurd (other refl)
 
--- values laid one over the other, and the first of them
+-- the first n values after painting values over others
 take-laid : (n : ℕ) (overprint : Bool) (paints unders : List ℕ) → take n (laid overprint paints unders) ≡ laid overprint (take n paints) (take n unders)
 take-laid zero overprint paints unders = refl
 take-laid (suc n) overprint [] unders = refl
