@@ -1,4 +1,4 @@
--- The plan that the value of a job is.
+-- The plan read from the value of a job.
 use Rattle.std.proofs.Common.{◌≡◌, ℕ, ◌+◌, ◌*◌, ◌/◌, ◌%◌, ◌==◌, if◌then◌else◌, ◌<◌, ◌≤◌, true, false, List, [], ◌∷◌, ◌++◌, map, Some, None, Ok, refl, codes, zero, suc, nat_le, arith}
 use Rattle.std.proofs.lemmas.Bool.Decides.{nat_tests}
 use Rattle.std.specs.List.{range_with_len}
@@ -14,7 +14,7 @@ use Rattle.job_gen.specs.Plan.{job_plan, plan_with, job_mark, job_screens, is_co
 use Rattle.job_gen.specs.Numbers.{size_of}
 use Rattle.job_gen.specs.Text.{job_value, layout_members, printing_members, pages_value, sections_value, sites_value, value_with, whole, zones_value, list_of}
 
--- the pages as a text tells them, with the names of their files
+-- the pages as a text describes them, with the names of their files
 text_page : ℕ → ℕ → PageText
 text_page pages j = record {
   name = page_name j;
