@@ -25,7 +25,7 @@ use Rattle.site_agent.proofs.Holding.{FinishedTold}
 use Rattle.site_agent.proofs.Opens.{plate_at}
 use Rattle.site_agent.proofs.Standing.{row_kept}
 
--- ---- the answer where the rack refused a call
+-- ---- the result if the rack refused a call
 
 pub done-refused : (kept : Kept) (fault : RackFault) (cause : LeftCause) (P : Type 0) → kept ≡ kept_of fault cause → OnDone kept P
 done-refused kept Failed cause P is = subst (λ (k : Kept). OnDone k P) (sym is) tt

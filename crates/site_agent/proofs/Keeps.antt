@@ -188,7 +188,7 @@ drawn_below plan out site source m is most =
 pub drawn_at_end : (plan : PlanData) (out : List ℕ) (site : ℕ) (source : Source) → IsPlan plan → taken_below (job_of plan out site) source (length (row_places plan)) ≡ drawn_rows plan site source
 drawn_at_end plan out site source is = drawn_below plan out site source (length (row_places plan)) is (omega arith)
 
--- ---- a site that left
+-- ---- a site that dropped out
 
 count_by-map : {X Y : Type 0} (p : Y → Bool) (q : X → Bool) (f : X → Y) (xs : List X) → ((x : X) → p (f x) ≡ q x) → count_by p (map f xs) ≡ count_by q xs
 count_by-map p q f [] same = refl

@@ -147,7 +147,7 @@ picked_at_end plan rows out site n bits source before now counts all stands =
     ∙ ap (λ files. grown files before.finished)
     (take_all (length job.plates) (files_of job rows) (omega (arith, length-map job.plates (file_of job rows))) ∙ picked_files_are plan rows out site bits)
 
--- ---- a site that left
+-- ---- a site that dropped out
 
 -- at a row, no more plates are finished than precede the row's plate
 pub finished_before : (job : SiteJob) (n k y : ℕ) (d : SitePlate) → IsJob job → IsRowOf job n k y → finished_count job n ≤ k

@@ -83,7 +83,7 @@ counts_stay before = record {
 pub rose_since : (before old now : ℕ) → before ≤ old → Rose old now → Rose before now
 rose_since before old now from rose = ⊎_elim (λ more. inl (omega (arith, from, more))) (λ last. inr last) rose
 
--- ---- racks and others behind them
+-- ---- racks followed by others
 
 -- what contracts see of those racks, and of the ones after them
 pub wide : {X : Type 0} (tell : X → RackTells) (racks front rest : List X) → racks ≡ front ++ rest → map tell racks ≡ map tell front ++ map tell rest

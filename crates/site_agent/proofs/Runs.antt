@@ -64,7 +64,7 @@ stands_at_start job rows source tells counts is idle = record {
   slots None idle' = tt
   slots (Some held) idle' = λ slot less. idle' slot less ∙ ap (λ p. Some (option_map (begun_plate job rows 0) p)) (sym (open-start job slot))
 
--- ---- what the site asks of its rack for the next row
+-- ---- what the site requires of its rack for the next row
 
 shown : (f : SitePlate → Plate) (plate : Option SitePlate) → is_some (option_map f plate) ≡ is_some plate
 shown f None = refl
@@ -106,7 +106,7 @@ finished_at_end job rows source before now counts is stands =
     ∙ ap (λ k. grown (take k (files_of job rows)) before.finished) (finished-end job is)
     ∙ ap (λ files. grown files before.finished) (take_all (length job.plates) (files_of job rows) (omega (arith, length-map job.plates (file_of job rows))))
 
--- ---- in the words of the plan
+-- ---- in terms of the plan
 
 pub number-is : (plan : PlanData) (out : List ℕ) (site y : ℕ) (plate : PlateOf) → number_in (plate_of plan out site plate) y ≡ row_number plate.0 y plate.1
 number-is plan out site y plate = omega arith

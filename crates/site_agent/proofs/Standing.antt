@@ -27,7 +27,7 @@ use Rattle.site_agent.proofs.Opens.{plate_at, StandsAs, open_in-plate}
 use Rattle.site_agent.proofs.Steps.{row-given, row-next, open-before, open-after, last-after, open-other, given-other, finished-last, finished-open, open-none, finished-none, kept-row, kept-none, rows-more, rows-none, length-rows_of}
 use Rattle.site_agent.proofs.Holding.{put, put-same, put-other, begins, takes, finishes, alike, FinishedTold}
 
--- ---- a slot whose plate gets no row
+-- ---- a slot whose plate gains no row
 
 plate-same : (job : SiteJob) (rows : List (List ℕ)) (n m slot : ℕ) → open_in job m slot ≡ open_in job n slot → ((plate : SitePlate) → open_in job n slot ≡ Some plate → given job.height plate m ≡ given job.height plate n)
     → plate_below job rows n slot ≡ plate_below job rows m slot
@@ -54,7 +54,7 @@ counts-same job rows n m slot counts after open' same kept are = by_plate (open_
       let P : Option SitePlate → Type 0 = λ plate. IfSome plate (λ p. slice_index_or after slot [] ≡ counts_so_far job.width job.height (rows_below job rows m p)) in
       subst P (sym (open' ∙ there)) (kept ∙ are' ∙ ap (λ g. counts_so_far job.width job.height (rows_of rows plate g)) (sym (same plate there)))
 
--- ---- a row that is of no plate
+-- ---- a row that belongs to no plate
 
 stays-none : (job : SiteJob) (n slot : ℕ) (plate : SitePlate) → IsNoRow job n → open_in job n slot ≡ Some plate → given job.height plate (n + 1) ≡ given job.height plate n
 stays-none job n slot plate row open' =
@@ -209,7 +209,7 @@ taken-row : (job : SiteJob) (source : Source) (n k y : ℕ) (d : SitePlate) → 
 taken-row job source n k y d row =
     sym (map-append (λ k. (k, source)) (kept_below job n) (n ∷ [])) ∙ ap (map (λ k. (k, source))) (sym (kept-row job n k y d row))
 
--- ---- whether the finished plates are told
+-- ---- whether the finished plates are known
 
 told-plate : (slot : ℕ) (plate : Option Plate) (working : Option Slots) → with_plate slot plate working ≡ None → working ≡ None
 told-plate slot plate None none = refl

@@ -124,7 +124,7 @@ finished-open job n k y is row more =
     (λ (other : j ≢ k). no_other job n k y j (job.height - 1) d is row less other (omega arith))
     (cases_eq j k))
 
--- ---- a row that is of no plate
+-- ---- a row that belongs to no plate
 
 pub open-none : (job : SiteJob) (n slot : ℕ) → IsNoRow job n → open_in job (n + 1) slot ≡ open_in job n slot
 open-none job n slot row = open_in-alike job (n + 1) n slot (λ j d less same. given-stays job.height n (plate_at job j d) (λ y below. row.none j y d less below))

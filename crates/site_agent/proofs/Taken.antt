@@ -106,7 +106,7 @@ begins_with keeps source n (suc j) =
       ap (listed keeps source) next ∙ listed-more keeps source (n + j) ∙ ap (λ list. list ++ last) rest.1 ∙ append_assoc (listed keeps source n) rest.0 last,
     )
 
--- ---- a site that left at row n
+-- ---- a site that dropped out at row n
 
 taken-then : (call : RackCall) (n : ℕ) (source : Source) (list : List (ℕ × Source)) (before : Option (List (ℕ × Source)))
     → taken_at call n source (grown list before) ≡ grown (list ++ cond (is_finish call) ((n, source) ∷ []) []) before
@@ -132,7 +132,7 @@ taken_up_to plan out site source n cause before old new is within at stood took 
     ∙ ap (λ k. rows_up_to n cause.call (listed keeps source k)) (sym all)
     ∙ ap (λ k. rows_up_to k cause.call (drawn_rows plan site source)) (sym at.row))
 
--- ---- a site whose rack wanted memory
+-- ---- a site whose rack ran out of memory
 
 -- the rows taken below a row are the first of those that the site keeps
 pub taken_first : (plan : PlanData) (out : List ℕ) (site : ℕ) (source : Source) (n : ℕ) → IsPlan plan → n ≤ length (row_places plan)
