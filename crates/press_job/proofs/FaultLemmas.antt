@@ -27,7 +27,7 @@ use Rattle.pr_base.specs.First.{first_some}
 use Rattle.press_job.specs.Tests.{crop_fault, fault_for, fault_of_file, fault_of_layers, fault_where, fit_fault, layer_fault, length_of, mask_fault, mention_fault, mentions_of, page_fault, page_fit_fault, width_of}
 use Rattle.press_job.specs.Layers.{bytes_at}
 
--- ---- the first answer of a list
+-- ---- the first result of a list
 
 option_or-holds : {B : Type 0} (P : B → Type 0) (a b : Option B) → IfSome a P → IfSome b P → IfSome (option_or a b) P
 option_or-holds P None b first second = second

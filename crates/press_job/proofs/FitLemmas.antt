@@ -31,7 +31,7 @@ use Rattle.press_job.specs.Fit.{ArePlanned, PassesTests}
 use Rattle.press_job.specs.Layers.{art_in, art_of, bilevel_of, bytes_at, crop_of, layer_of, planned_layers, shape_told}
 use Rattle.press_job.specs.Tests.{crop_fault, fault_for, fault_of_file, fault_of_layers, fault_where, fit_fault, layer_fault, length_of, mask_fault, mention_fault, page_fault, page_fit_fault, use_of, width_of}
 
--- ---- where there is no answer
+-- ---- if there is no result
 
 or_none : {B : Type 0} (a b : Option B) → option_or a b ≡ None → (a ≡ None) × (b ≡ None)
 or_none None b none = (refl, none)

@@ -18,7 +18,7 @@ use Rattle.pr_base.specs.First.{first_some}
 use Rattle.press_job.specs.Tests.{ArePassed, fault_of_file}
 use Rattle.press_job.specs.Verdict.{AreFirst, IfFile, first_files, held_bytes, limit_behind, path_of, verdict_at, verdict_before, verdict_on}
 
--- ---- one more question
+-- ---- one more element
 
 range_more : (n : ℕ) → range_with_len 0 (n + 1) ≡ range_with_len 0 n ++ n ∷ []
 range_more n =
@@ -143,7 +143,7 @@ refused_told plan folder (Some held) files file limit fault count within are lim
     (ap (verdict_at plan folder held) (sym count) ∙ at_first plan folder held files limit are limit_is
     ∙ ap (λ n. verdict_on plan folder limit n (held_at held (path_of plan folder n))) count ∙ refused)
 
--- ---- what loading keeps
+-- ---- the invariant of loading
 
 -- `file` files, of `loaded` bytes together, are loaded and pass
 pub record AreLoaded (plan : PlanData) (folder : List ℕ) (held : Option (List (List ℕ × List ℕ))) (files : List (List ℕ)) (file loaded : ℕ) : Type 0 where

@@ -63,7 +63,7 @@ front-end [] last = refl
 front-end (x ∷ []) last = refl
 front-end (x ∷ y ∷ ys) last = ap (λ zs. x ∷ zs) (front-end (y ∷ ys) last)
 
--- ---- what the other inks see of a plan
+-- ---- what the other inks depend on in a plan
 
 abbrev process_mark : MarkData → MarkData
 process_mark mark = record mark { inks = take 4 mark.inks }
@@ -119,7 +119,7 @@ fronts plan =
 process_alike : (a b : PlanData) → SameButSpot a b → process_plan a ≡ process_plan b
 process_alike a b same = sym (fronts a) ∙ ap front_plan same ∙ fronts b
 
--- ---- the bits of an ink that isn't S
+-- ---- the bits of an ink other than S
 
 slot-within : (ink : Ink) → ink ≢ S → slot_of ink < 4
 slot-within C other = omega arith
@@ -258,7 +258,7 @@ row-alike plan files left right ink y other =
     ap (λ n. packed_row n (λ x. plate_bit (process_plan plan) files left right ink x y)) width
     ∙ ap {A = ℕ → Bool} (λ bits. packed_row (plate_width plan) bits) (fun_ext (λ x. plate-alike plan files left right ink x y other))
 
--- ---- no row is one of S
+-- ---- no row belongs to S
 
 -- an ink that is not S
 abbrev IsNotSpot : Ink → Type 0

@@ -176,7 +176,7 @@ refused_of plan folder None files file limit fault distinct count less first wit
       let here : held_at all (path_of plan folder file) ≡ Some bytes = at file (omega arith) ∙ ap (λ b. Some b) (get_or_push files bytes [] file count) in
       (all, refused_told plan folder (Some all) files file limit fault count less before limit_is (ap (verdict_on plan folder limit file) here ∙ refused))
 
--- ---- what becomes of a plan's files
+-- ---- the verdict on a plan's files
 
 -- the verdict on loaded files is the verdict on the layers
 judged_is : (plan : PlanData) (folder : List ℕ) (all : Held) (files : List (List ℕ)) → length files ≡ length plan.files → AreFirst plan folder all files

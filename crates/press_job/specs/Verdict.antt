@@ -76,7 +76,7 @@ verdict_on_files plan folder held =
     option_or (verdict_before plan folder held (length plan.files))
     (option_map (misfit_refusal plan) (fault_of_layers plan (files_in plan folder held)))
 
--- ---- what loads gave
+-- ---- the results of loads
 
 -- these are the first files of a plan as they are held, and all pass
 pub record AreFirst (plan : PlanData) (folder : List ℕ) (held : List (List ℕ × List ℕ)) (files : List
