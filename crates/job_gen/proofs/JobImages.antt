@@ -71,7 +71,7 @@ bit_at-packed_row width bit x below =
     ∙ byte_bit-packed (λ k. nat_lt (8 * (x / 8) + k) width && bit (8 * (x / 8) + k)) (x % 8) (omega arith)
     ∙ ap (λ n. nat_lt n width && bit n) place ∙ ap (λ b. b && bit x) inside
 
--- ---- rows one behind the other
+-- ---- concatenated rows
 
 cut-row : (row : ℕ → List ℕ) (size length' y : ℕ) → ((k : ℕ) → length (row k) ≡ size) → y < length' → row_at size (rows_of row length') y ≡ row y
 cut-row row size length' y same below = row-cut row size 0 length' y length' (omega arith) (λ k less. same k) below ∙ ap row (omega arith)

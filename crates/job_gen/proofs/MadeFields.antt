@@ -122,7 +122,7 @@ all-written form places counts fits =
       ),
     )
 
--- ---- where the first strip stands
+-- ---- the offset of the first strip
 
 bits-out : (kind : Kind) → outside_size (shorts 258 (bits_of kind)) ≡ bits_outside kind
 bits-out Contone = refl
@@ -143,7 +143,7 @@ front-place : (form : ImageForm) (places counts : List ℕ) → length places �
 unfolding image_fields first_strip
 front-place form places counts p c = front-place-by form places counts form.planar p c
 
--- ---- places and byte counts fit
+-- ---- offsets and byte counts fit
 
 begins-within : (place : ℕ) (pieces : List (List ℕ)) (k d : ℕ) → k < length pieces → get_or (begins place pieces) k d ≤ place + length (joined pieces)
 unfolding begins
@@ -205,7 +205,7 @@ made-fits form rows is has small =
       counts_fit = λ k d below. let h = sizes-within all k d (omega arith) in omega arith;
     }
 
--- ---- the fields of a made image
+-- ---- the fields of a generated image
 
 -- PlanarConfiguration, if present
 abbrev pub planar_values : Planar → Option (List ℕ)

@@ -28,7 +28,7 @@ use Rattle.tif_make.specs.Made.{HasRows}
 use Rattle.tif_make.specs.Strips.{begins, ink_row, joined, plane_row, plane_row_of, plane_strips, row_at, sizes, stored_at, stored_row, strip, strips}
 use Rattle.tif_make.proofs.Pieces.{length-begins, length-strips, rows-joined, rows_above, strips_fill}
 
--- ---- pieces behind a front
+-- ---- pieces after a front
 
 -- a piece is recovered from its offset and its length
 piece-back : (front : List ℕ) (pieces : List (List ℕ)) (i place : ℕ) → i < length pieces → place ≡ length front

@@ -55,7 +55,7 @@ joined_eight : (pages_of (text_pages 8) ≡ job_pages 8) × (files_of (text_page
 unfolding digits text_pages text_page job_pages job_files pages_of page_of layer_of index_of files_of
 joined_eight = (refl, refl)
 
--- ---- the lists behind the pages
+-- ---- the lists after the pages
 
 sections_four : (path : List ℕ) → sections (page_names (text_pages 4)) path (list_of (sections_value 4)) ≡ Ok (job_sections 4)
 unfolding digits is_name is_name_byte object_with required name new_name defined items_in items_within each_after section_pages section sections sections_value job_sections text_pages text_page
