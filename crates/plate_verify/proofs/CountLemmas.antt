@@ -72,7 +72,7 @@ pub plates-all : (plan : PlanData) (i n : ℕ) → n ≡ length (flat_map (group
 plates-all plan i n is past =
     is ∙ ap (λ gs. length (flat_map (group_sites plan) gs)) (take_all i (groups_of plan) past) ∙ sym (ap {A = List SitePlate} length (order_is plan))
 
--- ---- the answer
+-- ---- the result
 
 pub after_all : (plan : PlanData) (rows : List (List ℕ)) (out : List ℕ) (old new : ShelfTold) (r : Result (Option Checked) VerifyFault) → Looked plan rows out (plates_in_order plan) old new r
     → AfterAll plan rows out old new (answer_of plan r)

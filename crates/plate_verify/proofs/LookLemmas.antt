@@ -129,7 +129,7 @@ looked_failed plan rows out at old new path named rose missed stays = record {
     nothing None = tt
     nothing (Some files) = refl
 
--- ---- one look after another
+-- ---- one check after another
 
 stays-then : (a b c : ShelfTold) → Stays a b → Stays b c → Stays a c
 stays-then a b c p q = record { held = q.held ∙ p.held; faults = (let f = p.faults in let g = q.faults in omega arith); longs = (let f = p.longs in let g = q.longs in omega arith) }
@@ -221,7 +221,7 @@ looked_before plan rows out xs ys a b (Err (Shelf path)) p s = record {
 }
 looked_before plan rows out xs ys a b (Err Memory) p s = p
 
--- ---- a loop over what has plates
+-- ---- a loop over parts that have plates
 
 pub none_looked : (plan : PlanData) (rows : List (List ℕ)) (out : List ℕ) (told' : ShelfTold) → AreRight plan rows out [] told' told'
 none_looked plan rows out s = record { quiet = record { stays = record { held = refl; faults = omega arith; longs = omega arith }; missed = refl }; right = nothing s.held }

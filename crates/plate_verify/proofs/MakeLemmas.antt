@@ -271,7 +271,7 @@ fed_again plates plates' left len sides next fed have many = record {
   frame = fed.frame;
 }
 
--- ---- the ends
+-- ---- completion
 
 pub record FinishedTo (sides : Sides) (rows : ℕ → List (List ℕ)) (j : ℕ) (plates : List PlateState) : Type 0 where
   pub done : (i : ℕ) (d : PlateState) → i < j → i < length plates → get_or plates i d ≡ whole sides.width sides.height sides.dpi (rows i)

@@ -118,7 +118,7 @@ by_site plan P each site below =
     (inks_of group) (mapped_each (λ (plate : PlateOf). Each at (plate_sites plan plate)) (λ (ink : Ink). (group, ink)) (inks_of group) own)))
     groups parts))
 
--- ---- the first wrong one
+-- ---- the first difference
 
 -- no difference is AllRight
 none_right : (plan : PlanData) (rows : List (List ℕ)) (out : List ℕ) (held : List (List ℕ × List ℕ)) → Each (λ x. (m : ℕ) → x ≡ AllRight m → ⊥) (wrongs plan rows out held)

@@ -120,7 +120,7 @@ fn look_at_sites<H: Shelf>(
     Ok(None)
 }
 
-/// Verifies the plates of a group, ink by ink, each at all its sites before the next.
+/// Looks at the plates of a group, ink by ink, each at all its sites before the next.
 pub(crate) fn look_at_group<H: Shelf>(
     alloc: Global,
     plan: &Plan,
