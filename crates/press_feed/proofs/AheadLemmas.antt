@@ -129,7 +129,7 @@ diffused_more job group lone first k old new diffused drawn set = record {
 pub diffused_past : (job : JobData) (group : Group) (lone : Ink) (first k : ℕ) (sheet : List (List ℕ)) → job.plan.page_height ≤ first + k → AreDiffused job group lone first k sheet → AreDiffused job group lone first (k + 1) sheet
 diffused_past job group lone first k sheet past diffused = record { each = λ j less within. diffused.each j (omega arith) within }
 
--- ---- the rows that are taken, step by step
+-- ---- taking rows, step by step
 
 pub hold_then : (job : JobData) (group : Group) (lone : Ink) (first n m : ℕ) (a b c : Chains) → HoldRows job group lone first n a b → HoldRows job group lone first m b c → HoldRows job group lone first m a c
 hold_then job group lone first n m a b c before after = record {
@@ -182,7 +182,7 @@ row_kept job lone pages chains sheet held blocks group ink y are there has row w
       | inr other ↦ (of.tiled (omega arith)).each (y % 8) ink (omega arith) (omega arith) has (λ same. absurd (other (ap slot_of same)))
     ])
 
--- ---- the ink that is diffused alone
+-- ---- the single diffused ink
 
 -- among the first inks none is diffused, or one
 pub record IsLone (plan : PlanData) (count : ℕ) (found : Option Ink) : Type 0 where
@@ -258,7 +258,7 @@ lone_no_more plan i (Some one) second ink some slot on lone only =
     below : (a b : ℕ) → a < b → a ≡ b → ⊥
     below a b less same = omega arith
 
--- ---- a block more
+-- ---- one more block
 
 wide_behind : (width : ℕ) (chain : BlockFront) → IsWide width chain → IsWide width (behind_held chain)
 wide_behind width chain wide = record { width_is = wide.width_is; eight = wide.eight }

@@ -144,7 +144,7 @@ pub wide_spot : (plan : PlanData) (files : List (List ℕ)) (left right y : ℕ)
     → ForSome screens.spot (λ front. HasWidth planes front.width)
 wide_spot plan files left right y planes screens have has = wide spot_rows plan files left right y planes screens.spot have.spot has
 
--- ---- what a screener draws
+-- ---- the pixels of a screener
 
 -- a screener that was read is the one at that index
 pub found : (screeners : List Screener) (i slot : ℕ) (own screener : Screener) → i ≡ slot → own ≡ get_or screeners i own → slice_get screeners slot ≡ Some screener → own ≡ screener

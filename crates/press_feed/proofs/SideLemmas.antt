@@ -38,7 +38,7 @@ IsSide-begin job rows new old page shown tones planes is new_is =
       shows = λ none. absurd (omega arith);
     }
 
--- ---- one row on
+-- ---- one more row
 
 -- the row before its next one is the current one, if there is one
 pub before_next : (job : JobData) (rows : Page) (page shown : ℕ) (tones : PlanData) (planes : Planes) (colour spot : Bool)
@@ -80,7 +80,7 @@ IsSide-show job rows new page shown tones planes row colour spot is within colou
     let here : rows ≡ record rows { next = shown } = ap (λ n. record rows { next = n }) (ap (λ (p : Page). p.next) is.rows_are) in
     IsSide-painted job rows rows new page shown shown tones planes row colour spot is within colour_is spot_is here new_is shows wide
 
--- ---- a row that is drawn
+-- ---- drawing a row
 
 -- the values of an ink of the row made last
 pub values_are : (job : JobData) (rows : Page) (page shown y : ℕ) (tones : PlanData) (planes : Planes) (ink : Ink) (values : List ℕ) → IsSide job rows page shown tones planes
@@ -107,7 +107,7 @@ found_screener plan ink screeners screener are there =
     let own = own_screener plan ink screeners are in
     subst {A = Screener} (IsScreener plan ink) (same_Some own.0 screener (sym own.1 ∙ there)) own.2
 
--- ---- a side that is opened
+-- ---- a new side
 
 pub IsSide-open : (job : JobData) (rows : Page) (tones : PlanData) (planes : Planes) → IsPlan job.plan → rows ≡ page_before job.plan job.files rows.room 0 0
     → ((page : ℕ) → length (planned_layers job.plan page) ≤ rows.room) → tones ≡ job.plan

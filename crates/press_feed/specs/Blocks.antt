@@ -84,7 +84,7 @@ pub record IsSetAt (i : ℕ) (old new : List (List ℕ)) : Type 0 where
 abbrev pub IsSheet : JobData → List (List ℕ) → Type 0
 IsSheet job sheet = AreRows 40 (row_size (plate_width job.plan)) sheet
 
--- ---- what blocks of rows keep
+-- ---- the invariant of blocks of rows
 
 -- both pages of a group were taken up to a block, whose rows are in the sheet
 pub record IsBlockOf (job : JobData) (lone : Ink) (chains : Chains) (sheet : List (List ℕ)) (blocks : ℕ)

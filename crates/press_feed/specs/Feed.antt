@@ -14,7 +14,7 @@ pub record FeedData : Type 0 where
 abbrev pub rows_left : FeedData → List (List ℕ)
 rows_left feed = drop feed.next (plate_frames feed.job.plan feed.job.files)
 
--- ---- what the code of a feed keeps
+-- ---- the invariant of a feed
 
 -- the maker of rows and the band belong to the feed's job
 pub record IsFeed (job maker : JobData) (band : BandData) (next : ℕ) : Type 0 where

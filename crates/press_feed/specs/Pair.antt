@@ -39,7 +39,7 @@ pub record ShowsRow (job : JobData) (group : Group) (y : ℕ) (pages : PairData)
   pub right_is : pages.right ≡ group.right
   pub shown : pages.shown ≡ y + 1
 
--- ---- what the code of two pages keeps
+-- ---- the invariant of two pages
 
 -- a side belongs to a job
 pub record IsOf (job : JobData) (side : Side) (pages : SideData) : Type 0 where

@@ -11,7 +11,7 @@ use Rattle.press_feed.specs.declared.screener.Screener.{Screener}
 use Rattle.press_feed.specs.declared.screener.Screener.TheVariants.{Tile, Diffusion}
 use Rattle.press_job.specs.Printing.{own_threshold, screen_of}
 
--- ---- what the plan says
+-- ---- the screens of a plan
 
 abbrev pub is_diffusion : Screen → Bool
 is_diffusion (Bayer side) = false

@@ -19,7 +19,7 @@ use Rattle.press_feed.specs.declared.side.Side.TheVariants.{Left, Right}
 use Rattle.press_job.specs.Printing.{page_values, printed_row}
 use Rattle.press_feed.specs.Screener.{AreScreeners, is_diffused}
 
--- ---- which lane an ink of a page has
+-- ---- the lane of an ink of a page
 
 -- the diffusers of an ink: S has its own
 abbrev pub bank_of : Screens → Ink → Option EightFronts
@@ -53,7 +53,7 @@ abbrev pub spot_rows : Planes → Planes → List (List ℕ)
 spot_rows left right =
     left.spot ∷ right.spot ∷ left.spot ∷ right.spot ∷ left.spot ∷ right.spot ∷ left.spot ∷ right.spot ∷ []
 
--- ---- what a row makes
+-- ---- the effect of a row
 
 -- the diffusers after one more row of eight pages
 abbrev pub behind_rows : List (List ℕ) → EightFronts → EightFronts
@@ -86,7 +86,7 @@ abbrev pub bit_by : Screener → Option EightFronts → ℕ → ℕ → List ℕ
 bit_by (Tile tile) bank lane y values x = tile_bit (slice_index values x) (threshold_of tile x y)
 bit_by Diffusion bank lane y values x = option_map_or (λ front. last_bit lane front x) bank false
 
--- ---- what the code of a feed keeps
+-- ---- the invariant of screens
 
 -- they screen as a plan says; if diffused inks are drawn elsewhere, they hold no diffusers
 pub record AreScreens (plan : PlanData) (apart : Bool) (screens : Screens) : Type 0 where

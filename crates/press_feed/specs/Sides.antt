@@ -18,7 +18,7 @@ abbrev pub left_edge : PlanData → Side → ℕ
 left_edge plan Left = (shape_of_plate plan).left_x
 left_edge plan Right = (shape_of_plate plan).right_x
 
--- ---- what is shown
+-- ---- the current page and row
 
 -- the current page of the side, and how many of its rows were made
 pub record SideData : Type 0 where
@@ -36,7 +36,7 @@ at_top page side = record side { page = page; shown = 0 }
 abbrev pub behind_row : ℕ → SideData → SideData
 behind_row y side = record side { shown = y + 1 }
 
--- ---- what the code of a side keeps
+-- ---- the invariant of a side
 
 -- a page of the plan before row y, in buffers for this many layers
 abbrev pub page_before : PlanData → List (List ℕ) → ℕ → ℕ → ℕ → Page
