@@ -71,7 +71,7 @@ numbered-frames count = record {
   frames [] = refl
   frames (n ∷ ns) = ap (λ f. f ∷ map (λ m. frame_of (row m)) ns) (ap frame_of (sym (framed_row-frame_of (row n) (omega arith)))) ∙ ap (λ rest. frame_of (framed_row (frame_of (row n))) ∷ rest) (frames ns)
 
--- ---- a row that is handed on
+-- ---- a row that is passed on
 
 pub of_done : (last : Kept) (P : Type 0) → last ≡ Done → OnDone last P → P
 of_done Done P is p = p
