@@ -1,4 +1,4 @@
-// What `one` tells of words, of its file, and of a shelf and sinks that fail.
+// What `one` reports of its arguments, of its file, and of a shelf and sinks that fail.
 ghost use Rattle.std.specs.Prelude.{None};
 
 use crate::files::{PLATE, patch, plain};
@@ -8,14 +8,14 @@ use std::process::Abort;
 use std::thread::Threads;
 use std::time::Clock;
 
-// Words that are no command.
+// Arguments that are not a command.
 const WORDS: Want<'static> = Want {
     status: 2,
     out: &[],
     line: "plateroom: words\n",
 };
 
-// The output or the note failed.
+// The output or the error output failed.
 const FAILED: Want<'static> = Want {
     status: 7,
     out: &[],
@@ -28,7 +28,7 @@ const PRINTED: Want<'static> = Want {
     line: "",
 };
 
-// The shelf lacks a file or failed at it.
+// The shelf has no such file, or failed to load it.
 const NO_A: Want<'static> = Want {
     status: 5,
     out: &[],
@@ -41,8 +41,8 @@ const NO_B: Want<'static> = Want {
     line: "plateroom: shelf: b.tif\n",
 };
 
-// Words, the calls of shelf, output and note that fail, and what is wanted. The output takes a plate in one
-// call.
+// The arguments, the failing calls of the shelf, the output and the error output, and the expected result.
+// The output takes a plate in one call.
 const CASES: [(&[&str], [Option<u64>; 3], Want<'static>); 11] = [
     (&[], CALM, WORDS),
     (&["one"], CALM, WORDS),
@@ -68,7 +68,7 @@ fn tells_what_is_wrong_and_what_failed(rt: HostRuntime) {
     check_cases(&rt, &plain(&rt));
 }
 
-// Over this file `one` prints nothing, and tells this line.
+// Asserts that `one` prints nothing of this file and reports this line.
 fn assert_refuses<R: Abort + AllocGlobal + Threads + Clock + Sync>(
     rt: &R,
     file: &[u8],
@@ -82,7 +82,7 @@ fn assert_refuses<R: Abort + AllocGlobal + Threads + Clock + Sync>(
     assert!(rt; does(rt, &ONE, file, CALM, &want));
 }
 
-// The first 100 bytes hold no whole directory.
+// The first 100 bytes contain only part of the directory.
 #[test]
 fn refuses_a_cut_directory(rt: HostRuntime) {
     let mut file = plain(&rt);
@@ -98,7 +98,7 @@ fn refuses_lzw(rt: HostRuntime) {
     assert_refuses(&rt, &file, "plateroom: file a.tif: tag 259: compression\n");
 }
 
-// A shelf whose files are all too long.
+// A shelf on which every file is too long.
 #[derive(Drop)]
 struct LongShelf {
     longs: u64,
@@ -119,7 +119,7 @@ impl Shelf for LongShelf {
     }
 }
 
-// A sink that has no memory left.
+// A sink that is out of memory.
 #[derive(Drop)]
 struct FullSink;
 
