@@ -1,4 +1,4 @@
-// Commands over a desk, racks and sinks in memory.
+// Commands with a desk, racks and sinks in memory.
 ghost use Rattle.std.specs.Prelude.{◌≡◌, ◌≤◌, length};
 ghost use Rattle.room_base.specs.Seen.{AreIdle};
 
@@ -11,11 +11,11 @@ use std::process::Abort;
 use std::thread::Threads;
 use std::time::Clock;
 
-/// The words by which plates are looked at.
+/// The arguments that verify the plates.
 pub const VERIFY: [&str; 4] = ["verify", "plan.json", "FILES", "OUT"];
 
-/// What a desk has, and which calls fail: of the desk, of the output, and of the note. Then what is wanted:
-/// the status, what is written, the line of the note, and how many loads there are.
+/// The contents of a desk and the failing calls of the desk, the output and the error output, then the
+/// expected status, output, line of the error output, and number of loads.
 #[derive(Clone, Copy)]
 pub struct Case<'a> {
     pub plan: &'a str,
@@ -31,7 +31,7 @@ pub struct Case<'a> {
 /// No call fails.
 pub const CALM: [Option<u64>; 3] = [None; 3];
 
-// A sink of which this call fails.
+// Returns a sink whose call with this number fails.
 fn sink<R: Abort + AllocGlobal>(rt: &R, failing: Option<u64>) -> MemSink {
     let mut calls = Vec::new(rt.alloc());
     if let Some(call) = failing {
@@ -40,10 +40,10 @@ fn sink<R: Abort + AllocGlobal>(rt: &R, failing: Option<u64>) -> MemSink {
     MemSink::new(rt.alloc(), calls)
 }
 
-// An edition has at most so many sites.
+// The maximum number of sites of an edition.
 const RACKS: usize = 16;
 
-// Sixteen racks, none of which fails.
+// Returns sixteen racks, none of which fails.
 fn racks<R: Abort + AllocGlobal>(rt: &R) -> Vec<MemRack>
     ensures count { length result.items ≡ 16 }
     ensures idle { AreIdle ⟦<MemRack as Rack>⟧ result.items }
@@ -56,7 +56,7 @@ fn racks<R: Abort + AllocGlobal>(rt: &R) -> Vec<MemRack>
     racks
 }
 
-// The words of a command line.
+// Returns the arguments of a command line.
 fn texts<R: Abort + AllocGlobal>(rt: &R, words: &[&str]) -> Vec<String> {
     let mut texts = Vec::new(rt.alloc());
     for word in words {
@@ -66,7 +66,7 @@ fn texts<R: Abort + AllocGlobal>(rt: &R, words: &[&str]) -> Vec<String> {
     texts
 }
 
-// The call, of which a test is told the status alone.
+// Runs the program. Tests see only its status.
 fn answer<T: Threads + Clock + Sync, H: Shelf, R: Rack + Send, S: Sink, E: Sink>(
     rt: &T,
     alloc: Global,
@@ -82,7 +82,7 @@ fn answer<T: Threads + Clock + Sync, H: Shelf, R: Rack + Send, S: Sink, E: Sink>
     plate_main(rt, alloc, words, shelf, racks, out, note)
 }
 
-// Does a command of these words, and gives its status.
+// Runs a command with these arguments, and returns its status.
 fn command<T: Abort + AllocGlobal + Threads + Clock + Sync, H: Shelf, S: Sink, E: Sink>(
     rt: &T,
     words: &[&str],
@@ -98,14 +98,15 @@ fn command<T: Abort + AllocGlobal + Threads + Clock + Sync, H: Shelf, S: Sink, E
     answer(rt, rt.alloc(), words.as_slice(), shelf, racks, out, note)
 }
 
-// No rack took a row or has a file.
+// Whether no rack took a row or has a file.
 fn are_empty(racks: &[MemRack]) -> bool {
     racks
         .iter()
         .all(|rack| rack.files().is_empty() && rack.taken().is_empty())
 }
 
-// Whether a command of these words ends with this status and this line, and leaves the racks alone.
+// Whether a command with these arguments ends with the expected status and line, and leaves the racks
+// unchanged.
 fn tells<R: Abort + AllocGlobal + Threads + Clock + Sync, H: Shelf, S: Sink>(
     rt: &R,
     words: &[&str],
@@ -120,7 +121,7 @@ fn tells<R: Abort + AllocGlobal + Threads + Clock + Sync, H: Shelf, S: Sink>(
     status == case.status && note.bytes() == case.line.as_bytes() && are_empty(racks.as_slice())
 }
 
-/// Whether a command of these words does what is wanted.
+/// Whether a command with these arguments has the expected result.
 pub fn does<R: Abort + AllocGlobal + Threads + Clock + Sync>(
     rt: &R,
     words: &[&str],
@@ -143,7 +144,7 @@ pub fn does<R: Abort + AllocGlobal + Threads + Clock + Sync>(
         && desk.loads == case.loads
 }
 
-/// Row `n` of a table holds.
+/// Asserts that row `n` of a table holds.
 pub fn check(rt: &impl Abort, n: usize, holds: bool) {
     assert!(rt; holds, "row {n}");
 }
