@@ -81,7 +81,7 @@ pub fn shelf<R: Abort + AllocGlobal>(
     MemShelf::new(rt.alloc(), three, calls(rt, failing))
 }
 
-/// The maximum number of sites of an edition.
+/// The most sites that an edition has.
 pub const RACKS: usize = 16;
 
 // Returns the rack of a site, whose call with this number fails.

@@ -40,7 +40,7 @@ fn sink<R: Abort + AllocGlobal>(rt: &R, failing: Option<u64>) -> MemSink {
     MemSink::new(rt.alloc(), calls)
 }
 
-// The maximum number of sites of an edition.
+// The most sites that an edition has.
 const RACKS: usize = 16;
 
 // Returns sixteen racks, none of which fails.
