@@ -1,5 +1,5 @@
--- Two jobs print a section alike at a site: each of its plates in one has one with the same path and recipe
--- in the other.
+-- Two jobs print a section alike at a site: each plate of it there has one of the same path and recipe in the
+-- other job.
 use Rattle.std.proofs.Common.{◌≡◌, ℕ, zero, suc, ◌+◌, ◌-◌, ◌*◌, ◌/◌, ◌<◌, ◌≤◌, Bool, true, false, cond, eqb, List, [], ◌∷◌, length, map, get_or, take, refl, ap, sym, subst, ◌∙◌, inl, inr, zero-add, length-take, get_or-take, arith}
 use Rattle.std.specs.Prelude.{filter, ◌&&◌, ◌||◌}
 use Rattle.std.specs.List.{flat_map, list_any, range_with_len}

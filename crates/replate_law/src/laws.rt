@@ -36,7 +36,8 @@ pub fn part_law()
         → PrintAlike whole part → IsPlateIn part plate → ¬ (MustMake whole.job part.job plate) }
     ensures same { (whole part : SectionAt) (plate : PlateAt) → IsSectionAt whole → IsSectionAt part
         → PrintAlike whole part → IsPlateIn part plate → HasPlate whole part.job plate }
-    // If each job prints every section of the other alike at the site, its files are the same, path by path.
+    // If each job prints every section of the other alike at the site, the site's files are the same, path by
+    // path.
     ensures files { (a b : JobData) (out path : List ℕ) (site its : ℕ) → IsPlan a.plan → IsPlan b.plan
         → site < length a.plan.sites → its < length b.plan.sites
         → SitePrints a site b its → SitePrints b its a site
