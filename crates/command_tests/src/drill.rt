@@ -1,7 +1,8 @@
-// Drills. Their texts are those of check/drill.py, which works by the definitions alone.
+// Tests of drills. The expected texts are those of check/drill.py, which works from the definitions alone.
 use crate::room::{CALM, Want, check, does};
 use std::process::Abort;
 use std::thread::Threads;
+use std::time::Clock;
 
 const SEVEN: &str = "site S0 finished plates 13 rows 832
 site S1 finished plates 13 rows 832
@@ -19,7 +20,7 @@ total rows 320 sites 1
 dots S0 14653
 ";
 
-// The largest images that there are.
+// The drill with the largest images.
 const LARGEST: &str = "site S0 finished plates 13 rows 10192
 site S1 finished plates 13 rows 10192
 site S2 finished plates 13 rows 10192
@@ -48,7 +49,7 @@ const WORDS: Want<'static> = Want {
     line: "plateroom: words\n",
 };
 
-// The drill of 7 over rings of 64, 1, 2, 64 and 1,024 places.
+// The drill of number 7 with rings of 64, 1, 2, 64 and 1,024 places.
 const RINGS: [&[&str]; 5] = [
     &["drill", "7"],
     &["drill", "7", "1", "1"],
@@ -57,7 +58,7 @@ const RINGS: [&[&str]; 5] = [
     &["drill", "7", "1024"],
 ];
 
-// What is no drill.
+// Arguments that are not a drill.
 const NONE: [&[&str]; 6] = [
     &["drill"],
     &["drill", "01"],
@@ -67,8 +68,12 @@ const NONE: [&[&str]; 6] = [
     &["drill", "7", "64", "1024", "7"],
 ];
 
-// A drill of these words prints this text.
-fn prints<R: Abort + AllocGlobal + Threads + Sync>(rt: &R, words: &[&str], text: &str) -> bool {
+// Whether a drill with these arguments succeeds and prints this text.
+fn prints<R: Abort + AllocGlobal + Threads + Clock + Sync>(
+    rt: &R,
+    words: &[&str],
+    text: &str,
+) -> bool {
     let want = Want {
         status: 0,
         out: text.as_bytes(),

@@ -1,4 +1,4 @@
-// What `one` tells of words, of its file, and of a shelf and sinks that fail.
+// What `one` reports of its arguments, of its file, and of a shelf and sinks that fail.
 ghost use Rattle.std.specs.Prelude.{None};
 
 use crate::files::{PLATE, patch, plain};
@@ -6,15 +6,16 @@ use crate::room::{CALM, ONE, Want, check, does, shelf, sink, tells};
 use pr_ports::{LoadFault, Shelf, Sink, SinkFault};
 use std::process::Abort;
 use std::thread::Threads;
+use std::time::Clock;
 
-// Words that are no command.
+// Arguments that are not a command.
 const WORDS: Want<'static> = Want {
     status: 2,
     out: &[],
     line: "plateroom: words\n",
 };
 
-// The output or the note failed.
+// The output or the error output failed.
 const FAILED: Want<'static> = Want {
     status: 7,
     out: &[],
@@ -27,7 +28,7 @@ const PRINTED: Want<'static> = Want {
     line: "",
 };
 
-// The shelf lacks a file or failed at it.
+// The shelf has no such file, or failed to load it.
 const NO_A: Want<'static> = Want {
     status: 5,
     out: &[],
@@ -40,8 +41,8 @@ const NO_B: Want<'static> = Want {
     line: "plateroom: shelf: b.tif\n",
 };
 
-// Words, the calls of shelf, output and note that fail, and what is wanted. The output takes a plate in one
-// call.
+// The arguments, the failing calls of the shelf, the output and the error output, and the expected result.
+// The output takes a plate in one call.
 const CASES: [(&[&str], [Option<u64>; 3], Want<'static>); 11] = [
     (&[], CALM, WORDS),
     (&["one"], CALM, WORDS),
@@ -56,7 +57,7 @@ const CASES: [(&[&str], [Option<u64>; 3], Want<'static>); 11] = [
     (&[], [None, None, Some(0)], FAILED),
 ];
 
-fn check_cases<R: Abort + AllocGlobal + Threads + Sync>(rt: &R, file: &[u8]) {
+fn check_cases<R: Abort + AllocGlobal + Threads + Clock + Sync>(rt: &R, file: &[u8]) {
     for (n, case) in CASES.iter().enumerate() {
         check(rt, n, does(rt, case.0, file, case.1, &case.2));
     }
@@ -67,8 +68,12 @@ fn tells_what_is_wrong_and_what_failed(rt: HostRuntime) {
     check_cases(&rt, &plain(&rt));
 }
 
-// Over this file `one` prints nothing, and tells this line.
-fn assert_refuses<R: Abort + AllocGlobal + Threads + Sync>(rt: &R, file: &[u8], line: &str) {
+// Asserts that `one` prints nothing of this file and reports this line.
+fn assert_refuses<R: Abort + AllocGlobal + Threads + Clock + Sync>(
+    rt: &R,
+    file: &[u8],
+    line: &str,
+) {
     let want = Want {
         status: 4,
         out: &[],
@@ -77,7 +82,7 @@ fn assert_refuses<R: Abort + AllocGlobal + Threads + Sync>(rt: &R, file: &[u8], 
     assert!(rt; does(rt, &ONE, file, CALM, &want));
 }
 
-// The first 100 bytes hold no whole directory.
+// The first 100 bytes contain only part of the directory.
 #[test]
 fn refuses_a_cut_directory(rt: HostRuntime) {
     let mut file = plain(&rt);
@@ -93,7 +98,7 @@ fn refuses_lzw(rt: HostRuntime) {
     assert_refuses(&rt, &file, "plateroom: file a.tif: tag 259: compression\n");
 }
 
-// A shelf whose files are all too long.
+// A shelf on which every file is too long.
 #[derive(Drop)]
 struct LongShelf {
     longs: u64,
@@ -114,7 +119,7 @@ impl Shelf for LongShelf {
     }
 }
 
-// A sink that has no memory left.
+// A sink that is out of memory.
 #[derive(Drop)]
 struct FullSink;
 

@@ -1,4 +1,4 @@
-// Images of few pixels, and the plates of them.
+// Images of a few pixels, and their plates.
 ghost use Rattle.std.specs.Prelude.{◌≡◌, ◌*◌, length};
 ghost use Rattle.tif_make.specs.Form.{IsForm};
 ghost use Rattle.tif_make.specs.Made.{HasRows};
@@ -6,7 +6,7 @@ ghost use Rattle.tif_make.specs.Made.{HasRows};
 use std::process::Abort;
 use tif_make::{Compression, ImageForm, Kind, Order, Planar, make_image};
 
-/// How an image is laid into its file where a test says nothing else: 4 by 1 pixels in one strip.
+/// The default layout of an image file: 4 by 1 pixels in one strip.
 pub const FORM: ImageForm = ImageForm {
     kind: Kind::Contone,
     width: 4,
@@ -17,10 +17,10 @@ pub const FORM: ImageForm = ImageForm {
     rows_per_strip: 1,
 };
 
-// The samples of the four pixels: black is 1, 127, 31 and 255.
+// The samples of the four pixels. Their black is 1, 127, 31 and 255.
 const SAMPLES: [u8; 16] = [0, 0, 0, 1, 0, 0, 0, 127, 0, 0, 0, 31, 0, 0, 0, 255];
 
-/// The plate of 4 by 1 pixels with black 1, 127, 31, 255: thresholds 0, 127, 31, 159.
+/// The plate of 4 by 1 pixels with black 1, 127, 31 and 255. The thresholds are 0, 127, 31 and 159.
 pub const PLATE: [u8; 176] = [
     0x49, 0x49, 0x2A, 0, 0x0A, 0, 0, 0, //
     0x00, 0x90, //
@@ -42,7 +42,7 @@ pub const PLATE: [u8; 176] = [
     0xB0, 4, 0, 0, 1, 0, 0, 0, //
 ];
 
-/// Replaces the bytes from each place on.
+/// Replaces the bytes from each offset on.
 pub fn patch(bytes: &mut [u8], changes: &[(usize, &[u8])]) {
     for (at, with) in changes {
         patch_at(bytes, *at, with);
@@ -55,7 +55,7 @@ fn patch_at(bytes: &mut [u8], at: usize, with: &[u8]) {
     }
 }
 
-/// The file of an image.
+/// Makes the file of an image.
 pub fn image<R: Abort + AllocGlobal>(rt: &R, form: &ImageForm, rows: &[u8]) -> Vec<u8>
     requires form { IsForm form.now }
     requires rows { HasRows form.now rows.now }
@@ -63,7 +63,7 @@ pub fn image<R: Abort + AllocGlobal>(rt: &R, form: &ImageForm, rows: &[u8]) -> V
     make_image(rt.alloc(), form, rows).expect(rt, "memory")
 }
 
-/// The file of the four pixels in this form.
+/// Makes the file of the four pixels in this form.
 pub fn four_by_one<R: Abort + AllocGlobal>(
     rt: &R,
     order: Order,
@@ -79,12 +79,12 @@ pub fn four_by_one<R: Abort + AllocGlobal>(
     image(rt, &form, &SAMPLES)
 }
 
-/// The file of the four pixels as most tests have it.
+/// Makes the file of the four pixels in the default form.
 pub fn plain<R: Abort + AllocGlobal>(rt: &R) -> Vec<u8> {
     image(rt, &FORM, &SAMPLES)
 }
 
-/// The samples of so many pixels that are alike, in black alone.
+/// Returns the samples of this many equal pixels, in black alone.
 pub fn blacks<R: Abort + AllocGlobal>(rt: &R, pixels: u32, black: u8) -> Vec<u8>
     ensures { length result.items ≡ 4 * pixels }
 {
@@ -102,8 +102,8 @@ pub fn append(rt: &impl Abort, bytes: &mut Vec<u8>, more: &[u8]) {
     bytes.extend_from_slice(more).expect(rt, "memory");
 }
 
-/// A plate of these packets, each so often. Behind them stand the directory and the resolutions of `PLATE`,
-/// and behind these a table. Then bytes are replaced.
+/// Makes a plate of packets, each repeated the given number of times. The directory and resolutions of
+/// `PLATE` follow, then a table. Bytes are replaced last.
 pub fn plate_of<R: Abort + AllocGlobal>(
     rt: &R,
     packets: &[(u32, [u8; 2])],

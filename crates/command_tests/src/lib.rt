@@ -1,4 +1,4 @@
-// Tests of the commands `one` and `drill`, and of words that are no command. They use public names alone.
+// Tests of the commands `one` and `drill`, and of arguments that are not a command, through public names.
 #![tactic(auto)]
 
 #[cfg(test)]

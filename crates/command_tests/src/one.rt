@@ -3,10 +3,15 @@ use crate::files::{FORM, PLATE, append, blacks, four_by_one, image, patch, plain
 use crate::room::{CALM, ONE, Want, does};
 use std::process::Abort;
 use std::thread::Threads;
+use std::time::Clock;
 use tif_make::{Compression, ImageForm, Order, Planar};
 
-// Over this file `one` prints this plate, and tells nothing.
-fn assert_prints<R: Abort + AllocGlobal + Threads + Sync>(rt: &R, file: &[u8], plate: &[u8]) {
+// Asserts that `one` prints this plate of this file, and reports nothing.
+fn assert_prints<R: Abort + AllocGlobal + Threads + Clock + Sync>(
+    rt: &R,
+    file: &[u8],
+    plate: &[u8],
+) {
     let want = Want {
         status: 0,
         out: plate,
@@ -31,7 +36,7 @@ fn prints_the_smallest_plate_from_each_form(rt: HostRuntime) {
     }
 }
 
-// 9 by 1 pixels, all black: two bytes a row, the second padded, and a byte before the directory.
+// 9 by 1 pixels, all black: two bytes per row, the second padded, and a pad byte before the directory.
 #[test]
 fn prints_a_padded_row(rt: HostRuntime) {
     let changes: [(usize, &[u8]); 6] = [
@@ -48,7 +53,7 @@ fn prints_a_padded_row(rt: HostRuntime) {
     assert_prints(&rt, &file, &plate);
 }
 
-// 32,768 by 3 pixels without ink: rows of 4,096 bytes, packed to 64, in two strips.
+// 32,768 by 3 pixels without ink: rows of 4,096 bytes, packed to 64 bytes, in two strips.
 #[test]
 fn prints_white_in_two_strips(rt: HostRuntime) {
     let table = [8, 0, 0, 0, 136, 0, 0, 0, 128, 0, 0, 0, 64, 0, 0, 0];
@@ -72,7 +77,7 @@ fn prints_white_in_two_strips(rt: HostRuntime) {
     assert_prints(&rt, &file, &plate);
 }
 
-// 65,535 by 2 pixels, all black: a strip for each row of 8,192 bytes, packed to 130.
+// 65,535 by 2 pixels, all black: one strip for each row of 8,192 bytes, packed to 130 bytes.
 #[test]
 fn prints_the_widest_plate(rt: HostRuntime) {
     let rows = [
@@ -104,7 +109,7 @@ fn prints_the_widest_plate(rt: HostRuntime) {
     assert_prints(&rt, &file, &plate);
 }
 
-// The nine entries from the last to the first.
+// The nine directory entries in reverse order.
 #[test]
 fn reads_entries_in_any_order(rt: HostRuntime) {
     let file = plain(&rt);
@@ -120,7 +125,7 @@ fn reads_entries_in_any_order(rt: HostRuntime) {
     assert_prints(&rt, &turned, &PLATE);
 }
 
-// Two entries of ImageWidth, of which the first counts: in place of Compression, whose default is 1.
+// Two entries of ImageWidth, of which the first counts. The other replaces Compression, whose default is 1.
 #[test]
 fn takes_the_first_entry(rt: HostRuntime) {
     let mut file = plain(&rt);

@@ -1,4 +1,4 @@
-// Commands over a shelf, racks and sinks in memory.
+// Commands with a shelf, racks and sinks in memory.
 ghost use Rattle.std.specs.Prelude.{◌≡◌, ◌≤◌, length};
 ghost use Rattle.room_base.specs.Seen.{AreIdle};
 
@@ -9,14 +9,15 @@ use pr_rack::{MemRack, Rack};
 use std::alloc::Global;
 use std::process::Abort;
 use std::thread::Threads;
+use std::time::Clock;
 
-/// The words by which a.tif is printed.
+/// The arguments that print the plate of a.tif.
 pub const ONE: [&str; 2] = ["one", "a.tif"];
 
-/// Which calls fail: of the shelf, of the output, and of the note. None does.
+/// The failing calls of the shelf, the output and the error output: none.
 pub const CALM: [Option<u64>; 3] = [None; 3];
 
-// The number of a call, where there is one.
+// Returns the number of a call as a list, which is empty for None.
 fn calls<R: Abort + AllocGlobal>(rt: &R, call: Option<u64>) -> Vec<u64> {
     let mut calls = Vec::new(rt.alloc());
     if let Some(call) = call {
@@ -25,12 +26,12 @@ fn calls<R: Abort + AllocGlobal>(rt: &R, call: Option<u64>) -> Vec<u64> {
     calls
 }
 
-/// A sink of which this call fails.
+/// Returns a sink whose call with this number fails.
 pub fn sink<R: Abort + AllocGlobal>(rt: &R, failing: Option<u64>) -> MemSink {
     MemSink::new(rt.alloc(), calls(rt, failing))
 }
 
-/// A shelf with the file a.tif alone, of which this call fails.
+/// Returns a shelf with the single file a.tif, whose call with this number fails.
 pub fn shelf<R: Abort + AllocGlobal>(rt: &R, file: &[u8], failing: Option<u64>) -> MemShelf {
     let path = PathText::of(rt.alloc(), "a.tif").expect(rt, "memory");
     let bytes = file.to_vec(rt.alloc()).expect(rt, "memory");
@@ -39,10 +40,10 @@ pub fn shelf<R: Abort + AllocGlobal>(rt: &R, file: &[u8], failing: Option<u64>) 
     MemShelf::new(rt.alloc(), files, calls(rt, failing))
 }
 
-// An edition has at most so many sites.
+// The most sites that an edition has.
 const RACKS: usize = 16;
 
-/// Sixteen racks, none of which fails.
+/// Returns sixteen racks, none of which fails.
 pub fn racks<R: Abort + AllocGlobal>(rt: &R) -> Vec<MemRack>
     ensures count { length result.items ≡ 16 }
     ensures idle { AreIdle ⟦<MemRack as Rack>⟧ result.items }
@@ -55,7 +56,7 @@ pub fn racks<R: Abort + AllocGlobal>(rt: &R) -> Vec<MemRack>
     racks
 }
 
-// The words of a command line.
+// Returns the arguments of a command line.
 fn texts<R: Abort + AllocGlobal>(rt: &R, words: &[&str]) -> Vec<String> {
     let mut texts = Vec::new(rt.alloc());
     for word in words {
@@ -65,8 +66,8 @@ fn texts<R: Abort + AllocGlobal>(rt: &R, words: &[&str]) -> Vec<String> {
     texts
 }
 
-// The call, of which a test is told the status alone.
-fn answer<T: Threads + Sync, H: Shelf, R: Rack + Send, S: Sink, E: Sink>(
+// Runs the program. Tests see only its status.
+fn answer<T: Threads + Clock + Sync, H: Shelf, R: Rack + Send, S: Sink, E: Sink>(
     rt: &T,
     alloc: Global,
     words: &[String],
@@ -81,8 +82,8 @@ fn answer<T: Threads + Sync, H: Shelf, R: Rack + Send, S: Sink, E: Sink>(
     plate_main(rt, alloc, words, shelf, racks, out, note)
 }
 
-/// Does a command of these words, and gives its status.
-pub fn command<T: Abort + AllocGlobal + Threads + Sync, H: Shelf, S: Sink, E: Sink>(
+/// Runs a command with these arguments, and returns its status.
+pub fn command<T: Abort + AllocGlobal + Threads + Clock + Sync, H: Shelf, S: Sink, E: Sink>(
     rt: &T,
     words: &[&str],
     shelf: &mut H,
@@ -97,16 +98,16 @@ pub fn command<T: Abort + AllocGlobal + Threads + Sync, H: Shelf, S: Sink, E: Si
     answer(rt, rt.alloc(), words.as_slice(), shelf, racks, out, note)
 }
 
-/// No rack took a row or has a file.
+/// Whether no rack took a row or has a file.
 fn are_empty(racks: &[MemRack]) -> bool {
     racks
         .iter()
         .all(|rack| rack.files().is_empty() && rack.taken().is_empty())
 }
 
-/// Whether a command of these words, with a note of which this call fails, ends with this status and this
-/// line, and leaves the racks alone.
-pub fn tells<R: Abort + AllocGlobal + Threads + Sync, H: Shelf, S: Sink>(
+/// Whether a command with these arguments ends with this status and this line, and leaves the racks
+/// unchanged. The error output's call with the number `failing` fails.
+pub fn tells<R: Abort + AllocGlobal + Threads + Clock + Sync, H: Shelf, S: Sink>(
     rt: &R,
     words: &[&str],
     shelf: &mut H,
@@ -121,7 +122,7 @@ pub fn tells<R: Abort + AllocGlobal + Threads + Sync, H: Shelf, S: Sink>(
     ended == status && note.bytes() == line.as_bytes() && are_empty(racks.as_slice())
 }
 
-/// What is wanted of a command: its status, what it wrote, and its line.
+/// The expected result of a command: its status, its output, and its line on the error output.
 #[derive(Clone, Copy)]
 pub struct Want<'a> {
     pub status: u8,
@@ -129,8 +130,8 @@ pub struct Want<'a> {
     pub line: &'a str,
 }
 
-/// Whether a command of these words, with this file on the shelf, does what is wanted.
-pub fn does<R: Abort + AllocGlobal + Threads + Sync>(
+/// Whether a command with these arguments, and this file on the shelf, has the expected result.
+pub fn does<R: Abort + AllocGlobal + Threads + Clock + Sync>(
     rt: &R,
     words: &[&str],
     file: &[u8],
@@ -151,7 +152,7 @@ pub fn does<R: Abort + AllocGlobal + Threads + Sync>(
     ) && out.bytes() == want.out
 }
 
-/// Row `n` of a table holds.
+/// Asserts that row `n` of a table holds.
 pub fn check(rt: &impl Abort, n: usize, holds: bool) {
     assert!(rt; holds, "row {n}");
 }

@@ -1,39 +1,40 @@
-// What is made of an edition that changed, where no call fails.
+// Replates of an edition that changed, in which no call fails.
 use crate::desk::{File, Held};
 use crate::files::{Kept, Plate, TWO_PAGES};
 use crate::room::{CALM, Case, REPLATE, check, does};
 use std::process::Abort;
 use std::thread::Threads;
+use std::time::Clock;
 
-// The two pages under another screen.
+// The two pages with another screen.
 pub const EIGHTH: &str =
     r#"{"plan":1,"edition":"E1","dpi":1200,"page":[8,2],"screens":{"K":"bayer8"},
 "pages":[{"name":"w","inks":"K","layers":[]},
 {"name":"p","inks":"K","layers":[{"kind":"contone","file":"a.tif","scale":2}]}],
 "sections":[{"name":"A","pages":["w","p"]}],"sites":[{"name":"OSLO"}]}"#;
 
-/// They in another edition.
+/// The two pages in another edition.
 pub const SECOND: &str =
     r#"{"plan":1,"edition":"E2","dpi":1200,"page":[8,2],"screens":{"K":"bayer4"},
 "pages":[{"name":"w","inks":"K","layers":[]},
 {"name":"p","inks":"K","layers":[{"kind":"contone","file":"a.tif","scale":2}]}],
 "sections":[{"name":"A","pages":["w","p"]}],"sites":[{"name":"OSLO"}]}"#;
 
-// Four pages for two sites. The image is page 3: that is the right page of the second pair.
+// Four pages for two sites. The image is page 3, the right page of the second pair.
 const FOUR_PAGES: &str =
     r#"{"plan":1,"edition":"E1","dpi":1200,"page":[8,2],"screens":{"K":"bayer4"},
 "pages":[{"name":"w","inks":"K","layers":[]},
 {"name":"p","inks":"K","layers":[{"kind":"contone","file":"a.tif","scale":2}]}],
 "sections":[{"name":"A","pages":["w","w","p","w"]}],"sites":[{"name":"OSLO"},{"name":"BERGEN"}]}"#;
 
-// The second of these sites is gone, and before the first stands one that is new.
+// The second of these sites is removed, and a new one is inserted before the first.
 const OTHER_SITES: &str =
     r#"{"plan":1,"edition":"E1","dpi":1200,"page":[8,2],"screens":{"K":"bayer4"},
 "pages":[{"name":"w","inks":"K","layers":[]},
 {"name":"p","inks":"K","layers":[{"kind":"contone","file":"a.tif","scale":2}]}],
 "sections":[{"name":"A","pages":["w","w","p","w"]}],"sites":[{"name":"NEW"},{"name":"OSLO"}]}"#;
 
-// Four empty pages for two sites, of which BERGEN has the image as page 3.
+// Four empty pages for two sites. BERGEN has the image as page 3.
 const ZONED: &str = r#"{"plan":1,"edition":"E1","dpi":1200,"page":[8,2],"screens":{"K":"bayer4"},
 "pages":[{"name":"w","inks":"K","layers":[]},
 {"name":"p","inks":"K","layers":[{"kind":"contone","file":"a.tif","scale":2}]}],
@@ -41,11 +42,12 @@ const ZONED: &str = r#"{"plan":1,"edition":"E1","dpi":1200,"page":[8,2],"screens
 "zones":[{"name":"Z","replace":[{"section":"A","page":3,"with":"p"}]}],
 "sites":[{"name":"OSLO"},{"name":"BERGEN","zone":"Z"}]}"#;
 
-// The image with black 254 in the place of 1. Under thresholds 0 127 31 159 and 191 63 223 95 its rows are EB
-// and D3, and those of the image itself are AB and 13.
+// The image with a black of 254 instead of 1. With the thresholds 0 127 31 159 and 191 63 223 95 its rows are
+// EB and D3, and those of the image itself are AB and 13.
 const OTHER: Held<'static> = Held::Changed(133, 254);
 
-// The plans, the new image, what is printed, and what racks have. The old image is the image itself.
+// The plans, the new image, the expected output, and the expected contents of racks. The old image is the
+// unchanged image.
 type Change<'a> = (&'a str, &'a str, Held<'a>, &'a str, &'a [Kept<'a>]);
 
 const CHANGES: [Change<'static>; 6] = [
@@ -56,7 +58,7 @@ const CHANGES: [Change<'static>; 6] = [
         "site OSLO made 0 kept 1\ntotal made 0\n",
         &[],
     ),
-    // Under thresholds 0 127 31 159 7 135 39 167 and 191 63 223 95 199 71 231 103 the rows are the same.
+    // With the thresholds 0 127 31 159 7 135 39 167 and 191 63 223 95 199 71 231 103 the rows are the same.
     (
         TWO_PAGES,
         EIGHTH,
@@ -105,7 +107,7 @@ const CHANGES: [Change<'static>; 6] = [
             &[0, 1],
         )],
     ),
-    // The second pair of OSLO stands between the first of both and that of BERGEN.
+    // The second pair of OSLO comes between the first pair of both sites and the second pair of BERGEN.
     (
         ZONED,
         ZONED,
@@ -144,8 +146,8 @@ const CHANGES: [Change<'static>; 6] = [
     ),
 ];
 
-// Whether exactly this is made of these files by these words.
-fn makes<R: Abort + AllocGlobal + Threads + Sync>(
+// Whether a replate with these arguments and files makes exactly these plates and prints this text.
+fn makes<R: Abort + AllocGlobal + Threads + Clock + Sync>(
     rt: &R,
     words: &[&str],
     files: &[File<'_>],
@@ -164,7 +166,10 @@ fn makes<R: Abort + AllocGlobal + Threads + Sync>(
     does(rt, words, &case)
 }
 
-fn makes_change<R: Abort + AllocGlobal + Threads + Sync>(rt: &R, change: &Change<'_>) -> bool {
+fn makes_change<R: Abort + AllocGlobal + Threads + Clock + Sync>(
+    rt: &R,
+    change: &Change<'_>,
+) -> bool {
     let (old_plan, plan, image, text, kept) = *change;
     let files = [
         ("old.json", Held::Plan(old_plan)),
@@ -182,7 +187,7 @@ fn makes_what_changed(rt: HostRuntime) {
     }
 }
 
-// A job beside itself, which is loaded twice.
+// A job compared with itself, which is loaded twice.
 #[test]
 fn makes_nothing_of_the_same_job(rt: HostRuntime) {
     let words = ["replate", "plan.json", "FILES", "plan.json", "FILES", "OUT"];

@@ -6,22 +6,22 @@ use pr_base::raised;
 use pr_ports::{LoadFault, Shelf};
 use std::alloc::{AllocError, Global};
 
-/// What lies at a path.
+/// The contents of a path.
 #[derive(Clone, Copy)]
 pub enum Held<'a> {
     Plan(&'a str),
     Image,
-    /// The image with this byte at this place.
+    /// The image with this byte at this offset.
     Changed(usize, u8),
-    /// More bytes than a load takes.
+    /// More bytes than a load accepts.
     TooLong,
 }
 
-/// A path, and what lies there.
+/// A path and its contents.
 pub type File<'a> = (&'a str, Held<'a>);
 
-/// These files. Loads of other paths fail, and the load with the number in `failing`. It counts its loads,
-/// and tells nothing of its files.
+/// A shelf with these files. Loads of other paths fail, and so does the load with the number in `failing`. It
+/// counts its loads, and its contracts report nothing of its files.
 #[derive(Drop)]
 pub struct Desk<'a> {
     pub alloc: Global,
@@ -32,7 +32,7 @@ pub struct Desk<'a> {
     pub longs: u64,
 }
 
-/// The image with another byte at a place.
+/// Returns the image with another byte at an offset.
 fn changed(alloc: Global, at: usize, with: u8) -> Result<Vec<u8>, AllocError> {
     let mut bytes = IMAGE.to_vec(alloc)?;
     if let Some(byte) = bytes.get_mut(at) {
@@ -41,7 +41,7 @@ fn changed(alloc: Global, at: usize, with: u8) -> Result<Vec<u8>, AllocError> {
     Ok(bytes)
 }
 
-/// The bytes of what lies at a path.
+/// Returns the bytes of the contents of a path.
 fn bytes_of(alloc: Global, held: Held<'_>) -> Result<Vec<u8>, AllocError> {
     match held {
         Held::Plan(plan) => plan.as_bytes().to_vec(alloc),
@@ -51,7 +51,7 @@ fn bytes_of(alloc: Global, held: Held<'_>) -> Result<Vec<u8>, AllocError> {
 }
 
 impl<'a> Desk<'a> {
-    /// The file at a path.
+    /// Finds the file at a path.
     fn find(&self, path: &str) -> Option<&File<'a>> {
         self.files.iter().find(|file| file.0 == path)
     }

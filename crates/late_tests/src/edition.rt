@@ -1,4 +1,5 @@
-// An edition that is made, then made again where it changed, beside one that is made at once.
+// An edition that is made and, after a change, remade with `replate`, compared with the new edition made at
+// once.
 ghost use Rattle.std.specs.Prelude.{◌≤◌, length};
 ghost use Rattle.room_base.specs.Seen.{AreIdle};
 
@@ -7,8 +8,9 @@ use crate::room::{CALM, Case, REPLATE, prints, racks};
 use pr_rack::{MemRack, Rack};
 use std::process::Abort;
 use std::thread::Threads;
+use std::time::Clock;
 
-// Two sections for two sites. Page 3 is in four inks, and at BERGEN another one in black.
+// Two sections for two sites. Page 3 is in four inks. BERGEN has another page 3, in black.
 const BEFORE: &str = r#"{"plan":1,"edition":"E1","dpi":1200,"page":[8,2],"screens":{"K":"bayer4"},
 "pages":[{"name":"w","inks":"K","layers":[]},
 {"name":"p","inks":"K","layers":[{"kind":"contone","file":"a.tif","scale":2}]},
@@ -18,7 +20,7 @@ const BEFORE: &str = r#"{"plan":1,"edition":"E1","dpi":1200,"page":[8,2],"screen
 "zones":[{"name":"Z","replace":[{"section":"A","page":3,"with":"p"}]}],
 "sites":[{"name":"OSLO"},{"name":"BERGEN","zone":"Z"}]}"#;
 
-// BERGEN is gone, OSLO has its page 3, and there is a site more.
+// BERGEN is removed, OSLO has BERGEN's page 3, and a site is added.
 const AFTER: &str = r#"{"plan":1,"edition":"E1","dpi":1200,"page":[8,2],"screens":{"K":"bayer4"},
 "pages":[{"name":"w","inks":"K","layers":[]},
 {"name":"p","inks":"K","layers":[{"kind":"contone","file":"a.tif","scale":2}]},
@@ -28,7 +30,7 @@ const AFTER: &str = r#"{"plan":1,"edition":"E1","dpi":1200,"page":[8,2],"screens
 "zones":[{"name":"Z","replace":[{"section":"A","page":3,"with":"p"}]}],
 "sites":[{"name":"NEW"},{"name":"OSLO","zone":"Z"}]}"#;
 
-// The second image changed too.
+// The second image also changes.
 const FILES: [File<'static>; 6] = [
     ("old.json", Held::Plan(BEFORE)),
     ("OLD/a.tif", Held::Image),
@@ -49,7 +51,7 @@ dropped OUT/BERGEN/E1-B-001-K.tif
 total made 8
 ";
 
-// The plates that are told as dropped.
+// The plates that are reported as dropped.
 const DROPPED: [&str; 6] = [
     "OUT/OSLO/E1-A-002-C.tif",
     "OUT/OSLO/E1-A-002-M.tif",
@@ -67,7 +69,7 @@ struct Plates<'a> {
     new: &'a [MemRack],
 }
 
-// The bytes of the plate at a path.
+// Finds the bytes of the plate at a path.
 fn find<'a>(racks: &'a [MemRack], path: &str) -> Option<&'a [u8]> {
     for rack in racks {
         for file in rack.files() {
@@ -83,7 +85,8 @@ fn is_dropped(path: &str) -> bool {
     DROPPED.iter().any(|dropped| *dropped == path)
 }
 
-// What lies at a path when the plates that were made are put in and those that are dropped are taken out.
+// Returns what is at a path after the plates that were made are stored and those that are dropped are
+// deleted.
 fn lying<'a>(plates: Plates<'a>, path: &str) -> Option<&'a [u8]> {
     if is_dropped(path) {
         return None;
@@ -94,7 +97,7 @@ fn lying<'a>(plates: Plates<'a>, path: &str) -> Option<&'a [u8]> {
     }
 }
 
-// Whether the new job has the same at a path.
+// Whether a run of the new job has the same at a path.
 fn is_right(plates: Plates<'_>, path: &str) -> bool {
     match (lying(plates, path), find(plates.new, path)) {
         (Some(lying), Some(new)) => lying == new,
@@ -103,7 +106,7 @@ fn is_right(plates: Plates<'_>, path: &str) -> bool {
     }
 }
 
-// Whether it has so at each path of these racks.
+// Whether it has the same at each path of these racks.
 fn are_right(plates: Plates<'_>, racks: &[MemRack]) -> bool {
     racks.iter().all(|rack| rack
         .files()
@@ -111,8 +114,8 @@ fn are_right(plates: Plates<'_>, racks: &[MemRack]) -> bool {
         .all(|file| is_right(plates, file.0.as_str())))
 }
 
-// Whether a command over these racks prints this and ends with 0.
-fn is_done<R: Abort + AllocGlobal + Threads + Sync>(
+// Whether a command with these racks prints this text and ends with status 0.
+fn is_done<R: Abort + AllocGlobal + Threads + Clock + Sync>(
     rt: &R,
     words: &[&str],
     racks: &mut [MemRack],
@@ -139,15 +142,15 @@ site BERGEN finished plates 3 rows 6
 total rows 14 sites 2
 ";
 
-// The old job is run.
-fn holds<R: Abort + AllocGlobal + Threads + Sync>(rt: &R) -> bool {
+// Runs the old job, then checks the rest.
+fn holds<R: Abort + AllocGlobal + Threads + Clock + Sync>(rt: &R) -> bool {
     let mut old = racks(rt, [None; 2]);
     let words = ["run", "old.json", "OLD", "OUT"];
     is_done(rt, &words, old.as_mut_slice(), RAN, 3) && holds_of(rt, old.as_slice())
 }
 
-// What changed is made.
-fn holds_of<R: Abort + AllocGlobal + Threads + Sync>(rt: &R, old: &[MemRack]) -> bool {
+// Makes what changed, then checks the rest.
+fn holds_of<R: Abort + AllocGlobal + Threads + Clock + Sync>(rt: &R, old: &[MemRack]) -> bool {
     let mut made = racks(rt, [None; 2]);
     is_done(rt, &REPLATE, made.as_mut_slice(), MADE, 6) && holds_beside(rt, old, made.as_slice())
 }
@@ -157,8 +160,8 @@ site OSLO finished plates 3 rows 6
 total rows 14 sites 2
 ";
 
-// The new job is run.
-fn holds_beside<R: Abort + AllocGlobal + Threads + Sync>(
+// Runs the new job, then compares the plates.
+fn holds_beside<R: Abort + AllocGlobal + Threads + Clock + Sync>(
     rt: &R,
     old: &[MemRack],
     made: &[MemRack],
@@ -168,7 +171,7 @@ fn holds_beside<R: Abort + AllocGlobal + Threads + Sync>(
     is_done(rt, &words, new.as_mut_slice(), RAN_ANEW, 3) && all_lie(old, made, new.as_slice())
 }
 
-// Whether the plates that lie in the end are those of the new job, byte for byte, and no other lies there.
+// Whether the plates present in the end are those of the new job, byte for byte, and no others.
 fn all_lie(old: &[MemRack], made: &[MemRack], new: &[MemRack]) -> bool {
     let plates = Plates { old, made, new };
     are_right(plates, old) && are_right(plates, made) && are_right(plates, new)

@@ -1,14 +1,15 @@
-// What a replate tells of its words, of two jobs, and of a shelf that fails.
+// What `replate` reports of its arguments, of two jobs, and of a shelf that fails.
 use crate::changes::EIGHTH;
 use crate::desk::{File, Held};
 use crate::files::TWO_PAGES;
 use crate::room::{CALM, Case, Failing, REPLATE, check, does};
 use std::process::Abort;
 use std::thread::Threads;
+use std::time::Clock;
 
-// Whether a command of these words over these files, of which this load fails, prints and makes nothing, and
-// ends with this status and this line.
-fn refuses<R: Abort + AllocGlobal + Threads + Sync>(
+// Whether a command with these arguments and files, of which the load with this number fails, prints and
+// makes nothing, and ends with this status and this line.
+fn refuses<R: Abort + AllocGlobal + Threads + Clock + Sync>(
     rt: &R,
     words: &[&str],
     files: &[File<'_>],
@@ -33,7 +34,7 @@ fn refuses<R: Abort + AllocGlobal + Threads + Sync>(
     does(rt, words, &case)
 }
 
-// The two pages, and they under another screen.
+// The two pages, and the same with another screen.
 const GOOD: [File<'static>; 4] = [
     ("old.json", Held::Plan(TWO_PAGES)),
     ("OLD/a.tif", Held::Image),
@@ -41,7 +42,7 @@ const GOOD: [File<'static>; 4] = [
     ("FILES/a.tif", Held::Image),
 ];
 
-// Words that are no command. A replate takes no ring.
+// Arguments that are not a command. `replate` takes no ring size.
 const WORDS: [&[&str]; 10] = [
     &["replate"],
     &["replate", "old.json", "OLD", "plan.json", "FILES"],
@@ -93,7 +94,7 @@ const TWO_FILES: &str =
 {"kind":"contone","file":"b.tif"}]}],
 "sections":[{"name":"A","pages":["w","p"]}],"sites":[{"name":"OSLO"}]}"#;
 
-// The image has four samples a pixel, and linework one.
+// The image has four samples per pixel, and linework has one.
 const AS_LINE: &str = r#"{"plan":1,"edition":"E1","dpi":1200,"page":[8,2],
 "pages":[{"name":"w","inks":"K","layers":[{"kind":"line","file":"a.tif"}]}],
 "sections":[{"name":"A","pages":["w","w"]}],"sites":[{"name":"OSLO"}]}"#;
@@ -101,10 +102,10 @@ const AS_LINE: &str = r#"{"plan":1,"edition":"E1","dpi":1200,"page":[8,2],
 // Compression 5 is LZW.
 const LZW: Held<'static> = Held::Changed(54, 5);
 
-// Files, the load that fails, the status, the line, and how many loads there are.
+// Files, the load that fails, the status, the line, and the number of loads.
 type Fault<'a> = (&'a [File<'a>], Option<u64>, u8, &'a str, u64);
 
-// Whatever is wrong with the old job is told before the new plan is loaded.
+// Any fault of the old job is reported before the new plan is loaded.
 const OLD: [Fault<'static>; 6] = [
     (
         &[("plan.json", Held::Plan(NO_DPI))],
@@ -228,7 +229,7 @@ const NEW: [Fault<'static>; 5] = [
     ),
 ];
 
-// Each load in turn. A line on the shelf says its path alone.
+// Each load fails in turn. The line for a failed load names the path alone.
 const LOADS: [Fault<'static>; 4] = [
     (&GOOD, Some(0), 5, "plateroom: shelf: old.json\n", 1),
     (&GOOD, Some(1), 5, "plateroom: shelf: OLD/a.tif\n", 2),
@@ -236,12 +237,12 @@ const LOADS: [Fault<'static>; 4] = [
     (&GOOD, Some(3), 5, "plateroom: shelf: FILES/a.tif\n", 4),
 ];
 
-fn tells<R: Abort + AllocGlobal + Threads + Sync>(rt: &R, fault: &Fault<'_>) -> bool {
+fn tells<R: Abort + AllocGlobal + Threads + Clock + Sync>(rt: &R, fault: &Fault<'_>) -> bool {
     let (files, load, status, line, loads) = *fault;
     refuses(rt, &REPLATE, files, load, status, line, loads)
 }
 
-fn check_all<R: Abort + AllocGlobal + Threads + Sync>(rt: &R, faults: &[Fault<'_>]) {
+fn check_all<R: Abort + AllocGlobal + Threads + Clock + Sync>(rt: &R, faults: &[Fault<'_>]) {
     for (n, fault) in faults.iter().enumerate() {
         check(rt, n, tells(rt, fault));
     }

@@ -1,8 +1,9 @@
-// An image, plans of pages of 8 by 2 pixels, and what racks have of their plates.
+// An image, plans of pages of 8 by 2 pixels, and the expected plates of racks.
 use pr_rack::MemRack;
 use ring_lanes::Source;
 
-/// 4 by 1 pixels with black 1, 127, 31 and 255. The first black is byte 133, the compression byte 54.
+/// 4 by 1 pixels with black 1, 127, 31 and 255. The first black is at offset 133, the compression at offset
+/// 54.
 pub const IMAGE: [u8; 146] = [
     0x49, 0x49, 0x2A, 0, 8, 0, 0, 0, //
     9, 0, //
@@ -34,10 +35,10 @@ pub struct Plate<'a> {
     pub rows: [u8; 6],
 }
 
-// What stands before the packed rows.
+// The bytes before the packed rows.
 const FRONT: [u8; 8] = [0x49, 0x49, 0x2A, 0, 14, 0, 0, 0];
 
-// What stands behind them: the directory at 14 and the resolutions.
+// The bytes after them: the directory at 14 and the resolutions.
 const BACK: [u8; 166] = [
     0x0C, 0, //
     0x00, 1, 4, 0, 1, 0, 0, 0, 16, 0, 0, 0, //
@@ -68,7 +69,7 @@ fn is_plate(bytes: &[u8], rows: &[u8]) -> bool {
     }
 }
 
-// Whether a rack has these plates and no other.
+// Whether a rack has these plates and no others.
 fn has_plates(rack: &MemRack, plates: &[Plate<'_>]) -> bool {
     if rack.files().len() != plates.len() {
         return false;
@@ -94,10 +95,10 @@ fn took_rows(rack: &MemRack, rows: &[u64]) -> bool {
     true
 }
 
-/// What is wanted of a rack: its plates, and the numbers of the rows that it took.
+/// The expected contents of a rack: its plates, and the numbers of the rows that it took.
 pub type Kept<'a> = (&'a [Plate<'a>], &'a [u64]);
 
-/// Whether racks, from the first on, have these plates and took these rows, and all others nothing.
+/// Whether racks, from the first on, have these plates and took these rows, and all other racks have nothing.
 pub fn have(racks: &[MemRack], kept: &[Kept<'_>]) -> bool {
     for (site, rack) in racks.iter().enumerate() {
         let (plates, rows) = match kept.get(site) {
@@ -111,5 +112,5 @@ pub fn have(racks: &[MemRack], kept: &[Kept<'_>]) -> bool {
     true
 }
 
-/// No plate, and no row.
+/// No plates, and no rows.
 const NOTHING: Kept<'static> = (&[], &[]);

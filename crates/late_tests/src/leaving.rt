@@ -1,12 +1,13 @@
-// Sites that leave, since their racks fail, and an output that does.
+// Sites that drop out because their racks fail, and an output that fails.
 use crate::changes::{EIGHTH, SECOND};
 use crate::desk::{File, Held};
 use crate::files::{Kept, Plate, TWO_PAGES};
 use crate::room::{CALM, Case, Failing, REPLATE, check, does};
 use std::process::Abort;
 use std::thread::Threads;
+use std::time::Clock;
 
-// Six pages for two sites. The image is pages 1 and 3, which are in the first pair and in the third.
+// Six pages for two sites. The image is pages 1 and 3, which are in the first and the third pair.
 const SIX_PAGES: &str =
     r#"{"plan":1,"edition":"E1","dpi":1200,"page":[8,2],"screens":{"K":"bayer4"},
 "pages":[{"name":"w","inks":"K","layers":[]},
@@ -14,7 +15,7 @@ const SIX_PAGES: &str =
 "sections":[{"name":"A","pages":["p","w","p","w","w","w"]}],
 "sites":[{"name":"OSLO"},{"name":"BERGEN"}]}"#;
 
-// They, and the same with another byte in the image.
+// The six pages, and the same with another byte in the image.
 const SIX: [File<'static>; 4] = [
     ("old.json", Held::Plan(SIX_PAGES)),
     ("OLD/a.tif", Held::Image),
@@ -22,7 +23,7 @@ const SIX: [File<'static>; 4] = [
     ("FILES/a.tif", Held::Changed(133, 254)),
 ];
 
-// The two pages, and they under another screen.
+// The two pages, and the same with another screen.
 const SCREENED: [File<'static>; 4] = [
     ("old.json", Held::Plan(TWO_PAGES)),
     ("OLD/a.tif", Held::Image),
@@ -30,7 +31,7 @@ const SCREENED: [File<'static>; 4] = [
     ("FILES/a.tif", Held::Image),
 ];
 
-// The two pages, and they in another edition.
+// The two pages, and the same in another edition.
 const RENAMED: [File<'static>; 4] = [
     ("old.json", Held::Plan(TWO_PAGES)),
     ("OLD/a.tif", Held::Image),
@@ -48,7 +49,7 @@ site BERGEN left made 1 file OUT/BERGEN/E1-A-003-K.tif
 total made 3
 ";
 
-// What OSLO has: the pair that is the same has rows 2 and 3.
+// The plates and rows of OSLO. The unchanged pair has rows 2 and 3.
 const WHOLE: Kept<'static> = (
     &[
         Plate {
@@ -74,8 +75,8 @@ const THIRD: Plate<'static> = Plate {
     rows: [1, 0, 0xEB, 1, 0, 0xD3],
 };
 
-// What is printed where a call of the second rack fails, and what both have. A plate is four calls: begin,
-// row, row and finish.
+// The call of the second rack that fails, the expected output, and the expected contents of both racks. A
+// plate takes four calls: begin, row, row and finish.
 const CALLS: [(u64, &str, [Kept<'static>; 2]); 4] = [
     (2, NONE_MADE, [WHOLE, (&[], &[0])]),
     (4, ONE_MADE, [WHOLE, (&[FIRST], &[0, 1])]),
@@ -83,9 +84,9 @@ const CALLS: [(u64, &str, [Kept<'static>; 2]); 4] = [
     (7, ONE_MADE, [WHOLE, (&[FIRST], &[0, 1, 4, 5])]),
 ];
 
-// Whether a replate of these files, of which these calls fail, ends with this status and this text, and racks
-// have this.
-fn ends<R: Abort + AllocGlobal + Threads + Sync>(
+// Whether a replate of these files with these failing calls ends with this status and this text, and the
+// racks have these contents.
+fn ends<R: Abort + AllocGlobal + Threads + Clock + Sync>(
     rt: &R,
     files: &[File<'_>],
     failing: Failing,
@@ -105,8 +106,8 @@ fn ends<R: Abort + AllocGlobal + Threads + Sync>(
     does(rt, &REPLATE, &case)
 }
 
-// Whether it does so of the six pages where this call of the second rack fails.
-fn leaves<R: Abort + AllocGlobal + Threads + Sync>(
+// Whether a replate of the six pages, where this call of the second rack fails, ends so with status 1.
+fn leaves<R: Abort + AllocGlobal + Threads + Clock + Sync>(
     rt: &R,
     call: u64,
     text: &str,
@@ -126,7 +127,8 @@ fn a_site_leaves(rt: HostRuntime) {
     }
 }
 
-// Files of one site, the call of its rack that fails, what is printed, and what it has.
+// Files for one site, the call of its rack that fails, the expected output, and the expected contents of the
+// rack.
 type Alone<'a> = (&'a [File<'a>], u64, &'a str, &'a [Kept<'a>]);
 
 const ALONE: [Alone<'static>; 2] = [
@@ -145,7 +147,7 @@ const ALONE: [Alone<'static>; 2] = [
     ),
 ];
 
-fn leaves_alone<R: Abort + AllocGlobal + Threads + Sync>(rt: &R, row: &Alone<'_>) -> bool {
+fn leaves_alone<R: Abort + AllocGlobal + Threads + Clock + Sync>(rt: &R, row: &Alone<'_>) -> bool {
     let (files, call, text, kept) = *row;
     let failing = Failing {
         racks: [Some(call), None],
@@ -161,14 +163,15 @@ fn the_only_site_leaves(rt: HostRuntime) {
     }
 }
 
-// A call of the second rack that fails, and what both have.
+// The call of the second rack that fails, and the expected contents of both racks.
 const UNPRINTED: [(Option<u64>, [Kept<'static>; 2]); 2] = [
     (None, [WHOLE, (&[FIRST, THIRD], &[0, 1, 4, 5])]),
     (Some(6), [WHOLE, (&[FIRST], &[0, 1, 4])]),
 ];
 
-// Whether a replate where this call of the second rack fails, and the output, leaves the racks with this.
-fn stands<R: Abort + AllocGlobal + Threads + Sync>(
+// Whether a replate where the output and this call of the second rack fail leaves these contents in the
+// racks.
+fn stands<R: Abort + AllocGlobal + Threads + Clock + Sync>(
     rt: &R,
     call: Option<u64>,
     kept: &[Kept<'_>],

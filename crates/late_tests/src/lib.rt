@@ -1,4 +1,4 @@
-// Tests of the command `replate`, which makes the plates that changed. They use public names alone.
+// Tests of the command `replate`, which makes the plates that changed, through public names.
 #![tactic(auto)]
 
 #[cfg(test)]

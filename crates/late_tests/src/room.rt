@@ -1,4 +1,4 @@
-// Commands over a desk, racks and sinks in memory.
+// Commands with a desk, racks and sinks in memory.
 ghost use Rattle.std.specs.Prelude.{◌≡◌, ◌≤◌, is_some, length, map};
 ghost use Rattle.pr_rack.specs.Rack.{none_begun};
 ghost use Rattle.room_base.specs.Seen.{AreIdle};
@@ -11,11 +11,12 @@ use pr_rack::{MemRack, Rack};
 use std::alloc::Global;
 use std::process::Abort;
 use std::thread::Threads;
+use std::time::Clock;
 
-/// The words by which a job is made again beside another.
+/// The arguments that make what changed between the job of old.json and that of plan.json.
 pub const REPLATE: [&str; 6] = ["replate", "old.json", "OLD", "plan.json", "FILES", "OUT"];
 
-/// Which calls fail: of the shelf, of the first two racks, and of the output.
+/// The calls that fail: of the shelf, of the first two racks, and of the output.
 #[derive(Clone, Copy)]
 pub struct Failing {
     pub shelf: Option<u64>,
@@ -30,8 +31,8 @@ pub const CALM: Failing = Failing {
     out: None,
 };
 
-/// What a desk has, and which calls fail. Then what is wanted: the status, what is printed, the line of the
-/// note, how many loads there are, and what racks have, from the first on.
+/// The files of a desk and the calls that fail, then the expected status, output, line of the error output,
+/// number of loads, and contents of racks, from the first on.
 #[derive(Clone, Copy)]
 pub struct Case<'a> {
     pub files: &'a [File<'a>],
@@ -43,7 +44,7 @@ pub struct Case<'a> {
     pub kept: &'a [Kept<'a>],
 }
 
-// The number of a call, where there is one.
+// Returns the number of a call as a list, which is empty for None.
 fn calls<R: Abort + AllocGlobal>(rt: &R, call: Option<u64>) -> Vec<u64> {
     let mut calls = Vec::new(rt.alloc());
     if let Some(call) = call {
@@ -52,15 +53,15 @@ fn calls<R: Abort + AllocGlobal>(rt: &R, call: Option<u64>) -> Vec<u64> {
     calls
 }
 
-// A sink of which this call fails.
+// Returns a sink whose call with this number fails.
 fn sink<R: Abort + AllocGlobal>(rt: &R, failing: Option<u64>) -> MemSink {
     MemSink::new(rt.alloc(), calls(rt, failing))
 }
 
-// An edition has at most so many sites.
+// The most sites that an edition has.
 const RACKS: usize = 16;
 
-// The rack of a site, of which a call fails.
+// Returns the rack of a site, whose call with this number fails.
 fn rack<R: Abort + AllocGlobal>(rt: &R, site: usize, failing: [Option<u64>; 2]) -> MemRack
     ensures { map is_some result.slots ≡ none_begun }
 {
@@ -71,7 +72,7 @@ fn rack<R: Abort + AllocGlobal>(rt: &R, site: usize, failing: [Option<u64>; 2]) 
     MemRack::new(rt.alloc(), calls(rt, call))
 }
 
-/// Sixteen racks, of which these calls fail.
+/// Returns sixteen racks, of which these calls fail.
 pub fn racks<R: Abort + AllocGlobal>(rt: &R, failing: [Option<u64>; 2]) -> Vec<MemRack>
     ensures count { length result.items ≡ 16 }
     ensures idle { AreIdle ⟦<MemRack as Rack>⟧ result.items }
@@ -83,7 +84,7 @@ pub fn racks<R: Abort + AllocGlobal>(rt: &R, failing: [Option<u64>; 2]) -> Vec<M
     racks
 }
 
-// The words of a command line.
+// Returns the arguments of a command line.
 fn texts<R: Abort + AllocGlobal>(rt: &R, words: &[&str]) -> Vec<String> {
     let mut texts = Vec::new(rt.alloc());
     for word in words {
@@ -93,8 +94,8 @@ fn texts<R: Abort + AllocGlobal>(rt: &R, words: &[&str]) -> Vec<String> {
     texts
 }
 
-// The call, of which a test is told the status alone.
-fn answer<T: Threads + Sync, H: Shelf, R: Rack + Send, S: Sink, E: Sink>(
+// Runs the program. Tests see only its status.
+fn answer<T: Threads + Clock + Sync, H: Shelf, R: Rack + Send, S: Sink, E: Sink>(
     rt: &T,
     alloc: Global,
     words: &[String],
@@ -109,8 +110,8 @@ fn answer<T: Threads + Sync, H: Shelf, R: Rack + Send, S: Sink, E: Sink>(
     plate_main(rt, alloc, words, shelf, racks, out, note)
 }
 
-// Does a command of these words, and gives its status.
-fn command<T: Abort + AllocGlobal + Threads + Sync, H: Shelf, S: Sink, E: Sink>(
+// Runs a command with these arguments, and returns its status.
+fn command<T: Abort + AllocGlobal + Threads + Clock + Sync, H: Shelf, S: Sink, E: Sink>(
     rt: &T,
     words: &[&str],
     shelf: &mut H,
@@ -125,8 +126,8 @@ fn command<T: Abort + AllocGlobal + Threads + Sync, H: Shelf, S: Sink, E: Sink>(
     answer(rt, rt.alloc(), words.as_slice(), shelf, racks, out, note)
 }
 
-// Whether a command of these words ends with this status and this line.
-fn tells<R: Abort + AllocGlobal + Threads + Sync, H: Shelf, S: Sink>(
+// Whether a command with these arguments ends with the expected status and line.
+fn tells<R: Abort + AllocGlobal + Threads + Clock + Sync, H: Shelf, S: Sink>(
     rt: &R,
     words: &[&str],
     shelf: &mut H,
@@ -142,8 +143,9 @@ fn tells<R: Abort + AllocGlobal + Threads + Sync, H: Shelf, S: Sink>(
     status == case.status && note.bytes() == case.line.as_bytes()
 }
 
-/// Whether a command of these words over these racks ends, prints and tells as it is wanted.
-pub fn prints<R: Abort + AllocGlobal + Threads + Sync>(
+/// Whether a command with these arguments and racks has the expected status, output, line and number of
+/// loads.
+pub fn prints<R: Abort + AllocGlobal + Threads + Clock + Sync>(
     rt: &R,
     words: &[&str],
     racks: &mut [MemRack],
@@ -166,8 +168,8 @@ pub fn prints<R: Abort + AllocGlobal + Threads + Sync>(
         && desk.loads == case.loads
 }
 
-/// Whether a command of these words does what is wanted.
-pub fn does<R: Abort + AllocGlobal + Threads + Sync>(
+/// Whether a command with these arguments has the expected result.
+pub fn does<R: Abort + AllocGlobal + Threads + Clock + Sync>(
     rt: &R,
     words: &[&str],
     case: &Case<'_>,
@@ -176,7 +178,7 @@ pub fn does<R: Abort + AllocGlobal + Threads + Sync>(
     prints(rt, words, racks.as_mut_slice(), case) && have(racks.as_slice(), case.kept)
 }
 
-/// Row `n` of a table holds.
+/// Asserts that row `n` of a table holds.
 pub fn check(rt: &impl Abort, n: usize, holds: bool) {
     assert!(rt; holds, "row {n}");
 }

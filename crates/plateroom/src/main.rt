@@ -1,5 +1,5 @@
-// The program: hands its words, the machine's files and the standard streams to `plate_main`, and ends with
-// its status.
+// The program: passes its arguments, the machine's files and the standard streams to `plate_main`, and exits
+// with its status.
 #![tactic(auto)]
 
 ghost use Rattle.std.specs.Prelude.{◌≡◌, IfOk, length};
@@ -14,13 +14,14 @@ use std::env::Env;
 use std::io::ErrorKind;
 use std::process::ExitCode;
 
-/// The status of want of memory.
+/// The status for out of memory.
 const MEMORY: u8 = 6;
 
-/// An edition has at most so many sites.
+/// The most sites that an edition has.
 const RACKS: usize = 16;
 
-/// The words after the program's name. A command line that can't be read has none, and so is no command.
+/// Returns the arguments after the program's name. A command line that can't be read has none, so it is not a
+/// command.
 fn words<R: Env + AllocGlobal>(rt: &R) -> Result<Vec<String>, AllocError> {
     match env::args(rt) {
         Ok(args) => args.skip(1).collect(rt.alloc()),
@@ -29,7 +30,7 @@ fn words<R: Env + AllocGlobal>(rt: &R) -> Result<Vec<String>, AllocError> {
     }
 }
 
-/// A rack of the machine's files for each site that an edition may have.
+/// Returns a rack of the machine's files for each site that an edition may have.
 fn racks(rt: &HostRuntime) -> Result<Vec<HostRack<HostRuntime>>, AllocError>
     ensures count { IfOk result (λ racks. length racks.items ≡ 16) }
     ensures idle { IfOk result (λ racks. AreIdle ⟦<HostRack<HostRuntime> as Rack>⟧ racks.items) }
@@ -41,7 +42,7 @@ fn racks(rt: &HostRuntime) -> Result<Vec<HostRack<HostRuntime>>, AllocError>
     Ok(racks)
 }
 
-/// Tells of want of memory before the command began.
+/// Reports that memory ran out before the command began.
 fn want_of_memory<R: Eprint>(rt: &R) -> ExitCode {
     let _ = rt.eprintln("plateroom: memory");
     ExitCode::from(MEMORY)

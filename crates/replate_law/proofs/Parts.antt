@@ -1,4 +1,5 @@
--- A section that two jobs print alike at a site: each of its plates there has one of the same path and recipe.
+-- Two jobs print a section alike at a site: each plate of it there has one of the same path and recipe in the
+-- other job.
 use Rattle.std.proofs.Common.{◌≡◌, ℕ, zero, suc, ◌+◌, ◌-◌, ◌*◌, ◌/◌, ◌<◌, ◌≤◌, Bool, true, false, cond, eqb, List, [], ◌∷◌, length, map, get_or, take, refl, ap, sym, subst, ◌∙◌, inl, inr, zero-add, length-take, get_or-take, arith}
 use Rattle.std.specs.Prelude.{filter, ◌&&◌, ◌||◌}
 use Rattle.std.specs.List.{flat_map, list_any, range_with_len}
@@ -23,7 +24,7 @@ use Rattle.replate.proofs.PlateLemmas.{any-flat_map, some_at}
 use Rattle.replate_law.specs.Part.{HasPlate, IsPlateIn, IsSectionAt, PrintAlike, SectionAt}
 use Rattle.replate_law.proofs.Printed.{file_by, file_is}
 
--- ---- each site has a group of each pair
+-- ---- a group of each pair at each site
 
 any_kept : {X Y : Type 0} (p : Y → Bool) (test : X → Bool) (f : X → Y) (xs : List X) → list_any p (map f (filter test xs)) ≡ list_any (λ x. test x && p (f x)) xs
 any_kept p test f [] = refl
@@ -34,7 +35,7 @@ any_kept p test f (x ∷ xs) = go (test x) (any_kept p test f xs)
     go true rest = ap (λ b. p (f x) || b) rest
     go false rest = rest
 
--- the first site that prints what a site prints
+-- the first site that prints the same pages as a site
 record FirstLike (pages : List (ℕ × ℕ)) (site : ℕ) : Type 0 where
   at : ℕ
   before : at ≤ site
@@ -61,7 +62,7 @@ first_like pages (suc most) site low =
       | inr none ↦ record { at = site; before = omega arith; first = not_from_false _ none; alike = (pair_decides own own).1 refl }
     ]
 
--- whether a group is of this section, pair and site
+-- whether a group has this section and this pair and includes this site
 abbrev is_at : ℕ → ℕ → ℕ → Group → Bool
 is_at section pair site group = (eqb group.section section && eqb group.pair pair) && has_site group site
 
@@ -100,7 +101,7 @@ in_section plan section pair site first last low =
     ∙ list_any_at test (range_with_len 1 pairs) (pair - 1) 0 (omega (arith, length-range_with_len 1 pairs))
     (ap test is ∙ in_pair plan section pair site low)
 
--- the numbers of first rows have no part in it
+-- numbering the first rows does not affect the test
 any_numbered : (section pair site height from : ℕ) (groups : List Group) → list_any (is_at section pair site) (numbered height from groups) ≡ list_any (is_at section pair site) groups
 any_numbered section pair site height from [] = refl
 any_numbered section pair site height from (group ∷ groups) =
@@ -117,7 +118,7 @@ in_groups plan section pair site within first last low =
     ∙ list_any_at test sections section 0 (omega (arith, length-range_with_len 0 (length plan.sections)))
     (ap test (get_or-range_with_len 0 (length plan.sections) section 0 within ∙ zero-add section) ∙ in_section plan section pair site first last low)
 
--- the group of this section and pair that a site prints
+-- the group that a site prints for this section and pair
 record GroupFor (plan : PlanData) (section pair site : ℕ) : Type 0 where
   index : ℕ
   within : index < length (groups_of plan)
@@ -142,7 +143,7 @@ group_for plan section pair site within first last low =
 
 -- ---- plates of a section at a site
 
--- the plate of the same path, which is made alike
+-- the plate with the same ink, path and recipe
 record Twin (a b : SectionAt) (plate : PlateAt) : Type 0 where
   own : PlateAt
   is : IsPlateIn a own
@@ -205,7 +206,7 @@ twin a b plate a_is b_is alike is =
       recipe = λ i. record { settings = ink.settings i; screen = ink.screen i; left = left i; right = right i };
     }
 
--- ---- what the law says
+-- ---- the clauses of the law
 
 pub turned : (a b : SectionAt) → PrintAlike a b → PrintAlike b a
 turned a b alike =

@@ -1,4 +1,4 @@
--- What a plate prints, as a function of its recipe, and that this is what its plan and files print.
+-- What a plate prints, as a function of its recipe, and proofs that its plan and files print the same.
 use Rattle.std.proofs.Common.{◌≡◌, ℕ, zero, suc, ◌+◌, ◌-◌, ◌<◌, Bool, List, [], ◌∷◌, length, map, get_or, Option, Some, None, refl, ap, ◌∙◌, arith}
 use Rattle.std.specs.Prelude.{Contains, ◌&&◌, ◌||◌, if◌then◌else◌, slice_get, slice_index, slice_index_or, option_map}
 use Rattle.std.specs.List.{list_any, range_with_len}

@@ -1,4 +1,4 @@
--- A rack with the made plates put in and the dropped ones taken out, path by path.
+-- A rack after the made plates are stored and the dropped ones deleted, path by path.
 use Rattle.std.proofs.Common.{◌≡◌, ℕ, suc, ◌+◌, ◌<◌, Bool, true, false, cond, List, [], ◌∷◌, ◌++◌, length, map, Some, None, refl, ap, sym, subst, add-zero, zero-add, ◌∙◌, inl, inr, arith}
 use Rattle.std.specs.Prelude.{IsTrue, ◌↔◌, ◌&&◌, ◌||◌, filter, option_map}
 use Rattle.std.specs.List.{enumerate_from, find, flat_map, list_any}
@@ -25,7 +25,7 @@ use Rattle.replate_law.specs.Law.{File, bytes_of_plate, entry_of, files_of_site,
 use Rattle.replate_law.proofs.Printed.{file_by, file_is}
 use Rattle.replate_law.proofs.Unmade.{held, one_recipe, same}
 
--- ---- what files hold
+-- ---- the bytes at a path
 
 held_none : (e : PlateAt → File) (path : List ℕ) (ps : List PlateAt) → list_any (λ p. bytes_eq (e p).0 path) ps ≡ false → held_in (map e ps) path ≡ None
 held_none e path [] none = refl
@@ -35,7 +35,7 @@ held_none e path (p ∷ ps) none = go (bytes_eq (e p).0 path) (held_none e path 
     go true rest is = absurd (false≢true (sym is))
     go false rest is = rest is
 
--- where some plate has the path, its bytes are held
+-- if some plate has the path, the bytes at the path are those of such a plate
 found : (e : PlateAt → File) (path : List ℕ) (ps : List PlateAt) → list_any (λ p. bytes_eq (e p).0 path) ps ≡ true
     → (bytes : List ℕ) × (held_in (map e ps) path ≡ Some bytes) × (list_any (λ p. bytes_eq (e p).0 path && bytes_eq (e p).1 bytes) ps ≡ true)
 found e path [] some = absurd (false≢true some)
@@ -93,7 +93,7 @@ files_are : (job : JobData) (out : List ℕ) (site : ℕ) → files_of_site job 
 unfolding site_plates plates_of
 files_are job out site = sym (entries_are job out site 0 (groups_of job.plan) (λ k low. ap (group_at job.plan) (zero-add k)))
 
--- no plate of a site has the path
+-- if no plate of a site has the path, the site has no file at it
 pub none_at : (job : JobData) (out path : List ℕ) (site : ℕ) → list_any (λ p. bytes_eq (entry_of job out p).0 path) (plates_of job.plan site) ≡ false → held_in (files_of_site job out site) path ≡ None
 none_at job out path site none = ap (λ files. held_in files path) (files_are job out site) ∙ held_none (entry_of job out) path (plates_of job.plan site) none
 
@@ -108,7 +108,8 @@ paths_below a b out p q is = append_cancel_left out (path_below a.plan p) (path_
 pub paths_above : (a b : JobData) (out : List ℕ) (p q : PlateAt) → path_below a.plan p ≡ path_below b.plan q → (entry_of a out p).0 ≡ (entry_of b out q).0
 paths_above a b out p q is = path_out a out p ∙ ap (λ l. out ++ l) is ∙ sym (path_out b out q)
 
--- plates of one path have one site, where the names of their sites are those of one site
+-- if plates of two plans have the same path, the first one's site is the one with the name of the second
+-- one's site
 site_is : (plan : PlanData) (other : PlanData) (p q : PlateAt) (its : ℕ) → IsPlan plan → IsPlan other → IsPlateOf plan p → IsPlateOf other q → path_below plan p ≡ path_below other q
     → its < length plan.sites → site_name plan its ≡ site_name other q.site → p.site ≡ its
 site_is plan other p q its is other_is of other_of path low name =
@@ -124,7 +125,7 @@ module _ (before after : JobData) (out path : List ℕ) (old_site site : ℕ) (m
   is_old : PlateAt → Bool
   is_old p = bytes_eq (entry_of before out p).0 path
 
-  -- two new plates of this path have the same bytes and must be made alike
+  -- two new plates with the same path have the same bytes, and either both or neither must be made
   one_file : (p q : PlateAt) → IsPlateOf after.plan p → IsPlateOf after.plan q → (entry_of after out p).0 ≡ (entry_of after out q).0 → bytes_of_plate after p ≡ bytes_of_plate after q
   one_file p q p_is q_is same_path =
       let one = one_recipe after p q after_is p_is q_is (paths_below after after out p q same_path) in
@@ -137,7 +138,7 @@ module _ (before after : JobData) (out path : List ℕ) (old_site site : ℕ) (m
       let must = (told p p_is).0 is in
       (told q q_is).1 (λ old old_is old_path recipe. must old old_is (old_path ∙ sym below) (recipe ∙ sym one.0))
 
-  -- a plate of the site among the new ones
+  -- the case that a new plate of the site has the path
   module _ (new : PlateAt) (new_is : IsPlateOf after.plan new) (at_site : new.site ≡ site) (at_path : (entry_of after out new).0 ≡ path) where
     pub new_held : held_in (files_of_site after out site) path ≡ Some (bytes_of_plate after new)
     unfolding is_new
@@ -215,7 +216,7 @@ module _ (before after : JobData) (out path : List ℕ) (old_site site : ℕ) (m
           ∙ ap (λ b. cond b None (held_in (files_of_site before out old_site) path)) not_dropped ∙ old_held is ∙ sym new_held
     ]
 
-  -- no plate of the site has the path
+  -- the case that no new plate of the site has the path
   module _ (none : list_any is_new (plates_of after.plan site) ≡ false) where
     none_held : held_in (files_of_site after out site) path ≡ None
     unfolding is_new
@@ -232,7 +233,7 @@ module _ (before after : JobData) (out path : List ℕ) (old_site site : ℕ) (m
         both_ways (list_any is_new (plates_of after.plan site)) none
         (subst (λ s. list_any is_new (plates_of after.plan s) ≡ true) other.2 (any_of_site after.plan is_new other.0 other.1 both.1))))
 
-    -- an old plate of the path would be kept, and so would stand in the new plan
+    -- an old plate with the path would be kept, so the new plan would have it
     none_old : is_dropped_path before after out path ≡ false → held_in (files_of_site before out old_site) path ≡ None
     unfolding is_new is_old dropped_of has_path
     none_old kept =

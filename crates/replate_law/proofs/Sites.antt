@@ -1,4 +1,4 @@
--- Two jobs that print all sections alike at a site: its files are the same, path by path.
+-- Two jobs print all sections alike at a site: the site's files are the same, path by path.
 use Rattle.std.proofs.Common.{◌≡◌, ℕ, ◌<◌, Bool, true, false, List, length, Some, refl, ap, sym, subst, ◌∙◌, inl, inr}
 use Rattle.std.specs.Prelude.{IsTrue, ◌↔◌}
 use Rattle.std.specs.List.{list_any}
@@ -16,7 +16,7 @@ use Rattle.replate_law.specs.Part.{SectionAt, SitePrints}
 use Rattle.replate_law.proofs.Parts.{same}
 use Rattle.replate_law.proofs.Remade.{new_held, none_at, paths_above}
 
--- of a job beside itself nothing must be made
+-- compared with itself, a job has no plate that must be made
 none_made : (job : JobData) (new : PlateAt) → IsPlateOf job.plan new → IsTrue false ↔ MustMake job job new
 none_made job new is = (λ yes. absurd (false≢true yes), λ must. absurd (must new is refl refl))
 
@@ -24,12 +24,12 @@ none_made job new is = (λ yes. absurd (false≢true yes), λ must. absurd (must
 abbrev is_here : JobData → List ℕ → List ℕ → PlateAt → Bool
 is_here job out path plate = bytes_eq (entry_of job out plate).0 path
 
--- what a site's files hold at the path of one of its plates
+-- at the path of a plate of the site, the site's files have the bytes of the plate
 here : (job : JobData) (out path : List ℕ) (site : ℕ) (plate : PlateAt) → IsPlan job.plan → site < length job.plan.sites → IsPlateOf job.plan plate → plate.site ≡ site → (entry_of job out plate).0 ≡ path
     → held_in (files_of_site job out site) path ≡ Some (bytes_of_plate job plate)
 here job out path site plate is low of at_site at_path = new_held job job out path site site (λ _. false) is is low low refl (none_made job) plate of at_site at_path
 
--- a plate of one has one of the other
+-- each plate of job b at its site has a plate of job a with the same path and bytes
 twin : (a b : JobData) (site its : ℕ) (plate : PlateAt) → IsPlan a.plan → IsPlan b.plan → site < length a.plan.sites → its < length b.plan.sites → SitePrints a site b its
     → IsPlateOf b.plan plate → plate.site ≡ its
     → (own : PlateAt) × IsPlateOf a.plan own × (own.site ≡ site) × ((out : List ℕ) → (entry_of a out own).0 ≡ (entry_of b out plate).0) × (bytes_of_plate a own ≡ bytes_of_plate b plate)

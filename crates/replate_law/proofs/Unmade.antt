@@ -1,4 +1,4 @@
--- A plate that need not be made is there.
+-- A plate that need not be made is already present.
 use Rattle.std.proofs.Common.{◌≡◌, refl, ap, sym, ◌∙◌, inl, inr}
 use Rattle.std.specs.Prelude.{IsTrue}
 use Rattle.std.specs.Str.{bytes_eq}
@@ -23,7 +23,7 @@ held before after new is unmade =
     both_ways (has_path before.plan (path_below after.plan new)) none
     (any_plate before.plan (λ plate. bytes_eq (path_below before.plan plate) (path_below after.plan new)) old old_is ((bytes_decides (path_below before.plan old) (path_below after.plan new)).1 path))))
 
--- plates of one path have one recipe and one ink
+-- plates of a job with the same path have the same recipe and ink
 pub one_recipe : (job : JobData) (a b : PlateAt) → IsPlan job.plan → IsPlateOf job.plan a → IsPlateOf job.plan b → path_below job.plan a ≡ path_below job.plan b
     → (recipe_at job a ≡ recipe_at job b) × (a.ink ≡ b.ink)
 one_recipe job a b is a_is b_is path =

@@ -1,4 +1,4 @@
--- The files of the plates of a job, and what a rack holds that gets the plates which were made.
+-- The files of a job's plates, and the contents of a rack after the plates that were made are stored.
 use Rattle.std.specs.Prelude.{ℕ, Bool, if◌then◌else◌, List, [], filter, map, Option, None, option_map}
 use Rattle.std.specs.List.{find, list_any}
 use Rattle.std.specs.Option.{option_or}
@@ -9,11 +9,11 @@ use Rattle.replate.specs.Inputs.{JobData}
 use Rattle.replate.specs.Picks.{dropped_of}
 use Rattle.replate.specs.Plates.{PlateAt, group_at, plates_of}
 
--- a path and bytes
+-- a path and its bytes
 abbrev pub File : Type 0
 File = List ℕ × List ℕ
 
--- the entry of a plate among the files of its site, below a folder
+-- the file of a plate among the files of its site, below a folder
 abbrev pub entry_of : JobData → List ℕ → PlateAt → File
 entry_of job out plate =
     file_of job.plan (plate_rows job.plan job.files) out plate.site (group_at job.plan plate.group, plate.ink)
@@ -26,23 +26,23 @@ bytes_of_plate job plate = (entry_of job [] plate).1
 abbrev pub files_of_site : JobData → List ℕ → ℕ → List File
 files_of_site job out site = site_files job.plan (plate_rows job.plan job.files) out site
 
--- those of the plates that pass a test, in the same order
+-- the files of the plates that pass a test, in the same order
 abbrev pub picked_files : JobData → List ℕ → ℕ → (PlateAt → Bool) → List File
 picked_files job out site made = map (entry_of job out) (filter made (plates_of job.plan site))
 
--- ---- as a map
+-- ---- files as a map from paths to bytes
 
--- the bytes that files hold at a path
+-- the bytes at a path: those of the first file with this path
 abbrev pub held_in : List File → List ℕ → Option (List ℕ)
 held_in files path = option_map (λ file. file.1) (find (λ file. bytes_eq file.0 path) files)
 
--- whether a path is that of an old plate that is dropped
+-- whether an old plate that is dropped has this path
 abbrev pub is_dropped_path : JobData → JobData → List ℕ → List ℕ → Bool
 is_dropped_path before after out path =
     list_any (λ old. bytes_eq (entry_of before out old).0 path) (dropped_of before.plan after.plan)
 
--- what a rack holds at a path that held the files of an old site, with the picked ones put in and those of
--- the dropped paths taken out
+-- the bytes at a path of a rack that had the files of an old site, after the picked files are stored and the
+-- dropped paths deleted
 abbrev pub remade_at : JobData → JobData → List ℕ → ℕ → ℕ → (PlateAt → Bool) → List ℕ → Option (List ℕ)
 remade_at before after out old_site site made path =
     option_or (held_in (picked_files after out site made) path)

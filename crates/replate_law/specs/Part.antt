@@ -1,4 +1,4 @@
--- A section as a site prints it, in one job and in another: in an edition, and in a part of it.
+-- A section as a site prints it, compared between two jobs: an edition and a part of it.
 use Rattle.std.specs.Prelude.{◌≡◌, ◌<◌, ◌≤◌, ◌*◌, ℕ, length}
 use Rattle.pr_base.specs.declared.ink.Ink.{Ink}
 use Rattle.plan_json.specs.Plan.{IsPlan}
@@ -18,13 +18,13 @@ pub record SectionAt : Type 0 where
   pub site : ℕ
   pub section : ℕ
 
--- both are of the job's plan
+-- the plan is valid, and has the site and the section
 pub record IsSectionAt (at : SectionAt) : Type 0 where
   pub plan : IsPlan at.job.plan
   pub site : at.site < length at.job.plan.sites
   pub section : at.section < length at.job.plan.sections
 
--- the left and the right page that the site prints as a pair of the section
+-- the recipes of the left and the right page that the site prints for a pair of the section
 abbrev pub left_page : SectionAt → ℕ → PageRecipe
 left_page at pair =
     page_recipe at.job.plan at.job.files (pages_at at.job.plan at.section pair at.site).0
@@ -33,9 +33,9 @@ abbrev pub right_page : SectionAt → ℕ → PageRecipe
 right_page at pair =
     page_recipe at.job.plan at.job.files (pages_at at.job.plan at.section pair at.site).1
 
--- two jobs print a section alike at a site: they have one edition and the same settings and screens, one
--- name of the site and of the section, and as many pages of it, and each pair has the same two pages. No
--- other section, site or zone of either has a part in it
+-- two jobs print a section alike at a site: the edition, settings and screens, the names of the site and of
+-- the section, and the page count are the same, and each pair has the same two pages. Other sections, sites
+-- and zones of either job do not matter
 pub record PrintAlike (a b : SectionAt) : Type 0 where
   pub inks : (ink : Ink) → IsAlike a.job.plan b.job.plan (slot_of ink)
   pub site_named : site_name a.job.plan a.site ≡ site_name b.job.plan b.site
@@ -46,7 +46,7 @@ pub record PrintAlike (a b : SectionAt) : Type 0 where
   pub right : (pair : ℕ) → 1 ≤ pair → 2 * pair ≤ page_count a.job.plan a.section
       → right_page a pair ≡ right_page b pair
 
--- each section that a job prints at a site of its own, another one prints alike at this site
+-- for each section, as job b prints it at its site, job a prints a section alike at this site
 pub record SitePrints (a : JobData) (site : ℕ) (b : JobData) (its : ℕ) : Type 0 where
   pub each : (section : ℕ) → section < length b.plan.sections → (own : ℕ) × (own < length a.plan.sections)
       × PrintAlike (record { job = a; site = site; section = own })
@@ -58,7 +58,7 @@ pub record IsPlateIn (at : SectionAt) (plate : PlateAt) : Type 0 where
   pub site : plate.site ≡ at.site
   pub section : (group_at at.job.plan plate.group).section ≡ at.section
 
--- some plate there has the path and the bytes of a plate of another job
+-- some plate of the section at the site has the path and the bytes of a plate of another job
 pub record HasPlate (at : SectionAt) (job : JobData) (plate : PlateAt) : Type 0 where
   pub own : PlateAt
   pub is : IsPlateIn at own

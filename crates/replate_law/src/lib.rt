@@ -1,5 +1,5 @@
-// The laws of replating and of parts: a plate that need not be made again is the one that is there, and two
-// jobs that print a section alike come to the same plates of it.
+// The laws of replating and of parts: a plate that need not be made again is the one already present, and two
+// jobs that print a section alike produce the same plates of it.
 #![tactic(auto)]
 
 mod laws;

@@ -1,4 +1,4 @@
-// An old job, one change of it at a time, and which plates must be made and are dropped: worked by hand.
+// An old job with one change at a time, and the plates that must be made and are dropped, worked out by hand.
 ghost use Rattle.std.specs.Prelude.{◌≡◌, length};
 
 use plan_json::{Plan, read_plan};
@@ -7,8 +7,8 @@ use pr_base::Ink;
 use replate::{Inputs, Picks};
 use std::process::Abort;
 
-// Two sites, of which the second prints another page 3. Pair 1 is group 0 of both, with the pages s and p;
-// pair 2 is group 1 of OSLO, with q and r, and group 2 of BERGEN, with q and z.
+// Two sites. The second prints another page 3. Pair 1, pages s and p, is group 0 of both sites. Pair 2 is
+// group 1 of OSLO, pages q and r, and group 2 of BERGEN, pages q and z.
 const BASE: &str = "{'plan':2,'edition':'E1','dpi':1200,'page':[8,2],\
 'tiles':[{'name':'t1','width':2,'height':1,'at':[7,9]}],'screens':{'K':'tile:t1'},\
 'pages':[{'name':'p','inks':'K','layers':[{'kind':'contone','file':'a'}]},\
@@ -30,19 +30,19 @@ const SECTION: &str = "'name':'A','pages':['p','q','r','s']}],\
 const RENAMED_SECTION: &str = "'name':'B','pages':['p','q','r','s']}],\
 'zones':[{'name':'N','replace':[{'section':'B','page':3,'with':'z'}";
 
-// Pair 1 alone, and a zone that gives BERGEN the page that it has.
+// Pair 1 alone, and a zone that replaces a page of BERGEN with the same page.
 const ONE_PAIR: &str = "'name':'A','pages':['p','s']}],\
 'zones':[{'name':'N','replace':[{'section':'A','page':1,'with':'p'}";
 
-// The files, with a space between them.
+// The contents of the files, separated by spaces.
 const FILES: &str = "abc de f";
 
 const ALL: &str = "00K 01C 01M 01Y 01K 10K 12C 12M 12Y 12K ";
 
 const BLACK: &str = "00K 01K 10K 12K ";
 
-// What is changed in the plan and to what, the new files, the plates that must be made, and those that are
-// dropped: each by the index of its site, the index of its group and its ink.
+// A text of the plan and its replacement, the new files, the plates that must be made, and those that are
+// dropped. A plate is the index of its site, the index of its group and its ink.
 #[rattlefmt::skip]
 const CHANGES: [(&str, &str, &str, &str, &str); 16] = [
     ("'edition':'E1'", "'edition':'E1'", FILES, "", ""),
@@ -74,7 +74,7 @@ fn check(rt: &impl Abort, n: usize, holds: bool) {
     assert!(rt; holds, "change {n}");
 }
 
-// Whether these plates are made and dropped where the plan becomes this one, over these files.
+// Whether a change of plan and files makes and drops exactly these plates.
 fn holds<R: Abort + AllocGlobal>(rt: &R, change: &(&str, &str, &str, &str, &str)) -> bool {
     let (old, new, files, made, dropped) = *change;
     let old_plan = plan_of(rt, BASE);
@@ -82,13 +82,13 @@ fn holds<R: Abort + AllocGlobal>(rt: &R, change: &(&str, &str, &str, &str, &str)
     tells(rt, &old_plan, &new_plan, files, made, dropped)
 }
 
-// The plan with one text in it, which has to be there, in the place of another.
+// Returns the plan with one text, which must occur in it, replaced by another.
 fn changed<R: Abort + AllocGlobal>(rt: &R, old: &str, new: &str) -> String {
     let (front, back) = BASE.split_once(old).expect(rt, "what is to be changed");
     format!(in rt.alloc(); "{front}{new}{back}").expect(rt, "memory")
 }
 
-// The plan of a text with quotes in the place of apostrophes.
+// Reads the plan of a text that has apostrophes for quotes.
 fn plan_of<R: Abort + AllocGlobal>(rt: &R, text: &str) -> Plan {
     let mut bytes = Vec::new(rt.alloc());
     for byte in text.as_bytes() {
@@ -144,7 +144,7 @@ fn picks<R: Abort + AllocGlobal>(
     told(rt, &picks, new_plan, &new_rows).as_str() == made && left(rt, &picks).as_str() == dropped
 }
 
-// The plates that must be made.
+// Lists the plates that must be made.
 fn told<R: Abort + AllocGlobal>(rt: &R, picks: &Picks, plan: &Plan, rows: &RowPlan) -> String
     requires { length picks.now.kept ≡ length rows.now.groups }
 {
@@ -163,7 +163,7 @@ fn told<R: Abort + AllocGlobal>(rt: &R, picks: &Picks, plan: &Plan, rows: &RowPl
     text
 }
 
-// The plates that are dropped.
+// Lists the plates that are dropped.
 fn left<R: Abort + AllocGlobal>(rt: &R, picks: &Picks) -> String {
     let mut text = String::new(rt.alloc());
     for plate in picks.dropped() {

@@ -1,4 +1,4 @@
-// Tests of replate by its public names.
+// Tests of replate through its public names.
 #![tactic(auto)]
 
 #[cfg(test)]

@@ -1,4 +1,4 @@
--- What the command `one` owes.
+-- The obligations of the command `one`.
 use Rattle.std.proofs.Common.{◌≡◌, ◌⊎◌, ℕ, ◌<◌, ◌≤◌, List, length, Option, Some, None, IsSomeAnd, true, false, if◌then◌else◌, nat_lt, refl, sym, ap, subst, ◌∙◌, inl, inr, arith}
 use Rattle.std.proofs.lemmas.Bool.Decides.{nat_tests}
 use Rattle.pr_base.specs.declared.fault.TagFault.{TagFault}
@@ -15,14 +15,14 @@ use Rattle.room_base.specs.Seen.{Files, ShelfSeen, LoadFailed}
 use Rattle.room_base.specs.Task.{telling}
 use Rattle.room_base.proofs.Owed.{zero_or_one, Owes}
 
--- a file that is held and not too long is judged by its image
+-- the verdict on a file that is present and not too long is that on its image
 short_is : (file bytes : List ℕ) → length bytes ≤ file_limit
     → verdict_on file (Some bytes) ≡ judged file (contone_shape bytes)
 short_is file bytes within =
     let short : nat_lt file_limit (length bytes) ≡ false = grind (arith, nat_tests) in
     ap (λ long. if long then Some (File New (named file too_long)) else judged file (contone_shape bytes)) short
 
--- one that is held and longer is too long
+-- the verdict on a file that is present and longer is that it is too long
 longer_is : (file : List ℕ) (found : Option (List ℕ)) → IsSomeAnd found (λ bytes. file_limit < length bytes)
     → verdict_on file found ≡ Some (File New (named file too_long))
 longer_is file None h = absurd h
@@ -30,12 +30,12 @@ longer_is file (Some bytes) beyond =
     let long : nat_lt file_limit (length bytes) ≡ true = grind (arith, nat_tests) in
     ap (λ long. if long then Some (File New (named file too_long)) else judged file (contone_shape bytes)) long
 
--- what was loaded is judged
+-- the verdict on a file that was loaded is that on its image
 loaded_is : (files : Files) (file bytes : List ℕ) → IsLoaded (Some files) file_limit file bytes
     → verdict_on file (held_at files file) ≡ judged file (contone_shape bytes)
 loaded_is files file bytes h = ap (verdict_on file) h.bytes_held ∙ short_is file bytes h.within
 
--- a file that is met as faulty is so
+-- a file that is refused with a fault has that fault
 fault_is : (files : Files) (shelf : ShelfSeen) (file : List ℕ) (tags : TagFault) → shelf.held ≡ Some files
     → HasFault shelf file tags → verdict_on file (held_at files file) ≡ Some (File New (named file tags))
 fault_is files shelf file tags told (inl (is, longer, rose)) =

@@ -16,7 +16,7 @@ use Rattle.room_one.specs.One.{black_row, black_rows, black_plate}
 abbrev pub first_rows : Shape → List ℕ → ℕ → List (List ℕ)
 first_rows shape bytes y = map (black_row shape bytes) (range_with_len 0 y)
 
--- each has the bytes of a row
+-- each of them has the length of a row
 row-lengths : (shape : Shape) (bytes : List ℕ) (n : ℕ) → All (λ row. length row ≡ row_size shape.width) (first_rows shape bytes n)
 row-lengths shape bytes n = λ k d less.
     let within : k < n = omega (arith, length-map-range_with_len (black_row shape bytes) 0 n) in
@@ -26,12 +26,12 @@ row-lengths shape bytes n = λ k d less.
 length-first : (shape : Shape) (bytes : List ℕ) (y : ℕ) → length (first_rows shape bytes y) ≡ y
 length-first shape bytes y = length-map-range_with_len (black_row shape bytes) 0 y
 
--- the packed bytes that a step gives are those of row y
+-- the packed bytes of a step are those of row y
 pub piece_is : (rows : Cursor) (shape : Shape) (bytes : List ℕ) (y n : ℕ) (packed : List ℕ) → rows ≡ record { shape = shape; bytes = bytes; next = y }
     → take n packed ≡ packing (black_row rows.shape rows.bytes y) → take n packed ≡ packing (black_row shape bytes y)
 piece_is rows shape bytes y n packed at is = is ∙ ap {A = Cursor} (λ cursor. packing (black_row cursor.shape cursor.bytes y)) at
 
--- a plate of the first y rows takes row y
+-- a plate with the first y rows accepts row y
 pub takes_black : (shape : Shape) (bytes : List ℕ) (y : ℕ) (plate : PlateState) (packed : List ℕ) → plate ≡ so_far shape.width shape.length 1200 (first_rows shape bytes y) → y < shape.length
     → packed ≡ packing (black_row shape bytes y) → TakesRow plate (first_rows shape bytes y) (black_row shape bytes y) packed
 unfolding so_far
@@ -44,7 +44,7 @@ takes_black shape bytes y plate packed is below packed-is =
       is = packed-is;
     })
 
--- and is then a plate of one row more
+-- the plate then has one row more
 pub pushed_black : (shape : Shape) (bytes : List ℕ) (y : ℕ) (plate new : PlateState) → plate ≡ so_far shape.width shape.length 1200 (first_rows shape bytes y)
     → new ≡ so_far plate.width plate.height plate.dpi (first_rows shape bytes y ++ black_row shape bytes y ∷ []) → new ≡ so_far shape.width shape.length 1200 (first_rows shape bytes (y + 1))
 unfolding so_far
@@ -53,14 +53,14 @@ pushed_black shape bytes y plate new is more =
     ∙ ap {A = PlateState} (λ p. so_far p.width p.height p.dpi (first_rows shape bytes y ++ black_row shape bytes y ∷ [])) is
     ∙ ap (so_far shape.width shape.length 1200) (sym (map-range_with_len_more (black_row shape bytes) 0 y y (omega arith)))
 
--- with all rows it can be finished
+-- a plate with all rows can be finished
 pub has_black : (shape : Shape) (bytes : List ℕ) (plate : PlateState) → plate ≡ so_far shape.width shape.length 1200 (black_rows shape bytes) → HasAllRows plate (black_rows shape bytes)
 unfolding so_far
 has_black shape bytes plate is =
     subst (λ (p : PlateState). HasAllRows p (black_rows shape bytes)) (sym is)
     (record { has = record { is = refl; each = row-lengths shape bytes shape.length }; all = length-first shape bytes shape.length })
 
--- and is then the plate of the image
+-- the finished plate is the black plate of the image
 pub whole_black : (shape : Shape) (bytes : List ℕ) (plate new : PlateState) → plate ≡ so_far shape.width shape.length 1200 (black_rows shape bytes)
     → new ≡ whole plate.width plate.height plate.dpi (black_rows shape bytes) → new.bytes ≡ black_plate shape bytes
 unfolding so_far whole

@@ -19,11 +19,11 @@ use Rattle.room_one.specs.One.{black_plate}
 use Rattle.room_base.specs.Seen.{ShelfSeen, SinkSeen, IsSilent, PutFailed}
 use Rattle.room_base.specs.Task.{Rules}
 
--- the bytes of a file that are read at most
+-- the most bytes that are read of a file: 512 MiB
 abbrev pub file_limit : ℕ
 file_limit = 536870912
 
--- what is wrong with a file that is longer
+-- the fault of a longer file
 abbrev pub too_long : TagFault
 too_long = record { tag = 0; kind = TooLong }
 
@@ -31,25 +31,26 @@ too_long = record { tag = 0; kind = TooLong }
 abbrev pub named : List ℕ → TagFault → FileFault
 named file fault = record { file = file; tag = fault.tag; kind = fault.kind }
 
--- the verdict on a file whose image is judged so
+-- the verdict on a file, given the result of checking its image
 abbrev pub judged : List ℕ → Result Shape TagFault → Option Refusal
 judged file (Ok shape) = None
 judged file (Err fault) = Some (File New (named file fault))
 
--- the verdict on the bytes at a file's path: held, not too long, and a contone image
+-- the verdict on the bytes at a file's path: whether present, not too long, and a contone image
 abbrev pub verdict_on : List ℕ → Option (List ℕ) → Option Refusal
 verdict_on file None = Some (Shelf file)
 verdict_on file (Some bytes) =
     if nat_lt file_limit (length bytes) then Some (File New (named file too_long))
     else judged file (contone_shape bytes)
 
--- why a file is refused: the shelf counted it as too long, or the bytes that it gave are no contone image
+-- why a file is refused: the shelf counted it as too long, or the bytes that it returned are not a contone
+-- image
 abbrev pub HasFault : ShelfSeen → List ℕ → TagFault → Type 0
 HasFault shelf file fault =
     ((fault ≡ too_long) × IsLongerAt shelf.held file file_limit × Rose shelf.longs shelf.longs')
     ⊎ ((bytes : List ℕ) × IsLoaded shelf.held file_limit file bytes × (contone_shape bytes ≡ Err fault))
 
--- the command meets this refusal
+-- the shelf shows the cause of this refusal
 abbrev pub OneMeets : List ℕ → ShelfSeen → Refusal → Type 0
 OneMeets file shelf Words = ⊥
 OneMeets file shelf (LongPlan whose) = ⊥
@@ -58,12 +59,12 @@ OneMeets file shelf (File whose fault) =
     (whose ≡ New) × ((tags : TagFault) × (fault ≡ named file tags) × HasFault shelf file tags)
 OneMeets file shelf (Shelf path) = (path ≡ file) × HasMissed shelf path
 
--- these bytes are those of the file, and a contone image of this shape
+-- these bytes were loaded from the file, and are a contone image of this shape
 pub record IsImage (shelf : ShelfSeen) (file bytes : List ℕ) (shape : Shape) : Type 0 where
   pub loaded : IsLoaded shelf.held file_limit file bytes
   pub passed : contone_shape bytes ≡ Ok shape
 
--- the text is the black plate of the file
+-- the text is the black plate of the file, and the status is 0
 pub record PrintsPlate (file : List ℕ) (shelf : ShelfSeen) (text : List ℕ) (status : ℕ) : Type 0 where
   pub bytes : List ℕ
   pub shape : Shape
@@ -80,7 +81,7 @@ one_rules file = record {
 
 -- ---- private calls
 
--- what printing a plate of these bytes leaves of the output
+-- what printing a plate of these bytes appends to the output, for each result
 abbrev pub Printed : List ℕ → SinkSeen → Result (Unit {0}) PlateFault → Type 0
 Printed bytes out (Ok done) =
     (shape : Shape) × (contone_shape bytes ≡ Ok shape) × Grew out.given out.given' (black_plate shape bytes)

@@ -1,11 +1,11 @@
--- Room for one row of a plate. This is the contract of private calls.
+-- The buffers of one row of a plate, for the contracts of private calls.
 use Rattle.std.specs.Prelude.{◌≡◌, ◌≤◌, ◌*◌, ℕ, length, false}
 use Rattle.pr_base.specs.Row.{row_size}
 use Rattle.pr_base.specs.Bits.{bit_at}
 use Rattle.tif_packbits.specs.Packbits.{packed_bound}
 use Rattle.room_one.specs.declared.room.RowRoom.{RowRoom}
 
--- there is room for a row of width pixels, and its padding bits are 0
+-- the buffers fit a row of `width` pixels, and its padding bits are 0
 pub record FitsRow (width : ℕ) (room : RowRoom) : Type 0 where
   pub pixels : length room.pixels.items ≡ 4 * width
   pub black : length room.black.items ≡ width

@@ -1,4 +1,4 @@
-// The black ink of a contone row under the Bayer tile of side 4.
+// The black ink of a contone row, screened with the Bayer tile of side 4.
 ghost use Rattle.std.specs.Prelude.{◌≡◌, ℕ, ◌+◌, ◌*◌, ◌<◌, ◌≤◌, length, false, slice_index};
 ghost use Rattle.pr_base.specs.Row.{row_size};
 ghost use Rattle.pr_base.specs.Bits.{bit_at, packed_row};
@@ -17,8 +17,8 @@ fn take_black(pixels: &[u8], black: &mut [u8])
     }
 }
 
-/// Screens the black samples of row `y` to one bit a pixel. `black` is room for the samples, and `bits` for
-/// the row, whose padding bits are 0 before and after.
+/// Screens the black samples of row `y` to one bit per pixel. `black` is the buffer for the samples, and
+/// `bits` for the row, whose padding bits are 0 before and after.
 pub(crate) fn screen_black(tile: &AnyTile, y: u32, pixels: &[u8], black: &mut [u8], bits: &mut [u8])
     requires tile { (x y : ℕ) → threshold_of tile.now x y ≡ threshold_at 4 x y }
     requires pixels { length pixels.now ≡ 4 * length black.old }

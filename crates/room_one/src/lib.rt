@@ -1,6 +1,6 @@
-// The command `one`: the black plate of one image by itself, at 1200 pixels an inch under a Bayer tile.
-// The file is loaded and tested, and the plate is made whole in memory before anything is printed. What is
-// said of any command stands in room_base.
+// The command `one`: the black plate of one image, at 1200 pixels per inch under the Bayer tile of side 4. It
+// loads and checks the file, and makes the whole plate in memory before it prints anything. What holds of
+// every command is in room_base.
 #![tactic(auto)]
 
 mod black;

@@ -10,10 +10,10 @@ use pr_ports::{LoadFault, Shelf, Sink};
 use room_base::{Refusal, Status, Stop, Whose};
 use std::alloc::Global;
 
-/// The bytes of a file that are read at most.
+/// The most bytes that are read of a file: 512 MiB.
 const FILE_LIMIT: u64 = 536_870_912;
 
-/// Prints the black plate of one file, and answers the status of what was done.
+/// Prints the black plate of one file, and returns the command's status.
 pub fn print_one<H: Shelf, S: Sink>(
     alloc: Global,
     file: &str,
@@ -46,7 +46,7 @@ pub fn print_one<H: Shelf, S: Sink>(
     }
 }
 
-/// A fault of the file with this name.
+/// Returns the fault of the file with this name.
 fn faulty(file: PathText, fault: TagFault) -> FileFault
     ensures { result ≡ named file fault }
 {
@@ -57,7 +57,7 @@ fn faulty(file: PathText, fault: TagFault) -> FileFault
     }
 }
 
-/// The fault of a file that is longer than the limit.
+/// Returns the fault of a file that is longer than the limit.
 fn too_long(file: PathText) -> FileFault
     ensures { result ≡ named file too_long_fault }
 {

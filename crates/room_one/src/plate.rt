@@ -1,4 +1,4 @@
-// Making and printing the black plate of one image.
+// Makes and prints the black plate of one image.
 ghost use Rattle.std.specs.Prelude.{◌≡◌, ◌*◌, [], ℕ, IfOk, OnOk};
 ghost use Rattle.scr_tile.specs.Tile.{threshold_at};
 ghost use Rattle.scr_tile.specs.AnyTile.{threshold_of};
@@ -18,22 +18,22 @@ use std::alloc::Global;
 use tif_image::Contone;
 use tif_strips::RowCursor;
 
-/// Pixels an inch of a plate of one image.
+/// The resolution of the plate of one image, in pixels per inch.
 const DPI: u32 = 1200;
 
-/// The side of its Bayer tile.
+/// The side of its Bayer tile, in pixels.
 const SIDE: u8 = 4;
 
-/// Why a plate wasn't printed whole.
+/// Why a plate was not printed completely.
 pub(crate) enum PlateFault {
-    /// The image is refused, before anything is printed.
+    /// The image was refused before anything was printed.
     Refused(TagFault),
     Memory,
     /// The sink failed.
     Printing,
 }
 
-/// Checks an image and prints its black plate. Nothing is printed of an image that is refused, nor before
+/// Checks an image and prints its black plate. Prints nothing of an image that is refused, and nothing before
 /// the whole plate is made.
 pub(crate) fn print_plate<S: Sink>(
     alloc: Global,
@@ -56,7 +56,7 @@ pub(crate) fn print_plate<S: Sink>(
     }
 }
 
-/// The plate of an image that was checked.
+/// Makes the plate of an image that was checked.
 fn make_plate(alloc: Global, image: &Contone<'_>) -> Result<PlateBytes, NoMemory>
     ensures { IfOk result (λ plate. plate.bytes ≡ black_plate image.now.shape image.now.bytes) }
 {

@@ -1,4 +1,4 @@
-// Room for one row of a plate, from the pixels of the image to the packed bits.
+// Buffers for one row of a plate, from the pixels of the image to the packed bits.
 ghost use Rattle.std.specs.Prelude.{◌≡◌, ◌+◌, ◌*◌, ◌<◌, ◌≤◌, ◌++◌, ℕ, IfOk, length, drop, take};
 ghost use Rattle.pr_base.specs.Row.{row_size};
 ghost use Rattle.scr_tile.specs.Tile.{threshold_at};
@@ -16,7 +16,7 @@ use std::alloc::Global;
 use tif_packbits::{pack_bound, pack_row};
 use tif_strips::RowCursor;
 
-/// The pixels of a row, their black samples, the row of the plate, and its packing.
+/// The pixels of a row, their black samples, the bits of the plate's row, and the packed row.
 #[derive(Drop)]
 pub(crate) struct RowRoom {
     pixels: Vec<u8>,
@@ -25,7 +25,7 @@ pub(crate) struct RowRoom {
     pub(crate) packed: Vec<u8>,
 }
 
-/// Takes the room for rows of `width` pixels.
+/// Allocates the buffers for rows of `width` pixels.
 pub(crate) fn row_room(alloc: Global, width: u32) -> Result<RowRoom, NoMemory>
     requires { IsSide width }
     ensures { IfOk result (FitsRow width) }
@@ -38,8 +38,8 @@ pub(crate) fn row_room(alloc: Global, width: u32) -> Result<RowRoom, NoMemory>
     })
 }
 
-/// Screens the black of the next row of an image, which is row `y`, and packs it. Says how many bytes of
-/// `packed` the packing has.
+/// Screens and packs the black samples of the next row of an image, which is row `y`. Returns how many bytes
+/// of `packed` the packed row takes.
 pub(crate) fn pack_next(
     rows: &mut RowCursor<'_>,
     y: u32,

@@ -11,10 +11,10 @@ pub const TWO_PAGES: &str =
 {"name":"p","inks":"K","layers":[{"kind":"contone","file":"a.tif","scale":2}]}],
 "sections":[{"name":"A","pages":["w","p"]}],"sites":[{"name":"OSLO"}]}"#;
 
-/// The report of that run.
+/// The report of a run of the two pages.
 pub const ONE_SITE: &str = "site OSLO finished plates 1 rows 2\ntotal rows 2 sites 1\n";
 
-// Four pages for two sites, all empty but page 3 of BERGEN.
+// Four pages for two sites, all empty except page 3 of BERGEN.
 const ZONED: &str = r#"{"plan":1,"edition":"E1","dpi":1200,"page":[8,2],"screens":{"K":"bayer4"},
 "pages":[{"name":"w","inks":"K","layers":[]},
 {"name":"p","inks":"K","layers":[{"kind":"contone","file":"a.tif","scale":2}]}],
@@ -22,20 +22,20 @@ const ZONED: &str = r#"{"plan":1,"edition":"E1","dpi":1200,"page":[8,2],"screens
 "zones":[{"name":"Z","replace":[{"section":"A","page":3,"with":"p"}]}],
 "sites":[{"name":"OSLO"},{"name":"BERGEN","zone":"Z"}]}"#;
 
-/// A page with a spot, from linework.
+/// A page with a spot ink, from linework.
 pub const SPOT: &str = r#"{"plan":2,"edition":"E1","dpi":1200,"page":[8,2],
 "pages":[{"name":"w","inks":"K","layers":[]},{"name":"p","inks":"KS","layers":[
 {"kind":"line","file":"a.tif","ink":[0,0,0,0,255],"paint":"overprint"}]}],
 "sections":[{"name":"A","pages":["w","p"]}],"sites":[{"name":"OSLO"}]}"#;
 
-// A flat image under error diffusion.
+// A flat image with error diffusion.
 const DIFFUSED: &str =
     r#"{"plan":1,"edition":"E1","dpi":1200,"page":[4,2],"screens":{"K":"diffuse"},
 "pages":[{"name":"w","inks":"K","layers":[]},
 {"name":"p","inks":"K","layers":[{"kind":"contone","file":"a.tif","scale":4}]}],
 "sections":[{"name":"A","pages":["w","p"]}],"sites":[{"name":"OSLO"}]}"#;
 
-/// Its plate.
+/// The plate of the two pages.
 pub const TWO_PAGES_PLATE: Plate<'static> = Plate {
     path: "OUT/OSLO/E1-A-001-K.tif",
     rows: &[1, 0xAB, 0, 1, 0x13, 0],
@@ -78,7 +78,7 @@ const AT_1: Want<'static> = Want {
     )],
 };
 
-// A ring of one place, and a turn that looks once.
+// A ring of one place, and a patience of one look per turn.
 #[test]
 fn runs_at_one_place(rt: HostRuntime) {
     let words = ["run", "plan.json", "FILES", "OUT", "1", "1"];
@@ -141,7 +141,7 @@ total rows 6 sites 2
     ],
 };
 
-// Two sites share the first pair and have a second one each.
+// Two sites share the first pair, and each has a second pair of its own.
 #[test]
 fn runs_zones(rt: HostRuntime) {
     let file = four_by_one(&rt);

@@ -1,18 +1,19 @@
-// What a run tells of its words, its plan and its files, and of a shelf and sinks that fail.
+// What a run reports of its arguments, its plan and its files, and of a shelf and sinks that fail.
 use crate::editions::{ONE_SITE, TWO_PAGES, TWO_PAGES_PLATE};
 use crate::files::{FORM, four_by_one, image, patch};
 use crate::room::{CALM, Failing, RUN, Want, check, runs};
 use std::process::Abort;
 use std::thread::Threads;
+use std::time::Clock;
 use tif_make::{ImageForm, Kind};
 
-// Words of a run of one plate.
+// Arguments of a run of one plate, with the least and the greatest ring size and patience.
 const GOOD: [&[&str]; 2] = [
     &["run", "plan.json", "FILES", "OUT", "1", "1"],
     &["run", "plan.json", "FILES", "OUT", "1024", "65536"],
 ];
 
-// Words that are no command.
+// Arguments that are not a command.
 const BAD: [&[&str]; 7] = [
     &["run", "plan.json", "FILES", "OUT", "0"],
     &["run", "plan.json", "FILES", "OUT", "01"],
@@ -23,8 +24,8 @@ const BAD: [&[&str]; 7] = [
     &["run", "plan.json", "", "OUT"],
 ];
 
-// Each run of the two pages by these words does what is wanted.
-fn check_words<R: Abort + AllocGlobal + Threads + Sync>(
+// Checks that each run of the two pages with one of these lines of arguments has the expected result.
+fn check_words<R: Abort + AllocGlobal + Threads + Clock + Sync>(
     rt: &R,
     lines: &[&[&str]],
     file: &[u8],
@@ -59,9 +60,9 @@ fn refuses_ring_and_patience(rt: HostRuntime) {
     check_words(&rt, &BAD, &four_by_one(&rt), &refused);
 }
 
-// Whether a run of this plan, with these files, reports nothing and tells this line, and its site has
-// nothing.
-fn ends<R: Abort + AllocGlobal + Threads + Sync>(
+// Whether a run of this plan, with these files, prints no report and reports this line, and its site has no
+// plates.
+fn ends<R: Abort + AllocGlobal + Threads + Clock + Sync>(
     rt: &R,
     plan: &str,
     files: [&[u8]; 2],
@@ -79,15 +80,15 @@ fn ends<R: Abort + AllocGlobal + Threads + Sync>(
     runs(rt, &RUN, plan, files, failing, &want)
 }
 
-// A crop that doesn't fit, and behind it a second file.
+// A crop that does not fit, followed by a second file.
 const LATER: &str = r#"{"plan":1,"edition":"E1","dpi":1200,"page":[8,2],"screens":{"K":"bayer4"},
 "pages":[{"name":"w","inks":"K","layers":[]},{"name":"p","inks":"K","layers":[
 {"kind":"contone","file":"a.tif","crop":[2,0,3,1]},{"kind":"contone","file":"b.tif"}]}],
 "sections":[{"name":"A","pages":["w","p"]}],"sites":[{"name":"OSLO"}]}"#;
 
-// The second file has compression 5, which is LZW: files come before layers. Where the note fails nothing is
-// told.
-fn refuses_second<R: Abort + AllocGlobal + Threads + Sync>(
+// The second file has compression 5, which is LZW. Files are checked before layers. If the error output
+// fails, nothing is reported.
+fn refuses_second<R: Abort + AllocGlobal + Threads + Clock + Sync>(
     rt: &R,
     first: &[u8],
     lzw: &[u8],
@@ -107,8 +108,9 @@ fn refuses_a_later_file(rt: HostRuntime) {
     assert!(rt; refuses_second(&rt, &four_by_one(&rt), &lzw));
 }
 
-// Whether a plan whose page is a.tif under this key is refused with this line. Beside it lies a mask.
-fn refuses_layer<R: Abort + AllocGlobal + Threads + Sync>(
+// Whether a plan whose page is a.tif with this key is refused with this line. The second file is a mask,
+// b.tif.
+fn refuses_layer<R: Abort + AllocGlobal + Threads + Clock + Sync>(
     rt: &R,
     key: &str,
     mask: &[u8],
@@ -159,7 +161,7 @@ const SECTIONS: &str = r#""sections":[{"name":"A","pages":["w","w"]}],"#;
 
 const SITES: &str = r#""sites":[{"name":"OSLO"}]}"#;
 
-// The keys before the pages of a plan, its sections and its sites, of which one is wrong, and the line.
+// The keys before the pages of a plan, its sections and its sites, one of them wrong, and the line.
 const PLANS: [[&str; 4]; 5] = [
     [
         r#"{"plan":1,"edition":"E1","dpi":1200,"page":[8,2],"colour":1,"#,
@@ -193,8 +195,8 @@ const PLANS: [[&str; 4]; 5] = [
     ],
 ];
 
-// Whether a run of the plan of these keys is refused with this line.
-fn refuses_keys<R: Abort + AllocGlobal + Threads + Sync>(
+// Whether a run of the plan with these keys is refused with this line.
+fn refuses_keys<R: Abort + AllocGlobal + Threads + Clock + Sync>(
     rt: &R,
     [head, sections, sites, line]: [&str; 4],
 ) -> bool {
@@ -218,14 +220,14 @@ fn refuses_what_is_no_plan(rt: HostRuntime) {
     assert!(rt; ends(&rt, "[]", [&[], &[]], CALM, 3, line));
 }
 
-// What fails: the shelf at each of its loads. Then the line.
+// The load at which the shelf fails, and the line.
 const LOADS: [(u64, &str); 2] = [
     (0, "plateroom: shelf: plan.json\n"),
     (1, "plateroom: shelf: FILES/a.tif\n"),
 ];
 
 // Whether a run of the two pages whose shelf fails at this load is refused with this line.
-fn misses<R: Abort + AllocGlobal + Threads + Sync>(rt: &R, load: u64, line: &str) -> bool {
+fn misses<R: Abort + AllocGlobal + Threads + Clock + Sync>(rt: &R, load: u64, line: &str) -> bool {
     let failing = Failing {
         shelf: Some(load),
         ..CALM
@@ -248,7 +250,7 @@ const UNREPORTED: Want<'static> = Want {
     taken: &[],
 };
 
-// The output takes the whole report in one call, when the plates are there.
+// The output takes the whole report in one call, once the plates are complete.
 #[test]
 fn ends_where_the_output_fails(rt: HostRuntime) {
     let failing = Failing {

@@ -1,4 +1,4 @@
-// Images of few pixels, plates of them, and what racks have.
+// Images of a few pixels, their plates, and the contents of racks.
 ghost use Rattle.tif_make.specs.Form.{IsForm};
 ghost use Rattle.tif_make.specs.Made.{HasRows};
 
@@ -8,7 +8,7 @@ use ring_lanes::Source;
 use std::process::Abort;
 use tif_make::{Compression, ImageForm, Kind, Order, Planar, make_image};
 
-/// How an image is laid into its file where a test says nothing else: 4 by 1 pixels in one strip.
+/// The default layout of an image file: 4 by 1 pixels in one strip.
 pub const FORM: ImageForm = ImageForm {
     kind: Kind::Contone,
     width: 4,
@@ -19,10 +19,10 @@ pub const FORM: ImageForm = ImageForm {
     rows_per_strip: 1,
 };
 
-// The samples of the four pixels: black is 1, 127, 31 and 255.
+// The samples of the four pixels. Their black is 1, 127, 31 and 255.
 const SAMPLES: [u8; 16] = [0, 0, 0, 1, 0, 0, 0, 127, 0, 0, 0, 31, 0, 0, 0, 255];
 
-/// The plate of 4 by 1 pixels with black 1, 127, 31, 255: thresholds 0, 127, 31, 159.
+/// The plate of 4 by 1 pixels with black 1, 127, 31 and 255. The thresholds are 0, 127, 31 and 159.
 pub const PLATE: [u8; 176] = [
     0x49, 0x49, 0x2A, 0, 0x0A, 0, 0, 0, //
     0x00, 0x90, //
@@ -44,7 +44,7 @@ pub const PLATE: [u8; 176] = [
     0xB0, 4, 0, 0, 1, 0, 0, 0, //
 ];
 
-/// The file of an image.
+/// Makes the file of an image.
 pub fn image<R: Abort + AllocGlobal>(rt: &R, form: &ImageForm, rows: &[u8]) -> Vec<u8>
     requires form { IsForm form.now }
     requires rows { HasRows form.now rows.now }
@@ -52,12 +52,12 @@ pub fn image<R: Abort + AllocGlobal>(rt: &R, form: &ImageForm, rows: &[u8]) -> V
     make_image(rt.alloc(), form, rows).expect(rt, "memory")
 }
 
-/// The file of the four pixels.
+/// Makes the file of the four pixels.
 pub fn four_by_one<R: Abort + AllocGlobal>(rt: &R) -> Vec<u8> {
     image(rt, &FORM, &SAMPLES)
 }
 
-/// The file of one pixel.
+/// Makes the file of one pixel.
 pub fn pixel<R: Abort + AllocGlobal>(rt: &R, inks: [u8; 4]) -> Vec<u8> {
     image(rt, &ImageForm { width: 1, ..FORM }, &inks)
 }
@@ -69,8 +69,8 @@ pub fn patch(bytes: &mut [u8], at: usize, with: u8) {
     }
 }
 
-/// A plate of these packed rows, behind which the directory and the resolutions of `PLATE` stand. Then bytes
-/// are replaced.
+/// Makes a plate of these packed rows, followed by the directory and resolutions of `PLATE`. Bytes are
+/// replaced last.
 pub fn plate_of<R: Abort + AllocGlobal>(rt: &R, rows: &[u8], changes: &[(usize, u8)]) -> Vec<u8> {
     let mut plate = Vec::new(rt.alloc());
     for part in [&PLATE[..8], rows, &PLATE[10..]] {
@@ -82,7 +82,7 @@ pub fn plate_of<R: Abort + AllocGlobal>(rt: &R, rows: &[u8], changes: &[(usize, 
     plate
 }
 
-/// What differs in the directory of 16 by 2 pixels with two packed rows of three bytes.
+/// The changes for 16 by 2 pixels with two packed rows of three bytes: offsets in `PLATE`, and bytes.
 pub const PAIR: [(usize, u8); 8] = [
     (4, 14),
     (24, 16),
@@ -110,7 +110,7 @@ fn has_plates<R: Abort + AllocGlobal>(rt: &R, rack: &MemRack, plates: &[Plate<'_
     true
 }
 
-/// Whether racks, from the first on, have these plates and no other.
+/// Whether racks, from the first on, have exactly these plates, one list per rack.
 pub fn have_plates<R: Abort + AllocGlobal>(
     rt: &R,
     racks: &[MemRack],
@@ -136,7 +136,7 @@ fn took_rows(rack: &MemRack, source: Source, rows: &[u64]) -> bool {
     true
 }
 
-/// Whether racks, from the first on, took the rows with these numbers in this order from these sources.
+/// Whether racks, from the first on, took the rows with these numbers, in this order, from these sources.
 pub fn took(racks: &[MemRack], rows: &[(Source, &[u64])]) -> bool {
     for (rack, (source, rows)) in racks.iter().zip(rows) {
         if !took_rows(rack, *source, rows) {

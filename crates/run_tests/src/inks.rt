@@ -1,16 +1,18 @@
-// Runs of one pair of pages of 2 by 1 pixels, in one ink or four: what curves, limit and paint leave of each.
+// Runs of one pair of pages of 2 by 1 pixels, in one ink or four: what remains of each ink after curves,
+// limit and paint.
 use crate::files::pixel;
 use crate::room::{CALM, Plate, RUN, Want, runs};
 use std::process::Abort;
 use std::thread::Threads;
+use std::time::Clock;
 
 const FOUR: &str = "site OSLO finished plates 4 rows 4\ntotal rows 4 sites 1\n";
 
 const ONE: &str = "site OSLO finished plates 1 rows 1\ntotal rows 1 sites 1\n";
 
-// Whether a run whose plan has these keys makes these plates. Its left page has these inks, a.tif, and these
-// layers above it, from files of one pixel each.
-fn makes<R: Abort + AllocGlobal + Threads + Sync>(
+// Whether a run of a plan with these keys makes these plates. Its left page has these inks, the layer a.tif,
+// and these layers above it. The files have one pixel each.
+fn makes<R: Abort + AllocGlobal + Threads + Clock + Sync>(
     rt: &R,
     [keys, inks, layers]: [&str; 3],
     [first, second]: [[u8; 4]; 2],
@@ -58,8 +60,8 @@ const LIMITED: Want<'static> = Want {
     taken: &[],
 };
 
-// 255 in four inks under a limit of 612 is 119, 119, 119 and 255. A tile of 118 and 119 tells 119 from both
-// of its neighbours.
+// 255 in four inks under a limit of 612 becomes 119, 119, 119 and 255. A tile of 118 and 119 distinguishes
+// 119 from both of its neighbours.
 #[test]
 fn a_limit_leaves_black(rt: HostRuntime) {
     let keys = r#""limit":612,"tiles":[{"name":"T","width":2,"height":1,"at":[118,119]}],
@@ -67,7 +69,7 @@ fn a_limit_leaves_black(rt: HostRuntime) {
     assert!(rt; makes(&rt, [keys, "CMYK", ""], [[255; 4], [0; 4]], &LIMITED));
 }
 
-// Cyan and black.
+// Ink in cyan and black alone.
 const TWO_INKS: Want<'static> = Want {
     status: 0,
     report: FOUR,
@@ -97,8 +99,8 @@ const TWO_INKS: Want<'static> = Want {
     taken: &[],
 };
 
-// The curve makes 192 of 200, and the limit of 300 leaves 45 of it beside 255. The limit first would leave
-// 38.
+// The curve turns 200 into 192, and the limit of 300 leaves 45 of it beside a black of 255. Applying the
+// limit first would leave 38.
 #[test]
 fn curves_come_before_the_limit(rt: HostRuntime) {
     let keys = r#""limit":300,"tiles":[{"name":"T","width":2,"height":1,"at":[44,45]}],
@@ -113,7 +115,7 @@ const OVERPRINT: &str = r#",{"kind":"contone","file":"b.tif","scale":2,"paint":"
 
 const KNOCKOUT: &str = r#",{"kind":"contone","file":"b.tif","scale":2,"paint":"knockout"}"#;
 
-// Cyan, and black.
+// The pixels of the two files: cyan, and black.
 const COLOURS: [[u8; 4]; 2] = [[100, 0, 0, 0], [0, 0, 0, 255]];
 
 const BLACK_OF_FOUR: Want<'static> = Want {
@@ -157,7 +159,7 @@ const BLACK: Want<'static> = Want {
     taken: &[],
 };
 
-// Black over cyan: overprint leaves the cyan, knockout doesn't, and a black page prints none.
+// Black over cyan: overprint keeps the cyan, knockout removes it, and a page in black alone prints none.
 #[test]
 fn black_over_cyan(rt: HostRuntime) {
     assert!(rt; makes(&rt, [BAYER, "CMYK", OVERPRINT], COLOURS, &TWO_INKS));

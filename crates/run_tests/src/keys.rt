@@ -1,4 +1,4 @@
-// Runs that count ink keys: the lines behind the report, whatever became of the sites.
+// Runs that count ink keys: the lines after the report, whether or not sites drop out.
 use crate::editions::{SPOT, TWO_PAGES, TWO_PAGES_PLATE};
 use crate::files::{FORM, four_by_one, image};
 use crate::leaving::EMPTY;
@@ -6,6 +6,7 @@ use crate::room::{CALM, Failing, Want, check, runs};
 use ring_lanes::Source;
 use std::process::Abort;
 use std::thread::Threads;
+use std::time::Clock;
 use tif_make::{ImageForm, Kind};
 
 const FOUR: Want<'static> = Want {
@@ -26,7 +27,7 @@ keys 0 A-001-K 3 5 0 0
     )],
 };
 
-// The row 0xAB has pixels in columns 0, 2, 4, 6 and 7, and 0x13 in 3, 6 and 7.
+// The row 0xAB has set pixels in columns 0, 2, 4, 6 and 7, and 0x13 in columns 3, 6 and 7.
 #[test]
 fn counts_follow_the_report(rt: HostRuntime) {
     let words = ["keys", "plan.json", "FILES", "OUT", "4"];
@@ -52,7 +53,7 @@ keys 0 A-001-K 4 4 0
     )],
 };
 
-// A ring of one place, and a turn that looks once.
+// A ring of one place, and a patience of one look per turn.
 #[test]
 fn counts_at_one_place(rt: HostRuntime) {
     let words = ["keys", "plan.json", "FILES", "OUT", "3", "1", "1"];
@@ -78,7 +79,8 @@ fn counts_of_a_column_each(rt: HostRuntime) {
     assert!(rt; runs(&rt, &words, TWO_PAGES, [&file, &[]], CALM, &SIXTEEN));
 }
 
-// Words that ask for no keys, too many, or too few words.
+// Arguments that are refused: a missing, zero, too large or malformed count of keys, an empty path, or too
+// many arguments.
 const BAD: [&[&str]; 8] = [
     &["keys", "plan.json", "FILES", "OUT"],
     &["keys", "plan.json", "FILES", "OUT", "0"],
@@ -107,8 +109,7 @@ fn refuses_keys(rt: HostRuntime) {
     }
 }
 
-// Where the calls of the two racks fail, and what is reported then: all rows are counted, though no site has
-// them.
+// The failing calls of the two racks, and the report. All rows are counted, even those that no site has.
 const LEFT: [([Option<u64>; 2], &str); 3] = [
     (
         [None, Some(5)],
@@ -139,8 +140,8 @@ keys 1 A-002-K 8
     ),
 ];
 
-// Whether a run with one key of this plan for two sites, where these calls of the racks fail, reports this.
-fn leaves<R: Abort + AllocGlobal + Threads + Sync>(
+// Whether a run with one key, of this plan for two sites, reports this where these calls of the racks fail.
+fn leaves<R: Abort + AllocGlobal + Threads + Clock + Sync>(
     rt: &R,
     plan: &str,
     racks: [Option<u64>; 2],
@@ -158,7 +159,7 @@ fn leaves<R: Abort + AllocGlobal + Threads + Sync>(
     runs(rt, &words, plan, [&four_by_one(rt), &[]], failing, &want)
 }
 
-// Four pages for two sites, of which the last is the two pages' second one.
+// Four pages for two sites. Page 3, the right page of the last pair, is the page with the image.
 const LAST: &str = r#"{"plan":1,"edition":"E1","dpi":1200,"page":[8,2],"screens":{"K":"bayer4"},
 "pages":[{"name":"w","inks":"K","layers":[]},
 {"name":"p","inks":"K","layers":[{"kind":"contone","file":"a.tif","scale":2}]}],
@@ -217,7 +218,7 @@ const UNTOLD: Want<'static> = Want {
     taken: &[],
 };
 
-// The output takes report and counts in one call, when the plates are there.
+// The output takes the report and the counts in one call, once the plates are complete.
 #[test]
 fn ends_where_the_output_takes_no_counts(rt: HostRuntime) {
     let failing = Failing {

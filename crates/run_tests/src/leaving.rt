@@ -1,15 +1,16 @@
-// Sites that leave, since their racks fail.
+// Sites that drop out because their racks fail.
 use crate::room::{CALM, Failing, Plate, RUN, Want, check, runs};
 use std::process::Abort;
 use std::thread::Threads;
+use std::time::Clock;
 
 /// Four empty pages for two sites.
 pub const EMPTY: &str = r#"{"plan":1,"edition":"E1","dpi":1200,"page":[8,2],
 "pages":[{"name":"w","inks":"K","layers":[]}],
 "sections":[{"name":"A","pages":["w","w","w","w"]}],"sites":[{"name":"OSLO"},{"name":"BERGEN"}]}"#;
 
-// The call of the second rack that fails, and then how many plates it has, at which row it left, in which
-// call and for which plate.
+// The call of the second rack that fails, the number of its plates, the row at which it dropped out, the name
+// of the failed call, and the plate.
 const CALLS: [(u64, u64, u64, &str, &str); 8] = [
     (0, 0, 0, "begin", "001"),
     (1, 0, 0, "row", "001"),
@@ -21,8 +22,8 @@ const CALLS: [(u64, u64, u64, &str, &str); 8] = [
     (7, 1, 3, "finish", "002"),
 ];
 
-// Whether a run where these calls of the two racks fail ends with this report, and with these plates.
-fn ends<R: Abort + AllocGlobal + Threads + Sync>(
+// Whether a run where these calls of the two racks fail ends with this report and these plates.
+fn ends<R: Abort + AllocGlobal + Threads + Clock + Sync>(
     rt: &R,
     racks: [Option<u64>; 2],
     report: &str,
@@ -45,7 +46,7 @@ fn ends<R: Abort + AllocGlobal + Threads + Sync>(
     )
 }
 
-fn leaves<R: Abort + AllocGlobal + Threads + Sync>(
+fn leaves<R: Abort + AllocGlobal + Threads + Clock + Sync>(
     rt: &R,
     case: &(u64, u64, u64, &str, &str),
 ) -> bool {

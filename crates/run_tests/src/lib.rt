@@ -1,5 +1,5 @@
-// Tests of the commands `run` and `keys`: editions, the sites that leave them, counts, and what is refused.
-// They use public names alone.
+// Tests of the commands `run` and `keys` through public names: editions, sites that drop out, counts, and
+// refusals.
 #![tactic(auto)]
 
 #[cfg(test)]

@@ -1,5 +1,5 @@
-// A realistic edition: four pages in colour, each one image at four times its size, for three sites of which
-// the third prints another page 1.
+// A realistic edition: four pages in colour, each one image at scale 4, for three sites. The third site
+// prints another page 1.
 ghost use Rattle.std.specs.Prelude.{◌≡◌, length};
 
 use crate::files::image;
@@ -7,6 +7,7 @@ use crate::room::{CALM, RUN, Want, racks, reports, shelf};
 use pr_rack::MemRack;
 use std::process::Abort;
 use std::thread::Threads;
+use std::time::Clock;
 use tif_make::{Compression, ImageForm, Kind, Order, Planar};
 
 const PLAN: &str = r#"{"plan":1,"edition":"E1","dpi":1200,"page":[800,1200],"margins":[32,24,32,24],
@@ -26,7 +27,7 @@ site TROMSO finished plates 8 rows 9984
 total rows 14976 sites 3
 ";
 
-// The samples of 200 by 300 pixels.
+// Returns the samples of 200 by 300 pixels.
 fn samples<R: Abort + AllocGlobal>(rt: &R, first: u8) -> Vec<u8>
     ensures { length result.items ≡ 240000 }
 {
@@ -44,7 +45,7 @@ fn samples<R: Abort + AllocGlobal>(rt: &R, first: u8) -> Vec<u8>
     samples
 }
 
-// An image of these pixels in four planes, most significant byte first, or with the inks side by side.
+// Makes an image of these pixels, most significant byte first, in four planes or with the inks interleaved.
 fn picture<R: Abort + AllocGlobal>(rt: &R, planar: Planar, first: u8) -> Vec<u8> {
     let form = ImageForm {
         kind: Kind::Contone,
@@ -58,7 +59,7 @@ fn picture<R: Abort + AllocGlobal>(rt: &R, planar: Planar, first: u8) -> Vec<u8>
     image(rt, &form, &samples(rt, first))
 }
 
-// The number at a place of a plate, or 0.
+// Returns the 32-bit number at an offset of a plate, or 0 past its end.
 fn number_at(plate: &[u8], at: usize) -> usize {
     match plate.get(at..at.wrapping_add(4)) {
         Some([a, b, c, d]) => u32::from_le_bytes([*a, *b, *c, *d]) as usize,
@@ -66,8 +67,8 @@ fn number_at(plate: &[u8], at: usize) -> usize {
     }
 }
 
-// A plate's width, length, rows a strip, strips, the place of its first strip, and the bytes behind the
-// table of strips.
+// Returns a plate's width, length, rows per strip, number of strips, offset of the first strip, and number of
+// bytes after the table of strips.
 fn sides_of(plate: &[u8]) -> [usize; 6] {
     let at = number_at(plate, 4);
     [
@@ -80,7 +81,7 @@ fn sides_of(plate: &[u8]) -> [usize; 6] {
     ]
 }
 
-// A rack took each row of its site and has its eight plates.
+// Whether a rack took each row of its site and has its eight plates.
 fn is_whole(rack: &MemRack) -> bool {
     for file in rack.files() {
         if sides_of(&file.1) != [1728, 1248, 37, 34, 8, 0] {
@@ -99,8 +100,12 @@ fn are_whole(racks: &[MemRack]) -> bool {
     true
 }
 
-// Whether the run of these files ends as it should, and three racks are whole.
-fn makes_all<R: Abort + AllocGlobal + Threads + Sync>(rt: &R, first: &[u8], second: &[u8]) -> bool {
+// Whether the run of these files has the expected result, and three racks are complete.
+fn makes_all<R: Abort + AllocGlobal + Threads + Clock + Sync>(
+    rt: &R,
+    first: &[u8],
+    second: &[u8],
+) -> bool {
     let want = Want {
         status: 0,
         report: REPORT,

@@ -1,4 +1,4 @@
-// Runs over a shelf, racks and sinks in memory.
+// Runs with a shelf, racks and sinks in memory.
 ghost use Rattle.std.specs.Prelude.{◌≡◌, ◌≤◌, ◌++◌, ◌∷◌, [], is_some, length, map};
 ghost use Rattle.pr_ports.specs.Mem.{files_of};
 ghost use Rattle.pr_rack.specs.Rack.{none_begun};
@@ -13,11 +13,12 @@ use ring_lanes::Source;
 use std::alloc::Global;
 use std::process::Abort;
 use std::thread::Threads;
+use std::time::Clock;
 
-/// The words of a run where a test says nothing else.
+/// The default arguments of a run.
 pub const RUN: [&str; 4] = ["run", "plan.json", "FILES", "OUT"];
 
-/// Which calls fail: of the shelf, of the first two racks, of the output, and of the note.
+/// The calls that fail: of the shelf, of the first two racks, of the output, and of the error output.
 #[derive(Clone, Copy)]
 pub struct Failing {
     pub shelf: Option<u64>,
@@ -34,7 +35,7 @@ pub const CALM: Failing = Failing {
     note: None,
 };
 
-// The number of a call, where there is one.
+// Returns the number of a call as a list, which is empty for None.
 fn calls<R: Abort + AllocGlobal>(rt: &R, call: Option<u64>) -> Vec<u64> {
     let mut calls = Vec::new(rt.alloc());
     if let Some(call) = call {
@@ -43,12 +44,12 @@ fn calls<R: Abort + AllocGlobal>(rt: &R, call: Option<u64>) -> Vec<u64> {
     calls
 }
 
-/// A sink of which this call fails.
+/// Returns a sink whose call with this number fails.
 pub fn sink<R: Abort + AllocGlobal>(rt: &R, failing: Option<u64>) -> MemSink {
     MemSink::new(rt.alloc(), calls(rt, failing))
 }
 
-// Files, and behind them one more.
+// Returns files with one more appended.
 fn with_file<R: Abort + AllocGlobal>(
     rt: &R,
     files: Vec<(PathText, Vec<u8>)>,
@@ -65,7 +66,7 @@ fn with_file<R: Abort + AllocGlobal>(
     files
 }
 
-/// A shelf with a plan and two files, of which this call fails.
+/// Returns a shelf with a plan and two files, whose call with this number fails.
 pub fn shelf<R: Abort + AllocGlobal>(
     rt: &R,
     plan: &str,
@@ -80,10 +81,10 @@ pub fn shelf<R: Abort + AllocGlobal>(
     MemShelf::new(rt.alloc(), three, calls(rt, failing))
 }
 
-/// An edition has at most so many sites.
+/// The most sites that an edition has.
 pub const RACKS: usize = 16;
 
-// The rack of a site, of which a call fails.
+// Returns the rack of a site, whose call with this number fails.
 fn rack<R: Abort + AllocGlobal>(rt: &R, site: usize, failing: [Option<u64>; 2]) -> MemRack
     ensures { map is_some result.slots ≡ none_begun }
 {
@@ -94,7 +95,7 @@ fn rack<R: Abort + AllocGlobal>(rt: &R, site: usize, failing: [Option<u64>; 2]) 
     MemRack::new(rt.alloc(), calls(rt, call))
 }
 
-/// Sixteen racks, of which these calls fail.
+/// Returns sixteen racks, of which these calls fail.
 pub fn racks<R: Abort + AllocGlobal>(rt: &R, failing: [Option<u64>; 2]) -> Vec<MemRack>
     ensures count { length result.items ≡ 16 }
     ensures idle { AreIdle ⟦<MemRack as Rack>⟧ result.items }
@@ -106,7 +107,7 @@ pub fn racks<R: Abort + AllocGlobal>(rt: &R, failing: [Option<u64>; 2]) -> Vec<M
     racks
 }
 
-// The words of a command line.
+// Returns the arguments of a command line.
 fn texts<R: Abort + AllocGlobal>(rt: &R, words: &[&str]) -> Vec<String> {
     let mut texts = Vec::new(rt.alloc());
     for word in words {
@@ -116,8 +117,8 @@ fn texts<R: Abort + AllocGlobal>(rt: &R, words: &[&str]) -> Vec<String> {
     texts
 }
 
-// The call, of which a test is told the status alone.
-fn answer<T: Threads + Sync, H: Shelf, R: Rack + Send, S: Sink, E: Sink>(
+// Runs the program. Tests see only its status.
+fn answer<T: Threads + Clock + Sync, H: Shelf, R: Rack + Send, S: Sink, E: Sink>(
     rt: &T,
     alloc: Global,
     words: &[String],
@@ -132,8 +133,8 @@ fn answer<T: Threads + Sync, H: Shelf, R: Rack + Send, S: Sink, E: Sink>(
     plate_main(rt, alloc, words, shelf, racks, out, note)
 }
 
-/// Does a command of these words, and gives its status.
-pub fn command<T: Abort + AllocGlobal + Threads + Sync, R: Rack + Send>(
+/// Runs a command with these arguments, and returns its status.
+pub fn command<T: Abort + AllocGlobal + Threads + Clock + Sync, R: Rack + Send>(
     rt: &T,
     words: &[&str],
     shelf: &mut MemShelf,
@@ -148,7 +149,7 @@ pub fn command<T: Abort + AllocGlobal + Threads + Sync, R: Rack + Send>(
     answer(rt, rt.alloc(), words.as_slice(), shelf, racks, out, note)
 }
 
-/// A plate that is wanted of a rack: its path, its packed rows, and what differs in its directory.
+/// An expected plate of a rack: its path, its packed rows, and the changes to the other bytes of `PLATE`.
 #[derive(Clone, Copy)]
 pub struct Plate<'a> {
     pub path: &'a str,
@@ -156,8 +157,8 @@ pub struct Plate<'a> {
     pub changes: &'a [(usize, u8)],
 }
 
-/// What is wanted of a run: its status, its report and its line, and of its racks, from the first on, the
-/// plates, and the sources and the numbers of the rows that they took.
+/// The expected result of a run: its status, its report, its line on the error output, and, for racks from
+/// the first on, the plates, and the sources and numbers of the rows that they took.
 #[derive(Clone, Copy)]
 pub struct Want<'a> {
     pub status: u8,
@@ -167,8 +168,9 @@ pub struct Want<'a> {
     pub taken: &'a [(Source, &'a [u64])],
 }
 
-// Whether a run of these words, with a note of which this call fails, ends with this status and this line.
-fn tells<R: Abort + AllocGlobal + Threads + Sync>(
+// Whether a run with these arguments ends with the expected status and line. The error output's call with the
+// number `failing` fails.
+fn tells<R: Abort + AllocGlobal + Threads + Clock + Sync>(
     rt: &R,
     words: &[&str],
     shelf: &mut MemShelf,
@@ -185,8 +187,8 @@ fn tells<R: Abort + AllocGlobal + Threads + Sync>(
     status == want.status && note.bytes() == want.line.as_bytes()
 }
 
-/// Whether a run ends, reports and tells as it is wanted.
-pub fn reports<R: Abort + AllocGlobal + Threads + Sync>(
+/// Whether a run has the expected status, report and line.
+pub fn reports<R: Abort + AllocGlobal + Threads + Clock + Sync>(
     rt: &R,
     words: &[&str],
     shelf: &mut MemShelf,
@@ -202,8 +204,8 @@ pub fn reports<R: Abort + AllocGlobal + Threads + Sync>(
         && out.bytes() == want.report.as_bytes()
 }
 
-/// Whether a run of these words does what is wanted. The files that its plan may name are a.tif and b.tif.
-pub fn runs<R: Abort + AllocGlobal + Threads + Sync>(
+/// Whether a run with these arguments has the expected result. Its plan may name the files a.tif and b.tif.
+pub fn runs<R: Abort + AllocGlobal + Threads + Clock + Sync>(
     rt: &R,
     words: &[&str],
     plan: &str,
@@ -219,7 +221,7 @@ pub fn runs<R: Abort + AllocGlobal + Threads + Sync>(
         && took(racks.as_slice(), want.taken)
 }
 
-/// Row `n` of a table holds.
+/// Asserts that row `n` of a table holds.
 pub fn check(rt: &impl Abort, n: usize, holds: bool) {
     assert!(rt; holds, "row {n}");
 }

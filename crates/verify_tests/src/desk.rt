@@ -1,4 +1,4 @@
-// A shelf of a plan, an image and plates, of which some are wrong.
+// A shelf with a plan, an image and plates, of which some are wrong.
 ghost use Rattle.std.specs.Prelude.{◌≤◌, None, length};
 
 use crate::files::IMAGE;
@@ -6,19 +6,19 @@ use pr_base::raised;
 use pr_ports::{LoadFault, Shelf};
 use std::alloc::{AllocError, Global};
 
-/// What is held in the place of a right plate.
+/// What is at a plate's path instead of the right plate.
 #[derive(Clone, Copy)]
 pub enum Held {
     Right,
     /// Nothing.
     Missing,
-    /// All bits of the byte at this place are turned.
+    /// All bits of the byte at this offset are inverted.
     Turned(usize),
-    /// The first so many bytes.
+    /// This many bytes from the start.
     Front(usize),
-    /// A byte 0 stands behind it.
+    /// A byte 0 is appended.
     Longer,
-    /// More bytes than a load takes.
+    /// More bytes than a load accepts.
     TooLong,
 }
 
@@ -29,9 +29,9 @@ pub struct Plate<'a> {
     pub bytes: &'a [u8],
 }
 
-/// A plan at plan.json, the image at FILES/a.tif, and plates, in the place of some of which something else is
-/// held. Loads of other paths fail, and the load with the number in `failing`. It counts its loads, and tells
-/// nothing of its files.
+/// A shelf with a plan at plan.json, the image at FILES/a.tif, and plates, some of which are replaced by
+/// something else. Loads of other paths fail, and so does the load with the number in `failing`. It counts
+/// its loads, and its contracts report nothing of its files.
 #[derive(Drop)]
 pub struct Desk<'a> {
     pub alloc: Global,
@@ -44,7 +44,7 @@ pub struct Desk<'a> {
     pub longs: u64,
 }
 
-/// The bytes that are held in the place of a plate.
+/// Returns the bytes that are in the place of a plate.
 fn bytes_of(alloc: Global, right: &[u8], held: Held) -> Result<Vec<u8>, AllocError> {
     let mut bytes = right.to_vec(alloc)?;
     match held {
@@ -61,7 +61,7 @@ fn bytes_of(alloc: Global, right: &[u8], held: Held) -> Result<Vec<u8>, AllocErr
 }
 
 impl<'a> Desk<'a> {
-    /// What is held at the path of a plate.
+    /// What is at the path of a plate.
     fn held(&self, path: &str) -> Held {
         match self.wrong.iter().find(|wrong| wrong.0 == path) {
             Some(wrong) => wrong.1,
@@ -69,7 +69,7 @@ impl<'a> Desk<'a> {
         }
     }
 
-    /// The bytes at a path, whatever their number.
+    /// Returns the bytes at a path, without any limit on their number.
     fn read(&self, path: &str, held: Held) -> Result<Vec<u8>, AllocError> {
         let plate = self.plates.iter().find(|plate| plate.path == path);
         match plate {

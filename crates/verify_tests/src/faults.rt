@@ -1,9 +1,10 @@
-// What a look tells of its words, its plan and its image, and of a shelf and sinks that fail.
+// What `verify` reports of its arguments, its plan and its image, and of a shelf and sinks that fail.
 use crate::desk::Plate;
 use crate::files::{TWO_PAGES, TWO_PAGES_PLATE};
 use crate::room::{CALM, Case, VERIFY, check, does};
 use std::process::Abort;
 use std::thread::Threads;
+use std::time::Clock;
 
 // The plate of the two pages.
 const PLATES: [Plate<'static>; 1] = [Plate {
@@ -11,9 +12,9 @@ const PLATES: [Plate<'static>; 1] = [Plate {
     bytes: &TWO_PAGES_PLATE,
 }];
 
-// Whether a look by these words at right plates, of which these calls fail, prints nothing and ends with this
-// status and this line.
-fn refuses<R: Abort + AllocGlobal + Threads + Sync>(
+// Whether `verify` with these arguments, right plates and these failing calls prints nothing, and ends with
+// this status and this line.
+fn refuses<R: Abort + AllocGlobal + Threads + Clock + Sync>(
     rt: &R,
     words: &[&str],
     plan: &str,
@@ -35,7 +36,7 @@ fn refuses<R: Abort + AllocGlobal + Threads + Sync>(
     does(rt, words, &case)
 }
 
-// Words that are no command. A look takes no ring.
+// Arguments that are not a command. `verify` takes no ring size.
 const WORDS: [&[&str]; 8] = [
     &["verify"],
     &["verify", "plan.json", "FILES"],
@@ -55,13 +56,13 @@ fn refuses_other_words(rt: HostRuntime) {
     }
 }
 
-// The image has four samples a pixel, and linework one.
+// The image has four samples per pixel, and linework has one.
 const AS_LINE: &str = r#"{"plan":1,"edition":"E1","dpi":1200,"page":[8,2],
 "pages":[{"name":"w","inks":"K","layers":[{"kind":"line","file":"a.tif"}]}],
 "sections":[{"name":"A","pages":["w","w"]}],"sites":[{"name":"OSLO"}]}"#;
 
-// A plan, the calls of shelf, output and note that fail, the status, the line, and how many loads there are:
-// of the plan, the image and the plate.
+// A plan, the failing calls of the shelf, the output and the error output, the status, the line, and the
+// number of loads: of the plan, the image and the plate.
 const FAULTS: [(&str, [Option<u64>; 3], u8, &str, u64); 7] = [
     ("{", CALM, 3, "plateroom: plan: not JSON\n", 1),
     (

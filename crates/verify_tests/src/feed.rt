@@ -1,4 +1,5 @@
-// The calls of plate_verify themselves: the plates of a job over its feed, and two files beside one another.
+// The calls of plate_verify: the plates of a job compared with its feed, and two files compared with each
+// other.
 ghost use Rattle.std.specs.Prelude.{◌≡◌};
 ghost use Rattle.press_job.specs.Rows.{plate_frames};
 
@@ -14,7 +15,7 @@ use press_feed::{Feed, Job, prepare};
 use std::alloc::Global;
 use std::process::Abort;
 
-// Whether the four plates of a job are the same below OUT.
+// Whether `verify` finds the four plates of a job below OUT to be the same.
 fn are_same<F: RowFeed, H: Shelf>(alloc: Global, job: &Job, feed: &mut F, shelf: &mut H) -> bool
     requires { F.left feed.old ≡ plate_frames job.now.plan job.now.files }
 {
@@ -24,7 +25,7 @@ fn are_same<F: RowFeed, H: Shelf>(alloc: Global, job: &Job, feed: &mut F, shelf:
     }
 }
 
-// The job of a plan, whose files lie on a shelf.
+// Prepares the job of a plan whose files are on a shelf.
 fn job_of<R: Abort + AllocGlobal, H: Shelf>(rt: &R, plan: &str, shelf: &mut H) -> Job {
     let Ok(plan) = read_plan(rt.alloc(), plan.as_bytes()) else {
         rt.abort();
@@ -35,7 +36,7 @@ fn job_of<R: Abort + AllocGlobal, H: Shelf>(rt: &R, plan: &str, shelf: &mut H) -
     }
 }
 
-// Whether the plates of a job are the same below OUT, by a feed of its own.
+// Whether the plates of a job below OUT are the same, with a feed opened for them.
 fn looks<R: Abort + AllocGlobal, H: Shelf>(rt: &R, job: &Job, shelf: &mut H) -> bool {
     let Ok(mut feed) = Feed::open(rt.alloc(), job) else {
         rt.abort();
@@ -43,7 +44,7 @@ fn looks<R: Abort + AllocGlobal, H: Shelf>(rt: &R, job: &Job, shelf: &mut H) -> 
     are_same(rt.alloc(), job, &mut feed, shelf)
 }
 
-// The same of the job of a plan.
+// Whether the plates of a plan's job are the same.
 fn looks_at_plan<R: Abort + AllocGlobal, H: Shelf>(rt: &R, plan: &str, shelf: &mut H) -> bool {
     let job = job_of(rt, plan, shelf);
     looks(rt, &job, shelf)
@@ -65,7 +66,7 @@ fn looks_at_the_plates_of_a_job(rt: HostRuntime) {
     assert_eq!(rt; desk.loads, 5);
 }
 
-// Two files, and the first place at which one has a byte that the other lacks or has otherwise.
+// Two files, and the first offset at which they have different bytes or only one of them has a byte.
 const FILES: [(&[u8], &[u8], Option<u64>); 6] = [
     (&[], &[], None),
     (&[], &[0], Some(0)),

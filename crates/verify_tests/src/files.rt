@@ -1,4 +1,4 @@
-// Plans of small pages, an image, and the plates of them, as the definition of a plate's file has them.
+// Plans of small pages, an image, and their plates, as given by the definition of a plate's file.
 
 /// 4 by 1 pixels with black 1, 127, 31 and 255.
 pub const IMAGE: [u8; 146] = [
@@ -18,16 +18,16 @@ pub const IMAGE: [u8; 146] = [
     0, 0, 0, 1, 0, 0, 0, 127, 0, 0, 0, 31, 0, 0, 0, 255, //
 ];
 
-/// Two pages of 8 by 2, the second with the image at scale 2, for one site. The pair is the second page and
-/// beside it the first.
+/// Two pages of 8 by 2 pixels, the second with the image at scale 2, for one site. The pair has the second
+/// page on the left and the first on the right.
 pub const TWO_PAGES: &str =
     r#"{"plan":1,"edition":"E1","dpi":1200,"page":[8,2],"screens":{"K":"bayer4"},
 "pages":[{"name":"w","inks":"K","layers":[]},
 {"name":"p","inks":"K","layers":[{"kind":"contone","file":"a.tif","scale":2}]}],
 "sections":[{"name":"A","pages":["w","p"]}],"sites":[{"name":"OSLO"}]}"#;
 
-/// Its plate: 16 by 2 pixels, whose rows AB 00 and 13 00 are packed to three bytes each, row 0 from 8 and
-/// row 1 from 11. They end at 14, where the directory begins; the plate has 14 + 166 bytes.
+/// Its plate: 16 by 2 pixels. The rows AB 00 and 13 00 are packed to three bytes each, row 0 at offset 8 and
+/// row 1 at offset 11. They end at 14, where the directory begins. The plate has 14 + 166 bytes.
 pub const TWO_PAGES_PLATE: [u8; 180] = [
     0x49, 0x49, 0x2A, 0, 14, 0, 0, 0, //
     1, 0xAB, 0, 1, 0x13, 0, //
@@ -49,15 +49,15 @@ pub const TWO_PAGES_PLATE: [u8; 180] = [
     0xB0, 4, 0, 0, 1, 0, 0, 0, //
 ];
 
-/// The same pages of one row.
+/// The same pages with one row.
 pub const ONE_ROW: &str =
     r#"{"plan":1,"edition":"E1","dpi":1200,"page":[8,1],"screens":{"K":"bayer4"},
 "pages":[{"name":"w","inks":"K","layers":[]},
 {"name":"p","inks":"K","layers":[{"kind":"contone","file":"a.tif","scale":2}]}],
 "sections":[{"name":"A","pages":["w","p"]}],"sites":[{"name":"OSLO"}]}"#;
 
-/// Its plate: 16 by 1 pixels. The row AB 00 is packed to the bytes from 8 to 10; at 11 is a pad byte, at 12
-/// the directory.
+/// Its plate: 16 by 1 pixels. The row AB 00 is packed to the bytes 8 to 10. Byte 11 is a pad byte, and the
+/// directory begins at 12.
 pub const ONE_ROW_PLATE: [u8; 178] = [
     0x49, 0x49, 0x2A, 0, 12, 0, 0, 0, //
     1, 0xAB, 0, //
@@ -85,8 +85,8 @@ pub const FOUR_INKS: &str = r#"{"plan":1,"edition":"E1","dpi":1200,"page":[8,2],
 "pages":[{"name":"w","inks":"CMYK","layers":[]}],
 "sections":[{"name":"A","pages":["w","w"]}],"sites":[{"name":"OSLO"},{"name":"BERGEN"}]}"#;
 
-/// Four empty pages of 8 by 2 for two sites, of which BERGEN has the image on page 3: that is the right page
-/// of the second pair, which each site has of its own.
+/// Four empty pages of 8 by 2 pixels for two sites. BERGEN has the image on page 3, the right page of the
+/// second pair, so each site has a second pair of its own.
 pub const ZONED: &str =
     r#"{"plan":1,"edition":"E1","dpi":1200,"page":[8,2],"screens":{"K":"bayer4"},
 "pages":[{"name":"w","inks":"K","layers":[]},
@@ -95,7 +95,7 @@ pub const ZONED: &str =
 "zones":[{"name":"Z","replace":[{"section":"A","page":3,"with":"p"}]}],
 "sites":[{"name":"OSLO"},{"name":"BERGEN","zone":"Z"}]}"#;
 
-/// The plate of a pair that is empty: 16 by 2 pixels, rows 00 00.
+/// The plate of an empty pair: 16 by 2 pixels, rows 00 00.
 pub const EMPTY_PLATE: [u8; 180] = [
     0x49, 0x49, 0x2A, 0, 14, 0, 0, 0, //
     1, 0, 0, 1, 0, 0, //

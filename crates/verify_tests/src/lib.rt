@@ -1,4 +1,4 @@
-// Tests of the command `verify`, which looks at the plates that a shelf holds. They use public names alone.
+// Tests of the command `verify`, which verifies the plates on a shelf, through public names.
 #![tactic(auto)]
 
 #[cfg(test)]

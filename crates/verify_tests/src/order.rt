@@ -1,9 +1,10 @@
-// Plates of two sites: which of those that aren't right is told. The order is group, ink, site.
+// Plates of two sites, and which of the wrong ones is reported. The order is group, ink, site.
 use crate::desk::{Held, Plate};
 use crate::files::{EMPTY_PLATE, FOUR_INKS, RIGHT_PLATE, ZONED};
 use crate::room::{CALM, Case, VERIFY, check, does};
 use std::process::Abort;
 use std::thread::Threads;
+use std::time::Clock;
 
 const INKS: [Plate<'static>; 8] = [
     Plate {
@@ -40,7 +41,7 @@ const INKS: [Plate<'static>; 8] = [
     },
 ];
 
-/// Two pairs at two sites, which share the first.
+/// Two pairs at two sites. The sites share the first pair.
 pub const GROUPS: [Plate<'static>; 4] = [
     Plate {
         path: "OUT/OSLO/E1-A-001-K.tif",
@@ -60,10 +61,10 @@ pub const GROUPS: [Plate<'static>; 4] = [
     },
 ];
 
-// What isn't right, the status, the output, the line of the note, and how many loads there are.
+// The wrong plates, the status, the output, the line of the error output, and the number of loads.
 type Row<'a> = (&'a [(&'a str, Held)], u8, &'a str, &'a str, u64);
 
-// One pair in four inks at two sites: eight plates, behind the load of the plan.
+// One pair in four inks at two sites: eight plates, loaded after the plan.
 const INK_ROWS: [Row<'static>; 7] = [
     (&[], 0, "same plates 8 sites 2\n", "", 9),
     (
@@ -73,7 +74,7 @@ const INK_ROWS: [Row<'static>; 7] = [
         "",
         3,
     ),
-    // Ink before site: cyan of the second site stands before magenta of the first.
+    // Ink before site: cyan of the second site comes before magenta of the first.
     (
         &[
             ("OUT/OSLO/E1-A-001-M.tif", Held::Turned(8)),
@@ -84,7 +85,7 @@ const INK_ROWS: [Row<'static>; 7] = [
         "",
         3,
     ),
-    // The plate that is missing behind a wrong one isn't asked for.
+    // A missing plate after a wrong one is not loaded.
     (
         &[
             ("OUT/OSLO/E1-A-001-K.tif", Held::Turned(9)),
@@ -112,7 +113,7 @@ const INK_ROWS: [Row<'static>; 7] = [
         "plateroom: shelf: OUT/OSLO/E1-A-001-Y.tif\n",
         6,
     ),
-    // The last byte of the last plate.
+    // The last byte of the last plate is missing.
     (
         &[("OUT/BERGEN/E1-A-001-K.tif", Held::Front(179))],
         8,
@@ -122,10 +123,10 @@ const INK_ROWS: [Row<'static>; 7] = [
     ),
 ];
 
-// Two pairs at two sites, which share the first: three groups, behind the loads of the plan and the image.
+// Two pairs at two sites, which share the first: three groups, loaded after the plan and the image.
 const GROUP_ROWS: [Row<'static>; 4] = [
     (&[], 0, "same plates 4 sites 2\n", "", 6),
-    // Group before site: the first pair of the second site stands before the second pair of the first.
+    // Group before site: the first pair of the second site comes before the second pair of the first.
     (
         &[
             ("OUT/OSLO/E1-A-002-K.tif", Held::Turned(8)),
@@ -155,8 +156,8 @@ const GROUP_ROWS: [Row<'static>; 4] = [
     ),
 ];
 
-// Whether a look at the plates of a plan ends as a row says.
-fn ends<R: Abort + AllocGlobal + Threads + Sync>(
+// Whether `verify` on the plates of a plan ends as a row says.
+fn ends<R: Abort + AllocGlobal + Threads + Clock + Sync>(
     rt: &R,
     plan: &str,
     plates: &[Plate<'_>],

@@ -1,16 +1,17 @@
-// One plate: where it differs, and which of its rows that is.
+// One plate: where it differs, and in which row.
 use crate::desk::{Held, Plate};
 use crate::files::{ONE_ROW, ONE_ROW_PLATE, TWO_PAGES, TWO_PAGES_PLATE};
 use crate::room::{CALM, Case, VERIFY, check, does};
 use std::process::Abort;
 use std::thread::Threads;
+use std::time::Clock;
 
 const PATH: &str = "OUT/OSLO/E1-A-001-K.tif";
 
-// Whether a look at the one plate of a plan, in whose place this is held, ends with this status and this
-// text: at 5 the line of the note, else the output. There are three loads: of the plan, the image and the
-// plate.
-fn finds<R: Abort + AllocGlobal + Threads + Sync>(
+// Whether `verify` on the only plate of a plan, with this in its place, ends with this status and this text:
+// the line of the error output for status 5, the output otherwise. There are three loads: of the plan, the
+// image and the plate.
+fn finds<R: Abort + AllocGlobal + Threads + Clock + Sync>(
     rt: &R,
     plan: &str,
     plate: &[u8],
@@ -37,8 +38,9 @@ fn finds<R: Abort + AllocGlobal + Threads + Sync>(
     does(rt, &VERIFY, &case)
 }
 
-// What is held of the plate of two rows, the status and the text. Its rows are the bytes 8 to 10 and 11 to
-// 13; what stands before and behind belongs to no row. A plate that is cut has the row that should be there.
+// What is in the place of the plate of two rows, the status and the text. The rows are the bytes 8 to 10 and
+// 11 to 13; the bytes before and after belong to no row. A truncated plate differs in the row that the first
+// missing byte belongs to.
 const TWO_ROWS: [(Held, u8, &str); 15] = [
     (Held::Right, 0, "same plates 1 sites 1\n"),
     (
@@ -117,7 +119,7 @@ fn finds_the_first_byte_and_its_row(rt: HostRuntime) {
     }
 }
 
-// The row of the plate of one row is the bytes 8 to 10. Behind it stands a pad byte, then the directory.
+// The row of the plate of one row is the bytes 8 to 10. A pad byte follows, then the directory.
 const PADDED: [(Held, u8, &str); 5] = [
     (Held::Right, 0, "same plates 1 sites 1\n"),
     (

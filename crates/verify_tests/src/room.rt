@@ -1,4 +1,4 @@
-// Commands over a desk, racks and sinks in memory.
+// Commands with a desk, racks and sinks in memory.
 ghost use Rattle.std.specs.Prelude.{◌≡◌, ◌≤◌, length};
 ghost use Rattle.room_base.specs.Seen.{AreIdle};
 
@@ -9,12 +9,13 @@ use pr_rack::{MemRack, Rack};
 use std::alloc::Global;
 use std::process::Abort;
 use std::thread::Threads;
+use std::time::Clock;
 
-/// The words by which plates are looked at.
+/// The arguments that verify the plates.
 pub const VERIFY: [&str; 4] = ["verify", "plan.json", "FILES", "OUT"];
 
-/// What a desk has, and which calls fail: of the desk, of the output, and of the note. Then what is wanted:
-/// the status, what is written, the line of the note, and how many loads there are.
+/// The contents of a desk and the failing calls of the desk, the output and the error output, then the
+/// expected status, output, line of the error output, and number of loads.
 #[derive(Clone, Copy)]
 pub struct Case<'a> {
     pub plan: &'a str,
@@ -30,7 +31,7 @@ pub struct Case<'a> {
 /// No call fails.
 pub const CALM: [Option<u64>; 3] = [None; 3];
 
-// A sink of which this call fails.
+// Returns a sink whose call with this number fails.
 fn sink<R: Abort + AllocGlobal>(rt: &R, failing: Option<u64>) -> MemSink {
     let mut calls = Vec::new(rt.alloc());
     if let Some(call) = failing {
@@ -39,10 +40,10 @@ fn sink<R: Abort + AllocGlobal>(rt: &R, failing: Option<u64>) -> MemSink {
     MemSink::new(rt.alloc(), calls)
 }
 
-// An edition has at most so many sites.
+// The most sites that an edition has.
 const RACKS: usize = 16;
 
-// Sixteen racks, none of which fails.
+// Returns sixteen racks, none of which fails.
 fn racks<R: Abort + AllocGlobal>(rt: &R) -> Vec<MemRack>
     ensures count { length result.items ≡ 16 }
     ensures idle { AreIdle ⟦<MemRack as Rack>⟧ result.items }
@@ -55,7 +56,7 @@ fn racks<R: Abort + AllocGlobal>(rt: &R) -> Vec<MemRack>
     racks
 }
 
-// The words of a command line.
+// Returns the arguments of a command line.
 fn texts<R: Abort + AllocGlobal>(rt: &R, words: &[&str]) -> Vec<String> {
     let mut texts = Vec::new(rt.alloc());
     for word in words {
@@ -65,8 +66,8 @@ fn texts<R: Abort + AllocGlobal>(rt: &R, words: &[&str]) -> Vec<String> {
     texts
 }
 
-// The call, of which a test is told the status alone.
-fn answer<T: Threads + Sync, H: Shelf, R: Rack + Send, S: Sink, E: Sink>(
+// Runs the program. Tests see only its status.
+fn answer<T: Threads + Clock + Sync, H: Shelf, R: Rack + Send, S: Sink, E: Sink>(
     rt: &T,
     alloc: Global,
     words: &[String],
@@ -81,8 +82,8 @@ fn answer<T: Threads + Sync, H: Shelf, R: Rack + Send, S: Sink, E: Sink>(
     plate_main(rt, alloc, words, shelf, racks, out, note)
 }
 
-// Does a command of these words, and gives its status.
-fn command<T: Abort + AllocGlobal + Threads + Sync, H: Shelf, S: Sink, E: Sink>(
+// Runs a command with these arguments, and returns its status.
+fn command<T: Abort + AllocGlobal + Threads + Clock + Sync, H: Shelf, S: Sink, E: Sink>(
     rt: &T,
     words: &[&str],
     shelf: &mut H,
@@ -97,15 +98,16 @@ fn command<T: Abort + AllocGlobal + Threads + Sync, H: Shelf, S: Sink, E: Sink>(
     answer(rt, rt.alloc(), words.as_slice(), shelf, racks, out, note)
 }
 
-// No rack took a row or has a file.
+// Whether no rack took a row or has a file.
 fn are_empty(racks: &[MemRack]) -> bool {
     racks
         .iter()
         .all(|rack| rack.files().is_empty() && rack.taken().is_empty())
 }
 
-// Whether a command of these words ends with this status and this line, and leaves the racks alone.
-fn tells<R: Abort + AllocGlobal + Threads + Sync, H: Shelf, S: Sink>(
+// Whether a command with these arguments ends with the expected status and line, and leaves the racks
+// unchanged.
+fn tells<R: Abort + AllocGlobal + Threads + Clock + Sync, H: Shelf, S: Sink>(
     rt: &R,
     words: &[&str],
     shelf: &mut H,
@@ -119,8 +121,8 @@ fn tells<R: Abort + AllocGlobal + Threads + Sync, H: Shelf, S: Sink>(
     status == case.status && note.bytes() == case.line.as_bytes() && are_empty(racks.as_slice())
 }
 
-/// Whether a command of these words does what is wanted.
-pub fn does<R: Abort + AllocGlobal + Threads + Sync>(
+/// Whether a command with these arguments has the expected result.
+pub fn does<R: Abort + AllocGlobal + Threads + Clock + Sync>(
     rt: &R,
     words: &[&str],
     case: &Case<'_>,
@@ -142,7 +144,7 @@ pub fn does<R: Abort + AllocGlobal + Threads + Sync>(
         && desk.loads == case.loads
 }
 
-/// Row `n` of a table holds.
+/// Asserts that row `n` of a table holds.
 pub fn check(rt: &impl Abort, n: usize, holds: bool) {
     assert!(rt; holds, "row {n}");
 }
