@@ -2,6 +2,7 @@
 use crate::room::{CALM, Want, check, does};
 use std::process::Abort;
 use std::thread::Threads;
+use std::time::Clock;
 
 const SEVEN: &str = "site S0 finished plates 13 rows 832
 site S1 finished plates 13 rows 832
@@ -68,7 +69,11 @@ const NONE: [&[&str]; 6] = [
 ];
 
 // A drill of these words prints this text.
-fn prints<R: Abort + AllocGlobal + Threads + Sync>(rt: &R, words: &[&str], text: &str) -> bool {
+fn prints<R: Abort + AllocGlobal + Threads + Clock + Sync>(
+    rt: &R,
+    words: &[&str],
+    text: &str,
+) -> bool {
     let want = Want {
         status: 0,
         out: text.as_bytes(),

@@ -6,6 +6,7 @@ use crate::room::{CALM, ONE, Want, check, does, shelf, sink, tells};
 use pr_ports::{LoadFault, Shelf, Sink, SinkFault};
 use std::process::Abort;
 use std::thread::Threads;
+use std::time::Clock;
 
 // Words that are no command.
 const WORDS: Want<'static> = Want {
@@ -56,7 +57,7 @@ const CASES: [(&[&str], [Option<u64>; 3], Want<'static>); 11] = [
     (&[], [None, None, Some(0)], FAILED),
 ];
 
-fn check_cases<R: Abort + AllocGlobal + Threads + Sync>(rt: &R, file: &[u8]) {
+fn check_cases<R: Abort + AllocGlobal + Threads + Clock + Sync>(rt: &R, file: &[u8]) {
     for (n, case) in CASES.iter().enumerate() {
         check(rt, n, does(rt, case.0, file, case.1, &case.2));
     }
@@ -68,7 +69,11 @@ fn tells_what_is_wrong_and_what_failed(rt: HostRuntime) {
 }
 
 // Over this file `one` prints nothing, and tells this line.
-fn assert_refuses<R: Abort + AllocGlobal + Threads + Sync>(rt: &R, file: &[u8], line: &str) {
+fn assert_refuses<R: Abort + AllocGlobal + Threads + Clock + Sync>(
+    rt: &R,
+    file: &[u8],
+    line: &str,
+) {
     let want = Want {
         status: 4,
         out: &[],

@@ -3,10 +3,15 @@ use crate::files::{FORM, PLATE, append, blacks, four_by_one, image, patch, plain
 use crate::room::{CALM, ONE, Want, does};
 use std::process::Abort;
 use std::thread::Threads;
+use std::time::Clock;
 use tif_make::{Compression, ImageForm, Order, Planar};
 
 // Over this file `one` prints this plate, and tells nothing.
-fn assert_prints<R: Abort + AllocGlobal + Threads + Sync>(rt: &R, file: &[u8], plate: &[u8]) {
+fn assert_prints<R: Abort + AllocGlobal + Threads + Clock + Sync>(
+    rt: &R,
+    file: &[u8],
+    plate: &[u8],
+) {
     let want = Want {
         status: 0,
         out: plate,

@@ -9,6 +9,7 @@ use pr_rack::{MemRack, Rack};
 use std::alloc::Global;
 use std::process::Abort;
 use std::thread::Threads;
+use std::time::Clock;
 
 /// The words by which a.tif is printed.
 pub const ONE: [&str; 2] = ["one", "a.tif"];
@@ -66,7 +67,7 @@ fn texts<R: Abort + AllocGlobal>(rt: &R, words: &[&str]) -> Vec<String> {
 }
 
 // The call, of which a test is told the status alone.
-fn answer<T: Threads + Sync, H: Shelf, R: Rack + Send, S: Sink, E: Sink>(
+fn answer<T: Threads + Clock + Sync, H: Shelf, R: Rack + Send, S: Sink, E: Sink>(
     rt: &T,
     alloc: Global,
     words: &[String],
@@ -82,7 +83,7 @@ fn answer<T: Threads + Sync, H: Shelf, R: Rack + Send, S: Sink, E: Sink>(
 }
 
 /// Does a command of these words, and gives its status.
-pub fn command<T: Abort + AllocGlobal + Threads + Sync, H: Shelf, S: Sink, E: Sink>(
+pub fn command<T: Abort + AllocGlobal + Threads + Clock + Sync, H: Shelf, S: Sink, E: Sink>(
     rt: &T,
     words: &[&str],
     shelf: &mut H,
@@ -106,7 +107,7 @@ fn are_empty(racks: &[MemRack]) -> bool {
 
 /// Whether a command of these words, with a note of which this call fails, ends with this status and this
 /// line, and leaves the racks alone.
-pub fn tells<R: Abort + AllocGlobal + Threads + Sync, H: Shelf, S: Sink>(
+pub fn tells<R: Abort + AllocGlobal + Threads + Clock + Sync, H: Shelf, S: Sink>(
     rt: &R,
     words: &[&str],
     shelf: &mut H,
@@ -130,7 +131,7 @@ pub struct Want<'a> {
 }
 
 /// Whether a command of these words, with this file on the shelf, does what is wanted.
-pub fn does<R: Abort + AllocGlobal + Threads + Sync>(
+pub fn does<R: Abort + AllocGlobal + Threads + Clock + Sync>(
     rt: &R,
     words: &[&str],
     file: &[u8],

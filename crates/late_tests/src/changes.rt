@@ -4,6 +4,7 @@ use crate::files::{Kept, Plate, TWO_PAGES};
 use crate::room::{CALM, Case, REPLATE, check, does};
 use std::process::Abort;
 use std::thread::Threads;
+use std::time::Clock;
 
 // The two pages under another screen.
 pub const EIGHTH: &str =
@@ -145,7 +146,7 @@ const CHANGES: [Change<'static>; 6] = [
 ];
 
 // Whether exactly this is made of these files by these words.
-fn makes<R: Abort + AllocGlobal + Threads + Sync>(
+fn makes<R: Abort + AllocGlobal + Threads + Clock + Sync>(
     rt: &R,
     words: &[&str],
     files: &[File<'_>],
@@ -164,7 +165,10 @@ fn makes<R: Abort + AllocGlobal + Threads + Sync>(
     does(rt, words, &case)
 }
 
-fn makes_change<R: Abort + AllocGlobal + Threads + Sync>(rt: &R, change: &Change<'_>) -> bool {
+fn makes_change<R: Abort + AllocGlobal + Threads + Clock + Sync>(
+    rt: &R,
+    change: &Change<'_>,
+) -> bool {
     let (old_plan, plan, image, text, kept) = *change;
     let files = [
         ("old.json", Held::Plan(old_plan)),

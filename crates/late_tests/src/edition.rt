@@ -7,6 +7,7 @@ use crate::room::{CALM, Case, REPLATE, prints, racks};
 use pr_rack::{MemRack, Rack};
 use std::process::Abort;
 use std::thread::Threads;
+use std::time::Clock;
 
 // Two sections for two sites. Page 3 is in four inks, and at BERGEN another one in black.
 const BEFORE: &str = r#"{"plan":1,"edition":"E1","dpi":1200,"page":[8,2],"screens":{"K":"bayer4"},
@@ -112,7 +113,7 @@ fn are_right(plates: Plates<'_>, racks: &[MemRack]) -> bool {
 }
 
 // Whether a command over these racks prints this and ends with 0.
-fn is_done<R: Abort + AllocGlobal + Threads + Sync>(
+fn is_done<R: Abort + AllocGlobal + Threads + Clock + Sync>(
     rt: &R,
     words: &[&str],
     racks: &mut [MemRack],
@@ -140,14 +141,14 @@ total rows 14 sites 2
 ";
 
 // The old job is run.
-fn holds<R: Abort + AllocGlobal + Threads + Sync>(rt: &R) -> bool {
+fn holds<R: Abort + AllocGlobal + Threads + Clock + Sync>(rt: &R) -> bool {
     let mut old = racks(rt, [None; 2]);
     let words = ["run", "old.json", "OLD", "OUT"];
     is_done(rt, &words, old.as_mut_slice(), RAN, 3) && holds_of(rt, old.as_slice())
 }
 
 // What changed is made.
-fn holds_of<R: Abort + AllocGlobal + Threads + Sync>(rt: &R, old: &[MemRack]) -> bool {
+fn holds_of<R: Abort + AllocGlobal + Threads + Clock + Sync>(rt: &R, old: &[MemRack]) -> bool {
     let mut made = racks(rt, [None; 2]);
     is_done(rt, &REPLATE, made.as_mut_slice(), MADE, 6) && holds_beside(rt, old, made.as_slice())
 }
@@ -158,7 +159,7 @@ total rows 14 sites 2
 ";
 
 // The new job is run.
-fn holds_beside<R: Abort + AllocGlobal + Threads + Sync>(
+fn holds_beside<R: Abort + AllocGlobal + Threads + Clock + Sync>(
     rt: &R,
     old: &[MemRack],
     made: &[MemRack],

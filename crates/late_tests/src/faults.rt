@@ -5,10 +5,11 @@ use crate::files::TWO_PAGES;
 use crate::room::{CALM, Case, Failing, REPLATE, check, does};
 use std::process::Abort;
 use std::thread::Threads;
+use std::time::Clock;
 
 // Whether a command of these words over these files, of which this load fails, prints and makes nothing, and
 // ends with this status and this line.
-fn refuses<R: Abort + AllocGlobal + Threads + Sync>(
+fn refuses<R: Abort + AllocGlobal + Threads + Clock + Sync>(
     rt: &R,
     words: &[&str],
     files: &[File<'_>],
@@ -236,12 +237,12 @@ const LOADS: [Fault<'static>; 4] = [
     (&GOOD, Some(3), 5, "plateroom: shelf: FILES/a.tif\n", 4),
 ];
 
-fn tells<R: Abort + AllocGlobal + Threads + Sync>(rt: &R, fault: &Fault<'_>) -> bool {
+fn tells<R: Abort + AllocGlobal + Threads + Clock + Sync>(rt: &R, fault: &Fault<'_>) -> bool {
     let (files, load, status, line, loads) = *fault;
     refuses(rt, &REPLATE, files, load, status, line, loads)
 }
 
-fn check_all<R: Abort + AllocGlobal + Threads + Sync>(rt: &R, faults: &[Fault<'_>]) {
+fn check_all<R: Abort + AllocGlobal + Threads + Clock + Sync>(rt: &R, faults: &[Fault<'_>]) {
     for (n, fault) in faults.iter().enumerate() {
         check(rt, n, tells(rt, fault));
     }

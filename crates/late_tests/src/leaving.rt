@@ -5,6 +5,7 @@ use crate::files::{Kept, Plate, TWO_PAGES};
 use crate::room::{CALM, Case, Failing, REPLATE, check, does};
 use std::process::Abort;
 use std::thread::Threads;
+use std::time::Clock;
 
 // Six pages for two sites. The image is pages 1 and 3, which are in the first pair and in the third.
 const SIX_PAGES: &str =
@@ -85,7 +86,7 @@ const CALLS: [(u64, &str, [Kept<'static>; 2]); 4] = [
 
 // Whether a replate of these files, of which these calls fail, ends with this status and this text, and racks
 // have this.
-fn ends<R: Abort + AllocGlobal + Threads + Sync>(
+fn ends<R: Abort + AllocGlobal + Threads + Clock + Sync>(
     rt: &R,
     files: &[File<'_>],
     failing: Failing,
@@ -106,7 +107,7 @@ fn ends<R: Abort + AllocGlobal + Threads + Sync>(
 }
 
 // Whether it does so of the six pages where this call of the second rack fails.
-fn leaves<R: Abort + AllocGlobal + Threads + Sync>(
+fn leaves<R: Abort + AllocGlobal + Threads + Clock + Sync>(
     rt: &R,
     call: u64,
     text: &str,
@@ -145,7 +146,7 @@ const ALONE: [Alone<'static>; 2] = [
     ),
 ];
 
-fn leaves_alone<R: Abort + AllocGlobal + Threads + Sync>(rt: &R, row: &Alone<'_>) -> bool {
+fn leaves_alone<R: Abort + AllocGlobal + Threads + Clock + Sync>(rt: &R, row: &Alone<'_>) -> bool {
     let (files, call, text, kept) = *row;
     let failing = Failing {
         racks: [Some(call), None],
@@ -168,7 +169,7 @@ const UNPRINTED: [(Option<u64>, [Kept<'static>; 2]); 2] = [
 ];
 
 // Whether a replate where this call of the second rack fails, and the output, leaves the racks with this.
-fn stands<R: Abort + AllocGlobal + Threads + Sync>(
+fn stands<R: Abort + AllocGlobal + Threads + Clock + Sync>(
     rt: &R,
     call: Option<u64>,
     kept: &[Kept<'_>],

@@ -11,6 +11,7 @@ use pr_rack::{MemRack, Rack};
 use std::alloc::Global;
 use std::process::Abort;
 use std::thread::Threads;
+use std::time::Clock;
 
 /// The words by which a job is made again beside another.
 pub const REPLATE: [&str; 6] = ["replate", "old.json", "OLD", "plan.json", "FILES", "OUT"];
@@ -94,7 +95,7 @@ fn texts<R: Abort + AllocGlobal>(rt: &R, words: &[&str]) -> Vec<String> {
 }
 
 // The call, of which a test is told the status alone.
-fn answer<T: Threads + Sync, H: Shelf, R: Rack + Send, S: Sink, E: Sink>(
+fn answer<T: Threads + Clock + Sync, H: Shelf, R: Rack + Send, S: Sink, E: Sink>(
     rt: &T,
     alloc: Global,
     words: &[String],
@@ -110,7 +111,7 @@ fn answer<T: Threads + Sync, H: Shelf, R: Rack + Send, S: Sink, E: Sink>(
 }
 
 // Does a command of these words, and gives its status.
-fn command<T: Abort + AllocGlobal + Threads + Sync, H: Shelf, S: Sink, E: Sink>(
+fn command<T: Abort + AllocGlobal + Threads + Clock + Sync, H: Shelf, S: Sink, E: Sink>(
     rt: &T,
     words: &[&str],
     shelf: &mut H,
@@ -126,7 +127,7 @@ fn command<T: Abort + AllocGlobal + Threads + Sync, H: Shelf, S: Sink, E: Sink>(
 }
 
 // Whether a command of these words ends with this status and this line.
-fn tells<R: Abort + AllocGlobal + Threads + Sync, H: Shelf, S: Sink>(
+fn tells<R: Abort + AllocGlobal + Threads + Clock + Sync, H: Shelf, S: Sink>(
     rt: &R,
     words: &[&str],
     shelf: &mut H,
@@ -143,7 +144,7 @@ fn tells<R: Abort + AllocGlobal + Threads + Sync, H: Shelf, S: Sink>(
 }
 
 /// Whether a command of these words over these racks ends, prints and tells as it is wanted.
-pub fn prints<R: Abort + AllocGlobal + Threads + Sync>(
+pub fn prints<R: Abort + AllocGlobal + Threads + Clock + Sync>(
     rt: &R,
     words: &[&str],
     racks: &mut [MemRack],
@@ -167,7 +168,7 @@ pub fn prints<R: Abort + AllocGlobal + Threads + Sync>(
 }
 
 /// Whether a command of these words does what is wanted.
-pub fn does<R: Abort + AllocGlobal + Threads + Sync>(
+pub fn does<R: Abort + AllocGlobal + Threads + Clock + Sync>(
     rt: &R,
     words: &[&str],
     case: &Case<'_>,

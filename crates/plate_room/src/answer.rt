@@ -14,9 +14,10 @@ use room_run::{print_drill, run_edition, run_with_keys};
 use room_verify::print_check;
 use std::alloc::Global;
 use std::thread::Threads;
+use std::time::Clock;
 
 /// Does what the words ask for, and answers the status of what was done.
-pub(crate) fn answer<T: Threads + Sync, H: Shelf, R: Rack + Send, S: Sink>(
+pub(crate) fn answer<T: Threads + Clock + Sync, H: Shelf, R: Rack + Send, S: Sink>(
     rt: &T,
     alloc: Global,
     words: &[String],

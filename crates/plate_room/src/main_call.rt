@@ -15,6 +15,7 @@ use pr_rack::Rack;
 use room_base::tell;
 use std::alloc::Global;
 use std::thread::Threads;
+use std::time::Clock;
 
 /// Does what the words of a command line ask for: loads files from `shelf`, keeps plates on `racks`, writes
 /// to `out`, and writes the line of a refusal to `note`. It answers the exit status.
@@ -32,7 +33,7 @@ use std::thread::Threads;
 /// | 8 | done, and a plate that the shelf holds isn't right |
 ///
 /// A drill runs in memory of its own, so that statuses 1, 3, 4 and 5 never come of it.
-pub fn plate_main<T: Threads + Sync, H: Shelf, R: Rack + Send, S: Sink, E: Sink>(
+pub fn plate_main<T: Threads + Clock + Sync, H: Shelf, R: Rack + Send, S: Sink, E: Sink>(
     rt: &T,
     alloc: Global,
     words: &[String],
@@ -123,7 +124,7 @@ pub fn plate_main<T: Threads + Sync, H: Shelf, R: Rack + Send, S: Sink, E: Sink>
 }
 
 /// Does a command and tells of a refusal.
-fn run<T: Threads + Sync, H: Shelf, R: Rack + Send, S: Sink, E: Sink>(
+fn run<T: Threads + Clock + Sync, H: Shelf, R: Rack + Send, S: Sink, E: Sink>(
     rt: &T,
     alloc: Global,
     words: &[String],

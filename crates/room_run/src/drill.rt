@@ -25,6 +25,7 @@ use ring_run::SiteEnd;
 use room_base::{Status, Stop, put_text};
 use std::alloc::Global;
 use std::thread::Threads;
+use std::time::Clock;
 
 /// A generated job to be run in memory.
 #[derive(Clone, Copy)]
@@ -55,7 +56,7 @@ const PLATES: &str = "drill";
 
 /// Runs a generated job in memory, and prints the report and the dots of its plates. It answers the status
 /// of what was done.
-pub fn print_drill<T: Threads + Sync, S: Sink>(
+pub fn print_drill<T: Threads + Clock + Sync, S: Sink>(
     rt: &T,
     alloc: Global,
     drill: Drill,
@@ -73,7 +74,11 @@ pub fn print_drill<T: Threads + Sync, S: Sink>(
 }
 
 /// What a drill prints.
-fn drill_text<T: Threads + Sync>(rt: &T, alloc: Global, drill: Drill) -> Result<String, NoMemory>
+fn drill_text<T: Threads + Clock + Sync>(
+    rt: &T,
+    alloc: Global,
+    drill: Drill,
+) -> Result<String, NoMemory>
     requires ring { IsWithin 1 1024 drill.ring }
     requires patience { IsWithin 1 65536 drill.patience }
     ensures { IfOk result (λ text. string_bytes text ≡ text_for drill.number) }
@@ -99,7 +104,7 @@ fn tell_drill(alloc: Global, drill: Drill, drilled: &DrillRun) -> Result<String,
 }
 
 /// Runs the generated job of a drill in memory, each site's plates to an empty rack of its own.
-pub fn run_drill<T: Threads + Sync>(
+pub fn run_drill<T: Threads + Clock + Sync>(
     rt: &T,
     alloc: Global,
     drill: Drill,
@@ -117,7 +122,7 @@ pub fn run_drill<T: Threads + Sync>(
 }
 
 /// Runs a job to empty racks, one for each of its sites, and says how each site ended.
-fn deliver_to<T: Threads + Sync>(
+fn deliver_to<T: Threads + Clock + Sync>(
     rt: &T,
     alloc: Global,
     job: &Job,

@@ -16,6 +16,7 @@ use ring_run::SiteEnd;
 use room_base::{Status, Stop, Whose, load_job, put_text};
 use std::alloc::Global;
 use std::thread::Threads;
+use std::time::Clock;
 
 /// An edition to be run.
 #[derive(Clone, Copy)]
@@ -34,7 +35,7 @@ pub struct Edition<'a> {
 
 /// Runs an edition: delivers the plates of its sites to the racks, and prints the report. It answers the
 /// status of what was done.
-pub fn run_edition<T: Threads + Sync, H: Shelf, R: Rack + Send, S: Sink>(
+pub fn run_edition<T: Threads + Clock + Sync, H: Shelf, R: Rack + Send, S: Sink>(
     rt: &T,
     alloc: Global,
     edition: Edition<'_>,
@@ -58,7 +59,7 @@ pub fn run_edition<T: Threads + Sync, H: Shelf, R: Rack + Send, S: Sink>(
 }
 
 /// Runs a job to the racks and prints the report.
-fn deliver<T: Threads + Sync, R: Rack + Send, S: Sink>(
+fn deliver<T: Threads + Clock + Sync, R: Rack + Send, S: Sink>(
     rt: &T,
     alloc: Global,
     edition: Edition<'_>,

@@ -13,12 +13,13 @@ use press_job::Job;
 use ring_run::{Outcome, Run, RunKeyReader, run_fed};
 use std::alloc::Global;
 use std::thread::Threads;
+use std::time::Clock;
 
 /// Delivers the plates of a job, each site's to the rack of its number, with paths below the folder `out`.
 /// A site whose rack fails leaves, and the others go on. The rows pass from one writer to the sites through a
 /// ring of `ring` places; all work side by side, in rounds, and in its turn of a round each looks at most
 /// `patience` times in vain for a row or a place; sites that share a thread do so together.
-pub fn run_job<T: Threads + Sync, R: Rack + Send>(
+pub fn run_job<T: Threads + Clock + Sync, R: Rack + Send>(
     rt: &T,
     alloc: Global,
     job: &Job,
@@ -58,7 +59,7 @@ pub fn run_job<T: Threads + Sync, R: Rack + Send>(
 
 /// The same with key readers that count the rows. A feed is dropped nowhere else, since what a function drops
 /// on each of its paths is proved for each.
-pub(crate) fn run_all<T: Threads + Sync, R: Rack + Send>(
+pub(crate) fn run_all<T: Threads + Clock + Sync, R: Rack + Send>(
     rt: &T,
     run: &Run<'_>,
     job: &Job,

@@ -25,10 +25,11 @@ use ring_run::SiteEnd;
 use room_base::{Stop, Whose, load_job, put_text};
 use std::alloc::{AllocError, Global};
 use std::thread::Threads;
+use std::time::Clock;
 
 /// Runs an edition and counts so many keys of each plate: delivers the plates of its sites to the racks, and
 /// prints the report and the counts. It answers the status of what was done.
-pub fn run_with_keys<T: Threads + Sync, H: Shelf, R: Rack + Send, S: Sink>(
+pub fn run_with_keys<T: Threads + Clock + Sync, H: Shelf, R: Rack + Send, S: Sink>(
     rt: &T,
     alloc: Global,
     edition: Edition<'_>,
@@ -53,7 +54,7 @@ pub fn run_with_keys<T: Threads + Sync, H: Shelf, R: Rack + Send, S: Sink>(
 }
 
 /// Runs a job to the racks, and prints the report and the counts.
-fn deliver<T: Threads + Sync, R: Rack + Send, S: Sink>(
+fn deliver<T: Threads + Clock + Sync, R: Rack + Send, S: Sink>(
     rt: &T,
     alloc: Global,
     edition: Edition<'_>,

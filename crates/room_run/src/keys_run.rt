@@ -17,11 +17,12 @@ use press_job::Job;
 use ring_run::{Outcome, Run, RunKeyReader};
 use std::alloc::Global;
 use std::thread::Threads;
+use std::time::Clock;
 
 /// Delivers the plates of a job as `run_job` does, and counts the pixels that print in each of `keys` keys
 /// of each plate. The counts come from the rows of the run's own ring, by a reader with the number after the
 /// last site; they are whole also where every site left. All counts are taken before the first row.
-pub fn run_keys<T: Threads + Sync, R: Rack + Send>(
+pub fn run_keys<T: Threads + Clock + Sync, R: Rack + Send>(
     rt: &T,
     alloc: Global,
     job: &Job,

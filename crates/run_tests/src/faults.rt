@@ -4,6 +4,7 @@ use crate::files::{FORM, four_by_one, image, patch};
 use crate::room::{CALM, Failing, RUN, Want, check, runs};
 use std::process::Abort;
 use std::thread::Threads;
+use std::time::Clock;
 use tif_make::{ImageForm, Kind};
 
 // Words of a run of one plate.
@@ -24,7 +25,7 @@ const BAD: [&[&str]; 7] = [
 ];
 
 // Each run of the two pages by these words does what is wanted.
-fn check_words<R: Abort + AllocGlobal + Threads + Sync>(
+fn check_words<R: Abort + AllocGlobal + Threads + Clock + Sync>(
     rt: &R,
     lines: &[&[&str]],
     file: &[u8],
@@ -61,7 +62,7 @@ fn refuses_ring_and_patience(rt: HostRuntime) {
 
 // Whether a run of this plan, with these files, reports nothing and tells this line, and its site has
 // nothing.
-fn ends<R: Abort + AllocGlobal + Threads + Sync>(
+fn ends<R: Abort + AllocGlobal + Threads + Clock + Sync>(
     rt: &R,
     plan: &str,
     files: [&[u8]; 2],
@@ -87,7 +88,7 @@ const LATER: &str = r#"{"plan":1,"edition":"E1","dpi":1200,"page":[8,2],"screens
 
 // The second file has compression 5, which is LZW: files come before layers. Where the note fails nothing is
 // told.
-fn refuses_second<R: Abort + AllocGlobal + Threads + Sync>(
+fn refuses_second<R: Abort + AllocGlobal + Threads + Clock + Sync>(
     rt: &R,
     first: &[u8],
     lzw: &[u8],
@@ -108,7 +109,7 @@ fn refuses_a_later_file(rt: HostRuntime) {
 }
 
 // Whether a plan whose page is a.tif under this key is refused with this line. Beside it lies a mask.
-fn refuses_layer<R: Abort + AllocGlobal + Threads + Sync>(
+fn refuses_layer<R: Abort + AllocGlobal + Threads + Clock + Sync>(
     rt: &R,
     key: &str,
     mask: &[u8],
@@ -194,7 +195,7 @@ const PLANS: [[&str; 4]; 5] = [
 ];
 
 // Whether a run of the plan of these keys is refused with this line.
-fn refuses_keys<R: Abort + AllocGlobal + Threads + Sync>(
+fn refuses_keys<R: Abort + AllocGlobal + Threads + Clock + Sync>(
     rt: &R,
     [head, sections, sites, line]: [&str; 4],
 ) -> bool {
@@ -225,7 +226,7 @@ const LOADS: [(u64, &str); 2] = [
 ];
 
 // Whether a run of the two pages whose shelf fails at this load is refused with this line.
-fn misses<R: Abort + AllocGlobal + Threads + Sync>(rt: &R, load: u64, line: &str) -> bool {
+fn misses<R: Abort + AllocGlobal + Threads + Clock + Sync>(rt: &R, load: u64, line: &str) -> bool {
     let failing = Failing {
         shelf: Some(load),
         ..CALM

@@ -3,6 +3,7 @@ use crate::files::pixel;
 use crate::room::{CALM, Plate, RUN, Want, runs};
 use std::process::Abort;
 use std::thread::Threads;
+use std::time::Clock;
 
 const FOUR: &str = "site OSLO finished plates 4 rows 4\ntotal rows 4 sites 1\n";
 
@@ -10,7 +11,7 @@ const ONE: &str = "site OSLO finished plates 1 rows 1\ntotal rows 1 sites 1\n";
 
 // Whether a run whose plan has these keys makes these plates. Its left page has these inks, a.tif, and these
 // layers above it, from files of one pixel each.
-fn makes<R: Abort + AllocGlobal + Threads + Sync>(
+fn makes<R: Abort + AllocGlobal + Threads + Clock + Sync>(
     rt: &R,
     [keys, inks, layers]: [&str; 3],
     [first, second]: [[u8; 4]; 2],

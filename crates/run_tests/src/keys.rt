@@ -6,6 +6,7 @@ use crate::room::{CALM, Failing, Want, check, runs};
 use ring_lanes::Source;
 use std::process::Abort;
 use std::thread::Threads;
+use std::time::Clock;
 use tif_make::{ImageForm, Kind};
 
 const FOUR: Want<'static> = Want {
@@ -140,7 +141,7 @@ keys 1 A-002-K 8
 ];
 
 // Whether a run with one key of this plan for two sites, where these calls of the racks fail, reports this.
-fn leaves<R: Abort + AllocGlobal + Threads + Sync>(
+fn leaves<R: Abort + AllocGlobal + Threads + Clock + Sync>(
     rt: &R,
     plan: &str,
     racks: [Option<u64>; 2],

@@ -2,6 +2,7 @@
 use crate::room::{CALM, Failing, Plate, RUN, Want, check, runs};
 use std::process::Abort;
 use std::thread::Threads;
+use std::time::Clock;
 
 /// Four empty pages for two sites.
 pub const EMPTY: &str = r#"{"plan":1,"edition":"E1","dpi":1200,"page":[8,2],
@@ -22,7 +23,7 @@ const CALLS: [(u64, u64, u64, &str, &str); 8] = [
 ];
 
 // Whether a run where these calls of the two racks fail ends with this report, and with these plates.
-fn ends<R: Abort + AllocGlobal + Threads + Sync>(
+fn ends<R: Abort + AllocGlobal + Threads + Clock + Sync>(
     rt: &R,
     racks: [Option<u64>; 2],
     report: &str,
@@ -45,7 +46,7 @@ fn ends<R: Abort + AllocGlobal + Threads + Sync>(
     )
 }
 
-fn leaves<R: Abort + AllocGlobal + Threads + Sync>(
+fn leaves<R: Abort + AllocGlobal + Threads + Clock + Sync>(
     rt: &R,
     case: &(u64, u64, u64, &str, &str),
 ) -> bool {

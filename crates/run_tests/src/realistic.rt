@@ -7,6 +7,7 @@ use crate::room::{CALM, RUN, Want, racks, reports, shelf};
 use pr_rack::MemRack;
 use std::process::Abort;
 use std::thread::Threads;
+use std::time::Clock;
 use tif_make::{Compression, ImageForm, Kind, Order, Planar};
 
 const PLAN: &str = r#"{"plan":1,"edition":"E1","dpi":1200,"page":[800,1200],"margins":[32,24,32,24],
@@ -100,7 +101,11 @@ fn are_whole(racks: &[MemRack]) -> bool {
 }
 
 // Whether the run of these files ends as it should, and three racks are whole.
-fn makes_all<R: Abort + AllocGlobal + Threads + Sync>(rt: &R, first: &[u8], second: &[u8]) -> bool {
+fn makes_all<R: Abort + AllocGlobal + Threads + Clock + Sync>(
+    rt: &R,
+    first: &[u8],
+    second: &[u8],
+) -> bool {
     let want = Want {
         status: 0,
         report: REPORT,

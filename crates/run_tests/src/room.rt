@@ -13,6 +13,7 @@ use ring_lanes::Source;
 use std::alloc::Global;
 use std::process::Abort;
 use std::thread::Threads;
+use std::time::Clock;
 
 /// The words of a run where a test says nothing else.
 pub const RUN: [&str; 4] = ["run", "plan.json", "FILES", "OUT"];
@@ -117,7 +118,7 @@ fn texts<R: Abort + AllocGlobal>(rt: &R, words: &[&str]) -> Vec<String> {
 }
 
 // The call, of which a test is told the status alone.
-fn answer<T: Threads + Sync, H: Shelf, R: Rack + Send, S: Sink, E: Sink>(
+fn answer<T: Threads + Clock + Sync, H: Shelf, R: Rack + Send, S: Sink, E: Sink>(
     rt: &T,
     alloc: Global,
     words: &[String],
@@ -133,7 +134,7 @@ fn answer<T: Threads + Sync, H: Shelf, R: Rack + Send, S: Sink, E: Sink>(
 }
 
 /// Does a command of these words, and gives its status.
-pub fn command<T: Abort + AllocGlobal + Threads + Sync, R: Rack + Send>(
+pub fn command<T: Abort + AllocGlobal + Threads + Clock + Sync, R: Rack + Send>(
     rt: &T,
     words: &[&str],
     shelf: &mut MemShelf,
@@ -168,7 +169,7 @@ pub struct Want<'a> {
 }
 
 // Whether a run of these words, with a note of which this call fails, ends with this status and this line.
-fn tells<R: Abort + AllocGlobal + Threads + Sync>(
+fn tells<R: Abort + AllocGlobal + Threads + Clock + Sync>(
     rt: &R,
     words: &[&str],
     shelf: &mut MemShelf,
@@ -186,7 +187,7 @@ fn tells<R: Abort + AllocGlobal + Threads + Sync>(
 }
 
 /// Whether a run ends, reports and tells as it is wanted.
-pub fn reports<R: Abort + AllocGlobal + Threads + Sync>(
+pub fn reports<R: Abort + AllocGlobal + Threads + Clock + Sync>(
     rt: &R,
     words: &[&str],
     shelf: &mut MemShelf,
@@ -203,7 +204,7 @@ pub fn reports<R: Abort + AllocGlobal + Threads + Sync>(
 }
 
 /// Whether a run of these words does what is wanted. The files that its plan may name are a.tif and b.tif.
-pub fn runs<R: Abort + AllocGlobal + Threads + Sync>(
+pub fn runs<R: Abort + AllocGlobal + Threads + Clock + Sync>(
     rt: &R,
     words: &[&str],
     plan: &str,

@@ -4,6 +4,7 @@ use crate::files::{TWO_PAGES, TWO_PAGES_PLATE};
 use crate::room::{CALM, Case, VERIFY, check, does};
 use std::process::Abort;
 use std::thread::Threads;
+use std::time::Clock;
 
 // The plate of the two pages.
 const PLATES: [Plate<'static>; 1] = [Plate {
@@ -13,7 +14,7 @@ const PLATES: [Plate<'static>; 1] = [Plate {
 
 // Whether a look by these words at right plates, of which these calls fail, prints nothing and ends with this
 // status and this line.
-fn refuses<R: Abort + AllocGlobal + Threads + Sync>(
+fn refuses<R: Abort + AllocGlobal + Threads + Clock + Sync>(
     rt: &R,
     words: &[&str],
     plan: &str,

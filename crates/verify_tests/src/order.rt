@@ -4,6 +4,7 @@ use crate::files::{EMPTY_PLATE, FOUR_INKS, RIGHT_PLATE, ZONED};
 use crate::room::{CALM, Case, VERIFY, check, does};
 use std::process::Abort;
 use std::thread::Threads;
+use std::time::Clock;
 
 const INKS: [Plate<'static>; 8] = [
     Plate {
@@ -156,7 +157,7 @@ const GROUP_ROWS: [Row<'static>; 4] = [
 ];
 
 // Whether a look at the plates of a plan ends as a row says.
-fn ends<R: Abort + AllocGlobal + Threads + Sync>(
+fn ends<R: Abort + AllocGlobal + Threads + Clock + Sync>(
     rt: &R,
     plan: &str,
     plates: &[Plate<'_>],

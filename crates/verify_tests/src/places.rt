@@ -4,13 +4,14 @@ use crate::files::{ONE_ROW, ONE_ROW_PLATE, TWO_PAGES, TWO_PAGES_PLATE};
 use crate::room::{CALM, Case, VERIFY, check, does};
 use std::process::Abort;
 use std::thread::Threads;
+use std::time::Clock;
 
 const PATH: &str = "OUT/OSLO/E1-A-001-K.tif";
 
 // Whether a look at the one plate of a plan, in whose place this is held, ends with this status and this
 // text: at 5 the line of the note, else the output. There are three loads: of the plan, the image and the
 // plate.
-fn finds<R: Abort + AllocGlobal + Threads + Sync>(
+fn finds<R: Abort + AllocGlobal + Threads + Clock + Sync>(
     rt: &R,
     plan: &str,
     plate: &[u8],

@@ -9,6 +9,7 @@ use pr_rack::{MemRack, Rack};
 use std::alloc::Global;
 use std::process::Abort;
 use std::thread::Threads;
+use std::time::Clock;
 
 /// The words by which plates are looked at.
 pub const VERIFY: [&str; 4] = ["verify", "plan.json", "FILES", "OUT"];
@@ -66,7 +67,7 @@ fn texts<R: Abort + AllocGlobal>(rt: &R, words: &[&str]) -> Vec<String> {
 }
 
 // The call, of which a test is told the status alone.
-fn answer<T: Threads + Sync, H: Shelf, R: Rack + Send, S: Sink, E: Sink>(
+fn answer<T: Threads + Clock + Sync, H: Shelf, R: Rack + Send, S: Sink, E: Sink>(
     rt: &T,
     alloc: Global,
     words: &[String],
@@ -82,7 +83,7 @@ fn answer<T: Threads + Sync, H: Shelf, R: Rack + Send, S: Sink, E: Sink>(
 }
 
 // Does a command of these words, and gives its status.
-fn command<T: Abort + AllocGlobal + Threads + Sync, H: Shelf, S: Sink, E: Sink>(
+fn command<T: Abort + AllocGlobal + Threads + Clock + Sync, H: Shelf, S: Sink, E: Sink>(
     rt: &T,
     words: &[&str],
     shelf: &mut H,
@@ -105,7 +106,7 @@ fn are_empty(racks: &[MemRack]) -> bool {
 }
 
 // Whether a command of these words ends with this status and this line, and leaves the racks alone.
-fn tells<R: Abort + AllocGlobal + Threads + Sync, H: Shelf, S: Sink>(
+fn tells<R: Abort + AllocGlobal + Threads + Clock + Sync, H: Shelf, S: Sink>(
     rt: &R,
     words: &[&str],
     shelf: &mut H,
@@ -120,7 +121,7 @@ fn tells<R: Abort + AllocGlobal + Threads + Sync, H: Shelf, S: Sink>(
 }
 
 /// Whether a command of these words does what is wanted.
-pub fn does<R: Abort + AllocGlobal + Threads + Sync>(
+pub fn does<R: Abort + AllocGlobal + Threads + Clock + Sync>(
     rt: &R,
     words: &[&str],
     case: &Case<'_>,
