@@ -13,6 +13,7 @@ use pr_ports::Shelf;
 use press_feed::{Feed, Job, prepare};
 use std::alloc::Global;
 use std::process::Abort;
+use std::thread::Threads;
 
 // Whether the four plates of a job are the same below OUT.
 fn are_same<F: RowFeed, H: Shelf>(alloc: Global, job: &Job, feed: &mut F, shelf: &mut H) -> bool
@@ -25,11 +26,15 @@ fn are_same<F: RowFeed, H: Shelf>(alloc: Global, job: &Job, feed: &mut F, shelf:
 }
 
 // The job of a plan, whose files lie on a shelf.
-fn job_of<R: Abort + AllocGlobal, H: Shelf>(rt: &R, plan: &str, shelf: &mut H) -> Job {
+fn job_of<R: Abort + AllocGlobal + Threads + Sync, H: Shelf>(
+    rt: &R,
+    plan: &str,
+    shelf: &mut H,
+) -> Job {
     let Ok(plan) = read_plan(rt.alloc(), plan.as_bytes()) else {
         rt.abort();
     };
-    match prepare(rt.alloc(), plan, "FILES", shelf) {
+    match prepare(rt, rt.alloc(), plan, "FILES", shelf) {
         Ok(job) => job,
         Err(_) => rt.abort(),
     }
@@ -44,7 +49,11 @@ fn looks<R: Abort + AllocGlobal, H: Shelf>(rt: &R, job: &Job, shelf: &mut H) -> 
 }
 
 // The same of the job of a plan.
-fn looks_at_plan<R: Abort + AllocGlobal, H: Shelf>(rt: &R, plan: &str, shelf: &mut H) -> bool {
+fn looks_at_plan<R: Abort + AllocGlobal + Threads + Sync, H: Shelf>(
+    rt: &R,
+    plan: &str,
+    shelf: &mut H,
+) -> bool {
     let job = job_of(rt, plan, shelf);
     looks(rt, &job, shelf)
 }
