@@ -10,6 +10,7 @@ use press_feed::{Feed, Job, prepare};
 use std::alloc::{AllocError, Global};
 use std::process::Abort;
 use std::test::Fail;
+use std::thread::Threads;
 
 // The plan of a section with the same empty page 128 times. A page held whole, one byte per pixel for each of
 // four inks, would take 8,589,541,380 bytes.
@@ -31,10 +32,10 @@ fn no_files(alloc: Global) -> MemShelf {
 }
 
 // Prepares the job of a plan without files.
-fn job_of(alloc: Global, text: &str) -> Result<Job, Fail> {
+fn job_of<T: Threads + Sync>(rt: &T, alloc: Global, text: &str) -> Result<Job, Fail> {
     let plan = read_plan(alloc, text.as_bytes())?;
     let mut shelf = no_files(alloc);
-    Ok(prepare(alloc, plan, "in", &mut shelf)?)
+    Ok(prepare(rt, alloc, plan, "in", &mut shelf)?)
 }
 
 // Requires that a job can be shared with threads.
@@ -87,7 +88,7 @@ fn check_job(rt: &impl Abort, alloc: Global, job: &Job) -> Result<(), NoMemory> 
 #[test]
 fn the_largest_pages_are_streamed(rt: HostRuntime) -> Result<(), Fail> {
     let text = largest_plan(rt.alloc())?;
-    let job = job_of(rt.alloc(), text.as_str())?;
+    let job = job_of(&rt, rt.alloc(), text.as_str())?;
     lent(&job);
     let checked = check_job(&rt, rt.alloc(), &job);
     end(job);

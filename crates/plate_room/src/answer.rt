@@ -41,8 +41,8 @@ pub(crate) fn answer<T: Threads + Clock + Sync, H: Shelf, R: Rack + Send, S: Sin
             rt, alloc, edition, keys, shelf, racks, out,
         ),
         Some(Command::Drill(drill)) => print_drill(rt, alloc, drill, out),
-        Some(Command::Verify(asked)) => print_check(alloc, asked, shelf, out),
-        Some(Command::Replate(change)) => print_change(alloc, change, shelf, racks, out),
+        Some(Command::Verify(asked)) => print_check(rt, alloc, asked, shelf, out),
+        Some(Command::Replate(change)) => print_change(rt, alloc, change, shelf, racks, out),
         None => Err(Stop::Refused(Refusal::Words)),
     }
 }

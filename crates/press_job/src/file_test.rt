@@ -8,7 +8,8 @@ use crate::usage::{layers_on, use_of};
 use plan_json::{Page, Plan, PlanLayer};
 use pr_base::TagFault;
 use std::marker::Model;
-use tif_image::{Bilevel, BilevelUse, Contone, Usage};
+use std::thread::Threads;
+use tif_image::{BilevelUse, Usage, test_image};
 
 /// A file, and the uses for which it has passed the tests, so that it is tested once for each. Contracts see
 /// the bytes of the file.
@@ -34,12 +35,12 @@ impl<'a> Model for FileTest<'a> {
 
 impl<'a> FileTest<'a> {
     /// Tests the file for a use, unless it has already passed.
-    fn check(&mut self, usage: Usage) -> Result<(), TagFault>
+    fn check<T: Threads + Sync>(&mut self, rt: &T, usage: Usage) -> Result<(), TagFault>
         ensures first { result_err result ≡ fault_for usage self.old }
         ensures file { self.new ≡ self.old }
     {
         if !self.has_passed(usage) {
-            check_image(self.bytes, usage)?;
+            test_image(rt, self.bytes, usage)?;
             self.note(usage);
         }
         Ok(())
@@ -69,25 +70,15 @@ impl<'a> FileTest<'a> {
     }
 }
 
-/// Tests a file for a use.
-fn check_image(bytes: &[u8], usage: Usage) -> Result<(), TagFault>
-    ensures { result_err result ≡ fault_for usage bytes.now }
-{
-    match usage {
-        Usage::Contone => {
-            Contone::check(bytes)?;
-        }
-        Usage::Bilevel(usage) => {
-            Bilevel::check(bytes, usage)?;
-        }
-    }
-    Ok(())
-}
-
 /// Tests the bytes of the file with this index for each of its uses, in the order in which layers mention
 /// them.
 #[tactic(auto, unfolding(crate::specs::Tests::fault_of_file))]
-pub(crate) fn test_file(plan: &Plan, file: usize, bytes: &[u8]) -> Result<(), TagFault>
+pub(crate) fn test_file<T: Threads + Sync>(
+    rt: &T,
+    plan: &Plan,
+    file: usize,
+    bytes: &[u8],
+) -> Result<(), TagFault>
     ensures { result_err result ≡ fault_of_file plan.now file bytes.now }
 {
     let mut test = FileTest {
@@ -96,22 +87,28 @@ pub(crate) fn test_file(plan: &Plan, file: usize, bytes: &[u8]) -> Result<(), Ta
         line: false,
         mask: false,
     };
-    test_uses_on_pages(&mut test, file, plan.pages.as_slice())
+    test_uses_on_pages(rt, &mut test, file, plan.pages.as_slice())
 }
 
 /// Tests the file for its uses on these pages.
-fn test_uses_on_pages(test: &mut FileTest<'_>, file: usize, pages: &[Page]) -> Result<(), TagFault>
+fn test_uses_on_pages<T: Threads + Sync>(
+    rt: &T,
+    test: &mut FileTest<'_>,
+    file: usize,
+    pages: &[Page],
+) -> Result<(), TagFault>
     ensures first { result_err result ≡ first_some (page_fault file test.old) pages.now }
     ensures file { test.new ≡ test.old }
 {
     for page in pages {
-        test_uses_in_layers(test, file, layers_on(page))?;
+        test_uses_in_layers(rt, test, file, layers_on(page))?;
     }
     Ok(())
 }
 
 /// Tests the file for its uses in these layers.
-fn test_uses_in_layers(
+fn test_uses_in_layers<T: Threads + Sync>(
+    rt: &T,
     test: &mut FileTest<'_>,
     file: usize,
     layers: &[PlanLayer],
@@ -120,14 +117,15 @@ fn test_uses_in_layers(
     ensures file { test.new ≡ test.old }
 {
     for layer in layers {
-        test_uses_in_layer(test, file, layer)?;
+        test_uses_in_layer(rt, test, file, layer)?;
     }
     Ok(())
 }
 
 /// Tests the file for its uses in this layer.
 #[tactic(auto, unfolding(crate::specs::Tests::layer_fault))]
-fn test_uses_in_layer(
+fn test_uses_in_layer<T: Threads + Sync>(
+    rt: &T,
     test: &mut FileTest<'_>,
     file: usize,
     layer: &PlanLayer,
@@ -136,10 +134,10 @@ fn test_uses_in_layer(
     ensures file { test.new ≡ test.old }
 {
     if layer.file == file {
-        test.check(use_of(layer))?;
+        test.check(rt, use_of(layer))?;
     }
     if layer.mask == Some(file) {
-        test.check(Usage::Bilevel(BilevelUse::Mask))?;
+        test.check(rt, Usage::Bilevel(BilevelUse::Mask))?;
     }
     Ok(())
 }

@@ -15,6 +15,7 @@ use plan_json::Plan;
 use pr_base::{FaultKind, FileFault, NoMemory, PathText};
 use pr_ports::{LoadFault, Shelf};
 use std::alloc::Global;
+use std::thread::Threads;
 
 /// The largest size of one file in bytes.
 const FILE_LIMIT: u64 = 536_870_912;
@@ -68,7 +69,8 @@ fn file_path(alloc: Global, plan: &Plan, folder: &str, file: usize) -> Result<Pa
 }
 
 /// Loads a file of the plan and tests it for its uses.
-fn load_file<H: Shelf>(
+fn load_file<T: Threads + Sync, H: Shelf>(
+    rt: &T,
     alloc: Global,
     plan: &Plan,
     folder: &str,
@@ -98,7 +100,7 @@ fn load_file<H: Shelf>(
         }
         Err(LoadFault::Memory) => return Err(Refusal::Memory),
     };
-    if let Err(fault) = test_file(plan, file, bytes.as_slice()) {
+    if let Err(fault) = test_file(rt, plan, file, bytes.as_slice()) {
         let fault = fault_of(alloc, plan, file, fault.tag, fault.kind)?;
         return Err(Refusal::File(fault));
     }
@@ -106,7 +108,8 @@ fn load_file<H: Shelf>(
 }
 
 /// Loads all files of a plan in order, each tested before the next one is loaded.
-pub(crate) fn load_files<H: Shelf>(
+pub(crate) fn load_files<T: Threads + Sync, H: Shelf>(
+    rt: &T,
     alloc: Global,
     plan: &Plan,
     folder: &str,
@@ -134,7 +137,7 @@ pub(crate) fn load_files<H: Shelf>(
     let mut loaded = 0;
     for file in 0..count {
         let limit = limit_behind(loaded);
-        let bytes = load_file(alloc, plan, folder, limit, file, shelf)?;
+        let bytes = load_file(rt, alloc, plan, folder, limit, file, shelf)?;
         loaded += bytes.len() as u64;
         files.push(bytes)?;
     }

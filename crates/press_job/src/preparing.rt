@@ -12,11 +12,13 @@ use plan_pages::plate_shape;
 use plan_rows::RowPlan;
 use pr_ports::Shelf;
 use std::alloc::Global;
+use std::thread::Threads;
 
 /// Makes a job of a plan and its files in the folder `files`. Loads each file once, in the order in which the
 /// plan mentions them, and tests it for each of its uses; then tests the crop and the mask of each layer.
 /// Returns the first refusal in this order.
-pub fn prepare<H: Shelf>(
+pub fn prepare<T: Threads + Sync, H: Shelf>(
+    rt: &T,
     alloc: Global,
     plan: Plan,
     files: &str,
@@ -43,7 +45,7 @@ pub fn prepare<H: Shelf>(
     ensures path { IfShelf result (IsMissing plan files.now (H.held shelf.old)) }
     ensures shelf { TellsShelf H.Shelf plan shelf.old shelf.new result }
 {
-    let loaded = load_files(alloc, &plan, files, shelf)?;
+    let loaded = load_files(rt, alloc, &plan, files, shelf)?;
     if let Err(misfit) = test_fit(&plan, &loaded) {
         let fault = fault_of(alloc, &plan, misfit.file, misfit.tag, misfit.kind)?;
         return Err(Refusal::File(fault));

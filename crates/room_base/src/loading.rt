@@ -9,12 +9,14 @@ use pr_base::PathText;
 use pr_ports::{LoadFault, Shelf};
 use press_job::{Job, prepare};
 use std::alloc::Global;
+use std::thread::Threads;
 
 /// The bytes of a plan that are read at most.
 const PLAN_LIMIT: u64 = 16_777_216;
 
 /// Loads the plan at a path and its files in a folder, and tests them all.
-pub fn load_job<H: Shelf>(
+pub fn load_job<T: Threads + Sync, H: Shelf>(
+    rt: &T,
     alloc: Global,
     whose: Whose,
     path: &str,
@@ -33,7 +35,7 @@ pub fn load_job<H: Shelf>(
         Ok(plan) => plan,
         Err(stop) => return Err(stop),
     };
-    match prepare(alloc, plan, folder, shelf) {
+    match prepare(rt, alloc, plan, folder, shelf) {
         Ok(job) => Ok(job),
         Err(press_job::Refusal::File(fault)) => Err(Stop::Refused(Refusal::File(whose, fault))),
         Err(press_job::Refusal::Shelf(path)) => Err(Stop::Refused(Refusal::Shelf(path))),

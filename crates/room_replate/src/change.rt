@@ -15,6 +15,7 @@ use press_feed::{Feed, Job};
 use replate::{Inputs, Picks, RemadeEnd, deliver};
 use room_base::{Stop, Whose, load_job, put_text};
 use std::alloc::Global;
+use std::thread::Threads;
 
 /// An edition of which the plates that changed are made.
 #[derive(Clone, Copy)]
@@ -41,7 +42,8 @@ pub(crate) struct Late {
 
 /// Makes the plates of an edition that changed, prints how its sites ended, and answers the status of what
 /// was done.
-pub fn print_change<H: Shelf, R: Rack, S: Sink>(
+pub fn print_change<T: Threads + Sync, H: Shelf, R: Rack, S: Sink>(
+    rt: &T,
     alloc: Global,
     change: Change<'_>,
     shelf: &mut H,
@@ -56,7 +58,7 @@ pub fn print_change<H: Shelf, R: Rack, S: Sink>(
     ensures held { H.held shelf.new ≡ H.held shelf.old }
     ensures missed { OnOk result (H.missed shelf.new ≡ H.missed shelf.old) }
 {
-    let late = load_late(alloc, change, shelf)?;
+    let late = load_late(rt, alloc, change, shelf)?;
     let Ok(remade) = make_late(alloc, change, &late, racks) else {
         return Err(Stop::Memory);
     };
@@ -70,15 +72,27 @@ pub fn print_change<H: Shelf, R: Rack, S: Sink>(
 }
 
 /// Loads the old job and then the new one, and compares them. The old job is let go here.
-fn load_late<H: Shelf>(alloc: Global, change: Change<'_>, shelf: &mut H) -> Result<Late, Stop>
+fn load_late<T: Threads + Sync, H: Shelf>(
+    rt: &T,
+    alloc: Global,
+    change: Change<'_>,
+    shelf: &mut H,
+) -> Result<Late, Stop>
     ensures loaded { IfOk result (IsLoadedLate (change_told change.entry) (H.held shelf.old)) }
     ensures refused { IfErr result
         (ChangeRefused (change_told change.entry) (shelf_seen H.Shelf shelf.old shelf.new)) }
     ensures held { H.held shelf.new ≡ H.held shelf.old }
     ensures missed { OnOk result (H.missed shelf.new ≡ H.missed shelf.old) }
 {
-    let before = load_job(alloc, Whose::Old, change.old_plan, change.old_files, shelf)?;
-    let job = load_job(alloc, Whose::New, change.plan, change.files, shelf)?;
+    let before = load_job(
+        rt,
+        alloc,
+        Whose::Old,
+        change.old_plan,
+        change.old_files,
+        shelf,
+    )?;
+    let job = load_job(rt, alloc, Whose::New, change.plan, change.files, shelf)?;
     let Ok(late) = compare(alloc, &before, job, change.out) else {
         return Err(Stop::Memory);
     };

@@ -115,7 +115,7 @@ pub fn run_drill<T: Threads + Clock + Sync>(
     ensures ends { IfOk result (λ drilled. drilled.ends.items ≡ finished_ends drilled.job.plan) }
     ensures racks { IfOk result (λ drilled. HaveRun drilled.job drill.ring drilled.racks.items) }
 {
-    let job = job_of(alloc, drill.number)?;
+    let job = job_of(rt, alloc, drill.number)?;
     let mut racks = empty_racks(alloc, job.plan().sites.len())?;
     let ends = deliver_to(rt, alloc, &job, racks.as_mut_slice(), drill)?;
     Ok(DrillRun { job, ends, racks })
@@ -143,12 +143,12 @@ fn deliver_to<T: Threads + Clock + Sync>(
 }
 
 /// The generated job with a number, prepared.
-fn job_of(alloc: Global, number: u32) -> Result<Job, NoMemory>
+fn job_of<T: Threads + Sync>(rt: &T, alloc: Global, number: u32) -> Result<Job, NoMemory>
     ensures { IfOk result (λ job. job ≡ drill_job number) }
 {
     let made = make_job(alloc, number)?;
     let plan = plan_in(alloc, made.plan.as_slice())?;
-    prepare_job(alloc, plan, made.files)
+    prepare_job(rt, alloc, plan, made.files)
 }
 
 /// The plan that a text is.
@@ -164,14 +164,19 @@ fn plan_in(alloc: Global, text: &[u8]) -> Result<Plan, NoMemory>
 }
 
 /// The job of a plan with these files, which pass all tests. It can't be refused but for want of memory.
-fn prepare_job(alloc: Global, plan: Plan, files: Vec<(PathText, Vec<u8>)>) -> Result<Job, NoMemory>
+fn prepare_job<T: Threads + Sync>(
+    rt: &T,
+    alloc: Global,
+    plan: Plan,
+    files: Vec<(PathText, Vec<u8>)>,
+) -> Result<Job, NoMemory>
     requires paths { IsDistinct (pointwise nat_eq) (map (λ file. file.0) (files_of files.items)) }
     requires passes { verdict_on_files plan (codes "in") (files_of files.items) ≡ None }
     ensures { IfOk result (λ job. job
         ≡ record { plan = plan; files = files_in plan (codes "in") (files_of files.items) }) }
 {
     let mut shelf = SureShelf::new(alloc, files);
-    match prepare(alloc, plan, FILES, &mut shelf) {
+    match prepare(rt, alloc, plan, FILES, &mut shelf) {
         Ok(job) => Ok(job),
         Err(press_feed::Refusal::Memory) => Err(NoMemory),
         Err(press_feed::Refusal::File(_fault)) => unreachable!(),

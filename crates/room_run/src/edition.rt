@@ -54,7 +54,7 @@ pub fn run_edition<T: Threads + Clock + Sync, H: Shelf, R: Rack + Send, S: Sink>
     ensures held { H.held shelf.new ≡ H.held shelf.old }
     ensures missed { OnOk result (H.missed shelf.new ≡ H.missed shelf.old) }
 {
-    let job = load_job(alloc, Whose::New, edition.plan, edition.files, shelf)?;
+    let job = load_job(rt, alloc, Whose::New, edition.plan, edition.files, shelf)?;
     deliver(rt, alloc, edition, &job, racks, out)
 }
 

@@ -49,7 +49,7 @@ pub fn run_with_keys<T: Threads + Clock + Sync, H: Shelf, R: Rack + Send, S: Sin
     ensures held { H.held shelf.new ≡ H.held shelf.old }
     ensures missed { OnOk result (H.missed shelf.new ≡ H.missed shelf.old) }
 {
-    let job = load_job(alloc, Whose::New, edition.plan, edition.files, shelf)?;
+    let job = load_job(rt, alloc, Whose::New, edition.plan, edition.files, shelf)?;
     deliver(rt, alloc, edition, keys, &job, racks, out)
 }
 

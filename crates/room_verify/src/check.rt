@@ -15,6 +15,7 @@ use pr_ports::{Shelf, Sink};
 use press_feed::{Feed, Job};
 use room_base::{Refusal, Status, Stop, Whose, load_job, put_text};
 use std::alloc::{AllocError, Global};
+use std::thread::Threads;
 
 /// An edition whose plates are looked at.
 #[derive(Clone, Copy)]
@@ -28,7 +29,8 @@ pub struct Asked<'a> {
 }
 
 /// Looks at the plates of an edition that a shelf holds, prints what was found, and answers its status.
-pub fn print_check<H: Shelf, S: Sink>(
+pub fn print_check<T: Threads + Sync, H: Shelf, S: Sink>(
+    rt: &T,
     alloc: Global,
     asked: Asked<'_>,
     shelf: &mut H,
@@ -39,7 +41,7 @@ pub fn print_check<H: Shelf, S: Sink>(
     ensures held { H.held shelf.new ≡ H.held shelf.old }
     ensures missed { OnOk result (H.missed shelf.new ≡ H.missed shelf.old) }
 {
-    let job = load_job(alloc, Whose::New, asked.plan, asked.files, shelf)?;
+    let job = load_job(rt, alloc, Whose::New, asked.plan, asked.files, shelf)?;
     let checked = check_plates(alloc, &job, asked.out, shelf)?;
     let Ok(line) = line_of(alloc, site_count(&job), &checked) else {
         return Err(Stop::Memory);

@@ -60,9 +60,9 @@ pub(crate) fn open_image<'a>(bytes: &'a [u8], usage: Usage) -> Checked<'a>
     Checked { dir, shape, strips }
 }
 
-// Tests the fields in order and returns the shape that they give.
+/// Tests the fields in order and returns the shape that they give.
 #[tactic(auto, unfolding(crate::specs::Image::image_fields))]
-fn image_fields(dir: &Dir<'_>, usage: Usage) -> Result<Shape, TagFault>
+pub(crate) fn image_fields(dir: &Dir<'_>, usage: Usage) -> Result<Shape, TagFault>
     ensures fields { result ≡ image_fields usage dir.now }
     ensures shape { IfOk result (IsShapeFor usage) }
 {

@@ -6,8 +6,10 @@ mod bilevel;
 mod check;
 mod contone;
 mod fields;
+mod test;
 mod usage;
 
 pub use bilevel::Bilevel;
 pub use contone::Contone;
+pub use test::test_image;
 pub use usage::{BilevelUse, Usage};

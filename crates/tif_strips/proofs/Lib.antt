@@ -5,4 +5,5 @@ pub mod Fours
 pub mod Inks
 pub mod Ahead
 pub mod Places
+pub mod Walks
 pub mod Worked

@@ -3,3 +3,4 @@ pub mod Strip
 pub mod Table
 pub mod Planes
 pub mod Place
+pub mod Walk

@@ -10,6 +10,7 @@ mod shape;
 mod strip;
 mod strip_table;
 mod strips;
+mod walk;
 
 pub use row_cursor::RowCursor;
 pub use shape::Shape;

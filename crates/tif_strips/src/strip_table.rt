@@ -37,7 +37,7 @@ impl<'a> StripTable<'a> {
     ghost use Rattle.tif_strips.specs.Strips.{IsStriped, samples_in, stored_bytes, strip_count, strip_fault};
     ghost use Rattle.tif_strips.specs.Strips.{strips_per_plane};
     ghost use Rattle.tif_strips.specs.Table.{field_fault};
-    ghost use Rattle.tif_strips.specs.Strip.{strip_of};
+    ghost use Rattle.tif_strips.specs.Strip.{fault_of, strip_of};
     ghost use Rattle.tif_strips.specs.Planes.{ahead_of, aheads_of, strip_samples};
 
     /// Reads the two fields that locate the strips.
@@ -93,6 +93,13 @@ impl<'a> StripTable<'a> {
             size: self.sizes.at(i),
             needed: self.shape.needed_len(i),
         }
+    }
+
+    /// Tests that a strip lies in the file and has the samples that it needs.
+    pub(crate) fn check(&self, strip: Strip) -> Result<(), TagFault>
+        ensures { result_err result ≡ fault_of self.now.shape.packed self.now.bytes strip }
+    {
+        strip.check(self.bytes, self.shape.packed)
     }
 
     /// Starts at the first sample of strip `i` of each plane.

@@ -1,13 +1,14 @@
 // The tested strips of an image.
-ghost use Rattle.std.specs.Prelude.{◌≡◌, ◌↔◌, IsTrue, IfOk, None};
+ghost use Rattle.std.specs.Prelude.{◌≡◌, IfOk, None};
 ghost use Rattle.std.specs.Result.{result_err};
 ghost use Rattle.tif_strips.specs.Strips.{IsStriped, strip_fault};
 
-use crate::strip::Strip;
 use crate::strip_table::StripTable;
+use crate::walk::{test, test_wide};
 use crate::{RowCursor, Shape};
 use pr_base::TagFault;
 use std::marker::Model;
+use std::thread::Threads;
 use tif_dir::Dir;
 
 /// The strips of an image, all of which are within the file and have the samples that they need. Contracts
@@ -38,16 +39,30 @@ impl<'a> Strips<'a> {
         ensures fault { result_err result ≡ strip_fault shape bytes.now }
     {
         let table = StripTable::read(bytes, dir, shape)?;
-        // Consecutive strips with the same offset, size and needed bytes are tested once.
-        let mut passed = None;
-        for i in 0..shape.strip_count() {
-            let strip = table.strip(i);
-            if !is_again(passed, strip) {
-                strip.check(bytes, shape.packed)?;
-                passed = Some(strip);
-            }
+        match test(&table, 0, shape.strip_count()) {
+            Some(fault) => Err(fault),
+            None => Ok(Strips { table }),
         }
-        Ok(Strips { table })
+    }
+
+    /// The same by at most `threads` threads.
+    pub fn check_wide<T: Threads + Sync>(
+        rt: &T,
+        threads: usize,
+        bytes: &'a [u8],
+        dir: &Dir<'a>,
+        shape: Shape,
+    ) -> Result<Strips<'a>, TagFault>
+        requires dir { dir.now ≡ bytes.now }
+        requires shape { IsStriped shape }
+        ensures strips { IfOk result (λ strips. strips ≡ record { shape = shape; bytes = bytes.now }) }
+        ensures fault { result_err result ≡ strip_fault shape bytes.now }
+    {
+        let table = StripTable::read(bytes, dir, shape)?;
+        match test_wide(rt, threads, &table, 0, shape.strip_count()) {
+            Some(fault) => Err(fault),
+            None => Ok(Strips { table }),
+        }
     }
 
     /// Returns the strips of an image whose tests are known to pass, without reading any strip. `dir` is
@@ -70,11 +85,4 @@ impl<'a> Strips<'a> {
     {
         RowCursor::new(self.table.copied())
     }
-}
-
-// Returns whether the strip equals the last one that passed.
-fn is_again(passed: Option<Strip>, strip: Strip) -> bool
-    ensures { IsTrue result ↔ (passed ≡ Some strip) }
-{
-    passed == Some(strip)
 }

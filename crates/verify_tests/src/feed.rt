@@ -14,6 +14,7 @@ use pr_ports::Shelf;
 use press_feed::{Feed, Job, prepare};
 use std::alloc::Global;
 use std::process::Abort;
+use std::thread::Threads;
 
 // Whether `verify` finds the four plates of a job below OUT to be the same.
 fn are_same<F: RowFeed, H: Shelf>(alloc: Global, job: &Job, feed: &mut F, shelf: &mut H) -> bool
@@ -26,11 +27,15 @@ fn are_same<F: RowFeed, H: Shelf>(alloc: Global, job: &Job, feed: &mut F, shelf:
 }
 
 // Prepares the job of a plan whose files are on a shelf.
-fn job_of<R: Abort + AllocGlobal, H: Shelf>(rt: &R, plan: &str, shelf: &mut H) -> Job {
+fn job_of<R: Abort + AllocGlobal + Threads + Sync, H: Shelf>(
+    rt: &R,
+    plan: &str,
+    shelf: &mut H,
+) -> Job {
     let Ok(plan) = read_plan(rt.alloc(), plan.as_bytes()) else {
         rt.abort();
     };
-    match prepare(rt.alloc(), plan, "FILES", shelf) {
+    match prepare(rt, rt.alloc(), plan, "FILES", shelf) {
         Ok(job) => job,
         Err(_) => rt.abort(),
     }
@@ -45,7 +50,11 @@ fn looks<R: Abort + AllocGlobal, H: Shelf>(rt: &R, job: &Job, shelf: &mut H) -> 
 }
 
 // Whether the plates of a plan's job are the same.
-fn looks_at_plan<R: Abort + AllocGlobal, H: Shelf>(rt: &R, plan: &str, shelf: &mut H) -> bool {
+fn looks_at_plan<R: Abort + AllocGlobal + Threads + Sync, H: Shelf>(
+    rt: &R,
+    plan: &str,
+    shelf: &mut H,
+) -> bool {
     let job = job_of(rt, plan, shelf);
     looks(rt, &job, shelf)
 }

@@ -6,7 +6,7 @@ use Rattle.pr_base.proofs.Firsts.{first_some-on, first_some-found, first_some-en
 use Rattle.press_job.proofs.file_test.test_uses_on_pages.Goals as goal
 
 pub loop-page-preserved : goal.loop-page-preserved
-loop-page-preserved c = record {
+loop-page-preserved g c = record {
   same = c.test_uses_in_layers.ensures.file ∙ c.loop-page.invariant.same;
   ahead =
       rw c.test_uses_in_layers.ensures.file
@@ -14,12 +14,12 @@ loop-page-preserved c = record {
 }
 
 pub returns-in_err-test_uses_in_layers-clause-first : goal.returns-in_err-test_uses_in_layers-clause-first
-returns-in_err-test_uses_in_layers-clause-first c =
+returns-in_err-test_uses_in_layers-clause-first g c =
     let p = err_from_is_err_and c.from_residual.result c.from_residual.ensures.1 in
     rw (p.1, p.2, ← c.loop-page.invariant.same)
     (first_some-found (page_fault c.args.file c.loop-page.test) c.args.pages.now c.loop-page.page-index c.page-item.result _ (omega arith) c.loop-page.invariant.ahead (c.in_err-test_uses_in_layers.ensures.first ∙ ap (first_some (layer_fault c.args.file c.loop-page.test)) c.layers_on.ensures ∙ ap (page_fault c.args.file c.loop-page.test) c.page-item.is))
 
 pub returns-clause-first : goal.returns-clause-first
-returns-clause-first c =
+returns-clause-first g c =
     rw (← c.loop-page.invariant.same)
     (first_some-end (page_fault c.args.file c.loop-page.test) c.args.pages.now c.loop-page.page-index (omega arith) (omega arith) c.loop-page.invariant.ahead)

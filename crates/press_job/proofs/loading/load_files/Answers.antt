@@ -14,6 +14,7 @@ loop-file-init g c = record {
   limits = none_within c.new-files.result c.new-files.ensures;
   held = refl;
   missed = refl;
+  faults = refl;
   faults_stay = omega arith;
   longs_stay = omega arith;
 }
@@ -30,6 +31,7 @@ loop-file-preserved g c =
       limits = subst {A = List (List ℕ)} AreWithin (sym c.in_ok-push.ensures) (within_more c.loop-file.files c.in_ok-bytes.bytes.items all.limits (subst {A = ℕ} (λ most. length c.in_ok-bytes.bytes.items ≤ most) (c.limit_behind-limit.ensures.limit ∙ ap limit_behind (sym all.loaded.room)) c.in_ok-bytes.ensures.within));
       held = c.in_ok-bytes.ensures.shelf.held ∙ all.held;
       missed = c.in_ok-bytes.ensures.shelf.done_missed ∙ all.missed;
+      faults = c.in_ok-bytes.ensures.shelf.done_faults ∙ all.faults;
       faults_stay = omega (arith, c.in_ok-bytes.ensures.shelf.faults_stay, all.faults_stay);
       longs_stay = omega (arith, c.in_ok-bytes.ensures.shelf.longs_stay, all.longs_stay);
     }

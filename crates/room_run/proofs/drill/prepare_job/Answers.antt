@@ -7,7 +7,7 @@ use Rattle.room_run.proofs.DrillVerdict.{never_missing}
 use Rattle.room_run.proofs.drill.prepare_job.Goals as goal
 
 pub unreachable-requires-in-Err-Shelf : goal.unreachable-requires-in-Err-Shelf
-unreachable-requires-in-Err-Shelf c =
+unreachable-requires-in-Err-Shelf g c =
     let path : List ℕ = c.in-Err-Shelf._path in
     let old = c.new-shelf.result in
     let new = c.prepare.new.shelf in
