@@ -224,7 +224,7 @@ def strangers(tried, paper, folder):
     os.symlink(os.path.join(spool.folder, "page.tif"), page)
     events = spool.rest("a link in the place of a page")
     texts = [event["text"] for event in events if event["event"] == "fault"]
-    spool.holds("the link isn't followed", texts == ["waits for its pages: A3-text.tif isn't there"], texts)
+    spool.holds("the link isn't followed", texts == ["waits for its pages: A3-text.tif is missing"], texts)
     os.remove(page)
     os.rename(os.path.join(spool.folder, "page.tif"), page)
     spool.rest("the page itself")

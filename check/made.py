@@ -125,7 +125,7 @@ class Make:
         path = os.path.join(self.work, "files", "A3-text.tif")
         os.rename(path, path + ".away")
         answer, report = self.makes("no file", 4, [], current=False)
-        line = "north: fault: A3-text.tif (line): isn't there, or can't be read; page A3 layer 0"
+        line = "north: fault: A3-text.tif (line): is missing or can't be read; page A3 layer 0"
         self.holds("no file, line", line in report["refused"] and line in answer.stdout, report)
         os.rename(path + ".away", path)
         for name, text in (("wrong", "{"), ("again", json.dumps(dict(self.paper.plans("MORNING"))["north"]))):

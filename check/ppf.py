@@ -290,7 +290,7 @@ def see_refusals(results, folder, plates):
         ((plates, out, "--keys", 0), "", "1 to 64"),
         ((plates, out, "--house", os.path.join(folder, "away.toml")), "", "No such file"),
         ((plates, out, "--house", house), "keys = 3", "keys is no table"),
-        ((plates, out, "--house", house), "[keys\n", "no TOML"),
+        ((plates, out, "--house", house), "[keys\n", "not TOML"),
         ((plates, out, "--house", house), "[keys]\noffset = 3", "keys.width is no length"),
         ((plates, out, "--house", house), "[keys]\nwidth = 0", "keys.width is no length"),
         ((plates, out, "--house", house), '[keys]\nwidth = 30\noffset = "1"', "keys.offset is no length"),

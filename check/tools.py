@@ -374,8 +374,8 @@ def see_check(results, program, folder):
         f"fault: good.tif (contone cropped to [4, 0, 5, 1]): tag 256: crop; page q layer {number}",
         f"fault: wide.tif (mask of good.tif): tag 256: mask size; page q layer {number + 1}",
         f"fault: good.tif (mask): tag 277: samples; page q layer {number + 2}",
-        f"fault: away.tif (line): isn't there, or can't be read; page q layer {number + 3}",
-        f"fault: away.tif (contone): isn't there, or can't be read; page q layer {number + 4}",
+        f"fault: away.tif (line): is missing or can't be read; page q layer {number + 3}",
+        f"fault: away.tif (contone): is missing or can't be read; page q layer {number + 4}",
     ]
     lines = [line for line in out.splitlines() if line.startswith("fault: ")]
     results.see(status == 4, f"damaged files: status {status}, {error}")
@@ -406,7 +406,7 @@ def see_check(results, program, folder):
     for words, status, said in (
         (("away.json", folder), 2, "away.json: No such file"),
         ((), 2, "required: PLAN, FILES"),
-        ((os.path.join(EXAMPLES, "edition.json"), "away"), 2, "away: no folder"),
+        ((os.path.join(EXAMPLES, "edition.json"), "away"), 2, "away: not a folder"),
         ((os.path.join(EXAMPLES, "edition.json"), EXAMPLES, "--program", "/away"), 2, "/away"),
         ((os.path.join(EXAMPLES, "edition.json"), EXAMPLES, "--program", "/bin/ls"), 2, "ended with"),
     ):
@@ -440,7 +440,7 @@ def see_notes(results, checked, folder):
             changed(page, ("pages/0/layers", [cyan])),
             "page p layer 0: the page prints K, so the C of cyan.tif is left out",
         ),
-        (changed(page, ("pages/0/layers", [black | {"x": 8}])), "page p layer 0: lies outside its page"),
+        (changed(page, ("pages/0/layers", [black | {"x": 8}])), "page p layer 0: is outside its page"),
         (
             changed(page, ("pages/0/layers", [black | {"x": 3}])),
             "page p layer 0: 3 pixels past the page's right edge aren't shown",
@@ -453,23 +453,23 @@ def see_notes(results, checked, folder):
             changed(page, ("pages", base()["pages"] + [{"name": "r", "inks": "K", "layers": []}])),
             "page r: no site prints it",
         ),
-        (changed(page, ("zones", [{"name": "z", "replace": [PUT]}])), "zone z: no site has it"),
+        (changed(page, ("zones", [{"name": "z", "replace": [PUT]}])), "zone z: no site uses it"),
         (
             changed(page, ("zones", [{"name": "z", "replace": [PUT]}]), ("sites/0/zone", "z")),
             "page p: no site prints it",
         ),
         (
             changed(page, ("curves", {"K": [[0, 3], [255, 255]]})),
-            "curve K: makes 3 of 0, and so prints on bare paper",
+            "curve K: maps 0 to 3, so it prints on bare paper",
         ),
         (
             changed(page, ("curves", {"K": [[0, 0], [255, 250]]})),
-            "curve K: makes 250 of 255, and so screens what is solid",
+            "curve K: maps 255 to 250, so solids are screened",
         ),
-        (changed(page, ("limit", 240)), "limit 240: these are 94 percent of ink; 240 percent are 612"),
+        (changed(page, ("limit", 240)), "limit 240: this is 94 percent of ink; 240 percent is 612"),
         (
             changed(page, ("tiles", [TILE | {"at": [0, 64, 128, 255]}])),
-            "tile T: 1 of its thresholds are 255, where not even full ink prints",
+            "tile T: 1 of its thresholds are 255, where even full ink does not print",
         ),
         (
             changed(page, ("marks", [MARK, MARK | {"inks": "S"}])),
@@ -477,7 +477,7 @@ def see_notes(results, checked, folder):
         ),
         (
             changed(page, ("pages/1/inks", "CMYKS"), ("pages/1/layers", [spot, cyan])),
-            "page q layer 1: a contone image in knockout takes away the spot of layer 0 below it",
+            "page q layer 1: a contone image in knockout removes the spot of layer 0 below it",
         ),
         (
             changed(page, ("pages/1/layers", [cyan | {"mask": "white.tif"}])),
@@ -493,7 +493,7 @@ def see_notes(results, checked, folder):
         ),
         (
             json.dumps(base())[:-1] + ', "dpi": 600}',
-            "the key 'dpi' stands twice in an object, and the last one counts",
+            "the key 'dpi' occurs twice in an object; the last one counts",
         ),
     ]
     for plan, line in cases:
@@ -653,12 +653,12 @@ def see_bad_proofs(results, folder, plates, site, read):
         (good[:4] + struct.pack("<I", len(good)) + good[8:], "cut off"),
         (good[: place + 40], "cut off"),
         (entry(0, tag=255), "tag 256 isn't there"),
-        (entry(6, value=4), "no plate: it has 4 samples of 1 bits"),
+        (entry(6, value=4), "not a plate: it has 4 samples of 1 bits"),
         (entry(0, value=831), "831 by 280 pixels"),
         (entry(5, value=len(good)), "cut off"),
         (entry(5, count=1), "tag 273 has fewer values than there are strips"),
         (good[:counts] + struct.pack("<I", 3) + good[counts + 4 :], "strip 0 is too short"),
-        (GOOD, "no plate: it has 4 samples of 8 bits"),
+        (GOOD, "not a plate: it has 4 samples of 8 bits"),
     ]
     bad = os.path.join(folder, "SITE")
     os.makedirs(bad)
@@ -828,7 +828,7 @@ def see_tiles(results, program, folder):
         (
             ("K45", "--angle", 45, "--ruling", 600),
             1,
-            "no tile of side up to 64 comes near 45 degrees and 600",
+            "no tile of side up to 64 is near 45 degrees and 600",
         ),
         (("K45", "--angle", 45, "--ruling", 5), 1, "the nearest has"),
         (("K45", "--angle", 45, "--ruling", 100, "--wedge", "/away/x.png"), 2, "/away/x.png"),

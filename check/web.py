@@ -103,13 +103,13 @@ def see_refusals(results, folder, plan, plates, out):
     os.chmod(os.path.join(fake, "vips"), 0o755)
     for words, environment, said in (
         ((plates, kept), {}, "something else than a proof"),
-        ((plates, os.path.join(kept, "letter.txt")), {}, "is no folder"),
+        ((plates, os.path.join(kept, "letter.txt")), {}, "not a folder"),
         ((empty, out), {}, "no plates"),
         ((os.path.join(folder, "away"), out), {}, "No such file"),
         ((plates, out, "--old", empty), {}, "no plates"),
-        ((plates, out, "--plan", os.path.join(out, "web.js")), {}, "no edition plan"),
+        ((plates, out, "--plan", os.path.join(out, "web.js")), {}, "not an edition plan"),
         ((plates, out, "--keys", 65), {}, "1 to 64"),
-        ((plates, out, "--house", os.path.join(out, "web.js")), {}, "no TOML"),
+        ((plates, out, "--house", os.path.join(out, "web.js")), {}, "not TOML"),
         ((plates, out), {"PATH": fake + ":" + os.environ["PATH"]}, "no room left"),
         ((plates, out), {"PATH": kept}, "apt-get install libvips-tools"),
     ):
