@@ -1,12 +1,13 @@
 #!/usr/bin/env python3
-"""Lets one allocation of a command fail, each in turn, and looks at what the command makes of it.
+"""Makes each allocation of a command fail in turn, and checks the command's result.
 
 usage: check/allocations.py PROGRAM [COMMAND ..]
 
-The commands are those of plateroom (all): run, keys, verify and replate over the small edition of examples/, one of an
-image, and drill 7. Each ends with 6 and the line on memory, with a front of the text and of each plate, or with 0 and
-all of them, where it does without what it asked for, as without a thread. Texts and plates are those of the definitions. It wants a C compiler, as `cc`, and takes some minutes,
-so the gate doesn't run it. It prints how many allocations each command has and closes with `N passed, M failed`.
+The commands are those of plateroom (default: all): run, keys, verify and replate over the small edition of
+examples/, one of an image, and drill 7. Each must end with 6 and the line on memory, with a front of the text
+and of each plate; or with 0 and all of them, where it does without what it asked for, such as a thread. Texts
+and plates are those of the definitions. It needs a C compiler, as `cc`, and takes some minutes, so the gate
+doesn't run it. It prints how many allocations each command has and ends with `N passed, M failed`.
 """
 import json
 import os

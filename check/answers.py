@@ -1,4 +1,4 @@
-"""What the program answers: each status with its line, and on which stream, from real files and folders."""
+"""The answers of the program: each status with its line, and on which stream, from real files and folders."""
 import json
 import os
 import re

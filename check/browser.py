@@ -1,4 +1,4 @@
-"""The proof in a real browser: opens links, takes pictures of the plates, presses keys and drags."""
+"""The proof in a real browser: opens links, takes screenshots of the plates, presses keys and drags."""
 import io
 import shutil
 import time

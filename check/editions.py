@@ -1,7 +1,7 @@
-"""Editions that the program is tried with: their plans, and their images in all the forms that are taken.
+"""Editions to test the program with: their plans, and their images in all accepted forms.
 
-All is made of fixed seeds. Images are written by code of their own, with packets of PackBits that no packing by a
-rule would choose: short, across rows, with headers that give nothing.
+Everything comes from fixed seeds. Images are written by separate code, with packets of PackBits that no
+regular packer would choose: short, across rows, with headers that give nothing.
 """
 import json
 import os

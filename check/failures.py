@@ -1,5 +1,6 @@
-"""What fails under `pressroom night`, and that it goes on: delivery, the disk, the clock, the house file,
-odd folders."""
+"""Failures under `pressroom night`, which must continue: delivery, the disk, the clock, the house file, odd
+folders.
+"""
 import json
 import os
 import shutil

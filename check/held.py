@@ -1,4 +1,6 @@
-"""What `verify` says of plates that a run left, and of such as were changed, cut, replaced or taken away."""
+"""What `verify` reports for plates that a run left, and for plates that were changed, cut, replaced or
+removed.
+"""
 import os
 import shutil
 

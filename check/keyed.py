@@ -1,4 +1,6 @@
-"""What `keys` tells of an edition: the plates and the report of `run`, and the counts of each plate's ink keys."""
+"""What `keys` reports for an edition: the plates and the report of `run`, and the counts of each plate's ink
+keys.
+"""
 import os
 import shutil
 

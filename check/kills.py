@@ -1,5 +1,6 @@
-"""A night that is killed at moments by chance, again and again, until it rests: nothing that is READY is
-ever wrong."""
+"""A night that is killed at random moments, again and again, until it rests: nothing that is READY is ever
+wrong.
+"""
 import collections
 import json
 import os

@@ -1,4 +1,4 @@
-"""What `replate` makes of an edition that changed, and that all other plates stay as they lie there."""
+"""What `replate` makes of an edition that changed, and that all other plates are unchanged."""
 import json
 import os
 import random

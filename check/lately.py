@@ -1,5 +1,6 @@
-"""What `pressroom late` does: which plates it makes, that the version before stays, and which pages it
-refuses."""
+"""What `pressroom late` does: which plates it makes, that the version before is unchanged, and which pages it
+refuses.
+"""
 import json
 import os
 import shutil

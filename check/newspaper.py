@@ -1,12 +1,12 @@
 #!/usr/bin/env python3
-"""Makes the newspaper of examples/newspaper, runs the program on it, and looks at what its plates print.
+"""Makes the newspaper of examples/newspaper, runs the program on it, and checks what its plates print.
 
     python3 check/newspaper.py PROGRAM
 
-The ink of each step of the wedges is within one percent of what the curve, the limit and the screen say, each
-plate bears its own name, the spot stands under its mask, and sites that share a pair have the same bytes.
-Plates are read by a reader of this file's own. It needs nothing but Python; the proof is looked at where
-Pillow and numpy are there. The last line is `N passed, M failed`, and the status is 1 where one failed.
+The ink of each step of the wedges is within one percent of what the curve, the limit and the screen give,
+each plate has its own name, the spot is under its mask, and sites that share a pair have the same bytes. This
+file has its own reader of plates. It needs only Python; the proof is checked if Pillow and numpy are
+installed. The last line is `N passed, M failed`, and the status is 1 if one failed.
 """
 import importlib.util
 import json

@@ -1,10 +1,10 @@
 #!/usr/bin/env python3
-"""Tries `pressroom make`, `late` and `night` on the newspaper of examples/ at a quarter of its size.
+"""Tests `pressroom make`, `late` and `night` on the newspaper of examples/ at a quarter of its size.
 
     check/night.py PROGRAM [--kills N]
 
-Plates are compared with those of a run of the program alone. What isn't installed is skipped and said so. The
-last line is `N passed, M failed`, and the status is 1 where one failed.
+Plates are compared with those of a run of the program alone. It skips and reports what isn't installed. The
+last line is `N passed, M failed`, and the status is 1 if one failed.
 """
 import argparse
 import functools

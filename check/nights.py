@@ -1,5 +1,4 @@
-"""A whole night by `pressroom night`: editions that come in one way and another, late pages, metrics,
-retention."""
+"""A whole night of `pressroom night`: editions that arrive in different ways, late pages, metrics, retention."""
 import os
 import re
 import shutil

@@ -3,12 +3,12 @@
 
     check/package.py PROGRAM [--base FOLDER]
 
-Two packages are made with the program: of the last commit, and of the last commit that has an older
-version. They go into a root folder by debootstrap with the recommended packages and systemd, which doesn't
-run there. The newspaper is made by a user of no privilege. At the end the root has to be as it was, file by
-file, but for caches, logs and what apt and dpkg know. FOLDER keeps the clean root for the next time;
-without it the root is made anew, some 200 MB from Debian's mirror. It needs root, debootstrap and what
-package/deb.sh needs. The last line is `N passed, M failed`, and the status is 1 where one failed.
+Two packages are made with the program: of the last commit, and of the last commit that has an older version.
+They go into a root folder made by debootstrap with the recommended packages and systemd, which doesn't run
+there. A user without privileges makes the newspaper. At the end the root must be unchanged, file by file,
+except caches, logs and the records of apt and dpkg. FOLDER keeps the clean root for the next time; without it
+the root is made anew, some 200 MB from Debian's mirror. It needs root, debootstrap and what package/deb.sh
+needs. The last line is `N passed, M failed`, and the status is 1 if one failed.
 """
 import argparse
 import hashlib

@@ -1,12 +1,12 @@
 #!/usr/bin/env python3
-"""Tries tools/parts.py: what it cuts editions by chance into, and that it refuses what the program refuses.
+"""Tests tools/parts.py: how it cuts random editions, and that it refuses what the program refuses.
 
     check/parts.py PROGRAM [COUNT]
 
-Of each of COUNT editions (200): that by the definitions each plate of the whole is in exactly one part and made of
-the same there; what the lines of the parts say; that the program takes each part, and that what all of them leave
-is what one run of the whole does, byte for byte; and what `verify` and `replate` say of it. The last line is
-`N passed, M failed`, and the status is 1 where one failed.
+For each of COUNT editions (200) it checks that by the definitions each plate of the full edition is in
+exactly one part and made from the same there; what the lines of the parts say; that the program accepts each
+part, and that all of them leave what one run of the full edition does, byte for byte; and what `verify` and
+`replate` report of it. The last line is `N passed, M failed`, and the status is 1 if one failed.
 """
 import json
 import os

@@ -1,4 +1,4 @@
-"""Which plates of a new edition must be made beside those of an old one, by the definitions alone."""
+"""Which plates of a new edition must be made, given those of an old one, by the definitions alone."""
 import functools
 import os
 

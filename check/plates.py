@@ -4,7 +4,7 @@
     plateroom run PLAN FILES OUT
     python3 check/plates.py PLAN FILES OUT
 
-It shares no code with plateroom, looks at nothing that plateroom wrote but to compare it, and is slow: it is for
+It shares no code with plateroom and reads what plateroom wrote only to compare it. It is slow: it is for
 small editions.
 """
 import json

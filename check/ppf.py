@@ -1,11 +1,11 @@
 #!/usr/bin/env python3
-"""Tries `pressroom ppf`: Ghostscript draws the previews of its files, and they are what the plates print.
+"""Tests `pressroom ppf`: Ghostscript draws the previews of its files, which must be what the plates print.
 
     python3 check/ppf.py PROGRAM
 
 Plates are read by check/tiff.py, which shares no code with the tools, and the tables are compared with the
-program's own `keys`. What is missing of numpy, Pillow and Ghostscript is named, and the trials that need it
-are skipped. The last line is `N passed, M failed`, and the status is 1 where one failed.
+program's own `keys`. It names what is missing of numpy, Pillow and Ghostscript, and skips the tests that need
+it. The last line is `N passed, M failed`, and the status is 1 if one failed.
 """
 import csv
 import json

@@ -1,5 +1,6 @@
-"""What the trials of make, late and night share: the newspaper at a quarter of its size, a program that
-fails when it is told to, and what READY folders must hold."""
+"""What the tests of make, late and night share: the newspaper at a quarter of its size, a program that fails
+on request, and what READY folders must hold.
+"""
 import hashlib
 import json
 import os

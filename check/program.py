@@ -1,10 +1,10 @@
 #!/usr/bin/env python3
-"""Tries the built program, as a user starts it, and compares what it makes with the definitions.
+"""Tests the built program, started as a user starts it, and compares what it makes with the definitions.
 
 usage: check/program.py PROGRAM
 
-Its last line is `N passed, M failed`; it ends with status 1 where something failed. It proves nothing: what it
-shows is that the program hands its words, the machine's files and the streams on as it should, on this machine.
+The last line is `N passed, M failed`; the status is 1 if something failed. It proves nothing: it shows that
+the program passes on its arguments, the machine's files and the streams as it should, on this machine.
 """
 import json
 import os

@@ -3,11 +3,11 @@
 
     check/queues.py PROGRAM
 
-Each time one part is killed in the middle, named, and made when the script runs again, and then plates and report are
-those of one run, byte for byte; a site's folder that can't be written is named, and its part alone is made again; a
-refused plan is refused by the program's line. What isn't installed is skipped and said so. Slurm runs on this machine
-alone: a controller and two nodes on loopback addresses, in a folder of their own. The last line is `N passed, M
-failed`, and the status is 1 where one failed.
+Each time one part is killed in the middle, named, and made when the script runs again; then plates and report
+are those of one run, byte for byte. A site's folder that can't be written is named, and only its part is made
+again. A plan that the program refuses is refused with the program's line. It skips and reports what isn't
+installed. Slurm runs on this machine only: a controller and two nodes on loopback addresses, in a folder of
+their own. The last line is `N passed, M failed`, and the status is 1 if one failed.
 """
 import contextlib
 import json

@@ -1,13 +1,13 @@
 #!/usr/bin/env python3
-"""Tries the Debian package of the last commit: that it is the same twice, and that all in it says what it is.
+"""Tests the Debian package of the last commit: that two builds are the same, and that all its parts agree.
 
     check/release.py PROGRAM
 
 The package is made twice, in two clones whose path, times of files, umask, locale, time zone and threads
 differ. Then one is unpacked, not installed (check/package.py installs it). It needs git, dpkg-deb, scdoc,
-strip, objcopy and Debian's python3, and says so where one is missing; what needs man, lintian or
-bash-completion is left out where they are missing. The last line is `N passed, M failed`, and the status is
-1 where one failed.
+strip, objcopy and Debian's python3, and reports which are missing. It leaves out what needs man, lintian or
+bash-completion where they are missing. The last line is `N passed, M failed`, and the status is 1 if one
+failed.
 """
 import gzip
 import hashlib

@@ -1,4 +1,4 @@
-"""TIFF files by the definitions: what an image holds, and what a plate's file is."""
+"""TIFF files by the definitions: the contents of an image, and a plate's file."""
 import struct
 
 

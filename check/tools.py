@@ -1,11 +1,11 @@
 #!/usr/bin/env python3
-"""Tries the companions of tools/ and the schema of plans: what they make, and that they name what is wrong.
+"""Tests the programs of tools/ and the schema of plans: what they make, and that they name what is wrong.
 
     python3 check/tools.py PROGRAM
 
-The schema is held against plans whose answers the program gives here. What needs a library that isn't
-installed (Pillow, numpy, jsonschema) is skipped and said so. The last line is `N passed, M failed`, and the
-status is 1 where one failed.
+The schema is compared with the program's verdicts on the plans here. It skips and reports what needs a
+library that isn't installed (Pillow, numpy, jsonschema). The last line is `N passed, M failed`, and the
+status is 1 if one failed.
 """
 import copy
 import cmath

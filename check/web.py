@@ -1,11 +1,11 @@
 #!/usr/bin/env python3
-"""Tries `pressroom web` in a real browser: what stands on the screen is compared with the bits of the plates.
+"""Tests `pressroom web` in a real browser: compares what the screen shows with the bits of the plates.
 
     python3 check/web.py PROGRAM
 
-Plates are read by check/tiff.py, which shares no code with the tools. What is missing of vips, Leaflet,
-numpy, Pillow, selenium, chromium and chromedriver is named, and the trials that need it are skipped. The
-last line is `N passed, M failed`, and the status is 1 where one failed.
+Plates are read by check/tiff.py, which shares no code with the tools. It names what is missing of vips,
+Leaflet, numpy, Pillow, selenium, chromium and chromedriver, and skips the tests that need it. The last line
+is `N passed, M failed`, and the status is 1 if one failed.
 """
 import functools
 import http.server

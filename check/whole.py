@@ -1,4 +1,4 @@
-"""Plates are whole under their names: beside another run, after a kill, on a full disk, among links."""
+"""Plates are whole under their names: with another run, after a kill, on a full disk, among links."""
 import contextlib
 import fcntl
 import os

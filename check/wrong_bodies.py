@@ -1,18 +1,20 @@
 #!/usr/bin/env python3
-"""Tries the wrong bodies of check/wrong-bodies: the prover has to refuse each.
+"""Tests the wrong bodies of check/wrong-bodies: the prover must refuse each.
 
 usage: check/wrong_bodies.py [--jobs N] [--clone FOLDER] [CRATE ..]
 
-They have the form of the gate's own, crates/NAME/must-fail/*.edit, and stand apart from these so that the gate takes
-less time. Without CRATE those of all crates are tried, N crates at a time (as many as there are processors, at most
-two gigabytes of memory each). The trial works on the committed files, in a clone: in FOLDER, which is kept, so that a
-second trial finds the libraries proved; else in a temporary folder, which gets the libraries that this repository
-built.
+They have the form of the gate's own, crates/NAME/must-fail/*.edit, and are kept apart from these so that the
+gate takes less time. Without CRATE those of all crates are tested, N crates at a time (as many as there are
+processors, at most two gigabytes of memory each). The test works on the committed files, in a clone: in
+FOLDER, which is kept, so that a second test finds the libraries proved; otherwise in a temporary folder,
+which gets the libraries that this repository built.
 
-It prints a line for each wrong body: where it was refused. Refused at a clause means: at a clause of the function that
-it changes, or at the condition of a call which that function makes. What isn't refused so stands in a table at the end.
+It prints a line for each wrong body: where it was refused. "Refused at a clause" means a clause of the
+function that it changes, or the condition of a call that this function makes. The others are listed in a
+table at the end.
 
-status: 0 each is refused; 1 one isn't, or can't be applied; 2 the arguments are wrong, or the trial couldn't be made
+status: 0 each is refused; 1 one isn't, or can't be applied; 2 the arguments are wrong, or the test couldn't
+be made
 """
 import argparse
 import collections
