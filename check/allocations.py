@@ -59,14 +59,14 @@ void *malloc(size_t size) {
 
 
 class Command:
-    """A command: its words, what it prints where memory is there, and the plates that lie below OUT then."""
+    """A command: its arguments, what it prints if memory suffices, and the plates below OUT then."""
 
     def __init__(self, words, text, plates=()):
         self.words, self.text, self.plates = words, text, dict(plates)
 
 
 def commands(folder):
-    """Each command over the small edition, whose plates lie below WHOLE."""
+    """Each command over the small edition, whose plates are below WHOLE."""
     with open(os.path.join(EXAMPLES, "edition.json"), encoding="utf-8") as file:
         edition = Edition(json.load(file), EXAMPLES)
     before = Edition({**edition.plan, "screens": {**edition.plan["screens"], "C": "bayer4"}}, EXAMPLES)
@@ -91,7 +91,7 @@ def commands(folder):
 
 
 def finished(plates, out):
-    """Those of the plates that lie there whole."""
+    """Those of the plates that are complete."""
     there = {}
     for path, plate in plates.items():
         if os.path.isfile(os.path.join(out, path)):

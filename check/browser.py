@@ -20,7 +20,7 @@ except ImportError:
     numpy = Keys = None
 
 WAIT = 60
-# Where the middle of the window lies when whole blocks are looked at.
+# The middle of the window when whole blocks are compared.
 MIDDLE = 752, 552
 ARGUMENTS = (
     "--headless=new",
@@ -84,7 +84,7 @@ class Page:
             self.settle()
 
     def box(self):
-        """Where the map lies: left, top, width, height."""
+        """The map's box: left, top, width, height."""
         return [round(value) for value in self.script(BOX)]
 
     def picture(self):
@@ -111,7 +111,7 @@ class Page:
         return picture[top : top + LENGTH // side, left : left + WIDTH // side]
 
     def on_screen(self, pixel, middle):
-        """Where a plate pixel lies on the screen at one to one, when another is in the middle of the map."""
+        """The position of a plate pixel on the screen at one to one, when another is in the middle of the map."""
         left, top, width, height = self.box()
         return left + width // 2 + pixel[0] - middle[0], top + height // 2 + pixel[1] - middle[1]
 

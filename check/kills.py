@@ -73,7 +73,7 @@ class Kills:
                 return
 
     def moment(self, phase):
-        """A moment by chance: a function that says whether it has come, by the events so far."""
+        """A random moment: a function that says whether it has come, by the events so far."""
         _, longest, events = HALVES[phase]
         if self.done % 2:
             end = time.monotonic() + self.chance.uniform(0, longest)
@@ -88,7 +88,7 @@ class Kills:
         return come
 
     def one(self, spool, phase):
-        """A pass that is killed: alone, or with all that it started."""
+        """A pass that is killed: alone, or with everything that it started."""
         words = [sys.executable, "-B", press.ENTRY, "night", spool.path, "--json"]
         alone, come, path = self.chance.random() < 0.3, self.moment(phase), os.path.join(spool.folder, "said")
         with open(path, "w", encoding="utf-8") as said:

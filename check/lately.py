@@ -8,7 +8,7 @@ import shutil
 import press
 from press import SITES, digest, faults_of_ready, faults_of_verify, pressroom
 
-# Stands in for `pressroom intake`: copies each page IN/NAME.pdf, which is a TIFF here, to WORK's file NAME.
+# Replaces `pressroom intake`: copies each page IN/NAME.pdf, which is a TIFF here, to WORK's file NAME.
 INTAKE = """#!/bin/sh
 [ "$1" = intake ] || exec '{entry}' "$@"
 [ -f "$2" ] || exit 2

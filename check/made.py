@@ -10,7 +10,7 @@ from press import SITES, faults_of_ready, faults_of_verify, pressroom, sites_rea
 
 
 class Make:
-    """A WORK folder, an OUT folder, and a program that fails when it is told to."""
+    """A WORK folder, an OUT folder, and a program that fails on request."""
 
     def __init__(self, tried, paper, folder):
         self.tried, self.paper, self.folder = tried, paper, os.path.join(folder, "make")

@@ -112,7 +112,7 @@ def share_of(plan, ink, value):
 
 
 class Edition:
-    """The plan, the plates, and where pages lie on them."""
+    """The plan, the plates, and the positions of pages on them."""
 
     def __init__(self, plan, plates, make):
         self.plan, self.plates, self.make, self.read = plan, plates, make, {}

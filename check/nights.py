@@ -66,7 +66,7 @@ def metrics(spool, wanted):
 
 
 def retention(spool):
-    """Old editions go by the house's rule; the last good one stays, also when a later one fails."""
+    """Old editions are removed by the house's rule; the last good one is kept, also when a later one fails."""
     last = max(("MORNING", "EVENING", "NIGHT"), key=lambda name: spool.state(name)["number"])
     spool.house(keep=1, versions=1, give_up=0.3)
     spool.rest("keep 1")

@@ -67,7 +67,7 @@ class Root:
         self.folder = folder
 
     def run(self, *words, user=None, folder="/"):
-        """Runs a program there, and returns its status and all that it wrote."""
+        """Runs a program there, and returns its status and everything that it wrote."""
         who = [f"--userspec={user}:{user}"] if user else []
         asked = ["chroot", *who, self.folder, "/usr/bin/env", "-i", *ENVIRONMENT, f"HOME={folder}",
                  "sh", "-c", 'cd "$0" && exec "$@"', folder, *words]
@@ -85,7 +85,7 @@ class Root:
         return os.path.join(self.folder, name.lstrip("/"))
 
     def state(self):
-        """Each path there, with all that a package could change of it."""
+        """Each path there, with everything that a package could change of it."""
         found = {}
         for folder, folders, names in os.walk(self.folder):
             here = "/" + os.path.relpath(folder, self.folder) if folder != self.folder else ""
@@ -159,7 +159,7 @@ def try_install(tried, deb, version):
 
 
 def try_old_tools(tried):
-    """Root ran the tools of the older version, and Python left its bytecode beside them."""
+    """Root ran the tools of the older version, and Python left its bytecode next to them."""
     tried.runs("python3", "/usr/share/plateroom/tools/check.py", "--help", says="usage")
     left = tried.root.path("/usr/share/plateroom/tools/__pycache__")
     os.makedirs(left, exist_ok=True)
@@ -202,7 +202,7 @@ def try_newspaper(tried, commands):
     tried.runs("pressroom", "tile", "K45", "--angle", "45", "--ruling", "100", says="K45: side 17", **how)
     for name in commands:
         tried.runs("pressroom", name, "--help", says=f"usage: pressroom {name}", **how)
-    # Once more by root, who may write beside the modules and the examples.
+    # Once more by root, who may write next to the modules and the examples.
     tried.runs("python3", f"{EXAMPLES}/newspaper/make.py", "--art", "/tmp/root", "--plan", "/tmp/root.json")
     tried.runs("pressroom", "check", "/tmp/root.json", "/tmp/root", says="0 faults, 0 notes")
 

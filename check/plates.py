@@ -226,7 +226,7 @@ def row_of(bits):
 
 
 def compared(wanted, out, parts=None):
-    """How a folder of plates differs from those that are wanted, if it does. Of `parts` a front may be there,
+    """How a folder of plates differs from the expected ones, if it does. Of `parts` a front may be present,
     under the name that a plate has until it is whole."""
     faults, parts = [], parts or {}
     found = {os.path.relpath(os.path.join(at, name), out) for at, _, names in os.walk(out) for name in names}
@@ -247,7 +247,7 @@ def compared(wanted, out, parts=None):
 
 
 def is_begun(part, plate):
-    """Whether a file is the front of a plate that isn't finished: the place of its directory is 0."""
+    """Whether a file is the front of a plate that isn't finished: the offset of its directory is 0."""
     return part == (plate[:4] + bytes(4) + plate[8:])[:len(part)] and len(part) < len(plate)
 
 

@@ -276,7 +276,7 @@ def see_damage(results, folder, plates):
         "keys-4.json",
     ]
     results.see(
-        sorted(os.listdir(out)) == names, f"beside a damaged plate there are {sorted(os.listdir(out))}"
+        sorted(os.listdir(out)) == names, f"with a damaged plate there are {sorted(os.listdir(out))}"
     )
 
 

@@ -14,7 +14,7 @@ ENTRY = os.path.join(TOP, "tools", "pressroom.py")
 PRESSES = {"north": ["TROMSO"], "south": ["OSLO", "BERGEN"]}
 SITES = ["OSLO", "BERGEN", "TROMSO"]
 
-# Stands in for the program. The file `fault` says what goes wrong in runs below OUT: a word, and how often.
+# Replaces the program. The file `fault` says what fails in runs below OUT: a word, and how often.
 STAND_IN = """#!/bin/sh
 case "$1" in run | keys) out=$4 ;; replate) out=$6 ;; *) exec '{program}' "$@" ;; esac
 read -r word times < '{folder}/fault'
@@ -58,7 +58,7 @@ class Paper:
             yield press, self.plan | {"edition": edition, "sites": sites}
 
     def work(self, folder, edition="MORNING", files=True):
-        """A WORK folder: plans, and the files where they are wanted."""
+        """A WORK folder: plans, and the files if asked for."""
         os.makedirs(os.path.join(folder, "files"))
         for press, plan in self.plans(edition):
             with open(os.path.join(folder, f"{press}.json"), "w", encoding="utf-8") as file:

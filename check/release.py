@@ -99,7 +99,7 @@ def try_versions(trial, root, control, version):
 
 
 def try_needs(trial, control):
-    """The package names each Debian package that a command of pressroom tells its user to install."""
+    """The package names each Debian package that a command of pressroom asks its user to install."""
     fields = re.findall(r"^(?:Depends|Recommends|Suggests): (.*)$", control, re.MULTILINE)
     named = set(re.findall(r"[\w.+-]+", " ".join(fields)))
     folder = os.path.join(TOP, "tools", "pressroom")
@@ -291,7 +291,7 @@ def try_lintian(trial, deb):
 
 
 def try_held(trial, deb, folder, version):
-    """All that the package holds, and what it says of itself."""
+    """The files of the package, and its own statements."""
     root = os.path.join(folder, "root")
     said("dpkg-deb", "-x", deb, root)
     control = said("dpkg-deb", "-f", deb)

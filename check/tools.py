@@ -27,7 +27,7 @@ EXAMPLES, TOOLS = os.path.join(TOP, "examples"), os.path.join(TOP, "tools")
 
 
 def tool(name, *words):
-    """Runs a companion: its status, what it printed, and its complaint."""
+    """Runs a tool and returns its status, its output and its messages."""
     answer = subprocess.run(
         [sys.executable, "-B", os.path.join(TOOLS, name), *map(str, words)], capture_output=True, text=True
     )
@@ -212,7 +212,7 @@ WRONG = [
 
 
 def see_schema(results, program, folder):
-    """The schema takes and refuses what the program takes and refuses."""
+    """The schema accepts and refuses what the program does."""
     with open(os.path.join(TOP, "docs", "plan.schema.json"), encoding="utf-8") as file:
         schema = json.load(file)
     taken = None
@@ -295,7 +295,7 @@ def image(kind, width=8, length=4, rows=None, **fields):
 
 
 GOOD = image("contone")
-# Each name with its bytes, the use that meets it, and what is said of it.
+# Each name with its bytes, the use that meets it, and the fault.
 DAMAGED = {
     "jpeg.tif": (b"\xff\xd8\xff\xe0" + bytes(60), "contone", "tag 0: header"),
     "cut.tif": (GOOD[:100], "contone", "tag 0: directory"),
@@ -322,7 +322,7 @@ exit 4
 
 
 def see_check(results, program, folder):
-    """Every fault of files at once, what is lost without a word, and the words of the program itself."""
+    """Every fault of files at once, what is lost without a fault, and the lines of the program itself."""
 
     def checked(plan, *words, files=folder):
         path = os.path.join(folder, "plan.json")
@@ -417,7 +417,7 @@ def see_check(results, program, folder):
 
 
 def see_notes(results, checked, folder):
-    """What is lost without a word is a note, and counts under --strict alone."""
+    """What is lost without a fault is a note, and counts only under --strict."""
     black, white = [b"\xff"] * 4, [b"\0"] * 4
     cyan, plain = [b"\x80\0\0\0" * 8] * 4, [b"\0\0\0\x80" * 8] * 4
     for name, data in (
@@ -838,7 +838,7 @@ def see_tiles(results, program, folder):
 
 
 def see_help(results):
-    """Each companion tells its words, a line or two for each, and its statuses."""
+    """Each tool explains its arguments, a line or two for each, and its statuses."""
     for name, first in (
         ("check.py", "PLAN FILES"),
         ("parts.py", "PLAN OUT"),

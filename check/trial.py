@@ -92,7 +92,7 @@ class Trial:
 
 
 def told(words, how):
-    """The command line, and what is peculiar to the run."""
+    """The command line, and what is special in the run."""
     line = " ".join(word if isinstance(word, str) and word else repr(word) for word in words) or "no words"
     for name, stream in zip((">", "2>"), how.get("streams", ())):
         line += f" {name} {stream}" if stream else ""

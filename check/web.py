@@ -218,7 +218,7 @@ def see_zooms(results, page, plates):
 
 
 def see_switches(results, page, plates):
-    """Switches and keys do what they say, at once: no tile is taken away for it."""
+    """Switches and keys work at once: no tile is removed for them."""
     read, (x, y) = plates_of(os.path.join(plates, "OSLO"), "A-001"), MIDDLES[1]
     page.open(f"#pair=A-001&site=OSLO&x={x}&y={y}&z=0")
     page.script("window.kept = [...document.querySelectorAll('#map canvas')]")
@@ -559,7 +559,7 @@ def see_damage(results, page, folder, plan, plates):
     wrong = int((picture != composite(read, "CYKS")[part]).any(axis=2).sum())
     results.see(
         wrong == 0 and not page.find("#switch-M").is_enabled(),
-        f"beside a damaged plate {wrong} pixels differ",
+        f"with a damaged plate {wrong} pixels differ",
     )
     results.see(
         "Magenta is damaged" in page.find("#pair-damage").text,

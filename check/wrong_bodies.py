@@ -42,7 +42,7 @@ def wrong_bodies(crate):
 
 
 def function_at(path, line):
-    """The function that stands at or before this line of a source file."""
+    """The function at or before this line of a source file."""
     with open(path, encoding="utf-8") as file:
         for text in reversed(file.read().split("\n")[:line]):
             found = FUNCTION.match(text)
@@ -52,7 +52,7 @@ def function_at(path, line):
 
 
 def changed_functions(edit, crate_folder):
-    """The functions of src/ whose text a wrong body changes; "" stands for a constant, which any function may read."""
+    """The functions of src/ whose text a wrong body changes; "" means a constant, which any function may read."""
     found, path = set(), ""
     with open(edit, encoding="utf-8") as file:
         for line in file.read().split("\n"):

@@ -19,7 +19,7 @@ def stamp():
 
 
 def elapsed(before):
-    """The seconds since a stamp: by the clock of this boot, otherwise by the hour. None if there is no stamp,
+    """The seconds since a stamp: by the monotonic clock of this boot, otherwise by the hour. None if there is no stamp,
     or if it is in the future, so that the time is unknown."""
     try:
         if before["boot"] == boot():

@@ -105,7 +105,7 @@ class Edition:
 
     def cut(self, sections, sites):
         """The plan of these sections for these sites. A section's own pages are those that the first site
-        without a zone prints, else those of the first site, and zones have what differs from them."""
+        without a zone prints, otherwise those of the first site, and zones have what differs from them."""
         kept = [site for site in self.plan["sites"] if site["name"] in sites]
         own = next((site for site in kept if "zone" not in site), kept[0])["name"]
         of_zone = {site["zone"]: site["name"] for site in kept if "zone" in site}
@@ -157,7 +157,7 @@ def printed(plan, section, site):
 
 
 def grouped(items, fits):
-    """The items in groups: each in the first one into which it fits, else in a group of its own."""
+    """The items in groups: each in the first one into which it fits, otherwise in a group of its own."""
     groups = []
     for item in items:
         group = next((group for group in groups if fits(group, item)), None)

@@ -22,7 +22,7 @@ class Visit(Arrival):
     sums = None
 
     def go(self):
-        """Does all that can be done for the edition now."""
+        """Does everything that can be done for the edition now."""
         self.edition.load()
         self.state = self.edition.state
         if self.state.get("removing"):
