@@ -687,7 +687,7 @@ def see_bad_proofs(results, folder, plates, site, read):
         ((site, out, "--pair", "A-001", "--dots", "1,1,1"), "isn't X,Y,W,H"),
         ((site, out, "--spot", "1,2,256"), "of 0 to 255"),
         ((site, out, "--inks", "CX"), "letters CMYKS"),
-        ((site, out, "--factor", "0"), "from 1 on"),
+        ((site, out, "--factor", "0"), "of 1 or more"),
         ((site, "/away/x.png"), "/away/x.png"),
     ):
         status, _, error = tool("proof.py", *words)
@@ -715,7 +715,7 @@ def see_memory(results, folder):
     _, status, usage = os.wait4(process.pid, 0)
     process.returncode = status
     print(
-        f"proof.py: 60,000 by 40,000 pixels in {usage.ru_utime:.0f} s of processor time and "
+        f"proof.py: 60,000 by 40,000 pixels in {usage.ru_utime:.0f} s of CPU time and "
         f"{usage.ru_maxrss // 1024} MB"
     )
     results.see(status == 0 and usage.ru_maxrss < 200 * 1024, f"status {status}, {usage.ru_maxrss} KiB")
