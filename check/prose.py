@@ -33,6 +33,7 @@ HELD = (
     "docs/PROVED.md",
     "docs/ARCHITECTURE.md",
     "docs/DECISIONS.md",
+    "docs/EXTENDING.md",
     "docs/EDITORS.md",
     "docs/PROOFS.md",
     "docs/SPEED.md",
