@@ -102,7 +102,7 @@ def see_refusals(results, folder, plan, plates, out):
         file.write("#!/bin/sh\necho no room left >&2\nexit 1\n")
     os.chmod(os.path.join(fake, "vips"), 0o755)
     for words, environment, said in (
-        ((plates, kept), {}, "something else than a proof"),
+        ((plates, kept), {}, "other than a proof"),
         ((plates, os.path.join(kept, "letter.txt")), {}, "not a folder"),
         ((empty, out), {}, "no plates"),
         ((os.path.join(folder, "away"), out), {}, "No such file"),
