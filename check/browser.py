@@ -62,7 +62,7 @@ class Page:
         return self.driver.find_element("css selector", name)
 
     def settle(self):
-        """Waits until the data of the pair and all tiles are there. A screenshot then draws them."""
+        """Waits until the data of the pair and all tiles are loaded. A screenshot then draws them."""
         end = time.monotonic() + WAIT
         while time.monotonic() < end:
             if self.script(LOADED):
@@ -116,7 +116,7 @@ class Page:
         return left + width // 2 + pixel[0] - middle[0], top + height // 2 + pixel[1] - middle[1]
 
     def point(self, place):
-        """Moves the mouse to a place of the screen."""
+        """Moves the mouse to a position on the screen."""
         actions = ActionBuilder(self.driver)
         actions.pointer_action.move_to_location(*place)
         actions.perform()
@@ -148,7 +148,7 @@ def touch(page, start, end):
 
 
 def drag(page, start, end, shift=False):
-    """Drags from one place of the screen to another."""
+    """Drags from one position on the screen to another."""
 
     if shift:
         ActionChains(page.driver).key_down(Keys.SHIFT).perform()

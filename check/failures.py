@@ -104,7 +104,7 @@ def two_at_once(tried, paper, folder):
 
 
 def clock(tried, paper, folder):
-    """The clock jumps back by two hours between passes; then the machine starts anew with a clock that is
+    """The clock jumps back by two hours between passes; then the machine restarts with a clock that is
     behind."""
     spool = Spool(tried, paper, folder, "clock")
     if shutil.which("faketime"):
@@ -135,7 +135,7 @@ def clock(tried, paper, folder):
 
 
 def full_disk(tried, paper, folder):
-    """The spool's disk is full in the middle of a night; when there is room, the night goes on."""
+    """The spool's disk is full in the middle of a night; when there is room, the night continues."""
     root = os.path.join(folder, "disk")
     os.mkdir(root)
     if subprocess.run(
@@ -197,7 +197,7 @@ WRONG = [
 
 
 def houses(tried, paper, folder):
-    """A house file that is wrong is named with its line, and nothing begins."""
+    """A wrong house file is named with its line, and nothing begins."""
     spool = Spool(tried, paper, folder, "house")
     for text, line in WRONG:
         os.path.exists(spool.file("house.toml")) and os.remove(spool.file("house.toml"))
@@ -214,7 +214,7 @@ def houses(tried, paper, folder):
 
 
 def strangers(tried, paper, folder):
-    """What doesn't belong in a spool: links, odd names, an empty folder, a state of no edition."""
+    """Files that don't belong in a spool: links, odd names, an empty folder, a state of no edition."""
     spool = Spool(tried, paper, folder, "strangers")
     os.mkdir(spool.file("in", "EMPTY"))
     os.mkdir(spool.file("in", "a name"))
@@ -236,7 +236,7 @@ def strangers(tried, paper, folder):
 
 
 def restoring(tried, paper, folder):
-    """What the manual says of restoring: folders of the spool that are lost come back, and no site gets other bytes."""
+    """Restoring as the manual describes it: lost folders of the spool come back, and no site gets other bytes."""
     spool = Spool(tried, paper, folder, "restoring")
     spool.comes("MORNING")
     spool.rest("first")

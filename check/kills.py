@@ -45,7 +45,7 @@ class Kills:
         self.done = 0
 
     def run(self):
-        """Rounds of three editions and a late page each, until there were enough kills."""
+        """Runs rounds of three editions and a late page each, until there were enough kills."""
         while self.done < self.kills:
             self.rounds += 1
             spool = Spool(self.tried, self.paper, self.folder, f"killed{self.rounds}")
@@ -64,7 +64,7 @@ class Kills:
         print(f"killed {self.done} times in {self.rounds} rounds (seed {SEED})")
 
     def until_done(self, spool, phase):
-        """Passes that are killed, until one ends by itself with nothing to do, or there were enough kills."""
+        """Starts passes and kills them, until one ends by itself with nothing to do, or there were enough kills."""
         enough = min(self.kills, self.done + HALVES[phase][0])
         while self.done < enough:
             events = self.one(spool, phase)

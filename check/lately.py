@@ -25,7 +25,7 @@ done
 
 
 class Late:
-    """An edition that was made, and what comes late."""
+    """An edition that was made, and its late pages."""
 
     def __init__(self, tried, paper, folder):
         self.tried, self.paper, self.folder = tried, paper, os.path.join(folder, "late")
@@ -43,7 +43,7 @@ class Late:
         return os.path.join(self.out, os.readlink(os.path.join(self.out, "current")))
 
     def page(self, name, other):
-        """A page that comes late: the bytes of another file of the edition, under this one's name."""
+        """A late page: the bytes of another file of the edition, under this one's name."""
         path = os.path.join(self.folder, name)
         shutil.copyfile(os.path.join(self.paper.art, other), path)
         return path
@@ -55,7 +55,7 @@ class Late:
         return {path: (os.stat(path).st_ino, os.stat(path).st_mtime_ns, digest(path)) for path in paths}
 
     def made(self, what, page, sites, *names):
-        """What comes late makes these plates of these sites: exactly they are new files, all plates are
+        """A late page makes these plates of these sites: exactly they are new files, all plates are
         right, and the version before stays."""
         old, stood = self.current(), self.tree(self.current())
         before = self.wanted
@@ -98,7 +98,7 @@ class Late:
         self.made("a screen", text, press.PRESSES["south"], *names)
 
     def stays(self, what, status, line, *words):
-        """late ends so: no version is new, and WORK is as it was."""
+        """late ends so: no version is new, and WORK is unchanged."""
         before, work, names = self.current(), self.tree(self.work), os.listdir(self.out)
         answer = pressroom(self.program, "late", *words)
         self.holds(
@@ -146,7 +146,7 @@ class Late:
         )
 
     def leaves(self):
-        """A site fails in replate: it is made again alone, in full, and the version before stays."""
+        """A site fails in replate: it is remade alone, in full, and the version before is unchanged."""
         with open(os.path.join(self.folder, "fault"), "w", encoding="utf-8") as file:
             file.write("killed 1\n")
         old, stood = self.current(), self.tree(self.current())

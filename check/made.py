@@ -88,7 +88,7 @@ class Make:
             print("skipped: parts (make isn't installed)")
 
     def recovers(self):
-        """A site that fails once is made again alone, and no other one."""
+        """A site that fails once is remade alone, and no other site is."""
         for word, why in (
             ("blocked", "left plates 0 row 0 call begin"),
             ("killed", "the program ended with status 137"),
@@ -114,7 +114,7 @@ class Make:
         self.holds("resumed, OSLO isn't made again", now == before, "another file")
 
     def no_sums(self):
-        """SHA256SUMS can't be written: the site has no READY, since that comes behind it."""
+        """SHA256SUMS can't be written: the site has no READY, since that is written after it."""
         self.fault("sums 1")
         _, report = self.makes("no SHA256SUMS", 1, SITES[:2], current=False)
         why = report["sites"]["TROMSO"]["why"]
@@ -140,7 +140,7 @@ class Make:
             os.remove(os.path.join(self.work, f"{name}.json"))
 
     def begins_not(self):
-        """No plan, an OUT that can't be made, a lock that is held, words that are wrong: no version is
+        """No plan, an OUT that can't be made, a lock that is held, wrong arguments: no version is
         begun."""
         before = self.versions()
         empty = os.path.join(self.folder, "empty")

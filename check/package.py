@@ -76,7 +76,7 @@ class Root:
         return done.returncode, done.stdout
 
     def must(self, *words):
-        """Runs what the trial can't go on without."""
+        """Runs a program that must succeed for the test to continue."""
         status, text = self.run(*words)
         if status:
             sys.exit(f"check/package.py: {' '.join(words)} ended with status {status}:\n{text}")
@@ -137,7 +137,7 @@ class Tried:
         self.trial, self.root = trial, root
 
     def runs(self, *words, says="", status=0, **how):
-        """A program ends with this status, and what it writes has this text. Returns what it wrote."""
+        """A program ends with this status, and its output has this text. Returns the output."""
         got, text = self.root.run(*words, **how)
         fault = got != status and f"status {got} and not {status}" or says not in text and f"no {says!r}"
         self.trial.holds(" ".join(words), fault and f"{fault}:\n{text[-2000:]}")
@@ -148,7 +148,7 @@ class Tried:
 
 
 def try_install(tried, deb, version):
-    """Installs a package over what is there."""
+    """Installs a package over the present state."""
     shutil.copy(deb, tried.root.path("/tmp/plateroom.deb"))
     tried.runs("apt-get", "install", "-y", "--no-install-recommends", "/tmp/plateroom.deb")
     tried.runs("dpkg-query", "-W", "-f", "${Version} ${db:Status-Status}", "plateroom",
@@ -168,7 +168,7 @@ def try_old_tools(tried):
 
 
 def try_upgraded(tried, version):
-    """Nothing of the older version is left, and all of the new one can be found."""
+    """Nothing of the older version is left, and everything of the new one is present."""
     listed = set(tried.runs("dpkg", "-L", "plateroom").split("\n"))
     for top in "/usr/share/plateroom", "/usr/share/doc/plateroom":
         there = tried.runs("find", top, "-name", "__pycache__", "-prune", "-o", "-print").split("\n")
@@ -239,7 +239,7 @@ def try_night(tried):
 
 
 def try_units(tried):
-    """Units are there, right, and not enabled; a house enables them."""
+    """Units are installed, right, and not enabled; a house enables them."""
     folder = tried.root.path(UNITS)
     units = sorted(name for name in os.listdir(folder) if name.startswith("pressroom"))
     for unit in units:
@@ -255,7 +255,7 @@ def try_units(tried):
 
 
 def try_gone(tried, before, but=()):
-    """After purge all is as it was before the first installation, but for what is at these paths or below."""
+    """After purge everything is as before the first installation, except at these paths or below."""
     after = tried.root.state()
     changed = sorted(name for name in before.keys() | after.keys()
                      if before.get(name) != after.get(name) and not name.startswith(tuple(but)))
@@ -265,7 +265,7 @@ def try_gone(tried, before, but=()):
 
 
 def try_purge(tried, before, editions):
-    """Removes and purges the package. Editions in the spool are the house's: they stay, with their user."""
+    """Removes and purges the package. Editions in the spool are the house's: they are kept, with their user."""
     tried.runs("apt-get", "remove", "-y", "plateroom")
     tried.holds("files after remove", [name for name in tried.root.state() if "/plateroom" in name])
     told = tried.runs("apt-get", "purge", "-y", "plateroom")

@@ -43,7 +43,7 @@ PROLOG = """
 
 
 def tool(*words):
-    """Runs `pressroom ppf`: its status, what it printed, and its complaint."""
+    """Runs `pressroom ppf` and returns its status, its output and its messages."""
     line = [sys.executable, "-B", os.path.join(TOP, "tools", "pressroom.py"), "ppf", *map(str, words)]
     answer = subprocess.run(line, capture_output=True, text=True)
     return answer.returncode, answer.stdout, answer.stderr
@@ -281,7 +281,7 @@ def see_damage(results, folder, plates):
 
 
 def see_refusals(results, folder, plates):
-    """Wrong words are named, and nothing is written."""
+    """Wrong arguments are named, and nothing is written."""
     empty, out, house = (os.path.join(folder, name) for name in ("empty", "refused", "wrong.toml"))
     os.mkdir(empty)
     for words, text, said in (

@@ -154,7 +154,7 @@ def faults_of_ready(version, wanted=None, sites=None):
 
 
 def faults_of_verify(program, version):
-    """What `verify` says of the READY sites of a version, by its own plans and files."""
+    """What `verify` reports for the READY sites of a version, by its own plans and files."""
     source = os.path.join(version, "made-from")
     for name in sorted(os.listdir(source)):
         if not name.endswith(".json"):

@@ -40,7 +40,7 @@ def text_of(path):
 
 
 def said(*words, **how):
-    """What a program prints on standard output; it has to succeed."""
+    """The standard output of a program, which must succeed."""
     return subprocess.run(words, check=True, capture_output=True, text=True, **how).stdout
 
 
@@ -69,7 +69,7 @@ def files_below(root):
 
 
 def loaded(path, folder):
-    """What a program loads into memory, without symbols and notes for people."""
+    """The parts of a program that are loaded into memory, without symbols and notes for people."""
     image = os.path.join(folder, "image")
     said("objcopy", "-O", "binary", path, image)
     return sum_of(image)
@@ -193,7 +193,7 @@ def try_pages(trial, root, commands):
 
 
 def completed(root, *words):
-    """What Tab offers after these words, of which the last may be begun."""
+    """What Tab offers after these arguments, of which the last may be incomplete."""
     script = f"""
         . {COMPLETION}
         . "{root}/usr/share/bash-completion/completions/$1"
@@ -270,7 +270,7 @@ def try_sums(trial, root, path, told):
 
 
 def try_twice(trial, folder):
-    """The package, made in two ways, and whether both are the same; None where it can't be made."""
+    """The package, made in two ways, and whether both are the same; None if it can't be made."""
     second = os.path.join(folder, "a second place", "of another length")
     try:
         commit = said("git", "-C", TOP, "rev-parse", "HEAD").strip()

@@ -16,7 +16,7 @@ def first_directory(data, order):
 
 
 def unpacked(strip):
-    """The bytes that PackBits packets stand for."""
+    """The bytes that PackBits packets expand to."""
     out, at = bytearray(), 0
     while at < len(strip):
         head = strip[at]

@@ -36,7 +36,7 @@ CELL = 64
 
 
 def tool(*words, **how):
-    """Runs `pressroom web`: its status, what it printed, and its complaint."""
+    """Runs `pressroom web` and returns its status, its output and its messages."""
     line = [sys.executable, "-B", os.path.join(TOP, "tools", "pressroom.py"), "web", *map(str, words)]
     answer = subprocess.run(line, capture_output=True, text=True, **how)
     return answer.returncode, answer.stdout, answer.stderr
@@ -89,7 +89,7 @@ def see_tool(results, folder, plan, plates):
 
 
 def see_refusals(results, folder, plan, plates, out):
-    """Wrong words and failing programs leave OUT and its surroundings as they are."""
+    """Wrong arguments and failing programs leave OUT and its surroundings unchanged."""
     before = sorted(os.listdir(folder))
     kept = os.path.join(folder, "kept")
     os.mkdir(kept)
@@ -371,7 +371,7 @@ def see_measures(results, page, plates):
 
 
 def see_places(results, page):
-    """What is in view is measured by a key, and the bar says the place under the pointer."""
+    """A key measures what is in view, and the bar shows the position under the pointer."""
     x, y = 700, 500
     page.open(f"#pair=A-001&site=OSLO&x={x}&y={y}&z=0")
     _, _, width, height = page.box()
@@ -574,7 +574,7 @@ def see_damage(results, page, folder, plan, plates):
 
 
 def see_server(results, page, out):
-    """From a web server each file that the page asks for is there."""
+    """A web server has each file that the page asks for."""
     asked = []
 
     class Handler(http.server.SimpleHTTPRequestHandler):
@@ -596,7 +596,7 @@ def see_server(results, page, out):
 
 
 def lacking():
-    """What isn't installed of what the trials need."""
+    """What the tests need and isn't installed."""
     found = [name for name in ("vips", "chromium", "chromedriver") if shutil.which(name) is None]
     found += [] if os.path.exists(LEAFLET) else ["libjs-leaflet"]
     library = missing("numpy", "PIL", "selenium")
