@@ -184,7 +184,7 @@ WRONG = [
     ('[night]\nsettle = "x"\n', "house.toml:2: night.settle: 'x' isn't a number of 0 to 86400"),
     ("\n[night]\nkeep = 3\nkep = 1\n", "house.toml:4: night.kep is unknown"),
     ("[night]\nkeep = 0\n", "house.toml:2: night.keep: 0 isn't a whole number of 1 to 1000"),
-    ('[night]\nmetrics = "m.prom"\n', "house.toml:2: night.metrics: 'm.prom' isn't a path from the root"),
+    ('[night]\nmetrics = "m.prom"\n', "house.toml:2: night.metrics: 'm.prom' isn't an absolute path"),
     ("[night]\nparts = 1\n", "house.toml:2: night.parts: 1 isn't true or false"),
     ('[delivery]\nrsync = "-z"\n', "house.toml:2: delivery.rsync: '-z' isn't a list of options"),
     ("[delivery]\ntries = 2.5\n", "house.toml:2: delivery.tries: 2.5 isn't a whole number of 1 to 1000"),
