@@ -203,7 +203,7 @@ def main():
     parser.add_argument("--before", metavar="PROGRAM", type=os.path.abspath)
     parser.add_argument("--pages", type=int, default=4, help="a multiple of 4")
     parser.add_argument("--size", nargs=2, type=int, default=(8000, 11000), metavar=("WIDTH", "HEIGHT"))
-    parser.add_argument("--processors", default="1,2,4", help="numbers between commas")
+    parser.add_argument("--processors", default="1,2,4", help="numbers separated by commas")
     parser.add_argument("--runs", type=int, default=3)
     parser.add_argument("--no-plain", action="store_true")
     parser.add_argument("--one-strip", action="store_true")

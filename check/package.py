@@ -307,7 +307,7 @@ def read_words():
     parser = argparse.ArgumentParser(description=__doc__,
                                      formatter_class=argparse.RawDescriptionHelpFormatter)
     parser.add_argument("program", metavar="PROGRAM", help="the built program")
-    parser.add_argument("--base", metavar="FOLDER", help="the clean root, made if it isn't there, and kept")
+    parser.add_argument("--base", metavar="FOLDER", help="the clean root, which is made if missing, and kept")
     return parser.parse_args()
 
 

@@ -146,7 +146,7 @@ def trial(clone, crates, jobs):
 
 def main():
     parser = argparse.ArgumentParser(description=__doc__, formatter_class=argparse.RawDescriptionHelpFormatter)
-    parser.add_argument("crates", metavar="CRATE", nargs="*", help="crates whose wrong bodies are tried; all")
+    parser.add_argument("crates", metavar="CRATE", nargs="*", help="the crates whose wrong bodies are tested (default: all)")
     parser.add_argument("--jobs", type=int, default=len(os.sched_getaffinity(0)), help="crates at a time")
     parser.add_argument("--clone", metavar="FOLDER", help="a folder for the clone, which is kept")
     words = parser.parse_args()
