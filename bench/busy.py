@@ -1,14 +1,14 @@
 #!/usr/bin/env python3
-"""Measures `plateroom run` beside other work: so many loops that compute all the time, at a given niceness.
+"""Measures `plateroom run` on a machine kept busy by loops that compute all the time, at a given niceness.
 
 usage: bench/busy.py PROGRAM [--jobs NAMES] [--loops N] [--nice N] [--processors N] [--ring N] [--patience N]
                      [--runs N] [--limit SECONDS] [--folder FOLDER] [--no-plain]
 
-Prints for each job the seconds by the clock and of processor time, the best of three runs, and beside them those
-of plain C on one thread that makes the same plates: bench/run.c for the large pair, bench/small.c for small pages.
-The jobs are rows, small, short, large1, large4, large16, ring1 and newspaper; NAMES stand between commas. The loops
-run at niceness 0, both programs at N. With --processors all of them share so many processors.
-Images and plates go to a new folder below FOLDER (/dev/shm), which is deleted at the end.
+For each job it prints the seconds of wall-clock and of CPU time, the best of three runs, and those of plain C
+on one thread that makes the same plates: bench/run.c for the large pair, bench/small.c for small pages. The
+jobs are rows, small, short, large1, large4, large16, ring1 and newspaper; NAMES are separated by commas. The
+loops run at niceness 0, both programs at N. With --processors all of them share N processors. Images and
+plates go to a new folder below FOLDER (/dev/shm), which is deleted at the end.
 """
 import argparse
 import json
@@ -135,7 +135,7 @@ JOBS = {
 
 
 def took(command, nice, limit):
-    """Seconds by the clock and of the processor, or None where the command isn't done within the limit."""
+    """Seconds of wall-clock and CPU time, or None if the command isn't done within the limit."""
     start = time.monotonic()
     process = subprocess.Popen(command, stdout=subprocess.DEVNULL, preexec_fn=lambda: os.nice(nice))
     while True:
@@ -154,7 +154,7 @@ def took(command, nice, limit):
 
 
 def best(command, out, options):
-    """The best of some runs; a run that isn't done within the limit is the last."""
+    """The best of some runs; a run that isn't done within the limit ends the series."""
     least = None
     for _ in range(options.runs):
         shutil.rmtree(out, ignore_errors=True)
@@ -172,7 +172,7 @@ def said(seconds, options):
 
 
 def plain(name, plan, files, out, folder):
-    """The command of plain C that makes the plates of a job, where there is one."""
+    """The command of plain C that makes the plates of a job, if there is one."""
     if name in ("newspaper", "short"):
         return None
     source = "run" if name in ("large1", "large4", "large16", "ring1") else "small"
@@ -193,7 +193,7 @@ def measure(options, folder):
     files, out, text = (os.path.join(folder, name) for name in ("files", "out", "plan.json"))
     os.mkdir(files)
     print(f"{options.loops} busy loops, niceness {options.nice}, {len(os.sched_getaffinity(0))} processors; "
-          "seconds by the clock (of processor)", flush=True)
+          "seconds of wall-clock time (CPU time)", flush=True)
     made = None
     for name in options.jobs:
         title, make, plan, ring = JOBS[name]

@@ -1,11 +1,12 @@
 #!/usr/bin/env python3
-"""Measures `plateroom run` on images with a short and a long directory: 20,000 rows of a masked line layer over a
-contone one, behind as many entries of other tags as are given.
+"""Measures `plateroom run` on images with a short and a long directory.
 
 usage: bench/directory.py PROGRAM [ENTRIES ..]
 
-Prints the seconds of the best of three runs for each number of entries (0, 65500). The plates of all are compared.
-Images and plates go to a new folder below the machine's folder for such files, which is deleted at the end.
+The job has 20,000 rows of a masked line layer over a contone one, whose files have ENTRIES entries of other
+tags before their own (0, 65500). It prints the seconds of the best of three runs for each number of entries.
+The plates of all are compared. Images and plates go to a new folder below the machine's temporary folder,
+which is deleted at the end.
 """
 import json
 import os
@@ -23,7 +24,7 @@ def entry(tag, kind, count, value):
 
 
 def write_image(path, before, samples, photometric, data):
-    """A file of one strip, whose own entries stand behind so many others of tag 254."""
+    """Writes a file of one strip whose own entries follow so many others of tag 254."""
     fields = [(256, 4, 1, WIDTH), (257, 4, 1, LENGTH), (259, 3, 1, 1), (262, 3, 1, photometric), (277, 3, 1, samples),
               (278, 4, 1, LENGTH), (279, 4, 1, len(data))]
     count = before + len(fields) + 2

@@ -1,4 +1,6 @@
-"""Makes a photograph-like CMYK image in four forms, runs both programs on each in turn, and prints pixels a second."""
+"""Makes a photograph-like CMYK image in four forms, runs both programs on each in turn, and prints pixels a
+second.
+"""
 import os
 import random
 import struct
@@ -19,7 +21,7 @@ def ramp(ink, y, noise):
 
 
 def pack(row):
-    """Literals of 128 bytes, and a run where three bytes are equal."""
+    """Packs bytes as literals of 128 bytes, and as a run where three bytes are equal."""
     out, at, literal = bytearray(), 0, bytearray()
 
     def flush():

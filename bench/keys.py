@@ -1,10 +1,11 @@
-"""Measures `plateroom keys` with 32 keys beside `plateroom run`: the large pair for one, four and sixteen sites, and a small
-edition of eight pages and three sites, best of three of each in turn. The counts of the large pair are compared with those
-of bench/run.c, which counts pixel by pixel what it screens itself.
+"""Measures `plateroom keys` with 32 keys compared with `plateroom run`.
 
 usage: bench/keys.py FOLDER PROGRAM [RING]
 
-FOLDER takes the images and the plates, some 8 GB; in memory where it is of that kind.
+The jobs are the large pair for one, four and sixteen sites, and a small edition of eight pages and three
+sites, best of three of each in turn. The counts of the large pair are compared with those of bench/run.c,
+which counts pixel by pixel what it screens itself. FOLDER takes the images and the plates, some 8 GB; use a
+folder in memory.
 """
 import json
 import os
@@ -21,7 +22,7 @@ KEYS = 32
 
 
 def measure(words):
-    """Seconds of the clock and of processors, the peak of memory in KiB, and what was printed."""
+    """Seconds of wall-clock and CPU time, peak memory in KiB, and the output."""
     with tempfile.TemporaryFile() as text:
         start = time.monotonic()
         process = subprocess.Popen(words, stdout=text)
@@ -64,7 +65,7 @@ def main():
         if name != "small edition" and not told.endswith(lines):
             sys.exit(f"{name}: other counts than the plain program's")
         for command, (clock, processors, memory) in best.items():
-            print(f"{name}, {command}: {clock:.2f} s by the clock, {processors:.2f} s of processors, {memory} KiB", flush=True)
+            print(f"{name}, {command}: {clock:.2f} s wall-clock, {processors:.2f} s CPU, {memory} KiB", flush=True)
     shutil.rmtree(out)
 
 

@@ -3,10 +3,11 @@
 
 usage: bench/memory.py PROGRAM FOLDER [--pages 128,2048] [--layers 32] [--width 16550] [--rows 8]
 
-Each page has masked photographs and linework in turn, all of one width: three files for all pages, so that what the
-program holds beside them shows. At most 1,024 pages stand in the eight sections, and a second site has the others in
-their place, so every page stands on a plate. FOLDER takes the plates too, each a few rows high. Prints the number of
-pages and layers, the bytes of the plan and of the files, the seconds by the clock, and the peak memory in KB.
+Each page has masked photographs and linework in turn, all of one width. All pages share three files, so that
+the memory besides the files shows. At most 1,024 pages are in the eight sections, and a second site has the
+others in their place, so every page is printed. FOLDER also takes the plates, each a few rows high. It prints
+the number of pages and layers, the bytes of the plan and of the files, the seconds of wall-clock time, and
+the peak memory in KB.
 """
 import argparse
 import json

@@ -1,12 +1,12 @@
 #!/usr/bin/env python3
 """Proves named functions of a crate over libraries that aren't proved yet, which it reads as sources.
 
-usage: bench/over_sources.py CRATE FUNCTION ..        as bench/over_sources.py ink_keys key_reader::KeyReader::turn
+usage: bench/over_sources.py CRATE FUNCTION ..        such as bench/over_sources.py ink_keys key_reader::KeyReader::turn
 
-On a machine that keeps nothing, `rt check` proves all crates below first, which takes half an hour for a high crate.
-This takes a minute or two of one processor: it says early whether a function meets its contract. It is no verdict:
-only `rt ci` is. Libraries that this clone has built are taken as they are. It reaches into the kit, whose command
-`rt` has to be in PATH, and may not fit another one.
+On a machine without a cache, `rt check` proves all crates below first, which takes half an hour for a high
+crate. This takes a minute or two on one processor: it says early whether a function meets its contract. It is
+no verdict: only `rt ci` is. Libraries that this clone has built are used as they are. It reaches into the
+kit, whose command `rt` has to be in PATH, and may not fit another kit.
 
 status: that of the check
 """

@@ -1,15 +1,14 @@
 #!/usr/bin/env python3
-"""Measures `plateroom run` on one processor beside plain C: screens, layers, curves, the ink limit.
+"""Measures `plateroom run` on one processor compared with plain C: screens, layers, curves, the ink limit.
 
 usage: bench/pages.py PROGRAM FOLDER [--jobs NAMES] [--runs N]
 
-Prints a line of a table for each job: the seconds of processor time, the system's with them, of the program
-and of plain C on one thread that makes the same plates (bench/run.c, bench/one.c, else bench/pages.c), the
-best of three runs in turn, and the first by the second. It ends where a plate of one isn't that of the other,
-byte for byte. The jobs are ordered4, diffused4, diffused1, black4, pages4, apart4, contone, line, mask,
-curves, limit, both, small32, mixed32, contone32, newspaper and one; NAMES stand between commas. Images and
-plates, some 3 GB, go to a new folder below FOLDER, which is deleted at the end: FOLDER should lie in memory,
-as /dev/shm does.
+For each job it prints a line of a table: the seconds of CPU time, the system's included, of the program and
+of plain C on one thread that makes the same plates (bench/run.c, bench/one.c, otherwise bench/pages.c), the
+best of three runs in turn, and their ratio. It stops if a plate of one differs from that of the other in any
+byte. The jobs are ordered4, diffused4, diffused1, black4, pages4, apart4, contone, line, mask, curves, limit,
+both, small32, mixed32, contone32, newspaper and one; NAMES are separated by commas. Images and plates, some 3
+GB, go to a new folder below FOLDER, which is deleted at the end: use a FOLDER in memory, such as /dev/shm.
 """
 import argparse
 import filecmp
@@ -53,7 +52,7 @@ def make_pages(files):
 
 
 def pair(*layers, length=LENGTH, **keys):
-    """A pair of pages of these layers; SIDE in a file's name is the page's own."""
+    """A pair of pages of these layers; SIDE in a file's name becomes the page's side."""
     pages = [
         {"name": name, "inks": "CMYK",
          "layers": [layer | {"file": layer["file"].replace("SIDE", name)} for layer in layers]}
@@ -131,7 +130,7 @@ def image_size(path):
 
 
 def words(plan, files, fronts):
-    """The words that say to bench/pages.c what the plan says."""
+    """The arguments that state the plan to bench/pages.c."""
     said = [*plan["page"], plan.get("limit", 1020)]
     for ink, points in plan.get("curves", {}).items():
         said += ["curve", "CMYK".index(ink), len(points), *(number for point in points for number in point)]
@@ -189,7 +188,7 @@ def pin():
 
 
 def compare(title, outs, name):
-    """Ends where the files of a folder aren't the same in both."""
+    """Stops if the files of the two folders differ."""
     folders = [os.path.join(out, name) for out in outs]
     names = [sorted(os.listdir(folder)) for folder in folders]
     if names[0] != names[1] or filecmp.cmpfiles(*folders, names[0], shallow=False)[0] != names[0]:
@@ -197,7 +196,7 @@ def compare(title, outs, name):
 
 
 def measure(title, commands, outs, names, runs):
-    """Measures both programs in turn, compares what they made in these folders, and prints the line."""
+    """Measures both programs in turn, compares the files that they made, and prints the line."""
     best = [float("inf")] * 2
     for _ in range(runs):
         for number, command in enumerate(commands):

@@ -3,11 +3,12 @@
 
 usage: bench/parts.py PROGRAM FOLDER [--pages N] [--jobs 1,2,4] [--sites N] [--page WIDTH,HEIGHT]
 
-FOLDER takes the images, 0.4 GB, and the plates of one run after the other, 0.22 GB a page and site: once let it lie in
-memory (/dev/shm), once on the disk. Prints the MB a second of one file of a GB that is synced, twice, and a table: of
-one run and of each number of jobs the seconds by the clock, the pages a minute, the bytes of the plates, the MB of them
-a second, and the peak memory of a process, which is the largest part's. A page has a photo of its own name, an eighth as
-wide and high, and a text that each fourth page shares. N is 64 pages, or another multiple of 16.
+FOLDER takes the images, 0.4 GB, and the plates of one run after the other, 0.22 GB a page and site: measure
+once in memory (/dev/shm) and once on the disk. It prints the MB a second of one file of a GB that is synced,
+twice, and a table: of one run and of each number of jobs the seconds of wall-clock time, the pages a minute,
+the bytes of the plates, their MB a second, and the peak memory of a process, which is the largest part's. A
+page has a photo of its own name, an eighth as wide and high, and a text that every fourth page shares. N is
+64 pages, or another multiple of 16.
 """
 import argparse
 import json

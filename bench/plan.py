@@ -1,5 +1,7 @@
-"""Writes the largest plan that is lawful, of 16,777,216 bytes, or reads a plan as the json module of Python does.
-usage: plan.py make FILE | plan.py many FILE | plan.py read FILE"""
+"""Writes the largest valid plan, of 16,777,216 bytes, or reads a plan with Python's json module.
+
+usage: plan.py make FILE | plan.py many FILE | plan.py read FILE
+"""
 import json
 import resource
 import sys

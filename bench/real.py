@@ -4,16 +4,17 @@
 usage: bench/real.py PROGRAM FOLDER [--before PROGRAM] [--pages N] [--size WIDTH HEIGHT] [--processors LIST]
                      [--runs N] [--no-plain] [--one-strip]
 
-The pages have text in K, pictures in four inks and bare paper in the proportions of a newspaper's, as Ghostscript
-and `tiffcp -p separate -c packbits -r 64` write them: PackBits, one plane an ink, strips of 64 rows; with --one-strip
-all rows of a plane are one strip. Every fourth page prints K alone. Three sites print all pages.
+The pages have text in K, pictures in four inks and bare paper in the proportions of a newspaper's, as
+Ghostscript and `tiffcp -p separate -c packbits -r 64` write them: PackBits, one plane an ink, strips of 64
+rows; with --one-strip all rows of a plane are one strip. Every fourth page prints K alone. Three sites print
+all pages.
 
-For each number of processors of LIST (1,2,4) it prints the seconds of the clock and of processor time, the best of
-the runs, of `run`, of the part of `run` before the first row (its plates can't be written), of `verify`, of `keys`,
-and of `replate` after one page changed; with --before those of another program beside it, in turn. Plain C on one
-thread (bench/pages.c) makes the same plates from the same pages unpacked, and the plates are compared byte by byte.
-The files go to a new folder below FOLDER, which should lie in memory, and are deleted at the end: some 60 MB a page
-of 11,200 by 16,000, and where plain C takes part another 700 MB each.
+For each number of processors of LIST (1,2,4) it prints the seconds of wall-clock and CPU time, the best of
+the runs, of `run`, of the part of `run` before the first row (its plates can't be written), of `verify`, of
+`keys`, and of `replate` after one page changed; with --before also those of another program, in turn. Plain C
+on one thread (bench/pages.c) makes the same plates from the same pages unpacked, and the plates are compared
+byte by byte. The files go to a new folder below FOLDER, which should be in memory, and are deleted at the
+end: some 60 MB a page of 11,200 by 16,000, and with plain C another 700 MB each.
 """
 import argparse
 import json
@@ -134,7 +135,7 @@ def plan_of(count, size):
 
 
 def took(command, processors, wanted=(0,)):
-    """The seconds of the clock and of processor time of a command on so many processors."""
+    """The seconds of wall-clock and CPU time of a command on so many processors."""
     start = time.monotonic()
     held = sorted(os.sched_getaffinity(0))[-processors:]
     process = subprocess.Popen(command, stdout=subprocess.DEVNULL, stderr=subprocess.DEVNULL,
@@ -146,7 +147,7 @@ def took(command, processors, wanted=(0,)):
 
 
 def commands(folder):
-    """The commands that are measured, by name: what they are given behind the program, and how they may end."""
+    """The measured commands by name: their arguments, and the statuses with which they may end."""
     plan, files, out = (os.path.join(folder, name) for name in ("plan.json", "files", "out"))
     changed = os.path.join(folder, "changed.json")
     return {
@@ -202,7 +203,7 @@ def main():
     parser.add_argument("--before", metavar="PROGRAM", type=os.path.abspath)
     parser.add_argument("--pages", type=int, default=4, help="a multiple of 4")
     parser.add_argument("--size", nargs=2, type=int, default=(8000, 11000), metavar=("WIDTH", "HEIGHT"))
-    parser.add_argument("--processors", default="1,2,4", help="numbers between commas")
+    parser.add_argument("--processors", default="1,2,4", help="numbers separated by commas")
     parser.add_argument("--runs", type=int, default=3)
     parser.add_argument("--no-plain", action="store_true")
     parser.add_argument("--one-strip", action="store_true")
@@ -224,7 +225,7 @@ def main():
         size = sum(entry.stat().st_size for entry in os.scandir(files)) / 1e6
         print(f"{options.pages} pages of {options.size[0]:,} by {options.size[1]:,}, {size:.0f} MB of files, 3 sites")
         heads = ["before"] if options.before else []
-        print("| Work | processors | " + " | ".join(["seconds (of processor time)", *heads]) + " |")
+        print("| Work | processors | " + " | ".join(["seconds (CPU time)", *heads]) + " |")
         print("|---|---|---|" + "---|" * len(heads), flush=True)
         measure(options, folder)
         if not options.no_plain:

@@ -2,16 +2,16 @@
 
 usage: bench/replate.py FOLDER PROGRAM [PART]
 
-FOLDER takes the images and the plates, some 4 GB; let it lie in memory. The pairs are the large one for four
-sites, and one for one site whose two images have half a GB each, as long as a file may be. Of each these are made
-in turn, the best of three (of the second pair one) is printed, and the plates of `replate` are compared with those
-of the run:
-- a run of the new job;
-- `replate` where the left image has another last byte, so that each plate must be made;
-- `replate` where nothing changed;
-- the loading of both jobs: `replate` where the new plan names one image more behind all others, which isn't
-  there.
-With PART widths and lengths are divided by it, for a try.
+FOLDER takes the images and the plates, some 4 GB; use a folder in memory. The pairs are the large one for
+four sites, and one for one site whose two images have half a GB each, the longest that a file may be. It
+makes the following in turn, prints the best of three (of the second pair one), and compares the plates of
+`replate` with those of the run:
+
+- a run of the new job; - `replate` where the left image has another last byte, so that each plate must be
+made; - `replate` where nothing changed; - the loading of both jobs: `replate` where the new plan names one
+more image after all others, which is missing.
+
+With PART widths and lengths are divided by it, for a quick test.
 """
 import json
 import os
@@ -58,7 +58,7 @@ class Pair:
         return plan
 
     def measure(self, command, words, out, wanted=0):
-        """Does a command by these words, which name files of the folder, and writes its plates to a new folder."""
+        """Runs a command with these arguments, which name files of the folder, and writes its plates to a new folder."""
         shutil.rmtree(self.path(out), ignore_errors=True)
         return verify.measure([*command, *map(self.path, words), self.path(out)], wanted)
 
@@ -79,7 +79,7 @@ class Pair:
                 took = job()
                 best[name] = min(best.get(name, took), took)
         for name, (clock, own, system, memory) in best.items():
-            print(f"{name}: {clock:.2f} s by the clock, {own:.2f} s of its own, {system:.2f} s of the system's, "
+            print(f"{name}: {clock:.2f} s wall-clock, {own:.2f} s user, {system:.2f} s system, "
                   f"{memory} KiB", flush=True)
         for site in range(self.count):
             sites.same_plates(self.path("out", f"S{site}"), self.path("made", f"S{site}"))

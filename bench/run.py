@@ -46,7 +46,7 @@ def plan(screen, scale=SCALE):
 
 
 def run(command):
-    """Seconds of processor time in the program's own code and in the system's, and the peak of memory in KiB."""
+    """Seconds of user and system time, and peak memory in KiB."""
     process = subprocess.Popen(command, stdout=subprocess.DEVNULL)
     _, status, usage = os.wait4(process.pid, 0)
     if status != 0:
@@ -77,8 +77,8 @@ def main():
             if not filecmp.cmp(f"{out}/OSLO/E1-A-001-{ink}.tif", f"{plates}-{ink}.tif", shallow=False):
                 sys.exit(f"the {screen} plates of {ink} differ")
         for name, (own, system, memory) in zip(("plateroom", "plain C"), best):
-            print(f"{screen}, scale {scale}, {name}: {own:.2f} s of its own and {system:.2f} s of the system's, "
-                  f"{pixels / own / 1e6:.0f} million pixels a second of its own, {memory} KiB")
+            print(f"{screen}, scale {scale}, {name}: {own:.2f} s user and {system:.2f} s system, "
+                  f"{pixels / own / 1e6:.0f} million pixels a second of user time, {memory} KiB")
     size = sum(os.path.getsize(os.path.join(files, name)) for name in os.listdir(files)) // 1024
     print(f"the files have {size} KiB together; the plates of both programs are the same bytes")
 

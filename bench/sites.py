@@ -1,8 +1,9 @@
-"""Measures `plateroom run` for one, four and sixteen sites, and for a small edition of eight pages and three sites.
+"""Measures `plateroom run` for one, four and sixteen sites, and for a small edition of eight pages and three
+sites.
 
 usage: bench/sites.py FOLDER PROGRAM..
 
-FOLDER takes the images and the plates, some 8 GB. With several programs each run is made by each in turn, best of
+FOLDER takes the images and the plates, some 8 GB. With several programs each makes each run in turn, best of
 three of each; the plates of all sites of a run are compared, and those of the programs with each other.
 """
 import filecmp
@@ -39,7 +40,7 @@ def small():
 
 
 def measure(program, text, files, out):
-    """Seconds of the clock, of the program's own code and of the system's, and the peak of memory in KiB."""
+    """Seconds of wall-clock, user and system time, and peak memory in KiB."""
     shutil.rmtree(out, ignore_errors=True)
     start = time.monotonic()
     process = subprocess.Popen([program, "run", text, files, out], stdout=subprocess.DEVNULL)
@@ -78,8 +79,8 @@ def main():
             for site in plan["sites"]:
                 same_plates(os.path.join(outs[0], "S0"), os.path.join(outs[number], site["name"]))
             clock, own, system, memory = best[number]
-            print(f"{name}, {program}: {clock:.2f} s by the clock, {own:.2f} s of its own, {system:.2f} s of the "
-                  f"system's, {memory} KiB", flush=True)
+            print(f"{name}, {program}: {clock:.2f} s wall-clock, {own:.2f} s user, {system:.2f} s system, "
+                  f"{memory} KiB", flush=True)
         for out in outs:
             shutil.rmtree(out)
 

@@ -3,9 +3,10 @@
 
 usage: bench/unproved.py PROGRAM
 
-It takes two minutes. What it builds is what `rt try` runs in its checked run, without the checks, with the pauses of the
-processor that these leave out, and compiled at -O3. It is no program to work with: nothing of it was proved. It reaches
-into the kit, whose command `rt` has to be in PATH, and may not fit another one: then it says so.
+It takes two minutes. The result is what `rt try` runs in its checked run, without the checks, with the
+processor's pauses that these leave out, and compiled at -O3. Use it only to measure and test: nothing of it
+was proved. It reaches into the kit, whose command `rt` has to be in PATH, and may not fit another kit: then
+it says so.
 """
 import os
 import re

@@ -1,10 +1,12 @@
-"""Measures `plateroom verify` of the large pair for four sites, beside runs of it and `cmp` of plates and copies.
+"""Measures `plateroom verify` of the large pair for four sites, compared with runs of it and `cmp` of plates
+and copies.
 
 usage: bench/verify.py FOLDER PROGRAM
 
-FOLDER takes the images, the plates and their copies, some 6 GB; let it lie in memory. Each is made three times
-in turn, and the best is printed: a run with one site, a run with four, `cmp` of each plate of four sites with a
-copy of it, and `verify` of these plates. Then `verify` finds the last byte of the last plate changed.
+FOLDER takes the images, the plates and their copies, some 6 GB; use a folder in memory. Each is made three
+times in turn, and the best is printed: a run with one site, a run with four, `cmp` of each plate of four
+sites with a copy of it, and `verify` of these plates. Then `verify` finds that the last byte of the last
+plate changed.
 """
 import json
 import os
@@ -20,7 +22,7 @@ RUNS = 3
 
 
 def measure(command, wanted=0):
-    """Seconds of the clock, of the program's own code and of the system's, and the peak of memory in KiB."""
+    """Seconds of wall-clock, user and system time, and peak memory in KiB."""
     start = time.monotonic()
     process = subprocess.Popen(command, stdout=subprocess.DEVNULL, stderr=subprocess.DEVNULL if wanted else None)
     _, status, usage = os.wait4(process.pid, 0)
@@ -30,7 +32,7 @@ def measure(command, wanted=0):
 
 
 def plates(out):
-    """The paths of all plates below a folder, in the order in which they are looked at."""
+    """The paths of all plates below a folder, in the order in which they are verified."""
     found = [os.path.join(at, name) for at, _, names in os.walk(out) for name in names]
     return sorted(found, key=lambda path: ("CMYK".index(path[-5]), path))
 
@@ -72,7 +74,7 @@ def main():
             took = job()
             best[name] = min(best.get(name, took), took)
     for name, (clock, own, system, memory) in best.items():
-        print(f"{name}: {clock:.2f} s by the clock, {own:.2f} s of its own, {system:.2f} s of the system's, "
+        print(f"{name}: {clock:.2f} s wall-clock, {own:.2f} s user, {system:.2f} s system, "
               f"{memory} KiB")
     last = plates(out)[-1]
     with open(last, "r+b") as file:

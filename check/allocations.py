@@ -1,12 +1,13 @@
 #!/usr/bin/env python3
-"""Lets one allocation of a command fail, each in turn, and looks at what the command makes of it.
+"""Makes each allocation of a command fail in turn, and checks the command's result.
 
 usage: check/allocations.py PROGRAM [COMMAND ..]
 
-The commands are those of plateroom (all): run, keys, verify and replate over the small edition of examples/, one of an
-image, and drill 7. Each ends with 6 and the line on memory, with a front of the text and of each plate, or with 0 and
-all of them, where it does without what it asked for, as without a thread. Texts and plates are those of the definitions. It wants a C compiler, as `cc`, and takes some minutes,
-so the gate doesn't run it. It prints how many allocations each command has and closes with `N passed, M failed`.
+The commands are those of plateroom (default: all): run, keys, verify and replate over the small edition of
+examples/, one of an image, and drill 7. Each must end with 6 and the line on memory, with a front of the text
+and of each plate; or with 0 and all of them, where it does without what it asked for, such as a thread. Texts
+and plates are those of the definitions. It needs a C compiler, as `cc`, and takes some minutes, so the gate
+doesn't run it. It prints how many allocations each command has and ends with `N passed, M failed`.
 """
 import json
 import os
@@ -58,14 +59,14 @@ void *malloc(size_t size) {
 
 
 class Command:
-    """A command: its words, what it prints where memory is there, and the plates that lie below OUT then."""
+    """A command: its arguments, what it prints if memory suffices, and the plates below OUT then."""
 
     def __init__(self, words, text, plates=()):
         self.words, self.text, self.plates = words, text, dict(plates)
 
 
 def commands(folder):
-    """Each command over the small edition, whose plates lie below WHOLE."""
+    """Each command over the small edition, whose plates are below WHOLE."""
     with open(os.path.join(EXAMPLES, "edition.json"), encoding="utf-8") as file:
         edition = Edition(json.load(file), EXAMPLES)
     before = Edition({**edition.plan, "screens": {**edition.plan["screens"], "C": "bayer4"}}, EXAMPLES)
@@ -90,7 +91,7 @@ def commands(folder):
 
 
 def finished(plates, out):
-    """Those of the plates that lie there whole."""
+    """Those of the plates that are complete."""
     there = {}
     for path, plate in plates.items():
         if os.path.isfile(os.path.join(out, path)):

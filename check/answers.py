@@ -1,4 +1,4 @@
-"""What the program answers: each status with its line, and on which stream, from real files and folders."""
+"""The answers of the program: each status with its line, and on which stream, from real files and folders."""
 import json
 import os
 import re
@@ -179,7 +179,7 @@ def wants_of_memory(trial, folder):
     trial.answers(["one", "in/huge.tif"], 6, b"", None, folder=folder, limits=[(MEMORY, 1 << 28)],
                   streams=("", "/dev/full"))
     os.remove(os.path.join(folder, "in", "huge.tif"))
-    trial.part("want of memory")
+    trial.part("out of memory")
 
 
 def streams_that_fail(trial, folder):

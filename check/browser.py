@@ -1,4 +1,4 @@
-"""The proof in a real browser: opens links, takes pictures of the plates, presses keys and drags."""
+"""The proof in a real browser: opens links, takes screenshots of the plates, presses keys and drags."""
 import io
 import shutil
 import time
@@ -20,7 +20,7 @@ except ImportError:
     numpy = Keys = None
 
 WAIT = 60
-# Where the middle of the window lies when whole blocks are looked at.
+# The middle of the window when whole blocks are compared.
 MIDDLE = 752, 552
 ARGUMENTS = (
     "--headless=new",
@@ -62,7 +62,7 @@ class Page:
         return self.driver.find_element("css selector", name)
 
     def settle(self):
-        """Waits until the data of the pair and all tiles are there. A screenshot then draws them."""
+        """Waits until the data of the pair and all tiles are loaded. A screenshot then draws them."""
         end = time.monotonic() + WAIT
         while time.monotonic() < end:
             if self.script(LOADED):
@@ -84,7 +84,7 @@ class Page:
             self.settle()
 
     def box(self):
-        """Where the map lies: left, top, width, height."""
+        """The map's box: left, top, width, height."""
         return [round(value) for value in self.script(BOX)]
 
     def picture(self):
@@ -111,12 +111,12 @@ class Page:
         return picture[top : top + LENGTH // side, left : left + WIDTH // side]
 
     def on_screen(self, pixel, middle):
-        """Where a plate pixel lies on the screen at one to one, when another is in the middle of the map."""
+        """The position of a plate pixel on the screen at one to one, when another is in the middle of the map."""
         left, top, width, height = self.box()
         return left + width // 2 + pixel[0] - middle[0], top + height // 2 + pixel[1] - middle[1]
 
     def point(self, place):
-        """Moves the mouse to a place of the screen."""
+        """Moves the mouse to a position on the screen."""
         actions = ActionBuilder(self.driver)
         actions.pointer_action.move_to_location(*place)
         actions.perform()
@@ -148,7 +148,7 @@ def touch(page, start, end):
 
 
 def drag(page, start, end, shift=False):
-    """Drags from one place of the screen to another."""
+    """Drags from one position on the screen to another."""
 
     if shift:
         ActionChains(page.driver).key_down(Keys.SHIFT).perform()

@@ -92,7 +92,7 @@ class Job:
 
     def plate(self, left, right, ink):
         """The dots of a plate: those of its two pages, and the mark of 4 by 4 pixels in its corner, which
-        lies in the margin."""
+        is in the margin."""
         return 16 + sum(map(sum, self.screened(left, ink))) + sum(map(sum, self.screened(right, ink)))
 
     def site(self, number):

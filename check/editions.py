@@ -1,7 +1,7 @@
-"""Editions that the program is tried with: their plans, and their images in all the forms that are taken.
+"""Editions to test the program with: their plans, and their images in all accepted forms.
 
-All is made of fixed seeds. Images are written by code of their own, with packets of PackBits that no packing by a
-rule would choose: short, across rows, with headers that give nothing.
+Everything comes from fixed seeds. Images are written by separate code, with packets of PackBits that no
+regular packer would choose: short, across rows, with headers that give nothing.
 """
 import json
 import os
@@ -10,7 +10,7 @@ import struct
 
 
 def loosely_packed(data, rng):
-    """Packets that stand for the bytes, of lengths by chance."""
+    """Packets that expand to the bytes, of random lengths."""
     out, at = bytearray(), 0
     while at < len(data):
         if rng.random() < 0.1:
@@ -81,7 +81,7 @@ def contone(width, length, seed, planar=False, **form):
 
 
 def line(width, length, seed, photometric, **form):
-    """A picture of one bit a pixel: bars, discs and specks. Padding bits are by chance."""
+    """A picture of one bit a pixel: bars, discs and specks. Padding bits are random."""
     rng, across = random.Random(seed), (width + 7) // 8
     rows = bytearray()
     for y in range(length):
@@ -252,7 +252,7 @@ def curve_by_chance(rng):
 
 
 def by_chance(seed, most_sections=2, most_zones=2, most_sites=4):
-    """A small edition in which everything is by chance."""
+    """A random small edition."""
     rng = random.Random(seed)
     number = rng.choice((1, 2, 2))
     letters = "CMYKS"[:3 + number]

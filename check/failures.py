@@ -1,5 +1,6 @@
-"""What fails under `pressroom night`, and that it goes on: delivery, the disk, the clock, the house file,
-odd folders."""
+"""Failures under `pressroom night`, which must continue: delivery, the disk, the clock, the house file, odd
+folders.
+"""
 import json
 import os
 import shutil
@@ -103,7 +104,7 @@ def two_at_once(tried, paper, folder):
 
 
 def clock(tried, paper, folder):
-    """The clock jumps back by two hours between passes; then the machine starts anew with a clock that is
+    """The clock jumps back by two hours between passes; then the machine restarts with a clock that is
     behind."""
     spool = Spool(tried, paper, folder, "clock")
     if shutil.which("faketime"):
@@ -134,7 +135,7 @@ def clock(tried, paper, folder):
 
 
 def full_disk(tried, paper, folder):
-    """The spool's disk is full in the middle of a night; when there is room, the night goes on."""
+    """The spool's disk is full in the middle of a night; when there is room, the night continues."""
     root = os.path.join(folder, "disk")
     os.mkdir(root)
     if subprocess.run(
@@ -183,7 +184,7 @@ WRONG = [
     ('[night]\nsettle = "x"\n', "house.toml:2: night.settle: 'x' isn't a number of 0 to 86400"),
     ("\n[night]\nkeep = 3\nkep = 1\n", "house.toml:4: night.kep is unknown"),
     ("[night]\nkeep = 0\n", "house.toml:2: night.keep: 0 isn't a whole number of 1 to 1000"),
-    ('[night]\nmetrics = "m.prom"\n', "house.toml:2: night.metrics: 'm.prom' isn't a path from the root"),
+    ('[night]\nmetrics = "m.prom"\n', "house.toml:2: night.metrics: 'm.prom' isn't an absolute path"),
     ("[night]\nparts = 1\n", "house.toml:2: night.parts: 1 isn't true or false"),
     ('[delivery]\nrsync = "-z"\n', "house.toml:2: delivery.rsync: '-z' isn't a list of options"),
     ("[delivery]\ntries = 2.5\n", "house.toml:2: delivery.tries: 2.5 isn't a whole number of 1 to 1000"),
@@ -196,7 +197,7 @@ WRONG = [
 
 
 def houses(tried, paper, folder):
-    """A house file that is wrong is named with its line, and nothing begins."""
+    """A wrong house file is named with its line, and nothing begins."""
     spool = Spool(tried, paper, folder, "house")
     for text, line in WRONG:
         os.path.exists(spool.file("house.toml")) and os.remove(spool.file("house.toml"))
@@ -213,7 +214,7 @@ def houses(tried, paper, folder):
 
 
 def strangers(tried, paper, folder):
-    """What doesn't belong in a spool: links, odd names, an empty folder, a state of no edition."""
+    """Files that don't belong in a spool: links, odd names, an empty folder, a state of no edition."""
     spool = Spool(tried, paper, folder, "strangers")
     os.mkdir(spool.file("in", "EMPTY"))
     os.mkdir(spool.file("in", "a name"))
@@ -224,7 +225,7 @@ def strangers(tried, paper, folder):
     os.symlink(os.path.join(spool.folder, "page.tif"), page)
     events = spool.rest("a link in the place of a page")
     texts = [event["text"] for event in events if event["event"] == "fault"]
-    spool.holds("the link isn't followed", texts == ["waits for its pages: A3-text.tif isn't there"], texts)
+    spool.holds("the link isn't followed", texts == ["waits for its pages: A3-text.tif is missing"], texts)
     os.remove(page)
     os.rename(os.path.join(spool.folder, "page.tif"), page)
     spool.rest("the page itself")
@@ -235,7 +236,7 @@ def strangers(tried, paper, folder):
 
 
 def restoring(tried, paper, folder):
-    """What the manual says of restoring: folders of the spool that are lost come back, and no site gets other bytes."""
+    """Restoring as the manual describes it: lost folders of the spool come back, and no site gets other bytes."""
     spool = Spool(tried, paper, folder, "restoring")
     spool.comes("MORNING")
     spool.rest("first")

@@ -1,4 +1,6 @@
-"""What `verify` says of plates that a run left, and of such as were changed, cut, replaced or taken away."""
+"""What `verify` reports for plates that a run left, and for plates that were changed, cut, replaced or
+removed.
+"""
 import os
 import shutil
 
@@ -11,7 +13,7 @@ MOST = 600_000_000
 
 
 def paths(edition):
-    """Each plate in the order in which they are looked at: path below the folder of plates, bytes and rows."""
+    """Each plate in the order in which they are verified: path below the folder of plates, bytes and rows."""
     for name, left, right, inks, sites in edition.groups():
         for ink in inks:
             width, rows = edition.plate(left, right, ink)
@@ -21,7 +23,7 @@ def paths(edition):
 
 
 def same(edition):
-    """What is said where all plates are right."""
+    """The line if all plates are right."""
     return f"same plates {len(list(paths(edition)))} sites {len(edition.plan['sites'])}\n"
 
 
@@ -44,7 +46,7 @@ def differing(file, held):
 
 
 def found(edition, folder):
-    """The status, the output and the line that `verify` ends with, over what lies below OUT of a folder."""
+    """The status, the output and the line that `verify` ends with, over what is below OUT of a folder."""
     for path, file, rows in paths(edition):
         full = os.path.join(folder, "OUT", path)
         if not os.path.isfile(full):
@@ -134,7 +136,7 @@ def by_hand(tried, folder):
             held.put(number, data)
             held.answers(8, f"differs OUT/{site}/E1-A-001-K.tif {told}\n")
         held.mend(number)
-    tried.part("plates looked at, by hand")
+    tried.part("plates verified, by hand")
 
 
 def large(held):
@@ -160,7 +162,7 @@ def streams(held):
 
 
 def behind_another(held):
-    """Two plates that aren't right: the first is told, and a missing one behind it isn't asked for."""
+    """Two plates that aren't right: the first is reported, and a missing one after it isn't loaded."""
     last = len(held.plates) - 1
     for first, second in ((0, last), (1, 2), (last - 1, last)):
         held.put(first, held.plates[first][1][:-1])
@@ -185,7 +187,7 @@ def many():
 
 
 def trials(tried, folder, edition):
-    """`verify` over plates of small editions, and of one in five inks whose images lie in `images`."""
+    """`verify` over plates of small editions, and of one in five inks whose images are in `images`."""
     by_hand(tried, folder)
     held = Plates(tried, folder, edition, "images")
     held.answers(0, same(edition))
@@ -196,11 +198,11 @@ def trials(tried, folder, edition):
     behind_another(held)
     streams(held)
     large(held)
-    tried.part("plates looked at, in five inks")
+    tried.part("plates verified, in five inks")
     held = Plates(tried, folder, Edition(many(), folder), "none")
     held.looked()
     path, file, _ = held.plates[-1]
     held.put(-1, file[:-1] + b"\1")
     held.answers(8, f"differs OUT/{path} byte {len(file) - 1}\n")
     shutil.rmtree(os.path.join(folder, "OUT"))
-    tried.part("1,024 plates looked at")
+    tried.part("1,024 plates verified")

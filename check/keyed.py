@@ -1,4 +1,6 @@
-"""What `keys` tells of an edition: the plates and the report of `run`, and the counts of each plate's ink keys."""
+"""What `keys` reports for an edition: the plates and the report of `run`, and the counts of each plate's ink
+keys.
+"""
 import os
 import shutil
 
@@ -31,7 +33,7 @@ def text(edition, keys, broken=()):
 
 
 def told(tried, folder, name, edition, files):
-    """Plates, report and counts of an edition, at one key, at some and at the most, over one ring and another."""
+    """Plates, report and counts of an edition, at one key, at some and at the most, over several rings."""
     plates, out = dict(edition.plates()), os.path.join(folder, "OUT")
     editions.write_plan(os.path.join(folder, "keyed.json"), edition.plan)
     for keys, ring in ((1, ["16", "7"]), (4, []), (64, ["1024", "7"])):
@@ -44,7 +46,7 @@ def told(tried, folder, name, edition, files):
 
 
 def left(tried, folder, edition, files):
-    """The counts are whole where a site left, and where all did."""
+    """The counts are complete if a site left, and if all did."""
     spans, out = edition.spans()[0], os.path.join(folder, "OUT")
     words = ["keys", "keyed.json", files, "OUT", "4"]
     sites = list(spans)
@@ -62,7 +64,7 @@ def left(tried, folder, edition, files):
 
 
 def refused(tried, folder, files):
-    """Words that are no command."""
+    """Arguments that are no command."""
     for keys in NO_KEYS:
         tried.answers(["keys", "keyed.json", files, "OUT", keys], 2, b"", b"plateroom: words\n", folder=folder)
     for words in ([], ["keyed.json"], ["keyed.json", files], ["keyed.json", files, "OUT"], ["", files, "OUT", "4"],
@@ -96,7 +98,7 @@ def by_hand(tried, folder):
 
 
 def trials(tried, folder, examples, small, five):
-    """The small edition of examples/, and one in five inks for five sites whose images lie in `images`."""
+    """The small edition of examples/, and one in five inks for five sites whose images are in `images`."""
     by_hand(tried, folder)
     refused(tried, folder, examples)
     told(tried, folder, "of examples/", small, examples)

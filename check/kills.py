@@ -1,5 +1,6 @@
-"""A night that is killed at moments by chance, again and again, until it rests: nothing that is READY is
-ever wrong."""
+"""A night that is killed at random moments, again and again, until it rests: nothing that is READY is ever
+wrong.
+"""
 import collections
 import json
 import os
@@ -44,7 +45,7 @@ class Kills:
         self.done = 0
 
     def run(self):
-        """Rounds of three editions and a late page each, until there were enough kills."""
+        """Runs rounds of three editions and a late page each, until there were enough kills."""
         while self.done < self.kills:
             self.rounds += 1
             spool = Spool(self.tried, self.paper, self.folder, f"killed{self.rounds}")
@@ -63,7 +64,7 @@ class Kills:
         print(f"killed {self.done} times in {self.rounds} rounds (seed {SEED})")
 
     def until_done(self, spool, phase):
-        """Passes that are killed, until one ends by itself with nothing to do, or there were enough kills."""
+        """Starts passes and kills them, until one ends by itself with nothing to do, or there were enough kills."""
         enough = min(self.kills, self.done + HALVES[phase][0])
         while self.done < enough:
             events = self.one(spool, phase)
@@ -72,7 +73,7 @@ class Kills:
                 return
 
     def moment(self, phase):
-        """A moment by chance: a function that says whether it has come, by the events so far."""
+        """A random moment: a function that says whether it has come, by the events so far."""
         _, longest, events = HALVES[phase]
         if self.done % 2:
             end = time.monotonic() + self.chance.uniform(0, longest)
@@ -87,7 +88,7 @@ class Kills:
         return come
 
     def one(self, spool, phase):
-        """A pass that is killed: alone, or with all that it started."""
+        """A pass that is killed: alone, or with everything that it started."""
         words = [sys.executable, "-B", press.ENTRY, "night", spool.path, "--json"]
         alone, come, path = self.chance.random() < 0.3, self.moment(phase), os.path.join(spool.folder, "said")
         with open(path, "w", encoding="utf-8") as said:

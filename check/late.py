@@ -1,4 +1,4 @@
-"""What `replate` makes of an edition that changed, and that all other plates stay as they lie there."""
+"""What `replate` makes of an edition that changed, and that all other plates are unchanged."""
 import json
 import os
 import random
@@ -54,7 +54,7 @@ class Late:
         self.stood = self.stats()
 
     def spoil(self, path):
-        """A folder lies in the place of a plate."""
+        """Puts a folder in the place of a plate."""
         if os.path.lexists(self.full(path)):
             os.remove(self.full(path))
         os.makedirs(self.full(path))
@@ -74,7 +74,7 @@ class Late:
         self.tried.holds(f"plates that are written, {self.what}", ", ".join(wrong[:3]))
 
     def done(self, text=None):
-        """All that must be made is made, and when the plates that are dropped are taken away, all is right."""
+        """Everything that must be made is made, and after the dropped plates are removed, all is right."""
         self.answers(0, self.change.text() if text is None else text)
         self.looked()
         for path in filter(os.path.isfile, map(self.full, self.change.dropped)):
@@ -177,7 +177,7 @@ def by_hand(tried, folder):
 
 
 def not_looked_at(tried, folder, before, after):
-    """What lies at the place of a plate that is kept makes no difference, and nothing is made for it."""
+    """The file at the path of a plate that is kept makes no difference, and nothing is made for it."""
     kept = "BERGEN/E1-A-001-K.tif"
     late = Late(tried, folder, "a kept plate that is another", before, after)
     editions.write(late.out, kept, b"no plate\n")
@@ -198,7 +198,7 @@ def not_looked_at(tried, folder, before, after):
     shutil.rmtree(late.out)
     tried.answers(JOBS, 0, b"site OSLO made 0 kept 1\ntotal made 0\n", b"", folder=folder)
     tried.holds("no folder where nothing is made", "it was made" if os.path.lexists(late.out) else "")
-    tried.part("plates that aren't looked at")
+    tried.part("plates that aren't loaded")
 
 
 def streams(tried, folder, before, after):
@@ -295,7 +295,7 @@ def layers_with(plan, change):
 
 
 def in_full(part):
-    """A layer with all that it leaves out."""
+    """A layer with every key that it leaves out."""
     return dict({"x": 0, "y": 0, "scale": 1, "paint": "knockout", "ink": [0, 0, 0, 255]}, **part)
 
 
@@ -352,7 +352,7 @@ def changes(plan):
 
 
 def in_five_inks(tried, folder, files):
-    """One thing after another is changed."""
+    """Changes one thing after another."""
     plan = small()
     before = Edition(plan, files)
     for what, new, made, dropped in changes(plan):
@@ -401,7 +401,7 @@ def sites_that_leave(tried, folder, before, files):
     tried.part("sites that leave where plates are made again")
 
 
-# ---- by chance
+# ---- random editions
 
 def changed_by_chance(rng, plan):
     """A small edition with one to three changes."""
@@ -435,19 +435,19 @@ def changed_by_chance(rng, plan):
 
 
 def by_chance(tried, folder, files, seeds):
-    """Small editions in which everything is by chance, and what changes too."""
+    """Random small editions with random changes."""
     other, shares = copied(folder, "changed", files, {"bars.tif": 1, "white.tif": 5, "planar.tif": 9}), []
     for seed in seeds:
         plan = editions.by_chance(seed)
         rng = random.Random(1000 + seed)
         before = Edition(plan, files)
         after = Edition(changed_by_chance(rng, plan), rng.choice((files, files, other)))
-        late = Late(tried, folder, f"by chance {seed}", before, after)
+        late = Late(tried, folder, f"random {seed}", before, after)
         late.done()
         shares.append(len(late.change.made) / len(recipes(after)))
     some = sum(0 < share < 1 for share in shares)
     tried.holds("changes of a part of the plates", "" if 3 * some > len(shares) else f"{some} of {len(shares)}")
-    tried.part(f"{len(shares)} changes by chance")
+    tried.part(f"{len(shares)} random changes")
 
 
 def of_examples(tried, folder, before):
@@ -464,7 +464,7 @@ def of_examples(tried, folder, before):
 
 
 def trials(tried, folder, files, example):
-    """`replate` over editions whose images lie in `files`, and over that of examples/."""
+    """`replate` over editions whose images are in `files`, and over that of examples/."""
     refusals(tried, folder)
     by_hand(tried, folder)
     in_five_inks(tried, folder, files)

@@ -1,5 +1,6 @@
-"""What `pressroom late` does: which plates it makes, that the version before stays, and which pages it
-refuses."""
+"""What `pressroom late` does: which plates it makes, that the version before is unchanged, and which pages it
+refuses.
+"""
 import json
 import os
 import shutil
@@ -7,7 +8,7 @@ import shutil
 import press
 from press import SITES, digest, faults_of_ready, faults_of_verify, pressroom
 
-# Stands in for `pressroom intake`: copies each page IN/NAME.pdf, which is a TIFF here, to WORK's file NAME.
+# Replaces `pressroom intake`: copies each page IN/NAME.pdf, which is a TIFF here, to WORK's file NAME.
 INTAKE = """#!/bin/sh
 [ "$1" = intake ] || exec '{entry}' "$@"
 [ -f "$2" ] || exit 2
@@ -24,7 +25,7 @@ done
 
 
 class Late:
-    """An edition that was made, and what comes late."""
+    """An edition that was made, and its late pages."""
 
     def __init__(self, tried, paper, folder):
         self.tried, self.paper, self.folder = tried, paper, os.path.join(folder, "late")
@@ -42,7 +43,7 @@ class Late:
         return os.path.join(self.out, os.readlink(os.path.join(self.out, "current")))
 
     def page(self, name, other):
-        """A page that comes late: the bytes of another file of the edition, under this one's name."""
+        """A late page: the bytes of another file of the edition, under this one's name."""
         path = os.path.join(self.folder, name)
         shutil.copyfile(os.path.join(self.paper.art, other), path)
         return path
@@ -54,7 +55,7 @@ class Late:
         return {path: (os.stat(path).st_ino, os.stat(path).st_mtime_ns, digest(path)) for path in paths}
 
     def made(self, what, page, sites, *names):
-        """What comes late makes these plates of these sites: exactly they are new files, all plates are
+        """A late page makes these plates of these sites: exactly they are new files, all plates are
         right, and the version before stays."""
         old, stood = self.current(), self.tree(self.current())
         before = self.wanted
@@ -97,7 +98,7 @@ class Late:
         self.made("a screen", text, press.PRESSES["south"], *names)
 
     def stays(self, what, status, line, *words):
-        """late ends so: no version is new, and WORK is as it was."""
+        """late ends so: no version is new, and WORK is unchanged."""
         before, work, names = self.current(), self.tree(self.work), os.listdir(self.out)
         answer = pressroom(self.program, "late", *words)
         self.holds(
@@ -145,7 +146,7 @@ class Late:
         )
 
     def leaves(self):
-        """A site fails in replate: it is made again alone, in full, and the version before stays."""
+        """A site fails in replate: it is remade alone, in full, and the version before is unchanged."""
         with open(os.path.join(self.folder, "fault"), "w", encoding="utf-8") as file:
             file.write("killed 1\n")
         old, stood = self.current(), self.tree(self.current())

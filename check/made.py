@@ -10,7 +10,7 @@ from press import SITES, faults_of_ready, faults_of_verify, pressroom, sites_rea
 
 
 class Make:
-    """A WORK folder, an OUT folder, and a program that fails when it is told to."""
+    """A WORK folder, an OUT folder, and a program that fails on request."""
 
     def __init__(self, tried, paper, folder):
         self.tried, self.paper, self.folder = tried, paper, os.path.join(folder, "make")
@@ -88,7 +88,7 @@ class Make:
             print("skipped: parts (make isn't installed)")
 
     def recovers(self):
-        """A site that fails once is made again alone, and no other one."""
+        """A site that fails once is remade alone, and no other site is."""
         for word, why in (
             ("blocked", "left plates 0 row 0 call begin"),
             ("killed", "the program ended with status 137"),
@@ -114,7 +114,7 @@ class Make:
         self.holds("resumed, OSLO isn't made again", now == before, "another file")
 
     def no_sums(self):
-        """SHA256SUMS can't be written: the site has no READY, since that comes behind it."""
+        """SHA256SUMS can't be written: the site has no READY, since that is written after it."""
         self.fault("sums 1")
         _, report = self.makes("no SHA256SUMS", 1, SITES[:2], current=False)
         why = report["sites"]["TROMSO"]["why"]
@@ -125,7 +125,7 @@ class Make:
         path = os.path.join(self.work, "files", "A3-text.tif")
         os.rename(path, path + ".away")
         answer, report = self.makes("no file", 4, [], current=False)
-        line = "north: fault: A3-text.tif (line): isn't there, or can't be read; page A3 layer 0"
+        line = "north: fault: A3-text.tif (line): is missing or can't be read; page A3 layer 0"
         self.holds("no file, line", line in report["refused"] and line in answer.stdout, report)
         os.rename(path + ".away", path)
         for name, text in (("wrong", "{"), ("again", json.dumps(dict(self.paper.plans("MORNING"))["north"]))):
@@ -140,7 +140,7 @@ class Make:
             os.remove(os.path.join(self.work, f"{name}.json"))
 
     def begins_not(self):
-        """No plan, an OUT that can't be made, a lock that is held, words that are wrong: no version is
+        """No plan, an OUT that can't be made, a lock that is held, wrong arguments: no version is
         begun."""
         before = self.versions()
         empty = os.path.join(self.folder, "empty")

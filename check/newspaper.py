@@ -1,12 +1,12 @@
 #!/usr/bin/env python3
-"""Makes the newspaper of examples/newspaper, runs the program on it, and looks at what its plates print.
+"""Makes the newspaper of examples/newspaper, runs the program on it, and checks what its plates print.
 
     python3 check/newspaper.py PROGRAM
 
-The ink of each step of the wedges is within one percent of what the curve, the limit and the screen say, each
-plate bears its own name, the spot stands under its mask, and sites that share a pair have the same bytes.
-Plates are read by a reader of this file's own. It needs nothing but Python; the proof is looked at where
-Pillow and numpy are there. The last line is `N passed, M failed`, and the status is 1 where one failed.
+The ink of each step of the wedges is within one percent of what the curve, the limit and the screen give,
+each plate has its own name, the spot is under its mask, and sites that share a pair have the same bytes. This
+file has its own reader of plates. It needs only Python; the proof is checked if Pillow and numpy are
+installed. The last line is `N passed, M failed`, and the status is 1 if one failed.
 """
 import importlib.util
 import json
@@ -85,7 +85,7 @@ class Plate:
 
 
 def toned(points, value):
-    """What a curve makes of a value."""
+    """The value of a curve at a value."""
     for (x0, y0), (x1, y1) in zip(points, points[1:]):
         if x0 <= value <= x1:
             return (y0 * (x1 - value) + y1 * (value - x0)) // (x1 - x0)
@@ -112,7 +112,7 @@ def share_of(plan, ink, value):
 
 
 class Edition:
-    """The plan, the plates, and where pages lie on them."""
+    """The plan, the plates, and the positions of pages on them."""
 
     def __init__(self, plan, plates, make):
         self.plan, self.plates, self.make, self.read = plan, plates, make, {}
@@ -138,7 +138,7 @@ class Edition:
 
 
 def see_report(results, edition, report):
-    """The lines of the run, and that no plate is missing and none too many."""
+    """The lines of the run, and that no plate is missing or superfluous."""
     plan, pairs = edition.plan, ("A-001", "A-002", "B-001", "B-002")
     names = sorted(f"MORNING-{pair}-{ink}.tif" for pair in pairs for ink in edition.inks(pair))
     height = plan["margins"][1] + plan["page"][1] + plan["margins"][3]
@@ -190,7 +190,7 @@ def see_spot(results, edition):
 
 
 def see_names(results, edition):
-    """Each plate bears its own name and no other ink's, and the patch of its ink."""
+    """Each plate has its own name and no other ink's, and the patch of its ink."""
     make, width = edition.make, edition.plan["page"][0]
     for site in make.SITES:
         for pair in ("A-001", "A-002", "B-001", "B-002"):
@@ -232,7 +232,7 @@ def see_sites(results, edition):
 
 
 def see_tools(results, program, edition, folder):
-    """The companions on this edition."""
+    """The tools on this edition."""
     words = [sys.executable, "-B", os.path.join(TOP, "tools", "check.py"), "--strict", "--program", program]
     answer = subprocess.run(
         words + [os.path.join(folder, "plan.json"), os.path.join(folder, "art")],

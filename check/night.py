@@ -1,10 +1,10 @@
 #!/usr/bin/env python3
-"""Tries `pressroom make`, `late` and `night` on the newspaper of examples/ at a quarter of its size.
+"""Tests `pressroom make`, `late` and `night` on the newspaper of examples/ at a quarter of its size.
 
     check/night.py PROGRAM [--kills N]
 
-Plates are compared with those of a run of the program alone. What isn't installed is skipped and said so. The
-last line is `N passed, M failed`, and the status is 1 where one failed.
+Plates are compared with those of a run of the program alone. It skips and reports what isn't installed. The
+last line is `N passed, M failed`, and the status is 1 if one failed.
 """
 import argparse
 import functools
@@ -26,8 +26,8 @@ from units import unit_trials
 
 
 def place():
-    """Where the trials are made: in memory, where there is enough for files, since each plate is synced to
-    its disk."""
+    """The folder of the tests: in memory, if there is enough for files, since each plate is synced to its
+    disk."""
     memory = "/dev/shm"
     if os.access(memory, os.W_OK) and shutil.disk_usage(memory).free > 2 * 10**9:
         return memory
@@ -40,7 +40,7 @@ def main():
     )
     parser.add_argument("program", metavar="PROGRAM")
     parser.add_argument("--kills", type=int, default=12, help="how often a night is killed (12)")
-    parser.add_argument("--only", metavar="NAME", help="this part alone, as kills")
+    parser.add_argument("--only", metavar="NAME", help="run only this part, such as kills")
     words = parser.parse_args()
     tried = trial.Trial(words.program)
     with tempfile.TemporaryDirectory(prefix="plateroom-night-", dir=place()) as folder:

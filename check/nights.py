@@ -1,5 +1,4 @@
-"""A whole night by `pressroom night`: editions that come in one way and another, late pages, metrics,
-retention."""
+"""A whole night of `pressroom night`: editions that arrive in different ways, late pages, metrics, retention."""
 import os
 import re
 import shutil
@@ -67,7 +66,7 @@ def metrics(spool, wanted):
 
 
 def retention(spool):
-    """Old editions go by the house's rule; the last good one stays, also when a later one fails."""
+    """Old editions are removed by the house's rule; the last good one is kept, also when a later one fails."""
     last = max(("MORNING", "EVENING", "NIGHT"), key=lambda name: spool.state(name)["number"])
     spool.house(keep=1, versions=1, give_up=0.3)
     spool.rest("keep 1")

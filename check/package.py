@@ -3,12 +3,12 @@
 
     check/package.py PROGRAM [--base FOLDER]
 
-Two packages are made with the program: of the last commit, and of the last commit that has an older
-version. They go into a root folder by debootstrap with the recommended packages and systemd, which doesn't
-run there. The newspaper is made by a user of no privilege. At the end the root has to be as it was, file by
-file, but for caches, logs and what apt and dpkg know. FOLDER keeps the clean root for the next time;
-without it the root is made anew, some 200 MB from Debian's mirror. It needs root, debootstrap and what
-package/deb.sh needs. The last line is `N passed, M failed`, and the status is 1 where one failed.
+Two packages are made with the program: of the last commit, and of the last commit that has an older version.
+They go into a root folder made by debootstrap with the recommended packages and systemd, which doesn't run
+there. A user without privileges makes the newspaper. At the end the root must be unchanged, file by file,
+except caches, logs and the records of apt and dpkg. FOLDER keeps the clean root for the next time; without it
+the root is made anew, some 200 MB from Debian's mirror. It needs root, debootstrap and what package/deb.sh
+needs. The last line is `N passed, M failed`, and the status is 1 if one failed.
 """
 import argparse
 import hashlib
@@ -67,7 +67,7 @@ class Root:
         self.folder = folder
 
     def run(self, *words, user=None, folder="/"):
-        """Runs a program there, and returns its status and all that it wrote."""
+        """Runs a program there, and returns its status and everything that it wrote."""
         who = [f"--userspec={user}:{user}"] if user else []
         asked = ["chroot", *who, self.folder, "/usr/bin/env", "-i", *ENVIRONMENT, f"HOME={folder}",
                  "sh", "-c", 'cd "$0" && exec "$@"', folder, *words]
@@ -76,7 +76,7 @@ class Root:
         return done.returncode, done.stdout
 
     def must(self, *words):
-        """Runs what the trial can't go on without."""
+        """Runs a program that must succeed for the test to continue."""
         status, text = self.run(*words)
         if status:
             sys.exit(f"check/package.py: {' '.join(words)} ended with status {status}:\n{text}")
@@ -85,7 +85,7 @@ class Root:
         return os.path.join(self.folder, name.lstrip("/"))
 
     def state(self):
-        """Each path there, with all that a package could change of it."""
+        """Each path there, with everything that a package could change of it."""
         found = {}
         for folder, folders, names in os.walk(self.folder):
             here = "/" + os.path.relpath(folder, self.folder) if folder != self.folder else ""
@@ -137,7 +137,7 @@ class Tried:
         self.trial, self.root = trial, root
 
     def runs(self, *words, says="", status=0, **how):
-        """A program ends with this status, and what it writes has this text. Returns what it wrote."""
+        """A program ends with this status, and its output has this text. Returns the output."""
         got, text = self.root.run(*words, **how)
         fault = got != status and f"status {got} and not {status}" or says not in text and f"no {says!r}"
         self.trial.holds(" ".join(words), fault and f"{fault}:\n{text[-2000:]}")
@@ -148,7 +148,7 @@ class Tried:
 
 
 def try_install(tried, deb, version):
-    """Installs a package over what is there."""
+    """Installs a package over the present state."""
     shutil.copy(deb, tried.root.path("/tmp/plateroom.deb"))
     tried.runs("apt-get", "install", "-y", "--no-install-recommends", "/tmp/plateroom.deb")
     tried.runs("dpkg-query", "-W", "-f", "${Version} ${db:Status-Status}", "plateroom",
@@ -159,7 +159,7 @@ def try_install(tried, deb, version):
 
 
 def try_old_tools(tried):
-    """Root ran the tools of the older version, and Python left its bytecode beside them."""
+    """Root ran the tools of the older version, and Python left its bytecode next to them."""
     tried.runs("python3", "/usr/share/plateroom/tools/check.py", "--help", says="usage")
     left = tried.root.path("/usr/share/plateroom/tools/__pycache__")
     os.makedirs(left, exist_ok=True)
@@ -168,7 +168,7 @@ def try_old_tools(tried):
 
 
 def try_upgraded(tried, version):
-    """Nothing of the older version is left, and all of the new one can be found."""
+    """Nothing of the older version is left, and everything of the new one is present."""
     listed = set(tried.runs("dpkg", "-L", "plateroom").split("\n"))
     for top in "/usr/share/plateroom", "/usr/share/doc/plateroom":
         there = tried.runs("find", top, "-name", "__pycache__", "-prune", "-o", "-print").split("\n")
@@ -202,7 +202,7 @@ def try_newspaper(tried, commands):
     tried.runs("pressroom", "tile", "K45", "--angle", "45", "--ruling", "100", says="K45: side 17", **how)
     for name in commands:
         tried.runs("pressroom", name, "--help", says=f"usage: pressroom {name}", **how)
-    # Once more by root, who may write beside the modules and the examples.
+    # Once more by root, who may write next to the modules and the examples.
     tried.runs("python3", f"{EXAMPLES}/newspaper/make.py", "--art", "/tmp/root", "--plan", "/tmp/root.json")
     tried.runs("pressroom", "check", "/tmp/root.json", "/tmp/root", says="0 faults, 0 notes")
 
@@ -239,7 +239,7 @@ def try_night(tried):
 
 
 def try_units(tried):
-    """Units are there, right, and not enabled; a house enables them."""
+    """Units are installed, right, and not enabled; a house enables them."""
     folder = tried.root.path(UNITS)
     units = sorted(name for name in os.listdir(folder) if name.startswith("pressroom"))
     for unit in units:
@@ -255,7 +255,7 @@ def try_units(tried):
 
 
 def try_gone(tried, before, but=()):
-    """After purge all is as it was before the first installation, but for what is at these paths or below."""
+    """After purge everything is as before the first installation, except at these paths or below."""
     after = tried.root.state()
     changed = sorted(name for name in before.keys() | after.keys()
                      if before.get(name) != after.get(name) and not name.startswith(tuple(but)))
@@ -265,7 +265,7 @@ def try_gone(tried, before, but=()):
 
 
 def try_purge(tried, before, editions):
-    """Removes and purges the package. Editions in the spool are the house's: they stay, with their user."""
+    """Removes and purges the package. Editions in the spool are the house's: they are kept, with their user."""
     tried.runs("apt-get", "remove", "-y", "plateroom")
     tried.holds("files after remove", [name for name in tried.root.state() if "/plateroom" in name])
     told = tried.runs("apt-get", "purge", "-y", "plateroom")
@@ -307,7 +307,7 @@ def read_words():
     parser = argparse.ArgumentParser(description=__doc__,
                                      formatter_class=argparse.RawDescriptionHelpFormatter)
     parser.add_argument("program", metavar="PROGRAM", help="the built program")
-    parser.add_argument("--base", metavar="FOLDER", help="the clean root, made if it isn't there, and kept")
+    parser.add_argument("--base", metavar="FOLDER", help="the clean root, which is made if missing, and kept")
     return parser.parse_args()
 
 

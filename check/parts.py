@@ -1,12 +1,12 @@
 #!/usr/bin/env python3
-"""Tries tools/parts.py: what it cuts editions by chance into, and that it refuses what the program refuses.
+"""Tests tools/parts.py: how it cuts random editions, and that it refuses what the program refuses.
 
     check/parts.py PROGRAM [COUNT]
 
-Of each of COUNT editions (200): that by the definitions each plate of the whole is in exactly one part and made of
-the same there; what the lines of the parts say; that the program takes each part, and that what all of them leave
-is what one run of the whole does, byte for byte; and what `verify` and `replate` say of it. The last line is
-`N passed, M failed`, and the status is 1 where one failed.
+For each of COUNT editions (200) it checks that by the definitions each plate of the full edition is in
+exactly one part and made from the same there; what the lines of the parts say; that the program accepts each
+part, and that all of them leave what one run of the full edition does, byte for byte; and what `verify` and
+`replate` report of it. The last line is `N passed, M failed`, and the status is 1 if one failed.
 """
 import json
 import os
@@ -151,7 +151,7 @@ def tool(tried, *words):
 
 
 def by_chance(tried, folder, files, count):
-    """Editions in which everything is by chance, and how they are cut too."""
+    """Random editions, cut at random."""
     several, refused = 0, 0
     for seed in range(count):
         rng, what = random.Random(seed + 7_000), (tried, folder, f"edition {seed}", edition_by_chance(seed), files)
@@ -164,7 +164,7 @@ def by_chance(tried, folder, files, count):
         cut.by_program()
         several += len(cut.parts) > 1
     tried.holds("several parts", "" if 3 * several > count else f"{several} of {count}")
-    tried.part(f"{count} editions by chance, {several} in several parts, {refused} too large for --most at first")
+    tried.part(f"{count} random editions, {several} in several parts, {refused} too large for --most at first")
 
 
 def hostile(tried, folder):
@@ -196,7 +196,7 @@ def newspaper(tried, folder):
 
 
 def words(tried, folder, files):
-    """Words that are wrong, files that aren't there, and a part that lies there already."""
+    """Wrong arguments, missing files, and a part that is already present."""
     plan, path, cut = edition_by_chance(1), os.path.join(folder, "plan.json"), os.path.join(folder, "cut")
     shutil.rmtree(cut, ignore_errors=True)
     editions.write_plan(path, plan)
@@ -222,7 +222,7 @@ def words(tried, folder, files):
     tool(tried, path, cut, "--files", files)
     now = {name: os.stat(os.path.join(cut, name)).st_mtime_ns for name in os.listdir(cut)}
     tried.holds("parts that changed are written", "" if all(now[name] > kept[name] for name in now) else repr(now))
-    tried.part("words, files and parts that lie there")
+    tried.part("arguments, files and parts that are present")
 
 
 def main():

@@ -1,4 +1,4 @@
-"""Which plates of a new edition must be made beside those of an old one, by the definitions alone."""
+"""Which plates of a new edition must be made, given those of an old one, by the definitions alone."""
 import functools
 import os
 
@@ -14,7 +14,7 @@ def bytes_of(edition, name):
 
 
 def page_recipe(edition, page):
-    """What a page is made of, with the bytes of images and masks in the place of their names."""
+    """What a page is made from, with the bytes of images and masks in place of their names."""
     return "C" in page["inks"], "S" in page["inks"], [
         (part["kind"], part.get("x", 0), part.get("y", 0), part.get("scale", 1), part.get("crop"),
          part.get("paint", "knockout"), (part.get("ink", [0, 0, 0, 255]) + [0])[:5],
@@ -29,7 +29,7 @@ def screen_recipe(plan, ink):
 
 
 def recipes(edition):
-    """All that each plate is made of. Names of files, pages, tiles and zones are no part of it."""
+    """Everything that each plate is made from. Names of files, pages, tiles and zones are no part of it."""
     plan, made = edition.plan, {}
     pages = {name: page_recipe(edition, page) for name, page in edition.pages.items()}
     common = (
@@ -69,7 +69,7 @@ class Change:
         return tuple(len(self.end(site, ())[0]) for site in self.after.spans()[0])
 
     def text(self, broken=()):
-        """What is printed where the plates in `broken` can't be made."""
+        """What is printed if the plates in `broken` can't be made."""
         lines, total = [], 0
         for site, plates in self.after.spans()[0].items():
             finished, left = self.end(site, broken)
@@ -81,8 +81,8 @@ class Change:
         return "".join(line + "\n" for line in [*lines, f"total made {total}"])
 
     def files(self, broken):
-        """The plates that lie there then: those that are made, those that stay as they were, and those begun,
-        which lie there under other names."""
+        """The plates below OUT afterwards: those that are made, those that are unchanged, and those begun,
+        which have other names."""
         plates, stays, made, begun = plates_of(self.after), dict(plates_of(self.before)), {}, {}
         for site, spans in self.after.spans()[0].items():
             finished, left = self.end(site, broken)

@@ -4,7 +4,7 @@
     plateroom run PLAN FILES OUT
     python3 check/plates.py PLAN FILES OUT
 
-It shares no code with plateroom, looks at nothing that plateroom wrote but to compare it, and is slow: it is for
+It shares no code with plateroom and reads what plateroom wrote only to compare it. It is slow: it is for
 small editions.
 """
 import json
@@ -226,7 +226,7 @@ def row_of(bits):
 
 
 def compared(wanted, out, parts=None):
-    """How a folder of plates differs from those that are wanted, if it does. Of `parts` a front may be there,
+    """How a folder of plates differs from the expected ones, if it does. Of `parts` a front may be present,
     under the name that a plate has until it is whole."""
     faults, parts = [], parts or {}
     found = {os.path.relpath(os.path.join(at, name), out) for at, _, names in os.walk(out) for name in names}
@@ -247,7 +247,7 @@ def compared(wanted, out, parts=None):
 
 
 def is_begun(part, plate):
-    """Whether a file is the front of a plate that isn't finished: the place of its directory is 0."""
+    """Whether a file is the front of a plate that isn't finished: the offset of its directory is 0."""
     return part == (plate[:4] + bytes(4) + plate[8:])[:len(part)] and len(part) < len(plate)
 
 

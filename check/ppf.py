@@ -1,11 +1,11 @@
 #!/usr/bin/env python3
-"""Tries `pressroom ppf`: Ghostscript draws the previews of its files, and they are what the plates print.
+"""Tests `pressroom ppf`: Ghostscript draws the previews of its files, which must be what the plates print.
 
     python3 check/ppf.py PROGRAM
 
 Plates are read by check/tiff.py, which shares no code with the tools, and the tables are compared with the
-program's own `keys`. What is missing of numpy, Pillow and Ghostscript is named, and the trials that need it
-are skipped. The last line is `N passed, M failed`, and the status is 1 where one failed.
+program's own `keys`. It names what is missing of numpy, Pillow and Ghostscript, and skips the tests that need
+it. The last line is `N passed, M failed`, and the status is 1 if one failed.
 """
 import csv
 import json
@@ -43,7 +43,7 @@ PROLOG = """
 
 
 def tool(*words):
-    """Runs `pressroom ppf`: its status, what it printed, and its complaint."""
+    """Runs `pressroom ppf` and returns its status, its output and its messages."""
     line = [sys.executable, "-B", os.path.join(TOP, "tools", "pressroom.py"), "ppf", *map(str, words)]
     answer = subprocess.run(line, capture_output=True, text=True)
     return answer.returncode, answer.stdout, answer.stderr
@@ -276,12 +276,12 @@ def see_damage(results, folder, plates):
         "keys-4.json",
     ]
     results.see(
-        sorted(os.listdir(out)) == names, f"beside a damaged plate there are {sorted(os.listdir(out))}"
+        sorted(os.listdir(out)) == names, f"with a damaged plate there are {sorted(os.listdir(out))}"
     )
 
 
 def see_refusals(results, folder, plates):
-    """Wrong words are named, and nothing is written."""
+    """Wrong arguments are named, and nothing is written."""
     empty, out, house = (os.path.join(folder, name) for name in ("empty", "refused", "wrong.toml"))
     os.mkdir(empty)
     for words, text, said in (
@@ -290,7 +290,7 @@ def see_refusals(results, folder, plates):
         ((plates, out, "--keys", 0), "", "1 to 64"),
         ((plates, out, "--house", os.path.join(folder, "away.toml")), "", "No such file"),
         ((plates, out, "--house", house), "keys = 3", "keys is no table"),
-        ((plates, out, "--house", house), "[keys\n", "no TOML"),
+        ((plates, out, "--house", house), "[keys\n", "not TOML"),
         ((plates, out, "--house", house), "[keys]\noffset = 3", "keys.width is no length"),
         ((plates, out, "--house", house), "[keys]\nwidth = 0", "keys.width is no length"),
         ((plates, out, "--house", house), '[keys]\nwidth = 30\noffset = "1"', "keys.offset is no length"),

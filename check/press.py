@@ -1,5 +1,6 @@
-"""What the trials of make, late and night share: the newspaper at a quarter of its size, a program that
-fails when it is told to, and what READY folders must hold."""
+"""What the tests of make, late and night share: the newspaper at a quarter of its size, a program that fails
+on request, and what READY folders must hold.
+"""
 import hashlib
 import json
 import os
@@ -13,7 +14,7 @@ ENTRY = os.path.join(TOP, "tools", "pressroom.py")
 PRESSES = {"north": ["TROMSO"], "south": ["OSLO", "BERGEN"]}
 SITES = ["OSLO", "BERGEN", "TROMSO"]
 
-# Stands in for the program. The file `fault` says what goes wrong in runs below OUT: a word, and how often.
+# Replaces the program. The file `fault` says what fails in runs below OUT: a word, and how often.
 STAND_IN = """#!/bin/sh
 case "$1" in run | keys) out=$4 ;; replate) out=$6 ;; *) exec '{program}' "$@" ;; esac
 read -r word times < '{folder}/fault'
@@ -57,7 +58,7 @@ class Paper:
             yield press, self.plan | {"edition": edition, "sites": sites}
 
     def work(self, folder, edition="MORNING", files=True):
-        """A WORK folder: plans, and the files where they are wanted."""
+        """A WORK folder: plans, and the files if asked for."""
         os.makedirs(os.path.join(folder, "files"))
         for press, plan in self.plans(edition):
             with open(os.path.join(folder, f"{press}.json"), "w", encoding="utf-8") as file:
@@ -153,7 +154,7 @@ def faults_of_ready(version, wanted=None, sites=None):
 
 
 def faults_of_verify(program, version):
-    """What `verify` says of the READY sites of a version, by its own plans and files."""
+    """What `verify` reports for the READY sites of a version, by its own plans and files."""
     source = os.path.join(version, "made-from")
     for name in sorted(os.listdir(source)):
         if not name.endswith(".json"):

@@ -1,10 +1,10 @@
 #!/usr/bin/env python3
-"""Tries the built program, as a user starts it, and compares what it makes with the definitions.
+"""Tests the built program, started as a user starts it, and compares what it makes with the definitions.
 
 usage: check/program.py PROGRAM
 
-Its last line is `N passed, M failed`; it ends with status 1 where something failed. It proves nothing: what it
-shows is that the program hands its words, the machine's files and the streams on as it should, on this machine.
+The last line is `N passed, M failed`; the status is 1 if something failed. It proves nothing: it shows that
+the program passes on its arguments, the machine's files and the streams as it should, on this machine.
 """
 import json
 import os
@@ -72,7 +72,7 @@ def bands(tried, folder, edition):
 
 
 def runs_by_chance(tried, folder, files, seeds):
-    """Small editions in which everything is by chance, the ring and the patience too."""
+    """Random small editions, with random ring and patience."""
     path, out = os.path.join(folder, "edition.json"), os.path.join(folder, "OUT")
     shutil.rmtree(out, ignore_errors=True)
     for seed in seeds:
@@ -80,13 +80,13 @@ def runs_by_chance(tried, folder, files, seeds):
         editions.write_plan(path, edition.plan)
         words = ["run", path, files, "OUT", str(1 + seed * seed % 1024), str(1 + seed ** 5 % 65536)]
         tried.answers(words, 0, edition.report("OUT").encode(), b"", folder=folder)
-        tried.holds(f"plates of the edition by chance {seed}", compared(dict(edition.plates()), out))
+        tried.holds(f"plates of the random edition {seed}", compared(dict(edition.plates()), out))
         shutil.rmtree(out, ignore_errors=True)
-    tried.part(f"{len(seeds)} editions by chance")
+    tried.part(f"{len(seeds)} random editions")
 
 
 def read_by_others(tried, edition, out):
-    """libtiff reads the plates without a word, and finds what the definitions say."""
+    """libtiff reads the plates without a warning, and finds what the definitions say."""
     if not shutil.which("tiffinfo") or not shutil.which("tiffcp"):
         print("skipped: tiffinfo and tiffcp are not installed")
         return
@@ -118,7 +118,7 @@ def drills(tried):
 
 
 def beside_others(tried, folder, files):
-    """432 rows for four sites take less than two seconds beside eight busy loops, at least one time of three."""
+    """432 rows for four sites take less than two seconds with eight busy loops, at least one time of three."""
     path, took = os.path.join(folder, "rows.json"), []
     editions.write_plan(path, editions.rows())
     loops = trial.busy(8)
@@ -131,12 +131,12 @@ def beside_others(tried, folder, files):
     finally:
         trial.stop(loops)
     said = ", ".join(f"{seconds:.2f}" for seconds in took)
-    tried.holds("432 rows beside eight loops", "" if min(took) < 2 else f"{said} s")
+    tried.holds("432 rows with eight busy loops", "" if min(took) < 2 else f"{said} s")
     tried.part(f"beside other work, {said} s")
 
 
 def plates_of_examples(tried, folder):
-    """The plates of the small edition that a run left: all right, one changed, and then taken away."""
+    """The plates of the small edition that a run left: all right, one changed, and then removed."""
     words = ["verify", "edition.json", EXAMPLES, "OUT"]
     tried.answers(words, 0, b"same plates 12 sites 2\n", b"", folder=folder)
     path = os.path.join(folder, "OUT", "BERGEN", "MORNING-A-001-K.tif")
@@ -150,7 +150,7 @@ def plates_of_examples(tried, folder):
     os.remove(path)
     line = b"plateroom: shelf: OUT/BERGEN/MORNING-A-001-K.tif\n"
     tried.answers(words, 5, b"", line, folder=folder)
-    tried.part("the plates of examples/ looked at")
+    tried.part("the plates of examples/ verified")
 
 
 def trials(tried, folder):

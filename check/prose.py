@@ -4,11 +4,14 @@
     check/prose.py [FILE ..]
 
 Links are checked in every Markdown file of the repository, and again as the package installs its documents.
-The other rules are checked in the files of HELD, or in each FILE. Fenced and indented code, code spans,
+The other rules are checked in the files of HELD, or in each FILE. The words are also checked in the heads of
+the Python programs of PROGRAMS, which is what their `--help` prints. Fenced and indented code, code spans,
 quotations and links' targets aren't prose. Each fault is printed as `FILE:LINE: fault`. The last line is
-`N passed, M failed`, counted by file and rule, and the status is 1 where one failed. It needs git and no other
+`N passed, M failed`, counted by file and rule, and the status is 1 if one failed. It needs git and no other
 program.
 """
+import ast
+import fnmatch
 import importlib.util
 import os
 import re
@@ -19,7 +22,7 @@ sys.dont_write_bytecode = True
 
 TOP = os.path.abspath(os.path.join(os.path.dirname(os.path.abspath(__file__)), ".."))
 
-# The documents that follow the rules so far. A document is added when it has been rewritten.
+# The documents that follow the rules, as paths or patterns of paths.
 HELD = (
     "README.md",
     "docs/MANUAL.md",
@@ -30,6 +33,7 @@ HELD = (
     "docs/PROVED.md",
     "docs/ARCHITECTURE.md",
     "docs/DECISIONS.md",
+    "docs/EXTENDING.md",
     "docs/EDITORS.md",
     "docs/PROOFS.md",
     "docs/SPEED.md",
@@ -40,7 +44,13 @@ HELD = (
     "examples/newspaper/README.md",
     "examples/queue/README.md",
     "examples/tiles/README.md",
+    "tools/README.md",
+    "check/README.md",
+    "crates/*/README.md",
 )
+
+# The Python programs whose heads follow the rules on words; `*` also matches folders.
+PROGRAMS = "tools/*.py", "check/*.py", "bench/*.py", "package/*.py", "examples/*.py"
 
 # The file whose every line, code and tables too, keeps to the width, and the most lines that it has.
 FRONT, FRONT_LINES = "README.md", 120
@@ -51,7 +61,7 @@ WORDS = (
     (r"want of memory", "out of memory", "6 | want of memory |"),
     (r"\bgets on\b|\bget on\b", "makes progress", "In each round somebody gets on."),
     (r"\btells? nothing\b", "reports nothing", "The shelf tells nothing."),
-    (r"what is neither|^#+ Neither\b", "not claimed", "What is tested, and what is neither"),
+    (r"what is neither|^#+ (.*\band )?neither\b", "not claimed", "## Tested, and neither"),
     (r"\b(lies?|stands?) there\b", "is present", "A plate that lies there stays."),
     (r"\bby the clock\b", "wall-clock time", "Seconds by the clock"),
     (r"\bbeside plain C\b", "compared with plain C", "one processor beside plain C"),
@@ -59,13 +69,19 @@ WORDS = (
     (r"\bplates? (that (is|are) )?looked at\b", "verified", "Plates that are looked at"),
     (r"\bthe parts are the whole\b", "parts reproduce the full edition", "That the parts are the whole"),
     (r"\bpages? that nothing prints\b", "an unused page", "Pages that nothing prints are in no part."),
-    (r"\bwords (are|is) no command\b|\bwords are wrong\b|\bof the same words\b", "arguments",
-     "2 | the words are no command |"),
+    (r"\bwords (are|is) no command\b|\bwords are wrong\b|\bof the same words\b|\bwords of a command line\b",
+     "arguments", "2 | the words are no command |"),
+    (r"\b(reads|hands|takes) (its|the) words\b", "passes its arguments", "It hands its words to the library."),
     (r"\brows that are drawn together\b", "a block of rows", "rows that are drawn together"),
     (r"\b(may|can|can't|could|be|is|are|was|were|not) (to )?be had\b|\b(is|are|was|were) (not )?to be had\b",
      "is available", "where a form was not to be had"),
     (r"\bof which\b[^.;|]*\b(is|are) (the )?most\b", "mostly ..", "of which the plate is the most"),
     (r"\bhalf as much\s+again\b", "1.5 times", "and half as much again"),
+    (r"\b(is|are|stays?|leaves? (it|them)|left) as (it|they) (was|were)\b", "is unchanged",
+     "The racks are as they were."),
+    (r"\bprocessor time\b|\bseconds of (the )?processors?\b", "CPU time", "seconds of processor time"),
+    (r"\b(takes?|taken) away\b", "removes", "when the plates are taken away"),
+    (r"\bwithout a word\b", "silently, without a fault", "what it leaves out without a word"),
     (r"\b(lies|lie|lying)\b", "is, is stored, covers", "All pages lie in one file."),
     (r"\b(stands|standing)\b", "is, is stored", "What stands after it"),
     (r"\b(tells|telling)\b", "says, reports, names", "A line tells how many."),
@@ -148,6 +164,16 @@ def word_faults(path, lines):
                 yield number, f"“{found[0]}”: write “{instead}”"
 
 
+def head_faults(path, source):
+    """The words of the head of a Python program, at their lines."""
+    tree = ast.parse(source)
+    if not ast.get_docstring(tree):
+        return
+    begin = tree.body[0].lineno
+    for number, fault in word_faults(path, tree.body[0].value.value.split("\n")):
+        yield begin + number - 1, fault
+
+
 def width_faults(path, lines):
     """Rows of tables can't be broken, so they may be longer; not so in the front page."""
     for number, line, code in split(lines):
@@ -228,6 +254,8 @@ SAMPLES = (
     ("fragment", link_faults, ["# One", "[it](#two)"], ["# One two", "[it](#one-two)"]),
     ("command", lambda path, lines: command_faults(path, lines, TOP), ["`check/no_such_file.py`"],
      ["`check/prose.py`", "`crates/plateroom/out/plateroom`", "../check/prose.py"]),
+    ("head", lambda path, lines: head_faults(path, "\n".join(lines)), ['"""What', 'lies here."""'],
+     ["x = 1", '"""Plates."""', '# lies', 'y = "lies"']),
 )
 
 
@@ -257,7 +285,11 @@ def documents():
 def main():
     count, layout = Count(), documents()
     tracked = layout.tracked()
-    held = [os.path.relpath(os.path.abspath(path), TOP) for path in sys.argv[1:]] or HELD
+    held = [os.path.relpath(os.path.abspath(path), TOP) for path in sys.argv[1:]]
+    for pattern in () if held else HELD:
+        found = fnmatch.filter(tracked, pattern)
+        count.rule("check/prose.py", [] if found else [(1, f"HELD names no file by {pattern}")])
+    held = held or [path for pattern in HELD for path in fnmatch.filter(tracked, pattern)]
     try_rules(count)
     with tempfile.TemporaryDirectory() as package:
         for place in layout.copy(tracked, package):
@@ -272,6 +304,9 @@ def main():
             for rule in word_faults, width_faults, heading_faults:
                 count.rule(path, rule(path, lines))
             count.rule(path, command_faults(path, lines, package))
+    for path in (path for pattern in PROGRAMS for path in fnmatch.filter(tracked, pattern)):
+        if os.path.exists(os.path.join(TOP, path)):
+            count.rule(path, head_faults(path, "\n".join(lines_of(path))))
     print(f"{count.passed} passed, {count.failed} failed")
     return 1 if count.failed else 0
 

@@ -3,11 +3,11 @@
 
     check/queues.py PROGRAM
 
-Each time one part is killed in the middle, named, and made when the script runs again, and then plates and report are
-those of one run, byte for byte; a site's folder that can't be written is named, and its part alone is made again; a
-refused plan is refused by the program's line. What isn't installed is skipped and said so. Slurm runs on this machine
-alone: a controller and two nodes on loopback addresses, in a folder of their own. The last line is `N passed, M
-failed`, and the status is 1 where one failed.
+Each time one part is killed in the middle, named, and made when the script runs again; then plates and report
+are those of one run, byte for byte. A site's folder that can't be written is named, and only its part is made
+again. A plan that the program refuses is refused with the program's line. It skips and reports what isn't
+installed. Slurm runs on this machine only: a controller and two nodes on loopback addresses, in a folder of
+their own. The last line is `N passed, M failed`, and the status is 1 if one failed.
 """
 import contextlib
 import json
@@ -30,7 +30,7 @@ TOP = os.path.join(os.path.dirname(os.path.abspath(__file__)), "..")
 QUEUE, NEWSPAPER = (os.path.join(TOP, "examples", name) for name in ("queue", "newspaper"))
 SLURM = "munged", "slurmctld", "slurmd", "sbatch", "sinfo"
 
-# Stands in for the program: notes which parts are run, and kills the first run of one when its first plate is there.
+# Replaces the program: records which parts are run, and kills the first run of one when its first plate is there.
 STAND_IN = """#!/bin/sh
 name=${{2##*/}}
 if [ "$name" = plan.json ]; then
@@ -165,7 +165,7 @@ class Engine:
         shutil.rmtree(self.out + ".parts")
 
     def blocked(self):
-        """A file stands where a part's folder should be, and then a site's: its part alone fails."""
+        """A file is in the place of a part's folder, and then of a site's: only its part fails."""
         text, report = self.news.small, self.news.reports[self.news.small]
         os.mkdir(self.out)
         self.file("plates/.A-TROMSO", "")
@@ -265,7 +265,7 @@ def wait_for(is_so, seconds=20):
 
 
 def lacking(name):
-    """What isn't there of an engine, if something isn't."""
+    """What is missing of an engine, if anything."""
     gone = [word for word in (SLURM if name == "slurm" else [name]) if shutil.which(word) is None]
     if name == "parallel" and not gone:
         version = subprocess.run(["parallel", "--version"], capture_output=True, text=True)

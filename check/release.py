@@ -1,13 +1,13 @@
 #!/usr/bin/env python3
-"""Tries the Debian package of the last commit: that it is the same twice, and that all in it says what it is.
+"""Tests the Debian package of the last commit: that two builds are the same, and that all its parts agree.
 
     check/release.py PROGRAM
 
 The package is made twice, in two clones whose path, times of files, umask, locale, time zone and threads
 differ. Then one is unpacked, not installed (check/package.py installs it). It needs git, dpkg-deb, scdoc,
-strip, objcopy and Debian's python3, and says so where one is missing; what needs man, lintian or
-bash-completion is left out where they are missing. The last line is `N passed, M failed`, and the status is
-1 where one failed.
+strip, objcopy and Debian's python3, and reports which are missing. It leaves out what needs man, lintian or
+bash-completion where they are missing. The last line is `N passed, M failed`, and the status is 1 if one
+failed.
 """
 import gzip
 import hashlib
@@ -40,7 +40,7 @@ def text_of(path):
 
 
 def said(*words, **how):
-    """What a program prints on standard output; it has to succeed."""
+    """The standard output of a program, which must succeed."""
     return subprocess.run(words, check=True, capture_output=True, text=True, **how).stdout
 
 
@@ -69,7 +69,7 @@ def files_below(root):
 
 
 def loaded(path, folder):
-    """What a program loads into memory, without symbols and notes for people."""
+    """The parts of a program that are loaded into memory, without symbols and notes for people."""
     image = os.path.join(folder, "image")
     said("objcopy", "-O", "binary", path, image)
     return sum_of(image)
@@ -99,7 +99,7 @@ def try_versions(trial, root, control, version):
 
 
 def try_needs(trial, control):
-    """The package names each Debian package that a command of pressroom tells its user to install."""
+    """The package names each Debian package that a command of pressroom asks its user to install."""
     fields = re.findall(r"^(?:Depends|Recommends|Suggests): (.*)$", control, re.MULTILINE)
     named = set(re.findall(r"[\w.+-]+", " ".join(fields)))
     folder = os.path.join(TOP, "tools", "pressroom")
@@ -193,7 +193,7 @@ def try_pages(trial, root, commands):
 
 
 def completed(root, *words):
-    """What Tab offers after these words, of which the last may be begun."""
+    """What Tab offers after these arguments, of which the last may be incomplete."""
     script = f"""
         . {COMPLETION}
         . "{root}/usr/share/bash-completion/completions/$1"
@@ -270,7 +270,7 @@ def try_sums(trial, root, path, told):
 
 
 def try_twice(trial, folder):
-    """The package, made in two ways, and whether both are the same; None where it can't be made."""
+    """The package, made in two ways, and whether both are the same; None if it can't be made."""
     second = os.path.join(folder, "a second place", "of another length")
     try:
         commit = said("git", "-C", TOP, "rev-parse", "HEAD").strip()
@@ -291,7 +291,7 @@ def try_lintian(trial, deb):
 
 
 def try_held(trial, deb, folder, version):
-    """All that the package holds, and what it says of itself."""
+    """The files of the package, and its own statements."""
     root = os.path.join(folder, "root")
     said("dpkg-deb", "-x", deb, root)
     control = said("dpkg-deb", "-f", deb)

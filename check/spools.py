@@ -25,7 +25,7 @@ def toml(house):
 
 
 class Spool:
-    """A spool, the folders of its sites, and what was seen there."""
+    """A spool, the folders of its sites, and their files so far."""
 
     def __init__(self, tried, paper, folder, name, program=None, root=None, **night):
         self.tried, self.paper, self.name = tried, paper, name
@@ -38,7 +38,7 @@ class Spool:
         self.house(**night)
 
     def house(self, delivery=(), **night):
-        """Writes the house file: that of all trials, but for these keys."""
+        """Writes the house file of all tests, with these keys changed."""
         targets = {site: os.path.join(self.sites, site.lower()) for site in SITES}
         house = {"night": HOUSE["night"] | night, "delivery": HOUSE["delivery"] | dict(delivery)}
         house["delivery.sites"] = targets
@@ -52,7 +52,7 @@ class Spool:
         self.tried.holds(f"{self.name}: {what}", "" if is_so else repr(seen))
 
     def comes(self, edition, ready=True):
-        """An edition comes in whole; READY comes last, or not at all."""
+        """An edition arrives whole; READY arrives last, or not at all."""
         self.paper.work(self.file("in", edition), edition)
         if ready:
             self.ready(edition)
@@ -99,7 +99,7 @@ class Spool:
         return events
 
     def delivered(self):
-        """Each file that a site has, EDITION by EDITION, but for what rsync hasn't put in its place yet."""
+        """Each file that a site has, EDITION by EDITION, except what rsync hasn't renamed yet."""
         for at, folders, names in os.walk(self.sites):
             folders[:] = [folder for folder in folders if not folder.startswith(".")]
             for name in names:
@@ -107,7 +107,7 @@ class Spool:
                     yield os.path.relpath(os.path.join(at, name), self.sites)
 
     def look(self):
-        """No file that a site has is another one than before, and each READY there has its plates."""
+        """No file that a site has changed, and each READY there has its plates."""
         faults = []
         for path in self.delivered():
             now = digest(os.path.join(self.sites, path))

@@ -1,10 +1,12 @@
 #!/usr/bin/env python3
-"""The tests of threads over and over again, beside loops that compute all the time.
+"""Runs the tests of threads many times on a machine kept busy by loops.
 
 usage: check/threads.py TESTS [--times N] [--loops N] [--processors N] [--word WORD]
-TESTS is the program that the gate built of the tests of run_tests. Each test whose name has WORD in it runs N times
-(100), beside so many loops (20), all on so many processors (all). It prints the runs that failed and, for each test, how
-many passed and the longest one's seconds, and closes with `N passed, M failed`. The status is 1 where one failed.
+
+TESTS is the program that the gate built from the tests of run_tests. Each test with WORD in its name runs N
+times (100), next to N loops that compute all the time (20), all on N processors (all). It prints the runs
+that failed and, for each test, how many passed and the seconds of the longest, and ends with `N passed, M
+failed`. The status is 1 if one failed.
 """
 import argparse
 import os

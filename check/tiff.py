@@ -1,4 +1,4 @@
-"""TIFF files by the definitions: what an image holds, and what a plate's file is."""
+"""TIFF files by the definitions: the contents of an image, and a plate's file."""
 import struct
 
 
@@ -16,7 +16,7 @@ def first_directory(data, order):
 
 
 def unpacked(strip):
-    """The bytes that PackBits packets stand for."""
+    """The bytes that PackBits packets expand to."""
     out, at = bytearray(), 0
     while at < len(strip):
         head = strip[at]

@@ -1,11 +1,11 @@
 #!/usr/bin/env python3
-"""Tries the companions of tools/ and the schema of plans: what they make, and that they name what is wrong.
+"""Tests the programs of tools/ and the schema of plans: what they make, and that they name what is wrong.
 
     python3 check/tools.py PROGRAM
 
-The schema is held against plans whose answers the program gives here. What needs a library that isn't
-installed (Pillow, numpy, jsonschema) is skipped and said so. The last line is `N passed, M failed`, and the
-status is 1 where one failed.
+The schema is compared with the program's verdicts on the plans here. It skips and reports what needs a
+library that isn't installed (Pillow, numpy, jsonschema). The last line is `N passed, M failed`, and the
+status is 1 if one failed.
 """
 import copy
 import cmath
@@ -27,7 +27,7 @@ EXAMPLES, TOOLS = os.path.join(TOP, "examples"), os.path.join(TOP, "tools")
 
 
 def tool(name, *words):
-    """Runs a companion: its status, what it printed, and its complaint."""
+    """Runs a tool and returns its status, its output and its messages."""
     answer = subprocess.run(
         [sys.executable, "-B", os.path.join(TOOLS, name), *map(str, words)], capture_output=True, text=True
     )
@@ -212,7 +212,7 @@ WRONG = [
 
 
 def see_schema(results, program, folder):
-    """The schema takes and refuses what the program takes and refuses."""
+    """The schema accepts and refuses what the program does."""
     with open(os.path.join(TOP, "docs", "plan.schema.json"), encoding="utf-8") as file:
         schema = json.load(file)
     taken = None
@@ -295,7 +295,7 @@ def image(kind, width=8, length=4, rows=None, **fields):
 
 
 GOOD = image("contone")
-# Each name with its bytes, the use that meets it, and what is said of it.
+# Each name with its bytes, the use that meets it, and the fault.
 DAMAGED = {
     "jpeg.tif": (b"\xff\xd8\xff\xe0" + bytes(60), "contone", "tag 0: header"),
     "cut.tif": (GOOD[:100], "contone", "tag 0: directory"),
@@ -322,7 +322,7 @@ exit 4
 
 
 def see_check(results, program, folder):
-    """Every fault of files at once, what is lost without a word, and the words of the program itself."""
+    """Every fault of files at once, what is lost without a fault, and the lines of the program itself."""
 
     def checked(plan, *words, files=folder):
         path = os.path.join(folder, "plan.json")
@@ -374,8 +374,8 @@ def see_check(results, program, folder):
         f"fault: good.tif (contone cropped to [4, 0, 5, 1]): tag 256: crop; page q layer {number}",
         f"fault: wide.tif (mask of good.tif): tag 256: mask size; page q layer {number + 1}",
         f"fault: good.tif (mask): tag 277: samples; page q layer {number + 2}",
-        f"fault: away.tif (line): isn't there, or can't be read; page q layer {number + 3}",
-        f"fault: away.tif (contone): isn't there, or can't be read; page q layer {number + 4}",
+        f"fault: away.tif (line): is missing or can't be read; page q layer {number + 3}",
+        f"fault: away.tif (contone): is missing or can't be read; page q layer {number + 4}",
     ]
     lines = [line for line in out.splitlines() if line.startswith("fault: ")]
     results.see(status == 4, f"damaged files: status {status}, {error}")
@@ -406,7 +406,7 @@ def see_check(results, program, folder):
     for words, status, said in (
         (("away.json", folder), 2, "away.json: No such file"),
         ((), 2, "required: PLAN, FILES"),
-        ((os.path.join(EXAMPLES, "edition.json"), "away"), 2, "away: no folder"),
+        ((os.path.join(EXAMPLES, "edition.json"), "away"), 2, "away: not a folder"),
         ((os.path.join(EXAMPLES, "edition.json"), EXAMPLES, "--program", "/away"), 2, "/away"),
         ((os.path.join(EXAMPLES, "edition.json"), EXAMPLES, "--program", "/bin/ls"), 2, "ended with"),
     ):
@@ -417,7 +417,7 @@ def see_check(results, program, folder):
 
 
 def see_notes(results, checked, folder):
-    """What is lost without a word is a note, and counts under --strict alone."""
+    """What is lost without a fault is a note, and counts only under --strict."""
     black, white = [b"\xff"] * 4, [b"\0"] * 4
     cyan, plain = [b"\x80\0\0\0" * 8] * 4, [b"\0\0\0\x80" * 8] * 4
     for name, data in (
@@ -440,7 +440,7 @@ def see_notes(results, checked, folder):
             changed(page, ("pages/0/layers", [cyan])),
             "page p layer 0: the page prints K, so the C of cyan.tif is left out",
         ),
-        (changed(page, ("pages/0/layers", [black | {"x": 8}])), "page p layer 0: lies outside its page"),
+        (changed(page, ("pages/0/layers", [black | {"x": 8}])), "page p layer 0: is outside its page"),
         (
             changed(page, ("pages/0/layers", [black | {"x": 3}])),
             "page p layer 0: 3 pixels past the page's right edge aren't shown",
@@ -453,23 +453,23 @@ def see_notes(results, checked, folder):
             changed(page, ("pages", base()["pages"] + [{"name": "r", "inks": "K", "layers": []}])),
             "page r: no site prints it",
         ),
-        (changed(page, ("zones", [{"name": "z", "replace": [PUT]}])), "zone z: no site has it"),
+        (changed(page, ("zones", [{"name": "z", "replace": [PUT]}])), "zone z: no site uses it"),
         (
             changed(page, ("zones", [{"name": "z", "replace": [PUT]}]), ("sites/0/zone", "z")),
             "page p: no site prints it",
         ),
         (
             changed(page, ("curves", {"K": [[0, 3], [255, 255]]})),
-            "curve K: makes 3 of 0, and so prints on bare paper",
+            "curve K: maps 0 to 3, so it prints on bare paper",
         ),
         (
             changed(page, ("curves", {"K": [[0, 0], [255, 250]]})),
-            "curve K: makes 250 of 255, and so screens what is solid",
+            "curve K: maps 255 to 250, so solids are screened",
         ),
-        (changed(page, ("limit", 240)), "limit 240: these are 94 percent of ink; 240 percent are 612"),
+        (changed(page, ("limit", 240)), "limit 240: this is 94 percent of ink; 240 percent is 612"),
         (
             changed(page, ("tiles", [TILE | {"at": [0, 64, 128, 255]}])),
-            "tile T: 1 of its thresholds are 255, where not even full ink prints",
+            "tile T: 1 of its thresholds are 255, where even full ink does not print",
         ),
         (
             changed(page, ("marks", [MARK, MARK | {"inks": "S"}])),
@@ -477,7 +477,7 @@ def see_notes(results, checked, folder):
         ),
         (
             changed(page, ("pages/1/inks", "CMYKS"), ("pages/1/layers", [spot, cyan])),
-            "page q layer 1: a contone image in knockout takes away the spot of layer 0 below it",
+            "page q layer 1: a contone image in knockout removes the spot of layer 0 below it",
         ),
         (
             changed(page, ("pages/1/layers", [cyan | {"mask": "white.tif"}])),
@@ -493,7 +493,7 @@ def see_notes(results, checked, folder):
         ),
         (
             json.dumps(base())[:-1] + ', "dpi": 600}',
-            "the key 'dpi' stands twice in an object, and the last one counts",
+            "the key 'dpi' occurs twice in an object; the last one counts",
         ),
     ]
     for plan, line in cases:
@@ -653,12 +653,12 @@ def see_bad_proofs(results, folder, plates, site, read):
         (good[:4] + struct.pack("<I", len(good)) + good[8:], "cut off"),
         (good[: place + 40], "cut off"),
         (entry(0, tag=255), "tag 256 isn't there"),
-        (entry(6, value=4), "no plate: it has 4 samples of 1 bits"),
+        (entry(6, value=4), "not a plate: it has 4 samples of 1 bits"),
         (entry(0, value=831), "831 by 280 pixels"),
         (entry(5, value=len(good)), "cut off"),
         (entry(5, count=1), "tag 273 has fewer values than there are strips"),
         (good[:counts] + struct.pack("<I", 3) + good[counts + 4 :], "strip 0 is too short"),
-        (GOOD, "no plate: it has 4 samples of 8 bits"),
+        (GOOD, "not a plate: it has 4 samples of 8 bits"),
     ]
     bad = os.path.join(folder, "SITE")
     os.makedirs(bad)
@@ -687,7 +687,7 @@ def see_bad_proofs(results, folder, plates, site, read):
         ((site, out, "--pair", "A-001", "--dots", "1,1,1"), "isn't X,Y,W,H"),
         ((site, out, "--spot", "1,2,256"), "of 0 to 255"),
         ((site, out, "--inks", "CX"), "letters CMYKS"),
-        ((site, out, "--factor", "0"), "from 1 on"),
+        ((site, out, "--factor", "0"), "of 1 or more"),
         ((site, "/away/x.png"), "/away/x.png"),
     ):
         status, _, error = tool("proof.py", *words)
@@ -715,7 +715,7 @@ def see_memory(results, folder):
     _, status, usage = os.wait4(process.pid, 0)
     process.returncode = status
     print(
-        f"proof.py: 60,000 by 40,000 pixels in {usage.ru_utime:.0f} s of processor time and "
+        f"proof.py: 60,000 by 40,000 pixels in {usage.ru_utime:.0f} s of CPU time and "
         f"{usage.ru_maxrss // 1024} MB"
     )
     results.see(status == 0 and usage.ru_maxrss < 200 * 1024, f"status {status}, {usage.ru_maxrss} KiB")
@@ -828,7 +828,7 @@ def see_tiles(results, program, folder):
         (
             ("K45", "--angle", 45, "--ruling", 600),
             1,
-            "no tile of side up to 64 comes near 45 degrees and 600",
+            "no tile of side up to 64 is near 45 degrees and 600",
         ),
         (("K45", "--angle", 45, "--ruling", 5), 1, "the nearest has"),
         (("K45", "--angle", 45, "--ruling", 100, "--wedge", "/away/x.png"), 2, "/away/x.png"),
@@ -838,7 +838,7 @@ def see_tiles(results, program, folder):
 
 
 def see_help(results):
-    """Each companion tells its words, a line or two for each, and its statuses."""
+    """Each tool explains its arguments, a line or two for each, and its statuses."""
     for name, first in (
         ("check.py", "PLAN FILES"),
         ("parts.py", "PLAN OUT"),

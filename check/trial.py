@@ -13,18 +13,18 @@ LIMITED = {resource.RLIMIT_FSIZE: "files", resource.RLIMIT_STACK: "stacks"}
 
 
 class Hangs(Exception):
-    """So many runs weren't done in time that no more are made."""
+    """Too many runs didn't end in time, so no more are made."""
 
 
 class Trial:
-    """The program that is tried, and how much held."""
+    """The program under test, and how much held."""
 
     def __init__(self, program):
         self.program, self.passed, self.failed = os.path.abspath(program), 0, 0
         self.begun, self.before, self.hangs = time.monotonic(), (0, 0), 0
 
     def holds(self, what, fault):
-        """Counts one thing that was tried. A fault is what is wrong, or nothing."""
+        """Counts one test. A fault is what is wrong, or nothing."""
         if fault:
             self.failed += 1
             print(f"FAILED: {what}: {fault}", flush=True)
@@ -32,7 +32,7 @@ class Trial:
             self.passed += 1
 
     def part(self, name):
-        """Says how many of the things of a part held."""
+        """Prints how many tests of a part held."""
         passed, failed = self.passed - self.before[0], self.failed - self.before[1]
         seconds = time.monotonic() - self.begun
         print(f"{name}: {passed} of {passed + failed}, {seconds:.1f} s since the beginning", flush=True)
@@ -49,7 +49,7 @@ class Trial:
         self.holds(told(words, how) + f" ({where})" * bool(where), "; ".join(faults))
 
     def run(self, words, folder=None, streams=("", ""), limits=(), processors=(), seconds=MOST_SECONDS):
-        """Status and what was written to both streams. A stream is a path, `closed`, `unread` or kept here.
+        """The status and the text of both streams. A stream is a path, `closed`, `unread` or kept here.
         The program runs on these processors alone, if some are named."""
         kept, closing, opened = [subprocess.PIPE] * 2, [], []
         for number, stream in enumerate(streams):
@@ -92,7 +92,7 @@ class Trial:
 
 
 def told(words, how):
-    """The command line, and what is peculiar to the run."""
+    """The command line, and what is special in the run."""
     line = " ".join(word if isinstance(word, str) and word else repr(word) for word in words) or "no words"
     for name, stream in zip((">", "2>"), how.get("streams", ())):
         line += f" {name} {stream}" if stream else ""

@@ -60,7 +60,7 @@ def edition():
 
 
 def earlier():
-    """An earlier edition: the spot and the zone's page lie elsewhere, page 4 has no magenta, and C was
+    """An earlier edition: the spot and the zone's page are elsewhere, page 4 has no magenta, and C was
     called B."""
     plan = copy.deepcopy(edition())
     plan["edition"], plan["sections"][1]["name"] = "E0", "B"

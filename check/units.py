@@ -44,7 +44,7 @@ def write_unit(name, units, old="", new=""):
 
 
 def analyzed(units, *words):
-    """Status and words of systemd-analyze, for which only these units and the system's are there."""
+    """Status and output of systemd-analyze, which sees only these units and the system's."""
     answer = subprocess.run(
         ["systemd-analyze", *words],
         capture_output=True,

@@ -1,11 +1,11 @@
 #!/usr/bin/env python3
-"""Tries `pressroom web` in a real browser: what stands on the screen is compared with the bits of the plates.
+"""Tests `pressroom web` in a real browser: compares what the screen shows with the bits of the plates.
 
     python3 check/web.py PROGRAM
 
-Plates are read by check/tiff.py, which shares no code with the tools. What is missing of vips, Leaflet,
-numpy, Pillow, selenium, chromium and chromedriver is named, and the trials that need it are skipped. The
-last line is `N passed, M failed`, and the status is 1 where one failed.
+Plates are read by check/tiff.py, which shares no code with the tools. It names what is missing of vips,
+Leaflet, numpy, Pillow, selenium, chromium and chromedriver, and skips the tests that need it. The last line
+is `N passed, M failed`, and the status is 1 if one failed.
 """
 import functools
 import http.server
@@ -36,7 +36,7 @@ CELL = 64
 
 
 def tool(*words, **how):
-    """Runs `pressroom web`: its status, what it printed, and its complaint."""
+    """Runs `pressroom web` and returns its status, its output and its messages."""
     line = [sys.executable, "-B", os.path.join(TOP, "tools", "pressroom.py"), "web", *map(str, words)]
     answer = subprocess.run(line, capture_output=True, text=True, **how)
     return answer.returncode, answer.stdout, answer.stderr
@@ -89,7 +89,7 @@ def see_tool(results, folder, plan, plates):
 
 
 def see_refusals(results, folder, plan, plates, out):
-    """Wrong words and failing programs leave OUT and its surroundings as they are."""
+    """Wrong arguments and failing programs leave OUT and its surroundings unchanged."""
     before = sorted(os.listdir(folder))
     kept = os.path.join(folder, "kept")
     os.mkdir(kept)
@@ -102,14 +102,14 @@ def see_refusals(results, folder, plan, plates, out):
         file.write("#!/bin/sh\necho no room left >&2\nexit 1\n")
     os.chmod(os.path.join(fake, "vips"), 0o755)
     for words, environment, said in (
-        ((plates, kept), {}, "something else than a proof"),
-        ((plates, os.path.join(kept, "letter.txt")), {}, "is no folder"),
+        ((plates, kept), {}, "other than a proof"),
+        ((plates, os.path.join(kept, "letter.txt")), {}, "not a folder"),
         ((empty, out), {}, "no plates"),
         ((os.path.join(folder, "away"), out), {}, "No such file"),
         ((plates, out, "--old", empty), {}, "no plates"),
-        ((plates, out, "--plan", os.path.join(out, "web.js")), {}, "no edition plan"),
+        ((plates, out, "--plan", os.path.join(out, "web.js")), {}, "not an edition plan"),
         ((plates, out, "--keys", 65), {}, "1 to 64"),
-        ((plates, out, "--house", os.path.join(out, "web.js")), {}, "no TOML"),
+        ((plates, out, "--house", os.path.join(out, "web.js")), {}, "not TOML"),
         ((plates, out), {"PATH": fake + ":" + os.environ["PATH"]}, "no room left"),
         ((plates, out), {"PATH": kept}, "apt-get install libvips-tools"),
     ):
@@ -218,7 +218,7 @@ def see_zooms(results, page, plates):
 
 
 def see_switches(results, page, plates):
-    """Switches and keys do what they say, at once: no tile is taken away for it."""
+    """Switches and keys work at once: no tile is removed for them."""
     read, (x, y) = plates_of(os.path.join(plates, "OSLO"), "A-001"), MIDDLES[1]
     page.open(f"#pair=A-001&site=OSLO&x={x}&y={y}&z=0")
     page.script("window.kept = [...document.querySelectorAll('#map canvas')]")
@@ -371,7 +371,7 @@ def see_measures(results, page, plates):
 
 
 def see_places(results, page):
-    """What is in view is measured by a key, and the bar says the place under the pointer."""
+    """A key measures what is in view, and the bar shows the position under the pointer."""
     x, y = 700, 500
     page.open(f"#pair=A-001&site=OSLO&x={x}&y={y}&z=0")
     _, _, width, height = page.box()
@@ -559,7 +559,7 @@ def see_damage(results, page, folder, plan, plates):
     wrong = int((picture != composite(read, "CYKS")[part]).any(axis=2).sum())
     results.see(
         wrong == 0 and not page.find("#switch-M").is_enabled(),
-        f"beside a damaged plate {wrong} pixels differ",
+        f"with a damaged plate {wrong} pixels differ",
     )
     results.see(
         "Magenta is damaged" in page.find("#pair-damage").text,
@@ -574,7 +574,7 @@ def see_damage(results, page, folder, plan, plates):
 
 
 def see_server(results, page, out):
-    """From a web server each file that the page asks for is there."""
+    """A web server has each file that the page asks for."""
     asked = []
 
     class Handler(http.server.SimpleHTTPRequestHandler):
@@ -596,7 +596,7 @@ def see_server(results, page, out):
 
 
 def lacking():
-    """What isn't installed of what the trials need."""
+    """What the tests need and isn't installed."""
     found = [name for name in ("vips", "chromium", "chromedriver") if shutil.which(name) is None]
     found += [] if os.path.exists(LEAFLET) else ["libjs-leaflet"]
     library = missing("numpy", "PIL", "selenium")

@@ -1,4 +1,4 @@
-"""Plates are whole under their names: beside another run, after a kill, on a full disk, among links."""
+"""Plates are whole under their names: with another run, after a kill, on a full disk, among links."""
 import contextlib
 import fcntl
 import os
@@ -36,17 +36,17 @@ class Pair:
         self.sites = list(self.editions["new"].spans()[0])
 
     def lay(self):
-        """The older edition alone lies there."""
+        """Leaves only the older edition."""
         shutil.rmtree(self.out, ignore_errors=True)
         self.tried.answers(["run", "old.json", *WORDS[2:]], 0, None, b"", folder=self.folder)
 
     def begin(self, name):
-        """A run of an edition, which goes on beside this one."""
+        """Starts a run of an edition, which continues meanwhile."""
         return subprocess.Popen([self.tried.program, "run", f"{name}.json", *WORDS[2:]], cwd=self.folder,
                                 stdin=subprocess.DEVNULL, stdout=subprocess.PIPE, stderr=subprocess.PIPE)
 
     def found(self):
-        """What lies there: of which editions each plate is, none of them maybe, and which files are begun."""
+        """The files below OUT: the editions that each plate is of, possibly none, and which files are begun."""
         plates, parts = {}, []
         for at, _, names in os.walk(self.out):
             for name in names:
@@ -143,7 +143,7 @@ def says(pair, what, status, pattern, words=WORDS, limits=()):
 
 
 def stays(pair, what, status, pattern, limits=(), names=("old",), words=WORDS):
-    """The same, and each plate that lies there then is whole, of one of these editions."""
+    """The same, and each plate below OUT then is whole, of one of these editions."""
     says(pair, what, status, pattern, words, limits)
     plates, _ = pair.found()
     wrong = [path for path, of in plates.items() if not set(of) & set(names)]

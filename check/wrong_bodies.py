@@ -1,18 +1,20 @@
 #!/usr/bin/env python3
-"""Tries the wrong bodies of check/wrong-bodies: the prover has to refuse each.
+"""Tests the wrong bodies of check/wrong-bodies: the prover must refuse each.
 
 usage: check/wrong_bodies.py [--jobs N] [--clone FOLDER] [CRATE ..]
 
-They have the form of the gate's own, crates/NAME/must-fail/*.edit, and stand apart from these so that the gate takes
-less time. Without CRATE those of all crates are tried, N crates at a time (as many as there are processors, at most
-two gigabytes of memory each). The trial works on the committed files, in a clone: in FOLDER, which is kept, so that a
-second trial finds the libraries proved; else in a temporary folder, which gets the libraries that this repository
-built.
+They have the form of the gate's own, crates/NAME/must-fail/*.edit, and are kept apart from these so that the
+gate takes less time. Without CRATE those of all crates are tested, N crates at a time (as many as there are
+processors, at most two gigabytes of memory each). The test works on the committed files, in a clone: in
+FOLDER, which is kept, so that a second test finds the libraries proved; otherwise in a temporary folder,
+which gets the libraries that this repository built.
 
-It prints a line for each wrong body: where it was refused. Refused at a clause means: at a clause of the function that
-it changes, or at the condition of a call which that function makes. What isn't refused so stands in a table at the end.
+It prints a line for each wrong body: where it was refused. "Refused at a clause" means a clause of the
+function that it changes, or the condition of a call that this function makes. The others are listed in a
+table at the end.
 
-status: 0 each is refused; 1 one isn't, or can't be applied; 2 the arguments are wrong, or the trial couldn't be made
+status: 0 each is refused; 1 one isn't, or can't be applied; 2 the arguments are wrong, or the test couldn't
+be made
 """
 import argparse
 import collections
@@ -40,7 +42,7 @@ def wrong_bodies(crate):
 
 
 def function_at(path, line):
-    """The function that stands at or before this line of a source file."""
+    """The function at or before this line of a source file."""
     with open(path, encoding="utf-8") as file:
         for text in reversed(file.read().split("\n")[:line]):
             found = FUNCTION.match(text)
@@ -50,7 +52,7 @@ def function_at(path, line):
 
 
 def changed_functions(edit, crate_folder):
-    """The functions of src/ whose text a wrong body changes; "" stands for a constant, which any function may read."""
+    """The functions of src/ whose text a wrong body changes; "" means a constant, which any function may read."""
     found, path = set(), ""
     with open(edit, encoding="utf-8") as file:
         for line in file.read().split("\n"):
@@ -144,7 +146,7 @@ def trial(clone, crates, jobs):
 
 def main():
     parser = argparse.ArgumentParser(description=__doc__, formatter_class=argparse.RawDescriptionHelpFormatter)
-    parser.add_argument("crates", metavar="CRATE", nargs="*", help="crates whose wrong bodies are tried; all")
+    parser.add_argument("crates", metavar="CRATE", nargs="*", help="the crates whose wrong bodies are tested (default: all)")
     parser.add_argument("--jobs", type=int, default=len(os.sched_getaffinity(0)), help="crates at a time")
     parser.add_argument("--clone", metavar="FOLDER", help="a folder for the clone, which is kept")
     words = parser.parse_args()

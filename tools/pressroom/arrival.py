@@ -1,5 +1,5 @@
-"""What comes in for an edition of a spool, until it is in WORK: a folder that is complete, pages that come
-late, and what an edition waits for."""
+"""The arrival of an edition of a spool, until it is in WORK: a complete folder, late pages, and what an
+edition waits for."""
 import os
 import shutil
 import time
@@ -9,9 +9,9 @@ from pressroom.spool import Edition, is_marked, remove_empty, signature
 
 
 class Arrival:
-    """One edition, under its lock. `due` are the seconds until it is worth another look, None where it rests.
+    """One edition, under its lock. `due` is the seconds until another look is useful, None if none is.
 
-    A class that is made of it has `fail(home, why)`, for an edition that is given up."""
+    A subclass has `fail(home, why)`, for an edition that is given up."""
 
     def __init__(self, night, name):
         self.night, self.house, self.program = night, night.house, night.program
@@ -19,17 +19,17 @@ class Arrival:
         self.state, self.console, self.due = {}, night.console.about(edition=name), None
 
     def look_in(self, seconds):
-        """Notes when the edition is worth another look."""
+        """Records in how many seconds another look at the edition is useful."""
         self.due = seconds if self.due is None else min(self.due, seconds)
 
     def tell_once(self, event, text, **fields):
-        """Tells why the edition waits, where that isn't what was told last."""
+        """Reports why the edition waits, unless that was the last report."""
         if self.state.get("told") != [event, text]:
             self.state["told"] = [event, text]
             self.console.tell(event, text, **fields)
 
     def rejoin(self):
-        """What comes in for an edition that failed joins what came before, and the edition begins again."""
+        """Joins what comes in for a failed edition to what came before, and begins the edition again."""
         edition = self.edition
         if not os.path.isdir(edition.failed) or not os.path.isdir(edition.incoming):
             return
@@ -46,10 +46,10 @@ class Arrival:
         self.state.pop("failed", None)
         edition.watch(edition.incoming)
         edition.seen(edition.incoming)["ready"] = True
-        self.console.tell("begin", "what failed begins again, with what came since")
+        self.console.tell("begin", "begins again after a failure, with what came in since")
 
     def join_late(self):
-        """Pages that come late join those of an edition that was delivered."""
+        """Joins late pages to those of an edition that was delivered."""
         edition = self.edition
         if not os.path.isdir(edition.incoming):
             return
@@ -60,10 +60,10 @@ class Arrival:
             edition.watch(edition.done)
             edition.seen(edition.done)["ready"] = True
             edition.save()
-            self.console.tell("late", "pages came late")
+            self.console.tell("late", "late pages arrived")
 
     def is_settled(self, folder, now):
-        """Whether what lies in a folder is complete by its READY, or unchanged for the house's time."""
+        """Whether a folder is complete, by its READY or unchanged for the house's time."""
         seen = self.edition.seen(folder)
         if seen.get("ready"):
             return True
@@ -75,7 +75,7 @@ class Arrival:
         return not rest
 
     def take(self, home, now):
-        """Takes what came in into WORK. Returns whether it is there whole."""
+        """Takes what came in into WORK. Returns whether WORK is complete."""
         if self.state.get("taken_of") == now and os.path.isdir(self.edition.work):
             return True
         if not self.has_room():
@@ -89,14 +89,14 @@ class Arrival:
         if taken:
             self.state["taken_of"] = now
             self.state.setdefault("seconds", {})["take"] = round(time.monotonic() - begun, 3)
-            self.console.tell("taken", "all that the plans name is there", step="take")
+            self.console.tell("taken", "every file that the plans name is present", step="take")
             self.edition.save()
         return taken
 
     def adopt(self, plans):
         missing = self.edition.missing(plans)
         if missing:
-            self.refuse([f"{name} isn't there" for name in missing])
+            self.refuse([f"{name} is missing" for name in missing])
         else:
             self.edition.adopt(plans)
         return not missing
@@ -128,7 +128,7 @@ class Arrival:
         return clock.Attempts(kept, settings["pause"], settings["longest_pause"], settings["tries"])
 
     def has_room(self):
-        """Whether the disk has the house's free bytes; else the edition waits."""
+        """Whether the disk has the house's free bytes; otherwise the edition waits."""
         free = shutil.disk_usage(self.night.spool).free
         if free < self.house.night["least_free"] * 1000000:
             self.tell_once("waits", "too little free disk", step="disk")
@@ -138,13 +138,13 @@ class Arrival:
         return True
 
     def refuse(self, lines):
-        """The pages aren't right or not all there: nothing is tried again until they change."""
+        """Pages are wrong or missing: nothing is retried until they change."""
         self.state["refused"] = lines[:100]
         self.console.tell("fault", f"waits for its pages: {'; '.join(lines[:5])}", lines=lines[:100])
         self.edition.save()
 
     def wait_for_pages(self, home):
-        """Gives the edition up where its pages didn't change for the house's time."""
+        """Gives the edition up if its pages didn't change for the house's time."""
         seen = self.edition.seen(home)
         if clock.elapsed(seen["since"]) is None:
             seen["since"] = clock.stamp()
@@ -155,7 +155,7 @@ class Arrival:
             self.fail(home, "; ".join(self.state["refused"][:5]))
 
     def stumble(self, home, step, why):
-        """One try of a step failed; the next one comes after a pause."""
+        """An attempt at a step failed; the next one comes after a pause."""
         attempts = self.attempts(step)
         attempts.failed()
         self.console.tell("fault", why, step=step, tries=attempts.kept["tries"])

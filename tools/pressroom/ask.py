@@ -1,4 +1,4 @@
-"""The program, asked about plans without making a plate; what the companions share that ask it."""
+"""Asks the program about plans without making a plate, for the tools that need its verdict."""
 import os
 import shutil
 import subprocess
@@ -9,24 +9,24 @@ HERE = os.path.dirname(os.path.abspath(__file__))
 
 
 def leave(status, line):
-    """Ends the companion with this line, under its name."""
+    """Ends the tool with this status, and prints its name and the line to standard error."""
     print(f"{os.path.basename(sys.argv[0])}: {line}", file=sys.stderr)
     sys.exit(status)
 
 
 def program_path(given):
-    """Where the program is: as given, else by PLATEROOM, else on the path, else where it is built."""
+    """The path of the program: as given, or by PLATEROOM, or on the path, or where the repository builds it."""
     built = os.path.join(HERE, "..", "..", "crates", "plateroom", "out", "plateroom")
     for path in (given, os.environ.get("PLATEROOM"), shutil.which("plateroom"), built):
         if path:
             break
     if shutil.which(path) is None:
-        leave(2, f"no program at {os.path.normpath(path)}: name it by --program or in PLATEROOM")
+        leave(2, f"no program at {os.path.normpath(path)}: name it with --program or in PLATEROOM")
     return path
 
 
 class Asked:
-    """The program, asked about plans without making a plate: its folder OUT can't be made."""
+    """Asks the program about plans without making a plate: its folder OUT can't be made."""
 
     def __init__(self, program):
         self.program = program
@@ -34,7 +34,7 @@ class Asked:
         self.plan = os.path.join(self.folder.name, "plan.json")
 
     def text(self, text, files):
-        """The program's line on a plan's text, and its status: None where plan and files are taken."""
+        """Returns the program's line on a plan's text, and its status; None where plan and files are accepted."""
         with open(self.plan, "wb") as file:
             file.write(text)
         out = "/dev/null/out"

@@ -1,11 +1,11 @@
-"""Tells all that plateroom refuses of a plan and its files, and what it would leave out without a word.
+"""Reports every fault that plateroom finds in a plan and its files, and what it would leave out without a
+fault.
 
-No rule of the program is written here a second time: the program itself is asked about each use of each file,
-in a plan whose page is one pixel, and no plate is made. Beside that come notes on what is no fault and yet
-seldom meant.
+It repeats no rule of the program: it asks the program about each use of each file, in a plan whose page is
+one pixel, and no plate is made. Notes follow on what is no fault but rarely intended.
 
-status: 0 all is taken; 1 there are notes, and --strict was given; 2 the words are wrong, or the program can't
-be asked; 3 the plan is refused; 4 a file is refused or isn't there
+status: 0 everything is accepted; 1 there are notes, and --strict was given; 2 the arguments are wrong, or the
+program can't be run; 3 the plan is refused; 4 a file is refused or missing
 """
 import argparse
 import json
@@ -20,11 +20,11 @@ from pressroom.tiff import Broken, Tiff
 INKS = "CMYKS"
 PLACES_SHOWN = 3
 # What Python reads as JSON and the program doesn't.
-NOT_JSON = "NaN, Infinity, half a surrogate pair, or more than 127 levels stand in it"
+NOT_JSON = "it has NaN, Infinity, half a surrogate pair, or more than 127 levels"
 
 
 def bar(items, words):
-    """The items, under a bar of progress where tqdm is there and they take longer than two seconds."""
+    """The items, with a progress bar where tqdm is installed and they take longer than two seconds."""
     try:
         from tqdm import tqdm
     except ImportError:
@@ -33,7 +33,7 @@ def bar(items, words):
 
 
 class Probes(Asked):
-    """The program, asked about one layer after the other."""
+    """Asks the program about one layer after the other."""
 
     def __init__(self, program):
         super().__init__(program)
@@ -41,7 +41,7 @@ class Probes(Asked):
             file.write(one_pixel())
 
     def layer(self, layer, image, mask=None):
-        """The fault of one layer on a page of one pixel, whose files stand at these paths."""
+        """The fault of one layer on a page of one pixel, whose files are at these paths."""
         for name, path in (("image", image), ("mask", mask)):
             link = os.path.join(self.folder.name, name)
             if os.path.lexists(link):
@@ -62,18 +62,18 @@ class Probes(Asked):
         if answer is None:
             return None
         named = re.fullmatch(r"plateroom: file \w+: (tag \d+: .*)", answer[0])
-        return named[1] if named else "isn't there, or can't be read" if answer[1] == 5 else answer[0]
+        return named[1] if named else "is missing or can't be read" if answer[1] == 5 else answer[0]
 
 
 def one_pixel():
-    """A line image of one pixel, to ask about a mask by."""
+    """A line image of one pixel, with which to ask about a mask."""
     entries = [(256, 3, 1, 1), (257, 3, 1, 1), (262, 3, 1, 0), (273, 3, 1, 8), (279, 3, 1, 1)]
     directory = struct.pack("<H", len(entries)) + b"".join(struct.pack("<HHII", *entry) for entry in entries)
     return struct.pack("<2sHI", b"II", 42, 10) + b"\x80\0" + directory
 
 
 def read_json(text):
-    """The plan, and the keys that an object has twice."""
+    """Returns the plan, and the keys that an object has twice."""
     twice = []
 
     def pairs(items):
@@ -88,7 +88,7 @@ def read_json(text):
 
 
 def where(plan, path):
-    """The names on the way to a place in the plan, and in short what stands there."""
+    """The names on the path to a value of the plan, and the value in short."""
     value, names = plan, []
     for step in path.split("/")[1:]:
         try:
@@ -102,7 +102,7 @@ def where(plan, path):
 
 
 def refuse_plan(line, text):
-    """Prints the program's line on the plan, and where to look, and leaves."""
+    """Prints the program's line on the plan and where to look, and ends with status 3."""
     print(line)
     path = re.fullmatch(r"plateroom: plan (.*): \w+", line)
     try:
@@ -117,14 +117,14 @@ def refuse_plan(line, text):
 
 
 def layers_of(plan):
-    """Each layer with its page and the words that tell its place."""
+    """Each layer with its page and a text that names its position."""
     for page in plan["pages"]:
         for number, layer in enumerate(page["layers"]):
             yield page, number, layer, f"page {page['name']} layer {number}"
 
 
 def uses(plan):
-    """The uses of files, each with its places: images and masks, then what joins them: crops and sizes."""
+    """The uses of files, each with its layers: images and masks, then what joins them: crops and sizes."""
     single, joined = {}, {}
     for _, _, layer, place in layers_of(plan):
         kind, file = layer["kind"], layer["file"]
@@ -138,14 +138,14 @@ def uses(plan):
 
 
 def faults(asked, plan, files):
-    """The files that are refused, each as name, use, fault and places; and the uses that are taken."""
+    """The files that are refused, each as name, use, fault and layers; and the uses that are accepted."""
     single, joined = uses(plan)
     found, taken = [], set()
     for (use, name), places in bar(list(single.items()), "files"):
         path = os.path.join(files, name)
         if use == "mask":
             fault = asked.layer({"kind": "line", "file": "probe", "mask": "mask"}, None, path)
-            # The probe has one pixel: a mask of another size is taken as a mask.
+            # The probe has one pixel: a mask of another size is accepted as a mask.
             fault = None if fault and fault.endswith(": mask size") else fault
         else:
             fault = asked.layer({"kind": use, "file": "image"}, path)
@@ -169,7 +169,7 @@ def faults(asked, plan, files):
 
 
 class Notes:
-    """What is no fault, and yet seldom meant."""
+    """Notes on what is no fault but rarely intended."""
 
     def __init__(self, plan, files, taken, wrong):
         self.plan, self.files, self.taken, self.wrong = plan, files, taken, wrong
@@ -181,7 +181,7 @@ class Notes:
             self.lines.append(line)
 
     def image(self, use, name):
-        """The image of a use that the program takes, else None."""
+        """The image of a use that the program accepts, otherwise None."""
         if (use, name) not in self.taken:
             return None
         if name not in self.images:
@@ -213,32 +213,32 @@ class Notes:
         used = {site.get("zone") for site in plan["sites"]}
         for zone in plan.get("zones", []):
             if zone["name"] not in used:
-                self.note(f"zone {zone['name']}: no site has it")
+                self.note(f"zone {zone['name']}: no site uses it")
         self.of_tone()
         for page, number, layer, place in bar(list(layers_of(plan)), "layers"):
             try:
                 self.of_layer(page, number, layer, place)
             except Broken as error:
-                self.note(f"{place}: not looked into: {error}")
+                self.note(f"{place}: not examined: {error}")
         return self.lines
 
     def of_tone(self):
         limit = self.plan.get("limit", 1020)
         if limit <= 400:
             self.note(
-                f"limit {limit}: these are {limit * 100 // 255} percent of ink; {limit} percent are "
+                f"limit {limit}: this is {limit * 100 // 255} percent of ink; {limit} percent is "
                 f"{limit * 255 // 100}"
             )
         for ink, points in self.plan.get("curves", {}).items():
             if points[0][1]:
-                self.note(f"curve {ink}: makes {points[0][1]} of 0, and so prints on bare paper")
+                self.note(f"curve {ink}: maps 0 to {points[0][1]}, so it prints on bare paper")
             if points[-1][1] < 255:
-                self.note(f"curve {ink}: makes {points[-1][1]} of 255, and so screens what is solid")
+                self.note(f"curve {ink}: maps 255 to {points[-1][1]}, so solids are screened")
         for tile in self.plan.get("tiles", []):
             full = tile["at"].count(255)
             if full:
                 self.note(
-                    f"tile {tile['name']}: {full} of its thresholds are 255, where not even full ink prints"
+                    f"tile {tile['name']}: {full} of its thresholds are 255, where even full ink does not print"
                 )
         inks = {ink for page in self.plan["pages"] for ink in page["inks"]}
         for number, mark in enumerate(self.plan.get("marks", [])):
@@ -262,10 +262,10 @@ class Notes:
             read.close()
 
     def of_place(self, layer, image, place):
-        """What a layer loses at the edges of its page, and where it just doesn't reach them."""
+        """What a layer loses at the edges of its page, and where it ends just before them."""
         left, top, right, bottom = self.box(layer, image)
         if left >= self.width or top >= self.height:
-            self.note(f"{place}: lies outside its page")
+            self.note(f"{place}: is outside its page")
             return
         for start, end, side, edge in (
             (left, right, self.width, "right"),
@@ -317,7 +317,7 @@ class Notes:
             box = self.box(below, under)
             if box[0] < right and left < box[2] and box[1] < bottom and top < box[3]:
                 self.note(
-                    f"{place}: a contone image in knockout takes away the spot of layer {lower} below it"
+                    f"{place}: a contone image in knockout removes the spot of layer {lower} below it"
                 )
 
 
@@ -351,10 +351,10 @@ def main():
     )
     parser.add_argument("plan", metavar="PLAN", help="the edition plan, a JSON file")
     parser.add_argument("files", metavar="FILES", help="the folder of the plan's images")
-    parser.add_argument("--strict", action="store_true", help="end with status 1 where there are notes")
-    parser.add_argument("--quiet", action="store_true", help="print faults alone, no notes and no count")
+    parser.add_argument("--strict", action="store_true", help="end with status 1 if there are notes")
+    parser.add_argument("--quiet", action="store_true", help="print only faults, no notes and no count")
     parser.add_argument(
-        "--program", metavar="PATH", help="the program; without it PLATEROOM, then the path, are asked"
+        "--program", metavar="PATH", help="the program (default: $PLATEROOM, then plateroom on the path)"
     )
     words = parser.parse_args()
     asked = Probes(program_path(words.program))
@@ -364,9 +364,9 @@ def main():
     except OSError as error:
         leave(2, f"{words.plan}: {error.strerror}")
     if not os.path.isdir(words.files):
-        leave(2, f"{words.files}: no folder")
+        leave(2, f"{words.files}: not a folder")
 
-    # A plan's own faults come before any file is loaded, and the folder of no files holds none.
+    # A plan's own faults come before any file is loaded, and /dev/null holds no files.
     answer = asked.text(text, "/dev/null")
     if answer and answer[1] == 3:
         refuse_plan(answer[0], text)
@@ -379,12 +379,12 @@ def main():
         more = f" and {len(places) - PLACES_SHOWN} more" if len(places) > PLACES_SHOWN else ""
         print(f"fault: {name} ({use}): {fault}; {', '.join(places[:PLACES_SHOWN])}{more}")
     if whole and not found:
-        # Each file is taken by itself: what is refused is all of them together.
+        # Each file is accepted by itself: all of them together are refused.
         found.append((whole[0].removeprefix("plateroom: "), []))
         print(f"fault: {found[0][0]}, with all files together")
 
     notes = [
-        f"the key {key!r} stands twice in an object, and the last one counts" for key in dict.fromkeys(twice)
+        f"the key {key!r} occurs twice in an object; the last one counts" for key in dict.fromkeys(twice)
     ]
     wrong = {place for *_, places in found for place in places}
     notes += Notes(plan, words.files, taken, wrong).all()

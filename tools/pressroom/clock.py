@@ -1,16 +1,16 @@
-"""Time that passes, also where the clock is set back: a stamp names the boot and its own clock beside the
+"""Elapsed time, also when the clock is set back: a stamp has the boot and its monotonic clock besides the
 hour."""
 import time
 
 
 def boot():
-    """What names this boot of the machine."""
+    """The name of this boot of the machine."""
     with open("/proc/sys/kernel/random/boot_id", encoding="ascii") as file:
         return file.read().strip()
 
 
 def stamp():
-    """The present moment, to be kept in a file."""
+    """The current time, to be kept in a file."""
     return {
         "boot": boot(),
         "uptime": round(time.clock_gettime(time.CLOCK_BOOTTIME), 3),
@@ -19,8 +19,8 @@ def stamp():
 
 
 def elapsed(before):
-    """The seconds since a stamp: by the clock of this boot, else by the hour. None where the stamp is
-    none, or lies in the future, so that nobody knows."""
+    """The seconds since a stamp: by the monotonic clock of this boot, otherwise by the hour. None if there is no stamp,
+    or if it is in the future, so that the time is unknown."""
     try:
         if before["boot"] == boot():
             seconds = time.clock_gettime(time.CLOCK_BOOTTIME) - before["uptime"]
@@ -32,30 +32,29 @@ def elapsed(before):
 
 
 def left(before, pause):
-    """The seconds until a pause since a stamp is over, 0 where it is over or nobody knows."""
+    """The seconds until a pause since a stamp is over, 0 if it is over or unknown."""
     seconds = elapsed(before)
     return 0 if seconds is None else max(0, pause - seconds)
 
 
 class Attempts:
-    """Tries that failed, kept in a state: each pause is twice as long as the one before, up to the
-    longest."""
+    """Failed attempts, kept in a state: each pause is twice as long as the one before, up to the longest."""
 
     def __init__(self, kept, first, longest, most):
         self.kept, self.first, self.longest, self.most = kept, first, longest, most
 
     def failed(self):
-        """Notes one more try that failed."""
+        """Records one more failed attempt."""
         self.kept["tries"] = self.kept.get("tries", 0) + 1
         self.kept["at"] = stamp()
 
     def wait(self):
-        """The seconds until the next try."""
+        """The seconds until the next attempt."""
         tries = self.kept.get("tries", 0)
         return (
             left(self.kept.get("at"), min(self.longest, self.first * 2 ** min(tries - 1, 30))) if tries else 0
         )
 
     def over(self):
-        """Whether no try is left."""
+        """Whether no attempts are left."""
         return self.kept.get("tries", 0) >= self.most

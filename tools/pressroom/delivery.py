@@ -6,12 +6,12 @@ from pressroom.version import READY, SUMS
 
 
 def sums_of(version, site):
-    """What tells whether a site's plates were delivered before: the SHA-256 of its SHA256SUMS."""
+    """An identity of a site's plates, to recognise what was delivered: the SHA-256 of its SHA256SUMS."""
     return disk.sha256(version.file(site, SUMS))
 
 
 def deliver(version, site, edition, target, before, settings):
-    """Sends a site to TARGET/EDITION/VERSION. Plates that TARGET/EDITION/BEFORE has are copied there and not
+    """Sends a site to TARGET/EDITION/VERSION. Plates that TARGET/EDITION/BEFORE has are copied there, not
     sent.
 
     Returns why it failed, or nothing.

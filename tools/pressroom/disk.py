@@ -1,4 +1,4 @@
-"""Files that arrive whole, hard links, checksums, and locks: what the commands that run at night do on
+"""Files written atomically, hard links, checksums, and locks: what the commands that run at night do on
 disks."""
 import errno
 import fcntl
@@ -7,7 +7,7 @@ import os
 import shutil
 
 PART = ".part"
-# Errors of a file system, or of two of them, that has no hard links or no room for one more.
+# Errors of a file system without hard links or with no room for one more, or of a link between two.
 NO_LINK = (errno.EXDEV, errno.EPERM, errno.EMLINK, errno.EOPNOTSUPP, errno.ENOSYS)
 
 
@@ -16,7 +16,7 @@ class Busy(Exception):
 
 
 def sync_folder(path):
-    """Makes the names in a folder survive a loss of power."""
+    """Syncs a folder, so that the names in it survive a loss of power."""
     handle = os.open(path or ".", os.O_RDONLY | os.O_DIRECTORY)
     try:
         os.fsync(handle)
@@ -25,7 +25,7 @@ def sync_folder(path):
 
 
 def part_of(path):
-    """The name under which a file is written until it is whole: hidden, and this process's own."""
+    """The name under which a file is written until it is complete: hidden, and this process's own."""
     folder, name = os.path.split(path)
     return os.path.join(folder, f".{name}.{os.getpid()}{PART}")
 
@@ -62,7 +62,7 @@ def copy_whole(source, target):
 
 
 def link_or_copy(source, target):
-    """Gives a file a second name that isn't there yet: a hard link, or a copy where there can't be one."""
+    """Gives a file a second, new name: a hard link, or a copy where hard links are impossible."""
     try:
         os.link(source, target)
     except OSError as error:
@@ -72,7 +72,7 @@ def link_or_copy(source, target):
 
 
 def remove(path):
-    """Removes a file, a link or a folder with all in it; one that isn't there is no fault."""
+    """Removes a file, a link or a folder with its contents; a missing one is no fault."""
     try:
         os.remove(path)
     except IsADirectoryError:
@@ -82,7 +82,7 @@ def remove(path):
 
 
 def move_link(path, target):
-    """Points a symbolic link somewhere else: it leads to the old or the new place at any moment."""
+    """Points a symbolic link at a new target: at any moment it leads to the old or the new one."""
     part = part_of(path)
     remove(part)
     os.symlink(target, part)
@@ -97,7 +97,7 @@ def sha256(path):
 
 
 class Lock:
-    """An exclusive `flock` on a file, made where it isn't there; raises Busy where another process has it.
+    """An exclusive `flock` on a file, which is created if missing; raises Busy if another process has it.
 
     The kernel releases it when this process and all programs that it started have ended, however they ended:
     `held` has the handles that they inherit. `remove` removes the file while it is held.
@@ -122,7 +122,7 @@ class Lock:
             self.file.close()
 
     def is_named(self):
-        """Whether the locked file still has its name: the holder before may have removed it."""
+        """Whether the locked file still has its name: the previous holder may have removed it."""
         try:
             return os.path.samestat(os.fstat(self.file.fileno()), os.stat(self.path))
         except FileNotFoundError:

@@ -4,15 +4,15 @@ import sys
 
 from pressroom import __version__
 
-# Each command with what its line of help says. A command NAME is the function `main` of the module NAME, which reads
-# `sys.argv` and returns the exit status. A module is imported only where its command runs, so that a command needs its
-# own libraries alone.
+# Each command with its line of help. A command NAME is the function `main` of the module NAME, which reads `sys.argv`
+# and returns the exit status. A module is imported only when its command runs, so that a command needs only its own
+# libraries.
 COMMANDS = {
-    "intake": "make plans and files out of the PDFs of a night",
+    "intake": "make plans and files from the PDFs of a night",
     "check": "report every fault of a plan and its files, and what would be lost without a fault",
-    "late": "make the plates of a page that came late, beside those of its edition",
+    "late": "remake the plates that a late page changes, as a new version of the edition",
     "make": "make the plates of an edition: check, run, verify, READY",
-    "night": "one pass over a spool of editions, for systemd or cron",
+    "night": "make one pass over a spool of editions, for systemd or cron",
     "parts": "cut an edition into parts for several machines",
     "ppf": "write ink key files (CIP3 PPF) and tables of ink keys",
     "proof": "draw a picture of what a site's plates print",

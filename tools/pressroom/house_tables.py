@@ -13,7 +13,7 @@ def table(path, name):
     except OSError as error:
         raise Broken(f"{path}: {error.strerror}") from None
     except ValueError as error:
-        raise Broken(f"{path}: no TOML: {error}") from None
+        raise Broken(f"{path}: not TOML: {error}") from None
     if not isinstance(found, dict):
         raise Broken(f"{path}: {name} is no table")
     return found

@@ -1,7 +1,7 @@
-"""One version of an edition under way: its plans checked, plates made and verified, sites made READY, and the
-report.
+"""One version of an edition in progress: checks its plans, makes and verifies plates, marks sites READY, and
+writes the report.
 
-`make` runs the plans, `late` makes what changed; both hand in how plates come into a version's folder.
+`make` runs the plans, `late` makes what changed; each passes in how plates come into a version's folder.
 """
 import json
 import os
@@ -16,7 +16,7 @@ ALL_READY, SOME_NOT_READY, CANT_BEGIN, PLAN_REFUSED, FILE_REFUSED, OTHER_WORKS =
 
 
 class Refused(Exception):
-    """The edition can't be made as it is: the status, and the lines that say why."""
+    """The edition can't be made: the status, and the lines that say why."""
 
     def __init__(self, status, lines):
         super().__init__("\n".join(lines))
@@ -24,7 +24,7 @@ class Refused(Exception):
 
 
 class Job:
-    """A version, the program, and what became of its presses and sites so far."""
+    """A version, the program, and the results of its presses and sites so far."""
 
     def __init__(self, version, program, console):
         self.version, self.program, self.console = version, program, console
@@ -33,7 +33,7 @@ class Job:
         self.scratch = tempfile.TemporaryDirectory(prefix="pressroom-")
 
     def check(self):
-        """Returns the plans, all of which the program takes with their files; else raises Refused."""
+        """Returns the plans if the program accepts all of them with their files; otherwise raises Refused."""
         plans, lines, status = self.version.plans(), [], 0
         with self.seconds.of("check"):
             for plan in plans:
@@ -66,7 +66,7 @@ class Job:
         return path
 
     def begin_bar(self, plans):
-        """Begins the bar of plates that are done of all."""
+        """Begins the progress bar of finished plates."""
         sites = [(plan, site) for plan in plans for site in plan.sites()]
         self.bar = self.console.gauge("plates", sum(len(plan.plates(site)) for plan, site in sites))
         self.done = runs.Done(self.bar, [self.version.file(site) for _, site in sites])
@@ -106,7 +106,7 @@ class Job:
                 self.console.tell("ready", f"site {site}, {entry['plates']} plates", **fields)
 
     def note_press(self, plan, answer):
-        """Keeps what the program said of a press."""
+        """Records what the program printed for a press."""
         told = {"status": answer.status, "lines": answer.lines, "refusal": answer.note}
         self.presses.setdefault(plan.name, {}).update(told)
         try:
@@ -133,7 +133,7 @@ class Job:
         return answer.status == 0
 
     def retry(self, plan, site, why):
-        """Makes one site again from nothing, alone, since disks recover. Returns why it still isn't right,
+        """Makes one site again from the start, alone, since disks recover. Returns why it still isn't right,
         or nothing."""
         self.console.tell("retry", f"site {site} alone: {why}", site=site, why=why)
         try:
@@ -178,7 +178,7 @@ class Job:
         return status
 
     def refuse(self, refused):
-        """Tells why the edition isn't made, keeps the report alone, and returns the status."""
+        """Prints why the edition isn't made, keeps only the report, and returns the status."""
         for line in refused.lines:
             self.console.tell("fault", line)
         self.version.drop_source()

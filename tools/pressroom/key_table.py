@@ -9,9 +9,9 @@ HEAD = "pair", "sites", "ink", "name", "key", "dots", "pixels", "percent"
 
 
 def press_shares(counts, dpi, count, width, offset):
-    """The printed area in percent of a press's keys, `width` mm wide from `offset` mm off the left edge on.
+    """The printed area in percent of a press's keys, `width` mm wide, beginning `offset` mm from the left edge.
 
-    A column of the plate is of the key that its middle lies over. What of a key lies beside the plate
+    A column of the plate belongs to the key at its middle. The part of a key beyond the plate
     doesn't print.
     """
     middles = (numpy.arange(counts.width) + 0.5) * 25.4 / dpi

@@ -1,15 +1,15 @@
-"""Makes the plates of pages that came late, and READY folders of the whole edition beside those that stand.
+"""Makes the plates of pages that came late, as a new READY version of the whole edition.
 
 PAGE is taken into the edition: with --house and --in as a page of IN, which `pressroom intake` converts into
 WORK; without them as a file of WORK/files, or as a plan PRESS.json of WORK, each by its name. A new version
 OUT/DATE-TIME gets the plates that changed, made by `plateroom replate`, and hard links to all others of the
-version to which OUT/current leads. That version stays as it is, so a site may still be fetching it. Then all
-is as after make: every plate is verified, each site gets SHA256SUMS and READY, and OUT/current moves. READY
-names the version before and each plate that changed.
+version to which OUT/current leads. That version is unchanged, so a site may still be fetching it. The rest is
+as in make: every plate is verified, each site gets SHA256SUMS and READY, and OUT/current moves. READY names
+the version before and each plate that changed.
 
 status: 0 all sites are READY, or nothing changed; 1 a site isn't READY; 2 the arguments are wrong, OUT has no
 version that is READY, or a file can't be written; 3 a plan is refused; 4 a page is refused: WORK and IN are
-as they were; 5 another make or late works in OUT
+unchanged; 5 another make or late works in OUT
 
 example: pressroom late work/monday A03.pdf out/monday --house house.toml --in in/monday
 """
@@ -26,8 +26,8 @@ FRESH = "fresh.parts"
 
 
 def late(work, out, console, program):
-    """Makes a version of WORK by what changed since OUT/current. Returns the status and the version that
-    is current."""
+    """Makes a version of WORK from what changed since OUT/current. Returns the status and the current
+    version."""
     try:
         with disk.Lock(os.path.join(out, version.LOCK)):
             old = version.current(out)
@@ -62,7 +62,7 @@ def late_locked(work, out, old, console, program):
 
 
 class Changes:
-    """How the plates of a press come into a version by what changed since another one."""
+    """Makes the plates of a press in a version from what changed since another version."""
 
     def __init__(self, job, old, old_plan):
         self.job, self.old, self.old_plan, self.made = job, old, old_plan, {}
@@ -80,7 +80,7 @@ class Changes:
             try:
                 self.join(plan, site)
             except OSError as error:
-                # The plates that are missing then are named by `verify`.
+                # `verify` then names the missing plates.
                 self.job.console.tell("fault", fault_of(error), site=site)
         disk.remove(self.fresh)
         return answer
@@ -106,14 +106,13 @@ class Changes:
 
 
 class Placed:
-    """Files that were put in the place of others, which are kept until it is clear that the new ones are
-    taken."""
+    """Files that replaced others. The old ones are kept until the new ones are accepted."""
 
     def __init__(self, work):
         self.kept, self.before = os.path.join(work, ".before"), []
 
     def put(self, source, target):
-        """Puts a copy of a file in the place of another one, or where none was."""
+        """Puts a copy of a file at a path, in place of a file there, if any."""
         old = os.path.join(self.kept, str(len(self.before)))
         if os.path.exists(target):
             os.makedirs(self.kept, exist_ok=True)
@@ -185,12 +184,12 @@ def read_words():
     parser.add_argument(
         "--base",
         metavar="FOLDER",
-        help="a page's name is its path below this folder, as for west/A03.pdf; else it is its last part",
+        help="the name of a page is its path below this folder, as for west/A03.pdf (default: its file name)",
     )
     parser.add_argument(
-        "--program", metavar="PATH", help="the program; without it PLATEROOM, then the path, are asked"
+        "--program", metavar="PATH", help="the program (default: $PLATEROOM, then plateroom on the path)"
     )
-    parser.add_argument("--json", action="store_true", help="one JSON object a line for each event")
+    parser.add_argument("--json", action="store_true", help="print each event as a JSON object, one a line")
     words = parser.parse_args()
     if bool(words.house) != bool(words.into):
         parser.error("--house and --in are given together or not at all")

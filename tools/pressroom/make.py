@@ -5,11 +5,11 @@ WORK has a plan PRESS.json for each press and the folder files, as `pressroom in
 written by hand. The plates go to a new folder OUT/DATE-TIME (UTC) with a folder for each site. A site whose
 plates are all verified gets SHA256SUMS and last a file READY; when all sites have it, the link OUT/current
 moves to the new folder. A site that couldn't be written, or whose plates differ, is made once more alone.
-OUT/DATE-TIME/report.json says what became of each press and site, and how long each step took.
+OUT/DATE-TIME/report.json records the result of each press and site, and how long each step took.
 
 status: 0 all sites are READY and OUT/current leads to them; 1 a site isn't READY, the others are; 2 the
 arguments are wrong, WORK has no plan, a program is missing, or OUT can't be written; 3 a plan is refused; 4 a
-file is refused or isn't there; 5 another make or late works in OUT
+file is refused or missing; 5 another make or late works in OUT
 
 example: pressroom make work/monday out/monday --keys 32
 """
@@ -23,7 +23,7 @@ from pressroom.console import Console, Missing, fault_of, need
 from pressroom.job import CANT_BEGIN, OTHER_WORKS, Job, Refused
 from pressroom.plan_reader import plans_of
 
-# Where the scripts of the queues are: in the repository, and as Debian's package has them.
+# The folders of the scripts of the queues: in the repository, and in Debian's package.
 QUEUES = os.path.join(HERE, "..", "..", "examples", "queue"), "/usr/share/doc/plateroom/examples/queue"
 ENGINES = {"make": "make", "parallel": "parallel", "slurm": "sbatch"}
 
@@ -105,7 +105,7 @@ def run_parts(job, plan, sites, engine):
 
 def key_count(text):
     if not text.isdecimal() or not 1 <= int(text) <= 64:
-        raise argparse.ArgumentTypeError(f"{text!r} isn't a number of keys, 1 to 64")
+        raise argparse.ArgumentTypeError(f"{text!r} isn't a number of keys from 1 to 64")
     return int(text)
 
 
@@ -127,16 +127,16 @@ def read_words():
     parser.add_argument(
         "--parts", action="store_true", help="run each plan in parts, for editions too large for one run"
     )
-    parser.add_argument("--engine", choices=ENGINES, default="make", help="what runs the parts (make)")
+    parser.add_argument("--engine", choices=ENGINES, default="make", help="the program that runs the parts (make)")
     parser.add_argument(
         "--resume",
         action="store_true",
         help="take the sites that are READY in the last version of the same plans and files from there",
     )
     parser.add_argument(
-        "--program", metavar="PATH", help="the program; without it PLATEROOM, then the path, are asked"
+        "--program", metavar="PATH", help="the program (default: $PLATEROOM, then plateroom on the path)"
     )
-    parser.add_argument("--json", action="store_true", help="one JSON object a line for each event")
+    parser.add_argument("--json", action="store_true", help="print each event as a JSON object, one a line")
     words = parser.parse_args()
     if words.parts and words.keys:
         parser.error("--keys counts a run of the whole plan: it can't be given with --parts")

@@ -1,4 +1,4 @@
-"""The text file of metrics that node_exporter's collector of text files reads."""
+"""The text file of metrics that the textfile collector of node_exporter reads."""
 import json
 import os
 import shutil
@@ -9,18 +9,18 @@ from pressroom.clock import elapsed
 from pressroom.version import REPORT, Version
 
 HELP = {
-    "editions": ("gauge", "Editions of the spool by the folder in which they are."),
+    "editions": ("gauge", "Editions of the spool by folder."),
     "pages": ("gauge", "Pages of the plans of the last version that is READY."),
     "plates": ("gauge", "Plates of the last version that is READY, over all sites."),
-    "step_seconds": ("gauge", "How long each step of the last version took."),
-    "faults_total": ("counter", "Faults that were told since the counter's file was made."),
-    "passes_total": ("counter", "Passes over the spool that came to their end."),
-    "last_pass_timestamp_seconds": ("gauge", "When the last pass ended."),
+    "step_seconds": ("gauge", "Seconds of each step of the last version."),
+    "faults_total": ("counter", "Faults reported since the counter's file was made."),
+    "passes_total": ("counter", "Completed passes over the spool."),
+    "last_pass_timestamp_seconds": ("gauge", "Time at which the last pass ended."),
     "last_ready_age_seconds": (
         "gauge",
-        "How long ago all sites of an edition were READY last; absent before the first.",
+        "Seconds since all sites of an edition were last READY; absent before the first.",
     ),
-    "undelivered_sites": ("gauge", "Sites that are READY and wait for their delivery."),
+    "undelivered_sites": ("gauge", "READY sites that wait for delivery."),
     "disk_free_bytes": ("gauge", "Free bytes of the spool's disk."),
 }
 
@@ -70,7 +70,7 @@ def values(spool, states, counts):
 
 
 def folders(path):
-    """How many folders a folder has in which something lies."""
+    """How many non-empty folders a folder has."""
     with os.scandir(path) as entries:
         return sum(entry.is_dir(follow_symlinks=False) and bool(os.listdir(entry.path)) for entry in entries)
 

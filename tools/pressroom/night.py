@@ -1,15 +1,14 @@
-"""One pass over a spool of editions: what is complete is made, verified, delivered, and moved to done/.
+"""Makes one pass over a spool of editions: complete editions are made, verified, delivered, and moved to done/.
 
 SPOOL has house.toml with the tables [night] and [delivery], and the folders in/, work/, out/, done/, failed/
-and state/, which are made where they aren't there. An edition is a folder in/NAME: pages as `pressroom
-intake` takes them, or a plan PRESS.json for each press with the folder files. It begins when it has a file
-READY, or is unchanged for the house's time. A folder in/NAME of an edition that is in done/ has pages that
-came late. A pass ends when nothing can be done at once, and says in how many seconds the next one is worth
-while. It may be killed at any moment: the next one goes on. Two at once share the editions.
+and state/, which are created if missing. An edition is a folder in/NAME: pages as `pressroom intake` takes
+them, or a plan PRESS.json for each press with the folder files. It begins when it has a file READY, or is
+unchanged for the house's time. A folder in/NAME of an edition that is in done/ has late pages. A pass ends
+when nothing can be done at once, and reports in how many seconds the next one is useful. It may be killed at
+any moment: the next one continues. Two passes at once share the editions.
 
-status: 0 nothing is wrong, or what is wrong is tried again by a later pass; 1 an edition was moved to
-failed/, or given up; 2 the arguments or the house file are wrong, or a program is missing; 3 the spool can't
-be read or written
+status: 0 nothing is wrong, or a later pass retries it; 1 an edition was moved to failed/, or given up; 2 the
+arguments or the house file are wrong, or a program is missing; 3 the spool can't be read or written
 
 example: pressroom night /var/spool/pressroom --json
 """
@@ -38,7 +37,7 @@ class Night:
         self.last_number = 0
 
     def states(self):
-        """The states of all editions, as they are on the disk now."""
+        """The states of all editions, read from the disk."""
         states = {}
         for name in spool.editions(self.spool):
             edition = spool.Edition(self.spool, name)
@@ -47,7 +46,7 @@ class Night:
         return states
 
     def next_number(self):
-        """A number behind those of all editions that are done or failed: which of them came last."""
+        """A number above those of all editions that are done or failed, so the largest is the latest."""
         numbers = [state.get("number", 0) for state in self.states().values()]
         self.last_number = max([self.last_number, *numbers]) + 1
         return self.last_number
@@ -62,12 +61,12 @@ class Night:
             waits += [visit.due] if visit.due is not None else []
         status = max(status, self.guarded(self.write_metrics))
         wait = round(min(waits), 3) if waits else None
-        text = "nothing is left to do" if wait is None else f"worth another pass in {wait} s"
+        text = "nothing is left to do" if wait is None else f"the next pass is useful in {wait} s"
         self.console.tell("rest", text, seconds=wait)
         return status or (SOME_FAILED if self.failed else NOTHING_WRONG)
 
     def guarded(self, step, *what):
-        """Does a step. What a full or broken disk prevents is told, and left to a later pass."""
+        """Does a step. Reports what a full or broken disk prevents, and leaves it to a later pass."""
         try:
             step(*what)
         except OSError as error:
@@ -120,7 +119,7 @@ class Night:
                 self.remove_versions(os.path.join(self.spool, "out", name))
 
     def remove(self, name):
-        """Removes all of an edition that ended, unless something came in for it."""
+        """Removes everything of an edition that ended, unless something arrived for it."""
         edition = spool.Edition(self.spool, name)
         try:
             with disk.Lock(edition.lock_file) as lock:
@@ -128,12 +127,12 @@ class Night:
                     return
                 edition.remove_all()
                 lock.remove()
-                self.console.tell("removed", "by the house's rule", edition=name)
+                self.console.tell("removed", "by the house's rule of retention", edition=name)
         except disk.Busy:
             pass
 
     def remove_versions(self, out):
-        """Removes the versions of an edition that nobody needs: see `old_versions`."""
+        """Removes the versions of an edition that are no longer needed: see `old_versions`."""
         try:
             with disk.Lock(os.path.join(out, version.LOCK)):
                 for one in old_versions(out, self.house.night["versions"]):
@@ -144,7 +143,7 @@ class Night:
 
 
 def old_versions(out, keep):
-    """The versions that go: those that aren't READY anywhere, but for the last one, and those that are
+    """The versions to remove: those that aren't READY anywhere, except the last one, and those that are
     READY and older than `current` and the last `keep`."""
     every = [version.Version(out, name) for name in version.versions(out)]
     now = version.current(out)
@@ -159,9 +158,9 @@ def read_words():
     )
     parser.add_argument("spool", metavar="SPOOL", help="the folder of the spool, with house.toml")
     parser.add_argument(
-        "--program", metavar="PATH", help="the program; without it PLATEROOM, then the path, are asked"
+        "--program", metavar="PATH", help="the program (default: $PLATEROOM, then plateroom on the path)"
     )
-    parser.add_argument("--json", action="store_true", help="one JSON object a line for each event")
+    parser.add_argument("--json", action="store_true", help="print each event as a JSON object, one a line")
     return parser.parse_args()
 
 

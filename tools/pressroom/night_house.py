@@ -1,4 +1,4 @@
-"""What the house file says of nights: the tables [night] and [delivery], tested key by key.
+"""The tables [night] and [delivery] of the house file, tested key by key.
 
 Durations are seconds. A fault names the file, the line and the key.
 """
@@ -30,7 +30,7 @@ def whole(least, most):
 
 TRUTH = "true or false", lambda value: isinstance(value, bool)
 PATH = (
-    "a path from the root",
+    "an absolute path",
     lambda value: isinstance(value, str) and value.startswith("/") and "\0" not in value,
 )
 WORDS = 'a list of options, such as ["-e", "ssh -p 2222"]', lambda value: isinstance(value, list) and all(
@@ -41,7 +41,7 @@ TARGET = 'a folder, such as "oslo.example:plates"', lambda value: isinstance(val
 )
 SITE = re.compile(r"[A-Za-z0-9_]{1,16}")
 
-# Each key with the value that it has where it isn't given, and what it takes.
+# Each key with its default and what it takes.
 NIGHT = {
     "settle": (60, number(0, 86400)),
     "give_up": (10800, number(0, 604800)),
@@ -72,7 +72,7 @@ class NightHouse:
 
 
 def read(path):
-    """Reads the tables of a house file; raises Fault, also where the file isn't there or is no TOML."""
+    """Reads the tables of a house file; raises Fault, also where the file isn't there or is not TOML."""
     try:
         with open(path, "rb") as file:
             text = file.read().decode()
@@ -105,11 +105,11 @@ def table(path, text, tables, name):
 
 
 def filled(path, text, name, given, keys):
-    """All keys of a table, as given or as they are where they aren't."""
+    """All keys of a table, as given or with their defaults."""
     for key, value in given.items():
         if key not in keys:
             raise Fault(
-                f"{place(path, text, name, key)}: {name}.{key} is unknown; there are {', '.join(keys)}"
+                f"{place(path, text, name, key)}: {name}.{key} is unknown; the keys are {', '.join(keys)}"
             )
         test(path, text, name, key, value, keys[key][1])
     return {key: given.get(key, without) for key, (without, _) in keys.items()}

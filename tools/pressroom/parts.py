@@ -1,17 +1,18 @@
 """Cuts an edition into parts: plans whose plates together are those of the whole, each at its path.
 
-A part has some sections for some sites, and of the pages those alone that these sites print there, so it
-loads its own files alone. All else of the plan stays. A part is written as OUT/SECTION-SITE.json, by its
-first section and its first site; one that lies there already, the same, is left as it is. For each a line:
+A part has some sections for some sites, and only the pages that these sites print there, so it loads only its
+own files. Everything else of the plan is unchanged. A part is written as OUT/SECTION-SITE.json, named by its
+first section and its first site; an identical file that is already present is left alone. For each part it
+prints a line:
 
 plan SECTION-SITE.json sections A,B sites OSLO,BERGEN plates P rows R bytes B
 
-P plates for all its sites, R rows that are made for them, B bytes of its files: "unknown" where one isn't
-there.
+P counts the plates for all its sites, R the rows that are made for them, B the bytes of its files: "unknown"
+if one is missing.
 
-status: 0 the parts are written; 1 a section for one site has more than --most bytes; 2 the words are wrong,
-the program can't be asked, or a file can't be read or written; 3 the plan is refused, by the program's line;
-4 --most was given, and a file of the plan isn't there
+status: 0 the parts are written; 1 a section for one site has more than --most bytes; 2 the arguments are
+wrong, the program can't be run, or a file can't be read or written; 3 the plan is refused, with the program's
+line; 4 --most was given, and a file of the plan is missing
 """
 import argparse
 import json
@@ -42,7 +43,7 @@ class Edition:
         self.sizes = {name: self.size(name) for names in self.images.values() for name in names}
 
     def size(self, name):
-        """The bytes of a file: no end of them where it isn't there."""
+        """The bytes of a file: infinity if it is missing."""
         try:
             return os.path.getsize(os.path.join(self.files, name))
         except OSError:
@@ -58,7 +59,7 @@ class Edition:
         return sum(self.sizes[name] for name in names)
 
     def pairs(self, section, site):
-        """The two pages of each pair, first the one that stands nearer to the front of the section."""
+        """The two pages of each pair, the one nearer to the front of the section first."""
         pages = self.prints[section, site]
         return list(zip(pages, reversed(pages)))[: len(pages) // 2]
 
@@ -68,7 +69,7 @@ class Edition:
         return (4 if "C" in inks else 1) + ("S" in inks)
 
     def shares_much(self, sections, site, other):
-        """Whether at least half of a site's plates are those of another one too."""
+        """Whether at least half of a site's plates are also those of another one."""
         every = common = 0
         for section in sections:
             for pair, its in zip(self.pairs(section, site), self.pairs(section, other)):
@@ -104,7 +105,7 @@ class Edition:
 
     def cut(self, sections, sites):
         """The plan of these sections for these sites. A section's own pages are those that the first site
-        without a zone prints, else those of the first site, and zones have what differs from them."""
+        without a zone prints, otherwise those of the first site, and zones have what differs from them."""
         kept = [site for site in self.plan["sites"] if site["name"] in sites]
         own = next((site for site in kept if "zone" not in site), kept[0])["name"]
         of_zone = {site["zone"]: site["name"] for site in kept if "zone" in site}
@@ -156,7 +157,7 @@ def printed(plan, section, site):
 
 
 def grouped(items, fits):
-    """The items in groups: each in the first one into which it fits, else in a group of its own."""
+    """The items in groups: each in the first one into which it fits, otherwise in a group of its own."""
     groups = []
     for item in items:
         group = next((group for group in groups if fits(group, item)), None)
@@ -189,7 +190,7 @@ def read_words():
         "--by",
         choices=("section", "site", "both"),
         default="section",
-        help="a part for each section (so without it), for sites that share at least half of their plates "
+        help="a part for each section (default), for sites that share at least half of their plates "
         "with the first of them, or for each section of such sites",
     )
     parser.add_argument(
@@ -197,14 +198,14 @@ def read_words():
         metavar="BYTES",
         type=int,
         default=math.inf,
-        help="the most that the files of a part have: sections are joined up to it, and one that has more is "
+        help="the most bytes that the files of a part have: sections are joined up to it, and a larger one is "
         "cut by sites",
     )
     parser.add_argument(
-        "--files", metavar="FILES", help="the folder of the plan's images; without it PLAN's own"
+        "--files", metavar="FILES", help="the folder of the plan's images (default: PLAN's folder)"
     )
     parser.add_argument(
-        "--program", metavar="PATH", help="the program; without it PLATEROOM, then the path, are asked"
+        "--program", metavar="PATH", help="the program (default: $PLATEROOM, then plateroom on the path)"
     )
     return parser.parse_args()
 
@@ -225,12 +226,12 @@ def main():
     edition = Edition(json.loads(text), files)
     for name, size in sorted(edition.sizes.items()):
         if size == math.inf and words.most < math.inf:
-            leave(4, f"{os.path.join(files, name)} isn't there: its bytes are asked for by --most")
+            leave(4, f"{os.path.join(files, name)} is missing: --most needs its size")
     parts = edition.parts(words.by, words.most)
     for sections, sites in parts:
         size = edition.bytes(sections, sites)
         if size > words.most:
-            leave(1, f"section {sections[0]} of site {sites[0]} has {size} bytes of files, and can't be cut")
+            leave(1, f"section {sections[0]} of site {sites[0]} has {size} bytes of files and can't be cut")
     try:
         os.makedirs(words.out, exist_ok=True)
         for sections, sites in parts:

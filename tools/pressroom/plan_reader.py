@@ -31,7 +31,7 @@ class Plan:
         return names
 
     def sites(self):
-        """The names of its sites. This and the following want a plan that the program takes."""
+        """The names of its sites. This and the following need a plan that the program accepts."""
         return [site["name"] for site in self.value["sites"]]
 
     def plates(self, site):

@@ -1,6 +1,6 @@
 """The plates of an edition below a folder: its sites, pairs and inks, and which files have the same content.
 
-Only files whose whole name is that of a plate are seen, so a `.tif.part` never is.
+Only files with the full name of a plate are read, so a `.tif.part` never is.
 """
 import hashlib
 import os
@@ -42,7 +42,7 @@ def sites_of(folder):
 
 
 def content_of(path):
-    """A name for the file's bytes: files with the same bytes, and only these, have the same."""
+    """An identity of the file's bytes: files have the same one exactly if their bytes are the same."""
     digest = hashlib.sha256()
     try:
         with open(path, "rb") as file:
@@ -54,13 +54,13 @@ def content_of(path):
 
 
 def open_plate(path):
-    """The plate at this path. What isn't one is Broken."""
+    """The plate at this path. Raises Broken if it isn't one."""
     plate = Tiff(path)
     if (plate.samples, plate.bits, plate.photometric) != (1, 1, 0):
         plate.close()
-        raise Broken(f"{path}: no plate: a plate has 1 sample of 1 bit, and 1 prints")
+        raise Broken(f"{path}: not a plate: a plate has 1 sample of 1 bit, and 1 prints")
     if not plate.width or not plate.length:
         plate.close()
-        raise Broken(f"{path}: no plate: it has no pixel")
+        raise Broken(f"{path}: not a plate: it has no pixel")
     plate.dpi = plate.rational(282)
     return plate

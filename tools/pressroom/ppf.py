@@ -1,17 +1,17 @@
 """Writes ink key files for presses: CIP3 PPF 3.0, one file for each pair and the sites that print it alike.
 
 PLATES is the folder of a run, with a folder for each site, or one site's folder. A file of OUT is named by
-the pair and the first of its sites, as E1-A-001-OSLO.ppf, and has a preview image of each plate at about
+the pair and the first of its sites, such as E1-A-001-OSLO.ppf, and has a preview image of each plate at about
 50.8 pixels an inch.
 
 With --keys N it also writes keys-N.csv and keys-N.json: for each plate and key the dots that `plateroom
-keys` counts, and the printed area in percent. Where the house file has a table [keys] with a press's key
-`width` and `offset` in mm, N keys of that width get their printed area too.
+keys` counts, and the printed area in percent. If the house file has a table [keys] with a press's key `width`
+and `offset` in mm, N keys of that width get their printed area too.
 
 example: pressroom ppf plates ppf --keys 32 --house house.toml
 
-status: 0 all is written; 1 plates are damaged: the lines name them, and their pairs have no file; 2 the
-arguments are wrong, or there are no plates, or a library isn't installed, or OUT can't be written
+status: 0 everything is written; 1 plates are damaged: the lines name them, and their pairs have no file; 2
+the arguments are wrong, or there are no plates, or a library isn't installed, or OUT can't be written
 """
 import argparse
 import os
@@ -28,7 +28,7 @@ def read_words():
     )
     keys = proof.numbers("a whole number of 1 to 64", (1, 64))
     parser.add_argument("plates", metavar="PLATES", help="the folder of a run, or of one site")
-    parser.add_argument("out", metavar="OUT", help="the folder for the files; what it holds besides stays")
+    parser.add_argument("out", metavar="OUT", help="the folder for the files; other files in it are left alone")
     parser.add_argument(
         "--keys",
         metavar="N",
@@ -47,7 +47,7 @@ def read_words():
         default=os.cpu_count() or 1,
         help="plates at a time (as many as there are processors)",
     )
-    parser.add_argument("--json", action="store_true", help="tell events as JSON, one a line")
+    parser.add_argument("--json", action="store_true", help="print each event as a JSON object, one a line")
     parser.add_argument("--version", action="version", version=f"pressroom {__version__}")
     return parser.parse_args()
 

@@ -6,7 +6,7 @@ ends within one, the rest of it is paper, and so the extent is that of the previ
 """
 from pressroom import __version__
 
-# What presses' consoles commonly ask for: 20 pixels a centimetre.
+# What consoles of presses commonly require: 20 pixels a centimetre.
 RESOLUTION = 50.8
 LINE = 76
 
@@ -22,7 +22,7 @@ def number(value):
 
 
 def string(text):
-    """A PostScript string in 7-bit characters; what Latin-1 doesn't have becomes a question mark."""
+    """A PostScript string in 7-bit characters; a character outside Latin-1 becomes a question mark."""
     codes = text.encode("latin-1", "replace")
     inner = "".join(
         chr(code) if 32 <= code < 127 and code not in b"()\\" else f"\\{code:03o}" for code in codes
@@ -31,7 +31,7 @@ def string(text):
 
 
 def run_lengths(data):
-    """The bytes as PostScript's RunLengthDecode takes them, with their end."""
+    """The bytes in the form that PostScript's RunLengthDecode reads, with their end mark."""
     out, at, literal = bytearray(), 0, bytearray()
 
     def end_literal():

@@ -30,7 +30,7 @@ class Plate:
 
 
 class Sheets:
-    """All that one call writes."""
+    """Everything that one call writes."""
 
     def __init__(self, words, console):
         self.words, self.console = words, console
@@ -79,7 +79,7 @@ class Sheets:
         return sorted(found.values(), key=lambda sheet: sheet[0])
 
     def content(self, path):
-        """What tells a plate's bytes apart; a file that can't be read is like no other."""
+        """An identity of a plate's bytes; a file that can't be read equals no other."""
         try:
             return content_of(path)
         except Broken:
@@ -128,7 +128,7 @@ class Sheets:
         )
 
     def put(self, name, text):
-        """Writes a file under another name first, so that none is there in part."""
+        """Writes a file under another name first, so that none is ever present in part."""
         path = os.path.join(self.words.out, name)
         try:
             with open(path + ".part", "w", encoding="ascii" if name.endswith(".ppf") else "utf-8") as file:

@@ -2,11 +2,11 @@
 
 A PNG shows all pairs on one sheet, each with its name and inks below it; a PDF has a page for each pair. With
 --pair the PNG is that pair alone, with --dots a part of it, pixel by pixel. In a block of pixels each ink
-takes its share of the light, as if dots of different inks lay by chance on each other. Needs Pillow and
-numpy. Plates are read strip by strip, so a large one takes no more memory than a small one.
+takes its share of the light, as if dots of different inks overlapped at random. Needs Pillow and numpy.
+Plates are read strip by strip, so a large one takes no more memory than a small one.
 
-status: 0 the picture is made; 1 a plate is damaged or isn't finished; 2 the words are wrong, or there are no
-plates or no libraries
+status: 0 the picture is made; 1 a plate is damaged or not finished; 2 the arguments are wrong, or there are
+no plates or no libraries
 """
 import argparse
 import os
@@ -38,7 +38,7 @@ def leave(status, line):
 
 
 class Bar:
-    """A bar of progress where tqdm is there and the work takes longer than two seconds."""
+    """A progress bar, where tqdm is installed and the work takes longer than two seconds."""
 
     def __init__(self, total):
         try:
@@ -74,7 +74,7 @@ class Pair:
         self.width, self.length = first.width, first.length
         for plate in self.plates.values():
             if plate.samples != 1 or plate.bits != 1:
-                raise Broken(f"{plate.path}: no plate: it has {plate.samples} samples of {plate.bits} bits")
+                raise Broken(f"{plate.path}: not a plate: it has {plate.samples} samples of {plate.bits} bits")
             if (plate.width, plate.length) != (self.width, self.length):
                 raise Broken(
                     f"{plate.path}: {plate.width} by {plate.length} pixels, and {first.path} has "
@@ -153,7 +153,7 @@ class Png:
         )
 
     def row(self, pixels):
-        # The filter "up": a row is told by what it differs from the one above.
+        # The filter "up": a row is stored as its difference from the one above.
         data = self.packer.compress(b"\x02" + (pixels - self.last).tobytes())
         self.last = pixels
         if data:
@@ -165,7 +165,7 @@ class Png:
 
 
 def pairs_of(folder, inks):
-    """The pairs whose plates lie in a site's folder."""
+    """The pairs whose plates are in a site's folder."""
     found = {}
     try:
         names = sorted(os.listdir(folder))
@@ -241,15 +241,15 @@ def read_words():
     parser = argparse.ArgumentParser(
         description=__doc__, formatter_class=argparse.RawDescriptionHelpFormatter
     )
-    one_or_more = numbers("a whole number from 1 on", (1, LARGE))
-    parser.add_argument("plates", metavar="PLATES", help="a site's folder, as plates/OSLO")
-    parser.add_argument("out", metavar="OUT", help="the picture to write, a name that ends in .png or .pdf")
-    parser.add_argument("--pair", metavar="NAME", help="one pair alone, as MORNING-A-001 or A-001; a PNG")
+    one_or_more = numbers("a whole number of 1 or more", (1, LARGE))
+    parser.add_argument("plates", metavar="PLATES", help="a site's folder, such as plates/OSLO")
+    parser.add_argument("out", metavar="OUT", help="the picture to write: a name ending in .png or .pdf")
+    parser.add_argument("--pair", metavar="NAME", help="only this pair, such as MORNING-A-001 or A-001; a PNG")
     parser.add_argument(
         "--dots",
         metavar="X,Y,W,H",
         type=numbers("X,Y,W,H in pixels", (0, LARGE), (0, LARGE), (1, LARGE), (1, LARGE)),
-        help="of --pair the part of W by H pixels at X, Y, each pixel a square",
+        help="with --pair: only the part of W by H pixels at X, Y, each pixel a square",
     )
     parser.add_argument(
         "--zoom", metavar="N", type=one_or_more, default=8, help="the side of such a square (8)"
@@ -258,7 +258,7 @@ def read_words():
         "--factor",
         metavar="N",
         type=one_or_more,
-        help=f"so many pixels across become one (without it a pair is about {SHEET_SIDE} wide on a "
+        help=f"the scale: N pixels across become one (default: a pair is about {SHEET_SIDE} wide on a "
         f"sheet, {PAIR_SIDE} by itself, {PAGE_SIDE} in a PDF)",
     )
     parser.add_argument(
@@ -268,7 +268,7 @@ def read_words():
         "--palette",
         metavar="N",
         type=numbers("2 to 256 colours", (2, 256)),
-        help="a sheet of so many colours, which makes a small file",
+        help="limit the sheet to N colours, for a small file",
     )
     parser.add_argument(
         "--inks", metavar="LETTERS", type=letters, default="CMYKS", help="only these plates (CMYKS)"
@@ -341,7 +341,7 @@ def make_one(words, pair, colours, part):
 def main():
     words = read_words()
     if MISSING:
-        leave(2, f"{MISSING} isn't installed; Pillow and numpy are needed")
+        leave(2, f"{MISSING} isn't installed; proof needs Pillow and numpy")
     part = words.out + ".part"
     try:
         make(words, part)

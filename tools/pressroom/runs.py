@@ -1,4 +1,4 @@
-"""Calls of plateroom that make plates, with a bar of the plates that are done, and their reports."""
+"""Calls of plateroom that make plates, with a progress bar of finished plates, and their reports."""
 import os
 import re
 import subprocess
@@ -13,18 +13,18 @@ LOOK = 0.2
 
 
 class Call:
-    """What a call of the program answered: its status, its lines, and its line on standard error."""
+    """The result of a call of the program: its status, its lines, and its line on standard error."""
 
     def __init__(self, status, out, note):
         self.status, self.lines, self.note = status, out.splitlines(), note.strip()
 
     def finished(self):
-        """The sites that a run's or a replate's report says are whole."""
+        """The sites that are complete by the report of a run or a replate."""
         ends = r"site (\w+) (?:finished |made )"
         return {found[1] for found in (re.match(ends, line) for line in self.lines) if found}
 
     def why(self, site):
-        """Why a site isn't whole: its line, else the refusal, else the status."""
+        """Why a site isn't complete: its line, or the refusal, or the status."""
         for line in self.lines:
             if line.startswith(f"site {site} left "):
                 return line.removeprefix(f"site {site} ")
@@ -32,7 +32,7 @@ class Call:
 
 
 def call(words, look=lambda: None, environment=None):
-    """Runs a program and calls `look` every now and then until it ends. A signal N is the status 128 + N."""
+    """Runs a program and calls `look` at intervals until it ends. A signal N is the status 128 + N."""
     with tempfile.TemporaryFile() as out, tempfile.TemporaryFile() as note:
         process = subprocess.Popen(
             words,
@@ -58,7 +58,7 @@ def call(words, look=lambda: None, environment=None):
 
 
 def command(name, *words):
-    """The words that start a command of pressroom: by the entry that PRESSROOM names, else by this
+    """The arguments that start a command of pressroom: with the entry that PRESSROOM names, otherwise this
     package's."""
     entry = os.environ.get("PRESSROOM")
     start = [entry] if entry else [sys.executable, "-B", os.path.join(HERE, "..", "pressroom.py")]
@@ -66,13 +66,13 @@ def command(name, *words):
 
 
 class Done:
-    """The bar of plates: counts the finished names below some folders of sites."""
+    """The progress bar of plates: counts the finished names below some folders of sites."""
 
     def __init__(self, bar, folders):
         self.bar, self.folders, self.seen = bar, folders, 0
 
     def look(self):
-        """Moves the bar to the plates that are there now; it never goes back."""
+        """Moves the bar to the number of plates that are present; it never goes back."""
         now = sum(map(plates_in, self.folders))
         if now > self.seen:
             self.bar.update(now - self.seen)

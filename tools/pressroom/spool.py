@@ -1,11 +1,11 @@
-"""A spool of editions, as it lies on the disk:
+"""A spool of editions on the disk:
 
     house.toml          what holds for all editions
     in/NAME/            an edition as it arrives: pages, or plans PRESS.json with the folder files; last READY
     work/NAME/          what is made of it for the plates: WORK of `pressroom make`
     out/NAME/           its versions: OUT of `pressroom make`
-    done/NAME/          what came in, when all plates are delivered
-    failed/NAME/        what came in, where no plates can be made of it, or a site can't be reached
+    done/NAME/          what came in, after all plates were delivered
+    failed/NAME/        what came in, if no plates can be made of it, or a site can't be reached
     state/NAME.json     what was seen and tried, for the next pass
     state/NAME.lock     held while a pass works on the edition
 """
@@ -25,7 +25,7 @@ READY = "READY"
 
 
 def editions(spool):
-    """The names of all editions of a spool, those that wait first in the order of their names."""
+    """The names of all editions of a spool, waiting ones first, in the order of their names."""
     names = []
     for folder in ("in", "done", "failed"):
         names += sorted(
@@ -63,13 +63,12 @@ def files_below(folder):
 
 
 def is_marked(folder):
-    """Whether READY is in a folder, or was and the state couldn't be written since."""
+    """Whether READY is in a folder, or was there and the state couldn't be written since."""
     return any(os.path.lexists(os.path.join(folder, name)) for name in (READY, f".{READY}"))
 
 
 def signature(folder):
-    """What tells whether any file below a folder is another one, or was written to; None where there is no
-    file."""
+    """A value that changes if any file below a folder is replaced or written to; None if there is no file."""
     lines = []
     for name in files_below(folder):
         try:
@@ -93,7 +92,7 @@ class Edition:
         self.state, self.saved = {}, None
 
     def load(self):
-        """Reads the state. One that can't be read is none: each step finds on the disk what is done."""
+        """Reads the state. One that can't be read counts as empty: each step finds on the disk what is done."""
         try:
             with open(self.state_file, encoding="utf-8") as file:
                 self.saved = file.read()
@@ -104,7 +103,7 @@ class Edition:
             self.state = {}
 
     def save(self):
-        """Writes the state where it changed."""
+        """Writes the state if it changed."""
         text = json.dumps(self.state, indent=1, sort_keys=True)
         if text != self.saved:
             disk.write_whole(self.state_file, text.encode())
@@ -115,18 +114,18 @@ class Edition:
         return self.done if os.path.isdir(self.done) else self.incoming
 
     def watch(self, folder):
-        """Notes what lies in a folder and since when, takes its READY away, and returns its signature."""
+        """Records what is in a folder and since when, removes its READY, and returns its signature."""
         ready, kept = os.path.join(folder, READY), os.path.join(folder, f".{READY}")
         name, is_ready = os.path.basename(os.path.dirname(folder)), is_marked(folder)
         if os.path.lexists(ready):
-            # It goes also where the state can't be written, or a path unit would start a pass at once again.
+            # It is removed even if the state can't be written, or a path unit would start a pass at once again.
             os.rename(ready, kept)
         now = signature(folder)
         every = self.state.setdefault("seen", {})
         if every.get(name, {}).get("signature", "") != now:
             every[name] = {"signature": now, "since": stamp()}
         if is_ready:
-            # READY says that it is worth another look, also at what was refused, or is done.
+            # READY asks for another try, also of what was refused or is done.
             every[name]["ready"] = True
             for key in ("refused", "given_up", "complete"):
                 self.state.pop(key, None)
@@ -136,17 +135,17 @@ class Edition:
         return now
 
     def seen(self, folder):
-        """What `watch` noted of a folder: its signature, since when it has it, and whether READY was
+        """What `watch` recorded of a folder: its signature, since when it has it, and whether READY was
         there."""
         return self.state["seen"][os.path.basename(os.path.dirname(folder))]
 
     def plans(self):
-        """The plans that came in; none where the edition comes as pages."""
+        """The plans that came in; none if the edition comes as pages."""
         there = set(files_below(self.home()))
         return [plan for plan in plans_of(self.home()) if f"{plan.name}.json" in there]
 
     def missing(self, plans):
-        """The files that plans name and that aren't there; a link is no file."""
+        """The files that plans name and that are missing; a link is no file."""
         names = set().union(*(plan.files() for plan in plans))
         there = set(files_below(self.home()))
         return sorted(name for name in names if f"files/{name}" not in there)
@@ -166,7 +165,7 @@ class Edition:
                 disk.remove(os.path.join(self.work, f"{plan.name}.json"))
 
     def merge(self, source, target):
-        """Moves what lies in a folder over what lies in another one, file by file."""
+        """Moves the files of a folder over those of another one, file by file."""
         for name in files_below(source):
             path = os.path.join(target, name)
             os.makedirs(os.path.dirname(path), exist_ok=True)
@@ -174,13 +173,13 @@ class Edition:
             disk.sync_folder(os.path.dirname(path))
 
     def move(self, source, target):
-        """Moves the folder of what came in; an empty one in its place is replaced."""
+        """Moves the folder of what came in, and replaces an empty one there."""
         os.rename(source, target)
         for path in (target, source):
             disk.sync_folder(os.path.dirname(path))
 
     def remove_all(self):
-        """Removes all that there is of the edition, its state last, so that a pass that is killed goes on
+        """Removes everything of the edition, its state last, so that after a kill the next pass continues
         with it."""
         self.state = {"removing": True}
         self.save()
@@ -190,13 +189,13 @@ class Edition:
 
 
 def signs(path):
-    """What tells whether a file is another one, or was written to."""
+    """A value that changes if a file is replaced or written to."""
     now = os.lstat(path)
     return [now.st_size, now.st_mtime_ns, now.st_ctime_ns, now.st_ino]
 
 
 def remove_empty(folder):
-    """Removes folders that hold no file, from below; one that holds something stays."""
+    """Removes folders without files, from below; others are kept."""
     for at, _, _ in os.walk(folder, topdown=False):
         try:
             os.rmdir(at)

@@ -1,12 +1,12 @@
 """Writes a tile of clustered dots, turned by an angle, for the list `tiles` of an edition plan.
 
-The dots of a tile must go on from tile to tile, so not every angle and ruling is to be had: the tile that
-comes nearest is written to standard output, and what it has to standard error. A tile of side N whose dots
-lie at (A, B) steps has A * A + B * B dots, the angle atan(B / A), and dpi * sqrt(A * A + B * B) / N lines an
-inch. The angle counts clockwise from the plate's upper edge. Thresholds go from 0 to 254, so that full ink is
-solid. Needs nothing but Python.
+The dots of a tile must continue from tile to tile, so only some angles and rulings are available. The nearest
+tile is written to standard output, and its real angle and ruling to standard error. A tile of side N with
+dots at (A, B) steps has A * A + B * B dots, the angle atan(B / A), and dpi * sqrt(A * A + B * B) / N lines an
+inch. The angle counts clockwise from the plate's upper edge. Thresholds range from 0 to 254, so that full ink
+is solid. Needs only Python.
 
-status: 0 the tile is written; 1 no tile comes near; 2 the words are wrong, or a file can't be written
+status: 0 the tile is written; 1 no tile is near enough; 2 the arguments are wrong, or a file can't be written
 """
 import argparse
 import math
@@ -19,7 +19,7 @@ MOST = 64
 # How far off a tile may be: degrees, and the part of the ruling.
 OFF_ANGLE, OFF_RULING = 3.0, 0.05
 SHOWN = 10
-# How dark first a place is, by its part of the way to the next dot in both directions (0 and 1 are dots).
+# How early a position prints, by its part of the way to the next dot in both directions (0 and 1 are dots).
 DOTS = {
     "round": lambda u, v: math.cos(2 * math.pi * u) + math.cos(2 * math.pi * v),
     "ellipse": lambda u, v: 1.2 * math.cos(2 * math.pi * u) + 0.8 * math.cos(2 * math.pi * v),
@@ -37,7 +37,7 @@ class Grid:
         self.cell = side / math.sqrt(self.count)
 
     def off(self, angle, ruling, dpi):
-        """How far it is from what is wanted: degrees, and the part of the ruling."""
+        """How far it is from what was asked for: degrees, and the part of the ruling."""
         turn = abs(self.angle - angle) % 90
         return min(turn, 90 - turn), abs(dpi / self.cell / ruling - 1)
 
@@ -48,13 +48,13 @@ class Grid:
         )
 
     def dot_of(self, x, y):
-        """The dot that a pixel belongs to: its place, in parts of which `count` are the tile's side."""
+        """The dot that a pixel belongs to: its position, in units of which `count` are the tile's side."""
         i = ((2 * x + 1) * self.a + (2 * y + 1) * self.b + self.side) // (2 * self.side)
         j = ((2 * y + 1) * self.a - (2 * x + 1) * self.b + self.side) // (2 * self.side)
         return (i * self.a - j * self.b) % self.count, (i * self.b + j * self.a) % self.count
 
     def order(self):
-        """The order in which the dots begin, each as far as can be from those before it."""
+        """The order in which the dots begin, each as far as possible from those before it."""
         away = {self.dot_of(x, y): math.inf for y in range(self.side) for x in range(self.side)}
         order = {}
         while away:
@@ -105,13 +105,13 @@ def nearest(angle, ruling, dpi, largest):
 
 
 def is_near(grid, angle, ruling, dpi):
-    """Whether a grid is near enough to what is wanted to print by it."""
+    """Whether a grid is near enough to what was asked for to be printed."""
     turn, part = grid.off(angle, ruling, dpi)
     return turn <= OFF_ANGLE and part <= OFF_RULING
 
 
 def tile_text(name, grid, at):
-    """The tile as the plan wants it, a row on each line."""
+    """The tile as a plan has it, a row on each line."""
     rows = (", ".join(map(str, at[i : i + grid.side])) for i in range(0, len(at), grid.side))
     return (
         f'{{"name": "{name}", "width": {grid.side}, "height": {grid.side}, "at": [\n'
@@ -197,8 +197,8 @@ def read_words():
         default=float(MOST),
         help="the largest side (64)",
     )
-    parser.add_argument("--list", action="store_true", help="print the ten that come nearest, and no tile")
-    parser.add_argument("--wedge", metavar="OUT.png", help="write a picture of the dots in eleven tones too")
+    parser.add_argument("--list", action="store_true", help="print the ten nearest, and no tile")
+    parser.add_argument("--wedge", metavar="OUT.png", help="also write a picture of the dots in eleven tones")
     return parser.parse_args()
 
 
@@ -213,7 +213,7 @@ def main():
     if not grids or not is_near(grids[0], words.angle, words.ruling, dpi):
         near = f"the nearest has {grids[0].line(dpi)}" if grids else "there is none"
         print(
-            f"tile.py: no tile of side up to {words.largest:.0f} comes near {words.angle:g} degrees and "
+            f"tile.py: no tile of side up to {words.largest:.0f} is near {words.angle:g} degrees and "
             f"{words.ruling:g} lines an inch at {dpi} dpi; {near}",
             file=sys.stderr,
         )

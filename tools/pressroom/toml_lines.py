@@ -1,4 +1,4 @@
-"""The line on which each key of a TOML text stands, which tomllib doesn't report.
+"""The line of each key of a TOML text, which tomllib doesn't report.
 
 The text has passed tomllib before, so this only follows its tables, keys, strings and brackets.
 """

@@ -6,7 +6,7 @@ A version holds, with names that no site can have:
     SITE/                 the plates of a site; SHA256SUMS and then READY, when all are verified
     made-from/            the plans and files that it was made of, by hard links, with their SHA256SUMS
     PRESS.report          what the program printed for a press
-    report.json           what became of each press and site, faults, and seconds by step
+    report.json           the result of each press and site, faults, and seconds by step
 """
 import calendar
 import os
@@ -78,7 +78,7 @@ class Version:
         return plans_of(self.source)
 
     def take(self, work):
-        """Takes the plans of WORK and the files that they name, so that what comes later changes nothing
+        """Links the plans of WORK and the files that they name, so that later arrivals change nothing
         here."""
         os.makedirs(self.files)
         for plan in plans_of(work):
@@ -95,12 +95,11 @@ class Version:
         return source_sums(self.source)
 
     def source_kept(self):
-        """Whether plans and files are those of which this version was made."""
+        """Whether plans and files are those that this version was made from."""
         return self.taken_sums() == self.source_sums()
 
     def taken_sums(self):
-        """The sums of plans and files as they were when this version was begun; None where it never got so
-        far."""
+        """The sums of plans and files when this version was begun; None if it never got that far."""
         try:
             with open(os.path.join(self.source, SUMS), "rb") as file:
                 return file.read()
@@ -147,7 +146,7 @@ class Version:
 
 
 def source_sums(folder):
-    """The sums of a folder's plans and of the files that they name, as far as they are there."""
+    """The sums of a folder's plans and of the files that they name, as far as present."""
     sums = {}
     for plan in plans_of(folder):
         sums[f"{plan.name}.json"] = disk.sha256(os.path.join(folder, f"{plan.name}.json"))

@@ -1,4 +1,4 @@
-"""What a pass of the night does for one edition: each step finds on the disk what is done, and may be
+"""What a pass of the night does for one edition: each step finds on the disk what is done, and can be
 repeated."""
 import os
 import time
@@ -12,7 +12,7 @@ from pressroom.late import late
 from pressroom.make import make
 from pressroom.plan_reader import plans_of
 
-# How long a pass waits for another one, or for a make by hand, before it looks again.
+# The seconds after which a pass looks again for an edition that another pass, or a make by hand, works on.
 BUSY = 5
 
 
@@ -22,7 +22,7 @@ class Visit(Arrival):
     sums = None
 
     def go(self):
-        """Does all that can be done for the edition now."""
+        """Does everything that can be done for the edition now."""
         self.edition.load()
         self.state = self.edition.state
         if self.state.get("removing"):
@@ -104,7 +104,7 @@ class Visit(Arrival):
         self.edition.save()
 
     def finish(self, home, now, made):
-        """Delivers the sites that are READY; when all are, the edition is done."""
+        """Delivers the sites that are READY; when all are delivered, the edition is done."""
         waiting = self.deliver_all()
         if self.state["undelivered"] != waiting:
             self.state["undelivered"] = waiting
@@ -114,17 +114,17 @@ class Visit(Arrival):
             self.edition.save()
             self.console.tell(
                 "delivered",
-                f"version {self.state['ready']['version']} is with all sites",
+                f"version {self.state['ready']['version']} is delivered to all sites",
                 version=self.state["ready"]["version"],
             )
             self.move_done(home)
         elif self.attempts("make").over():
-            self.fail(home, "no try is left to make the plates")
+            self.fail(home, "no attempts are left to make the plates")
         elif any(self.site_attempts(site).over() for site in waiting):
-            self.fail(home, "no try is left to deliver " + ", ".join(sorted(waiting)))
+            self.fail(home, "no attempts are left to deliver " + ", ".join(sorted(waiting)))
 
     def deliver_all(self):
-        """Delivers what is READY and due. Returns the sites that wait, each with why."""
+        """Delivers what is READY and due. Returns the sites that wait, each with the reason."""
         self.state.setdefault("undelivered", {})
         waiting = {}
         for site in (site for plan in plans_of(self.edition.work) for site in plan.sites()):
@@ -144,7 +144,7 @@ class Visit(Arrival):
         return None
 
     def deliver(self, site, ready):
-        """Delivers a site, where that is due. Returns why it waits, or nothing."""
+        """Delivers a site, if that is due. Returns why it waits, or nothing."""
         delivered = self.state.setdefault("delivered", {})
         before, sums = delivered.get(site, {}), sums_of(ready, site)
         target = self.house.targets.get(site)
@@ -152,7 +152,7 @@ class Visit(Arrival):
             return ""
         attempts = self.site_attempts(site)
         if attempts.over():
-            return self.state["undelivered"].get(site, "no try is left")
+            return self.state["undelivered"].get(site, "no attempts are left")
         if attempts.wait():
             self.look_in(attempts.wait())
             return self.state["undelivered"].get(site, "waits")
@@ -199,8 +199,8 @@ class Visit(Arrival):
         self.due = None
 
     def move_done(self, home):
-        """Moves what came in to done/, when all plates are delivered."""
+        """Moves what came in to done/, after all plates were delivered."""
         if home == self.edition.incoming:
             self.edition.move(home, self.edition.done)
-            self.console.tell("finished", "what came in is in done/ now")
+            self.console.tell("finished", "moved to done/")
             self.look_in(0)

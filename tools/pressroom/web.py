@@ -1,10 +1,10 @@
-"""Makes a folder in which plates are looked at with a browser, from any web server or straight from a disk.
+"""Makes a folder in which a browser shows plates, from any web server or straight from a disk.
 
 PLATES is the folder of a run, with a folder for each site, or one site's folder. OUT gets index.html, tiles
-of each plate and the data of the page. Plates that sites share are cut into tiles once. OUT appears when all
-is made; an earlier proof there is replaced. A damaged plate is named, and the others are shown.
+of each plate and the data of the page. Plates that sites share are cut into tiles once. OUT appears when
+everything is made, and replaces an earlier proof there. A damaged plate is named, and the others are shown.
 
-With --plan the proof knows zones, pages and the ink limit, with --old what changed since an earlier edition.
+With --plan the proof shows zones, pages and the ink limit, with --old what changed since an earlier edition.
 
 example: pressroom web plates proof --plan plan.json --old yesterday/plates --jobs 4
 
@@ -25,7 +25,7 @@ from pressroom.web_tiles import Failed
 LEAFLET = "/usr/share/javascript/leaflet"
 LICENCE = "/usr/share/doc/libjs-leaflet/copyright"
 FILES = os.path.join(os.path.dirname(os.path.abspath(__file__)), "web_files")
-# Files of ours by which a folder is known as a proof that may be replaced.
+# Files of ours that mark a folder as a proof, which may be replaced.
 OURS = "index.html", "proof.js"
 
 
@@ -60,7 +60,7 @@ def read_words():
         metavar="N",
         action="append",
         type=whole(1, 64),
-        help="ink keys over a plate, as in `plateroom keys`; may be repeated (32)",
+        help="number of ink keys over a plate, as in `plateroom keys`; may be repeated (32)",
     )
     parser.add_argument(
         "--jobs",
@@ -69,7 +69,7 @@ def read_words():
         default=os.cpu_count() or 1,
         help="plates at a time (as many as there are processors)",
     )
-    parser.add_argument("--json", action="store_true", help="tell events as JSON, one a line")
+    parser.add_argument("--json", action="store_true", help="print each event as a JSON object, one a line")
     parser.add_argument("--version", action="version", version=f"pressroom {__version__}")
     return parser.parse_args()
 
@@ -85,14 +85,14 @@ def need_all():
 
 
 def may_be_made(out):
-    """Raises Broken where OUT is something that must not be replaced."""
+    """Raises Broken if OUT must not be replaced."""
     if not os.path.lexists(out):
         return
     if os.path.islink(out) or not os.path.isdir(out):
-        raise Broken(f"{out}: is no folder")
+        raise Broken(f"{out}: not a folder")
     held = os.listdir(out)
     if held and not all(name in held for name in OURS):
-        raise Broken(f"{out}: holds something else than a proof; name a new folder")
+        raise Broken(f"{out}: has files other than a proof; name a new folder")
 
 
 def copy_files(folder):
@@ -107,7 +107,7 @@ def copy_files(folder):
 
 
 def put(made, out, aside):
-    """Gives the made folder its name; what stood there goes."""
+    """Gives the made folder its name, and removes what had it before."""
     if os.path.lexists(out):
         os.rename(out, aside)
     os.rename(made, out)
@@ -115,12 +115,12 @@ def put(made, out, aside):
 
 
 def size_of(folder):
-    """How many bytes the files of a folder have."""
+    """The bytes of all files of a folder."""
     return sum(os.path.getsize(os.path.join(at, name)) for at, _, names in os.walk(folder) for name in names)
 
 
 def make(words, console):
-    """Makes the proof beside OUT, gives it that name, and returns how many plates are damaged."""
+    """Makes the proof next to OUT, renames it to OUT, and returns how many plates are damaged."""
     from pressroom.web_proof import Proof
 
     out = os.path.abspath(words.out)
@@ -161,7 +161,7 @@ def main():
     except OSError as error:
         console.leave(2, f"{error.filename or words.out}: {error.strerror or error}")
     except KeyboardInterrupt:
-        console.leave(130, "stopped; nothing was made")
+        console.leave(130, "interrupted; nothing was made")
 
 
 if __name__ == "__main__":

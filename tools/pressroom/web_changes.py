@@ -1,4 +1,4 @@
-"""What differs between plates and those of an earlier edition, as images of dots that came and that went."""
+"""The differences between plates and those of an earlier edition, as images of dots that came and that went."""
 import os
 
 import numpy
@@ -12,7 +12,7 @@ ROWS = 256
 
 
 class Changes:
-    """The changes of all views. Each two contents are compared once."""
+    """The changes of all views. Each pair of contents is compared once."""
 
     def __init__(self, proof):
         self.proof, self.asked, self.tiles = proof, {}, {}

@@ -1,4 +1,4 @@
-"""What a proof takes from edition plans: each site's zone, the ink limit, and where pages lie on a plate."""
+"""What a proof takes from edition plans: each site's zone, the ink limit, and the positions of pages on a plate."""
 import json
 
 from pressroom.tiff import Broken
@@ -48,7 +48,7 @@ def numbers_of(pair, pages):
 
 
 def halves(pair, pages, width, length):
-    """The two pages of a pair where no plan is at hand: numbers alone, each on its half of the plate."""
+    """The two pages of a pair without a plan: only their numbers, each on its half of the plate."""
     return [
         {"number": number, "name": None, "box": [side * (width // 2), 0, width // 2, length]}
         for side, number in enumerate(numbers_of(pair, pages))
@@ -67,5 +67,5 @@ def sheets_of(paths):
         except OSError as error:
             raise Broken(f"{path}: {error.strerror}") from None
         except (ValueError, KeyError, TypeError, AttributeError, IndexError):
-            raise Broken(f"{path}: no edition plan; `pressroom check` says what is wrong with it") from None
+            raise Broken(f"{path}: not an edition plan; `pressroom check` reports why") from None
     return sheets

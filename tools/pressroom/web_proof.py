@@ -37,7 +37,7 @@ class Plate:
         self.tiles = web_tiles.cut(path, os.path.join(folder, "tiles", key), self.width, self.length)
 
     def summary(self):
-        """What the page knows of it from the beginning."""
+        """What the page has of it when it opens."""
         return {"width": self.width, "length": self.length, "total": self.total, "tiles": self.tiles}
 
     def write(self, folder):
@@ -75,7 +75,7 @@ class Proof:
         return sites
 
     def set_spot(self):
-        """Gives the spot the house's name and colour; --spot goes before the house file."""
+        """Gives the spot the house's name and colour; --spot overrides the house file."""
         name, colour = spot_of(self.words.house) if self.words.house else (None, None)
         spot = self.inks["S"]
         spot["name"] = name or spot["name"]
@@ -161,7 +161,7 @@ class Proof:
         self.damaged.append({"path": path, "reason": reason})
 
     def write(self):
-        """Writes what the page knows from the beginning."""
+        """Writes the data that the page has when it opens."""
         data = {
             "edition": self.sites[0].edition,
             "inks": self.inks,
@@ -178,7 +178,7 @@ class Proof:
         write_script(os.path.join(self.folder, "proof.js"), "const PROOF = ", data, ";")
 
     def zone(self, site):
-        """The zone of a site, None where no plan names one."""
+        """The zone of a site, None if no plan names one."""
         return self.sheets[site].zone if site in self.sheets else None
 
     def gone(self):

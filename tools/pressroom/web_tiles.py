@@ -2,7 +2,7 @@
 
 At the native level, the last, a tile holds the plate's bits, one bit a pixel. The level above it isn't
 stored, since a page draws it from four native tiles; above that come tiles of grey, the means of the dots.
-Tiles without a dot aren't stored either: a bit for each tile of a level says which are there.
+Tiles without a dot aren't stored either: a bit for each tile of a level says which are stored.
 """
 import os
 import shutil
@@ -14,7 +14,7 @@ GREYS = ".png[compression=6,strip]"
 
 
 class Failed(Exception):
-    """vips failed, as where a disk is full; the text is its own."""
+    """vips failed, for instance on a full disk; the text is its own."""
 
 
 def levels_of(width, length):
@@ -85,7 +85,7 @@ def cut_changes(image, folder, width, length):
 
 
 def described(folder, width, length, levels):
-    """Which tiles of each level there are, as a number in base 16 whose highest bit is the first tile."""
+    """Which tiles of each level are stored, as a number in base 16 whose highest bit is the first tile."""
     native, there = levels_of(width, length), {}
     for level in levels:
         side = SIDE << (native - level)

@@ -59,7 +59,7 @@ class View:
         return min(limits, default=None)
 
     def state(self):
-        """Whether it is new, changed or the same beside the old edition."""
+        """Whether it is new, changed or unchanged since the old edition."""
         if not self.old:
             return "new"
         return "changed" if any(change["dots"] != [0, 0] for change in self.changes.values()) else "same"
