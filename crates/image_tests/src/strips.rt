@@ -6,6 +6,7 @@ use crate::files::changed;
 use pr_base::{FaultKind, TagFault};
 use std::process::Abort;
 use std::test::Fail;
+use std::thread::Threads;
 use tif_dir::read_dir;
 use tif_strips::{RowCursor, Shape, Strips};
 
@@ -204,5 +205,46 @@ fn first_fault_of_eight_strips_is_told(rt: HostRuntime) {
             check(&bytes, PLANES) == Err(TagFault { tag: 273, kind }),
             "{changes:?}"
         );
+    }
+}
+
+// Whether the tests by this many threads find this fault first, or none, in the eight strips with these bytes
+// changed.
+fn finds<T: Threads + Sync>(
+    rt: &T,
+    threads: usize,
+    changes: &[(usize, u8)],
+    fault: Option<FaultKind>,
+) -> bool {
+    let bytes = changed(EIGHT_STRIPS, changes);
+    let Ok(dir) = read_dir(&bytes) else {
+        return false;
+    };
+    let found = match Strips::check_wide(rt, threads, &bytes, &dir, PLANES) {
+        Ok(_strips) => None,
+        Err(found) => Some(found.kind),
+    };
+    found == fault
+}
+
+// Strip 1 is tested by another thread than strip 7, and its fault comes first.
+#[test]
+fn first_fault_is_found_by_several_threads(rt: HostRuntime) {
+    use FaultKind::{Short, StripPlace};
+
+    let cases: [(&[(usize, u8)], Option<FaultKind>); 5] = [
+        (&[], None),
+        (&[(57, 3)], Some(Short)),
+        (&[(48, 1)], Some(StripPlace)),
+        (&[(36, 1), (57, 3)], Some(StripPlace)),
+        (&[(51, 3), (48, 1)], Some(Short)),
+    ];
+    for threads in 1..9 {
+        for (changes, fault) in cases {
+            assert!(&rt;
+                finds(&rt, threads, changes, fault),
+                "{threads} threads, {changes:?}"
+            );
+        }
     }
 }
