@@ -37,7 +37,9 @@ fn plain_row(values: &[u8], errors: &mut Errors) -> u64
 
 /// Returns the values of a row of a page, of the greatest width: pseudorandom numbers that differ by page and
 /// row.
-fn row_of(page: usize, y: u32) -> [u8; WIDEST] {
+fn row_of(page: usize, y: u32) -> [u8; WIDEST]
+    requires { page < 8 }
+{
     let mut seed = (page as u32)
         .wrapping_mul(40_503)
         .wrapping_add(y.wrapping_mul(2_246_822_519));
@@ -85,15 +87,25 @@ fn are_drawn(diffusers: &mut Diffusers, errors: &mut [Errors; 8], width: usize, 
     same
 }
 
+/// Diffuses the rows of eight pages, and returns whether each row of each page has the pixels that the plain
+/// code draws.
+fn are_all_drawn(diffusers: &mut Diffusers, width: usize) -> bool
+    requires width { diffusers.old.width ≡ width }
+    requires narrow { width ≤ 40 }
+{
+    let mut errors = [[0; WIDEST + 2]; 8];
+    let mut same = true;
+    for y in 0..HEIGHT {
+        same &= are_drawn(diffusers, &mut errors, width, y);
+    }
+    same
+}
+
 #[test]
 fn eight_pages_of_each_width(rt: HostRuntime) {
     for width in 1..WIDEST + 1 {
         let mut diffusers = Diffusers::new(rt.alloc(), width as u32).expect(&rt, "memory");
-        let mut errors = [[0; WIDEST + 2]; 8];
-        for y in 0..HEIGHT {
-            let same = are_drawn(&mut diffusers, &mut errors, width, y);
-            assert!(rt; same, "width {width} row {y}");
-        }
+        assert!(rt; are_all_drawn(&mut diffusers, width), "width {width}");
     }
 }
 
@@ -124,30 +136,48 @@ fn is_drawn(diffuser: &mut BlockDiffuser, errors: &mut Errors, width: usize, fir
     same
 }
 
-// The third block has four rows of the page, and four past its end.
+/// Diffuses three blocks of a page, and returns whether each row has the pixels that the plain code draws. The
+/// third block has four rows of the page, and four past its end.
+fn are_blocks_drawn(diffuser: &mut BlockDiffuser, width: usize) -> bool
+    requires width { diffuser.old.front.width ≡ width }
+    requires eight { length diffuser.old.held ≡ 8 }
+    requires narrow { width ≤ 40 }
+{
+    let mut errors = [0; WIDEST + 2];
+    let one = is_drawn(diffuser, &mut errors, width, 0);
+    let two = is_drawn(diffuser, &mut errors, width, 8);
+    let three = is_drawn(diffuser, &mut errors, width, 16);
+    one && two && three
+}
+
 #[test]
 fn blocks_of_each_width(rt: HostRuntime) {
     for width in 1..WIDEST + 1 {
         let mut diffuser = BlockDiffuser::new(rt.alloc(), width as u32).expect(&rt, "memory");
-        let mut errors = [0; WIDEST + 2];
-        for first in [0, 8, 16] {
-            let same = is_drawn(&mut diffuser, &mut errors, width, first);
-            assert!(rt; same, "width {width} block {first}");
-        }
+        assert!(rt; are_blocks_drawn(&mut diffuser, width), "width {width}");
     }
+}
+
+/// Diffuses a row of four values of 128 in each of eight pages, and returns whether each has these bits.
+fn are_fours(diffusers: &mut Diffusers, want: u8) -> bool
+    requires { diffusers.old.width ≡ 4 }
+    ensures { diffusers.new.width ≡ 4 }
+{
+    let row = [128; 4];
+    diffusers.advance([&row, &row, &row, &row, &row, &row, &row, &row]);
+    let mut same = true;
+    for page in 0..8 {
+        let mut bits = [0];
+        diffusers.draw(page, &mut bits, 0);
+        same &= bits == [want];
+    }
+    same
 }
 
 // All values are 128: v is 128, 72, 159, 86 and then 101, 168, 80, 183, in each of the eight pages.
 #[test]
 fn four_by_two_in_each_lane(rt: HostRuntime) {
     let mut diffusers = Diffusers::new(rt.alloc(), 4).expect(&rt, "memory");
-    let row = [128; 4];
-    for want in [0xA0, 0x50] {
-        diffusers.advance([&row, &row, &row, &row, &row, &row, &row, &row]);
-        for page in 0..8 {
-            let mut bits = [0];
-            diffusers.draw(page, &mut bits, 0);
-            assert!(rt; bits == [want]);
-        }
-    }
+    assert!(rt; are_fours(&mut diffusers, 0xA0));
+    assert!(rt; are_fours(&mut diffusers, 0x50));
 }
