@@ -23,6 +23,7 @@ import editions
 import held
 import keyed
 import late
+import loads
 import strips
 import trial
 import whole
@@ -173,7 +174,8 @@ def trials(tried, folder):
     runs_by_chance(tried, folder, files, range(1, 31))
     runs(tried, folder, "of six pairs", Edition(editions.rows(), files), [["1"], ["2", "65536"]])
     bands(tried, folder, Edition(editions.banded(), files))
-    strips.trials(tried, os.path.join(folder, "strips"))
+    edition = strips.trials(tried, os.path.join(folder, "strips"))
+    loads.trials(tried, os.path.join(folder, "strips"), *edition)
     runs(tried, folder, "of five inks", five, [[], ["16", "7"], ["1024", "7"]])
     read_by_others(tried, five, os.path.join(folder, "OUT"))
     held.trials(tried, folder, five)

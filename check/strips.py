@@ -115,19 +115,21 @@ def machines():
 
 
 def plates(tried, folder, files, name, page, screens, words=()):
-    """The plates and the result of `verify`, on all machines."""
+    """The plates and the result of `verify`, on all machines. Returns the plan's name, the plates and the report."""
     packed, plain = both(name, page, screens)
     edition, out = Edition(plain, files), os.path.join(folder, "OUT")
     wanted, report = dict(edition.plates()), edition.report("OUT").encode()
     same = f"same plates {len(wanted)} sites 2\n".encode()
-    editions.write_plan(os.path.join(folder, "strips.json"), packed)
+    path = f"{name}.json"
+    editions.write_plan(os.path.join(folder, path), packed)
     for how in machines():
         shutil.rmtree(out, ignore_errors=True)
-        tried.answers(["run", "strips.json", files, "OUT", *words], 0, report, b"", folder=folder, **how)
+        tried.answers(["run", path, files, "OUT", *words], 0, report, b"", folder=folder, **how)
         tried.holds(f"plates of {name}, {how}", compared(wanted, out))
-        tried.answers(["verify", "strips.json", files, "OUT"], 0, same, b"", folder=folder, **how)
+        tried.answers(["verify", path, files, "OUT"], 0, same, b"", folder=folder, **how)
     shutil.rmtree(out)
     tried.part(f"packed images in strips, {name}, {edition.spans()[1]} rows")
+    return path, wanted, report
 
 
 def spoiled(data, faults):
@@ -203,12 +205,14 @@ def single(tried, files):
 
 
 def trials(tried, folder):
+    """Writes the images to `images` below the folder, where they stay, and returns an edition of them."""
     files = os.path.join(folder, "images")
     write_images(tried, files)
     single(tried, files)
     # Under tiles several threads make the rows. A diffused ink has one thread make them.
     tiles = {"C": "bayer16", "M": "bayer4", "Y": "bayer8", "K": "bayer8"}
-    plates(tried, folder, files, "TILES", [300, 400], tiles)
+    edition = plates(tried, folder, files, "TILES", [300, 400], tiles)
     plates(tried, folder, files, "DIFFUSED", [301, 96], dict(tiles, K="diffuse"), ("2", "7"))
     faults(tried, folder, files)
     faults_of_files(tried, folder, files)
+    return edition
