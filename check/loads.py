@@ -1,4 +1,4 @@
-"""Files that have no length, files that grow or shrink while they are loaded, and threads that can't be started.
+"""Files that have no length, that grow or that shrink while they are loaded, and threads that can't start.
 
 A file is read to its end, which is where a read finds no more, or to one byte beyond its limit.
 """
@@ -17,7 +17,7 @@ from answers import layer
 from plates import Edition, black_plate, compared
 from trial import shown
 
-# A long file has so many bytes, most of them a hole, before its directory is appended at a place beyond its end.
+# A long file has so many bytes, most of them a hole. Its directory is appended at a place beyond its end.
 LENGTH, PLACE = 96 << 20, 97 << 20
 TRIES = 40
 
@@ -91,7 +91,8 @@ def pipes(tried, folder):
     same = f"same plates {len(wanted)} sites 2\n"
     for part, status, line in (
         (plate, 0, same), (plate + b"\0", 8, f"differs OUT/{path} byte {len(plate)}\n"),
-        (plate[:-1], 8, f"differs OUT/{path} byte {len(plate) - 1}\n"), (b"", 8, f"differs OUT/{path} byte 0\n"),
+        (plate[:-1], 8, f"differs OUT/{path} byte {len(plate) - 1}\n"),
+        (b"", 8, f"differs OUT/{path} byte 0\n"),
     ):
         with Pipe(os.path.join(out, path), part):
             tried.answers(["verify", *words], status, line.encode(), b"", f"{len(part)} bytes", folder=folder)
@@ -101,7 +102,8 @@ def pipes(tried, folder):
 
 def without_end(tried, folder):
     """Files without an end, and a pipe as long as a plan may be and longer."""
-    tried.answers(["run", "/dev/zero", "images", "OUT"], 3, b"", b"plateroom: plan: too long\n", folder=folder)
+    words = ["run", "/dev/zero", "images", "OUT"]
+    tried.answers(words, 3, b"", b"plateroom: plan: too long\n", folder=folder)
     for size, fault in ((16_777_216, "not JSON"), (16_777_217, "too long")):
         with Pipe(os.path.join(folder, "pipe.json"), bytes(size)):
             line = f"plateroom: plan: {fault}\n".encode()
@@ -172,8 +174,8 @@ def stopped(process, path):
 
 
 def met(tried, folder, long, what, words, change, wanted, times=2):
-    """The file changes while it is loaded, so many times. A try counts if the program has not come to the end of
-    the file by then."""
+    """The file changes while it is loaded, so many times. A try counts if the program has not come to the end
+    of the file by then."""
     count = 0
     for _ in range(TRIES):
         long.lay()
@@ -220,40 +222,41 @@ def change(tried, folder):
     tried.part("files that change while they are loaded")
 
 
-def may_limit(folder):
-    """Whether a process may become another user's and be refused another process."""
-    words = ["sh", "-c", "true & wait $! && true"]
-    if os.getuid() != 0:
-        return False
+def may_limit():
+    """Whether a process may become another user's, and then may not start a second one."""
+    def begin():
+        resource.setrlimit(resource.RLIMIT_NPROC, (1, 1))
+        os.setgroups([])
+        os.setgid(OTHER)
+        os.setuid(OTHER)
+
     try:
-        return subprocess.run(words, preexec_fn=lambda: as_other(1), capture_output=True, timeout=20).returncode != 0
+        words = ["sh", "-c", "true & wait $!"]
+        return subprocess.run(words, preexec_fn=begin, capture_output=True, timeout=20).returncode != 0
     except (OSError, subprocess.SubprocessError):
         return False
 
 
-def as_other(tasks):
-    resource.setrlimit(resource.RLIMIT_NPROC, (tasks, tasks))
-    os.setgroups([])
-    os.setgid(OTHER)
-    os.setuid(OTHER)
-
-
 def few_threads(tried, folder, name, wanted, report):
     """The program as a user who may have one thread, two or three: no further one can be started."""
-    if not may_limit(folder):
+    if not may_limit():
         print("skipped: few threads, since this user can't become another one with a limit")
         return
     program, out = tried.program, os.path.join(folder, "OUT")
     tried.program = shutil.copy(program, os.path.join(folder, "plateroom"))
     for at in (folder, os.path.dirname(folder)):
         os.chmod(at, 0o711)
-    plate = black_plate(os.path.join(folder, "images", "large.tif"))
+    with open(os.path.join(folder, "images", "large-planar-64.tif"), "rb") as file:
+        wrong = strips.spoiled(file.read(), {9: "short", 50: "strip place"})
+    editions.write(folder, "images/wrong.tif", wrong)
+    editions.write_plan(os.path.join(folder, "wrong.json"), layer(file="wrong.tif"))
     try:
         for tasks in (1, 2, 3):
             os.mkdir(out)
             os.chown(out, OTHER, OTHER)
             how = dict(folder=folder, user=OTHER, limits=[(resource.RLIMIT_NPROC, tasks)])
-            tried.answers(["one", "images/large-planar-64.tif"], 0, plate, b"", **how)
+            line = b"plateroom: file wrong.tif: tag 273: short\n"
+            tried.answers(["run", "wrong.json", "images", "OUT"], 4, b"", line, **how)
             tried.answers(["run", name, "images", "OUT"], 0, report, b"", **how)
             tried.holds(f"plates of {tasks} threads", compared(wanted, out))
             same = f"same plates {len(wanted)} sites 2\n".encode()

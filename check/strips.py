@@ -11,6 +11,7 @@ import shutil
 import struct
 
 import editions
+from answers import layer
 from plates import Edition, black_plate, compared
 from tiff import Image
 
@@ -102,27 +103,27 @@ def both(name, page, screens):
     return packed, plain
 
 
-def machines():
+def ways():
     """How the program runs: on one processor, two and four, and on all without threads where possible."""
     here = sorted(os.sched_getaffinity(0))
-    ways = [dict(processors=here[:count]) for count in sorted({1, min(2, len(here)), min(4, len(here))})]
+    every = [dict(processors=here[:count]) for count in sorted({1, min(2, len(here)), min(4, len(here))})]
     if resource.getrlimit(resource.RLIMIT_STACK)[1] == resource.RLIM_INFINITY:
         # No thread can be started, since none can have a stack of so many bytes.
-        ways.append(dict(limits=[(resource.RLIMIT_STACK, 1 << 46)]))
+        every.append(dict(limits=[(resource.RLIMIT_STACK, 1 << 46)]))
     else:
         print("skipped: strips without threads, since stacks have a limit here")
-    return ways
+    return every
 
 
 def plates(tried, folder, files, name, page, screens, words=()):
-    """The plates and the result of `verify`, on all machines. Returns the plan's name, the plates and the report."""
+    """The plates and the result of `verify`, in all ways. Returns the plan's name, the plates and the report."""
     packed, plain = both(name, page, screens)
     edition, out = Edition(plain, files), os.path.join(folder, "OUT")
     wanted, report = dict(edition.plates()), edition.report("OUT").encode()
     same = f"same plates {len(wanted)} sites 2\n".encode()
     path = f"{name}.json"
     editions.write_plan(os.path.join(folder, path), packed)
-    for how in machines():
+    for how in ways():
         shutil.rmtree(out, ignore_errors=True)
         tried.answers(["run", path, files, "OUT", *words], 0, report, b"", folder=folder, **how)
         tried.holds(f"plates of {name}, {how}", compared(wanted, out))
@@ -152,6 +153,8 @@ def spoiled(data, faults):
 def faults(tried, folder, files):
     """Two strips are wrong, each in another way: the fault of the earlier one is reported."""
     short, place = "short", "strip place"
+    editions.write_plan(os.path.join(folder, "wrong.json"), layer(file="wrong.tif"))
+    words = ["run", "wrong.json", files, "OUT"]
     for planar, rows in ((False, 1), (True, 3), (True, 64), (True, 0)):
         path = os.path.join(files, named("large", planar, rows))
         with open(path, "rb") as file:
@@ -161,10 +164,12 @@ def faults(tried, folder, files):
         for first, last in sorted(pairs):
             for told, other in ((short, place), (place, short)):
                 editions.write(files, "wrong.tif", spoiled(data, {first: told, last: other}))
-                line = f"plateroom: file images/wrong.tif: tag 273: {told}\n".encode()
-                for how in machines():
-                    where = f"strips {first} and {last} of {count}"
-                    tried.answers(["one", "images/wrong.tif"], 4, b"", line, where, folder=folder, **how)
+                where, line = f"strips {first} and {last} of {count}", f"tag 273: {told}\n"
+                for how in ways():
+                    note = f"plateroom: file wrong.tif: {line}".encode()
+                    tried.answers(words, 4, b"", note, where, folder=folder, **how)
+                note = f"plateroom: file images/wrong.tif: {line}".encode()
+                tried.answers(["one", "images/wrong.tif"], 4, b"", note, where, folder=folder)
     tried.part("two strips that are wrong")
 
 
@@ -187,7 +192,7 @@ def faults_of_files(tried, folder, files):
                        (["replate", "right.json", files, *last], ""),
                        (["replate", "wrong.json", files, "right.json", files, "OUT"], "old ")):
         line = f"plateroom: {old}file late.tif: tag 273: short\n".encode()
-        for how in machines():
+        for how in ways():
             tried.answers(words, 4, b"", line, folder=folder, **how)
     made = os.path.exists(os.path.join(folder, "OUT"))
     tried.holds("files with wrong strips", "the folder of plates was made" if made else "")
@@ -195,11 +200,11 @@ def faults_of_files(tried, folder, files):
 
 
 def single(tried, files):
-    """The black plates of the files, which are those of the pictures, on all machines."""
+    """The black plates of the files, which are those of the pictures, in all ways."""
     for name in PICTURES:
         plate = black_plate(os.path.join(files, f"{name}.tif"))
         for planar, rows in FORMS:
-            for how in machines():
+            for how in ways():
                 tried.answers(["one", os.path.join(files, named(name, planar, rows))], 0, plate, b"", **how)
     tried.part("plates of one packed image")
 

@@ -49,7 +49,8 @@ class Trial:
                 faults.append(f"{name} is {shown(given)} and not {shown(wanted)}")
         self.holds(told(words, how) + f" ({where})" * bool(where), "; ".join(faults))
 
-    def run(self, words, folder=None, streams=("", ""), limits=(), processors=(), user=0, seconds=MOST_SECONDS):
+    def run(self, words, folder=None, streams=("", ""), limits=(), processors=(), user=0,
+            seconds=MOST_SECONDS):
         """The status and the text of both streams. A stream is a path, `closed`, `unread` or kept here.
         The program runs on these processors alone, if some are named, and as this user, if it isn't 0."""
         kept, closing, opened = [subprocess.PIPE] * 2, [], []
