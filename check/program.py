@@ -23,6 +23,7 @@ import editions
 import held
 import keyed
 import late
+import limits
 import loads
 import strips
 import trial
@@ -160,6 +161,7 @@ def trials(tried, folder):
     editions.write_images(files)
     five = Edition(editions.five(), files)
     answers.write_files(folder, EXAMPLES)
+    limits.trials(tried, folder)
     answers.refusals(tried, folder)
     answers.wants_of_memory(tried, folder)
     answers.streams_that_fail(tried, folder)
