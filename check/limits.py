@@ -1,5 +1,5 @@
-"""The arguments of every command: too few, too many, empty ones, ones that aren't UTF-8, and each number at the
-ends of its range and beyond.
+"""The arguments of every command: too few, too many, empty, not UTF-8, and each number at the ends of its
+range and beyond.
 """
 import os
 import re

@@ -1,5 +1,5 @@
 """Packed images in strips of 1, 3, 64 and all rows, chunky and planar: their plates, and the first of their
-faults, on one processor, two and four, and where no thread can be started.
+faults, on one processor, two and, where the machine has them, four, and where no thread can be started.
 
 All files of a picture hold the same pixels, so their pages have the same plates. The definitions make these
 from the picture as it is stored without packing.
@@ -14,6 +14,7 @@ import editions
 from answers import layer
 from plates import Edition, black_plate, compared
 from tiff import Image
+from trial import told
 
 # How the samples are stored, and the rows of a strip. 0 is all rows.
 FORMS = [(planar, rows) for planar in (False, True) for rows in (1, 3, 64, 0)]
@@ -110,13 +111,12 @@ def ways():
     if resource.getrlimit(resource.RLIMIT_STACK)[1] == resource.RLIM_INFINITY:
         # No thread can be started, since none can have a stack of so many bytes.
         every.append(dict(limits=[(resource.RLIMIT_STACK, 1 << 46)]))
-    else:
-        print("skipped: strips without threads, since stacks have a limit here")
     return every
 
 
 def plates(tried, folder, files, name, page, screens, words=()):
-    """The plates and the result of `verify`, in all ways. Returns the plan's name, the plates and the report."""
+    """The plates and the result of `verify`, in all ways. Returns the file of the plan, the plates and the
+    report."""
     packed, plain = both(name, page, screens)
     edition, out = Edition(plain, files), os.path.join(folder, "OUT")
     wanted, report = dict(edition.plates()), edition.report("OUT").encode()
@@ -125,8 +125,9 @@ def plates(tried, folder, files, name, page, screens, words=()):
     editions.write_plan(os.path.join(folder, path), packed)
     for how in ways():
         shutil.rmtree(out, ignore_errors=True)
-        tried.answers(["run", path, files, "OUT", *words], 0, report, b"", folder=folder, **how)
-        tried.holds(f"plates of {name}, {how}", compared(wanted, out))
+        run = ["run", path, files, "OUT", *words]
+        tried.answers(run, 0, report, b"", folder=folder, **how)
+        tried.holds(f"plates of {told(run, how)}", compared(wanted, out))
         tried.answers(["verify", path, files, "OUT"], 0, same, b"", folder=folder, **how)
     shutil.rmtree(out)
     tried.part(f"packed images in strips, {name}, {edition.spans()[1]} rows")
@@ -162,9 +163,9 @@ def faults(tried, folder, files):
         count = -(-PICTURES["large"][1] // (rows or PICTURES["large"][1])) * (4 if planar else 1)
         pairs = {(0, count - 1), (count // 2 - 1, count // 2), (count - 2, count - 1)}
         for first, last in sorted(pairs):
-            for told, other in ((short, place), (place, short)):
-                editions.write(files, "wrong.tif", spoiled(data, {first: told, last: other}))
-                where, line = f"strips {first} and {last} of {count}", f"tag 273: {told}\n"
+            for fault, other in ((short, place), (place, short)):
+                editions.write(files, "wrong.tif", spoiled(data, {first: fault, last: other}))
+                where, line = f"strips {first} and {last} of {count}", f"tag 273: {fault}\n"
                 for how in ways():
                     note = f"plateroom: file wrong.tif: {line}".encode()
                     tried.answers(words, 4, b"", note, where, folder=folder, **how)
@@ -213,6 +214,8 @@ def trials(tried, folder):
     """Writes the images to `images` below the folder, where they stay, and returns an edition of them."""
     files = os.path.join(folder, "images")
     write_images(tried, files)
+    if not any("limits" in how for how in ways()):
+        print("skipped: strips without threads, since stacks have a limit here")
     single(tried, files)
     # Under tiles several threads make the rows. A diffused ink has one thread make them.
     tiles = {"C": "bayer16", "M": "bayer4", "Y": "bayer8", "K": "bayer8"}
