@@ -84,19 +84,19 @@ def at_their_limits(tried, folder):
     """Each number at its least and its greatest value: what the command does is the same."""
     edition, out = Edition(PLAN, os.path.join(folder, "in")), os.path.join(folder, "OUT")
     plates, report = dict(edition.plates()), edition.report("OUT").encode()
+    counts = {keys: keyed.text(edition, int(keys)) for keys in spellings("KEYS")}
+    drills = {number: drill.Job(int(number)).text().encode() for number in ("0", "1")}
     pace = [[], *([ring] for ring in spellings("RING")),
             *([ring, patience] for ring in spellings("RING") for patience in spellings("PATIENCE"))]
     for last in pace:
         tried.answers([*words_of("run")[:4], *last], 0, report, b"", folder=folder)
         tried.holds(f"plates of run, {last}", compared(plates, out))
         shutil.rmtree(out, ignore_errors=True)
-        for keys in spellings("KEYS"):
-            told = keyed.text(edition, int(keys))
+        for keys, told in counts.items():
             tried.answers([*words_of("keys")[:4], keys, *last], 0, told, b"", folder=folder)
             tried.holds(f"plates of keys, {keys}, {last}", compared(plates, out))
             shutil.rmtree(out, ignore_errors=True)
-        for number in ("0", "1"):
-            told = drill.Job(int(number)).text().encode()
+        for number, told in drills.items():
             tried.answers(["drill", number, *last], 0, told, b"", folder=folder)
     greatest(tried, NUMBERS["N"][1])
     tried.answers(words_of("run"), 0, report, b"", folder=folder)

@@ -15,7 +15,7 @@ import editions
 import strips
 from answers import layer
 from plates import Edition, black_plate, compared
-from trial import shown
+from trial import MOST_SECONDS, shown
 
 # A long file has so many bytes, most of them a hole. Its directory is appended at a place beyond its end.
 LENGTH, PLACE = 96 << 20, 97 << 20
@@ -155,10 +155,12 @@ def stopped(process, path):
     mine, path = f"/proc/{process.pid}", os.path.realpath(path)
 
     def opened():
-        for number in os.listdir(f"{mine}/fd"):
-            with contextlib.suppress(OSError):
-                if os.readlink(f"{mine}/fd/{number}") == path:
-                    return number
+        # What a process has open changes meanwhile, and one that has ended has nothing open.
+        with contextlib.suppress(OSError):
+            for number in os.listdir(f"{mine}/fd"):
+                with contextlib.suppress(OSError):
+                    if os.readlink(f"{mine}/fd/{number}") == path:
+                        return number
         return None
 
     while state(process) != "Z":
@@ -166,9 +168,10 @@ def stopped(process, path):
             process.send_signal(signal.SIGSTOP)
             while state(process) not in "TZ":
                 time.sleep(0.0001)
-            if state(process) == "Z" or not opened():
+            number = opened()
+            if not number:
                 return None
-            with open(f"{mine}/fdinfo/{opened()}", encoding="utf-8") as file:
+            with open(f"{mine}/fdinfo/{number}", encoding="utf-8") as file:
                 return int(file.readline().split()[1])
     return None
 
@@ -188,7 +191,11 @@ def met(tried, folder, long, what, words, change, wanted, times=2):
         if is_met:
             change()
         process.send_signal(signal.SIGCONT)
-        out, note = process.communicate(timeout=60)
+        try:
+            out, note = process.communicate(timeout=MOST_SECONDS)
+        except subprocess.TimeoutExpired:
+            process.kill()
+            out, note = process.communicate()
         if is_met:
             got = process.returncode, out, note
             tried.holds(f"{' '.join(words)}, whose file {what} at byte {place}",
