@@ -86,6 +86,7 @@ def at_their_limits(tried, folder):
     plates, report = dict(edition.plates()), edition.report("OUT").encode()
     counts = {keys: keyed.text(edition, int(keys)) for keys in spellings("KEYS")}
     drills = {number: drill.Job(int(number)).text().encode() for number in ("0", "1")}
+    tried.answers(["drill", "1"], 0, drills.pop("1"), b"")
     pace = [[], *([ring] for ring in spellings("RING")),
             *([ring, patience] for ring in spellings("RING") for patience in spellings("PATIENCE"))]
     for last in pace:

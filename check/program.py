@@ -50,7 +50,9 @@ def runs(tried, folder, name, edition, rings):
     shutil.rmtree(out, ignore_errors=True)
     editions.write_plan(path, edition.plan)
     for ring in rings:
-        tried.answers(["run", path, edition.folder, "OUT", *ring], 0, report, b"", folder=folder)
+        # Over a ring of one place each row waits for another thread, which may wait long for a processor.
+        words = ["run", path, edition.folder, "OUT", *ring]
+        tried.answers(words, 0, report, b"", folder=folder, seconds=4 * trial.MOST_SECONDS)
         tried.holds(f"{len(plates)} plates of the edition {name} {' '.join(ring)}", compared(plates, out))
     tried.part(f"the edition {name}, {edition.spans()[1]} rows")
 

@@ -72,7 +72,7 @@ def write_images(tried, files):
 def left_page(image):
     """The large picture, cropped in the middle of a strip of 3 and of 64 rows; a part at scale 2."""
     large = {"kind": "contone", "file": image("large")}
-    return [dict(large, crop=[7, 331, 300, 400]),
+    return [dict(large, crop=[1, 331, 330, 400]),
             dict(large, crop=[90, 70, 21, 66], x=13, y=250, scale=2)]
 
 
@@ -114,7 +114,7 @@ def ways():
     return every
 
 
-def plates(tried, folder, files, name, page, screens, words=()):
+def plates(tried, folder, files, name, page, screens):
     """The plates and the result of `verify`, in all ways. Returns the file of the plan, the plates and the
     report."""
     packed, plain = both(name, page, screens)
@@ -125,12 +125,16 @@ def plates(tried, folder, files, name, page, screens, words=()):
     editions.write_plan(os.path.join(folder, path), packed)
     for how in ways():
         shutil.rmtree(out, ignore_errors=True)
-        run = ["run", path, files, "OUT", *words]
+        run = ["run", path, files, "OUT"]
         tried.answers(run, 0, report, b"", folder=folder, **how)
         tried.holds(f"plates of {told(run, how)}", compared(wanted, out))
         tried.answers(["verify", path, files, "OUT"], 0, same, b"", folder=folder, **how)
     shutil.rmtree(out)
-    tried.part(f"packed images in strips, {name}, {edition.spans()[1]} rows")
+    rows, row = edition.spans()[1], (2 * page[0] + 9) // 8
+    is_long = rows * row > MEGABYTE
+    fault = "" if is_long or "diffuse" in screens.values() else f"they have {rows * row} bytes"
+    tried.holds(f"the rows of {name}", fault)
+    tried.part(f"packed images in strips, {name}, {rows} rows")
     return path, wanted, report
 
 
@@ -217,10 +221,11 @@ def trials(tried, folder):
     if not any("limits" in how for how in ways()):
         print("skipped: strips without threads, since stacks have a limit here")
     single(tried, files)
-    # Under tiles several threads make the rows. A diffused ink has one thread make them.
+    # Under tiles several threads make the rows of an edition of a megabyte and more. Where an ink is
+    # diffused, one thread makes them.
     tiles = {"C": "bayer16", "M": "bayer4", "Y": "bayer8", "K": "bayer8"}
-    edition = plates(tried, folder, files, "TILES", [300, 400], tiles)
-    plates(tried, folder, files, "DIFFUSED", [301, 96], dict(tiles, K="diffuse"), ("2", "7"))
+    edition = plates(tried, folder, files, "TILES", [330, 400], tiles)
+    plates(tried, folder, files, "DIFFUSED", [301, 96], dict(tiles, K="diffuse"))
     faults(tried, folder, files)
     faults_of_files(tried, folder, files)
     return edition
