@@ -37,26 +37,6 @@ def sparse(path, size):
         file.truncate(size)
 
 
-# Words that are no command. The files that they name are there, and so are those that would be read where a word
-# that isn't UTF-8 were left out, cut or mended.
-WORDS = [
-    [], [""], ["one"], ["one", ""], ["one", "a.tif", "a.tif"], ["two", "a.tif"], ["One", "a.tif"], ["one "],
-    ["a.tif"], ["--help"], ["--version"], ["run"], ["run", "plan.json", "in"], ["run", "plan.json", "in", ""],
-    ["run", "", "in", "OUT"], ["run", "plan.json", "", "OUT"], ["drill"], ["drill", ""], ["drill", "-1"],
-    ["drill", "07"], ["drill", "7 "], ["drill", "4294967296"], ["drill", "18446744073709551616"],
-    ["drill", "7", "1025"], ["drill", "7", "64", "1024", "7"],
-    *(["run", "plan.json", "in", "OUT", ring] for ring in ("0", "1025", "064", "+1", "")),
-    *(["run", "plan.json", "in", "OUT", "64", patience] for patience in ("0", "65537", "01")),
-    ["run", "plan.json", "in", "OUT", "64", "1024", "1"],
-    ["Verify"], ["verify"], ["verify", "plan.json", "in"], ["verify", "plan.json", "in", ""],
-    ["verify", "", "in", "OUT"], ["verify", "plan.json", "", "OUT"], ["verify", "plan.json", "in", "OUT", ""],
-    ["verify", "plan.json", "in", "OUT", "64"], [b"verify", b"plan.json", b"in", b"OUT\xff"],
-    [b"\xff"], [b"one", b"a\xff.tif"], [b"one", b"a.tif", b"\xff"], [b"\xff", b"one", b"a.tif"],
-    [b"one", b"a.tif\xff"], [b"one", b"\xed\xa0\x80.tif"], [b"one", b"a.tif\xc3"], [b"drill", b"7", b"\xff"],
-    [b"drill", b"7\xff"], [b"dr\xffill", b"7"], [b"run", b"plan.json", b"in", b"OUT\xff"],
-    [b"run", b"plan.json", b"in", b"OUT", b"\xfe\xff"], [b"run", b"pl\xffan.json", b"in", b"OUT"],
-]
-
 # Texts of plans, and what is wrong with them.
 PLANS = [
     (b"", ": not JSON"), (b"{", ": not JSON"), (b'{"plan": "\xff"}', ": not JSON"),
@@ -127,11 +107,8 @@ def refused_by_both(trial, folder, words, status, line):
 
 
 def refusals(trial, folder):
-    """Status 2 to 5."""
+    """Status 3 to 5."""
     tried = ["try.json", "in", "OUT"]
-    for words in WORDS:
-        refused(trial, folder, words, 2, "plateroom: words\n")
-    trial.part("words that are no command")
     for plan, fault in PLANS:
         with open(os.path.join(folder, "try.json"), "wb") as file:
             file.write(plan if isinstance(plan, bytes) else json.dumps(plan).encode())

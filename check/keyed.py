@@ -7,8 +7,6 @@ import shutil
 import editions
 from plates import compared
 
-NO_KEYS = ("0", "65", "01", "+1", "", "4 ", "4.0", "four", "18446744073709551617")
-
 
 def counts(width, rows, keys):
     """How many 1 bits of rows of this width each key has: column x is of the key x * keys / width, rounded down."""
@@ -63,21 +61,6 @@ def left(tried, folder, edition, files):
     tried.part("ink keys where sites leave")
 
 
-def refused(tried, folder, files):
-    """Arguments that are no command."""
-    for keys in NO_KEYS:
-        tried.answers(["keys", "keyed.json", files, "OUT", keys], 2, b"", b"plateroom: words\n", folder=folder)
-    for words in ([], ["keyed.json"], ["keyed.json", files], ["keyed.json", files, "OUT"], ["", files, "OUT", "4"],
-                  ["keyed.json", "", "OUT", "4"], ["keyed.json", files, "", "4"],
-                  ["keyed.json", files, "OUT", "4", "0"], ["keyed.json", files, "OUT", "4", "1025"],
-                  ["keyed.json", files, "OUT", "4", "64", "0"], ["keyed.json", files, "OUT", "4", "64", "1024", "1"]):
-        tried.answers(["keys", *words], 2, b"", b"plateroom: words\n", folder=folder)
-    tried.answers(["Keys", "keyed.json", files, "OUT", "4"], 2, b"", b"plateroom: words\n", folder=folder)
-    made = os.path.exists(os.path.join(folder, "OUT"))
-    tried.holds("words of keys", "the folder of plates was made" if made else "")
-    tried.part("words of keys that are no command")
-
-
 def by_hand(tried, folder):
     """16 columns of which 3, 7 and 15 print in one row, and 8 in the other."""
     plan = {"plan": 1, "edition": "E1", "dpi": 1200, "page": [8, 2],
@@ -100,7 +83,6 @@ def by_hand(tried, folder):
 def trials(tried, folder, examples, small, five):
     """The small edition of examples/, and one in five inks for five sites whose images are in `images`."""
     by_hand(tried, folder)
-    refused(tried, folder, examples)
     told(tried, folder, "of examples/", small, examples)
     told(tried, folder, "of five inks", five, "images")
     left(tried, folder, five, "images")

@@ -15,13 +15,6 @@ from trial import shown
 LONG_AGO = 10 ** 18
 JOBS = ["replate", "plan.json", "in", "plan.json", "in", "OUT"]
 
-# Words that are no command.
-WORDS = [
-    ["replate"], JOBS[:3], JOBS[:5], [*JOBS, "64"], [*JOBS, ""], ["Replate", *JOBS[1:]],
-    *([*JOBS[:place], "", *JOBS[place + 1:]] for place in range(6)),
-    *([os.fsencode(word) + b"\xff" * (number == place) for number, word in enumerate(JOBS)] for place in range(6)),
-]
-
 
 class Late:
     """A folder with the plates of an old edition, as a run left them, and the words that make those of a new one."""
@@ -219,13 +212,11 @@ def streams(tried, folder, before, after):
 # ---- refusals
 
 def refusals(tried, folder):
-    """Status 2 to 5: the old job first, whose lines say so, and then the new one."""
+    """Status 3 to 5: the old job first, whose lines say so, and then the new one."""
     shutil.rmtree(os.path.join(folder, "OUT"), ignore_errors=True)
     old = ["replate", "try.json", "in", "gone.json", "gone", "OUT"]
     new = [*JOBS[:3], "try.json", "in", "OUT"]
     both = ["replate", "try.json", "in", "try.json", "in", "OUT"]
-    for words in WORDS:
-        refused(tried, folder, words, 2, "plateroom: words\n")
     for plan, fault in PLANS:
         with open(os.path.join(folder, "try.json"), "wb") as file:
             file.write(plan if isinstance(plan, bytes) else json.dumps(plan).encode())

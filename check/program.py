@@ -23,6 +23,9 @@ import editions
 import held
 import keyed
 import late
+import limits
+import loads
+import strips
 import trial
 import whole
 from plates import Edition, black_plate, compared
@@ -47,7 +50,9 @@ def runs(tried, folder, name, edition, rings):
     shutil.rmtree(out, ignore_errors=True)
     editions.write_plan(path, edition.plan)
     for ring in rings:
-        tried.answers(["run", path, edition.folder, "OUT", *ring], 0, report, b"", folder=folder)
+        # Over a ring of one place each row waits for another thread, which may wait long for a processor.
+        words = ["run", path, edition.folder, "OUT", *ring]
+        tried.answers(words, 0, report, b"", folder=folder, seconds=4 * trial.MOST_SECONDS)
         tried.holds(f"{len(plates)} plates of the edition {name} {' '.join(ring)}", compared(plates, out))
     tried.part(f"the edition {name}, {edition.spans()[1]} rows")
 
@@ -158,6 +163,7 @@ def trials(tried, folder):
     editions.write_images(files)
     five = Edition(editions.five(), files)
     answers.write_files(folder, EXAMPLES)
+    limits.trials(tried, folder)
     answers.refusals(tried, folder)
     answers.wants_of_memory(tried, folder)
     answers.streams_that_fail(tried, folder)
@@ -172,6 +178,8 @@ def trials(tried, folder):
     runs_by_chance(tried, folder, files, range(1, 31))
     runs(tried, folder, "of six pairs", Edition(editions.rows(), files), [["1"], ["2", "65536"]])
     bands(tried, folder, Edition(editions.banded(), files))
+    edition = strips.trials(tried, os.path.join(folder, "strips"))
+    loads.trials(tried, os.path.join(folder, "strips"), *edition)
     runs(tried, folder, "of five inks", five, [[], ["16", "7"], ["1024", "7"]])
     read_by_others(tried, five, os.path.join(folder, "OUT"))
     held.trials(tried, folder, five)

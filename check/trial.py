@@ -9,7 +9,8 @@ import time
 MOST_SECONDS, MOST_HANGS = 60, 2
 
 # What a limit is of, for the line of a trial.
-LIMITED = {resource.RLIMIT_FSIZE: "files", resource.RLIMIT_STACK: "stacks"}
+LIMITED = {resource.RLIMIT_FSIZE: "files of {} bytes", resource.RLIMIT_STACK: "stacks of {} bytes",
+           resource.RLIMIT_NPROC: "{} threads"}
 
 
 class Hangs(Exception):
@@ -48,9 +49,10 @@ class Trial:
                 faults.append(f"{name} is {shown(given)} and not {shown(wanted)}")
         self.holds(told(words, how) + f" ({where})" * bool(where), "; ".join(faults))
 
-    def run(self, words, folder=None, streams=("", ""), limits=(), processors=(), seconds=MOST_SECONDS):
+    def run(self, words, folder=None, streams=("", ""), limits=(), processors=(), user=0,
+            seconds=MOST_SECONDS):
         """The status and the text of both streams. A stream is a path, `closed`, `unread` or kept here.
-        The program runs on these processors alone, if some are named."""
+        The program runs on these processors alone, if some are named, and as this user, if it isn't 0."""
         kept, closing, opened = [subprocess.PIPE] * 2, [], []
         for number, stream in enumerate(streams):
             if stream == "closed":
@@ -73,6 +75,10 @@ class Trial:
                 os.sched_setaffinity(0, processors)
             if any(kind == resource.RLIMIT_FSIZE for kind, _ in limits):
                 signal.signal(signal.SIGXFSZ, signal.SIG_IGN)
+            if user:
+                os.setgroups([])
+                os.setgid(user)
+                os.setuid(user)
 
         out, note = kept
         process = subprocess.Popen([self.program, *words], cwd=folder, stdin=subprocess.DEVNULL, stdout=out,
@@ -97,7 +103,7 @@ def told(words, how):
     for name, stream in zip((">", "2>"), how.get("streams", ())):
         line += f" {name} {stream}" if stream else ""
     for kind, most in how.get("limits", ()):
-        line += f" with {LIMITED.get(kind, 'memory')} of {most} bytes"
+        line += f" with {LIMITED.get(kind, 'memory of {} bytes').format(most)}"
     if how.get("processors"):
         line += f" on {len(how['processors'])} processors"
     return line
