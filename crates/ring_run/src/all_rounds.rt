@@ -12,12 +12,12 @@ use crate::counting::RunKeyReader;
 use crate::round::round;
 use crate::seat::Seat;
 use crate::seats::are_going;
-use pr_base::Deal;
+use pr_base::{Deal, RowFeed};
 use pr_rack::Rack;
-use press_job::BandFeed;
 use ring_lanes::{Reader, Writer};
 use ring_turns::{Pace, Pairs};
 use std::thread::Threads;
+use std::time::Clock;
 
 /// The writer of a run and the feed of its rows.
 pub(crate) struct WriterAndFeed<'a, 'r, D: Deal, F> {
@@ -33,7 +33,12 @@ pub(crate) struct RacksAndKeys<'a, 'p, R> {
 
 /// Round after round, until each site has finished or left and each further reader has all rows, or want of
 /// memory stopped a site.
-pub(crate) fn run_rounds<T: Threads + Sync, D: Deal + Sync, F: BandFeed + Send, R: Rack + Send>(
+pub(crate) fn run_rounds<
+    T: Threads + Clock + Sync,
+    D: Deal + Sync,
+    F: RowFeed + Send,
+    R: Rack + Send,
+>(
     rt: &T,
     one: WriterAndFeed<'_, '_, D, F>,
     seats: &mut [Seat<'_, D>],
@@ -59,7 +64,7 @@ pub(crate) fn run_rounds<T: Threads + Sync, D: Deal + Sync, F: BandFeed + Send, 
 {
     let WriterAndFeed { writer, feed } = one;
     let RacksAndKeys { racks, keys } = theirs;
-    let pace = Pace::of(rt, patience);
+    let pace = Pace::of(rt, patience, writer.row_len());
     while are_going(seats, more) {
         let sites = Pairs {
             all: &mut *seats,

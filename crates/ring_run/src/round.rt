@@ -13,12 +13,12 @@ ghost use Rattle.ring_run.specs.Served.{AreSomeSeated};
 use crate::at_end::AtEnd;
 use crate::counting::RunKeyReader;
 use crate::seat::Seat;
-use pr_base::Deal;
+use pr_base::{Deal, RowFeed};
 use pr_rack::Rack;
-use press_job::BandFeed;
 use ring_lanes::{Reader, Writer};
 use ring_turns::{Pace, Pairs, turn_all};
 use std::thread::Threads;
+use std::time::Clock;
 
 /// Hands a note of each reader to the writer, also of one that has left.
 fn tell_writer<D: Deal, E: AtEnd<D>>(writer: &mut Writer<'_, D>, ends: &mut [E])
@@ -46,7 +46,7 @@ fn tell_readers<D: Deal, E: AtEnd<D>>(writer: &mut Writer<'_, D>, ends: &mut [E]
 }
 
 /// A round: afterwards fewer rows are yet to be published or to be taken, where a reader goes on.
-pub(crate) fn round<T: Threads + Sync, D: Deal + Sync, F: BandFeed + Send, R: Rack + Send>(
+pub(crate) fn round<T: Threads + Clock + Sync, D: Deal + Sync, F: RowFeed + Send, R: Rack + Send>(
     rt: &T,
     writer: &mut Writer<'_, D>,
     feed: &mut F,
@@ -82,7 +82,6 @@ pub(crate) fn round<T: Threads + Sync, D: Deal + Sync, F: BandFeed + Send, R: Ra
         all: more,
         others: keys,
     } = further;
-    feed.make_band(rt);
     tell_writer(writer, seats);
     tell_writer(writer, more);
     tell_readers(writer, seats);

@@ -20,13 +20,13 @@ use crate::ends::{ends_of, seats_of};
 use crate::seat::Seat;
 use plan_json::Plan;
 use plan_rows::RowPlan;
-use pr_base::{Deal, NoMemory};
+use pr_base::{Deal, NoMemory, RowFeed};
 use pr_rack::Rack;
-use press_job::BandFeed;
 use ring_lanes::{Ends, Reader, Ring, Writer, open_ring};
 use ring_turns::Pace;
 use std::alloc::Global;
 use std::thread::Threads;
+use std::time::Clock;
 
 /// A rack tells of its slots what it tells of the begun ones.
 fn tell_slots<R: Rack>(racks: &[R])
@@ -58,7 +58,7 @@ struct RunEnds<'r, D: Deal> {
 
 impl Run<'_> {
     /// Round after round, and how each site ended.
-    fn run_seats<T: Threads + Sync, D: Deal + Sync, F: BandFeed + Send, R: Rack + Send>(
+    fn run_seats<T: Threads + Clock + Sync, D: Deal + Sync, F: RowFeed + Send, R: Rack + Send>(
         &self,
         rt: &T,
         ends: RunEnds<'_, D>,
@@ -98,7 +98,7 @@ impl Run<'_> {
     }
 
     /// The same over a ring whose ends are still there.
-    fn run_on<T: Threads + Sync, D: Deal + Sync, F: BandFeed + Send, R: Rack + Send>(
+    fn run_on<T: Threads + Clock + Sync, D: Deal + Sync, F: RowFeed + Send, R: Rack + Send>(
         &self,
         rt: &T,
         table: &mut Ring<'_, D>,
@@ -139,7 +139,12 @@ impl Run<'_> {
 
     /// Delivers the rows of a deal, which the feed gives in order, to the racks of the plan's sites, over a
     /// ring, and tells how each site ended. The key readers have the ring's last readers and count all rows.
-    pub(crate) fn run_rows<T: Threads + Sync, D: Deal + Sync, F: BandFeed + Send, R: Rack + Send>(
+    pub(crate) fn run_rows<
+        T: Threads + Clock + Sync,
+        D: Deal + Sync,
+        F: RowFeed + Send,
+        R: Rack + Send,
+    >(
         &self,
         rt: &T,
         deal: &D,
@@ -165,13 +170,12 @@ impl Run<'_> {
         ensures counted { IfOk result (λ _. HaveCounted
             (ring_of self.now.ring self.now.readers (D.rows deal.now) (D.size deal.now)) keys.old keys.new) }
     {
-        // For its clause: each row has this length.
-        let _size = deal.row_len();
+        let row_len = deal.row_len();
         // A row's number is far below the word of a reader that left.
         let total = self.rows.total();
         prove!(total < u64::MAX);
         let mut table = open_ring(self.alloc, deal, self.ring, self.readers)?;
-        table.set_pauses(Pace::of(rt, self.patience).pauses);
+        table.set_pauses(Pace::of(rt, self.patience, row_len).pauses);
         self.run_on(rt, &mut table, feed, racks, keys)
     }
 }

@@ -80,6 +80,14 @@ impl<'r, D: Deal, R: Rack> TurnWith<R> for Seat<'r, D> {
         self.site.turn(&mut self.reader, rack, patience);
     }
 
+    fn rows(&self) -> Option<u64> {
+        if self.reader.goes_on() {
+            Some(self.reader.cursor())
+        } else {
+            None
+        }
+    }
+
     ghost may_again = { λ x x' y y'. may_turn_again _ _ x x' };
 
     ghost turned_again = { λ x x' x'' y y' y''. turned_again _ _ _ x x' x'' };

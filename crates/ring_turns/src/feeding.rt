@@ -21,28 +21,6 @@ pub enum FeedEnd {
 /// The bytes of the longest row.
 const MOST_ROW: usize = 8258;
 
-/// So many looks in vain behind a row may wait for longer.
-const LONG_WAITS: u32 = 64;
-
-/// The pauses of such a wait, some three microseconds: in them a site takes a row or some short ones.
-const LONG_PAUSES: u32 = 16;
-
-/// How many looks in vain count as behind a row that was published when the turn had made `waits` of them.
-/// Where it made some, another processor took rows meanwhile, and the next waits may be long; else none is.
-fn vain_behind(waits: u32) -> u32 {
-    if waits > 0 { 0 } else { LONG_WAITS }
-}
-
-/// Waits behind the look that follows `vain` ones in vain. While rows are taken the turn goes on for as many
-/// rows as its patience has looks. Where none is it ends after some hundreds of microseconds, since few of
-/// its waits are long.
-fn wait<D: Deal>(writer: &Writer<'_, D>, vain: u32, look: u32) {
-    let pauses = if vain < LONG_WAITS { LONG_PAUSES } else { 1 };
-    for _pause in 0..pauses {
-        writer.pause(look);
-    }
-}
-
 /// Publishes the next rows of a feed, until all are published, or every reader has left, or `patience` looks
 /// found the place of the next row taken. Takes no memory.
 pub fn feed_turn<D: Deal, F: RowFeed>(
@@ -72,18 +50,15 @@ pub fn feed_turn<D: Deal, F: RowFeed>(
     let mut buffer = [0; MOST_ROW];
     let row = &mut buffer[..writer.row_len()];
     let mut waits = 0;
-    let mut vain = LONG_WAITS;
     while writer.head() < writer.total() && writer.joined() > 0 {
         let Err(Full { site, at }) = publish_next(writer, feed, row) else {
-            vain = vain_behind(waits);
             continue;
         };
         waits += 1;
         if waits == patience {
             return FeedEnd::Waiting { site, at };
         }
-        wait(writer, vain, waits);
-        vain = vain.saturating_add(1);
+        writer.pause(waits);
     }
     FeedEnd::Done
 }
@@ -127,6 +102,14 @@ impl<'r, D: Deal, F: RowFeed> TurnWith<F> for Writer<'r, D> {
     /// The turn of the writer with this feed.
     fn turn(&mut self, feed: &mut F, patience: u32) {
         let _end = feed_turn(self, feed, patience);
+    }
+
+    fn rows(&self) -> Option<u64> {
+        if self.head() < self.total() && self.joined() > 0 {
+            Some(self.head())
+        } else {
+            None
+        }
     }
 
     ghost may_again = { λ x x' y y'. may_feed_again (F.left y) (F.left y') x x' };

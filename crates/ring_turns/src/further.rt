@@ -8,6 +8,7 @@ use crate::pairs::Pairs;
 use crate::side_by_side::{turn_beside, turn_of_one, turns};
 use crate::turn::TurnWith;
 use std::thread::{Threads, join_mut};
+use std::time::Clock;
 
 /// A turn of one, and beside it those of all others and the further ones. Where there is no further one, no
 /// join is made for it.
@@ -20,7 +21,7 @@ pub fn turn_all<T, W, F, X, Y, Z, V>(
     further: Pairs<'_, Z, V>,
 )
 where
-    T: Threads + Sync,
+    T: Threads + Clock + Sync,
     W: TurnWith<F> + Send,
     F: Send,
     X: TurnWith<Y> + Send,

@@ -9,6 +9,7 @@ mod pace;
 mod pairs;
 mod side_by_side;
 mod turn;
+mod waiting;
 
 pub use feeding::{FeedEnd, feed_turn};
 pub use further::turn_all;

@@ -15,6 +15,10 @@ pub trait TurnWith<Y> {
         requires patience { 0 < patience }
         ensures { turned self.old other.old self.new other.new };
 
+    /// How many rows it dealt with, or none where no turn of it would deal with a row more. No clause speaks
+    /// of it: it tells how to wait between turns, and when to end.
+    fn rows(&self) -> Option<u64>;
+
     /// Behind a turn another one may be taken.
     ghost may_again: { (x x' : Self) (y y' : Y) → may x y → turned x y x' y' → may x' y' };
 

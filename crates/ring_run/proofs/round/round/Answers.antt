@@ -34,9 +34,8 @@ tell_readers-requires-2 g c = record {
 pub turn_all-requires-clause-may_one : goal.turn_all-requires-clause-may_one
 turn_all-requires-clause-may_one g c κs within =
     let same = noted_both c.args.writer.now c.tell_writer.new.writer c.tell_writer-2.new.writer c.tell_writer.ensures.same c.tell_writer-2.ensures.same in
-    subst (λ left. MayFeed left c.tell_readers-2.new.writer) (sym c.make_band.ensures)
-    (subst (λ (w : WriterState). MayFeed (g.F.RowFeed.left c.args.feed.now) w) (sym (c.tell_readers-2.ensures.same ∙ c.tell_readers.ensures.same))
-    (feed_noted (g.F.RowFeed.left c.args.feed.now) c.args.writer.now c.tell_writer-2.new.writer same c.requires.feed))
+    subst (λ (w : WriterState). MayFeed (g.F.RowFeed.left c.args.feed.now) w) (sym (c.tell_readers-2.ensures.same ∙ c.tell_readers.ensures.same))
+    (feed_noted (g.F.RowFeed.left c.args.feed.now) c.args.writer.now c.tell_writer-2.new.writer same c.requires.feed)
 
 pub turn_all-requires-clause-count : goal.turn_all-requires-clause-count
 turn_all-requires-clause-count g c κs within = c.tell_readers.auto.ends ∙ c.tell_writer.auto.ends ∙ c.requires.count
