@@ -4,7 +4,7 @@ ghost use Rattle.ring_lanes.specs.Writer.{HasRoom, IsFull, LooksOnce};
 ghost use Rattle.ring_turns.specs.Feeding.{Grows, HasRows, IfWaiting, IsFed, IsKnownWithin, OnDone};
 ghost use Rattle.ring_turns.specs.Feeding.{SomeJoined, WaitsFor, WaitsNoMore};
 
-use crate::turn::TurnWith;
+use crate::ahead::{Ahead, AsAsked};
 use pr_base::{Deal, RowFeed};
 use ring_lanes::{Full, Writer};
 
@@ -47,10 +47,41 @@ pub fn feed_turn<D: Deal, F: RowFeed>(
       loads = writer.new.loads;
     } }
 {
+    feed_ahead(writer, &AsAsked, feed, patience)
+}
+
+/// Does what `feed_turn` does, and before each row what `ahead` makes of the feed.
+pub fn feed_ahead<D: Deal, F: RowFeed, A: Ahead<F>>(
+    writer: &mut Writer<'_, D>,
+    ahead: &A,
+    feed: &mut F,
+    patience: u32,
+) -> FeedEnd
+    requires ahead { A.may }
+    requires feed { F.left feed.old ≡ drop writer.old.head writer.old.ring.rows }
+    requires rows { HasRows writer.old.ring }
+    requires patience { 0 < patience }
+    ensures feed { F.left feed.new ≡ drop writer.new.head writer.new.ring.rows }
+    ensures done { OnDone result (IsFed writer.new) }
+    ensures not_done { IfWaiting result (λ site at. IsFed writer.new → ⊥) }
+    ensures waiting { IfWaiting result (WaitsFor writer.old writer.new patience) }
+    ensures waits { WaitsNoMore patience writer.old writer.new result }
+    ensures grows { Grows writer.old writer.new }
+    ensures known { IsKnownWithin writer.new }
+    ensures within { writer.new.head ≤ writer.old.ring.total }
+    ensures gets_on { writer.old.head < writer.old.ring.total → SomeJoined writer.old
+        → HasRoom writer.old → writer.old.head < writer.new.head }
+    ensures same { writer.new ≡ record writer.old {
+      head = writer.new.head;
+      known = writer.new.known;
+      loads = writer.new.loads;
+    } }
+{
     let mut buffer = [0; MOST_ROW];
     let row = &mut buffer[..writer.row_len()];
     let mut waits = 0;
     while writer.head() < writer.total() && writer.joined() > 0 {
+        ahead.make(feed);
         let Err(Full { site, at }) = publish_next(writer, feed, row) else {
             continue;
         };
@@ -89,30 +120,4 @@ fn publish_next<D: Deal, F: RowFeed>(
     feed.next(row);
     writer.publish(pass, row);
     Ok(())
-}
-
-impl<'r, D: Deal, F: RowFeed> TurnWith<F> for Writer<'r, D> {
-    ghost use Rattle.ring_turns.specs.Feeding.{Fed, MayFeed};
-    ghost use Rattle.ring_turns.specs.Again.{fed_again, may_feed_again};
-
-    ghost may = { λ writer feed. MayFeed (F.left feed) writer };
-
-    ghost turned = { λ was old is new. Fed (F.left new) was is };
-
-    /// The turn of the writer with this feed.
-    fn turn(&mut self, feed: &mut F, patience: u32) {
-        let _end = feed_turn(self, feed, patience);
-    }
-
-    fn rows(&self) -> Option<u64> {
-        if self.head() < self.total() && self.joined() > 0 {
-            Some(self.head())
-        } else {
-            None
-        }
-    }
-
-    ghost may_again = { λ x x' y y'. may_feed_again (F.left y) (F.left y') x x' };
-
-    ghost turned_again = { λ x x' x'' y y' y''. fed_again (F.left y') (F.left y'') x x' x'' };
 }
