@@ -8,12 +8,14 @@ ghost use Rattle.ring_run.specs.Round.{AreEndsOf, StaySeated};
 ghost use Rattle.ring_run.specs.Seat.{all_readers, are_going as are_going_lem};
 ghost use Rattle.ring_run.specs.Served.{AreSomeSeated};
 
+use crate::banded::Banded;
 use crate::counting::RunKeyReader;
 use crate::round::round;
 use crate::seat::Seat;
 use crate::seats::are_going;
-use pr_base::{Deal, RowFeed};
+use pr_base::Deal;
 use pr_rack::Rack;
+use press_job::BandFeed;
 use ring_lanes::{Reader, Writer};
 use ring_turns::{Pace, Pairs};
 use std::thread::Threads;
@@ -36,17 +38,17 @@ pub(crate) struct RacksAndKeys<'a, 'p, R> {
 pub(crate) fn run_rounds<
     T: Threads + Clock + Sync,
     D: Deal + Sync,
-    F: RowFeed + Send,
+    F: BandFeed + Send,
     R: Rack + Send,
 >(
     rt: &T,
-    one: WriterAndFeed<'_, '_, D, F>,
+    one: WriterAndFeed<'_, '_, D, Banded<'_, '_, T, F>>,
     seats: &mut [Seat<'_, D>],
     more: &mut [Reader<'_, D>],
     theirs: RacksAndKeys<'_, '_, R>,
     patience: u32,
 )
-    requires feed { MayFeed (F.left one.feed.now) one.writer.now }
+    requires feed { MayFeed (F.left one.feed.now.feed.now) one.writer.now }
     requires places { 0 < one.writer.now.ring.places }
     requires ends { AreEndsOf one.writer.now (all_readers seats.old more.old) }
     requires count { length seats.old ≡ length theirs.racks.now }

@@ -1,8 +1,7 @@
 // The feed of a run, and the writer's turn with it: bands are made inside the turn.
-ghost use Rattle.std.specs.Prelude.{◌×◌};
 ghost use Rattle.std.specs.Thread.{IsSync};
 
-use pr_base::{Deal, RowFeed};
+use pr_base::Deal;
 use press_job::BandFeed;
 use ring_lanes::Writer;
 use ring_turns::{Ahead, TurnWith, feed_ahead};
@@ -30,7 +29,8 @@ pub(crate) struct Banded<'t, 'f, T, F> {
     pub(crate) feed: &'f mut F,
 }
 
-impl<'t, 'f, 'r, D: Deal, T: Threads + Sync, F: BandFeed> TurnWith<Banded<'t, 'f, T, F>> for Writer<'r, D> {
+impl<'t, 'f, 'r, D: Deal, T: Threads + Sync, F: BandFeed> TurnWith<Banded<'t, 'f, T, F>>
+    for Writer<'r, D> {
     ghost use Rattle.ring_turns.specs.Feeding.{Fed, MayFeed};
     ghost use Rattle.ring_turns.specs.Again.{fed_again, may_feed_again};
 

@@ -4,7 +4,7 @@ ghost use Rattle.press_job.specs.Rows.{plate_frames};
 ghost use Rattle.ring_run.specs.JobRun.{JobLeaves, MayRun};
 
 use crate::Outcome;
-use crate::banded::Banded;
+use crate::banded::{Banded, Bands};
 use crate::counting::RunKeyReader;
 use crate::rows::Run;
 use pr_base::NoMemory;
@@ -30,6 +30,9 @@ pub fn run_fed<T: Threads + Clock + Sync, F: BandFeed + Send, R: Rack + Send>(
 {
     let plan = run.plan;
     let (racks, _others) = racks.split_at_mut(plan.sites.len());
-    let mut feed = Banded { rt, feed };
+    let mut feed = Banded {
+        bands: Bands { rt },
+        feed,
+    };
     run.run_rows(rt, job, &mut feed, racks, keys)
 }

@@ -15,13 +15,15 @@ ghost use Rattle.ring_run.specs.Served.{AreSomeSeated, Carries, FitsFrom, StopsF
 
 use crate::Outcome;
 use crate::all_rounds::{RacksAndKeys, WriterAndFeed, run_rounds};
+use crate::banded::Banded;
 use crate::counting::RunKeyReader;
 use crate::ends::{ends_of, seats_of};
 use crate::seat::Seat;
 use plan_json::Plan;
 use plan_rows::RowPlan;
-use pr_base::{Deal, NoMemory, RowFeed};
+use pr_base::{Deal, NoMemory};
 use pr_rack::Rack;
+use press_job::BandFeed;
 use ring_lanes::{Ends, Reader, Ring, Writer, open_ring};
 use ring_turns::Pace;
 use std::alloc::Global;
@@ -58,16 +60,16 @@ struct RunEnds<'r, D: Deal> {
 
 impl Run<'_> {
     /// Round after round, and how each site ended.
-    fn run_seats<T: Threads + Clock + Sync, D: Deal + Sync, F: RowFeed + Send, R: Rack + Send>(
+    fn run_seats<T: Threads + Clock + Sync, D: Deal + Sync, F: BandFeed + Send, R: Rack + Send>(
         &self,
         rt: &T,
         ends: RunEnds<'_, D>,
-        feed: &mut F,
+        feed: &mut Banded<'_, '_, T, F>,
         racks: &mut [R],
         keys: &mut [RunKeyReader<'_>],
     ) -> Result<Outcome, NoMemory>
         requires run { IsRun self.now }
-        requires feed { MayFeed (F.left feed.old) ends.writer }
+        requires feed { MayFeed (F.left feed.old.feed.now) ends.writer }
         requires places { 0 < ends.writer.ring.places }
         requires ends { AreEndsOf ends.writer (all_readers ends.seats.items ends.more.items) }
         requires sites { length ends.seats.items ≡ length self.now.plan.now.sites }
@@ -98,11 +100,11 @@ impl Run<'_> {
     }
 
     /// The same over a ring whose ends are still there.
-    fn run_on<T: Threads + Clock + Sync, D: Deal + Sync, F: RowFeed + Send, R: Rack + Send>(
+    fn run_on<T: Threads + Clock + Sync, D: Deal + Sync, F: BandFeed + Send, R: Rack + Send>(
         &self,
         rt: &T,
         table: &mut Ring<'_, D>,
-        feed: &mut F,
+        feed: &mut Banded<'_, '_, T, F>,
         racks: &mut [R],
         keys: &mut [RunKeyReader<'_>],
     ) -> Result<Outcome, NoMemory>
@@ -111,7 +113,7 @@ impl Run<'_> {
         requires places { 0 < table.old.ring.places }
         requires readers { table.old.ring.readers ≡ length self.now.plan.now.sites + length keys.old }
         requires has_rows { HasRows table.old.ring }
-        requires feed { F.left feed.old ≡ table.old.ring.rows }
+        requires feed { F.left feed.old.feed.now ≡ table.old.ring.rows }
         requires racks { length self.now.plan.now.sites ≡ length racks.old }
         requires carries { Carries (on_ring self.now.plan.now self.now.out.now table.old.ring)
             table.old.ring }
@@ -142,13 +144,13 @@ impl Run<'_> {
     pub(crate) fn run_rows<
         T: Threads + Clock + Sync,
         D: Deal + Sync,
-        F: RowFeed + Send,
+        F: BandFeed + Send,
         R: Rack + Send,
     >(
         &self,
         rt: &T,
         deal: &D,
-        feed: &mut F,
+        feed: &mut Banded<'_, '_, T, F>,
         racks: &mut [R],
         keys: &mut [RunKeyReader<'_>],
     ) -> Result<Outcome, NoMemory>
@@ -161,7 +163,7 @@ impl Run<'_> {
             (ring_of self.now.ring self.now.readers (D.rows deal.now) (D.size deal.now)) keys.old }
         requires some_byte { 1 ≤ D.size deal.now }
         requires few_bytes { D.size deal.now ≤ 8258 }
-        requires feed { F.left feed.old ≡ D.rows deal.now }
+        requires feed { F.left feed.old.feed.now ≡ D.rows deal.now }
         requires racks { length self.now.plan.now.sites ≡ length racks.old }
         ensures leaves { RunLeaves
             (by_ring self.now.plan.now (map framed_row (D.rows deal.now)) self.now.out.now
