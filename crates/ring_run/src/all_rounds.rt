@@ -1,4 +1,4 @@
-// The rounds of a run, one behind the other.
+// The rounds of a run, one after the other.
 ghost use Rattle.std.specs.Prelude.{◌≡◌, ◌<◌, length, false};
 ghost use Rattle.pr_rack.specs.Told.{all_told};
 ghost use Rattle.ring_turns.specs.Feeding.{MayFeed};
@@ -33,8 +33,8 @@ pub(crate) struct RacksAndKeys<'a, 'p, R> {
     pub(crate) keys: &'a mut [RunKeyReader<'p>],
 }
 
-/// Round after round, until each site has finished or left and each further reader has all rows, or want of
-/// memory stopped a site.
+/// Takes round after round, until each site has finished or left and each further reader has all rows, or a
+/// site ran out of memory.
 pub(crate) fn run_rounds<
     T: Threads + Clock + Sync,
     D: Deal + Sync,

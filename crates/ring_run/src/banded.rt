@@ -1,4 +1,4 @@
-// The feed of a run, and the writer's turn with it: bands are made inside the turn.
+// The feed of a run, and the writer's turn with it, in which bands of rows are made.
 ghost use Rattle.std.specs.Thread.{IsSync};
 
 use pr_base::Deal;
@@ -7,8 +7,7 @@ use ring_lanes::Writer;
 use ring_turns::{Ahead, TurnWith, feed_ahead};
 use std::thread::Threads;
 
-/// Makes the next rows of a feed side by side, where a row is asked for and none stands ready, in threads that
-/// this value permits.
+/// Makes the next rows of a feed side by side whenever none is ready, in threads that this value permits.
 #[derive(Drop)]
 pub(crate) struct Bands<'t, T> {
     pub(crate) rt: &'t T,
@@ -22,7 +21,7 @@ impl<'t, T: Threads + Sync, F: BandFeed> Ahead<F> for Bands<'t, T> {
     }
 }
 
-/// The feed of a run, and how its bands are made.
+/// The feed of a run, with what makes its bands.
 #[derive(Drop)]
 pub(crate) struct Banded<'t, 'f, T, F> {
     pub(crate) bands: Bands<'t, T>,
@@ -38,7 +37,7 @@ impl<'t, 'f, 'r, D: Deal, T: Threads + Sync, F: BandFeed> TurnWith<Banded<'t, 'f
 
     ghost turned = { λ was old is new. Fed (F.left new.feed.now) was is };
 
-    /// The turn of the writer with this feed.
+    /// Takes the writer's turn with this feed.
     fn turn(&mut self, banded: &mut Banded<'t, 'f, T, F>, patience: u32) {
         let _end = feed_ahead(self, &banded.bands, banded.feed, patience);
     }

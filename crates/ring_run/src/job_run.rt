@@ -13,8 +13,8 @@ use press_job::{BandFeed, Job};
 use std::thread::Threads;
 use std::time::Clock;
 
-/// Delivers the plates of a job, each site's to the rack of its number, as `run` says; the key readers count
-/// the rows. The feed has all rows of the job to come.
+/// Delivers the plates of a job, each site's to the rack of its number, as `run` says. The key readers count
+/// the rows. All rows of the job are still to come from the feed.
 pub fn run_fed<T: Threads + Clock + Sync, F: BandFeed + Send, R: Rack + Send>(
     rt: &T,
     run: &Run<'_>,

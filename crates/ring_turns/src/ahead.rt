@@ -1,21 +1,21 @@
-// What a turn of the writer does before it asks its feed for a row.
+// What the writer does with its feed before it asks for a row.
 ghost use Rattle.std.specs.Prelude.{◌≡◌};
 
 use pr_base::RowFeed;
 
-/// What is done with a feed before it is asked for a row, as making rows ahead.
+/// What is done with a feed before it is asked for a row, such as making rows ahead.
 ///
-/// Implementers define `may`, when it may be done, and leave the rows still to come as they are.
+/// Implementers define `may`, the condition under which it may be done. The rows still to come stay the same.
 pub trait Ahead<F: RowFeed> {
     ghost may: { Type 0 };
 
-    /// Does it.
+    /// Makes rows ahead, if it does so at all. Called before each row.
     fn make(&self, feed: &mut F)
         requires { may }
         ensures { F.left feed.new ≡ F.left feed.old };
 }
 
-/// Nothing is done: a row is made when it is asked for.
+/// Makes nothing ahead: a row is made on request.
 #[derive(Drop)]
 pub(crate) struct AsAsked;
 

@@ -1,4 +1,4 @@
-// The turn of the writer at a ring: it publishes rows of a feed until it would wait too often.
+// The writer's turn at a ring: it publishes rows of a feed until it would wait too often.
 ghost use Rattle.std.specs.Prelude.{◌≡◌, ◌+◌, ◌<◌, ◌≤◌, ℕ, Some, drop, length, IfErr, OnErr, OnOk};
 ghost use Rattle.ring_lanes.specs.Writer.{HasRoom, IsFull, LooksOnce};
 ghost use Rattle.ring_turns.specs.Feeding.{Grows, HasRows, IfWaiting, IsFed, IsKnownWithin, OnDone};
@@ -11,14 +11,14 @@ use ring_lanes::{Full, Writer};
 /// How a turn of the writer ended.
 #[derive(Clone, Copy, Debug, PartialEq, Eq)]
 pub enum FeedEnd {
-    /// Reader `site` has yet to close row `at`, in whose place the next one will lie. So many looks of the
-    /// turn found their place taken as the caller's patience allows.
+    /// Reader number `site`, a site's or a further one's, has yet to close row `at`, whose place the next row
+    /// takes. As many looks of the turn found their place taken as the patience allows.
     Waiting { site: u32, at: u64 },
     /// All rows are published, or the writer knows that every reader left.
     Done,
 }
 
-/// The bytes of the longest row.
+/// The length of the longest row, in bytes.
 const MOST_ROW: usize = 8258;
 
 /// Publishes the next rows of a feed, until all are published, or every reader has left, or `patience` looks
@@ -50,7 +50,7 @@ pub fn feed_turn<D: Deal, F: RowFeed>(
     feed_ahead(writer, &AsAsked, feed, patience)
 }
 
-/// Does what `feed_turn` does, and before each row what `ahead` makes of the feed.
+/// Does what `feed_turn` does. Before it looks for the place of a row, `ahead` may make rows of the feed.
 pub fn feed_ahead<D: Deal, F: RowFeed, A: Ahead<F>>(
     writer: &mut Writer<'_, D>,
     ahead: &A,
@@ -94,7 +94,7 @@ pub fn feed_ahead<D: Deal, F: RowFeed, A: Ahead<F>>(
     FeedEnd::Done
 }
 
-/// Publishes the next row of a feed, where there is room for it. `row` is room for one.
+/// Publishes the next row of a feed if there is room for it. `row` is a buffer of a row's length.
 fn publish_next<D: Deal, F: RowFeed>(
     writer: &mut Writer<'_, D>,
     feed: &mut F,

@@ -1,4 +1,4 @@
-// Turns that are taken in one thread, one after the other and over again.
+// Turns that are taken in one thread, one after the other and over and over again.
 ghost use Rattle.std.specs.Prelude.{◌≡◌, ◌<◌, ◌/◌, length, max};
 ghost use Rattle.ring_turns.specs.Pairs.{AreTurned, MayAllTurn};
 
@@ -7,9 +7,9 @@ use crate::turn::TurnWith;
 use crate::waiting::Vain;
 use std::time::Clock;
 
-/// Turns of each with the other at its index, each until it looked in vain once, and so often that all of
-/// them together look in vain as often as the pace's patience says, or none has a row left. One is taken
-/// behind the other, so that nobody waits in this thread while another one has rows.
+/// Takes turns of each end with the value at its index, each until it looked in vain once, until all of them
+/// together looked in vain as often as the patience allows, or none has a row left. The thread waits only
+/// after a pass over all, so no end waits while another one of the thread has rows.
 pub(crate) fn turns_in_one_thread<T: Clock, X: TurnWith<Y>, Y>(
     rt: &T,
     pace: Pace,
@@ -35,7 +35,7 @@ pub(crate) fn turns_in_one_thread<T: Clock, X: TurnWith<Y>, Y>(
     }
 }
 
-/// Turns of one, each until it looked in vain once, and so many as the pace's patience says, or until it has
+/// Takes turns of one end, each until it looked in vain once, as many as the patience allows, or until it has
 /// no row left.
 pub(crate) fn turns_of_one<T: Clock, X: TurnWith<Y>, Y>(
     rt: &T,
@@ -60,7 +60,7 @@ pub(crate) fn turns_of_one<T: Clock, X: TurnWith<Y>, Y>(
     }
 }
 
-/// How many rows they dealt with, those that have a row left together; none where none has one.
+/// Returns how many rows the ends that have rows left dealt with, together; none if no end has rows left.
 fn all_rows<X: TurnWith<Y>, Y>(all: &[X]) -> Option<u64> {
     let mut sum = None;
     for one in all {
@@ -71,14 +71,14 @@ fn all_rows<X: TurnWith<Y>, Y>(all: &[X]) -> Option<u64> {
     sum
 }
 
-/// How many passes over so many ends look in vain so often.
+/// Returns how many passes over so many ends make as many looks as the patience allows, at least one.
 fn passes(patience: u32, ends: usize) -> u32
     ensures { result ≡ patience / max ends 1 }
 {
     (patience as usize / ends.max(1)) as u32
 }
 
-/// A turn of each with the other at its index, each until it looked in vain once.
+/// Takes a turn of each end with the value at its index, each until it looked in vain once.
 fn ask_each<X: TurnWith<Y>, Y>(others: &mut [Y], all: &mut [X])
     requires count { length all.old ≡ length others.old }
     requires may { MayAllTurn X.may all.old others.old }

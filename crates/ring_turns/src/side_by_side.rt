@@ -9,8 +9,8 @@ use crate::turn::TurnWith;
 use std::thread::{Threads, join_mut};
 use std::time::Clock;
 
-/// The turn of each with the other at its index, in so many threads: these are halved until one is left, in
-/// which its share of them take turns over and over again.
+/// Takes the turn of each end with the value at its index, in as many threads as the pace says. They are
+/// halved until one is left, in which its share of the ends takes turns over and over again.
 #[cycle(halves)]
 pub(crate) fn turns<T: Threads + Clock + Sync, X: TurnWith<Y> + Send, Y: Send>(
     rt: &T,
@@ -32,7 +32,7 @@ pub(crate) fn turns<T: Threads + Clock + Sync, X: TurnWith<Y> + Send, Y: Send>(
     join_halves(rt, pace, a, b, c, d);
 }
 
-/// The turns of both halves, side by side, each in so many threads.
+/// Takes the turns of both halves side by side, each in half of the threads.
 #[cycle(halves)]
 fn join_halves<T: Threads + Clock + Sync, X: TurnWith<Y> + Send, Y: Send>(
     rt: &T,
@@ -79,7 +79,7 @@ fn join_halves<T: Threads + Clock + Sync, X: TurnWith<Y> + Send, Y: Send>(
     );
 }
 
-/// A turn of one, and beside it those of all others, in so many threads.
+/// Takes the turn of one, and alongside it those of all others, in as many threads as the pace says.
 pub(crate) fn turn_beside<T, W, F, X, Y>(
     rt: &T,
     pace: Pace,
@@ -126,8 +126,8 @@ where
     );
 }
 
-/// The turn of the one, in this thread, so that its buffers stay on one processor; or apart, in a thread of
-/// its own, and then this one rests, so that each thread that it started begins at once.
+/// Takes the turn of the one: in this thread, so that its buffers stay in one processor's cache, or in a
+/// thread of its own while this one rests, so that each thread that it started begins at once.
 pub(crate) fn turn_of_one<T, W, F>(rt: &T, pace: Pace, its: &mut F, one: &mut W)
 where
     T: Threads + Clock + Sync,

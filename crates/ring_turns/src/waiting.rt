@@ -1,24 +1,24 @@
-// How a thread waits between looks in vain of the ends whose turns it takes.
+// How a thread waits between its passes over the ends whose turns it takes.
 use crate::pace::Pace;
 use ring_lanes::pause;
 use std::thread;
 use std::time::{Clock, Duration};
 
-/// So many looks in vain behind a row sleep. With more the end of each round, in which nobody gets on, would
-/// be long.
+/// How many looks in vain after a row are followed by a sleep. More of them would make the end of each round,
+/// in which nobody makes progress, longer.
 const SLEEPS: u32 = 2;
 
-/// The nanoseconds of a sleep. The system makes some fifty thousand of them, in which other ends deal with ten
-/// rows or more, so that one look serves for all of them.
+/// How long a sleep is to last, in nanoseconds. Linux makes it some fifty thousand, in which the other ends
+/// deal with ten rows or more, so that one look serves for all of them.
 const SLEEP: u64 = 1000;
 
-/// Short rows are gone in less, so before it sleeps a thread that waits for them looks so often.
+/// How many looks precede the sleeps where rows are short: a ring of them is used up before a sleep is over.
 const SPINS: u32 = 64;
 
-/// The pauses between these looks, some eight hundred nanoseconds.
+/// How many pauses follow each of those looks, some eight hundred nanoseconds together.
 const SPIN_PAUSES: u32 = 4;
 
-/// How often a thread looked in vain since its ends last dealt with a row.
+/// How many looks were in vain since the thread's ends last dealt with a row.
 #[derive(Clone, Copy)]
 pub(crate) struct Vain {
     rows: Option<u64>,
@@ -26,12 +26,12 @@ pub(crate) struct Vain {
 }
 
 impl Vain {
-    /// None yet, of ends that dealt with so many rows.
+    /// Returns a count of none, for ends that dealt with this many rows.
     pub(crate) fn new(rows: Option<u64>) -> Vain {
         Vain { rows, looks: 0 }
     }
 
-    /// Counts a look behind which the ends have dealt with so many rows.
+    /// Counts a look, after which the ends have dealt with this many rows.
     pub(crate) fn count(&mut self, rows: Option<u64>) {
         self.looks = if rows == self.rows {
             self.looks.saturating_add(1)
@@ -41,8 +41,8 @@ impl Vain {
         self.rows = rows;
     }
 
-    /// Waits behind the look that was counted, the `look`-th of all. The first looks behind a row wait for
-    /// long. Those behind them are quick, so that turns in which nobody gets on end soon.
+    /// Waits after the look that was counted, the `look`-th of all. The first looks after a row are followed
+    /// by long waits, and the others by short ones, so that turns in which nobody makes progress end soon.
     pub(crate) fn wait<T: Clock>(&self, rt: &T, pace: Pace, look: u32) {
         let spins = if pace.sleeps { 0 } else { SPINS };
         if self.looks < spins {

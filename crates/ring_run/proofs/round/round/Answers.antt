@@ -33,10 +33,9 @@ tell_readers-requires-2 g c = record {
 
 pub turn_all-requires-clause-may_one : goal.turn_all-requires-clause-may_one
 turn_all-requires-clause-may_one g c κs within =
-    let same = noted_both c.args.writer.now c.tell_writer.new.writer c.tell_writer-2.new.writer c.tell_writer.ensures.same c.tell_writer-2.ensures.same in
-    (
+    let same = noted_both c.args.writer.now c.tell_writer.new.writer c.tell_writer-2.new.writer c.tell_writer.ensures.same c.tell_writer-2.ensures.same in (
       subst (λ (w : WriterState). MayFeed (g.F.RowFeed.left c.args.feed.now.feed.now) w) (sym (c.tell_readers-2.ensures.same ∙ c.tell_readers.ensures.same))
-      (feed_noted (g.F.RowFeed.left c.args.feed.now.feed.now) c.args.writer.now c.tell_writer-2.new.writer same c.requires.feed),
+          (feed_noted (g.F.RowFeed.left c.args.feed.now.feed.now) c.args.writer.now c.tell_writer-2.new.writer same c.requires.feed),
       record { shared = c.type_bounds.sync-T.shared },
     )
 
