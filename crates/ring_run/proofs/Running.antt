@@ -31,7 +31,7 @@ use Rattle.ring_run.specs.declared.site_end.SiteEnd.TheVariants as Ended
 use Rattle.ring_run.specs.Fits.{Delivery, FitsEnd, FitsPart, RunFits, RunLeaves, RunPart, kept_rows}
 use Rattle.ring_run.specs.Round.{AreEndsOf, StaySeated}
 use Rattle.ring_run.specs.Seat.{SeatData, all_readers, are_going, is_going, is_stopped}
-use Rattle.ring_run.specs.Served.{AreSeated, AreSomeSeated, AreStopped, Carries, GoesOnAt, HasStopped, IsSeated, IsServed, end_of, ends_in, fresh_seat, fresh_seats, is_out}
+use Rattle.ring_run.specs.Served.{AreSeated, AreSomeSeated, AreStopped, Carries, GoesOnAt, IsSeated, IsServed, LeavesPart, end_of, ends_in, fresh_seat, fresh_seats, is_out}
 use Rattle.ring_run.proofs.Rounds.{mapped, none_at, none_going, seat_end, seat_in}
 use Rattle.ring_run.proofs.Serving.{finishes, going_part, total_is}
 
@@ -126,6 +126,7 @@ run_begins delivery table ring readers before carries new sites idle slots = rec
           job_is = refl;
           next_is = refl;
           is = going_at_start delivery.plan delivery.rows delivery.out site (delivery.source site) old.tells carries.plan_is (idle_is old (slots site old b) (idle.each site old inside b)) carries.count carries.are.each;
+          missed = refl;
           faults = (let e : old.faults ≤ old.faults = omega arith in e);
         };
       }));
@@ -253,13 +254,13 @@ run_fits delivery writer ring before now seats more ends carries ring-is at over
 
 -- what a site leaves at any time is a part
 stopped : (delivery : Delivery) (ring : RingNumbers) (site n : ℕ) (before now : RackTells) (state : RunSite) → Carries delivery ring → n ≤ length (row_places delivery.plan) → IsServed delivery site n before now state
-    → HasStopped delivery site before now
+    → LeavesPart delivery site before now
 stopped delivery ring site n before now (Going going) carries within at = record {
   part = going_part delivery ring site n before now going carries within at;
   faults = at.faults;
 }
 stopped delivery ring site n before now (Left cause) carries within left = record { part = left.part; faults = left.faults }
-stopped delivery ring site n before now Stopped carries within left = left
+stopped delivery ring site n before now Stopped carries within left = record { part = left.part; faults = left.faults }
 
 pub are_stopped : (delivery : Delivery) (writer : WriterState) (ring : RingNumbers) (before now : List RackTells) (seats : List SeatData) (more : List ReaderState) → Carries delivery ring → writer.ring ≡ ring → AreEndsOf writer (all_readers seats more) → AreSeated delivery before now seats
     → AreStopped delivery before now
@@ -289,7 +290,7 @@ pub none_part : (delivery : Delivery) (before : List RackTells) → RunPart deli
 none_part delivery before = record {
   each = λ site old new less b r.
       subst (λ (now : RackTells). FitsPart delivery site old now) (same_Some old new (sym b ∙ r))
-      (record { files = 0; rows' = 0; finished = grown-nothing old.tells.finished; taken = grown-nothing old.tells.taken });
+      (record { files = 0; rows' = 0; finished = grown-nothing old.tells.finished; taken = grown-nothing old.tells.taken; failed = inl refl });
 }
 
 -- so it is of what is left where nothing was made for want of memory

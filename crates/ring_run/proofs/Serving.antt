@@ -35,7 +35,7 @@ use Rattle.site_agent.proofs.Racks.{rose_since}
 use Rattle.site_agent.proofs.Runs.{files_are, site_at_end}
 use Rattle.site_agent.proofs.Steps.{is_kept-row}
 use Rattle.site_agent.proofs.Taken.{taken_first, taken_in_part, taken_up_to}
-use Rattle.ring_run.specs.Fits.{Delivery, FitsFinished, FitsPart, files_for, kept_rows}
+use Rattle.ring_run.specs.Fits.{Delivery, FitsCause, FitsFinished, FitsPart, files_for, kept_rows}
 use Rattle.ring_run.specs.declared.site.RunSite.TheVariants.{Going, Left, Stopped}
 use Rattle.ring_run.specs.Seat.{SeatData}
 use Rattle.ring_run.specs.Served.{Carries, GoesOnAt, HasLeft, HasStopped, IsSeated, SomeSeated, Turned, is_out, to_take}
@@ -91,6 +91,7 @@ going_part delivery ring site n before now going carries within at =
       rows' = length (taken_below job (delivery.source site) n);
       finished = stands.rack.finished ∙ ap (λ files. grown (take (finished_count job n) files) before.tells.finished) (files_are delivery.plan delivery.rows delivery.out site);
       taken = stands.rack.taken ∙ ap (λ rows. grown rows before.tells.taken) (taken_first delivery.plan delivery.out site (delivery.source site) n carries.plan_is within);
+      failed = inl at.missed;
     }
 
 -- behind the last row it has finished
@@ -135,24 +136,26 @@ leaves delivery reader n before old new going cause carries within at by rose mi
     let kept : is_kept job cause.row ≡ true = is_kept-row job cause.row cause-at.index cause-at.y any cause-at.is in
     let took : Option (List (ℕ × Source)) = grown (taken_below job from cause.row) before.tells.taken in
     let part = taken_in_part delivery.plan delivery.out reader.number from cause.row before.tells.taken took new.tells.taken carries.plan_is within kept refl (left_once cause.call cause.row from took new.tells.taken left'.taken) in
+    let fits-cause : FitsCause delivery reader.number before new cause =
     record {
-      fits = record {
-        cause_fits = subst (λ (list : List Plate). FitsLeft delivery.plan delivery.rows delivery.out reader.number cause list) fits.grown' fits;
-        finished = files;
-        taken = taken_up_to delivery.plan delivery.out reader.number from cause.row cause before.tells.taken took new.tells.taken carries.plan_is within cause-at refl left'.taken;
-        counted = rose_since before.faults old.faults new.faults at.faults rose;
-        missed = missed;
-      };
-      part = record { files = cause.plates; rows' = part.0; finished = files; taken = part.1 };
+      cause_fits = subst (λ (list : List Plate). FitsLeft delivery.plan delivery.rows delivery.out reader.number cause list) fits.grown' fits;
+      finished = files;
+      taken = taken_up_to delivery.plan delivery.out reader.number from cause.row cause before.tells.taken took new.tells.taken carries.plan_is within cause-at refl left'.taken;
+      counted = rose_since before.faults old.faults new.faults at.faults rose;
+      missed = missed;
+    } in
+    record {
+      fits = fits-cause;
+      part = record { files = cause.plates; rows' = part.0; finished = files; taken = part.1; failed = inr (cause, fits-cause) };
       faults = (let since = at.faults in omega (arith, since));
     }
 
 -- ---- a site whose rack wants memory
 
 pub stops : (delivery : Delivery) (reader : ReaderState) (n m : ℕ) (before old new : RackTells) (going : SiteData) → Carries delivery reader.ring → m < length (row_places delivery.plan)
-    → GoesOnAt delivery reader.number n before old going → StopsAt going.job (map framed_row reader.ring.rows) (source_of reader) m before.tells new.tells → old.faults ≤ new.faults
+    → GoesOnAt delivery reader.number n before old going → StopsAt going.job (map framed_row reader.ring.rows) (source_of reader) m before.tells new.tells → new.missed ≡ old.missed → old.faults ≤ new.faults
     → HasStopped delivery reader.number before new
-stops delivery reader n m before old new going carries within at stopped faults =
+stops delivery reader n m before old new going carries within at stopped missed faults =
     let job : SiteJob = job_of delivery.plan delivery.out reader.number in
     let from : Source = delivery.source reader.number in
     let stopped' : StopsAt job delivery.rows from m before.tells new.tells =
@@ -167,7 +170,9 @@ stops delivery reader n m before old new going carries within at stopped faults 
         rows' = part.0;
         finished = stopped'.finished ∙ ap (λ files. grown (take (finished_count job m) files) before.tells.finished) (files_are delivery.plan delivery.rows delivery.out reader.number);
         taken = part.1;
+        failed = inl (missed ∙ at.missed);
       };
+      missed = missed ∙ at.missed;
       faults = (let since = at.faults in omega (arith, since));
     }
 
@@ -215,9 +220,9 @@ going_at delivery before told reader going seated = seated.is
 
 -- it goes on
 pub turned_on : (old new : RackTells) (was is : ReaderState) (going next : SiteData) → StaysBut was is → is.left ≡ false → was.left ≡ false → was.cursor ≤ is.cursor → is.cursor ≤ was.ring.total → (was.cursor < was.seen → was.cursor < is.cursor)
-    → GoesOnBy was going next old new → GoesOnTo going next is.cursor → old.faults ≤ new.faults
+    → GoesOnBy was going next old new → GoesOnTo going next is.cursor → new.missed ≡ old.missed → old.faults ≤ new.faults
     → Turned old new (record { reader = was; site = Going going }) (record { reader = is; site = Going next })
-turned_on old new was is going next stays joined' joined grows within gets_on stands goes faults =
+turned_on old new was is going next stays joined' joined grows within gets_on stands goes missed faults =
     let ring : is.ring ≡ was.ring = ap (λ (x : ReaderState). x.ring) stays in
     record {
       seated = λ delivery before carries seated.
@@ -230,6 +235,7 @@ turned_on old new was is going next stays joined' joined grows within gets_on st
               job_is = goes.job ∙ at.job_is;
               next_is = goes.next;
               is = going_for delivery was before.tells new.tells next carries (stands before.tells (going_by delivery was before.tells old.tells going carries at.is));
+              missed = missed ∙ at.missed;
               faults = (let since = at.faults in omega (arith, since, faults));
             };
           };
@@ -267,9 +273,9 @@ turned_left old new was is going cause stays out joined grows within by row rose
 
 -- want of memory stops it
 pub turned_out : (old new : RackTells) (was is : ReaderState) (going : SiteData) → StaysBut was is → is.left ≡ true → was.left ≡ false → was.cursor < is.cursor → is.cursor ≤ was.ring.total
-    → ((n : ℕ) → n + 1 ≡ is.cursor → StopsBy was going old new n) → old.faults ≤ new.faults
+    → ((n : ℕ) → n + 1 ≡ is.cursor → StopsBy was going old new n) → new.missed ≡ old.missed → old.faults ≤ new.faults
     → Turned old new (record { reader = was; site = Going going }) (record { reader = is; site = Stopped })
-turned_out old new was is going stays out joined grows within stops' faults =
+turned_out old new was is going stays out joined grows within stops' missed faults =
     let ring : is.ring ≡ was.ring = ap (λ (x : ReaderState). x.ring) stays in
     let last : (is.cursor - 1) + 1 ≡ is.cursor = omega (arith, grows) in
     record {
@@ -281,7 +287,7 @@ turned_out old new was is going stays out joined grows within stops' faults =
             within = subst (λ (r : RingNumbers). is.cursor ≤ r.total) (sym ring) within;
             left = out;
             is = stops delivery was was.cursor (is.cursor - 1) before old new going carries (omega (arith, total, last, within)) at
-                (stops' (is.cursor - 1) last before.tells (going_by delivery was before.tells old.tells going carries at.is)) faults;
+                (stops' (is.cursor - 1) last before.tells (going_by delivery was before.tells old.tells going carries at.is)) missed faults;
           };
       end = record {
         stays = stays;

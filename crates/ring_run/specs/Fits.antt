@@ -1,5 +1,5 @@
 -- What a run leaves on the racks of its sites, by what each of them told before and tells now.
-use Rattle.std.specs.Prelude.{◌≡◌, ℕ, ◌<◌, false, List, length, map, take, count_by, Some, IfSome, IfOk}
+use Rattle.std.specs.Prelude.{◌≡◌, ℕ, ◌<◌, ◌⊎◌, false, List, length, map, take, count_by, Some, IfSome, IfOk}
 use Rattle.std.specs.Prelude.{OnErr, Result, slice_get}
 use Rattle.std.specs.List.{range_with_len}
 use Rattle.pr_base.specs.Count.{Rose}
@@ -97,13 +97,15 @@ FitsEnd delivery site before now (Finished plates rows') =
     FitsFinished delivery site before now plates rows'
 FitsEnd delivery site before now (Left cause) = FitsCause delivery site before now cause
 
--- a site of a run that want of memory ended: its rack has the first of its files more, and the first of its
--- rows
+-- a site of a run that ran out of memory: its rack has the first of its files more, and the first of its
+-- rows; no call of the rack failed in the run, or the site left for one that did
 pub record FitsPart (delivery : Delivery) (site : ℕ) (before now : RackTells) : Type 0 where
   pub files : ℕ
   pub rows' : ℕ
   pub finished : now.tells.finished ≡ grown (take files (files_for delivery site)) before.tells.finished
   pub taken : now.tells.taken ≡ grown (take rows' (drawn_for delivery site)) before.tells.taken
+  pub failed : (now.missed ≡ before.missed)
+      ⊎ ((cause : LeftCause) × FitsCause delivery site before now cause)
 
 -- ---- all sites
 

@@ -42,6 +42,7 @@ pub record GoesOnAt (delivery : Delivery) (site n : ℕ) (before now : RackTells
   pub job_is : going.job ≡ job_of delivery.plan delivery.out site
   pub next_is : going.next ≡ n
   pub is : IsGoing delivery.rows (delivery.source site) before.tells now.tells going
+  pub missed : now.missed ≡ before.missed
   pub faults : before.faults ≤ now.faults
 
 -- a site has left
@@ -51,9 +52,10 @@ pub record HasLeft (delivery : Delivery) (site : ℕ) (before now : RackTells) (
   pub part : FitsPart delivery site before now
   pub faults : before.faults ≤ now.faults
 
--- want of memory stopped a site
+-- a site ran out of memory, and no call of its rack failed
 pub record HasStopped (delivery : Delivery) (site : ℕ) (before now : RackTells) : Type 0 where
   pub part : FitsPart delivery site before now
+  pub missed : now.missed ≡ before.missed
   pub faults : before.faults ≤ now.faults
 
 -- a site has dealt with the rows below row n, or has left, or was stopped
@@ -119,10 +121,15 @@ pub record AreSeated (delivery : Delivery) (before now : List RackTells) (seats 
       → slice_get now site ≡ Some new → slice_get seats site ≡ Some seat
       → IsSeated delivery site old new seat
 
--- want of memory stopped the run
+-- what a site leaves at any time is a part
+pub record LeavesPart (delivery : Delivery) (site : ℕ) (before now : RackTells) : Type 0 where
+  pub part : FitsPart delivery site before now
+  pub faults : before.faults ≤ now.faults
+
+-- so does each site
 pub record AreStopped (delivery : Delivery) (before now : List RackTells) : Type 0 where
   pub each : (site : ℕ) (old new : RackTells) → site < length delivery.plan.sites
-      → slice_get before site ≡ Some old → slice_get now site ≡ Some new → HasStopped delivery site old new
+      → slice_get before site ≡ Some old → slice_get now site ≡ Some new → LeavesPart delivery site old new
 
 -- ---- the first and the last
 

@@ -1,4 +1,4 @@
-// The rounds of a run, one behind the other.
+// The rounds of a run, one after the other.
 ghost use Rattle.std.specs.Prelude.{◌≡◌, ◌<◌, length, false};
 ghost use Rattle.pr_rack.specs.Told.{all_told};
 ghost use Rattle.ring_turns.specs.Feeding.{MayFeed};
@@ -8,6 +8,7 @@ ghost use Rattle.ring_run.specs.Round.{AreEndsOf, StaySeated};
 ghost use Rattle.ring_run.specs.Seat.{all_readers, are_going as are_going_lem};
 ghost use Rattle.ring_run.specs.Served.{AreSomeSeated};
 
+use crate::banded::Banded;
 use crate::counting::RunKeyReader;
 use crate::round::round;
 use crate::seat::Seat;
@@ -18,6 +19,7 @@ use press_job::BandFeed;
 use ring_lanes::{Reader, Writer};
 use ring_turns::{Pace, Pairs};
 use std::thread::Threads;
+use std::time::Clock;
 
 /// The writer of a run and the feed of its rows.
 pub(crate) struct WriterAndFeed<'a, 'r, D: Deal, F> {
@@ -31,17 +33,22 @@ pub(crate) struct RacksAndKeys<'a, 'p, R> {
     pub(crate) keys: &'a mut [RunKeyReader<'p>],
 }
 
-/// Round after round, until each site has finished or left and each further reader has all rows, or want of
-/// memory stopped a site.
-pub(crate) fn run_rounds<T: Threads + Sync, D: Deal + Sync, F: BandFeed + Send, R: Rack + Send>(
+/// Takes round after round, until each site has finished or left and each further reader has all rows, or a
+/// site ran out of memory.
+pub(crate) fn run_rounds<
+    T: Threads + Clock + Sync,
+    D: Deal + Sync,
+    F: BandFeed + Send,
+    R: Rack + Send,
+>(
     rt: &T,
-    one: WriterAndFeed<'_, '_, D, F>,
+    one: WriterAndFeed<'_, '_, D, Banded<'_, '_, T, F>>,
     seats: &mut [Seat<'_, D>],
     more: &mut [Reader<'_, D>],
     theirs: RacksAndKeys<'_, '_, R>,
     patience: u32,
 )
-    requires feed { MayFeed (F.left one.feed.now) one.writer.now }
+    requires feed { MayFeed (F.left one.feed.now.feed.now) one.writer.now }
     requires places { 0 < one.writer.now.ring.places }
     requires ends { AreEndsOf one.writer.now (all_readers seats.old more.old) }
     requires count { length seats.old ≡ length theirs.racks.now }
@@ -59,7 +66,7 @@ pub(crate) fn run_rounds<T: Threads + Sync, D: Deal + Sync, F: BandFeed + Send, 
 {
     let WriterAndFeed { writer, feed } = one;
     let RacksAndKeys { racks, keys } = theirs;
-    let pace = Pace::of(rt, patience);
+    let pace = Pace::of(rt, patience, writer.row_len());
     while are_going(seats, more) {
         let sites = Pairs {
             all: &mut *seats,

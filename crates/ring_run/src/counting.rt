@@ -3,6 +3,7 @@ ghost use Rattle.std.specs.Prelude.{◌≡◌, ◌<◌};
 ghost use Rattle.ink_keys.specs.Turn.{KeyReaderData};
 ghost use Rattle.ring_run.specs.Counting.{Counted, IsCounting};
 
+use crate::at_end::AtEnd;
 use ink_keys::{Counts, KeyReader};
 use pr_base::Deal;
 use ring_lanes::Reader;
@@ -58,6 +59,14 @@ impl<'r, 'p, D: Deal> TurnWith<RunKeyReader<'p>> for Reader<'r, D> {
     /// The turn of the key reader that sits here.
     fn turn(&mut self, key: &mut RunKeyReader<'p>, patience: u32) {
         count_rows(self, &mut key.reader, patience);
+    }
+
+    fn rows(&self) -> Option<u64> {
+        if self.goes_on() {
+            Some(self.cursor())
+        } else {
+            None
+        }
     }
 
     ghost may_again = { λ x x' y y' first. may_count_again x x' y y' };

@@ -4,16 +4,18 @@ ghost use Rattle.press_job.specs.Rows.{plate_frames};
 ghost use Rattle.ring_run.specs.JobRun.{JobLeaves, MayRun};
 
 use crate::Outcome;
+use crate::banded::{Banded, Bands};
 use crate::counting::RunKeyReader;
 use crate::rows::Run;
 use pr_base::NoMemory;
 use pr_rack::Rack;
 use press_job::{BandFeed, Job};
 use std::thread::Threads;
+use std::time::Clock;
 
-/// Delivers the plates of a job, each site's to the rack of its number, as `run` says; the key readers count
-/// the rows. The feed has all rows of the job to come.
-pub fn run_fed<T: Threads + Sync, F: BandFeed + Send, R: Rack + Send>(
+/// Delivers the plates of a job, each site's to the rack of its number, as `run` says. The key readers count
+/// the rows. All rows of the job are still to come from the feed.
+pub fn run_fed<T: Threads + Clock + Sync, F: BandFeed + Send, R: Rack + Send>(
     rt: &T,
     run: &Run<'_>,
     job: &Job,
@@ -28,5 +30,9 @@ pub fn run_fed<T: Threads + Sync, F: BandFeed + Send, R: Rack + Send>(
 {
     let plan = run.plan;
     let (racks, _others) = racks.split_at_mut(plan.sites.len());
-    run.run_rows(rt, job, feed, racks, keys)
+    let mut feed = Banded {
+        bands: Bands { rt },
+        feed,
+    };
+    run.run_rows(rt, job, &mut feed, racks, keys)
 }

@@ -5,6 +5,7 @@
 
 mod all_rounds;
 mod at_end;
+mod banded;
 mod counting;
 mod ends;
 mod job_run;

@@ -11,6 +11,7 @@ ghost use Rattle.ring_run.specs.Seat.{all_readers};
 ghost use Rattle.ring_run.specs.Served.{AreSomeSeated};
 
 use crate::at_end::AtEnd;
+use crate::banded::Banded;
 use crate::counting::RunKeyReader;
 use crate::seat::Seat;
 use pr_base::Deal;
@@ -19,6 +20,7 @@ use press_job::BandFeed;
 use ring_lanes::{Reader, Writer};
 use ring_turns::{Pace, Pairs, turn_all};
 use std::thread::Threads;
+use std::time::Clock;
 
 /// Hands a note of each reader to the writer, also of one that has left.
 fn tell_writer<D: Deal, E: AtEnd<D>>(writer: &mut Writer<'_, D>, ends: &mut [E])
@@ -46,15 +48,15 @@ fn tell_readers<D: Deal, E: AtEnd<D>>(writer: &mut Writer<'_, D>, ends: &mut [E]
 }
 
 /// A round: afterwards fewer rows are yet to be published or to be taken, where a reader goes on.
-pub(crate) fn round<T: Threads + Sync, D: Deal + Sync, F: BandFeed + Send, R: Rack + Send>(
+pub(crate) fn round<T: Threads + Clock + Sync, D: Deal + Sync, F: BandFeed + Send, R: Rack + Send>(
     rt: &T,
     writer: &mut Writer<'_, D>,
-    feed: &mut F,
+    feed: &mut Banded<'_, '_, T, F>,
     sites: Pairs<'_, Seat<'_, D>, R>,
     further: Pairs<'_, Reader<'_, D>, RunKeyReader<'_>>,
     pace: Pace,
 )
-    requires feed { MayFeed (F.left feed.old) writer.old }
+    requires feed { MayFeed (F.left feed.old.feed.now) writer.old }
     requires places { 0 < writer.old.ring.places }
     requires ends { AreEndsOf writer.old (all_readers sites.all.now further.all.now) }
     requires count { length sites.all.now ≡ length sites.others.now }
@@ -62,7 +64,7 @@ pub(crate) fn round<T: Threads + Sync, D: Deal + Sync, F: BandFeed + Send, R: Ra
     requires more { length further.all.now ≡ length further.others.now }
     requires counting { MayAllTurn IsCounting further.all.now further.others.now }
     requires patience { 0 < pace.patience }
-    ensures feed { MayFeed (F.left feed.new) writer.new }
+    ensures feed { MayFeed (F.left feed.new.feed.now) writer.new }
     ensures ring { writer.new.ring ≡ writer.old.ring }
     ensures ends { AreEndsOf writer.new (all_readers sites.exit.0.now further.exit.0.now) }
     ensures seated { StaySeated
@@ -82,7 +84,6 @@ pub(crate) fn round<T: Threads + Sync, D: Deal + Sync, F: BandFeed + Send, R: Ra
         all: more,
         others: keys,
     } = further;
-    feed.make_band(rt);
     tell_writer(writer, seats);
     tell_writer(writer, more);
     tell_readers(writer, seats);

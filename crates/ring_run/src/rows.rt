@@ -15,6 +15,7 @@ ghost use Rattle.ring_run.specs.Served.{AreSomeSeated, Carries, FitsFrom, StopsF
 
 use crate::Outcome;
 use crate::all_rounds::{RacksAndKeys, WriterAndFeed, run_rounds};
+use crate::banded::Banded;
 use crate::counting::RunKeyReader;
 use crate::ends::{ends_of, seats_of};
 use crate::seat::Seat;
@@ -27,6 +28,7 @@ use ring_lanes::{Ends, Reader, Ring, Writer, open_ring};
 use ring_turns::Pace;
 use std::alloc::Global;
 use std::thread::Threads;
+use std::time::Clock;
 
 /// A rack tells of its slots what it tells of the begun ones.
 fn tell_slots<R: Rack>(racks: &[R])
@@ -58,16 +60,16 @@ struct RunEnds<'r, D: Deal> {
 
 impl Run<'_> {
     /// Round after round, and how each site ended.
-    fn run_seats<T: Threads + Sync, D: Deal + Sync, F: BandFeed + Send, R: Rack + Send>(
+    fn run_seats<T: Threads + Clock + Sync, D: Deal + Sync, F: BandFeed + Send, R: Rack + Send>(
         &self,
         rt: &T,
         ends: RunEnds<'_, D>,
-        feed: &mut F,
+        feed: &mut Banded<'_, '_, T, F>,
         racks: &mut [R],
         keys: &mut [RunKeyReader<'_>],
     ) -> Result<Outcome, NoMemory>
         requires run { IsRun self.now }
-        requires feed { MayFeed (F.left feed.old) ends.writer }
+        requires feed { MayFeed (F.left feed.old.feed.now) ends.writer }
         requires places { 0 < ends.writer.ring.places }
         requires ends { AreEndsOf ends.writer (all_readers ends.seats.items ends.more.items) }
         requires sites { length ends.seats.items ≡ length self.now.plan.now.sites }
@@ -98,11 +100,11 @@ impl Run<'_> {
     }
 
     /// The same over a ring whose ends are still there.
-    fn run_on<T: Threads + Sync, D: Deal + Sync, F: BandFeed + Send, R: Rack + Send>(
+    fn run_on<T: Threads + Clock + Sync, D: Deal + Sync, F: BandFeed + Send, R: Rack + Send>(
         &self,
         rt: &T,
         table: &mut Ring<'_, D>,
-        feed: &mut F,
+        feed: &mut Banded<'_, '_, T, F>,
         racks: &mut [R],
         keys: &mut [RunKeyReader<'_>],
     ) -> Result<Outcome, NoMemory>
@@ -111,7 +113,7 @@ impl Run<'_> {
         requires places { 0 < table.old.ring.places }
         requires readers { table.old.ring.readers ≡ length self.now.plan.now.sites + length keys.old }
         requires has_rows { HasRows table.old.ring }
-        requires feed { F.left feed.old ≡ table.old.ring.rows }
+        requires feed { F.left feed.old.feed.now ≡ table.old.ring.rows }
         requires racks { length self.now.plan.now.sites ≡ length racks.old }
         requires carries { Carries (on_ring self.now.plan.now self.now.out.now table.old.ring)
             table.old.ring }
@@ -139,11 +141,16 @@ impl Run<'_> {
 
     /// Delivers the rows of a deal, which the feed gives in order, to the racks of the plan's sites, over a
     /// ring, and tells how each site ended. The key readers have the ring's last readers and count all rows.
-    pub(crate) fn run_rows<T: Threads + Sync, D: Deal + Sync, F: BandFeed + Send, R: Rack + Send>(
+    pub(crate) fn run_rows<
+        T: Threads + Clock + Sync,
+        D: Deal + Sync,
+        F: BandFeed + Send,
+        R: Rack + Send,
+    >(
         &self,
         rt: &T,
         deal: &D,
-        feed: &mut F,
+        feed: &mut Banded<'_, '_, T, F>,
         racks: &mut [R],
         keys: &mut [RunKeyReader<'_>],
     ) -> Result<Outcome, NoMemory>
@@ -156,7 +163,7 @@ impl Run<'_> {
             (ring_of self.now.ring self.now.readers (D.rows deal.now) (D.size deal.now)) keys.old }
         requires some_byte { 1 ≤ D.size deal.now }
         requires few_bytes { D.size deal.now ≤ 8258 }
-        requires feed { F.left feed.old ≡ D.rows deal.now }
+        requires feed { F.left feed.old.feed.now ≡ D.rows deal.now }
         requires racks { length self.now.plan.now.sites ≡ length racks.old }
         ensures leaves { RunLeaves
             (by_ring self.now.plan.now (map framed_row (D.rows deal.now)) self.now.out.now
@@ -165,13 +172,12 @@ impl Run<'_> {
         ensures counted { IfOk result (λ _. HaveCounted
             (ring_of self.now.ring self.now.readers (D.rows deal.now) (D.size deal.now)) keys.old keys.new) }
     {
-        // For its clause: each row has this length.
-        let _size = deal.row_len();
+        let row_len = deal.row_len();
         // A row's number is far below the word of a reader that left.
         let total = self.rows.total();
         prove!(total < u64::MAX);
         let mut table = open_ring(self.alloc, deal, self.ring, self.readers)?;
-        table.set_pauses(Pace::of(rt, self.patience).pauses);
+        table.set_pauses(Pace::of(rt, self.patience, row_len).pauses);
         self.run_on(rt, &mut table, feed, racks, keys)
     }
 }

@@ -25,21 +25,21 @@ impl<'r, D: Deal> Model for Seat<'r, D> {
 }
 
 impl<'r, D: Deal> Seat<'r, D> {
-    /// This site at this end.
+    /// Returns this site at this end.
     pub(crate) fn new(reader: Reader<'r, D>, site: RunSite) -> Seat<'r, D>
         ensures { result ≡ record { reader = reader.entry; site = site } }
     {
         Seat { reader, site }
     }
 
-    /// The site.
+    /// Returns the site.
     pub(crate) fn into_site(self) -> RunSite
         ensures { result ≡ self.entry.site }
     {
         self.site
     }
 
-    /// Whether want of memory stopped the site.
+    /// Returns whether the site ran out of memory.
     pub(crate) fn is_stopped(&self) -> bool
         ensures { result ≡ is_stopped_lem self.now.site }
     {
@@ -75,9 +75,17 @@ impl<'r, D: Deal, R: Rack> TurnWith<R> for Seat<'r, D> {
 
     ghost turned = { λ was old is new. Turned (told R.Rack old) (told R.Rack new) was is };
 
-    /// The turn of its site, whose plates are kept on this rack.
+    /// Takes the turn of its site, whose plates are kept on this rack.
     fn turn(&mut self, rack: &mut R, patience: u32) {
         self.site.turn(&mut self.reader, rack, patience);
+    }
+
+    fn rows(&self) -> Option<u64> {
+        if self.reader.goes_on() {
+            Some(self.reader.cursor())
+        } else {
+            None
+        }
     }
 
     ghost may_again = { λ x x' y y'. may_turn_again _ _ x x' };

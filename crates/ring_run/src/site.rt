@@ -9,7 +9,7 @@ use pr_rack::Rack;
 use ring_lanes::Reader;
 use site_agent::{LeftCause, Site, TurnEnd};
 
-/// A site of a run: it goes on, it has left, or want of memory stopped it.
+/// A site of a run: it continues, it has left, or it ran out of memory.
 #[derive(Debug, Drop)]
 pub(crate) enum RunSite {
     Going(Site),
@@ -18,7 +18,7 @@ pub(crate) enum RunSite {
 }
 
 impl RunSite {
-    /// Takes rows at the reader's end and keeps them, if the site goes on and rows are still to come.
+    /// Takes rows at the reader's end and keeps them, if the site continues and rows are still to come.
     pub(crate) fn turn<D: Deal, R: Rack>(
         &mut self,
         reader: &mut Reader<'_, D>,
@@ -49,7 +49,7 @@ impl RunSite {
         }
     }
 
-    /// Whether want of memory stopped it.
+    /// Returns whether it ran out of memory.
     pub(crate) fn is_stopped(&self) -> bool
         ensures { result ≡ is_stopped_lem self.now }
     {

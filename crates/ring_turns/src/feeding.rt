@@ -1,47 +1,25 @@
-// The turn of the writer at a ring: it publishes rows of a feed until it would wait too often.
+// The writer's turn at a ring: it publishes rows of a feed until it would wait too often.
 ghost use Rattle.std.specs.Prelude.{◌≡◌, ◌+◌, ◌<◌, ◌≤◌, ℕ, Some, drop, length, IfErr, OnErr, OnOk};
 ghost use Rattle.ring_lanes.specs.Writer.{HasRoom, IsFull, LooksOnce};
 ghost use Rattle.ring_turns.specs.Feeding.{Grows, HasRows, IfWaiting, IsFed, IsKnownWithin, OnDone};
 ghost use Rattle.ring_turns.specs.Feeding.{SomeJoined, WaitsFor, WaitsNoMore};
 
-use crate::turn::TurnWith;
+use crate::ahead::{Ahead, AsAsked};
 use pr_base::{Deal, RowFeed};
 use ring_lanes::{Full, Writer};
 
 /// How a turn of the writer ended.
 #[derive(Clone, Copy, Debug, PartialEq, Eq)]
 pub enum FeedEnd {
-    /// Reader `site` has yet to close row `at`, in whose place the next one will lie. So many looks of the
-    /// turn found their place taken as the caller's patience allows.
+    /// Reader number `site`, a site's or a further one's, has yet to close row `at`, whose place the next row
+    /// takes. As many looks of the turn found their place taken as the patience allows.
     Waiting { site: u32, at: u64 },
     /// All rows are published, or the writer knows that every reader left.
     Done,
 }
 
-/// The bytes of the longest row.
+/// The length of the longest row, in bytes.
 const MOST_ROW: usize = 8258;
-
-/// So many looks in vain behind a row may wait for longer.
-const LONG_WAITS: u32 = 64;
-
-/// The pauses of such a wait, some three microseconds: in them a site takes a row or some short ones.
-const LONG_PAUSES: u32 = 16;
-
-/// How many looks in vain count as behind a row that was published when the turn had made `waits` of them.
-/// Where it made some, another processor took rows meanwhile, and the next waits may be long; else none is.
-fn vain_behind(waits: u32) -> u32 {
-    if waits > 0 { 0 } else { LONG_WAITS }
-}
-
-/// Waits behind the look that follows `vain` ones in vain. While rows are taken the turn goes on for as many
-/// rows as its patience has looks. Where none is it ends after some hundreds of microseconds, since few of
-/// its waits are long.
-fn wait<D: Deal>(writer: &Writer<'_, D>, vain: u32, look: u32) {
-    let pauses = if vain < LONG_WAITS { LONG_PAUSES } else { 1 };
-    for _pause in 0..pauses {
-        writer.pause(look);
-    }
-}
 
 /// Publishes the next rows of a feed, until all are published, or every reader has left, or `patience` looks
 /// found the place of the next row taken. Takes no memory.
@@ -69,26 +47,54 @@ pub fn feed_turn<D: Deal, F: RowFeed>(
       loads = writer.new.loads;
     } }
 {
+    feed_ahead(writer, &AsAsked, feed, patience)
+}
+
+/// Does what `feed_turn` does. Before it looks for the place of a row, `ahead` may make rows of the feed.
+pub fn feed_ahead<D: Deal, F: RowFeed, A: Ahead<F>>(
+    writer: &mut Writer<'_, D>,
+    ahead: &A,
+    feed: &mut F,
+    patience: u32,
+) -> FeedEnd
+    requires ahead { A.may }
+    requires feed { F.left feed.old ≡ drop writer.old.head writer.old.ring.rows }
+    requires rows { HasRows writer.old.ring }
+    requires patience { 0 < patience }
+    ensures feed { F.left feed.new ≡ drop writer.new.head writer.new.ring.rows }
+    ensures done { OnDone result (IsFed writer.new) }
+    ensures not_done { IfWaiting result (λ site at. IsFed writer.new → ⊥) }
+    ensures waiting { IfWaiting result (WaitsFor writer.old writer.new patience) }
+    ensures waits { WaitsNoMore patience writer.old writer.new result }
+    ensures grows { Grows writer.old writer.new }
+    ensures known { IsKnownWithin writer.new }
+    ensures within { writer.new.head ≤ writer.old.ring.total }
+    ensures gets_on { writer.old.head < writer.old.ring.total → SomeJoined writer.old
+        → HasRoom writer.old → writer.old.head < writer.new.head }
+    ensures same { writer.new ≡ record writer.old {
+      head = writer.new.head;
+      known = writer.new.known;
+      loads = writer.new.loads;
+    } }
+{
     let mut buffer = [0; MOST_ROW];
     let row = &mut buffer[..writer.row_len()];
     let mut waits = 0;
-    let mut vain = LONG_WAITS;
     while writer.head() < writer.total() && writer.joined() > 0 {
+        ahead.make(feed);
         let Err(Full { site, at }) = publish_next(writer, feed, row) else {
-            vain = vain_behind(waits);
             continue;
         };
         waits += 1;
         if waits == patience {
             return FeedEnd::Waiting { site, at };
         }
-        wait(writer, vain, waits);
-        vain = vain.saturating_add(1);
+        writer.pause(waits);
     }
     FeedEnd::Done
 }
 
-/// Publishes the next row of a feed, where there is room for it. `row` is room for one.
+/// Publishes the next row of a feed if there is room for it. `row` is a buffer of a row's length.
 fn publish_next<D: Deal, F: RowFeed>(
     writer: &mut Writer<'_, D>,
     feed: &mut F,
@@ -114,22 +120,4 @@ fn publish_next<D: Deal, F: RowFeed>(
     feed.next(row);
     writer.publish(pass, row);
     Ok(())
-}
-
-impl<'r, D: Deal, F: RowFeed> TurnWith<F> for Writer<'r, D> {
-    ghost use Rattle.ring_turns.specs.Feeding.{Fed, MayFeed};
-    ghost use Rattle.ring_turns.specs.Again.{fed_again, may_feed_again};
-
-    ghost may = { λ writer feed. MayFeed (F.left feed) writer };
-
-    ghost turned = { λ was old is new. Fed (F.left new) was is };
-
-    /// The turn of the writer with this feed.
-    fn turn(&mut self, feed: &mut F, patience: u32) {
-        let _end = feed_turn(self, feed, patience);
-    }
-
-    ghost may_again = { λ x x' y y'. may_feed_again (F.left y) (F.left y') x x' };
-
-    ghost turned_again = { λ x x' x'' y y' y''. fed_again (F.left y') (F.left y'') x x' x'' };
 }

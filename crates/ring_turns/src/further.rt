@@ -1,4 +1,4 @@
-// Turns that are taken beside further ones.
+// Turns that are taken alongside further ones.
 ghost use Rattle.std.specs.Prelude.{◌≡◌, ◌<◌, ℕ, length};
 ghost use Rattle.std.specs.Thread.{IsSync};
 ghost use Rattle.ring_turns.specs.Pairs.{AreTurned, MayAllTurn};
@@ -8,9 +8,10 @@ use crate::pairs::Pairs;
 use crate::side_by_side::{turn_beside, turn_of_one, turns};
 use crate::turn::TurnWith;
 use std::thread::{Threads, join_mut};
+use std::time::Clock;
 
-/// A turn of one, and beside it those of all others and the further ones. Where there is no further one, no
-/// join is made for it.
+/// Takes the turn of one, and alongside it those of all pairs and of the further pairs. If there is no
+/// further one, no join is made for it.
 pub fn turn_all<T, W, F, X, Y, Z, V>(
     rt: &T,
     pace: Pace,
@@ -20,7 +21,7 @@ pub fn turn_all<T, W, F, X, Y, Z, V>(
     further: Pairs<'_, Z, V>,
 )
 where
-    T: Threads + Sync,
+    T: Threads + Clock + Sync,
     W: TurnWith<F> + Send,
     F: Send,
     X: TurnWith<Y> + Send,

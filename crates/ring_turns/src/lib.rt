@@ -2,6 +2,7 @@
 // processors for them. Nothing here knows of racks, sites or jobs.
 #![tactic(auto)]
 
+mod ahead;
 mod feeding;
 mod further;
 mod one_thread;
@@ -9,8 +10,10 @@ mod pace;
 mod pairs;
 mod side_by_side;
 mod turn;
+mod waiting;
 
-pub use feeding::{FeedEnd, feed_turn};
+pub use ahead::Ahead;
+pub use feeding::{FeedEnd, feed_ahead, feed_turn};
 pub use further::turn_all;
 pub use pace::Pace;
 pub use pairs::Pairs;

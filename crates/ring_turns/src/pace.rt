@@ -3,22 +3,28 @@ ghost use Rattle.std.specs.Prelude.{◌≡◌, ◌<◌, ◌≤◌};
 
 use std::thread::{Threads, available_parallelism};
 
-/// How the turns of a round are taken: how often each may wait in vain, in how many threads those of all ends
-/// but one are, whether an end pauses between two looks in vain, and whether the one takes its turn apart, in
-/// a thread of its own.
+/// The least length of a row, in bytes, at which a thread sleeps at once: a ring of 64 shorter rows is used
+/// up before a sleep is over.
+const LONG_ROW: usize = 512;
+
+/// How the turns of a round are taken: how many looks of each may be in vain, in how many threads those of
+/// all ends but one are taken, whether a thread pauses after a look in vain, whether it sleeps after the
+/// first of them, and whether the one takes its turn in a thread of its own.
 #[derive(Clone, Copy)]
 pub struct Pace {
     pub patience: u32,
     pub threads: usize,
     pub pauses: bool,
+    pub sleeps: bool,
     pub apart: bool,
 }
 
 impl Pace {
-    /// One thread for each processor but that of the one end, and at least two, since a rack may wait for
-    /// what another one does. Where the processors can't be counted each turn has a thread of its own. On one
-    /// processor nobody gets on while an end pauses, so none does.
-    pub fn of<T: Threads>(rt: &T, patience: u32) -> Pace
+    /// Returns the pace for rows of this length: one thread for each processor but that of the one end, and
+    /// at least two, since a rack may wait for another one. If the processors can't be counted, each turn has
+    /// a thread of its own. On one processor a pause would only delay the others, so a thread sleeps at once
+    /// and never pauses. With several, it sleeps at once where rows are long.
+    pub fn of<T: Threads>(rt: &T, patience: u32, row_len: usize) -> Pace
         ensures { result.patience ≡ patience }
     {
         let processors = match available_parallelism(rt) {
@@ -29,11 +35,12 @@ impl Pace {
             patience,
             threads: processors.saturating_sub(1).max(2),
             pauses: processors > 1,
+            sleeps: processors < 2 || row_len >= LONG_ROW,
             apart: false,
         }
     }
 
-    /// The same in so many threads.
+    /// Returns the same pace in this many threads.
     pub(crate) fn in_threads(self, threads: usize) -> Pace
         ensures { result.patience ≡ self.patience }
     {
@@ -41,12 +48,13 @@ impl Pace {
             patience: self.patience,
             threads,
             pauses: self.pauses,
+            sleeps: self.sleeps,
             apart: self.apart,
         }
     }
 
-    /// The same beside so many ends: where there are several, the one takes its turn apart. That costs one
-    /// thread more a round, and for one end more than it gains.
+    /// Returns the same pace alongside this many ends. If there are several, the one takes its turn in a
+    /// thread of its own. That costs one more thread a round, and with one other end more than it gains.
     pub(crate) fn beside(self, ends: usize) -> Pace
         ensures { result.patience ≡ self.patience }
     {
@@ -54,12 +62,13 @@ impl Pace {
             patience: self.patience,
             threads: self.threads,
             pauses: self.pauses,
+            sleeps: self.sleeps,
             apart: self.pauses && ends > 1,
         }
     }
 
-    /// How many of so many ends the first half of the threads take, so that no thread has two ends more than
-    /// another one.
+    /// Returns how many of this many ends the first half of the threads takes, so that no thread has two ends
+    /// more than another one.
     pub(crate) fn share(self, ends: usize) -> usize
         requires threads { 2 ≤ self.threads }
         requires ends { 2 ≤ ends }

@@ -3,15 +3,16 @@ ghost use Rattle.std.specs.Prelude.{◌≡◌, ◌<◌, ℕ, length};
 ghost use Rattle.std.specs.Thread.{IsSync};
 ghost use Rattle.ring_turns.specs.Pairs.{AreTurned, MayAllTurn};
 
-use crate::one_thread::turns_in_one_thread;
+use crate::one_thread::{turns_in_one_thread, turns_of_one};
 use crate::pace::Pace;
 use crate::turn::TurnWith;
 use std::thread::{Threads, join_mut};
+use std::time::Clock;
 
-/// The turn of each with the other at its index, in so many threads: these are halved until one is left, in
-/// which its share of them take turns over and over again.
+/// Takes the turn of each end with the value at its index, in as many threads as the pace says. They are
+/// halved until one is left, in which its share of the ends takes turns over and over again.
 #[cycle(halves)]
-pub(crate) fn turns<T: Threads + Sync, X: TurnWith<Y> + Send, Y: Send>(
+pub(crate) fn turns<T: Threads + Clock + Sync, X: TurnWith<Y> + Send, Y: Send>(
     rt: &T,
     pace: Pace,
     others: &mut [Y],
@@ -22,14 +23,8 @@ pub(crate) fn turns<T: Threads + Sync, X: TurnWith<Y> + Send, Y: Send>(
     requires patience { 0 < pace.patience }
     ensures turned { AreTurned X.turned all.old others.old all.new others.new }
 {
-    if all.len() < 2 {
-        if all.len() == 1 {
-            all[0].turn(&mut others[0], pace.patience);
-        }
-        return;
-    }
-    if pace.threads < 2 {
-        return turns_in_one_thread(others, all, pace.patience, pace.pauses);
+    if all.len() < 2 || pace.threads < 2 {
+        return turns_in_one_thread(rt, pace, others, all);
     }
     let half = pace.share(all.len());
     let (a, b) = all.split_at_mut(half);
@@ -37,9 +32,9 @@ pub(crate) fn turns<T: Threads + Sync, X: TurnWith<Y> + Send, Y: Send>(
     join_halves(rt, pace, a, b, c, d);
 }
 
-/// The turns of both halves, side by side, each in so many threads.
+/// Takes the turns of both halves side by side, each in half of the threads.
 #[cycle(halves)]
-fn join_halves<T: Threads + Sync, X: TurnWith<Y> + Send, Y: Send>(
+fn join_halves<T: Threads + Clock + Sync, X: TurnWith<Y> + Send, Y: Send>(
     rt: &T,
     pace: Pace,
     a: &mut [X],
@@ -84,7 +79,7 @@ fn join_halves<T: Threads + Sync, X: TurnWith<Y> + Send, Y: Send>(
     );
 }
 
-/// A turn of one, and beside it those of all others, in so many threads.
+/// Takes the turn of one, and alongside it those of all others, in as many threads as the pace says.
 pub(crate) fn turn_beside<T, W, F, X, Y>(
     rt: &T,
     pace: Pace,
@@ -94,7 +89,7 @@ pub(crate) fn turn_beside<T, W, F, X, Y>(
     all: &mut [X],
 )
 where
-    T: Threads + Sync,
+    T: Threads + Clock + Sync,
     W: TurnWith<F> + Send,
     F: Send,
     X: TurnWith<Y> + Send,
@@ -131,11 +126,11 @@ where
     );
 }
 
-/// The turn of the one, in this thread, so that its buffers stay on one processor; or apart, in a thread of
-/// its own, and then this one rests, so that each thread that it started begins at once.
+/// Takes the turn of the one: in this thread, so that its buffers stay in one processor's cache, or in a
+/// thread of its own while this one rests, so that each thread that it started begins at once.
 pub(crate) fn turn_of_one<T, W, F>(rt: &T, pace: Pace, its: &mut F, one: &mut W)
 where
-    T: Threads + Sync,
+    T: Threads + Clock + Sync,
     W: TurnWith<F> + Send,
     F: Send,
     requires may { W.may one.old its.old }
@@ -143,7 +138,7 @@ where
     ensures { W.turned one.old its.old one.new its.new }
 {
     if !pace.apart {
-        one.turn(its, pace.patience);
+        turns_of_one(rt, pace, its, one);
         return;
     }
     join_mut(
@@ -154,7 +149,7 @@ where
             ensures { W.turned one.entry.now its.entry.now one.exit.now its.exit.now }
         {
             let pace = pace;
-            one.turn(its, pace.patience)
+            turns_of_one(rt, pace, its, one)
         },
         &mut || {},
     );

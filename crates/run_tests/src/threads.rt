@@ -12,6 +12,7 @@ use std::hint;
 use std::process::Abort;
 use std::sync::atomic::{AtomicU64, Ordering};
 use std::thread::Threads;
+use std::time::Clock;
 
 /// What a rack does in one of its row calls.
 #[derive(Clone, Copy)]
@@ -165,12 +166,6 @@ const LONG: &str = r#"{"plan":1,"edition":"E1","dpi":1200,"page":[8,512],
 "pages":[{"name":"w","inks":"K","layers":[]}],
 "sections":[{"name":"A","pages":["w","w","w","w"]}],"sites":[{"name":"OSLO"},{"name":"BERGEN"}]}"#;
 
-// The same in 64 rows. A ring of two places is handed on at each of them, and where other work takes the
-// processors that may last as long as a thread's share of one.
-const SHORT: &str = r#"{"plan":1,"edition":"E1","dpi":1200,"page":[8,32],
-"pages":[{"name":"w","inks":"K","layers":[]}],
-"sections":[{"name":"A","pages":["w","w","w","w"]}],"sites":[{"name":"OSLO"},{"name":"BERGEN"}]}"#;
-
 /// A command over a plan of so many rows and a ring of so many readers and places, and what it reports.
 #[derive(Clone, Copy)]
 struct Order<'a> {
@@ -187,21 +182,9 @@ site BERGEN finished plates 2 rows 1024
 total rows 1024 sites 2
 ";
 
-const SHORT_REPORT: &str = "site OSLO finished plates 2 rows 64
-site BERGEN finished plates 2 rows 64
-total rows 64 sites 2
-";
-
 const KEYS_REPORT: &str = "site OSLO finished plates 2 rows 1024
 site BERGEN finished plates 2 rows 1024
 total rows 1024 sites 2
-keys 0 A-001-K 0
-keys 1 A-002-K 0
-";
-
-const SHORT_KEYS_REPORT: &str = "site OSLO finished plates 2 rows 64
-site BERGEN finished plates 2 rows 64
-total rows 64 sites 2
 keys 0 A-001-K 0
 keys 1 A-002-K 0
 ";
@@ -217,9 +200,9 @@ const RUN_AT_64: Order<'static> = Order {
 
 const RUN_AT_2: Order<'static> = Order {
     words: &["run", "plan.json", "FILES", "OUT", "2", "65536"],
-    plan: SHORT,
-    rows: 64,
-    report: SHORT_REPORT,
+    plan: LONG,
+    rows: 1024,
+    report: REPORT,
     readers: 2,
     places: 2,
 };
@@ -235,9 +218,9 @@ const KEYS_AT_64: Order<'static> = Order {
 
 const KEYS_AT_2: Order<'static> = Order {
     words: &["keys", "plan.json", "FILES", "OUT", "1", "2", "65536"],
-    plan: SHORT,
-    rows: 64,
-    report: SHORT_KEYS_REPORT,
+    plan: LONG,
+    rows: 1024,
+    report: KEYS_REPORT,
     readers: 3,
     places: 2,
 };
@@ -259,7 +242,7 @@ fn took_all(racks: &[Watched<'_>], order: Order<'_>) -> bool {
 }
 
 /// Whether the command over these racks ends well and reports.
-fn reports<'c, R: Abort + AllocGlobal + Threads + Sync>(
+fn reports<'c, R: Abort + AllocGlobal + Threads + Clock + Sync>(
     rt: &R,
     order: Order<'_>,
     racks: &mut [Watched<'c>],
@@ -275,7 +258,7 @@ fn reports<'c, R: Abort + AllocGlobal + Threads + Sync>(
 }
 
 /// Does the command over racks that wait so for each other.
-fn run_watched<R: Abort + AllocGlobal + Threads + Sync>(
+fn run_watched<R: Abort + AllocGlobal + Threads + Clock + Sync>(
     rt: &R,
     order: Order<'_>,
     stops: [Stop; 2],
@@ -286,7 +269,7 @@ fn run_watched<R: Abort + AllocGlobal + Threads + Sync>(
 }
 
 /// Does the command, and gives how often a rack was alone.
-fn times_alone<R: Abort + AllocGlobal + Threads + Sync>(
+fn times_alone<R: Abort + AllocGlobal + Threads + Clock + Sync>(
     rt: &R,
     order: Order<'_>,
     stops: [Stop; 2],
@@ -302,7 +285,7 @@ fn times_alone<R: Abort + AllocGlobal + Threads + Sync>(
 }
 
 /// In one of four runs no rack is alone.
-fn assert_meet<R: Abort + AllocGlobal + Threads + Sync>(
+fn assert_meet<R: Abort + AllocGlobal + Threads + Clock + Sync>(
     rt: &R,
     order: Order<'_>,
     stops: [Stop; 2],

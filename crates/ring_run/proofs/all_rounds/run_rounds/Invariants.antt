@@ -10,7 +10,7 @@ use Rattle.ring_run.proofs.all_rounds.run_rounds.Given as goal
 
 abbrev pub invariant-loop-pace : goal.invariant-loop-pace
 invariant-loop-pace g l = record {
-  feed : MayFeed (g.F.RowFeed.left l.feed) l.writer;
+  feed : MayFeed (g.F.RowFeed.left l.feed.feed.now) l.writer;
   ring : l.writer.ring ≡ l.initial.writer.ring;
   ends : AreEndsOf l.writer (all_readers l.seats l.more);
   some : AreSomeSeated (all_told g.R.Rack l.racks) l.seats;

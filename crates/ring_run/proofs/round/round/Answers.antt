@@ -33,10 +33,11 @@ tell_readers-requires-2 g c = record {
 
 pub turn_all-requires-clause-may_one : goal.turn_all-requires-clause-may_one
 turn_all-requires-clause-may_one g c κs within =
-    let same = noted_both c.args.writer.now c.tell_writer.new.writer c.tell_writer-2.new.writer c.tell_writer.ensures.same c.tell_writer-2.ensures.same in
-    subst (λ left. MayFeed left c.tell_readers-2.new.writer) (sym c.make_band.ensures)
-    (subst (λ (w : WriterState). MayFeed (g.F.RowFeed.left c.args.feed.now) w) (sym (c.tell_readers-2.ensures.same ∙ c.tell_readers.ensures.same))
-    (feed_noted (g.F.RowFeed.left c.args.feed.now) c.args.writer.now c.tell_writer-2.new.writer same c.requires.feed))
+    let same = noted_both c.args.writer.now c.tell_writer.new.writer c.tell_writer-2.new.writer c.tell_writer.ensures.same c.tell_writer-2.ensures.same in (
+      subst (λ (w : WriterState). MayFeed (g.F.RowFeed.left c.args.feed.now.feed.now) w) (sym (c.tell_readers-2.ensures.same ∙ c.tell_readers.ensures.same))
+          (feed_noted (g.F.RowFeed.left c.args.feed.now.feed.now) c.args.writer.now c.tell_writer-2.new.writer same c.requires.feed),
+      record { shared = c.type_bounds.sync-T.shared },
+    )
 
 pub turn_all-requires-clause-count : goal.turn_all-requires-clause-count
 turn_all-requires-clause-count g c κs within = c.tell_readers.auto.ends ∙ c.tell_writer.auto.ends ∙ c.requires.count
@@ -64,7 +65,7 @@ returns g c =
     let more-are = c.tell_writer-2.ensures.ends in
     let same = noted_both w c.tell_writer.new.writer noted c.tell_writer.ensures.same c.tell_writer-2.ensures.same in
     let heard = c.tell_readers.ensures.same in
-    let leaves = round_leaves tell (g.F.RowFeed.left c.turn_all.new.its) w noted c.turn_all.new.one c.tell_writer.new.writer.known c.args.sites.all.now c.tell_readers.new.ends c.turn_all.new.pairs.0 c.args.further.all.now c.tell_readers-2.new.ends
+    let leaves = round_leaves tell (g.F.RowFeed.left c.turn_all.new.its.feed.now) w noted c.turn_all.new.one c.tell_writer.new.writer.known c.args.sites.all.now c.tell_readers.new.ends c.turn_all.new.pairs.0 c.args.further.all.now c.tell_readers-2.new.ends
     c.turn_all.new.further.0 c.args.sites.others.now c.turn_all.new.pairs.1.0 c.args.further.others.now c.turn_all.new.further.1.0 c.requires.ends c.requires.places c.requires.count c.requires.more same
     (subst (λ (s : _). KnowsAll (λ (seat : SeatData). seat.reader) c.tell_writer.new.writer.known s) seats-are c.tell_writer.ensures.knows) c.tell_writer-2.ensures.more
     (subst (λ (s : _). KnowsAll (λ (reader : ReaderState). reader) noted.known s) more-are c.tell_writer-2.ensures.knows)
@@ -73,7 +74,7 @@ returns g c =
     (subst (λ (w' : WriterState). AreTold IsTold w' c.args.further.all.now c.tell_readers-2.new.ends) heard
     (subst (λ (s : _). AreTold IsTold c.tell_readers.new.writer s c.tell_readers-2.new.ends) more-are c.tell_readers-2.ensures.told))
     c.turn_all.auto.pairs.0 c.turn_all.auto.further.0 c.turn_all.auto.pairs.1.0 c.turn_all.auto.further.1.0 c.turn_all.ensures.turned c.turn_all.ensures.further
-    (subst (λ (w' : WriterState). Fed (g.F.RowFeed.left c.turn_all.new.its) w' c.turn_all.new.one) (c.tell_readers-2.ensures.same ∙ heard) c.turn_all.ensures.one) in
+    (subst (λ (w' : WriterState). Fed (g.F.RowFeed.left c.turn_all.new.its.feed.now) w' c.turn_all.new.one) (c.tell_readers-2.ensures.same ∙ heard) c.turn_all.ensures.one) in
     record {
       feed = record { feed = c.turn_all.ensures.one.feed; rows = subst (λ (r : RingNumbers). HasRows r) (sym leaves.ring) c.requires.feed.rows };
       ring = leaves.ring;

@@ -31,7 +31,7 @@ returns-in-Waiting g c =
     record {
       turned = subst (λ (s : RunSite). Turned old new (record { reader = c.args.reader.now; site = s }) (record { reader = c.turn.new.reader; site = Going c.turn.new.self })) (sym c.in-Going.is)
           (turned_on old new c.args.reader.now c.turn.new.reader c.in-Going.site c.turn.new.self c.turn.ensures.reader c.in-Waiting.ensures.joined joined c.turn.ensures.grows c.turn.ensures.within c.turn.ensures.gets_on
-          c.in-Waiting.ensures.stands c.in-Waiting.ensures.goes_on c.turn.ensures.faults_stay);
+          c.in-Waiting.ensures.stands c.in-Waiting.ensures.goes_on c.in-Waiting.ensures.done_missed c.turn.ensures.faults_stay);
     }
 
 pub returns-in-Finished : goal.returns-in-Finished
@@ -42,7 +42,7 @@ returns-in-Finished g c =
     record {
       turned = subst (λ (s : RunSite). Turned old new (record { reader = c.args.reader.now; site = s }) (record { reader = c.turn.new.reader; site = Going c.turn.new.self })) (sym c.in-Going.is)
           (turned_on old new c.args.reader.now c.turn.new.reader c.in-Going.site c.turn.new.self c.turn.ensures.reader c.in-Finished.ensures.joined joined c.turn.ensures.grows c.turn.ensures.within c.turn.ensures.gets_on
-          c.in-Finished.ensures.stands c.in-Finished.ensures.goes_on c.turn.ensures.faults_stay);
+          c.in-Finished.ensures.stands c.in-Finished.ensures.goes_on c.in-Finished.ensures.done_missed c.turn.ensures.faults_stay);
     }
 
 pub returns-in-Left : goal.returns-in-Left
@@ -64,5 +64,5 @@ returns-in-Memory g c =
     record {
       turned = subst (λ (s : RunSite). Turned old new (record { reader = c.args.reader.now; site = s }) (record { reader = c.turn.new.reader; site = Stopped })) (sym c.in-Going.is)
           (turned_out old new c.args.reader.now c.turn.new.reader c.in-Going.site c.turn.ensures.reader c.in-Memory.ensures.leaves joined c.in-Memory.ensures.closes c.turn.ensures.within c.in-Memory.ensures.memory_stands
-          c.turn.ensures.faults_stay);
+          c.in-Memory.ensures.memory_missed c.turn.ensures.faults_stay);
     }

@@ -1,7 +1,7 @@
 use Rattle.std.proofs.Common.{◌≡◌, ◌+◌, ◌-◌, ◌<◌, ◌⊎◌, drop}
 use Rattle.ring_lanes.specs.Writer.{HasRoom}
 use Rattle.ring_turns.proofs.Feeds.{HasFed}
-use Rattle.ring_turns.proofs.feeding.feed_turn.Given as goal
+use Rattle.ring_turns.proofs.feeding.feed_ahead.Given as goal
 
 abbrev pub invariant-loop-writer : goal.invariant-loop-writer
 invariant-loop-writer g l =

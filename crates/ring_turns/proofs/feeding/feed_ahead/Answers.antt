@@ -1,6 +1,6 @@
 use Rattle.std.proofs.Common.{◌≡◌, ◌+◌, ◌<◌, refl, inr, arith}
 use Rattle.ring_turns.proofs.Feeds.{fed_full, fed_on, not_fed, stuck, waits_for}
-use Rattle.ring_turns.proofs.feeding.feed_turn.Goals as goal
+use Rattle.ring_turns.proofs.feeding.feed_ahead.Goals as goal
 
 pub loop-writer-preserved-in_default : goal.loop-writer-preserved-in_default
 loop-writer-preserved-in_default g c =
