@@ -58,7 +58,7 @@ fn file_fault<R: Abort + AllocGlobal>(rt: &R, file: &str, tag: u16) -> FileFault
     }
 }
 
-// Whether a fault is that of this file and tag.
+// Returns whether a fault is the one of this file and tag.
 fn is_of<R: Abort + AllocGlobal>(rt: &R, fault: &FileFault, file: &str, tag: u16) -> bool {
     *fault == file_fault(rt, file, tag)
 }

@@ -1,4 +1,4 @@
-// What is to be kept is flushed, and then synced.
+// Keeping a file: it is flushed, and then synced.
 use crate::checks::check;
 use pr_base::Counted;
 use std::fs::{Metadata, OpenFile};
@@ -6,14 +6,14 @@ use std::io;
 use std::io::Write;
 use std::process::Abort;
 
-/// A file that takes all bytes, and whose flush or sync may fail.
+/// A file that accepts all bytes, and whose flush or sync may fail.
 #[derive(Drop)]
 struct Unsure {
     flushes: bool,
     syncs: bool,
 }
 
-/// What a call answers that is done, or isn't.
+/// The result of a call that succeeds or fails.
 fn answer(done: bool) -> io::Result<()> {
     if done {
         Ok(())
@@ -50,7 +50,7 @@ impl OpenFile for Unsure {
     }
 }
 
-/// A call of `keep` is done exactly where both are, and otherwise counted.
+/// Asserts that `keep` succeeds exactly where flush and sync both do, and counts a failure otherwise.
 fn assert_keeps(rt: &impl Abort, flushes: bool, syncs: bool) {
     let kept = flushes && syncs;
     let mut file = Counted::new(Unsure { flushes, syncs }, 4);

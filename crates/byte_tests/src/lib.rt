@@ -1,4 +1,5 @@
-// Tests of what reads and writes bytes: faults, shelves and sinks, PackBits, plates' tails, and made files.
+// Tests of the crates that read and write bytes: faults, shelves and sinks, PackBits, the tails of plates,
+// and generated files.
 #![tactic(auto)]
 
 #[cfg(test)]

@@ -1,5 +1,5 @@
-// Made files beside their bytes, worked by hand from TIFF 6.0: one of a strip, one of planes, one that is
-// packed.
+// Generated files compared with their bytes, worked out by hand from TIFF 6.0: one in one strip, one in
+// planes, one packed.
 ghost use Rattle.tif_make.specs.Form.{IsForm};
 ghost use Rattle.tif_make.specs.Made.{HasRows};
 
@@ -7,7 +7,7 @@ use crate::checks::check;
 use std::process::Abort;
 use tif_make::{Compression, ImageForm, Kind, Order, Planar, make_image};
 
-// Four pixels in a row with 1, 127, 31 and 255 of black.
+// A row of four pixels with 1, 127, 31 and 255 of black.
 const FOUR_PIXELS: [u8; 146] = [
     0x49, 0x49, 42, 0, 8, 0, 0, 0, //
     9, 0, //
@@ -25,8 +25,8 @@ const FOUR_PIXELS: [u8; 146] = [
     0, 0, 0, 1, 0, 0, 0, 127, 0, 0, 0, 31, 0, 0, 0, 255, //
 ];
 
-// Two rows of one pixel in four planes of two strips each, most significant byte first: the directory, and
-// what stands behind it from byte 134 on.
+// Two rows of one pixel, in four planes of two strips each, big-endian: the directory, and the data after it
+// from byte 134 on.
 const PLANES: [u8; 214] = [
     0x4D, 0x4D, 0, 42, 0, 0, 0, 8, //
     0, 10, //
@@ -49,7 +49,7 @@ const PLANES: [u8; 214] = [
     1, 5, 2, 6, 3, 7, 4, 8, //
 ];
 
-// Linework of two rows, each in a strip of its own and packed.
+// Linework of two rows, each packed in a strip of its own.
 const PACKED: [u8; 144] = [
     0x49, 0x49, 42, 0, 8, 0, 0, 0, //
     9, 0, //

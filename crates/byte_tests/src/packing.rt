@@ -1,8 +1,8 @@
-// PackBits both ways: worked rows, awkward streams, and frames.
+// PackBits in both directions: worked rows, awkward streams, and frames.
 use crate::checks::check;
 use tif_packbits::{Short, Unpacker, frame_len, frame_row, framed, pack_bound, pack_row};
 
-// The bytes begin so, and behind that nothing was written.
+// Returns whether the buffer starts with these bytes and the rest of it is untouched.
 fn begin(bytes: &[u8; 300], front: &[u8]) -> bool {
     if front.len() > 300 {
         return false;
@@ -11,25 +11,26 @@ fn begin(bytes: &[u8; 300], front: &[u8]) -> bool {
     written == front && rest.iter().all(|byte| *byte == 0xEE)
 }
 
-/// Asked for more, `packed` gives exactly `row`, and what lies past it is unchanged.
+/// Returns whether `packed` expands to exactly `row` when more is asked for, and leaves the rest of the
+/// buffer untouched.
 fn expands(packed: &[u8], row: &[u8]) -> bool {
     let mut into = [0xEE; 300];
     let mut unpacker = Unpacker::new(packed);
     unpacker.fill(&mut into) == Err(Short) && begin(&into, row) && ends(&mut unpacker)
 }
 
-/// The packing of `row` is `packed`, and what lies past it is unchanged.
+/// Returns whether `row` packs to `packed`, and leaves the rest of the buffer untouched.
 fn packs(row: &[u8], packed: &[u8]) -> bool {
     let mut into = [0xEE; 300];
     row.len() <= 256 && pack_row(row, &mut into) == packed.len() && begin(&into, packed)
 }
 
-// No byte is left.
+// Returns whether no byte is left.
 fn ends(unpacker: &mut Unpacker<'_>) -> bool {
     unpacker.byte().is_none()
 }
 
-// The next bytes, one by one, are these.
+// Returns whether the next bytes, read one by one, are these.
 fn gives(unpacker: &mut Unpacker<'_>, bytes: &[u8]) -> bool {
     for byte in bytes {
         if unpacker.byte() != Some(*byte) {
@@ -39,13 +40,13 @@ fn gives(unpacker: &mut Unpacker<'_>, bytes: &[u8]) -> bool {
     true
 }
 
-// The next two bytes at once are these.
+// Returns whether the next two bytes, read at once, are these.
 fn fills(unpacker: &mut Unpacker<'_>, bytes: [u8; 2]) -> bool {
     let mut into = [0; 2];
     unpacker.fill(&mut into).is_ok() && into == bytes
 }
 
-// So many bytes can be passed over.
+// Returns whether `n` bytes can be skipped.
 fn skips(unpacker: &mut Unpacker<'_>, n: u64) -> bool {
     unpacker.skip(n).is_ok()
 }
@@ -117,7 +118,7 @@ fn packs_rows(rt: HostRuntime) {
     check(&rt, &packed);
 }
 
-// Bytes 0 and 1 in turn.
+// Fills a row with 0 and 1 alternately.
 fn alternate(row: &mut [u8]) {
     for (i, byte) in row.iter_mut().enumerate() {
         *byte = (i % 2) as u8;
@@ -134,7 +135,7 @@ fn cuts_literals(rt: HostRuntime) {
     check(&rt, &[len == 131, front, packed.ends_with(&[0, 1, 0, 0])]);
 }
 
-// The bound of a row of so many bytes, which are 65,535 at most.
+// Returns whether the bound of a row of `n` bytes is `bound`. A row has at most 65,535 bytes.
 fn is_bound(n: usize, bound: usize) -> bool {
     n <= 65_535 && pack_bound(n) == bound
 }

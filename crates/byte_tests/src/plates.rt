@@ -1,5 +1,5 @@
-// The tails of the smallest plate, of one whose rows end at an odd place, and of one of two strips. The bytes
-// are those of hex dumps.
+// The tails of the smallest plate, of one whose rows end at an odd offset, and of one of two strips. The
+// expected bytes are hex dumps.
 ghost use Rattle.std.specs.Prelude.{◌≡◌, ◌≤◌, length};
 ghost use Rattle.tif_plate.specs.Plate.{IsSide, strip_count};
 ghost use Rattle.tif_plate.specs.Tail.{IsPlaceable, tail_room};
@@ -8,7 +8,7 @@ use crate::checks::check;
 use std::process::Abort;
 use tif_plate::{Tail, plate_front, plate_tail, rows_per_strip, strips};
 
-// Behind the packed row 00 90 of a plate of 4 by 1 pixels at 1200 dpi.
+// The tail after the packed row 00 90 of a plate of 4 by 1 pixels at 1200 dpi.
 const FOUR_BY_ONE: [u8; 166] = [
     0x0C, 0, //
     0x00, 1, 4, 0, 1, 0, 0, 0, 4, 0, 0, 0, //
@@ -28,8 +28,8 @@ const FOUR_BY_ONE: [u8; 166] = [
     0xB0, 4, 0, 0, 1, 0, 0, 0, //
 ];
 
-// The tail of a plate of 1200 dpi is so long, and its directory stands at this place of the plate. Gives its
-// bytes, and behind them nothing was written.
+// Asserts the length of the tail of a plate at 1200 dpi and the offset of its directory in the plate, and
+// that nothing is written after it. Returns the buffer, which starts with the tail.
 fn tail_of(rt: &impl Abort, width: u32, height: u32, counts: &[u32], want: Tail) -> [u8; 183]
     requires width { IsSide width }
     requires height { IsSide height }

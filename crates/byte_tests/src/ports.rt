@@ -1,4 +1,4 @@
-// Shelves and sinks, in memory and on the machine, and streams whose calls fail.
+// Shelves and sinks, in memory and on the host, and streams whose calls fail.
 use crate::checks::check;
 use pr_base::{Counted, PathText};
 use pr_ports::{HostShelf, LoadFault, MemShelf, MemSink, Shelf, Sink, SinkFault, WriterSink};
@@ -8,7 +8,7 @@ use std::process::Abort;
 use std::test::Fail;
 use std::{env, fs, io, process};
 
-/// A call of `load` gives these bytes, or fails in this way.
+/// Returns whether `load` returns these bytes, or fails in this way.
 fn loads<S: Shelf>(shelf: &mut S, path: &str, limit: u64, want: Result<&[u8], LoadFault>) -> bool {
     match shelf.load(path, limit) {
         Ok(bytes) => Ok(bytes.as_slice()) == want,
@@ -40,13 +40,14 @@ fn shelf_of<R: Abort + AllocGlobal>(rt: &R) -> MemShelf {
     MemShelf::new(alloc, files, failing)
 }
 
-/// A file of this test process in the folder for such files.
+/// Returns the path of a file of this test process in the directory for temporary files.
 fn own_file(rt: &HostRuntime, name: &str) -> Result<PathBuf, Fail> {
     let name = format!(in rt.alloc(); "plateroom-{name}-{}", process::id(rt.process()))?;
     Ok(env::temp_dir(rt)?.join(rt.alloc(), name)?)
 }
 
-// A file of so many bytes, and the next smaller limit.
+// Writes a file of these bytes, and returns whether it loads with its length as the limit, and is too long
+// for a limit of one byte less.
 fn reads<S: Shelf>(rt: &HostRuntime, shelf: &mut S, path: &str, bytes: &[u8]) -> bool {
     let limit = bytes.len() as u64;
     let less = limit.saturating_sub(1);
@@ -55,7 +56,7 @@ fn reads<S: Shelf>(rt: &HostRuntime, shelf: &mut S, path: &str, bytes: &[u8]) ->
         && loads(shelf, path, less, Err(LoadFault::TooLong { limit: less }))
 }
 
-// The longer file takes more than one read, and the folder / opens and can't be read.
+// The longer file takes more than one read. The directory / can be opened but not read.
 fn reads_and_refuses<S: Shelf>(rt: &HostRuntime, shelf: &mut S, path: &str) -> [bool; 5] {
     [
         reads(rt, shelf, path, b"plate"),
@@ -75,7 +76,7 @@ fn the_machines_shelf_reads_a_file_and_refuses_others(rt: HostRuntime) -> Result
     Ok(())
 }
 
-/// A file whose reads give three bytes each, and of which the third read fails.
+/// A file whose reads return three bytes each, and whose third read fails.
 #[derive(Drop)]
 struct Broken {
     reads: u8,
@@ -91,7 +92,7 @@ impl Read for Broken {
     }
 }
 
-// A read gives so many bytes, and so many calls have failed then.
+// Returns whether a read returns this many bytes, and this many calls have failed then.
 fn counts(file: &mut Counted<Broken>, read: Option<usize>, faults: u64) -> bool {
     file.read(&mut [0; 9]) == read && file.faults() == faults
 }
@@ -108,7 +109,7 @@ fn a_read_that_fails_midway_is_counted(rt: HostRuntime) {
     check(&rt, &counted);
 }
 
-/// A call of `put` is taken, or fails in this way.
+/// Returns whether `put` succeeds, or fails in this way.
 fn puts<S: Sink>(sink: &mut S, bytes: &[u8], want: Result<(), SinkFault>) -> bool {
     sink.put(bytes) == want
 }
@@ -126,7 +127,7 @@ fn a_sink_in_memory_fails_where_told(rt: HostRuntime) {
     check(&rt, &put);
 }
 
-// Makes this file, and each of these pieces is put into it with this answer.
+// Creates this file, and returns whether `put` returns this for each of these pieces.
 fn writes(rt: &HostRuntime, path: &str, pieces: &[&[u8]], want: Result<(), SinkFault>) -> bool {
     let Ok(file) = fs::create(rt, path) else {
         return false;
@@ -140,7 +141,7 @@ fn writes(rt: &HostRuntime, path: &str, pieces: &[&[u8]], want: Result<(), SinkF
     true
 }
 
-// The file has these bytes, and then goes.
+// Returns whether the file has these bytes, and removes it.
 fn has(rt: &HostRuntime, path: &str, bytes: &[u8]) -> bool {
     let Ok(written) = fs::read(rt, path) else {
         return false;
@@ -161,7 +162,7 @@ fn a_writer_sink_writes_a_file_and_tells_a_full_device(rt: HostRuntime) -> Resul
     Ok(())
 }
 
-/// A writer that takes two bytes at most in each call, and whose flush may fail.
+/// A writer that accepts at most two bytes a call, and whose flush may fail.
 #[derive(Drop)]
 struct Slow<'a> {
     into: &'a mut Vec<u8>,

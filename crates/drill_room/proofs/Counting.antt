@@ -1,9 +1,9 @@
--- Counting the 1 bits of bytes that are given one by one.
+-- Counting the 1 bits of bytes given one by one.
 use Rattle.std.proofs.Common.{◌≡◌, ℕ, zero, suc, ◌+◌, ◌*◌, ◌≤◌, List, [], ◌∷◌, ◌++◌, take, drop, count_ones, refl, ap, sym, ◌∙◌, add-one, arith}
 use Rattle.std.proofs.lemmas.List.Sums.{sum_by_push}
 use Rattle.drill_room.specs.Dots.{row_dots}
 
--- of these bytes so many are counted, and those are left
+-- the first `count` of these bytes are counted, and the others are left
 pub record HasCounted (all left : List ℕ) (count ones : ℕ) : Type 0 where
   pub left_is : left ≡ drop count all
   pub ones_are : ones ≡ row_dots (take count all)
@@ -12,7 +12,7 @@ pub record HasCounted (all left : List ℕ) (count ones : ℕ) : Type 0 where
 pub counted_none : (all : List ℕ) → HasCounted all all 0 0
 counted_none all = record { left_is = refl; ones_are = refl; few = omega arith }
 
--- the byte at a place, and what is before and behind it
+-- the byte at an index, and the bytes before and after it
 next_is : (all : List ℕ) (i byte : ℕ) (next : List ℕ) → drop i all ≡ byte ∷ next
     → (next ≡ drop (suc i) all) × (take (suc i) all ≡ take i all ++ byte ∷ [])
 next_is [] zero byte next h = cc
@@ -21,7 +21,7 @@ next_is (x ∷ xs) zero byte next h = (cc, let e : x ≡ byte = cc in ap {A = �
 next_is (x ∷ xs) (suc i) byte next h =
     let parts = next_is xs i byte next h in (parts.0, ap {A = List ℕ} (λ l. x ∷ l) parts.1)
 
--- one byte more
+-- one more byte
 pub counted_more : (all left next : List ℕ) (count ones byte : ℕ) → HasCounted all left count ones → left ≡ byte ∷ next
     → (more : ℕ) → more ≡ count_ones byte → more ≤ 8 → HasCounted all next (count + 1) (ones + more)
 counted_more all left next count ones byte h is more is_more eight =
@@ -32,7 +32,7 @@ counted_more all left next count ones byte h is more is_more eight =
       few = omega (arith, h.few, eight);
     }
 
--- where none is left, all are counted
+-- if none is left, all are counted
 ended : (all : List ℕ) (i n : ℕ) → [] ≡ drop i all → i ≤ n → take i all ≡ take n all
 ended [] zero zero h less = refl
 ended [] zero (suc n) h less = refl

@@ -1,4 +1,4 @@
--- The dots of a plate are the 1 bits of what its packed rows expand to.
+-- The dots of a plate are the 1 bits of the expansion of its packed rows.
 use Rattle.std.proofs.Common.{◌≡◌, ℕ, suc, ◌+◌, ◌*◌, List, [], ◌∷◌, ◌++◌, take, length, map, All, sum_by, flat_map, count_ones, refl, ap, sym, ◌∙◌, append_assoc, length-append, add_comm, mul-suc, mul-zero, arith}
 use Rattle.std.proofs.Math.Seq.{take-append_seam}
 use Rattle.std.proofs.lemmas.List.Sums.{sum_by-append, sum_by-cons}
@@ -8,12 +8,12 @@ use Rattle.tif_packbits.proofs.Packing.{expansion-packing}
 use Rattle.tif_plate.specs.Plate.{bytes_behind, plate_file, rows_end, strip_counts, strip_places}
 use Rattle.drill_room.specs.Dots.{HasSides, all_dots, file_dots, plate_dots, row_dots}
 
--- rows one behind the other
+-- rows concatenated
 abbrev joined : List (List ℕ) → List ℕ
 joined [] = []
 joined (row ∷ rows) = row ++ joined rows
 
--- what packed rows expand to
+-- the expansion of packed rows
 expands : (rows : List (List ℕ)) (more : List ℕ) → expansion (flat_map packing rows ++ more) ≡ joined rows ++ expansion more
 expands [] more = refl
 expands (row ∷ rows) more =
@@ -60,7 +60,7 @@ all_of width dpi height (rows ∷ plates) sides =
     ∙ ap (λ n. plate_dots rows + n) (all_of width dpi height plates (λ k d less. sides (suc k) d (omega (arith, less))))
     ∙ sym (sum_by-cons plate_dots rows plates)
 
--- those of all files
+-- the dots of all files
 pub all_plates : (width dpi height : ℕ) (files : List (List ℕ)) (plates : List (List (List ℕ)))
     → files ≡ map (plate_file width dpi) plates → All (HasSides width height) plates
     → sum_by (file_dots (row_size width * height)) files ≡ all_dots plates

@@ -8,11 +8,11 @@ use Rattle.tif_packbits.specs.Packbits.{expansion}
 abbrev pub row_dots : List ℕ → ℕ
 row_dots row = sum_by count_ones row
 
--- those of the rows of a plate
+-- the dots of the rows of a plate
 abbrev pub plate_dots : List (List ℕ) → ℕ
 plate_dots rows = sum_by row_dots rows
 
--- those of all plates
+-- the dots of all plates
 abbrev pub all_dots : List (List (List ℕ)) → ℕ
 all_dots plates = sum_by plate_dots plates
 
@@ -27,11 +27,11 @@ pub record HasSides (width height : ℕ) (rows : List (List ℕ)) : Type 0 where
 abbrev pub row_bytes_of : ℕ → ℕ → ℕ
 row_bytes_of width height = row_size width * height
 
--- the 1 bits of the first bytes, so many of them, that packed bytes expand to
+-- the 1 bits of the first `count` bytes that packed bytes expand to
 abbrev pub ones_in : ℕ → List ℕ → ℕ
 ones_in count packed = row_dots (take count (expansion packed))
 
--- those behind the first eight bytes of a file
+-- the 1 bits of the packed bytes after the first eight bytes of a file
 abbrev pub file_dots : ℕ → List ℕ → ℕ
 file_dots count file = ones_in count (drop 8 file)
 

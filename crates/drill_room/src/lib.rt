@@ -1,5 +1,5 @@
-// What a drill runs on: a shelf and racks in memory that don't fail, and the count of the dots on the plates
-// that lie on them.
+// The environment of a drill: a shelf and racks in memory that never fail, and the count of the dots on the
+// finished plates.
 #![tactic(auto)]
 
 mod dots;

@@ -1,4 +1,4 @@
-// A rack in memory of which no call fails.
+// A rack in memory that never fails.
 ghost use Rattle.std.specs.Prelude.{◌≡◌, [], None, Some, is_some, map, refl};
 ghost use Rattle.pr_rack.specs.Mem.{empty_slots, files_of as plates_of};
 
@@ -8,7 +8,7 @@ use ring_lanes::Held;
 use std::alloc::Global;
 use std::marker::Model;
 
-/// A rack in memory of which no call fails but for want of memory.
+/// A rack in memory on which no call fails, except for lack of memory.
 #[derive(Debug, Drop)]
 pub struct SureRack {
     rack: MemRack,
@@ -26,7 +26,7 @@ impl Model for SureRack {
 }
 
 impl SureRack {
-    /// An empty rack.
+    /// Returns an empty rack.
     pub fn new(alloc: Global) -> SureRack
         ensures slots { result.slots ≡ empty_slots }
         ensures files { result.files ≡ [] }

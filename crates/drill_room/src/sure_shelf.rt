@@ -1,4 +1,4 @@
-// A shelf in memory that fails only where it holds nothing.
+// A shelf in memory that fails only for paths it does not hold.
 ghost use Rattle.std.specs.Prelude.{◌≡◌, [], None, Some, map, nat_eq};
 ghost use Rattle.std.specs.Cmp.Lexicographic.{pointwise};
 ghost use Rattle.std.specs.List.{IsDistinct};
@@ -11,7 +11,7 @@ use pr_ports::{LoadFault, MemShelf, Shelf};
 use std::alloc::Global;
 use std::marker::Model;
 
-/// A shelf in memory of which no load fails but that of a path that isn't held.
+/// A shelf in memory on which a load fails only if the path is not held.
 #[derive(Debug, Drop)]
 pub struct SureShelf {
     shelf: MemShelf,
@@ -29,7 +29,7 @@ impl Model for SureShelf {
 }
 
 impl SureShelf {
-    /// A shelf of these files.
+    /// Returns a shelf of these files.
     pub fn new(alloc: Global, files: Vec<(PathText, Vec<u8>)>) -> SureShelf
         requires { IsDistinct (pointwise nat_eq) (map (λ file. file.0) (files_of files.items)) }
         ensures files { result.files ≡ files_of files.items }
@@ -39,11 +39,11 @@ impl SureShelf {
         }
     }
 
-    /// What the last failed load asked for isn't held.
+    /// States that the path of the last failed load is not held.
     pub fn lacks_what_it_missed(&self)
         ensures { ForSome self.now.missed (λ path. held_at self.now.files path ≡ None) }
     {
-        // For what always holds of it.
+        // Reading the field makes the invariant available to the proof.
         let _shelf = &self.shelf;
     }
 }

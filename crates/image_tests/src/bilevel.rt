@@ -1,5 +1,5 @@
-// A bilevel image of 8 by 2 pixels as linework and as a mask, and what its tests answer once a byte is
-// another.
+// A bilevel image of 8 by 2 pixels, as linework and as a mask, and the results of its tests after a byte is
+// changed.
 ghost use Rattle.std.specs.Prelude.{◌≡◌};
 ghost use Rattle.tif_strips.specs.Strips.{row_length};
 
@@ -11,12 +11,12 @@ use std::test::Fail;
 use tif_image::{Bilevel, BilevelUse};
 use tif_strips::Shape;
 
-// What the tests of a file answer.
+// Returns the shape or the fault that the tests of a file give.
 fn answer(bytes: &[u8], usage: BilevelUse) -> Result<Shape, TagFault> {
     Ok(Bilevel::check(bytes, usage)?.shape())
 }
 
-// The file with these changes is refused with this fault.
+// Asserts that the file with these changes is rejected with this fault.
 fn assert_refused(
     rt: &impl Abort,
     changes: &[(usize, u8)],
@@ -31,7 +31,7 @@ fn assert_refused(
     );
 }
 
-// The marked pixels of a row, the first in the highest bit.
+// Returns the marked pixels of a row; the first is the highest bit.
 fn marks(image: &Bilevel<'_>, row: [u8; 1]) -> u8
     requires width { image.now.shape.width ≡ 8 }
     requires row { row_length image.now.shape ≡ 1 }
@@ -43,8 +43,8 @@ fn marks(image: &Bilevel<'_>, row: [u8; 1]) -> u8
     marks
 }
 
-// The file with these changes has two rows AA, of which these pixels are marked, also where it is opened
-// again.
+// Asserts that the file with these changes has two rows of the byte AA, and that these of their pixels are
+// marked, also when it is opened again without tests.
 fn assert_image(
     rt: &impl Abort,
     changes: &[(usize, u8)],
@@ -102,7 +102,7 @@ fn names_the_first_test_that_fails(rt: HostRuntime) {
     const CASES: [(&[(usize, u8)], u16, FaultKind); 18] = [
         (&[(2, 43)], 0, Header),
         (&[(8, 0)], 0, Directory),
-        // The entry of 279 becomes one of a tile.
+        // The entry of 279 becomes the entry of a tile field.
         (&[(106, 0x42), (18, 0)], 322, Tiled),
         (&[(18, 0), (30, 0)], 256, Width),
         (&[(30, 0), (90, 4)], 257, Length),
@@ -111,7 +111,7 @@ fn names_the_first_test_that_fails(rt: HostRuntime) {
         (&[(54, 4), (66, 5)], 259, Compression),
         (&[(66, 5)], 262, Photometric),
         (&[(66, 2)], 262, Photometric),
-        // The entry of 258 becomes one of a field that the file leaves out: one bit a sample.
+        // The entry of 258 becomes that of a field missing from the file; without 258 a sample has one bit.
         (&[(34, 0x0a), (42, 2)], 266, FillOrder),
         (&[(34, 0x12), (42, 2)], 274, Orientation),
         (&[(34, 0x1c), (42, 3)], 284, Planar),
@@ -125,18 +125,18 @@ fn names_the_first_test_that_fails(rt: HostRuntime) {
         assert_refused(&rt, changes, BilevelUse::Line, tag, kind);
         assert_refused(&rt, changes, BilevelUse::Mask, tag, kind);
     }
-    // A mask by its photometric interpretation is no linework.
+    // An image whose photometric interpretation makes it a mask is not linework.
     assert_refused(&rt, &[(66, 4)], BilevelUse::Line, 262, Photometric);
 }
 
 #[test]
 fn passes_over_other_fields(rt: HostRuntime) {
     let cases: [&[(usize, u8)]; 4] = [
-        // InkSet 2, one that can't be read, and DotRange of one value.
+        // InkSet 2, an InkSet that cannot be read, and a DotRange of one value.
         &[(34, 0x4c), (42, 2)],
         &[(34, 0x4c), (36, 5)],
         &[(34, 0x50)],
-        // One bit a sample where the file leaves the field out.
+        // Without the field a sample has one bit.
         &[(34, 0xff)],
     ];
     for changes in cases {

@@ -1,5 +1,5 @@
-// A contone image of 4 by 1 pixels, what its tests answer once a byte is another, and the image written in
-// other ways.
+// A contone image of 4 by 1 pixels, the results of its tests after a byte is changed, and the same image
+// written in other ways.
 use crate::files::{LEAST_FIRST, MOST_FIRST, PLANES, changed};
 use crate::strips::assert_rows;
 use pr_base::{FaultKind, TagFault};
@@ -8,7 +8,7 @@ use std::test::Fail;
 use tif_image::Contone;
 use tif_strips::Shape;
 
-// Packed samples: 16 headers that give nothing.
+// Packed samples: 16 header bytes that expand to nothing.
 const NOTHING: [(usize, u8); 18] = [
     (54, 5),
     (55, 0x80),
@@ -30,12 +30,12 @@ const NOTHING: [(usize, u8); 18] = [
     (145, 0x80),
 ];
 
-// What the tests of a file answer.
+// Returns the shape or the fault that the tests of a file give.
 fn answer(bytes: &[u8]) -> Result<Shape, TagFault> {
     Ok(Contone::check(bytes)?.shape())
 }
 
-// The file with these changes is refused with this fault.
+// Asserts that the file with these changes is rejected with this fault.
 fn assert_refused(rt: &impl Abort, changes: &[(usize, u8)], tag: u16, kind: FaultKind) {
     let bytes = changed(LEAST_FIRST, changes);
     assert!(rt;
@@ -44,7 +44,7 @@ fn assert_refused(rt: &impl Abort, changes: &[(usize, u8)], tag: u16, kind: Faul
     );
 }
 
-// An image 4 pixels wide has exactly these rows, also where it is opened again.
+// Asserts that an image 4 pixels wide has exactly these rows, also when it is opened again without tests.
 fn assert_image(rt: &impl Abort, bytes: &[u8], rows: &[[u8; 16]]) -> Result<(), TagFault> {
     let image = Contone::check(bytes)?;
     assert_shown(rt, &image, rows);
@@ -101,7 +101,8 @@ fn names_the_first_test_that_fails(rt: HostRuntime) {
         (&[(1, 0x4d)], 0, Header),
         (&[(2, 43)], 0, Header),
         (&[(8, 255), (9, 255)], 0, Directory),
-        // The entry of 259 becomes one of a tile; in the last two lines that of 257 does too.
+        // The entry of 259 becomes the entry of a tile field; in the last two of these six cases so does that
+        // of 257.
         (&[(46, 0x42)], 322, Tiled),
         (&[(46, 0x43)], 323, Tiled),
         (&[(46, 0x44), (48, 5)], 324, Tiled),
@@ -119,18 +120,18 @@ fn names_the_first_test_that_fails(rt: HostRuntime) {
         (&[(30, 0), (32, 1), (90, 5)], 257, Length),
         (&[(90, 5)], 277, Samples),
         (&[(90, 3), (38, 3)], 277, Samples),
-        // The file leaves the field out: one sample.
+        // Without the field a pixel has one sample.
         (&[(82, 0x18)], 277, Samples),
         (&[(38, 3)], 258, FieldCount),
         (&[(128, 16)], 258, Bits),
-        // The file leaves the field out: one bit a sample.
+        // Without the field a sample has one bit.
         (&[(34, 0x18)], 258, Bits),
         (&[(122, 1), (54, 5)], 258, Bits),
         (&[(54, 5)], 259, Compression),
         (&[(54, 5), (66, 2)], 259, Compression),
         (&[(58, 7)], 262, Missing),
         (&[(66, 2)], 262, Photometric),
-        // The entry of 259 becomes one of a field that the file leaves out.
+        // The entry of 259 becomes that of a field missing from the file.
         (&[(46, 0x0a), (54, 2)], 266, FillOrder),
         (&[(46, 0x12), (54, 2)], 274, Orientation),
         (&[(46, 0x1c), (54, 3)], 284, Planar),
@@ -139,7 +140,7 @@ fn names_the_first_test_that_fails(rt: HostRuntime) {
         (&[(46, 0x50)], 336, FieldCount),
         (&[(46, 0x50), (50, 0)], 336, FieldCount),
         (&[(46, 0x50), (50, 2), (54, 0), (56, 254)], 336, DotRange),
-        // Three bytes, and eight of the samples.
+        // A DotRange of three bytes, and one of eight bytes of the samples.
         (
             &[(46, 0x50), (48, 1), (50, 3), (54, 0), (55, 255)],
             336,
@@ -180,7 +181,7 @@ fn names_the_first_test_that_fails(rt: HostRuntime) {
 
 #[test]
 fn takes_packed_samples(rt: HostRuntime) -> Result<(), Fail> {
-    // 128 times 255, of which 16 are needed.
+    // 255, 128 times, of which 16 are needed.
     let packed = changed(
         LEAST_FIRST,
         &[(54, 5), (55, 0x80), (114, 2), (130, 0x81), (131, 0xff)],
@@ -193,7 +194,7 @@ fn takes_packed_samples(rt: HostRuntime) -> Result<(), Fail> {
 #[test]
 fn takes_other_fields(rt: HostRuntime) {
     let cases: [&[(usize, u8)]; 3] = [
-        // The entry of 259 becomes one of 336: the values 0 and 255, and eight bytes of the samples.
+        // The entry of 259 becomes one of 336: the values 0 and 255, and then eight bytes of the samples.
         &[(46, 0x50), (50, 2), (54, 0), (56, 255)],
         &[
             (46, 0x50),

@@ -1,4 +1,4 @@
-// The first directory of an image in each byte order, and what is wrong with it once a byte is another.
+// The first directory of an image in both byte orders, and its faults after a byte is changed.
 ghost use Rattle.std.specs.Prelude.{◌<◌, IsTrue};
 ghost use Rattle.tif_dir.specs.Table.{is_listed};
 
@@ -11,7 +11,7 @@ fn fault(tag: u16, kind: FaultKind) -> TagFault {
     TagFault { tag, kind }
 }
 
-// Value `i` of a field that has `least` values.
+// Returns value `i` of a field that has at least `least` values.
 fn number(bytes: &[u8], tag: u16, i: u32, least: u32) -> Result<u32, TagFault>
     requires listed { IsTrue (is_listed tag) }
     requires within { i < least }
@@ -19,7 +19,7 @@ fn number(bytes: &[u8], tag: u16, i: u32, least: u32) -> Result<u32, TagFault>
     read_dir(bytes)?.number(tag, i, least)
 }
 
-// The only value of a field, if the file has the field.
+// Returns the only value of a field, if the file has the field.
 fn only(rt: &impl Abort, bytes: &[u8], tag: u16) -> Result<Option<u32>, TagFault> {
     let dir = read_dir(bytes)?;
     let Some(field) = dir.field(tag)? else {
@@ -34,7 +34,7 @@ fn reads_both_orders(rt: HostRuntime) {
     for bytes in [LEAST_FIRST, MOST_FIRST] {
         assert_fields(&rt, &bytes);
         assert!(rt; number(&bytes, 258, 3, 4) == Ok(8));
-        // Fields that the file leaves out.
+        // Fields missing from the file.
         assert!(rt; number(&bytes, 284, 0, 1) == Ok(1));
         assert!(rt; number(&bytes, 336, 6, 8) == Ok(0));
         assert!(rt; number(&bytes, 336, 7, 8) == Ok(255));
@@ -64,7 +64,8 @@ fn least_counts_go_by_samples_and_strips(rt: HostRuntime) {
 fn names_each_fault(rt: HostRuntime) {
     use FaultKind::{Directory, FieldCount, FieldPlace, FieldType, Header, Missing};
 
-    // 262 is the fifth entry, from byte 58 on. A byte of its file, what it is instead, and the fault.
+    // 262 is the fifth entry, from byte 58 on. Each case: a byte's offset in the file, its new value, and the
+    // fault.
     let cases = [
         (0, 0x4d, fault(0, Header)),
         (2, 43, fault(0, Header)),

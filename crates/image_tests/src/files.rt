@@ -1,6 +1,6 @@
 // Small files, byte by byte, and changes to them.
 
-// 4 by 1 pixels in four inks, least significant byte first.
+// 4 by 1 pixels in four inks, little-endian.
 pub const LEAST_FIRST: [u8; 146] = [
     0x49, 0x49, 0x2a, 0x00, 0x08, 0x00, 0x00, 0x00, 0x09, 0x00, // 8: nine entries
     0x00, 0x01, 0x04, 0x00, 0x01, 0x00, 0x00, 0x00, 0x04, 0x00, 0x00, 0x00, // 10: 256 LONG 1: 4
@@ -33,7 +33,7 @@ pub const MOST_FIRST: [u8; 146] = [
     0, 0, 0, 1, 0, 0, 0, 127, 0, 0, 0, 31, 0, 0, 0, 255, //
 ];
 
-// 4 by 2 pixels, each ink apart and each row in a strip of its own: the strips of black are the last two.
+// 4 by 2 pixels with a plane for each ink and a strip for each row: the strips of black are the last two.
 pub const PLANES: [u8; 238] = [
     0x49, 0x49, 0x2a, 0x00, 0x08, 0x00, 0x00, 0x00, 0x0a, 0x00, // 8: ten entries
     0x00, 0x01, 0x04, 0x00, 0x01, 0x00, 0x00, 0x00, 0x04, 0x00, 0x00, 0x00, // 256 LONG 1: 4
@@ -58,7 +58,7 @@ pub const PLANES: [u8; 238] = [
     40, 41, 42, 43, 44, 45, 46, 47, // 230: black
 ];
 
-// Linework of 8 by 2 pixels: the packet FF AA, two bytes AA, is its only strip.
+// Linework of 8 by 2 pixels: its only strip is the packet FF AA, which expands to two bytes AA.
 pub const LINE: [u8; 124] = [
     0x49, 0x49, 0x2a, 0x00, 0x08, 0x00, 0x00, 0x00, 0x09, 0x00, // 8: nine entries
     0x00, 0x01, 0x04, 0x00, 0x01, 0x00, 0x00, 0x00, 0x08, 0x00, 0x00, 0x00, // 10: 256 LONG 1: 8
@@ -74,7 +74,7 @@ pub const LINE: [u8; 124] = [
     0xff, 0xaa, // 122: the packet
 ];
 
-// The file with some bytes changed.
+// Returns the file with some bytes changed.
 pub fn changed<const N: usize>(bytes: [u8; N], changes: &[(usize, u8)]) -> [u8; N] {
     let mut bytes = bytes;
     for (place, byte) in changes {

@@ -1,4 +1,5 @@
-// Tests of how images are read: directories, strips, and what contone images, linework and masks have to be.
+// Tests of how images are read: directories, strips, and what contone images, linework and masks must
+// satisfy.
 #![tactic(auto)]
 
 #[cfg(test)]

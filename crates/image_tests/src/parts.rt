@@ -1,4 +1,4 @@
-// Parts of rows: the bytes of each run of columns, behind rows that are gone over.
+// Parts of rows: the bytes of each run of columns, after rows that are skipped.
 ghost use Rattle.std.specs.Prelude.{◌≡◌, ◌+◌, ◌<◌, ◌≤◌};
 ghost use Rattle.tif_strips.specs.Strips.{IsStriped};
 
@@ -10,7 +10,7 @@ use std::test::Fail;
 use tif_dir::read_dir;
 use tif_strips::{RowCursor, Shape, Strips};
 
-// Sixteen samples in one packed strip: six as they are, four times 7, and six.
+// Sixteen samples in one packed strip: six literal bytes, 7 four times, and six literal bytes.
 const PACKED: [u8; 50] = [
     0x49, 0x49, 0x2a, 0x00, 0x08, 0x00, 0x00, 0x00, 0x02, 0x00, // 8: two entries
     0x11, 0x01, 0x04, 0x00, 0x01, 0x00, 0x00, 0x00, 0x22, 0x00, 0x00, 0x00, // 273 LONG 1: 34
@@ -18,7 +18,7 @@ const PACKED: [u8; 50] = [
     5, 1, 2, 3, 4, 5, 6, 0xfd, 7, 5, 11, 12, 13, 14, 15, 16, // 34
 ];
 
-// Each part of these rows, from each column on.
+// Asserts each part of these rows, from each column on.
 fn assert_parts<const N: usize>(
     rt: &impl Abort,
     bytes: &[u8],
@@ -54,7 +54,7 @@ fn assert_parts_from<const N: usize>(
     }
 }
 
-// The first byte of these columns, and the one behind their last.
+// Returns the offsets in a row of the first byte of these columns and of the end of the last.
 fn place_of(shape: Shape, first: u32, count: u32) -> (usize, usize)
     requires within { (1 ≤ count) × (first + count ≤ 65535) }
 {
@@ -66,7 +66,7 @@ fn place_of(shape: Shape, first: u32, count: u32) -> (usize, usize)
     }
 }
 
-// The cursor, so many rows later, which it goes over in two steps.
+// Returns the cursor so many rows further on; it skips them in two steps.
 fn behind<'a>(rt: &impl Abort, mut cursor: RowCursor<'a>, rows: usize) -> RowCursor<'a>
     ensures { result.shape ≡ cursor.entry.shape }
 {
@@ -77,7 +77,8 @@ fn behind<'a>(rt: &impl Abort, mut cursor: RowCursor<'a>, rows: usize) -> RowCur
     cursor
 }
 
-// These columns of these rows, which are bytes `from` to `to`, are still to come, and no further row.
+// Asserts that these rows are left and no others, and that these columns of each are its bytes `from` to
+// `to`, exclusive.
 fn assert_part<const N: usize>(
     rt: &impl Abort,
     mut cursor: RowCursor<'_>,
@@ -119,7 +120,7 @@ fn parts_of_one_plane(rt: HostRuntime) -> Result<(), Fail> {
     };
     let rows = [[1, 2], [3, 4], [5, 6], [7, 8], [11, 12]];
     assert_parts(&rt, &EIGHT_STRIPS, bits, &rows)?;
-    // Two pixels of four samples side by side.
+    // Two pixels of four samples, interleaved.
     let inks = Shape {
         width: 2,
         length: 1,
@@ -159,7 +160,7 @@ fn parts_of_four_planes(rt: HostRuntime) -> Result<(), Fail> {
         [5, 15, 25, 35, 6, 16, 26, 36, 7, 17, 27, 37, 8, 18, 28, 38],
     ];
     assert_parts(&rt, &EIGHT_STRIPS, PLANES, &rows)?;
-    // The first byte of each strip says that three follow as they are.
+    // The first byte of each strip is the header of three literal bytes.
     let heads: [(usize, u8); 8] = [
         (58, 2),
         (62, 2),

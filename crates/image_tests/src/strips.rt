@@ -1,4 +1,4 @@
-// Small images with their strips, given by a directory of StripOffsets and StripByteCounts alone.
+// Small images with their strips, from a directory that has only StripOffsets and StripByteCounts.
 ghost use Rattle.std.specs.Prelude.{◌≡◌};
 ghost use Rattle.tif_strips.specs.Strips.{IsStriped, row_length};
 
@@ -9,7 +9,7 @@ use std::test::Fail;
 use tif_dir::read_dir;
 use tif_strips::{RowCursor, Shape, Strips};
 
-// Eight pixels of one bit a row, two rows in one packed strip. The strip is a packet at 34.
+// Eight pixels a row of one bit each; two rows in one packed strip, a packet at byte 34.
 const BITS: Shape = Shape {
     width: 8,
     length: 2,
@@ -59,7 +59,7 @@ fn check(bytes: &[u8], shape: Shape) -> Result<(), TagFault>
     Ok(())
 }
 
-// The image has exactly these rows.
+// Asserts that the image has exactly these rows.
 fn assert_image<const N: usize>(
     rt: &impl Abort,
     bytes: &[u8],
@@ -75,7 +75,7 @@ fn assert_image<const N: usize>(
     Ok(())
 }
 
-/// These rows are still to come, and no others.
+/// Asserts that these rows are left, and no others.
 pub fn assert_rows<const N: usize>(rt: &impl Abort, mut cursor: RowCursor<'_>, rows: &[[u8; N]])
     requires { row_length cursor.shape ≡ N }
 {
@@ -91,7 +91,7 @@ pub fn assert_rows<const N: usize>(rt: &impl Abort, mut cursor: RowCursor<'_>, r
 #[test]
 fn packets_cross_rows(rt: HostRuntime) -> Result<(), Fail> {
     assert_image(&rt, &PACKET, BITS, &[[0xaa], [0xaa]])?;
-    // 128 times FF, for a row of four pixels in four inks: what is past the need is ignored.
+    // FF, 128 times, for a row of four pixels in four inks: what is not needed is ignored.
     let shape = Shape {
         width: 4,
         length: 1,
@@ -111,7 +111,7 @@ fn planes_are_joined_pixel_by_pixel(rt: HostRuntime) -> Result<(), Fail> {
         [5, 15, 25, 35, 6, 16, 26, 36, 7, 17, 27, 37, 8, 18, 28, 38],
     ];
     assert_image(&rt, &EIGHT_STRIPS, PLANES, &rows)?;
-    // One plane of all the samples, in one strip of more rows than there are.
+    // One plane with all samples, in one strip of more rows than the image has.
     let shape = Shape {
         width: 1,
         planar: 1,
@@ -134,7 +134,7 @@ fn planes_are_joined_pixel_by_pixel(rt: HostRuntime) -> Result<(), Fail> {
     Ok(())
 }
 
-// All rows that are still to come are 64 pixels without ink.
+// Asserts that all rows that are left are 64 pixels without ink.
 fn assert_blank(rt: &impl Abort, mut cursor: RowCursor<'_>)
     requires { row_length cursor.shape ≡ 256 }
 {
@@ -194,7 +194,7 @@ fn first_fault_of_eight_strips_is_told(rt: HostRuntime) {
 
     let cases: [(&[(usize, u8)], FaultKind); 3] = [
         (&[(17, 7)], FieldCount),
-        // The first strip is short, and the second lies behind the file.
+        // The first strip is short, and the second is past the end of the file.
         (&[(50, 3), (36, 1)], Short),
         (&[(50, 4), (36, 1)], StripPlace),
     ];

@@ -20,7 +20,7 @@ use Rattle.ink_keys.proofs.Columns.{first-grows, first-within, key-dots-between}
 use Rattle.ink_keys.proofs.Ranges.{sum-same}
 use Rattle.ink_keys.proofs.Words.{dots-most, number}
 
--- ---- first columns, out of the list that counts keep
+-- ---- first columns, from the list in the counts
 
 pub first-at : (width keys : ℕ) (firsts : List ℕ) (k : ℕ) → firsts ≡ map (first_column width keys) (range_with_len 0 (keys + 1)) → k ≤ keys
     → get_or firsts k 0 ≡ first_column width keys k
@@ -48,7 +48,7 @@ first-order width keys firsts k are some within =
     let long = length-firsts width keys firsts are in
     omega (arith, first-at width keys firsts k are (omega arith), first-at width keys firsts (k + 1) are (omega arith), first-grows width keys k some)
 
--- ---- a row at the front of the room
+-- ---- a row at the front of the row buffer
 
 pub dots-front : (row rest : List ℕ) (width from to : ℕ) → length row ≡ row_size width → to ≤ width → dots_between (row ++ rest) from to ≡ dots_between row from to
 unfolding dots_between
@@ -56,7 +56,7 @@ dots-front row rest width from to size within =
     sum-same (λ x. number (bit_at (row ++ rest) x)) (λ x. number (bit_at row x)) from (to - from)
     (λ x low high. ap (λ b. number (byte_bit b (x % 8))) (get_or_append_left row rest 0 (x / 8) (omega arith)))
 
--- a row that fills what it is unpacked into, whatever the unpacker answers
+-- a row that fills the buffer it is unpacked into, whatever the unpacker returns
 pub unpacked : {A E : Type 0} (frame packed ahead old new : List ℕ) (result : Result A E) → packed ≡ packed_in frame → ahead ≡ expansion packed → length (framed_row frame) ≡ length old
     → OnOk result (new ≡ take (length old) ahead) → OnErr result (new ≡ ahead ++ drop (length ahead) old) → new ≡ framed_row frame
 unfolding framed_row
@@ -92,7 +92,7 @@ adds-none width keys group ink row g i k apart =
       | inr other ↦ not-first group g (slot_of ink) (slot_of i) (key_dots width keys row k) other
     ]
 
--- numbers to which the dots of each key were added from a place on
+-- numbers after the dots of each key were added, from index start on
 pub record AddsDots (row firsts : List ℕ) (start : ℕ) (old new : List ℕ) : Type 0 where
   pub here : (k : ℕ) → k + 1 < length firsts → get_or new (start + k) 0 ≡ get_or old (start + k) 0 + dots_between row (get_or firsts k 0) (get_or firsts (k + 1) 0)
   pub below : (place : ℕ) → place < start → get_or new place 0 ≡ get_or old place 0
@@ -158,7 +158,7 @@ adds-row counts group ink row room room' firsts numbers is front adds =
           ];
     }
 
--- a row was added, by what each step did
+-- a row was added, given the effect of each step
 pub adds-whole : (counts : CountsData) (group : ℕ) (ink : Ink) (row room room' firsts firsts' old new numbers : List ℕ) (start : ℕ)
     → IsCounts counts.groups counts.width counts.keys counts.numbers firsts room
     → ((from to : ℕ) → to ≤ counts.width → dots_between room' from to ≡ dots_between row from to)
@@ -171,7 +171,7 @@ adds-whole counts group ink row room room' firsts firsts' old new numbers start 
     let four : AddsDots room' firsts (keys_before counts.keys group ink) counts.numbers numbers = subst (λ (n : ℕ). AddsDots room' firsts n counts.numbers numbers) start_is three in
     adds-row counts group ink row room room' firsts numbers is front four
 
--- the numbers and the room may be written
+-- the numbers and the row buffer may be overwritten
 pub still-counts : (groups width keys : ℕ) (numbers numbers' firsts row row' : List ℕ) → IsCounts groups width keys numbers firsts row → length numbers' ≡ length numbers
     → length row' ≡ length row → IsCounts groups width keys numbers' firsts row'
 still-counts groups width keys numbers numbers' firsts row row' is numbers_count row_count = record {

@@ -1,4 +1,4 @@
--- Which columns a key has.
+-- The columns of a key.
 use Rattle.std.proofs.Common.{◌≡◌, ℕ, ◌+◌, ◌*◌, ◌<◌, ◌≤◌, Bool, true, false, cond, ◌&&◌, List, refl, arith, inl, inr}
 use Rattle.std.specs.Prelude.{◌↔◌, ◌==◌}
 use Rattle.std.proofs.Math.Nat.{le-div_iff_mul-le, mul-le-mul_right}
@@ -9,7 +9,7 @@ use Rattle.pr_base.specs.Bits.{bit_at}
 use Rattle.ink_keys.specs.Keys.{key_of, first_column, key_dots, dots_between, KeyHasColumns}
 use Rattle.ink_keys.proofs.Ranges.{sum-within}
 
--- a column is at or behind the first one of key k exactly where its key is at least k
+-- a column is at or past the first one of key k exactly if its key is at least k
 pub reached : (width keys k x : ℕ) → 0 < width → 0 < keys → (first_column width keys k ≤ x) ↔ (k ≤ key_of width keys x)
 unfolding first_column
 reached width keys k x wide some =
@@ -42,7 +42,7 @@ has_columns width keys k x wide some =
       ],
     )
 
--- first columns ascend, and the one behind the last key is the width
+-- first columns ascend, and the one after the last key is the width
 pub first-within : (width keys k : ℕ) → 0 < keys → k ≤ keys → first_column width keys k ≤ width
 unfolding first_column
 first-within width keys k some within =
@@ -71,7 +71,7 @@ first-grows width keys k some =
 abbrev number : Bool → ℕ
 number bit = cond bit 1 0
 
--- the dots of a key are those between its first column and that of the key behind it
+-- the dots of a key are those from its first column to before that of the next key
 pub key-dots-between : (width keys k : ℕ) (row : List ℕ) → 0 < width → 0 < keys → k < keys
     → key_dots width keys row k ≡ dots_between row (first_column width keys k) (first_column width keys (k + 1))
 unfolding key_dots dots_between

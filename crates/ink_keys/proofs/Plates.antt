@@ -1,4 +1,4 @@
--- What the counts of a plate are once all rows of its edition were counted.
+-- The counts of a plate after all rows of its edition were counted.
 use Rattle.std.proofs.Common.{◌≡◌, ℕ, zero, suc, ◌+◌, ◌-◌, ◌*◌, ◌<◌, ◌≤◌, List, [], ◌∷◌, length, map, get_or, replicate, Some, refl, sym, ap, ◌∙◌, arith, inl, inr}
 use Rattle.std.specs.Prelude.{slice_get, sum_by}
 use Rattle.std.specs.List.{range_with_len}
@@ -38,7 +38,7 @@ past-first : (c a h x y : ℕ) → a < x → ((z : ℕ) → z < h → x ≡ a + 
 past-first c a h x zero above other less is = omega arith
 past-first c a h x (suc y) above other less is = other y (omega arith) (omega arith)
 
--- a sum over numbers of which all but some at equal steps add nothing
+-- a sum over numbers where only those at equal steps contribute
 pub sum-steps : (f : ℕ → ℕ) (c low a h n : ℕ) → 0 < c → low ≤ a → ((y : ℕ) → y < h → a + y * c < low + n)
     → ((x : ℕ) → low ≤ x → x < low + n → ((y : ℕ) → y < h → x ≡ a + y * c → ⊥) → f x ≡ 0)
     → sum_by f (range_with_len low n) ≡ sum_by (λ y. f (a + y * c)) (range_with_len 0 h)
@@ -72,13 +72,13 @@ zero-at n i =
       | inr past ↦ get_or_past (replicate n 0) i 0 (omega (arith, length-replicate {A = ℕ} n 0))
     ]
 
--- counts of nothing are bounded by no row
+-- initial counts are bounded by zero rows
 pub bounded-first : (groups width keys : ℕ) → IsBounded (no_counts groups width keys) 0
 bounded-first groups width keys = λ place. (let none = zero-at (groups * 5 * keys) place in omega arith)
 
 -- ---- the rows of a plate
 
--- what a row adds, by what stands there
+-- the contribution of a row, by its place
 part-at : (plan : PlanData) (ring : RingNumbers) (width keys index : ℕ) (ink : Ink) (k n : ℕ) (place : RowPlace) → length ring.rows ≡ length (row_places plan)
     → slice_get (row_places plan) n ≡ Some place
     → row_part (rows_of plan) ring width keys index ink k n ≡ row_adds width keys place.group place.ink (framed_row (get_or ring.rows n [])) index ink k
@@ -98,7 +98,7 @@ own-part plan ring width keys index group y ink k is count at =
     ∙ adds-own width keys index ink (framed_row (get_or ring.rows n [])) index ink k refl refl
     ∙ ap (λ row. key_dots width keys row k) (sym (get_or-map framed_row ring.rows n [] [] (omega arith)))
 
--- every other row adds nothing
+-- every other row contributes nothing
 other-part : (plan : PlanData) (ring : RingNumbers) (width keys index : ℕ) (group : Group) (ink : Ink) (k n : ℕ) → IsPlan plan → length ring.rows ≡ length (row_places plan)
     → slice_get (groups_of plan) index ≡ Some group → n < length (row_places plan) → ((y : ℕ) → y < plate_height plan → n ≡ row_number group y ink → ⊥)
     → row_part (rows_of plan) ring width keys index ink k n ≡ 0

@@ -4,7 +4,7 @@ use Rattle.std.specs.Prelude.{sum_by}
 use Rattle.std.specs.List.{range_with_len}
 use Rattle.std.proofs.lemmas.List.Sums.{sum_by-cons, sum_by-append}
 
--- a range is a front of it and the rest
+-- a range is its front followed by the rest
 pub range-parts : (a n m : ℕ) → range_with_len a (n + m) ≡ range_with_len a n ++ range_with_len (a + n) m
 range-parts a zero m =
     let whole : 0 + m ≡ m = omega arith in
@@ -18,13 +18,13 @@ range-parts a (suc n) m =
 pub sum-parts : (f : ℕ → ℕ) (a n m : ℕ) → sum_by f (range_with_len a (n + m)) ≡ sum_by f (range_with_len a n) + sum_by f (range_with_len (a + n) m)
 sum-parts f a n m = ap (sum_by f) (range-parts a n m) ∙ sum_by-append f (range_with_len a n) (range_with_len (a + n) m)
 
--- one number more
+-- a sum over one more number
 pub sum-more : (f : ℕ → ℕ) (a n j : ℕ) → a + n ≡ j → sum_by f (range_with_len a (n + 1)) ≡ sum_by f (range_with_len a n) + f j
 sum-more f a n j last =
     let one : sum_by f (range_with_len (a + n) 1) ≡ f (a + n) = omega (arith, sum_by-cons f (a + n) []) in
     sum-parts f a n 1 ∙ ap (λ k. sum_by f (range_with_len a n) + k) (one ∙ ap f last)
 
--- by another function that gives the same there
+-- the sum of another function that agrees on the range
 pub sum-same : (f g : ℕ → ℕ) (a n : ℕ) → ((x : ℕ) → a ≤ x → x < a + n → f x ≡ g x) → sum_by f (range_with_len a n) ≡ sum_by g (range_with_len a n)
 sum-same f g a zero same = refl
 sum-same f g a (suc n) same =
@@ -48,7 +48,7 @@ sum-most f a (suc n) each =
     let here = each a in
     omega (arith, sum_by-cons f a (range_with_len (a + 1) n))
 
--- a sum of which all but a part in the middle is zero
+-- a sum whose terms outside a middle part are zero
 pub sum-within : (f g : ℕ → ℕ) (n low high : ℕ) → low ≤ high → high ≤ n → ((x : ℕ) → x < low → f x ≡ 0) → ((x : ℕ) → low ≤ x → x < high → f x ≡ g x)
     → ((x : ℕ) → high ≤ x → x < n → f x ≡ 0) → sum_by f (range_with_len 0 n) ≡ sum_by g (range_with_len low (high - low))
 sum-within f g n low high order top before inside behind =
@@ -63,7 +63,7 @@ sum-within f g n low high order top before inside behind =
     let middle = sum-same f g low (high - low) (λ x from below. inside x from (omega arith)) in
     omega arith
 
--- by a function of the numbers so far on
+-- a sum over a shifted range, by a function shifted the other way
 pub sum-moved : (f g : ℕ → ℕ) (a move b n : ℕ) → a + move ≡ b → ((x : ℕ) → a ≤ x → x < a + n → f x ≡ g (x + move)) → sum_by f (range_with_len a n) ≡ sum_by g (range_with_len b n)
 sum-moved f g a move b zero place same = refl
 sum-moved f g a move b (suc n) place same =

@@ -33,7 +33,7 @@ side-taken width ring n bytes are there =
     ap length (sym (get_or_from_slice_get (map framed_row ring.rows) n (framed_row bytes) (framed_row bytes) here))
     ∙ are.frames.each n (framed_row bytes) (slice_get_within (map framed_row ring.rows) n (framed_row bytes) here)
 
--- what a row adds, by its place
+-- the contribution of a row, by its place
 pub part-is : (rows : RowPlanData) (ring : RingNumbers) (width keys g : ℕ) (i : Ink) (k n : ℕ) (place : RowPlace) (bytes : List ℕ) → slice_get (places_in rows) n ≡ Some place
     → slice_get ring.rows n ≡ Some bytes → row_part rows ring width keys g i k n ≡ row_adds width keys place.group place.ink (framed_row bytes) g i k
 unfolding row_part
@@ -57,7 +57,7 @@ row-counted rows ring n place bytes old new there held adds = record {
       (sym (one-number (row_part rows ring old.width old.keys g i k) n ∙ part-is rows ring old.width old.keys g i k n place bytes there held));
 }
 
--- ---- rows one behind the other
+-- ---- consecutive rows
 
 pub none-counted : (rows : RowPlanData) (ring : RingNumbers) (n : ℕ) (counts : CountsData) → CountsRows rows ring n n counts counts
 none-counted rows ring n counts = record {
@@ -89,7 +89,7 @@ joined rows ring from mid to old now new order order' first second = record {
       omega arith;
 }
 
--- two turns of which one begins where the other ended
+-- two turns, the second beginning where the first ended
 pub counted-both : (rows : RowPlanData) (ring : RingNumbers) (from mid to : ℕ) (old now new : CountsData) → from ≤ mid → mid ≤ to → CountsRows rows ring from mid old now
     → CountsRows rows ring mid to now new → CountsRows rows ring from to old new
 counted-both rows ring from mid to old now new order order' first second =
@@ -140,7 +140,7 @@ goes-first s ready within = record {
   counts = none-counted s.key.rows s.reader.ring s.reader.cursor s.key.counts;
 }
 
--- a row more was counted
+-- one more row was counted
 pub goes-on : (first now next : Stage) (waits : ℕ) → now.reader.cursor < now.reader.ring.total → Goes first now waits → CountsOne now next → Goes first next waits
 goes-on first now next waits less goes one =
     let ring : now.reader.ring ≡ first.reader.ring = ap (λ r. r.ring) goes.over.reader in

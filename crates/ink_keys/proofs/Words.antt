@@ -1,4 +1,4 @@
--- The pixels of eight bytes that are read as one number, the first pixel in the highest bit.
+-- The pixels of eight bytes read as one number, the first pixel in the highest bit.
 use Rattle.std.proofs.Common.{◌≡◌, ℕ, zero, suc, ◌+◌, ◌-◌, ◌*◌, ◌/◌, ◌%◌, ◌^◌, ◌<◌, ◌≤◌, Bool, true, false, cond, List, [], length, take, drop, count_ones, eqb, get_or, refl, ap, sym, ◌∙◌, arith, w64, inl, inr}
 use Rattle.std.specs.Int.{from_be_bytes}
 use Rattle.std.specs.Prelude.{sum_by, count_by}
@@ -15,7 +15,7 @@ use Rattle.pr_base.specs.Bits.{bit_at, byte_bit}
 use Rattle.pr_base.proofs.Words.{byte_bit-number}
 use Rattle.ink_keys.proofs.Ranges.{sum-more, sum-most, sum-moved, sum-parts}
 
--- a bit as a number
+-- a bit as a number, 0 or 1
 abbrev pub number : Bool → ℕ
 number bit = cond bit 1 0
 
@@ -28,7 +28,7 @@ bit-word bytes n c eight small is within =
     ∙ byte_bit-number n (c / 8) (c % 8) (omega arith) (omega arith)
     ∙ ap (λ k. eqb (n / 2 ^ (63 - k) % 2) 1) place
 
--- ---- how many are 1
+-- ---- the number of 1 bits
 
 none-are-one : count_ones 0 ≡ 0
 none-are-one = omega (arith, ones_le_self 0)
@@ -46,7 +46,8 @@ ones-step : (n : ℕ) → count_ones n ≡ count_ones (n / 2) + number (eqb (n %
 ones-step n =
     ap count_ones (sym (div-add-mod' n 2)) ∙ ones_cat 1 (n / 2) (n % 2) (omega arith) ∙ ap (λ k. count_ones (n / 2) + k) (ones-bit n)
 
--- the 1 bits of a number whose bits from the highest on are these, after so many of them
+-- bit gives the bits of a 64-bit number from the highest on: its first count bits have as many 1 bits as bit
+-- says
 pub ones-front : (n : ℕ) (bit : ℕ → Bool) (count : ℕ) → n < 2 ^ 64 → ((c : ℕ) → c < 64 → bit c ≡ eqb (n / 2 ^ (63 - c) % 2) 1) → count ≤ 64
     → count_ones (n / 2 ^ (64 - count)) ≡ count_by bit (range_with_len 0 count)
 ones-front n bit zero small bits within =
@@ -77,7 +78,7 @@ get_or-chunk (suc n) row (suc i) d h =
     let next : 8 + 8 * i ≡ 8 * suc i = omega arith in
     get_or-chunk n (drop 8 row) i d (omega arith) ∙ ap (take 8) (drop-drop (8 * i) 8 row ∙ ap (λ k. drop k row) next)
 
--- a pixel of a word is one of the row
+-- a pixel of a word is a pixel of the row
 bit-chunk : (row : List ℕ) (i x : ℕ) → x < 64 → bit_at (take 8 (drop (8 * i) row)) x ≡ bit_at row (x + 64 * i)
 bit-chunk row i x within =
     let byte : 8 * i + x / 8 ≡ (x + 64 * i) / 8 = omega arith in
@@ -96,7 +97,7 @@ front-of-word n row i count d within few =
     ∙ sum-moved (λ x. number (bit_at (take 8 (drop (8 * i) row)) x)) (λ x. number (bit_at row x)) 0 (64 * i) (64 * i) count (omega arith)
     (λ x _ below. ap number (bit-chunk row i x (omega arith)))
 
--- the pixels of the bytes behind the first word
+-- the pixels of the bytes after the first word
 bits-behind : (row : List ℕ) (x : ℕ) → bit_at (drop 8 row) x ≡ bit_at row (x + 64)
 bits-behind row x =
     let byte : 8 + x / 8 ≡ (x + 64) / 8 = omega arith in
@@ -104,7 +105,7 @@ bits-behind row x =
     ap (λ b. byte_bit b (x % 8)) (get_or-drop 8 row (x / 8) 0 ∙ ap (λ k. get_or row k 0) byte)
     ∙ ap (λ y. byte_bit (get_or row ((x + 64) / 8) 0) y) column
 
--- the pixels of some words of a row, one behind the other
+-- the pixels of consecutive words of a row
 pub whole-words : (n : ℕ) (row : List ℕ) (i m : ℕ) → i + m ≤ n
     → sum_by (λ word. dots_between word 0 64) (take m (drop i (first_chunks 8 n row))) ≡ count_by (bit_at row) (range_with_len (64 * i) (64 * m))
 whole-words n row zero zero within = refl
@@ -128,8 +129,8 @@ whole-words (suc n) row (suc i) (suc m) within =
     whole-words n (drop 8 row) i (suc m) (omega arith)
     ∙ sum-moved (λ x. number (bit_at (drop 8 row) x)) (λ x. number (bit_at row x)) (64 * i) 64 (64 * suc i) (64 * suc m) next (λ x _ _. ap number (bits-behind row x))
 
--- the pixels of whole words and of the front of the word behind them are those of the front of the first word and the
--- pixels between
+-- the 1 pixels of the whole words and of the front of the word after them are those of the front of the first
+-- word and those in between
 counted : (n : ℕ) (row : List ℕ) (from to : ℕ) (d e : List ℕ) → from ≤ to → to / 64 < n
     → sum_by (λ word. dots_between word 0 64) (take (to / 64 - from / 64) (drop (from / 64) (first_chunks 8 n row)))
     + dots_between (get_or (first_chunks 8 n row) (to / 64) d) 0 (to % 64)
@@ -163,7 +164,7 @@ counted-between n row words from to ones upper lower d e are order within ones_a
     let low = ap (λ ws. dots_between (get_or ws (from / 64) e) 0 (from % 64)) are in
     omega arith
 
--- there are no more than there are pixels
+-- at most as many 1 pixels as pixels
 pub dots-most : (row : List ℕ) (from to : ℕ) → dots_between row from to ≤ to - from
 unfolding dots_between
 dots-most row from to = sum-most (λ x. number (bit_at row x)) from (to - from) (λ x. most (bit_at row x))

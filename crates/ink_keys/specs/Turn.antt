@@ -1,4 +1,4 @@
--- What a key reader keeps, what its turn makes of it, and what an answer of a turn says.
+-- The state of a key reader, the effect of its turn, and the meaning of a turn's result.
 use Rattle.std.specs.Prelude.{◌≡◌, ℕ, ◌+◌, ◌-◌, ◌<◌, ◌≤◌, false, [], Result, Ok, Err, length, map, slice_get}
 use Rattle.std.specs.Prelude.{slice_index_or, sum_by}
 use Rattle.std.specs.List.{range_with_len}
@@ -19,23 +19,23 @@ pub record KeyReaderData : Type 0 where
   pub rows : RowPlanData
   pub counts : CountsData
 
--- P of the head where the answer is Waiting
+-- P holds for the head if the result is Waiting
 abbrev pub IfWaiting : KeyEnd → (ℕ → Type 0) → Type 0
 IfWaiting (Waiting head) P = P head
 IfWaiting Finished P = Unit {0}
 
--- P where the answer is Finished
+-- P holds if the result is Finished
 abbrev pub OnFinished : KeyEnd → Type 0 → Type 0
 OnFinished (Waiting head) P = Unit {0}
 OnFinished Finished P = P
 
--- how often a turn of this patience looked in vain: each other load found a row more. Waiting comes at the
--- last look that the patience allows, and Finished before it
+-- bounds how many loads of a turn found no new row; every other load found at least one more row. At most
+-- patience if the result is Waiting, fewer if it is Finished
 abbrev pub WaitsNoMore : ℕ → ReaderState → ReaderState → KeyEnd → Type 0
 WaitsNoMore patience old new (Waiting head) = new.loads + old.seen ≤ old.loads + patience + new.seen
 WaitsNoMore patience old new Finished = new.loads + old.seen < old.loads + patience + new.seen
 
--- the rows of a ring are frames of rows of this width, as many as the ring is to pass
+-- the rows of a ring are frames of rows of this width, as many as the ring passes
 pub record AreRowsOf (width : ℕ) (ring : RingNumbers) : Type 0 where
   pub count : length ring.rows ≡ ring.total
   pub frames : AreFrames (row_size width) (map framed_row ring.rows) ring.rows
@@ -47,7 +47,7 @@ row_part rows ring width keys g i k n =
     let place = slice_get (places_in rows) n in
     option_map_or (λ at. row_adds width keys at.group at.ink row g i k) place 0
 
--- each count grew by what the rows from one number on to below another add to it, each row once
+-- each count grew by what the rows in the range from..to add to it, each row once
 pub record CountsRows (rows : RowPlanData) (ring : RingNumbers) (from to : ℕ) (old new : CountsData)
     : Type 0 where
   pub same : new ≡ record old { numbers = new.numbers }
@@ -65,7 +65,7 @@ pub record Stage : Type 0 where
 abbrev pub stage : KeyReaderData → ReaderState → Stage
 stage key reader = record { key = key; reader = reader }
 
--- the rows below the cursor are counted, and more may be
+-- the rows below the cursor are counted, and the next may be
 pub record IsReady (s : Stage) : Type 0 where
   pub joined : s.reader.left ≡ false
   pub home : s.reader.held ≡ false
@@ -82,18 +82,18 @@ pub record CountsOne (old new : Stage) : Type 0 where
   pub counts : CountsRows old.key.rows old.reader.ring old.reader.cursor (old.reader.cursor + 1)
       old.key.counts new.key.counts
 
--- the row wasn't published yet
+-- the row is not yet published
 pub record Awaits (old new : Stage) (answer : NotYet) : Type 0 where
   pub not_yet : IsNotYet old.reader new.reader answer
   pub behind : old.reader.seen ≤ old.reader.cursor
   pub key : new.key ≡ old.key
 
--- one of these, by the answer
+-- the effect of a step, by its result
 abbrev pub CountsNext : Stage → Stage → Result (Unit {0}) NotYet → Type 0
 CountsNext old new (Ok done) = CountsOne old new
 CountsNext old new (Err answer) = Awaits old new answer
 
--- the rows from the first cursor up to this one were counted, and so many were awaited between them
+-- the rows from the first cursor up to this one were counted, and in between, waits loads found no row
 pub record Goes (first now : Stage) (waits : ℕ) : Type 0 where
   pub ready : IsReady now
   pub over : GoesOver first.reader now.reader waits

@@ -16,20 +16,21 @@ use std::alloc::Global;
 use std::marker::Model;
 use tif_packbits::{Unpacker, framed};
 
-/// The slots of a group, one for each ink.
+/// The slots of a group: one for each ink.
 const SLOTS: usize = 5;
 
-/// How many pixels of each key are 1, for each group and ink of a row plan. It takes all memory when it is
-/// made. Contracts see how many groups it was made for, the width, the keys and the numbers.
+/// How many pixels are 1 at each key, for each group and ink of a row plan. All memory is allocated when it
+/// is made. Contracts see the number of groups that it was made for, the width, the number of keys and the
+/// counts.
 #[derive(Debug, Drop)]
 pub struct Counts {
     groups: usize,
     width: u32,
     keys: u32,
     numbers: Vec<u64>,
-    /// The first column of each key, and behind them the width.
+    /// The first column of each key, followed by the width.
     firsts: Vec<u32>,
-    /// Room for one unpacked row.
+    /// A buffer for one unpacked row.
     row: Vec<u8>,
 }
 
@@ -50,7 +51,8 @@ impl Model for Counts {
 }
 
 impl Counts {
-    /// Zeros for each group and ink of a row plan, whose rows have `width` pixels and `keys` keys.
+    /// Makes zero counts for each group and ink of a row plan, whose rows have `width` pixels and `keys`
+    /// keys.
     pub fn new(alloc: Global, rows: &RowPlan, width: u32, keys: u32) -> Result<Counts, NoMemory>
         requires wide { 1 ≤ width }
         requires narrow { width ≤ 65535 }
@@ -72,7 +74,7 @@ impl Counts {
         })
     }
 
-    /// Adds the 1 pixels of a row, which stands at `place`, to the keys of its group and ink.
+    /// Adds the 1 pixels of a row, whose place is `place`, to the keys of its group and ink.
     pub fn add(&mut self, place: RowPlace, held: &Held)
         requires group { place.group < self.old.groups }
         requires frame { IsFrame held.now.bytes }
@@ -85,8 +87,8 @@ impl Counts {
         add_dots(&self.row, &self.firsts, &mut self.numbers, start);
     }
 
-    /// The numbers of a group in an ink, key by key. There are as many for each of the five inks, also where
-    /// the group doesn't print it.
+    /// Returns the counts of a group in an ink, key by key. Each of the five inks has counts, even if the
+    /// group does not print it.
     pub fn of(&self, group: usize, ink: Ink) -> &[u64]
         requires { group < self.now.groups }
         ensures count { length result.now ≡ self.now.keys }
@@ -97,7 +99,7 @@ impl Counts {
         &self.numbers[start..start + self.keys as usize]
     }
 
-    /// Where the numbers of a group in an ink begin.
+    /// Returns the index at which the counts of a group in an ink begin.
     fn start(&self, group: usize, ink: Ink) -> usize
         requires { group < self.now.groups }
         ensures start { result ≡ keys_before self.now.keys group ink }
@@ -108,7 +110,7 @@ impl Counts {
     }
 }
 
-/// So many zeros.
+/// Returns `count` zeros.
 fn zeros(alloc: Global, count: usize) -> Result<Vec<u64>, NoMemory>
     requires { count ≤ 2621440 }
     ensures { IfOk result (λ numbers. numbers.items ≡ replicate count 0) }
@@ -116,7 +118,7 @@ fn zeros(alloc: Global, count: usize) -> Result<Vec<u64>, NoMemory>
     Ok(vec![in alloc; 0; count]?)
 }
 
-/// Room for one row.
+/// Returns a buffer for one row of `width` pixels.
 fn room(alloc: Global, width: u32) -> Result<Vec<u8>, NoMemory>
     requires { width ≤ 65535 }
     ensures { IfOk result (λ row. length row.items ≡ 8 * (width / 64 + 1)) }
@@ -124,7 +126,7 @@ fn room(alloc: Global, width: u32) -> Result<Vec<u8>, NoMemory>
     Ok(vec![in alloc; 0; room_for(width)]?)
 }
 
-/// The first column of each key, and behind them the width.
+/// Returns the first column of each key, followed by the width.
 fn firsts_of(alloc: Global, width: u32, keys: u32) -> Result<Vec<u32>, NoMemory>
     requires narrow { width ≤ 65535 }
     requires some_key { 1 ≤ keys }
@@ -139,7 +141,7 @@ fn firsts_of(alloc: Global, width: u32, keys: u32) -> Result<Vec<u32>, NoMemory>
     Ok(firsts)
 }
 
-/// Unpacks the row of a frame, which has `width` pixels, to the front of the room for a row.
+/// Unpacks the row of a frame, `width` pixels, into the front of the row buffer.
 fn unpack_front(frame: &[u8], width: u32, room: &mut [u8])
     requires frame { IsFrame frame.now }
     requires size { length (framed_row frame.now) ≡ row_size width }
@@ -151,7 +153,7 @@ fn unpack_front(frame: &[u8], width: u32, room: &mut [u8])
     unpack(frame, &mut room[..row_bytes(width)]);
 }
 
-/// Unpacks the row of a frame, which is as long as what it fills.
+/// Unpacks the row of a frame into a slice of exactly its length.
 #[tactic(auto, using(crate::proofs::Adding::unpacked))]
 fn unpack(frame: &[u8], row: &mut [u8])
     requires frame { IsFrame frame.now }
@@ -161,8 +163,8 @@ fn unpack(frame: &[u8], row: &mut [u8])
     let _filled = Unpacker::new(framed(frame)).fill(row);
 }
 
-/// Adds to the number of each key, from `start` on, the 1 pixels between its first column and that of the key
-/// behind it.
+/// Adds to the count of each key, from index `start` on, the 1 pixels from its first column to before that of
+/// the next key.
 fn add_dots(row: &[u8], firsts: &[u32], numbers: &mut [u64], start: usize)
     requires firsts { 1 ≤ length firsts.now }
     requires few { length firsts.now ≤ 65 }

@@ -1,19 +1,19 @@
-// The pixels of a row that are 1 between two columns, counted by words of eight bytes.
+// Counting the 1 pixels of a row between two columns, in words of eight bytes.
 ghost use Rattle.std.specs.Prelude.{◌≡◌, ◌<◌, ◌≤◌, ◌+◌, ◌-◌, ◌*◌, ◌/◌, length, sum_by};
 ghost use Rattle.ink_keys.specs.Keys.{dots_between};
 
 /// The pixels of a word.
 const PIXELS: usize = 64;
 
-/// The bytes of room for a row of `width` pixels that is counted: whole words, the last of them behind all
-/// whole words of the row, so that there is one at each of its columns and at the column behind them.
+/// Returns the bytes of the buffer that a row of `width` pixels is counted in: one word more than the row has
+/// whole words, so that each of its columns, and the column after the last, is within a word.
 pub(crate) fn room_for(width: u32) -> usize
     ensures { result ≡ 8 * (width / 64 + 1) }
 {
     8 * (width as usize / PIXELS + 1)
 }
 
-/// The pixels that are 1 from column `from` on to below column `to`. What stands behind is never counted.
+/// Counts the pixels that are 1 from column `from` to before column `to`. Later pixels are never counted.
 pub(crate) fn dots_in(row: &[u8], from: usize, to: usize) -> u64
     requires order { from ≤ to }
     requires within { to / 64 < length row.now / 8 }
@@ -28,7 +28,7 @@ pub(crate) fn dots_in(row: &[u8], from: usize, to: usize) -> u64
         - front_ones(&words[first], from % PIXELS)
 }
 
-/// The pixels of words that are 1.
+/// Counts the pixels of words that are 1.
 fn ones(words: &[[u8; 8]]) -> u64
     requires { length words.now ≤ 1024 }
     ensures ones { result ≡ sum_by (λ word. dots_between word 0 64) words.now }
@@ -41,7 +41,7 @@ fn ones(words: &[[u8; 8]]) -> u64
     ones
 }
 
-/// The pixels of a word that are 1.
+/// Counts the pixels of a word that are 1.
 fn ones_of(word: &[u8; 8]) -> u64
     ensures ones { result ≡ dots_between word.now 0 64 }
     ensures most { result ≤ 64 }
@@ -49,8 +49,8 @@ fn ones_of(word: &[u8; 8]) -> u64
     u64::from_be_bytes(*word).count_ones() as u64
 }
 
-/// The pixels that are 1 among the first `count` of a word. Those behind are shifted out, in two steps, since
-/// no number is shifted by all its bits at once.
+/// Counts the pixels that are 1 among the first `count` of a word. The others are shifted out in two steps,
+/// since a shift by all 64 bits at once is not allowed.
 fn front_ones(word: &[u8; 8], count: usize) -> u64
     requires { count < 64 }
     ensures ones { result ≡ dots_between word.now 0 count }

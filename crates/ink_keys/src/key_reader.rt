@@ -1,4 +1,4 @@
-// The counts of an edition's rows as they pass through a ring.
+// Counting an edition's rows as they pass through a ring.
 ghost use Rattle.std.specs.Prelude.{◌≡◌, ◌<◌, ◌≤◌, false, length};
 ghost use Rattle.plan_rows.specs.Rows.{places_in};
 ghost use Rattle.ring_lanes.specs.Reader.{Waits};
@@ -12,8 +12,7 @@ use pr_base::Deal;
 use ring_lanes::{NotYet, Reader};
 use std::marker::Model;
 
-/// One that counts the rows of a ring, beside the sites that take them. Contracts see the row plan and the
-/// counts.
+/// Counts the rows of a ring, alongside the sites that take them. Contracts see the row plan and the counts.
 #[derive(Debug, Drop)]
 pub struct KeyReader<'p> {
     rows: &'p RowPlan,
@@ -32,7 +31,7 @@ impl<'p> Model for KeyReader<'p> {
 }
 
 impl<'p> KeyReader<'p> {
-    /// One that adds the rows of this row plan to counts that were made for it.
+    /// Makes a key reader that adds the rows of this row plan to counts made for it.
     pub fn new(rows: &'p RowPlan, counts: Counts) -> KeyReader<'p>
         requires { counts.groups ≡ length rows.now.groups }
         ensures { result ≡ record { rows = rows.now; counts = counts } }
@@ -40,21 +39,21 @@ impl<'p> KeyReader<'p> {
         KeyReader { rows, counts }
     }
 
-    /// Its counts.
+    /// Returns its counts.
     pub fn counts(&self) -> &Counts
         ensures { result.now ≡ self.now.counts }
     {
         &self.counts
     }
 
-    /// Hands back the counts.
+    /// Returns the counts, consuming the reader.
     pub fn into_counts(self) -> Counts
         ensures { result ≡ self.entry.counts }
     {
         self.counts
     }
 
-    /// Takes the rows at the reader's cursor, counts each and gives it back, until all are counted, or a row
+    /// Takes the rows at the reader's cursor, counts each and gives it back, until all are counted or a row
     /// was found unpublished `patience` times. It never leaves.
     pub fn turn<D: Deal>(&mut self, reader: &mut Reader<'_, D>, patience: u32) -> KeyEnd
         requires joined { reader.old.left ≡ false }
@@ -69,7 +68,7 @@ impl<'p> KeyReader<'p> {
         ensures counts { CountsRows self.old.rows reader.old.ring reader.old.cursor reader.new.cursor
             self.old.counts self.new.counts }
         ensures bounded { IsBounded self.new.counts reader.new.cursor }
-        // Nothing else of the reader changes. So it never leaves, and holds no row.
+        // Nothing else of the reader changes: it never leaves, and holds no row afterwards.
         ensures reader { reader.new ≡ record reader.old {
           cursor = reader.new.cursor;
           seen = reader.new.seen;

@@ -1,4 +1,4 @@
-// What holds of counts once the rows of an edition were counted.
+// A law of the counts after the rows of an edition were counted.
 ghost use Rattle.std.specs.Prelude.{◌≤◌, ℕ, map};
 ghost use Rattle.plan_json.specs.Data.{PlanData};
 ghost use Rattle.plan_rows.specs.Rows.{RowPlanData};
@@ -8,8 +8,8 @@ ghost use Rattle.ink_keys.specs.Counts.{CountsData};
 ghost use Rattle.ink_keys.specs.Plates.{AreKeyCounts, CountsPlan};
 ghost use Rattle.ink_keys.specs.Turn.{CountsRows};
 
-/// The law of counts. The rows of two turns of which one begins where the other ended are counted as by one
-/// turn. Once all rows of a plan were counted from zeros on, the counts of each plate are those of its rows.
+/// The law of counts. Two turns, the second beginning where the first ended, count their rows as one turn
+/// would. After all rows of a plan were counted from zero, the counts of each plate are those of its rows.
 pub fn counts_law()
     ensures turns { (rows : RowPlanData) (ring : RingNumbers) (from mid to : ℕ) (old now new : CountsData) →
         from ≤ mid → mid ≤ to → CountsRows rows ring from mid old now → CountsRows rows ring mid to now new →

@@ -1,5 +1,5 @@
-// The ink keys of plates: how many pixels of each key column print, counted from rows of a ring as one more
-// of its readers.
+// The ink keys of plates: how many pixels print at each key, counted from the rows of a ring by one
+// additional reader.
 #![tactic(auto)]
 
 mod counts;

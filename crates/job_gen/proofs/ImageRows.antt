@@ -1,4 +1,4 @@
--- The rows of a job's images, by their bytes.
+-- The rows of a job's images, in terms of their bytes.
 use Rattle.std.proofs.Common.{◌≡◌, ℕ, zero, suc, ◌+◌, ◌*◌, ◌%◌, ◌<◌, ◌≤◌, ◌⊎◌, inl, inr, Bool, true, false, ◌&&◌, ◌==◌, nat_lt, if◌then◌else◌, List, [], ◌∷◌, ◌++◌, length, map, replicate, get_or, refl, sym, ap, ◌∙◌, arith}
 use Rattle.std.specs.List.{flat_map, range_with_len}
 use Rattle.std.proofs.lemmas.Bool.{cases_lt}
@@ -10,12 +10,12 @@ use Rattle.pr_base.specs.Row.{row_size}
 use Rattle.tif_make.proofs.Growing.{rows-more}
 use Rattle.job_gen.specs.Images.{contone_pixel, contone_row, line_marked, line_row, mask_marked, mask_row, rows_of}
 
--- one row more of an image that had none
+-- one more row, for an image without rows
 pub row_more : (f : ℕ → List ℕ) (k : ℕ) (old new : List ℕ) → old ≡ flat_map f (range_with_len 0 k) → new ≡ old ++ f k
     → new ≡ flat_map f (range_with_len 0 (k + 1))
 row_more f k old new is next = rows-more f 0 k [] old new is (next ∙ ap (λ n. old ++ f n) (omega arith))
 
--- one piece more behind what was there
+-- one more piece appended
 pub rows-step : (f : ℕ → List ℕ) (k : ℕ) (old new next piece : List ℕ) → new ≡ old ++ flat_map f (range_with_len 0 k) → next ≡ new ++ piece → piece ≡ f k
     → next ≡ old ++ flat_map f (range_with_len 0 (k + 1))
 rows-step f k old new next piece is is_next is_piece = rows-more f 0 k old new next is (is_next ∙ ap (λ xs. new ++ xs) (is_piece ∙ ap f (omega arith)))
@@ -114,7 +114,7 @@ mask_row_is half y =
     (λ k within. mask_test half j k (omega arith) within)
     ∙ flat_byte (nat_lt j half))
 
--- one byte more of the mask
+-- one more byte of the mask
 pub mask_row_more : (half j : ℕ) (old new next : List ℕ) (byte : ℕ) → new ≡ old ++ map (mask_byte half) (range_with_len 0 j) → next ≡ new ++ byte ∷ []
     → byte ≡ mask_byte half j → next ≡ old ++ map (mask_byte half) (range_with_len 0 (j + 1))
 mask_row_more half j old new next byte is is_next is_byte =

@@ -7,7 +7,7 @@ use Rattle.job_gen.specs.Images.{contone_bytes, files_of, files_with, line_bytes
 use Rattle.job_gen.specs.Numbers.{page_count}
 use Rattle.job_gen.specs.Plan.{line_file, mask_file, other_file, page_file}
 
--- one page's file more
+-- one more page's file
 pub page_more : (n k : ℕ) (old new : List (List ℕ × List ℕ)) (name bytes : List ℕ) → old ≡ map (page_entry n) (range_with_len 1 k)
     → new ≡ old ++ (path_of name, bytes) ∷ [] → name ≡ page_file (k + 1) → bytes ≡ contone_bytes n (k + 1)
     → new ≡ map (page_entry n) (range_with_len 1 (k + 1))

@@ -1,4 +1,4 @@
--- The images of a job pass the tests of their uses, and have its pixels.
+-- The images of a job pass the tests of their uses, and contain the job's pixels.
 use Rattle.std.proofs.Common.{◌≡◌, ℕ, zero, suc, ◌+◌, ◌*◌, ◌/◌, ◌%◌, ◌<◌, ◌≤◌, Bool, true, false, ◌&&◌, ◌==◌, nat_lt, if◌then◌else◌, List, length, map, slice_index, Ok, Result, IfOk, refl, sym, ap, subst, ◌∙◌, arith}
 use Rattle.std.specs.Global.{Vec}
 use Rattle.std.specs.List.{flat_map, range_with_len}
@@ -71,7 +71,7 @@ bit_at-packed_row width bit x below =
     ∙ byte_bit-packed (λ k. nat_lt (8 * (x / 8) + k) width && bit (8 * (x / 8) + k)) (x % 8) (omega arith)
     ∙ ap (λ n. nat_lt n width && bit n) place ∙ ap (λ b. b && bit x) inside
 
--- ---- rows one behind the other
+-- ---- concatenated rows
 
 cut-row : (row : ℕ → List ℕ) (size length' y : ℕ) → ((k : ℕ) → length (row k) ≡ size) → y < length' → row_at size (rows_of row length') y ≡ row y
 cut-row row size length' y same below = row-cut row size 0 length' y length' (omega arith) (λ k less. same k) below ∙ ap row (omega arith)
@@ -184,7 +184,7 @@ pub mask-made : (n size : ℕ) (form : ImageForm) (rows : List ℕ) → form ≡
 unfolding mask_bytes
 mask-made n size form rows e z is = files-same form (mask_form n) rows (mask_rows n) e (mask-is n size form rows e z is)
 
--- a file of the same bytes
+-- a file with equal bytes
 pub ok-same : (result : Result (Vec ℕ) NoMemory) (a b : List ℕ) → a ≡ b → IfOk result (λ file. file.items ≡ a) → IfOk result (λ file. file.items ≡ b)
 ok-same result a b e h = subst (λ bytes. IfOk result (λ file. file.items ≡ bytes)) e h
 

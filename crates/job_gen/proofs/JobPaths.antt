@@ -1,11 +1,11 @@
--- The files of a job stand under paths that differ.
+-- The files of a job have different paths.
 use Rattle.std.proofs.Common.{◌≡◌, ℕ, zero, suc, ◌+◌, ◌*◌, ◌/◌, ◌%◌, ◌<◌, Bool, true, false, not, ◌&&◌, List, [], ◌∷◌, map, nat_eq, refl, arith}
 use Rattle.std.specs.Fmt.{digits}
 use Rattle.std.specs.Cmp.Lexicographic.{pointwise}
 use Rattle.std.specs.List.{AllByRecursion, IsDistinct, list_all}
 use Rattle.job_gen.specs.Images.{files_of, files_with}
 
--- a test that no text stands twice
+-- a test that no text occurs twice
 are_apart : List (List ℕ) → Bool
 are_apart [] = true
 are_apart (x ∷ xs) = list_all (λ y. not (pointwise nat_eq x y)) xs && are_apart xs

@@ -1,4 +1,4 @@
--- Lists of values that grow by one.
+-- Lists of values that grow by one entry.
 use Rattle.std.proofs.Common.{◌≡◌, ℕ, ◌+◌, List, [], ◌∷◌, ◌++◌, map, sym, ap, ◌∙◌}
 use Rattle.std.specs.List.{range_with_len}
 use Rattle.std.proofs.lemmas.List.{map-append}
@@ -7,7 +7,7 @@ use Rattle.serde_json.specs.Data.{Data}
 use Rattle.serde_json.specs.View.{view}
 use Rattle.serde_json.specs.declared.value.Value.{Value}
 
--- one value more
+-- one more value
 pub values_more : (f : ℕ → Data) (from k j : ℕ) (old new : List Value) (value : Value) → from + k ≡ j → map view old ≡ map f (range_with_len from k)
     → new ≡ old ++ value ∷ [] → view value ≡ f j → map view new ≡ map f (range_with_len from (k + 1))
 values_more f from k j old new value e before is is_value =

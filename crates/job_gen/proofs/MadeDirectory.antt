@@ -1,4 +1,4 @@
--- The directory of a made file reads back: each field as it was put in, and no other.
+-- The directory of a generated file reads back: each field as it was written, and no others.
 use Rattle.std.proofs.Common.{◌≡◌, ℕ, suc, ◌+◌, ◌-◌, ◌*◌, ◌^◌, ◌<◌, ◌≤◌, Bool, true, false, cond, nat_lt, nat_le, if◌then◌else◌, ◌==◌, List, [], ◌∷◌, ◌++◌, length, map, take, drop, replicate, Option, Some, None, Ok, refl, sym, ap, subst, ◌∙◌, arith}
 use Rattle.std.specs.List.{All, find, flat_map}
 use Rattle.std.specs.Simd.{first_chunks}
@@ -26,7 +26,7 @@ number-back Big size n rest fits = big_number-reads_back size n rest fits
 
 -- ---- values
 
--- the field of a type that is read, whose values and tag fit
+-- a field of a type that the reader accepts, whose values and tag fit
 pub record IsWritten (field : FieldData) : Type 0 where
   pub kind : ValueType
   pub type_is : type_of field.kind ≡ Some kind
@@ -189,7 +189,7 @@ chunks-back order place (field ∷ fields) =
 
 -- ---- a field of a list
 
--- the values of the first field of a tag
+-- the values of the first field with a tag
 abbrev pub lookup : ℕ → List FieldData → Option (List ℕ)
 lookup tag [] = None
 lookup tag (field ∷ fields) = if field.tag == tag then Some field.values else lookup tag fields
@@ -235,7 +235,7 @@ front-parts : (order : Order) (fields : List FieldData) (data' : List ℕ)
 unfolding front
 front-parts order fields data' = simp append_assoc
 
--- what stands before the values outside of entries
+-- the bytes before the values stored outside of entries
 before_values : Order → List FieldData → List ℕ
 before_values order fields =
     mark_of order ++ (bytes_of order 2 42 ++ (bytes_of order 4 8 ++ (bytes_of order 2 (length fields)
@@ -339,14 +339,14 @@ entries-back order fields data' some few =
     ∙ chunks-back order (directory_end n) fields in
     rw (place, count, long, none, fits, cut) refl
 
--- the directory of a made file
+-- the directory of a generated file
 pub directory-back : (order : Order) (fields : List FieldData) (data' : List ℕ) → 0 < length fields → length fields ≤ 65535
     → directory_of (front order fields ++ data')
     ≡ Ok (record { order = order; entries = entry_list order (directory_end (length fields)) fields })
 unfolding directory_of
 directory-back order fields data' some few = rw (header-back order fields data', entries-back order fields data' some few) refl
 
--- each field of a made file is as it was put in
+-- each field of a generated file reads back as written
 pub field-back : (order : Order) (fields : List FieldData) (data' : List ℕ) (tag : ℕ) → 0 < length fields → length fields ≤ 65535
     → All IsWritten fields → directory_end (length fields) + outside_total fields < 4294967296
     → field_of (front order fields ++ data') tag ≡ Ok (lookup tag fields)
@@ -355,7 +355,7 @@ field-back order fields data' tag some few are small =
     ∙ field-found order tag (directory_end (length fields)) fields (front order fields ++ data') (before_values order fields) data' are
     (sym (length-before order fields)) small (values-parts order fields data')
 
--- the length of what stands before the strips
+-- the number of bytes before the strips
 length-outsides : (order : Order) (fields : List FieldData) → length (flat_map (outside order) fields) ≡ outside_total fields
 length-outsides order [] = refl
 length-outsides order (field ∷ fields) =

@@ -1,4 +1,4 @@
--- The fields of a made image read back, and pass the tests of its use.
+-- The fields of a generated image read back, and pass the tests of its use.
 use Rattle.std.proofs.Common.{◌≡◌, ℕ, zero, suc, ◌+◌, ◌*◌, ◌<◌, ◌≤◌, List, [], ◌∷◌, ◌++◌, length, take, get_or, Option, Some, None, Ok, refl, ap, ◌∙◌, arith}
 use Rattle.std.specs.List.{All}
 use Rattle.std.proofs.lemmas.Bool.Decides.{nat_tests}
@@ -122,7 +122,7 @@ all-written form places counts fits =
       ),
     )
 
--- ---- where the first strip stands
+-- ---- the offset of the first strip
 
 bits-out : (kind : Kind) → outside_size (shorts 258 (bits_of kind)) ≡ bits_outside kind
 bits-out Contone = refl
@@ -143,7 +143,7 @@ front-place : (form : ImageForm) (places counts : List ℕ) → length places �
 unfolding image_fields first_strip
 front-place form places counts p c = front-place-by form places counts form.planar p c
 
--- ---- places and byte counts fit
+-- ---- offsets and byte counts fit
 
 begins-within : (place : ℕ) (pieces : List (List ℕ)) (k d : ℕ) → k < length pieces → get_or (begins place pieces) k d ≤ place + length (joined pieces)
 unfolding begins
@@ -162,7 +162,7 @@ field_count-within : (planar : Planar) → (1 ≤ field_count planar) × (field_
 field_count-within Chunky = (omega arith, omega arith)
 field_count-within Separate = (omega arith, omega arith)
 
--- the places and byte counts of a made image
+-- the offsets and byte counts of a generated image
 abbrev pub made_places : ImageForm → List ℕ → List ℕ
 made_places form rows = begins (first_strip form) (strips form rows)
 
@@ -205,14 +205,14 @@ made-fits form rows is has small =
       counts_fit = λ k d below. let h = sizes-within all k d (omega arith) in omega arith;
     }
 
--- ---- the fields of a made image
+-- ---- the fields of a generated image
 
--- PlanarConfiguration, if it is there
+-- PlanarConfiguration, if present
 abbrev pub planar_values : Planar → Option (List ℕ)
 planar_values Chunky = None
 planar_values Separate = Some (2 ∷ [])
 
--- each is as the image has it, and no other is there
+-- each field is as the image has it, and no others are present
 pub record Looks (form : ImageForm) (places counts : List ℕ) (planar : Planar) (file : List ℕ) : Type 0 where
   pub width : field_of file 256 ≡ Ok (Some (form.width ∷ []))
   pub length_is : field_of file 257 ≡ Ok (Some (form.length ∷ []))
@@ -308,7 +308,7 @@ directory-found form rows is =
     length-take n (all_fields form places counts) ∙ omega (arith, all_fields-length form places counts) in
     rw (directory-back form.order (take n (all_fields form places counts)) (joined (strips form rows)) (omega arith) (omega arith)) refl
 
--- where the strips begin
+-- the offset of the strips
 pub front-length : (form : ImageForm) (rows : List ℕ)
     → length (front form.order (image_fields form (made_places form rows) (made_counts form rows))) ≡ first_strip form
 front-length form rows =

@@ -1,4 +1,4 @@
--- A made image reads back: it passes the tests of its use, and its rows are those that were given.
+-- A generated image reads back: it passes the tests of its use, and its rows are the given ones.
 use Rattle.std.proofs.Common.{◌≡◌, ℕ, ◌+◌, ◌*◌, ◌<◌, ◌≤◌, ◌==◌, if◌then◌else◌, List, length, Some, Ok, refl, sym, ap, ◌∙◌, arith}
 use Rattle.std.proofs.lemmas.List.{length-append}
 use Rattle.tif_dir.specs.Directory.{header_of}
@@ -22,7 +22,7 @@ use Rattle.job_gen.proofs.MadeFields.{directory-found, first-within, front-lengt
 use Rattle.job_gen.proofs.MadeStrips.{HasStrips, IsShapeOf, image-row-is, strips-pass}
 use Rattle.job_gen.proofs.MadeTests.{IsBilevelKind, bilevel-passes, contone-passes, photometric-back}
 
--- what an image needs to be made
+-- the conditions under which an image can be made
 pub record IsMakeable (form : ImageForm) (rows : List ℕ) : Type 0 where
   pub form_is : IsForm form
   pub has : HasRows form rows
@@ -109,7 +109,7 @@ pub order-of : (form : ImageForm) (rows : List ℕ) → header_of (image_file fo
 unfolding image_file
 order-of form rows = header-back form.order (image_fields form (made_places form rows) (made_counts form rows)) (joined (strips form rows))
 
--- how long the file is
+-- the length of the file
 pub file-within : (form : ImageForm) (rows : List ℕ) → IsMakeable form rows → length (image_file form rows) ≤ 3000000 + 2 * length rows
 unfolding image_file
 file-within form rows can =

@@ -1,4 +1,4 @@
--- The strips of a made image read back: they pass their tests, and their rows are those that were given.
+-- The strips of a generated image read back: they pass their tests, and their rows are the given ones.
 use Rattle.std.proofs.Common.{◌≡◌, ℕ, zero, suc, ◌+◌, ◌-◌, ◌*◌, ◌/◌, ◌%◌, ◌<◌, ◌≤◌, ◌⊎◌, inl, inr, min, false, nat_lt, ◌==◌, List, [], ◌∷◌, ◌++◌, length, map, take, drop, get_or, slice_index, Some, None, Ok, refl, sym, ap, subst, ◌∙◌, arith}
 use Rattle.std.specs.List.{flat_map, range_with_len}
 use Rattle.std.specs.Result.{result_err, result_unwrap_or}
@@ -28,9 +28,9 @@ use Rattle.tif_make.specs.Made.{HasRows}
 use Rattle.tif_make.specs.Strips.{begins, ink_row, joined, plane_row, plane_row_of, plane_strips, row_at, sizes, stored_at, stored_row, strip, strips}
 use Rattle.tif_make.proofs.Pieces.{length-begins, length-strips, rows-joined, rows_above, strips_fill}
 
--- ---- pieces behind a front
+-- ---- pieces after a front
 
--- where a piece begins, and how long it is, cut it out
+-- a piece is recovered from its offset and its length
 piece-back : (front : List ℕ) (pieces : List (List ℕ)) (i place : ℕ) → i < length pieces → place ≡ length front
     → take (get_or (sizes pieces) i 0) (drop (get_or (begins place pieces) i 0) (front ++ joined pieces)) ≡ get_or pieces i []
 unfolding begins
@@ -41,7 +41,7 @@ piece-back front (piece ∷ pieces) (suc i) place below at =
     ap (λ bytes. take (get_or (sizes pieces) i 0) (drop (get_or (begins (place + length piece) pieces) i 0) bytes)) (sym (append_assoc front piece (joined pieces)))
     ∙ piece-back (front ++ piece) pieces i (place + length piece) (omega arith) (omega (arith, length-append front piece))
 
--- and it lies in the file
+-- and lies within the file
 piece-within : (pieces : List (List ℕ)) (i place : ℕ) → i < length pieces
     → get_or (begins place pieces) i 0 + get_or (sizes pieces) i 0 ≤ place + length (joined pieces)
 unfolding begins
@@ -50,7 +50,7 @@ piece-within (piece ∷ pieces) zero place below = omega (arith, length-append p
 piece-within (piece ∷ pieces) (suc i) place below =
     omega (arith, piece-within pieces i (place + length piece) (omega arith), length-append piece (joined pieces))
 
--- item i of the list that stands k lists behind the first, where all are as long
+-- item i of the list that is k lists after the first, where all have the same length
 pub item-at : {X : Type 0} (f : ℕ → List X) (each from count k i : ℕ) (d : X) → ((n : ℕ) → length (f n) ≡ each) → k < count → i < each
     → get_or (flat_map f (range_with_len from count)) (k * each + i) d ≡ get_or (f (from + k)) i d
 item-at f each from zero k i d same below within = absurd (omega arith)
@@ -142,7 +142,7 @@ pub record IsShapeOf (form : ImageForm) (shape : Shape) : Type 0 where
   pub rows_are : shape.rows_per_strip ≡ form.rows_per_strip
   pub packed_is : shape.packed ≡ (compression_of form.compression == 32773)
 
--- what is known of the file
+-- what is known about the file
 pub record HasStrips (form : ImageForm) (rows file : List ℕ) (shape : Shape) : Type 0 where
   pub form_is : IsForm form
   pub has : HasRows form rows
@@ -193,7 +193,7 @@ samples-are form rows file shape h plane i below within =
     (stored-is form rows file shape h (plane * strips_each form + i) (omega arith) ∙ strip-at form rows plane i below within)
     ∙ samples-strip form rows plane i
 
--- how many it needs
+-- the number of samples that it needs
 needed-is : (form : ImageForm) (shape : Shape) (plane i : ℕ) → IsShapeOf form shape → i < strips_each form
     → needed_length shape (plane * strips_each form + i) ≡ min form.rows_per_strip (form.length - i * form.rows_per_strip) * plane_row_length form
 unfolding needed_length strip_rows read_row_length
@@ -293,7 +293,7 @@ plane-is form rows file shape h plane below =
     ∙ rows-joined (plane_row form rows plane) form.rows_per_strip form.length each
     ∙ ap (λ n. flat_map (plane_row form rows plane) (range_with_len 0 n)) all)
 
--- row y among rows that are all as long
+-- row y among rows of the same length
 pub row-cut : (f : ℕ → List ℕ) (size from count y limit : ℕ) → from + count ≤ limit → ((k : ℕ) → k < limit → length (f k) ≡ size) → y < count
     → take size (drop (y * size) (flat_map f (range_with_len from count))) ≡ f (from + y)
 row-cut f size from zero y limit within same below = absurd (omega arith)
@@ -319,7 +319,7 @@ row-is form rows file shape h plane y below within =
 
 -- ---- rows of the image
 
--- a whole row in one plane, or the samples of an ink in each of four
+-- a whole row in one plane, or the samples of one ink in each of four
 record IsOne (kind : Kind) (planar : Planar) (width : ℕ) : Type 0 where
   planes_are : planes_of kind planar ≡ 1
   row : (plane : ℕ) (row : List ℕ) → plane_row_of kind planar width plane row ≡ row
@@ -389,7 +389,7 @@ sample-is form rows file shape h y x ink four below within known =
     ∙ sym (get_or-take width (drop (y * width) (plane_data shape file ink)) x 0 within)
     ∙ ap (λ xs. slice_index xs x) whole ∙ ink-at width ink row x within
 
--- the rows of the image are those that were given
+-- the rows of the image are the given ones
 pub image-row-is : (form : ImageForm) (rows file : List ℕ) (shape : Shape) (h : HasStrips form rows file shape) (y : ℕ) → y < form.length
     → image_row shape file y ≡ row_at (row_length form) rows y
 unfolding image_row planar_pixel

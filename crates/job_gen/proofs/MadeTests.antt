@@ -1,4 +1,4 @@
--- A made image passes the tests of its fields.
+-- A generated image passes the tests of its fields.
 use Rattle.std.proofs.Common.{◌≡◌, ℕ, ◌≤◌, true, nat_le, ◌==◌, List, [], ◌∷◌, Some, None, Ok, refl, ap, ◌∙◌, arith}
 use Rattle.std.specs.List.{list_any}
 use Rattle.std.specs.Result.{result_unwrap_or}
@@ -95,7 +95,7 @@ contone-passes form places counts file is_kind is small looks directory strips =
     )
     refl
 
--- images of a kind have one bit a pixel, and a PhotometricInterpretation that the use takes
+-- images of a kind with one bit per pixel, and a PhotometricInterpretation that the use accepts
 pub record IsBilevelKind (usage : BilevelUse) (kind : Kind) : Type 0 where
   pub samples : samples_of kind ≡ 1
   pub bits : bits_of kind ≡ 1 ∷ []

@@ -1,4 +1,4 @@
--- The plan that the value of a job is.
+-- The plan read from the value of a job.
 use Rattle.std.proofs.Common.{◌≡◌, ℕ, ◌+◌, ◌*◌, ◌/◌, ◌%◌, ◌==◌, if◌then◌else◌, ◌<◌, ◌≤◌, true, false, List, [], ◌∷◌, ◌++◌, map, Some, None, Ok, refl, codes, zero, suc, nat_le, arith}
 use Rattle.std.proofs.lemmas.Bool.Decides.{nat_tests}
 use Rattle.std.specs.List.{range_with_len}
@@ -14,7 +14,7 @@ use Rattle.job_gen.specs.Plan.{job_plan, plan_with, job_mark, job_screens, is_co
 use Rattle.job_gen.specs.Numbers.{size_of}
 use Rattle.job_gen.specs.Text.{job_value, layout_members, printing_members, pages_value, sections_value, sites_value, value_with, whole, zones_value, list_of}
 
--- the pages as a text tells them, with the names of their files
+-- the pages as a text describes them, with the names of their files
 text_page : ℕ → ℕ → PageText
 text_page pages j = record {
   name = page_name j;
@@ -55,7 +55,7 @@ joined_eight : (pages_of (text_pages 8) ≡ job_pages 8) × (files_of (text_page
 unfolding digits text_pages text_page job_pages job_files pages_of page_of layer_of index_of files_of
 joined_eight = (refl, refl)
 
--- ---- the lists behind the pages
+-- ---- the lists after the pages
 
 sections_four : (path : List ℕ) → sections (page_names (text_pages 4)) path (list_of (sections_value 4)) ≡ Ok (job_sections 4)
 unfolding digits is_name is_name_byte object_with required name new_name defined items_in items_within each_after section_pages section sections sections_value job_sections text_pages text_page

@@ -1,4 +1,4 @@
--- The text of a plan's value is that plan.
+-- The text of a plan's value reads back as that value.
 use Rattle.std.proofs.Common.{◌≡◌, ℕ, zero, suc, ◌+◌, ◌*◌, ◌/◌, ◌%◌, ◌<◌, ◌≤◌, List, Some, Ok, sym, ap, subst, ◌∙◌, arith}
 use Rattle.std.specs.Fmt.{digits}
 use Rattle.std.specs.Str.{IsUtf8}
@@ -12,7 +12,7 @@ use Rattle.job_gen.specs.Plan.{job_plan}
 use Rattle.job_gen.specs.Text.{job_value, layout_members, pages_value, printing_members, sections_value, sites_value, value_with}
 use Rattle.job_gen.proofs.PlanRead.{plan_is}
 
--- how deep the value nests
+-- the nesting depth of the value
 depth_by : (k half size : ℕ) → k < 4 → half < 2 → depth (value_with (k + 1) (4 + 4 * half) size) ≤ max_depth
 unfolding digits value_with printing_members layout_members pages_value sections_value sites_value
 depth_by zero zero size a b = omega arith

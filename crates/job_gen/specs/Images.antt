@@ -14,16 +14,16 @@ use Rattle.job_gen.specs.Plan.{line_file, mask_file, other_file, page_file}
 
 -- ---- pixels
 
--- sample i of the pixel at column x of row y in the contone image of index f, 0 to 3 for cyan, magenta,
+-- sample i of the pixel at column x of row y in the contone image of index f; i is 0 to 3 for cyan, magenta,
 -- yellow and black
 abbrev pub sample : ℕ → ℕ → ℕ → ℕ → ℕ → ℕ
 sample n f i x y = (n % 256 + 29 * f + 61 * i + 3 * x + 7 * y) % 256
 
--- a pixel of the linework is marked
+-- whether a pixel of the linework is marked
 abbrev pub line_marked : ℕ → ℕ → Bool
 line_marked x y = (x + y) % 4 == 0
 
--- a pixel of the mask is marked: those of the left half
+-- whether a pixel of the mask is marked: those of the left half are
 abbrev pub mask_marked : ℕ → ℕ → Bool
 mask_marked width x = nat_lt (2 * x) width
 
@@ -41,14 +41,14 @@ line_row width y = packed_row width (λ x. line_marked x y)
 unfoldable pub mask_row : ℕ → ℕ → List ℕ
 mask_row width y = packed_row width (mask_marked width)
 
--- all rows of an image, one behind the other
+-- all rows of an image, concatenated
 abbrev pub rows_of : (ℕ → List ℕ) → ℕ → List ℕ
 rows_of row length = flat_map row (range_with_len 0 length)
 
 -- ---- files
 
--- of odd index: least significant byte first, samples side by side; of even index: most significant byte
--- first, a plane for each ink
+-- for odd f, least significant byte first with the samples of a pixel side by side; for even f, most
+-- significant byte first with a plane for each ink
 abbrev pub contone_form : ℕ → ℕ → ImageForm
 contone_form n f =
     record {
@@ -73,7 +73,7 @@ line_form n =
       rows_per_strip = 4;
     }
 
--- one strip
+-- a single strip
 abbrev pub mask_form : ℕ → ImageForm
 mask_form n =
     record {
@@ -106,7 +106,7 @@ mask_bytes n = image_file (mask_form n) (mask_rows n)
 
 -- ---- the files of the job
 
--- where a file of the plan stands
+-- the path of a file of the plan
 abbrev pub path_of : List ℕ → List ℕ
 path_of name = codes "in/" ++ name
 
@@ -114,7 +114,7 @@ path_of name = codes "in/" ++ name
 abbrev pub page_entry : ℕ → ℕ → List ℕ × List ℕ
 page_entry n j = (path_of (page_file j), contone_bytes n j)
 
--- the other page has that of index 0
+-- the replacement page has the image of index 0
 abbrev pub other_entries : ℕ → List (List ℕ × List ℕ)
 other_entries n =
     (path_of other_file, contone_bytes n 0) ∷ (path_of line_file, line_bytes n)

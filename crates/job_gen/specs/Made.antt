@@ -1,4 +1,4 @@
--- What a made file is as a file that is read.
+-- A generated file as the reader sees it.
 use Rattle.std.specs.Prelude.{ℕ, ◌==◌}
 use Rattle.tif_strips.specs.declared.shape.Shape.{Shape}
 use Rattle.tif_make.specs.declared.form.ImageForm.{ImageForm}
@@ -11,7 +11,7 @@ abbrev pub planar_number : Planar → ℕ
 planar_number Chunky = 1
 planar_number Separate = 2
 
--- the shape of an image of so many samples of so many bits that is laid so
+-- the shape of an image with this layout, of this many samples of this many bits
 abbrev pub shape_for : ℕ → ℕ → ImageForm → Shape
 shape_for samples bits form = record {
   width = form.width;

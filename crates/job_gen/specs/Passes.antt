@@ -1,5 +1,5 @@
--- What is promised of the files of a generated job: they pass the tests of their uses, in these forms and
--- with these pixels.
+-- What is promised of the files of a generated job: they pass the tests of their uses, with these shapes and
+-- these pixels.
 use Rattle.std.specs.Prelude.{◌≡◌, ℕ, ◌%◌, ◌<◌, ◌≤◌, ◌==◌, if◌then◌else◌, true, false, List, length, Some, Ok}
 use Rattle.tif_dir.specs.declared.order.Order.TheVariants.{Little, Big}
 use Rattle.tif_dir.specs.Directory.{header_of}
@@ -9,12 +9,12 @@ use Rattle.tif_image.specs.Image.{bilevel_shape, contone_shape, pixel_marked, sa
 use Rattle.job_gen.specs.Images.{line_marked, mask_marked, sample}
 use Rattle.job_gen.specs.Numbers.{image_length, image_width}
 
--- the most bytes of a file
+-- the largest size of a file in bytes
 abbrev pub most_bytes : ℕ
 most_bytes = 4000000
 
--- the shape of the contone image of index f: of odd index with the samples of a pixel side by side, of even
--- index with a plane for each ink; uncompressed, four rows a strip
+-- the shape of the contone image of index f: for odd f with the samples of a pixel side by side, for even f
+-- with a plane for each ink; uncompressed, four rows per strip
 abbrev pub contone_shape_of : ℕ → ℕ → Shape
 contone_shape_of n f = record {
   width = image_width n;
@@ -26,7 +26,7 @@ contone_shape_of n f = record {
   rows_per_strip = 4;
 }
 
--- the shape of the linework: packed, four rows a strip
+-- the shape of the linework: packed, four rows per strip
 abbrev pub line_shape_of : ℕ → Shape
 line_shape_of n = record {
   width = image_width n;
@@ -38,7 +38,7 @@ line_shape_of n = record {
   rows_per_strip = 4;
 }
 
--- the shape of the mask: uncompressed, in one strip
+-- the shape of the mask: uncompressed, a single strip
 abbrev pub mask_shape_of : ℕ → Shape
 mask_shape_of n = record {
   width = image_width n;
@@ -50,8 +50,8 @@ mask_shape_of n = record {
   rows_per_strip = image_length n;
 }
 
--- the contone image of index f: of odd index least significant byte first, of even index most significant
--- byte first
+-- the contone image of index f: least significant byte first for odd f, most significant byte first for
+-- even f
 pub record IsContoneFile (n f : ℕ) (file : List ℕ) : Type 0 where
   pub order : header_of file ≡ Some (if f % 2 == 1 then Little else Big)
   pub passes : contone_shape file ≡ Ok (contone_shape_of n f)

@@ -19,7 +19,7 @@ page_name j = codes "p" ++ decimal j
 abbrev pub page_file : ℕ → List ℕ
 page_file j = page_name j ++ codes ".tif"
 
--- the page that the zone puts in place of the first, and its file
+-- the page with which the zone replaces the first page, and its file
 abbrev pub other_name : List ℕ
 other_name = codes "z1"
 
@@ -37,12 +37,12 @@ site_name i = codes "S" ++ decimal i
 
 -- ---- files
 
--- each once, in the order in which the layers mention them: the first page has the linework and its mask
+-- each file once, in the order in which the layers mention them: the first page has the linework and its mask
 unfoldable pub job_files : ℕ → List (List ℕ)
 job_files pages =
     page_file 1 ∷ line_file ∷ mask_file ∷ map page_file (range_with_len 2 (pages - 1)) ++ other_file ∷ []
 
--- their indexes
+-- the indexes of the files
 abbrev pub page_index : ℕ → ℕ
 page_index j = if j == 1 then 0 else j + 1
 
@@ -71,7 +71,7 @@ image_layer file = record {
   ink = black;
 }
 
--- linework that the mask lets show, printed in black over what lies below
+-- linework visible where the mask is marked, printed in black over the layers below
 abbrev pub line_layer : LayerData
 line_layer = record {
   line = true;
@@ -85,7 +85,7 @@ line_layer = record {
   ink = black;
 }
 
--- page j of so many: the two in the middle print K alone, and each odd one has the linework on top
+-- page j of `pages`: the two in the middle print only K, and each odd page has the linework on top
 abbrev pub is_colour : ℕ → ℕ → Bool
 is_colour pages j = not (j == pages / 2 || j == pages / 2 + 1)
 
@@ -104,7 +104,7 @@ abbrev pub other_page : ℕ → PageData
 other_page pages =
     record { name = other_name; colour = true; spot = false; layers = image_layer (other_index pages) ∷ [] }
 
--- the section's pages, and behind them the other one
+-- the section's pages, followed by the replacement page
 unfoldable pub job_pages : ℕ → List PageData
 job_pages pages = map (section_page pages) (range_with_len 1 pages) ++ other_page pages ∷ []
 
@@ -118,25 +118,25 @@ job_mark = record { inks = true ∷ true ∷ true ∷ true ∷ false ∷ []; x =
 unfoldable pub job_sections : ℕ → List SectionData
 job_sections pages = record { name = codes "A"; pages = range_with_len 0 pages } ∷ []
 
--- the zone replaces the section's first page by the other one
+-- the zone replaces the section's first page with the other page
 unfoldable pub job_zones : ℕ → List ZoneData
 job_zones pages =
     record { name = codes "Z"; replace = record { section = 0; page = 1; with = pages } ∷ [] } ∷ []
 
--- sites of odd number have the zone
+-- sites with odd numbers have the zone
 abbrev pub job_site : ℕ → SiteData
 job_site i = record { name = site_name i; zone = if i % 2 == 1 then Some 0 else None }
 
 unfoldable pub job_sites : ℕ → List SiteData
 job_sites sites = map job_site (range_with_len 0 sites)
 
--- how C, M, Y and K are screened; S, which no page prints, as where a plan says nothing
+-- the screens of C, M, Y and K; S, which no page prints, has the default screen
 abbrev pub job_screens : List Screen
 job_screens = Bayer 4 ∷ Bayer 8 ∷ Bayer 16 ∷ Diffuse ∷ Bayer 8 ∷ []
 
 -- ---- the plan
 
--- a plan of so many sites and pages, and of this size
+-- a plan with this many sites and pages, and of this size
 unfoldable pub plan_with : ℕ → ℕ → ℕ → PlanData
 plan_with sites pages size = record {
   edition = codes "DRILL";

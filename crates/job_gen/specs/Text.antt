@@ -19,7 +19,7 @@ items_of (d ∷ ds) = item d (items_of ds)
 abbrev pub list_of : List Data → Data
 list_of ds = array (items_of ds)
 
--- the members with these put to them, one after the other
+-- the members with these added one after the other
 abbrev pub put_all : Members → List (List ℕ × Data) → Members
 put_all members [] = members
 put_all members (m ∷ ms) = put_all (put m.0 m.1 members) ms
@@ -112,7 +112,7 @@ marks_value =
 
 -- ---- the plan
 
--- what is printed on what, and how
+-- the members for printing: sizes, resolution, screens and marks
 unfoldable pub printing_members : ℕ → List (List ℕ × Data)
 printing_members size =
     (codes "plan", whole 1) ∷ (codes "edition", string (codes "DRILL")) ∷ (codes "dpi", whole 1200)
@@ -124,7 +124,7 @@ printing_members size =
     ∷ (codes "marks", list_of marks_value)
     ∷ []
 
--- which pages go where
+-- the members for the layout: pages, sections, zones and sites
 unfoldable pub layout_members : ℕ → ℕ → List (List ℕ × Data)
 layout_members sites pages =
     (codes "pages", list_of (pages_value pages)) ∷ (codes "sections", list_of (sections_value pages))

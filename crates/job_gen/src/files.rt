@@ -10,7 +10,7 @@ use crate::numbers::page_count;
 use pr_base::{NoMemory, PathText};
 use std::alloc::Global;
 
-/// The files of job `n`.
+/// Returns the files of job `n`.
 pub(crate) fn files(alloc: Global, n: u32) -> Result<Vec<(PathText, Vec<u8>)>, NoMemory>
     ensures { IfOk result (λ files. shown files.items ≡ files_of n) }
 {
@@ -19,7 +19,7 @@ pub(crate) fn files(alloc: Global, n: u32) -> Result<Vec<(PathText, Vec<u8>)>, N
     Ok(files)
 }
 
-/// The files of the section's pages.
+/// Returns the files of the section's pages.
 fn page_files(alloc: Global, n: u32, pages: u32) -> Result<Vec<(PathText, Vec<u8>)>, NoMemory>
     requires { pages ≤ 8 }
     ensures { IfOk result (λ files. shown files.items ≡ map (page_entry n) (range_with_len 1 pages)) }
@@ -33,7 +33,7 @@ fn page_files(alloc: Global, n: u32, pages: u32) -> Result<Vec<(PathText, Vec<u8
     Ok(files)
 }
 
-/// Adds the files of the other page, of the linework and of the mask.
+/// Appends the files of the replacement page, of the linework and of the mask.
 fn put_other_files(
     alloc: Global,
     n: u32,
@@ -50,7 +50,7 @@ fn put_other_files(
     Ok(())
 }
 
-/// Adds a file of the plan under its path.
+/// Appends a file of the plan with its path.
 fn put_file(
     alloc: Global,
     name: &str,

@@ -1,4 +1,4 @@
-// The images of a job: their rows, and the files that they make.
+// The images of a job: their rows, and their files.
 ghost use Rattle.std.specs.Prelude.{◌≡◌, ◌≤◌, ◌*◌, ◌++◌, IfOk, OnOk, nat_lt, if◌then◌else◌};
 ghost use Rattle.tif_make.specs.Form.{IsForm};
 ghost use Rattle.job_gen.specs.Images.{contone_bytes, contone_form as contone_form_of, contone_pixel};
@@ -11,19 +11,19 @@ use pr_base::NoMemory;
 use std::alloc::Global;
 use tif_make::{Compression, ImageForm, Kind, Order, Planar, make_image};
 
-/// The least sides of an image in pixels.
+/// The smallest width and height of an image in pixels.
 const WIDTH: u32 = 16;
 
 const LENGTH: u32 = 12;
 
-/// The rows of a strip, the mask aside.
+/// The rows per strip, except in the mask.
 const STRIP_ROWS: u32 = 4;
 
-/// Eight pixels of the linework in a row, by the number of the row modulo 4: every fourth is marked, in each
-/// row one to the left of the row above.
+/// Eight pixels of a linework row, indexed by the row number modulo 4: every fourth pixel is marked, in each
+/// row one pixel to the left of the row above.
 const LINE_BYTES: [u8; 4] = [0x88, 0x11, 0x22, 0x44];
 
-/// The contone image of index `f`.
+/// Returns the file of the contone image of index `f`.
 #[tactic(auto, unfolding(crate::specs::Images::contone_bytes))]
 pub(crate) fn contone_image(alloc: Global, n: u32, f: u32) -> Result<Vec<u8>, NoMemory>
     requires { f ≤ 8 }
@@ -34,7 +34,7 @@ pub(crate) fn contone_image(alloc: Global, n: u32, f: u32) -> Result<Vec<u8>, No
     make_image(alloc, &form, rows.as_slice())
 }
 
-/// The linework.
+/// Returns the file of the linework.
 #[tactic(auto, unfolding(crate::specs::Images::line_bytes))]
 pub(crate) fn line_image(alloc: Global, n: u32) -> Result<Vec<u8>, NoMemory>
     ensures { IfOk result (λ file. file.items ≡ line_bytes n) }
@@ -44,7 +44,7 @@ pub(crate) fn line_image(alloc: Global, n: u32) -> Result<Vec<u8>, NoMemory>
     make_image(alloc, &form, rows.as_slice())
 }
 
-/// The mask.
+/// Returns the file of the mask.
 #[tactic(auto, unfolding(crate::specs::Images::mask_bytes))]
 pub(crate) fn mask_image(alloc: Global, n: u32) -> Result<Vec<u8>, NoMemory>
     ensures { IfOk result (λ file. file.items ≡ mask_bytes n) }
@@ -54,7 +54,7 @@ pub(crate) fn mask_image(alloc: Global, n: u32) -> Result<Vec<u8>, NoMemory>
     make_image(alloc, &form, rows.as_slice())
 }
 
-/// How the contone image of index `f` is laid into its file.
+/// The layout of the contone image of index `f` in its file.
 fn contone_form(n: u32, f: u32) -> ImageForm
     ensures form { result ≡ contone_form_of n f }
     ensures is { IsForm result }
@@ -75,7 +75,7 @@ fn contone_form(n: u32, f: u32) -> ImageForm
     }
 }
 
-/// How the linework is laid into its file.
+/// The layout of the linework in its file.
 fn line_form(n: u32) -> ImageForm
     ensures form { result ≡ line_form_of n }
     ensures is { IsForm result }
@@ -91,7 +91,7 @@ fn line_form(n: u32) -> ImageForm
     }
 }
 
-/// How the mask is laid into its file: in one strip.
+/// The layout of the mask in its file: a single strip.
 fn mask_form(n: u32) -> ImageForm
     ensures form { result ≡ mask_form_of n }
     ensures is { IsForm result }
@@ -107,7 +107,7 @@ fn mask_form(n: u32) -> ImageForm
     }
 }
 
-/// The rows of a contone image.
+/// Returns the rows of a contone image.
 fn contone_rows(alloc: Global, n: u32, f: u32, width: u32, length: u32) -> Result<Vec<u8>, NoMemory>
     requires index { f ≤ 8 }
     requires width { width ≤ 65535 }
@@ -121,7 +121,7 @@ fn contone_rows(alloc: Global, n: u32, f: u32, width: u32, length: u32) -> Resul
     Ok(rows)
 }
 
-/// The rows of the linework, each of so many bytes.
+/// Returns the rows of the linework, each of `bytes` bytes.
 fn line_rows(alloc: Global, bytes: u32, length: u32) -> Result<Vec<u8>, NoMemory>
     requires { bytes ≤ 8191 }
     ensures { IfOk result (λ rows. rows.items ≡ rows_of (line_row (8 * bytes)) length) }
@@ -133,7 +133,7 @@ fn line_rows(alloc: Global, bytes: u32, length: u32) -> Result<Vec<u8>, NoMemory
     Ok(rows)
 }
 
-/// The rows of the mask, of which half has so many bytes.
+/// Returns the rows of the mask, each of `2 * half` bytes.
 fn mask_rows(alloc: Global, half: u32, length: u32) -> Result<Vec<u8>, NoMemory>
     requires { half ≤ 4095 }
     ensures { IfOk result (λ rows. rows.items ≡ rows_of (mask_row (16 * half)) length) }
@@ -174,7 +174,7 @@ fn pixel(n: u32, f: u32, x: u32, y: u32) -> [u8; 4]
     ]
 }
 
-/// A sample.
+/// The sample of an ink at a pixel.
 fn sample(n: u32, f: u32, ink: u32, x: u32, y: u32) -> u8
     requires index { f ≤ 8 }
     requires ink { ink ≤ 3 }
@@ -185,7 +185,7 @@ fn sample(n: u32, f: u32, ink: u32, x: u32, y: u32) -> u8
     ((n % 256 + 29 * f + 61 * ink + 3 * x + 7 * y) % 256) as u8
 }
 
-/// Appends a row of the linework, which has so many bytes.
+/// Appends a row of the linework, of `bytes` bytes.
 fn put_line_row(rows: &mut Vec<u8>, bytes: u32, y: u32) -> Result<(), NoMemory>
     requires { bytes ≤ 8191 }
     ensures { OnOk result (rows.new.items ≡ rows.old.items ++ line_row (8 * bytes) y) }
@@ -197,7 +197,7 @@ fn put_line_row(rows: &mut Vec<u8>, bytes: u32, y: u32) -> Result<(), NoMemory>
     Ok(())
 }
 
-/// Appends a row of the mask, of which half has so many bytes.
+/// Appends a row of the mask, of `2 * half` bytes.
 fn put_mask_row(rows: &mut Vec<u8>, half: u32, y: u32) -> Result<(), NoMemory>
     requires { half ≤ 4095 }
     ensures { OnOk result (rows.new.items ≡ rows.old.items ++ mask_row (16 * half) y) }

@@ -1,4 +1,4 @@
-// A job and the number that makes it.
+// A job generated from a number.
 ghost use Rattle.std.specs.Prelude.{◌≡◌, IfOk, Ok, OnOk, map, nat_eq};
 ghost use Rattle.std.specs.Cmp.Lexicographic.{pointwise};
 ghost use Rattle.std.specs.List.{IsDistinct};
@@ -13,7 +13,7 @@ use crate::text::plan_text;
 use pr_base::{NoMemory, PathText};
 use std::alloc::Global;
 
-/// An edition plan, and the files that it names, each under its path in the folder `in`.
+/// An edition plan, and the files that it names, each with its path in the folder `in`.
 #[derive(Debug, Drop)]
 pub struct GenJob {
     /// The plan as JSON.
@@ -21,7 +21,7 @@ pub struct GenJob {
     pub files: Vec<(PathText, Vec<u8>)>,
 }
 
-/// The job of number `n`.
+/// Returns job number `n`.
 pub fn make_job(alloc: Global, n: u32) -> Result<GenJob, NoMemory>
     ensures plan { IfOk result (λ job. plan_of job.plan.items ≡ Ok (job_plan n)) }
     ensures files { IfOk result (λ job. shown job.files.items ≡ files_of n) }

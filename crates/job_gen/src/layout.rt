@@ -11,14 +11,14 @@ use pr_base::NoMemory;
 use serde_json::{Value, json};
 use std::alloc::Global;
 
-/// The layer of an image.
+/// Returns the layer of an image.
 fn image_layer(alloc: Global, file: &str) -> Result<Value, NoMemory>
     ensures { IfOk result (λ value. view value ≡ image_layer_value file.now) }
 {
     Ok(json!(in alloc; {"kind": "contone", "file": file, "scale": 4u32})?)
 }
 
-/// The layer of the linework.
+/// Returns the layer of the linework.
 fn line_layer(alloc: Global) -> Result<Value, NoMemory>
     ensures { IfOk result (λ value. view value ≡ line_layer_value) }
 {
@@ -32,7 +32,7 @@ fn line_layer(alloc: Global) -> Result<Value, NoMemory>
     Ok(layer?)
 }
 
-/// A page with these layers.
+/// Returns a page with these layers.
 fn page(alloc: Global, name: &str, colour: bool, layers: Vec<Value>) -> Result<Value, NoMemory>
     ensures { IfOk result (λ value. view value ≡ page_value name.now colour (map view layers.items)) }
 {
@@ -40,7 +40,7 @@ fn page(alloc: Global, name: &str, colour: bool, layers: Vec<Value>) -> Result<V
     Ok(json!(in alloc; {"name": name, "inks": inks, "layers": layers})?)
 }
 
-/// The layers of page `j`.
+/// Returns the layers of page `j`.
 fn layers(alloc: Global, j: u32) -> Result<Vec<Value>, NoMemory>
     ensures { IfOk result (λ values. map view values.items ≡ layer_values j) }
 {
@@ -53,7 +53,7 @@ fn layers(alloc: Global, j: u32) -> Result<Vec<Value>, NoMemory>
     Ok(layers)
 }
 
-/// Page `j` of a section of so many.
+/// Returns page `j` of a section of `pages` pages.
 fn section_page(alloc: Global, pages: u32, j: u32) -> Result<Value, NoMemory>
     requires { pages ≤ 8 }
     ensures { IfOk result (λ value. view value ≡ section_page_value pages j) }
@@ -63,7 +63,7 @@ fn section_page(alloc: Global, pages: u32, j: u32) -> Result<Value, NoMemory>
     page(alloc, name.as_str(), colour, layers(alloc, j)?)
 }
 
-/// The section's pages, and behind them the other one.
+/// Returns the section's pages, followed by the replacement page.
 #[tactic(auto, unfolding(crate::specs::Text::pages_value))]
 pub(crate) fn pages(alloc: Global, pages: u32) -> Result<Vec<Value>, NoMemory>
     requires { pages ≤ 8 }
@@ -74,7 +74,7 @@ pub(crate) fn pages(alloc: Global, pages: u32) -> Result<Vec<Value>, NoMemory>
     Ok(values)
 }
 
-/// The section's pages.
+/// Returns the section's pages.
 fn section_pages(alloc: Global, pages: u32) -> Result<Vec<Value>, NoMemory>
     requires { pages ≤ 8 }
     ensures { IfOk result (λ values. map view values.items
@@ -87,7 +87,7 @@ fn section_pages(alloc: Global, pages: u32) -> Result<Vec<Value>, NoMemory>
     Ok(values)
 }
 
-/// The page that the zone puts in place of the section's first.
+/// Returns the page with which the zone replaces the section's first page.
 fn other_page(alloc: Global) -> Result<Value, NoMemory>
     ensures { IfOk result (λ value. view value ≡ other_page_value) }
 {
@@ -96,7 +96,7 @@ fn other_page(alloc: Global) -> Result<Value, NoMemory>
     page(alloc, OTHER_NAME, true, layers)
 }
 
-/// The names of the section's pages.
+/// Returns the names of the section's pages.
 fn page_names(alloc: Global, pages: u32) -> Result<Vec<Value>, NoMemory>
     requires { pages ≤ 8 }
     ensures { IfOk result (λ values. map view values.items ≡ name_values pages) }
@@ -108,7 +108,7 @@ fn page_names(alloc: Global, pages: u32) -> Result<Vec<Value>, NoMemory>
     Ok(values)
 }
 
-/// The section.
+/// Returns the list of the one section.
 #[tactic(auto, unfolding(crate::specs::Text::sections_value))]
 pub(crate) fn sections(alloc: Global, pages: u32) -> Result<Value, NoMemory>
     requires { pages ≤ 8 }
@@ -118,7 +118,7 @@ pub(crate) fn sections(alloc: Global, pages: u32) -> Result<Value, NoMemory>
     Ok(json!(in alloc; [{"name": "A", "pages": names}])?)
 }
 
-/// The zone.
+/// Returns the list of the one zone.
 pub(crate) fn zones(alloc: Global) -> Result<Value, NoMemory>
     ensures { IfOk result (λ value. view value ≡ list_of zones_value) }
 {
@@ -127,7 +127,7 @@ pub(crate) fn zones(alloc: Global) -> Result<Value, NoMemory>
     )
 }
 
-/// Site `i`.
+/// Returns site `i`.
 fn site(alloc: Global, i: u32) -> Result<Value, NoMemory>
     ensures { IfOk result (λ value. view value ≡ site_value i) }
 {
@@ -139,7 +139,7 @@ fn site(alloc: Global, i: u32) -> Result<Value, NoMemory>
     }
 }
 
-/// The sites.
+/// Returns the sites.
 #[tactic(auto, unfolding(crate::specs::Text::sites_value))]
 pub(crate) fn sites(alloc: Global, sites: u32) -> Result<Vec<Value>, NoMemory>
     ensures { IfOk result (λ values. map view values.items ≡ sites_value sites) }

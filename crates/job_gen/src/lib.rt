@@ -1,5 +1,5 @@
-// A job made from a number: an edition plan and the images that it names. Every number gives a plan that is
-// read and files that pass the tests of their uses; which plan and which pixels is a definition.
+// Generates a job from a number: an edition plan and the images that it names. For every number the plan is
+// accepted and the files pass the tests of their uses. The plan and the pixels are fixed by a definition.
 #![tactic(auto)]
 
 mod files;

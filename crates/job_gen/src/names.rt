@@ -14,21 +14,21 @@ pub(crate) const LINE_FILE: &str = "line.tif";
 
 pub(crate) const MASK_FILE: &str = "mask.tif";
 
-/// The name of page `j`.
+/// Returns the name of page `j`.
 pub(crate) fn page_name(alloc: Global, j: u32) -> Result<String, NoMemory>
     ensures { IfOk result (λ name. string_bytes name ≡ page_name_of j) }
 {
     Ok(format!(in alloc; "p{j}")?)
 }
 
-/// The file of page `j`.
+/// Returns the file name of page `j`.
 pub(crate) fn page_file(alloc: Global, j: u32) -> Result<String, NoMemory>
     ensures { IfOk result (λ file. string_bytes file ≡ page_file_of j) }
 {
     Ok(format!(in alloc; "p{j}.tif")?)
 }
 
-/// The name of site `i`.
+/// Returns the name of site `i`.
 pub(crate) fn site_name(alloc: Global, i: u32) -> Result<String, NoMemory>
     ensures { IfOk result (λ name. string_bytes name ≡ site_name_of i) }
 {

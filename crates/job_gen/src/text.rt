@@ -1,4 +1,4 @@
-// The text of a job's plan.
+// The JSON text of a job's plan.
 ghost use Rattle.std.specs.Prelude.{◌≡◌, ◌≤◌, IfOk, Ok, OnOk, map, string_bytes};
 ghost use Rattle.job_gen.specs.Plan.{job_plan};
 ghost use Rattle.job_gen.specs.Text.{job_value, layout_members, list_of, marks_value, printing_members};
@@ -12,7 +12,7 @@ use pr_base::NoMemory;
 use serde_json::{Map, Value, json, put};
 use std::alloc::Global;
 
-/// The text of the plan of job `n`.
+/// Returns the text of the plan of job `n`.
 pub(crate) fn plan_text(alloc: Global, n: u32) -> Result<String, NoMemory>
     ensures { IfOk result (λ text. plan_of (string_bytes text) ≡ Ok (job_plan n)) }
 {
@@ -20,21 +20,21 @@ pub(crate) fn plan_text(alloc: Global, n: u32) -> Result<String, NoMemory>
     Ok(plan.to_string(alloc)?)
 }
 
-/// How the inks are screened.
+/// Returns the screens of the inks.
 fn screens(alloc: Global) -> Result<Value, NoMemory>
     ensures { IfOk result (λ value. view value ≡ screens_value) }
 {
     Ok(json!(in alloc; {"C": "bayer4", "M": "bayer8", "Y": "bayer16", "K": "diffuse"})?)
 }
 
-/// The mark in the plate's corner.
+/// Returns the mark in the plate's corner.
 fn marks(alloc: Global) -> Result<Value, NoMemory>
     ensures { IfOk result (λ value. view value ≡ list_of marks_value) }
 {
     Ok(json!(in alloc; [{"inks": "CMYK", "x": 0u32, "y": 0u32, "w": 4u32, "h": 4u32}])?)
 }
 
-/// A list of numbers.
+/// Returns a list of numbers.
 fn numbers(alloc: Global, all: &[u32]) -> Result<Value, NoMemory>
     ensures { IfOk result (λ value. view value ≡ list_of (map whole all.now)) }
 {
@@ -45,7 +45,7 @@ fn numbers(alloc: Global, all: &[u32]) -> Result<Value, NoMemory>
     Ok(Value::Array(values))
 }
 
-/// Puts what is printed on what, and how.
+/// Adds the members for printing: sizes, resolution, screens and marks.
 #[tactic(auto, unfolding(crate::specs::Text::printing_members))]
 fn put_printing(alloc: Global, size: u32, plan: &mut Map<String, Value>) -> Result<(), NoMemory>
     requires { size ≤ 16 }
@@ -69,7 +69,7 @@ fn put_printing(alloc: Global, size: u32, plan: &mut Map<String, Value>) -> Resu
     Ok(())
 }
 
-/// Puts which pages go where.
+/// Adds the members for the layout: pages, sections, zones and sites.
 #[tactic(auto, unfolding(crate::specs::Text::layout_members))]
 fn put_layout(
     alloc: Global,
@@ -98,7 +98,7 @@ fn put_layout(
     Ok(())
 }
 
-/// The plan with so many sites and pages, and of this size.
+/// Returns a plan with this many sites and pages, and of this size.
 #[tactic(auto, unfolding(crate::specs::Text::value_with))]
 fn plan_value(alloc: Global, site_count: u32, page_count: u32, size: u32) -> Result<Value, NoMemory>
     requires pages { page_count ≤ 8 }

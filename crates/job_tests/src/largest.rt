@@ -1,4 +1,4 @@
-// The first row of the largest pages, and what may cross threads.
+// Tests of the first row of the largest pages, and of what can be shared with threads.
 ghost use Rattle.std.specs.Prelude.{◌<◌, length};
 ghost use Rattle.press_job.specs.Rows.{plate_frames};
 ghost use Rattle.pr_base.specs.Row.{FitsNext};
@@ -11,7 +11,8 @@ use std::alloc::{AllocError, Global};
 use std::process::Abort;
 use std::test::Fail;
 
-// The plan of a section of the same empty page 128 times. Whole pages would be 8,500,000,000 bytes.
+// The plan of a section with the same empty page 128 times. A page held whole, one byte per pixel for each of
+// four inks, would take 8,589,541,380 bytes.
 fn largest_plan(alloc: Global) -> Result<String, AllocError> {
     let mut names = String::from_str(alloc, r#""w""#)?;
     for _n in 1..128 {
@@ -24,25 +25,25 @@ fn largest_plan(alloc: Global) -> Result<String, AllocError> {
     )
 }
 
-// A shelf of no files.
+// Returns a shelf without files.
 fn no_files(alloc: Global) -> MemShelf {
     MemShelf::new(alloc, Vec::new(alloc), Vec::new(alloc))
 }
 
-// The job of a plan without files.
+// Prepares the job of a plan without files.
 fn job_of(alloc: Global, text: &str) -> Result<Job, Fail> {
     let plan = read_plan(alloc, text.as_bytes())?;
     let mut shelf = no_files(alloc);
     Ok(prepare(alloc, plan, "in", &mut shelf)?)
 }
 
-// A job may be lent to threads.
+// Requires that a job can be shared with threads.
 fn lent<T: Send + Sync>(_value: &T) {}
 
-// A feed may be sent to one.
+// Requires that a feed can be sent to a thread.
 fn sent<T: Send>(_value: &T) {}
 
-// The first row of a job.
+// Returns the first row of a job.
 fn first_row(alloc: Global, job: &Job) -> Result<Vec<u8>, NoMemory>
     requires { 0 < length (plate_frames job.now.plan job.now.files) }
 {
@@ -53,7 +54,7 @@ fn first_row(alloc: Global, job: &Job) -> Result<Vec<u8>, NoMemory>
     Ok(row)
 }
 
-// Draws the next row of a feed, which ends there.
+// Takes the next row of a feed, and drops the feed.
 fn draw<F: RowFeed + Drop>(feed: F, row: &mut [u8])
     requires { FitsNext (F.left feed) (length row.old) }
 {
@@ -61,7 +62,8 @@ fn draw<F: RowFeed + Drop>(feed: F, row: &mut [u8])
     feed.next(row);
 }
 
-// Whether a row of 8,192 bytes is packed as 64 repeats of 128 zeros, 128 bytes that are counted before them.
+// Whether a frame contains a row of 8,192 zero bytes: the packed length of 128 bytes, then 64 runs of 128
+// zeros, then zero bytes to the end.
 fn is_blank(row: &[u8]) -> bool {
     row.len() == 8_258
         && row.starts_with(&[0x80, 0])
@@ -71,10 +73,10 @@ fn is_blank(row: &[u8]) -> bool {
         && row[130..].iter().all(|byte| *byte == 0)
 }
 
-// The end of a value.
+// Drops a value.
 fn end<T: Drop>(_value: T) {}
 
-// What is asked of a job of the largest pages.
+// Checks a job of the largest pages.
 fn check_job(rt: &impl Abort, alloc: Global, job: &Job) -> Result<(), NoMemory> {
     assert!(rt; job.total() == 64 * 65_535);
     let row = first_row(alloc, job)?;

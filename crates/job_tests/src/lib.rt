@@ -1,4 +1,4 @@
-// Tests of job_gen, press_job and press_feed by their public names.
+// Tests of job_gen, press_job and press_feed through their public names.
 #![tactic(auto)]
 
 #[cfg(test)]

@@ -1,9 +1,9 @@
-// Jobs of some numbers beside what the definition of a generated job says of them, worked by hand.
+// Jobs of some numbers, compared with values worked out by hand from the definition of a generated job.
 use job_gen::{GenJob, make_job};
 use plan_json::read_plan;
 use std::process::Abort;
 
-// The number, its sites and pages, the sides of a page, and how many files there are.
+// The number, its counts of sites and pages, the sides of a page, and the number of files.
 const JOBS: [(u32, [usize; 2], [u32; 2], usize); 4] = [
     (0, [1, 5], [64, 48], 7),
     (7, [4, 9], [64, 48], 11),
@@ -11,11 +11,11 @@ const JOBS: [(u32, [usize; 2], [u32; 2], usize); 4] = [
     (4294967295, [4, 9], [1024, 768], 11),
 ];
 
-// Bytes of job 7: the file, the place in it, and the byte.
+// Bytes of job 7: the index of the file, the offset in it, and the byte.
 const BYTES: [(usize, usize, u8); 10] = [
-    // Yellow at column 3 of row 2 of p1.tif, whose strips stand from 154 on: 7 + 29 + 2 * 61 + 3 * 3 + 7 * 2.
+    // Yellow at column 3 of row 2 of p1.tif, whose strips begin at 154: 7 + 29 + 2 * 61 + 3 * 3 + 7 * 2.
     (0, 154 + 4 * (2 * 16 + 3) + 2, 181),
-    // Black at column 1 of row 1 of z1.tif, whose planes stand from 238 on: 7 + 3 * 61 + 3 + 7.
+    // Black at column 1 of row 1 of z1.tif, whose planes begin at 238: 7 + 3 * 61 + 3 + 7.
     (8, 238 + 3 * 192 + 17, 200),
     // The first two packed rows of line.tif.
     (9, 146, 1),
@@ -38,12 +38,12 @@ fn plans_are_read(rt: HostRuntime) {
     }
 }
 
-// The job of a number.
+// Generates the job of a number.
 fn job_of<R: Abort + AllocGlobal>(rt: &R, n: u32) -> GenJob {
     make_job(rt.alloc(), n).expect(rt, "memory")
 }
 
-// Whether the plan of a job is read, and has so many sites and pages with these sides.
+// Whether the plan of a job is accepted, and has this many sites and pages with these sides.
 fn is_plan<R: AllocGlobal>(rt: &R, job: &GenJob, lists: [usize; 2], sides: [u32; 2]) -> bool {
     let Ok(plan) = read_plan(rt.alloc(), job.plan.as_slice()) else {
         return false;

@@ -1,4 +1,4 @@
--- Marks: the bits of a block in lanes, and spans of a row that are joined.
+-- Marks: the bits of a block in lanes, and adjoining spans of a row.
 use Rattle.std.proofs.Common.{◌≡◌, ℕ, zero, suc, ◌+◌, ◌-◌, ◌*◌, ◌/◌, ◌%◌, ◌^◌, ◌<◌, ◌≤◌, Bool, true, false, cond, not, if◌then◌else◌, List, ◌++◌, length, take, map, replicate, eqb, get_or, slice_index, slice_range, slice_set, bit_and, get_or-set_same, get_or-set_other, inl, inr, refl, ap, sym, ◌∙◌, arith, w8}
 use Rattle.std.specs.List.{range_with_len}
 use Rattle.std.proofs.lemmas.Bool.{cases_lt, eq-eqb, ne_eqb}
@@ -14,7 +14,7 @@ use lib.Lanes.{put_chunk, sel_l, top, zip2}
 use Rattle.pr_base.proofs.Parts.{loaded, part_above, part_below, part_here, part_long}
 use Rattle.page_layers.specs.Rows.{IsMarked, Keeps, bit_is}
 
--- the bit of pixel x of a block, alone in its lane, and what it has to be
+-- the bit of pixel x of a block, isolated in its lane, and the value that it is compared with
 abbrev pub lane_bit : List ℕ → ℕ → ℕ
 lane_bit bits x = bit_and (get_or (take 8 bits ++ take 8 bits) (x / 8) 0) (2 ^ (7 - x % 8))
 
@@ -65,7 +65,7 @@ IsMarked_block zeros bits wanted into eight whole wanted_is =
           ∙ kept zeros bits into x eight whole within;
     }
 
--- ---- spans that are joined
+-- ---- adjoining spans
 
 pub Keeps_none : (test : ℕ → Bool) (from : ℕ) (old : List ℕ) → Keeps test from from old old
 Keeps_none test from old = record {
@@ -75,7 +75,7 @@ Keeps_none test from old = record {
   behind = λ n above. refl;
 }
 
--- a value that is multiplied by whether it stays
+-- a value multiplied by whether it is kept
 pub times_bit : (bit : Bool) (value : ℕ) → value * bool_byte bit ≡ (if bit then value else 0)
 times_bit true value = omega arith
 times_bit false value = omega arith
@@ -110,7 +110,7 @@ Keeps_join test from mid to old part new front rest first second = record {
 pub IsMarked_whole : (test : ℕ → Bool) (all : ℕ) (old new : List ℕ) → Keeps test 0 all old new → IsMarked test (slice_index old) all new
 IsMarked_whole test all old new has = record { each = λ n below. has.inside n (omega arith) below }
 
--- the bits of a byte and those behind it, seen from a part of the row
+-- the bits of a byte and of those after it, read from a part of the row
 bit_of_part : (zeros : Bool) (row : List ℕ) (byte end x place : ℕ) → byte + 8 ≤ end → x < 64 → place ≡ 8 * byte + x → byte + 8 ≡ end → bit_is zeros (slice_range row byte end) x ≡ bit_is zeros row place
 bit_of_part zeros row byte end x place room within is eight =
     let there : byte + x / 8 ≡ place / 8 = omega arith in
@@ -118,7 +118,7 @@ bit_of_part zeros row byte end x place room within is eight =
     ap (λ n. if zeros then not (eqb (n / 2 ^ (7 - x % 8) % 2) 1) else eqb (n / 2 ^ (7 - x % 8) % 2) 1) (get_or-between row byte end (x / 8) 0 (omega arith) ∙ ap (λ k. get_or row k 0) there)
     ∙ ap (λ k. if zeros then not (eqb (get_or row (place / 8) 0 / 2 ^ (7 - k) % 2) 1) else eqb (get_or row (place / 8) 0 / 2 ^ (7 - k) % 2) 1) column
 
--- a block behind a span
+-- a block after a span
 pub Keeps_block : (zeros : Bool) (row : List ℕ) (first from at to cut size byte last : ℕ) (old into part : List ℕ) → from ≤ at → to ≡ at + 64 → to ≤ length into → cut ≡ to → size ≡ 64 → first + at ≡ 8 * byte → last ≡ byte + 8
     → length part ≡ 64 → IsMarked (bit_is zeros (slice_range row byte last)) (slice_index (slice_range into at cut)) 64 part
     → Keeps (λ x. bit_is zeros row (first + x)) from at old into → Keeps (λ x. bit_is zeros row (first + x)) from to old (put_mid at size into part)

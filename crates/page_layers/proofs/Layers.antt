@@ -1,4 +1,4 @@
--- What a layer's rows keep, from the begin on.
+-- What a layer's rows keep, from the first row on.
 use Rattle.std.proofs.Common.{◌≡◌, ℕ, Bool, true, false, if◌then◌else◌, ◌+◌, ◌*◌, ◌/◌, ◌%◌, ◌<◌, ◌≤◌, List, length, take, drop, get_or, replicate, slice_index, Option, Some, None, option_map, refl, sym, ap, ◌∙◌, arith}
 use Rattle.std.proofs.Math.Nat.{mul-div-le}
 use Rattle.std.proofs.lemmas.List.{get_or-drop, get_or-replicate, get_or-take, length-replicate}
@@ -34,24 +34,24 @@ mask_wide layer next mask reader is fits there = cases layer.mask fits.mask_widt
     cases None same none = absurd (cc)
     cases (Some m) same some = sym (ap (λ (r : Cursor). r.shape.width) (same_Some (mask_cursor next m) reader some)) ∙ same m refl
 
--- so its rows have no more bytes
+-- so its rows are no longer than those of the image
 pub mask_most : (layer : Layer) (next : ℕ) (mask : Option Cursor) (reader : Cursor) → mask ≡ option_map (mask_cursor next) layer.mask → IsLayer layer → (shape_of layer.art).width ≤ 65535
     → mask ≡ Some reader → row_length reader.shape ≤ 262140
 mask_most layer next mask reader is fits wide there = row_most reader.shape (omega (arith, mask_wide layer next mask reader is fits there))
 
--- and the crop's columns lie in it
+-- and the crop's columns are inside it
 pub mask_columns : (layer : Layer) (next : ℕ) (mask : Option Cursor) (reader : Cursor) → mask ≡ option_map (mask_cursor next) layer.mask → IsLayer layer → mask ≡ Some reader
     → layer.crop.x + layer.crop.width ≤ reader.shape.width
 mask_columns layer next mask reader is fits there = omega (arith, fits.columns, mask_wide layer next mask reader is fits there)
 
--- paint of the fixed inks has what is the same in each row
+-- paint of the fixed inks has the inks that are the same in every row
 fixed_paint : (art : Art) (span : ℕ) (paint : Planes) → paint.cyan ≡ replicate span (slice_index (fixed_of art) 0) → paint.magenta ≡ replicate span (slice_index (fixed_of art) 1)
     → paint.yellow ≡ replicate span (slice_index (fixed_of art) 2) → paint.black ≡ replicate span (slice_index (fixed_of art) 3) → paint.spot ≡ replicate span (slice_index (fixed_of art) 4)
     → paint ≡ with_fixed art span paint
 fixed_paint (Contone image) span paint c m y k s = ap (λ spot. record paint { spot = spot }) s
 fixed_paint (Line image inks) span paint c m y k s = λ i. record { cyan = c i; magenta = m i; yellow = y i; black = k i; spot = s i }
 
--- a plane of one ink, by the inks and the width that are known
+-- a row of one ink, from the known inks and width
 pub inks_from : (plane inks fixed : List ℕ) (width i : ℕ) {span : ℕ} → plane ≡ replicate width (slice_index inks i) → width ≡ span → inks ≡ fixed → plane ≡ replicate span (slice_index fixed i)
 inks_from plane inks fixed width i is wide same = rw (is, wide, same) refl
 
@@ -119,7 +119,7 @@ contone_pixel image first count scale row pixels old new is enough long_m long_y
         ap (λ list. get_or list (i + 4 * (j / scale)) 0) is ∙ get_or-take (4 * count) (drop (4 * first) all) (i + 4 * (j / scale)) 0 (omega arith)
         ∙ get_or-drop (4 * first) all (i + 4 * (j / scale)) 0 ∙ ap (λ n. get_or all n 0) place
 
--- and those of a row
+-- and those of a row are the row's paint
 pub contone_paint : (image : Image) (first count scale row : ℕ) (pixels : List ℕ) (old new : Planes) → pixels ≡ take (4 * count) (drop (4 * first) (image_row image.shape image.bytes row))
     → ((n : ℕ) → scale * n < length old.cyan → n < count) → length old.magenta ≡ length old.cyan → length old.yellow ≡ length old.cyan → length old.black ≡ length old.cyan
     → HasSamples pixels 0 scale old.cyan new.cyan → HasSamples pixels 1 scale old.magenta new.magenta → HasSamples pixels 2 scale old.yellow new.yellow → HasSamples pixels 3 scale old.black new.black

@@ -14,27 +14,27 @@ use Rattle.page_layers.specs.Page.{shows_alike}
 use Rattle.page_layers.specs.Rows.{IsReady, LayerState, layers_of}
 use Rattle.page_layers.proofs.Paints.{right_of_page, uncovered}
 
--- a layer that is changed to one of the same layer
+-- replacing a state by another one of the same layer keeps the list of layers
 pub layers_of-set : (states : List LayerState) (i : ℕ) (state : LayerState) → i < length states → state.layer ≡ (get_or states i state).layer → layers_of (set states i state) ≡ layers_of states
 layers_of-set states i state below same =
     map-set (λ (s : LayerState). s.layer) states i state
     ∙ ap (set (layers_of states) i) (same ∙ sym (get_or-map (λ (s : LayerState). s.layer) states i state state.layer below))
     ∙ set-get_or (layers_of states) i state.layer
 
--- the row of the image that shows never goes back
+-- the row of the image that shows never decreases
 row_at-next : (layer : Layer) (y : ℕ) → 1 ≤ layer.scale → row_at layer y ≤ row_at layer (y + 1)
 row_at-next layer y scaled =
     let whole = div-mul-le_self (y - layer.y) layer.scale in
     let next = le-div ((y - layer.y) / layer.scale) (y + 1 - layer.y) layer.scale (omega arith) (omega arith) in
     omega arith
 
--- ready for a row is ready for the next
+-- a layer that is ready for a row is ready for the next
 pub IsReady-next : (width y : ℕ) (states : List LayerState) → All (IsReady width y) states → All (IsReady width (y + 1)) states
 IsReady-next width y states ready =
     All-weaker (IsReady width y) (IsReady width (y + 1))
     (λ state is. record { width_is = is.width_is; scaled = is.scaled; read = omega (arith, is.read, row_at-next state.layer y is.scaled) }) states ready
 
--- and so is a layer that read no further than that row
+-- and so is a layer that has read no further than that row
 pub IsReady-after : (width y : ℕ) (old new : LayerState) → IsReady width y old → new ≡ record old { read = new.read } → new.read ≤ row_at old.layer y + 1 → IsReady width y new
 IsReady-after width y old new is same read =
     let layer : new.layer ≡ old.layer = ap (λ (s : LayerState). s.layer) same in
@@ -44,7 +44,7 @@ IsReady-after width y old new is same read =
       read = rw layer read;
     }
 
--- and a layer that was opened, from row 0 on
+-- a layer that was just opened is ready for row 0
 pub IsReady-open : (width : ℕ) (layer : Layer) (state : LayerState) → state ≡ record { layer = layer; width = width; read = 0 } → IsLayer layer → IsReady width 0 state
 IsReady-open width layer state same is =
     let own : state.layer ≡ layer = ap (λ (s : LayerState). s.layer) same in
@@ -55,7 +55,7 @@ IsReady-open width layer state same is =
       read = omega arith;
     }
 
--- a layer that was opened joins those before it
+-- a layer that was just opened joins those before it
 pub opened : (states items : List LayerState) (state : LayerState) (layer : Layer) (before rest all : List Layer) → items ≡ states ++ state ∷ [] → state.layer ≡ layer → before ≡ layer ∷ rest
     → layers_of states ++ before ≡ all → layers_of items ++ rest ≡ all
 opened states items state layer before rest all items_are layer_is before_is split =
@@ -66,7 +66,7 @@ opened states items state layer before rest all items_are layer_is before_is spl
     ∙ ap (λ list. layers_of states ++ list) (sym before_is)
     ∙ split
 
--- widths that stay, and rows that were not read, where one layer is another
+-- replacing one state keeps all widths, and the first states unread
 pub widths-set : (states olds : List LayerState) (i : ℕ) (state : LayerState) → i < length states → state.width ≡ (get_or states i state).width
     → ((k : ℕ) (d : LayerState) → k < length states → (get_or states k d).width ≡ (get_or olds k d).width)
     → (k : ℕ) (d : LayerState) → k < length (set states i state) → (get_or (set states i state) k d).width ≡ (get_or olds k d).width
@@ -87,7 +87,7 @@ reads-set states i state below none each k d under =
       | inr other ↦ ap (λ (s : LayerState). s.read) (get_or-set_other states i k state d other) ∙ each k d (omega (arith, other))
     ]
 
--- layers none of which was read are ready for row 0
+-- layers of which no row was read are ready for row 0
 pub restarted : (states olds : List LayerState) (width y : ℕ) → layers_of states ≡ layers_of olds → ((k : ℕ) (d : LayerState) → k < length states → (get_or states k d).width ≡ (get_or olds k d).width)
     → ((k : ℕ) (d : LayerState) → k < length states → (get_or states k d).read ≡ 0) → All (IsReady width y) olds → All (IsReady width 0) states
 restarted states olds width y same widths reads ready = λ k d below.
@@ -103,7 +103,7 @@ restarted states olds width y same widths reads ready = λ k d below.
       read = omega arith;
     }
 
--- one more layer laid
+-- one more layer painted
 pub painted-more : (states olds : List LayerState) (i x y : ℕ) (start under ink : List ℕ) (state : LayerState) → i < length states → layers_of states ≡ layers_of olds → state ≡ get_or states i state
     → under ≡ fold (λ under layer. painted layer x y under) start (take i (layers_of olds)) → ink ≡ painted state.layer x y under
     → ink ≡ fold (λ under layer. painted layer x y under) start (take (i + 1) (layers_of olds))
@@ -115,7 +115,7 @@ painted-more states olds i x y start under ink state below same is before laid =
     ∙ ap (λ layer. painted layer x y (fold (λ under layer. painted layer x y under) start (take i (layers_of olds)))) (sym own)
     ∙ sym (fold_more (λ under layer. painted layer x y under) start (layers_of olds) i state.layer long)
 
--- all layers laid
+-- all layers painted
 pub painted-all : (states olds : List LayerState) (i x y : ℕ) (start : List ℕ) → layers_of states ≡ layers_of olds → length states ≤ i
     → fold (λ under layer. painted layer x y under) start (take i (layers_of olds)) ≡ fold (λ under layer. painted layer x y under) start (layers_of olds)
 painted-all states olds i x y start same all =
@@ -136,7 +136,7 @@ blank_inks planes c m y k s width x c_is m_is y_is k_is s_is c_wide m_wide y_wid
     none : (plane : List ℕ) (n : ℕ) → plane ≡ replicate n 0 → n ≡ width → get_or plane x 0 ≡ 0
     none plane n is wide = ap (λ list. get_or list x 0) is ∙ get_or-replicate n x 0 0 (omega arith)
 
--- what the layers make of no ink is the ink of the page
+-- the layers painted over no ink give the ink of the page
 pub ink_at-is : (layers : List Layer) (x y : ℕ) → fold (λ under layer. painted layer x y under) blank layers ≡ ink_at layers x y
 unfolding ink_at
 ink_at-is layers x y = refl
@@ -172,7 +172,7 @@ alike_painted layer width x y under within alike =
     on_page false true above here there = absurd (let no : false ≡ true = rw (there, sym above, sym here) at alike in cc)
     on_page false false above here there = hidden y (sym here) ∙ sym (hidden (y - 1) (sym above))
 
--- the same of all layers, from any ink on
+-- the same for all layers, over any ink
 alike_folds : (states : List LayerState) (width x y : ℕ) (under : List ℕ) → x < width → All (IsReady width y) states → list_all (λ state. shows_alike state.width state.layer y) states ≡ true
     → fold (λ under layer. painted layer x y under) under (layers_of states) ≡ fold (λ under layer. painted layer x (y - 1) under) under (layers_of states)
 alike_folds [] width x y under within ready alike = refl
@@ -193,7 +193,7 @@ together : (a b : Bool) → a ≡ true → b ≡ true → (a && b) ≡ true
 together true b a_is b_is = b_is
 together false b a_is b_is = absurd (cc)
 
--- where each layer shows the same, all do
+-- where every layer shows the same, the test of all layers passes
 pub all_alike : (states : List LayerState) (width y : ℕ) → All (IsReady width y) states → All (λ layer. IsTrue (shows_alike width layer y)) (layers_of states)
     → list_all (λ state. shows_alike state.width state.layer y) states ≡ true
 all_alike [] width y ready each = refl
@@ -203,7 +203,7 @@ all_alike (state ∷ states) width y ready each =
     let first : shows_alike state.width state.layer y ≡ true = rw own (All-head P state.layer (layers_of states) each) in
     together _ _ first (all_alike states width y (All-tail (IsReady width y) state states ready) (All-tail P state.layer (layers_of states) each))
 
--- where the layer at the bottom covers all, what stands below doesn't matter
+-- where the bottom layer covers everything, the ink below it does not matter
 pub covered_inks : (states : List LayerState) (x y : ℕ) (first : LayerState) (under : Planes) → 0 < length states → painted (get_or states 0 first).layer x y (inks_at under x) ≡ painted (get_or states 0 first).layer x y blank
     → fold (λ under layer. painted layer x y under) (inks_at under x) (layers_of states) ≡ ink_at (layers_of states) x y
 covered_inks [] x y first under some same = absurd (omega arith)

@@ -1,4 +1,4 @@
--- A layer laid over a row of the page, pixel by pixel.
+-- A layer painted over a row of the page, pixel by pixel.
 use Rattle.std.proofs.Common.{◌≡◌, ℕ, ◌+◌, ◌-◌, ◌*◌, ◌/◌, ◌<◌, ◌≤◌, ◌&&◌, Bool, true, false, nat_le, nat_lt, if◌then◌else◌, List, [], ◌∷◌, length, get_or, Option, Some, None, inl, inr, refl, sym, ap, ◌∙◌, arith}
 use Rattle.std.proofs.lemmas.Bool.{cases_lt, le-leb, lt-leb, lt-ltb, le-ltb}
 use Rattle.tif_image.specs.Image.{BilevelImage}
@@ -19,7 +19,7 @@ bare_admits None (Line image inks) column row bare = absurd (cc)
 bare_admits (Some mask) (Contone image) column row bare = absurd (cc)
 bare_admits (Some mask) (Line image inks) column row bare = absurd (cc)
 
--- one ink, laid by the layer's way of painting
+-- one ink, painted in the layer's way
 laid_ink : (overprint bare admitted : Bool) (paint under : ℕ) → (bare ≡ true → admitted ≡ true)
     → laid_where (if overprint then Overprint else if bare then Whole else Knockout) (if admitted then 255 else 0) paint under ≡ (if admitted then laid_value overprint paint under else under)
 laid_ink true bare true paint under all = refl
@@ -29,7 +29,7 @@ laid_ink false true false paint under all = absurd (cc (all refl))
 laid_ink false false true paint under all = refl
 laid_ink false false false paint under all = refl
 
--- five inks, laid where they are admitted
+-- five inks, painted where they are admitted
 laid_inks : (overprint admitted : Bool) (c m y k s c' m' y' k' s' : ℕ)
     → (if admitted then laid_value overprint c c' else c') ∷ (if admitted then laid_value overprint m m' else m') ∷ (if admitted then laid_value overprint y y' else y')
     ∷ (if admitted then laid_value overprint k k' else k') ∷ (if admitted then laid_value overprint s s' else s') ∷ []
@@ -45,12 +45,12 @@ shown_row width layer y shows = second (nat_lt layer.x width) (covers_row layer 
     second true b is = is
     second false b is = absurd (cc)
 
--- where the layer covers a pixel
+-- a pixel that the layer covers
 covered : (layer : Layer) (x y : ℕ) (under : List ℕ) → covers_column layer x ≡ true → covers_row layer y ≡ true
     → painted layer x y under ≡ (if admits layer (column_at layer x) (row_at layer y) then laid layer.overprint (paint_at layer.art (column_at layer x) (row_at layer y)) under else under)
 covered layer x y under column row = rw (column, row) refl
 
--- and where it does not
+-- a pixel that it does not cover
 pub uncovered : (layer : Layer) (x y : ℕ) (under : List ℕ) → (covers_column layer x && covers_row layer y) ≡ false → painted layer x y under ≡ under
 uncovered layer x y under none = rw none refl
 
@@ -77,11 +77,11 @@ right_of_it layer width x within behind =
     false_behind true = refl
     false_behind false = refl
 
--- a layer that begins behind the page
+-- a layer that starts to the right of the page
 pub right_of_page : (layer : Layer) (width x : ℕ) → x < width → width ≤ layer.x → covers_column layer x ≡ false
 right_of_page layer width x within beside = left_of_it layer x (omega arith)
 
--- a row of the page that shows the layer, with its paint laid over what was there
+-- a row of the page on which the layer shows, with its paint over the ink below
 pub painted-row : (layer : Layer) (width y : ℕ) (painting : Painting) (paint : Planes) (admitted : List ℕ) (old new : Planes) → painting ≡ painting_of layer → length admitted ≡ span_of width layer
     → covers_row layer y ≡ true → IsExpanded layer (row_at layer y) (span_of width layer) paint admitted
     → LaysSpan painting layer.x paint.cyan admitted old.cyan new.cyan → LaysSpan painting layer.x paint.magenta admitted old.magenta new.magenta
@@ -137,7 +137,7 @@ whole_is false false is = absurd (cc)
 whole_is true true is = absurd (cc)
 whole_is true false is = absurd (cc)
 
--- so that what stands below doesn't matter
+-- so the ink below it does not matter
 knocked_out : (art : Art) (column row x : ℕ) (under : Planes) → laid false (paint_at art column row) (inks_at under x) ≡ laid false (paint_at art column row) blank
 knocked_out (Contone image) column row x under = refl
 knocked_out (Line image inks) column row x under = refl

@@ -1,4 +1,4 @@
--- One ink value laid over a span of a row.
+-- One ink value painted over a span of a row.
 use Rattle.std.proofs.Common.{◌≡◌, ◌≢◌, ℕ, ◌+◌, ◌-◌, ◌<◌, ◌≤◌, Bool, true, false, if◌then◌else◌, List, length, get_or, replicate, refl, ap, sym, ◌∙◌, arith}
 use Rattle.std.specs.Prelude.{◌==◌}
 use Rattle.std.proofs.lemmas.Bool.{ne_eqb}
@@ -9,7 +9,7 @@ use Rattle.page_layers.specs.declared.lay.Painting.{Painting}
 use Rattle.page_layers.specs.declared.lay.Painting.TheVariants.{Whole, Knockout, Overprint}
 use Rattle.page_layers.specs.Rows.{LaysSpan, laid_where}
 
--- a part of a row that was written anew
+-- a part of a row that was rewritten
 LaysSpan_part : (painting : Painting) (from cut size : ℕ) (paint admitted old part : List ℕ) → from + length admitted ≤ length old → cut ≡ length admitted → size ≡ length admitted → length part ≡ size
     → ((j : ℕ) → j < length admitted → get_or part j 0 ≡ laid_where painting (get_or admitted j 0) (get_or paint j 0) (get_or old (from + j) 0))
     → LaysSpan painting from paint admitted old (put_mid from cut old part)
@@ -22,14 +22,14 @@ LaysSpan_part painting from cut size paint admitted old part room cut_is size_is
   behind = λ x above. part_above from cut old part x (omega arith) (omega arith) (omega arith);
 }
 
--- a value that covers its span
+-- a value that fills its span
 pub LaysSpan_fill : (from cut size ink : ℕ) (admitted old part : List ℕ) → from + length admitted ≤ length old → cut ≡ length admitted → size ≡ length admitted → part ≡ replicate size ink
     → LaysSpan Whole from (replicate (length admitted) ink) admitted old (put_mid from cut old part)
 LaysSpan_fill from cut size ink admitted old part room cut_is size_is filled =
     LaysSpan_part Whole from cut size (replicate (length admitted) ink) admitted old part room cut_is size_is (ap length filled ∙ length-replicate size ink)
     (λ j within. ap (λ list. get_or list j 0) filled ∙ get_or-replicate size j ink 0 (omega arith) ∙ sym (get_or-replicate (length admitted) j ink 0 within))
 
--- a value that was laid where it is admitted
+-- a value painted where it is admitted
 pub LaysSpan_spread : (from cut size ink : ℕ) (admitted old under part : List ℕ) → from + length admitted ≤ length old → cut ≡ length admitted → size ≡ length admitted → length part ≡ size
     → ((j : ℕ) → j < length admitted → get_or under j 0 ≡ get_or old (from + j) 0)
     → ((j : ℕ) → j < size → get_or part j 0 ≡ (if get_or admitted j 0 == 0 then get_or under j 0 else ink))
@@ -44,7 +44,7 @@ both : (bit : Bool) (under : ℕ) → under ≡ (if bit then under else under)
 both true under = refl
 both false under = refl
 
--- an overprint of no ink leaves what stands
+-- overprinting the value 0 changes nothing
 pub LaysSpan_none : (from ink : ℕ) (admitted old : List ℕ) → ink ≡ 0 → LaysSpan Overprint from (replicate (length admitted) ink) admitted old old
 LaysSpan_none from ink admitted old none = record {
   long = refl;
@@ -55,7 +55,7 @@ LaysSpan_none from ink admitted old none = record {
   behind = λ x above. refl;
 }
 
--- and one of some ink knocks out
+-- overprinting any other value knocks out
 pub LaysSpan_overprint : (from ink : ℕ) (admitted old new : List ℕ) → ink ≢ 0 → LaysSpan Knockout from (replicate (length admitted) ink) admitted old new → LaysSpan Overprint from (replicate (length admitted) ink) admitted old new
 LaysSpan_overprint from ink admitted old new some laid = record {
   long = laid.long;

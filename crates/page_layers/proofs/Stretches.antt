@@ -13,7 +13,7 @@ use borrow.Rule.Slice.PartMut.{put_mid}
 use Rattle.pr_base.proofs.Parts.{loaded, part_below, part_here}
 use Rattle.page_layers.specs.Rows.{IsStretched}
 
--- run n, or its front, behind those before it
+-- run n, or its start, after the runs before it
 pub IsStretched-run : (source : List ℕ) (step scale n count cut size value : ℕ) (into part : List ℕ) → IsStretched source step scale (scale * n) into → size ≤ scale → count ≡ scale * n + size
     → count ≤ length into → part ≡ replicate size value → value ≡ get_or source (step * n) 0 → IsStretched source step scale count (put_mid (scale * n) cut into part)
 IsStretched-run source step scale n count cut size value into part has small whole room run value_is = record {
@@ -39,15 +39,15 @@ IsStretched-run source step scale n count cut size value into part has small who
     long : length part ≡ size
     long = ap length run ∙ length-replicate size value
 
--- no value is filled yet
+-- no value is written yet
 pub IsStretched_none : (source : List ℕ) (step scale count : ℕ) (into : List ℕ) → count ≡ 0 → IsStretched source step scale count into
 IsStretched_none source step scale count into none = record { each = λ j below. absurd (omega arith) }
 
--- a sample of a block of sixteen pixels that was loaded whole, and joined to itself
+-- a sample of a block of sixteen pixels that was loaded whole and appended to itself
 abbrev pub sample_in : List ℕ → ℕ → ℕ → ℕ
 sample_in pixels scale x = get_or (take 64 pixels ++ take 64 pixels) (4 * (x / scale)) 0
 
--- block k behind those before it
+-- block k after the blocks before it
 pub IsStretched-block : (source : List ℕ) (scale size k at to count cut : ℕ) (into : List ℕ) → IsStretched source 4 scale at into → 0 < scale → at ≡ scale * (16 * k) → size ≡ scale * 16 → to ≡ at + size → count ≡ at + size → cut ≡ size
     → count ≤ length into → 64 * k + 64 ≤ length source
     → IsStretched source 4 scale count (put_mid at cut into (put_chunk 0 (slice_range into at to) (map (sample_in (slice_range source (64 * k) (64 * k + 64)) scale) (range_with_len 0 size))))

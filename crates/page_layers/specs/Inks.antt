@@ -1,10 +1,10 @@
--- Rows of five inks, and one ink value laid over another. The rules are plateroom's own.
+-- Rows of five inks, and one ink value painted over another. The rules are plateroom's own.
 use Rattle.std.specs.Prelude.{◌≡◌, ℕ, ◌==◌, ◌&&◌, Bool, if◌then◌else◌, List, [], ◌∷◌, length, replicate}
 use Rattle.std.specs.Prelude.{slice_index}
 use Rattle.pr_base.specs.declared.ink.Ink.{Ink}
 use Rattle.pr_base.specs.declared.ink.Ink.TheVariants.{C, M, Y, K, S}
 
--- a row of each ink
+-- a row of each ink, a value for each pixel
 pub record Planes : Type 0 where
   pub cyan : List ℕ
   pub magenta : List ℕ
@@ -20,7 +20,7 @@ plane_of planes Y = planes.yellow
 plane_of planes K = planes.black
 plane_of planes S = planes.spot
 
--- each row has so many values
+-- each row has `width` values
 pub record HasWidth (planes : Planes) (width : ℕ) : Type 0 where
   pub cyan : length planes.cyan ≡ width
   pub magenta : length planes.magenta ≡ width
@@ -34,7 +34,7 @@ inks_at planes x =
     slice_index planes.cyan x ∷ slice_index planes.magenta x ∷ slice_index planes.yellow x
     ∷ slice_index planes.black x ∷ slice_index planes.spot x ∷ []
 
--- rows of this width without ink
+-- rows of this width, without ink
 abbrev pub blank_planes : ℕ → Planes
 blank_planes width =
     record {
@@ -49,11 +49,11 @@ blank_planes width =
 abbrev pub blank : List ℕ
 blank = 0 ∷ 0 ∷ 0 ∷ 0 ∷ 0 ∷ []
 
--- an ink value laid over another: knockout replaces it, and overprint leaves it where the new value is 0
+-- an ink value painted over another: knockout replaces it, and overprint leaves it where the new value is 0
 abbrev pub laid_value : Bool → ℕ → ℕ → ℕ
 laid_value overprint paint under = if overprint && (paint == 0) then under else paint
 
--- the same of each ink
+-- the same for five inks
 abbrev pub laid : Bool → List ℕ → List ℕ → List ℕ
 laid overprint [] unders = []
 laid overprint (paint ∷ paints) [] = []

@@ -3,8 +3,8 @@ use Rattle.std.specs.Prelude.{ℕ, ◌-◌, ◌==◌, ◌&&◌, nat_lt, not, if�
 use Rattle.page_layers.specs.declared.layer.Layer.{Layer}
 use Rattle.page_layers.specs.Layer.{covers_row, row_at}
 
--- a page before one of its rows: its layers, its sides in pixels, the number of the next row, and for how
--- many layers it has room
+-- a page before one of its rows: its layers, its sides in pixels, the number of the next row, and the number
+-- of layers that it has buffers for
 pub record Page : Type 0 where
   pub layers : List Layer
   pub width : ℕ
@@ -12,11 +12,11 @@ pub record Page : Type 0 where
   pub next : ℕ
   pub room : ℕ
 
--- the layer shows on row y of a page of this width
+-- whether the layer shows on row y of a page of this width
 abbrev pub shows_on : ℕ → Layer → ℕ → Bool
 shows_on width layer y = nat_lt layer.x width && covers_row layer y
 
--- rows y - 1 and y show the same of the layer: nothing, or one row of the image
+-- whether rows y - 1 and y show the same of the layer: nothing, or the same row of the image
 abbrev pub shows_alike : ℕ → Layer → ℕ → Bool
 shows_alike width layer y =
     if shows_on width layer (y - 1) then shows_on width layer y && (row_at layer (y - 1) == row_at layer y)

@@ -1,4 +1,4 @@
--- What the code of a layer's rows keeps.
+-- What the rows of a layer and of a page keep.
 use Rattle.std.specs.Prelude.{◌≡◌, ℕ, ◌+◌, ◌-◌, ◌*◌, ◌/◌, ◌<◌, ◌≤◌, ◌==◌, min, Bool, true, false}
 use Rattle.std.specs.Prelude.{if◌then◌else◌, IsTrue, List, All, length, map, not, replicate, slice_index}
 use Rattle.std.specs.Prelude.{Option, Some, None, option_map}
@@ -14,23 +14,23 @@ use Rattle.page_layers.specs.Inks.{HasWidth, Planes, blank, inks_at}
 use Rattle.page_layers.specs.Layer.{IsLayer, admits, paint_at, row_at, shape_of}
 use Rattle.page_layers.specs.Reader.{IsOf, mask_cursor}
 
--- ---- paint laid over a row
+-- ---- paint over a row
 
--- an ink value laid over another, where it is admitted: that isn't 0
+-- an ink value painted over another where it is admitted, that is where `admitted` is not 0
 abbrev pub laid_where : Painting → ℕ → ℕ → ℕ → ℕ
 laid_where Whole admitted paint under = paint
 laid_where Knockout admitted paint under = if admitted == 0 then under else paint
 laid_where Overprint admitted paint under =
     if admitted == 0 then under else if paint == 0 then under else paint
 
--- paint is laid over the first values of the old row
+-- the first `count` values are the paint over the old row
 pub record IsLaid (painting : Painting) (paint admitted old : List ℕ) (count : ℕ) (new : List ℕ)
     : Type 0 where
   pub each : (x : ℕ) → x < count
       → slice_index new x
       ≡ laid_where painting (slice_index admitted x) (slice_index paint x) (slice_index old x)
 
--- paint is laid over the old row from a column on
+-- the old row with paint over it from column `from` on
 pub record LaysSpan (painting : Painting) (from : ℕ) (paint admitted old new : List ℕ) : Type 0 where
   pub long : length new ≡ length old
   pub inside : (j : ℕ) → j < length admitted
@@ -39,18 +39,18 @@ pub record LaysSpan (painting : Painting) (from : ℕ) (paint admitted old new :
   pub before : (x : ℕ) → x < from → slice_index new x ≡ slice_index old x
   pub behind : (x : ℕ) → from + length admitted ≤ x → slice_index new x ≡ slice_index old x
 
--- each value of a source, `step` apart, stands as many times as the scale says
+-- each value of a source, `step` apart, repeated `scale` times
 pub record IsStretched (source : List ℕ) (step scale count : ℕ) (into : List ℕ) : Type 0 where
   pub each : (j : ℕ) → j < count → slice_index into j ≡ slice_index source (step * (j / scale))
 
--- the samples of one ink of a row of pixels, from a place on, each as many times as the scale says
+-- the samples of one ink of a row of pixels, the first sample at `first`, each repeated `scale` times
 pub record HasSamples (pixels : List ℕ) (first scale : ℕ) (old new : List ℕ) : Type 0 where
   pub long : length new ≡ length old
   pub each : (j : ℕ) → j < length old → slice_index new j ≡ slice_index pixels (first + 4 * (j / scale))
 
--- ---- a layer on a page of a width
+-- ---- a layer on a page of a given width
 
--- a contone layer without a mask, of which every pixel shows
+-- whether every pixel of the image paints, as in contone
 abbrev pub bare_art : Art → Bool
 bare_art (Contone image) = true
 bare_art (Line image inks) = false
@@ -62,20 +62,20 @@ no_mask (Some mask) = false
 abbrev pub is_bare : Layer → Bool
 is_bare layer = if no_mask layer.mask then bare_art layer.art else false
 
--- how it is painted
+-- how a layer is painted
 abbrev pub painting_of : Layer → Painting
 painting_of layer = if layer.overprint then Overprint else if is_bare layer then Whole else Knockout
 
--- the page's columns that it covers
+-- how many columns of the page the layer covers
 abbrev pub span_of : ℕ → Layer → ℕ
 span_of width layer = min (layer.crop.width * layer.scale) (width - layer.x)
 
--- the inks that a row's paint has before its samples: none, and all of linework
+-- the inks that are the same in every row: none for a contone image, all inks of linework
 abbrev pub fixed_of : Art → List ℕ
 fixed_of (Contone image) = blank
 fixed_of (Line image inks) = inks
 
--- paint with what is the same in each row: no spot ink of a contone image, and all inks of linework
+-- paint with the inks that are the same in every row: no spot ink for a contone image, all inks of linework
 abbrev pub with_fixed : Art → ℕ → Planes → Planes
 with_fixed (Contone image) span paint = record paint { spot = replicate span 0 }
 with_fixed (Line image inks) span paint =
@@ -87,38 +87,38 @@ with_fixed (Line image inks) span paint =
       spot = replicate span (slice_index inks 4);
     }
 
--- the first values are those of a source where a test passes, and otherwise 0
+-- the first values are those of a source where a test passes, and 0 elsewhere
 pub record IsMarked (test : ℕ → Bool) (source : ℕ → ℕ) (count : ℕ) (marks : List ℕ) : Type 0 where
   pub each : (n : ℕ) → n < count → slice_index marks n ≡ (if test n then source n else 0)
 
--- whether pixel x of a row of bytes has the bit 0, or else the bit 1
+-- whether pixel x of a row of bytes is 0, or else whether it is 1
 abbrev pub bit_is : Bool → List ℕ → ℕ → Bool
 bit_is zeros row x = if zeros then not (bit_at row x) else bit_at row x
 
--- the values from one place to another stay where a test of their place passes, and are otherwise 0; those
--- before and behind stay
+-- the values from one place to another, exclusive, are kept where a test of their place passes and 0
+-- elsewhere; all others are unchanged
 pub record Keeps (test : ℕ → Bool) (from to : ℕ) (old new : List ℕ) : Type 0 where
   pub long : length new ≡ length old
   pub inside : (n : ℕ) → from ≤ n → n < to → slice_index new n ≡ (if test n then slice_index old n else 0)
   pub before : (n : ℕ) → n < from → slice_index new n ≡ slice_index old n
   pub behind : (n : ℕ) → to ≤ n → slice_index new n ≡ slice_index old n
 
--- the paint of a row of the image, from a column on, each as many times as the scale says
+-- the paint of a row of the image, from column `first` on, each pixel repeated `scale` times
 pub record IsPaint (art : Art) (first scale row span : ℕ) (paint : Planes) : Type 0 where
   pub each : (j : ℕ) → j < span → inks_at paint j ≡ paint_at art (first + j / scale) row
 
--- 255 for each column that the layer covers where it shows, and otherwise 0
+-- 255 for each covered column of the page where the layer shows, and 0 elsewhere
 pub record IsAdmitted (layer : Layer) (row span : ℕ) (admitted : List ℕ) : Type 0 where
   pub each : (j : ℕ) → j < span
       → slice_index admitted j ≡ (if admits layer (layer.crop.x + j / layer.scale) row then 255 else 0)
 
--- the paint of a row of the image at each column that the layer covers, and where it shows
+-- the paint of a row of the image at each covered column of the page, and where the layer shows
 pub record IsExpanded (layer : Layer) (row span : ℕ) (paint : Planes) (admitted : List ℕ) : Type 0 where
   pub paint_is : IsPaint layer.art layer.crop.x layer.scale row span paint
   pub admits_is : IsAdmitted layer row span admitted
 
--- what a layer's rows keep: cursors that stand before the same row of the image and of its mask, and the
--- paint of the row before it
+-- what a layer's rows keep: cursors before the same row of the image and of its mask, and the paint of the
+-- row before that one
 pub record IsLayerRows (layer : Layer) (width : ℕ) (painting : Painting) (image : Cursor)
     (mask : Option Cursor) (paint : Planes) (marks admitted : List ℕ) (marks_room admitted_room : ℕ)
     : Type 0 where
@@ -134,11 +134,12 @@ pub record IsLayerRows (layer : Layer) (width : ℕ) (painting : Painting) (imag
   pub columns : length marks ≤ layer.crop.width
   pub bare : IsTrue (is_bare layer) → admitted ≡ replicate (span_of width layer) 255
   pub expanded : 0 < image.next → IsExpanded layer (image.next - 1) (span_of width layer) paint admitted
-  -- both lie where any row has room
+  -- both have capacity for a row of any page
   pub marks_wide : 65535 ≤ marks_room
   pub admitted_wide : 65535 ≤ admitted_room
 
--- what contracts see of a layer's rows: the layer, the page's width, and how many rows of the image were read
+-- what contracts see of a layer's rows: the layer, the page's width, and the number of image rows passed so
+-- far
 pub record LayerState : Type 0 where
   pub layer : Layer
   pub width : ℕ
@@ -154,8 +155,8 @@ pub record IsReady (width y : ℕ) (state : LayerState) : Type 0 where
 abbrev pub layers_of : List LayerState → List Layer
 layers_of states = map (λ state. state.layer) states
 
--- what a page keeps: its layers are ready for its next row, and those and the rooms that no layer uses have
--- places in the list of layers as in that of rooms
+-- what a page keeps: its layers are ready for its next row, and both lists have capacity for all layers and
+-- unused buffers
 pub record IsPage (states : List LayerState) (width height next rooms layer_places room_places : ℕ)
     : Type 0 where
   pub wide : width ≤ 65535

@@ -1,4 +1,4 @@
-// Which pixels of a layer show: those that its art marks and its mask lets through.
+// Which pixels of a layer show: those that its image marks and its mask lets through.
 ghost use Rattle.std.specs.Prelude.{◌≡◌, ℕ, ◌+◌, ◌-◌, ◌*◌, ◌/◌, ◌<◌, ◌≤◌, if◌then◌else◌, IsTrue, length};
 ghost use Rattle.std.specs.Prelude.{option_map, replicate, slice_index};
 ghost use Rattle.std.specs.Option.{ForSome};
@@ -12,7 +12,7 @@ use crate::row_reader::RowReader;
 use crate::stretch::stretch;
 use tif_image::Bilevel;
 
-/// Every pixel of the layer shows: it is contone without a mask.
+/// Returns whether every pixel of the layer shows: it is contone and has no mask.
 pub(crate) fn is_bare(layer: &Layer<'_>) -> bool
     ensures { result ≡ is_bare layer.now }
 {
@@ -22,7 +22,8 @@ pub(crate) fn is_bare(layer: &Layer<'_>) -> bool
     }
 }
 
-/// Says which columns of the page show in the row that was read last, by 255, or 0 where they don't.
+/// Sets `admitted` to 255 for each covered column of the page that shows in the row read last, and to 0 for
+/// the others.
 pub(crate) fn admit_row(
     layer: &Layer<'_>,
     image: &RowReader<'_>,
@@ -53,7 +54,8 @@ pub(crate) fn admit_row(
     stretch(marks, 1, layer.scale as usize, admitted);
 }
 
-// 255 for the columns of the image that paint, from the crop's first on, and 0 for the others.
+// Sets `marks` to 255 for the columns of the image that paint, from the crop's first on, and to 0 for the
+// others.
 fn mark_art(art: &Art<'_>, image: &RowReader<'_>, room: &[u8], crop: Crop, marks: &mut [u8])
     requires image { IsOf art.now image.now }
     requires part { Holds image.now crop room.now }
@@ -68,7 +70,7 @@ fn mark_art(art: &Art<'_>, image: &RowReader<'_>, room: &[u8], crop: Crop, marks
     }
 }
 
-// 0 for the columns of the image that the mask doesn't let through, from the crop's first on.
+// Sets `marks` to 0 for the columns of the image that the mask hides, from the crop's first on.
 fn mark_mask(
     mask: &Option<Bilevel<'_>>,
     reader: &Option<RowReader<'_>>,

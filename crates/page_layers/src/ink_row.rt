@@ -9,7 +9,7 @@ use pr_base::{Ink, NoMemory};
 use std::alloc::Global;
 use std::marker::Model;
 
-/// A row of each ink, a byte a pixel: 0 is no ink and 255 is full ink. Contracts see the five rows.
+/// A row of each ink, a byte for each pixel: 0 is no ink and 255 is full ink. Contracts see the five rows.
 #[derive(Debug, Drop)]
 pub struct InkRow {
     cyan: Vec<u8>,
@@ -34,7 +34,7 @@ impl Model for InkRow {
       spot = r.spot.items;
     } };
 
-    // A row of any page has room in each.
+    // Each row has capacity for a row of any page.
     ghost invariant = { λ r. (65535 ≤ vec_capacity r.cyan) × (65535 ≤ vec_capacity r.magenta)
         × (65535 ≤ vec_capacity r.yellow) × (65535 ≤ vec_capacity r.black) × (65535 ≤ vec_capacity r.spot) };
 }
@@ -45,14 +45,14 @@ impl InkRow {
     ghost use Rattle.page_layers.specs.Inks.{HasWidth, Planes, blank_planes, plane_of};
     ghost use Rattle.page_layers.specs.Rows.{HasSamples, LaysSpan};
 
-    /// A row of `width` pixels without ink.
+    /// Allocates a row of `width` pixels without ink.
     pub fn new(alloc: Global, width: u32) -> Result<InkRow, NoMemory>
         ensures { IfOk result (λ row. row ≡ blank_planes width) }
     {
         InkRow::of(alloc, width as usize, [0; 5])
     }
 
-    /// A row of `width` pixels of these ink values.
+    /// Allocates a row of `width` pixels of these ink values.
     pub(crate) fn of(alloc: Global, width: usize, inks: [u8; 5]) -> Result<InkRow, NoMemory>
         ensures cyan { IfOk result (λ row. row.cyan ≡ replicate width (slice_index inks 0)) }
         ensures magenta { IfOk result (λ row. row.magenta ≡ replicate width (slice_index inks 1)) }
@@ -70,7 +70,7 @@ impl InkRow {
         })
     }
 
-    /// Makes it a row of `width` pixels of these ink values, in the room that is there.
+    /// Makes this a row of `width` pixels of these ink values, within the allocated capacity.
     pub(crate) fn refill(&mut self, width: usize, inks: [u8; 5])
         requires { width ≤ 65535 }
         ensures cyan { self.new.cyan ≡ replicate width (slice_index inks 0) }
@@ -87,7 +87,7 @@ impl InkRow {
         refill(&mut self.spot, width, spot);
     }
 
-    /// The row of an ink.
+    /// Returns the row of an ink.
     pub fn plane(&self, ink: Ink) -> &[u8]
         ensures { result.now ≡ plane_of self.now ink }
     {
@@ -100,7 +100,7 @@ impl InkRow {
         }
     }
 
-    /// Takes all ink away.
+    /// Sets all inks to 0.
     pub(crate) fn clear(&mut self)
         ensures cyan { self.new.cyan ≡ replicate (length self.old.cyan) 0 }
         ensures magenta { self.new.magenta ≡ replicate (length self.old.magenta) 0 }
@@ -115,7 +115,7 @@ impl InkRow {
         self.spot.fill(0);
     }
 
-    /// Puts the samples of a row of pixels in the place of the process inks.
+    /// Sets the process inks to the samples of a row of pixels, each pixel repeated `scale` times.
     pub(crate) fn set_samples(&mut self, pixels: &[u8], scale: usize)
         requires wide { HasWidth self.old (length self.old.cyan) }
         requires small { length self.old.cyan ≤ 65535 }
@@ -133,7 +133,7 @@ impl InkRow {
         set_sample(pixels, 3, scale, &mut self.black);
     }
 
-    /// Lays samples, and no spot ink, from column `from` on, where they are admitted.
+    /// Paints samples, and no spot ink, from column `from` on, where they are admitted.
     pub(crate) fn lay_samples(
         &mut self,
         painting: Painting,
@@ -163,7 +163,7 @@ impl InkRow {
         lay_ink(painting, from, 0, admitted, &mut self.spot);
     }
 
-    /// Lays these inks from column `from` on, where they are admitted.
+    /// Paints these inks from column `from` on, where they are admitted.
     pub(crate) fn lay_inks(
         &mut self,
         painting: Painting,
@@ -201,7 +201,8 @@ impl InkRow {
     }
 }
 
-// The samples of one ink, of which the first stands at `first`. There are none where no column shows.
+// Sets a row to the samples of one ink, the first of which is at `first`. `pixels` may be empty when no
+// column shows.
 fn set_sample(pixels: &[u8], first: usize, scale: usize, into: &mut [u8])
     requires small { length into.old ≤ 65535 }
     requires scale { (1 ≤ scale) × (scale ≤ 64) }

@@ -1,4 +1,4 @@
-// Paint laid over a row of one ink.
+// Painting over a row of one ink.
 ghost use Rattle.std.specs.Prelude.{◌≡◌, ℕ, ◌+◌, ◌<◌, ◌≤◌, ◌==◌, if◌then◌else◌, length, replicate};
 ghost use Rattle.std.specs.Prelude.{slice_index};
 ghost use Rattle.page_layers.specs.Rows.{IsLaid, LaysSpan};
@@ -8,13 +8,13 @@ ghost use Rattle.page_layers.specs.Rows.{IsLaid, LaysSpan};
 pub(crate) enum Painting {
     /// Every pixel replaces the ink below.
     Whole,
-    /// Those admitted replace it.
+    /// Admitted pixels replace the ink below.
     Knockout,
-    /// Those admitted replace it where they have ink.
+    /// Admitted pixels replace the ink below where their own value is not 0.
     Overprint,
 }
 
-/// Lays paint over a row from column `from` on. It is admitted where `admitted` isn't 0.
+/// Paints over a row from column `from` on. A pixel is admitted where `admitted` is not 0.
 pub(crate) fn lay_span(
     painting: Painting,
     from: usize,
@@ -34,7 +34,7 @@ pub(crate) fn lay_span(
     }
 }
 
-/// Lays one ink value over a row from column `from` on, where it is admitted.
+/// Paints one ink value over a row from column `from` on, where it is admitted.
 pub(crate) fn lay_ink(painting: Painting, from: usize, ink: u8, admitted: &[u8], into: &mut [u8])
     requires within { from + length admitted.now ≤ length into.old }
     ensures { LaysSpan painting from (replicate (length admitted.now) ink) admitted.now into.old into.new }
@@ -54,7 +54,7 @@ fn knock_out_ink(from: usize, ink: u8, admitted: &[u8], into: &mut [u8])
     spread(ink, admitted, &mut into[from..from + admitted.len()]);
 }
 
-// No ink overprints nothing.
+// An overprinted value of 0 changes nothing.
 fn overprint_ink(from: usize, ink: u8, admitted: &[u8], into: &mut [u8])
     requires within { from + length admitted.now ≤ length into.old }
     ensures { LaysSpan Painting.Overprint from (replicate (length admitted.now) ink) admitted.now
@@ -66,7 +66,7 @@ fn overprint_ink(from: usize, ink: u8, admitted: &[u8], into: &mut [u8])
     knock_out_ink(from, ink, admitted, into);
 }
 
-// The loops multiply by 0 or 1 in place of a choice, so that they run on vectors and no branch is guessed.
+// The loops multiply by 0 or 1 instead of branching, so that they vectorize and have no branch to mispredict.
 fn knock_out(paint: &[u8], admitted: &[u8], into: &mut [u8])
     requires paint { length paint.now ≡ length into.old }
     requires admitted { length admitted.now ≡ length into.old }

@@ -1,22 +1,22 @@
-// A layer of a page: an image or a part of it, where it stands and how it is painted.
+// A layer of a page: an image or a part of it, its position, and how it is painted.
 ghost use Rattle.std.specs.Prelude.{◌≡◌, ◌≤◌};
 
 use tif_image::{Bilevel, Contone};
 use tif_strips::{RowCursor, Shape};
 
-/// What a layer shows.
+/// The image of a layer.
 #[derive(Debug, Drop)]
 pub enum Art<'a> {
-    /// An image that paints its four samples, and 0 in the spot ink.
+    /// A contone image, which paints its four samples, and 0 in the spot ink.
     Contone(Contone<'a>),
-    /// Linework whose marked pixels paint these ink values: cyan, magenta, yellow, black and spot.
+    /// Linework, whose marked pixels paint these ink values: cyan, magenta, yellow, black and spot.
     Line(Bilevel<'a>, [u8; 5]),
 }
 
 impl<'a> Art<'a> {
     ghost use Rattle.page_layers.specs.Layer.{bytes_of, shape_of};
 
-    /// The rows of the image, from the first.
+    /// Returns a cursor before the first row of the image.
     pub(crate) fn rows(&self) -> RowCursor<'a>
         ensures { result ≡ record { shape = shape_of self.now; bytes = bytes_of self.now; next = 0 } }
     {
@@ -26,7 +26,7 @@ impl<'a> Art<'a> {
         }
     }
 
-    /// What the fields say of the image.
+    /// Returns the shape of the image, as its TIFF fields give it.
     pub(crate) fn shape(&self) -> Shape
         ensures shape { result ≡ shape_of self.now }
         ensures width { (shape_of self.now).width ≤ 65535 }
@@ -39,7 +39,7 @@ impl<'a> Art<'a> {
     }
 }
 
-/// A part of an image, in its pixels.
+/// A part of an image, in pixels of the image.
 #[derive(Clone, Copy, Debug, PartialEq, Eq)]
 pub struct Crop {
     /// The first column.
@@ -50,17 +50,18 @@ pub struct Crop {
     pub height: u32,
 }
 
-/// A layer of a page. Its left upper corner stands at `x` and `y` of the page, in pixels from the page's own.
+/// A layer of a page. Its top left corner is at `x` and `y`, in pixels from the page's top left corner.
 #[derive(Debug, Drop)]
 pub struct Layer<'a> {
     pub art: Art<'a>,
-    /// Shows the layer where it is marked; it is as wide and as long as the image.
+    /// The layer shows where its mask is marked. A mask has the width and length of the image.
     pub mask: Option<Bilevel<'a>>,
     pub x: u32,
     pub y: u32,
-    /// The page's pixels for a pixel of the image, each way.
+    /// How many pixels of the page a pixel of the image covers, in each direction.
     pub scale: u32,
     pub crop: Crop,
-    /// An ink value of 0 leaves the ink below. Otherwise the layer replaces all five inks.
+    /// With overprint, an ink value of 0 leaves the ink below. Otherwise the layer knocks out: it replaces
+    /// all five inks.
     pub overprint: bool,
 }

@@ -1,12 +1,12 @@
-// What a layer needs to be painted, whichever it is.
+// Buffers for painting any one layer.
 use crate::InkRow;
 use crate::room::room;
 use pr_base::NoMemory;
 use std::alloc::Global;
 use std::marker::Model;
 
-/// Room for the rows of one layer: its paint, and where it is admitted. A layer that takes it writes there
-/// before it reads.
+/// Buffers for the rows of one layer: its paint, and where it is admitted. They are reused, so a layer writes
+/// them before it reads them.
 #[derive(Debug, Drop)]
 pub(crate) struct LayerRoom {
     pub(crate) paint: InkRow,
@@ -27,7 +27,7 @@ impl Model for LayerRoom {
 }
 
 impl LayerRoom {
-    /// Room for any layer of any page.
+    /// Allocates buffers that suffice for any layer of any page.
     pub(crate) fn new(alloc: Global) -> Result<LayerRoom, NoMemory> {
         Ok(LayerRoom {
             paint: InkRow::of(alloc, 0, [0; 5])?,

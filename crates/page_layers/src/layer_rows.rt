@@ -15,19 +15,19 @@ use crate::room::{ReadRoom, refill};
 use crate::row_reader::RowReader;
 use std::marker::Model;
 
-/// A layer with the row of its image that shows last, as paint over the page's columns. Contracts see the
-/// layer, the page's width, and how many rows of the image were read.
+/// A layer, with the row of its image that was read last, expanded to the page's columns as paint. Contracts
+/// see the layer, the page's width, and the number of image rows passed so far.
 #[derive(Debug, Drop)]
 pub(crate) struct LayerRows<'a> {
     layer: Layer<'a>,
-    /// The page's width.
+    /// The page's width in pixels.
     width: u32,
     painting: Painting,
     image: RowReader<'a>,
     mask: Option<RowReader<'a>>,
-    /// Ink values at each column of the page that the layer covers.
+    /// The ink values at each column of the page that the layer covers.
     paint: InkRow,
-    /// A byte for each column of the image that shows: 255 where it is admitted and else 0.
+    /// A byte for each column of the image that shows: 255 where it is admitted, and 0 elsewhere.
     marks: Vec<u8>,
     /// The same for each column of the page that the layer covers.
     admitted: Vec<u8>,
@@ -53,7 +53,7 @@ impl<'a> LayerRows<'a> {
     ghost use Rattle.page_layers.specs.Layer.{IsLayer, painted, row_at};
     ghost use Rattle.page_layers.specs.Page.{shows_alike, shows_on};
 
-    /// The rows of a layer on a page of this width, before the first.
+    /// Opens a layer on a page of this width, before the first row.
     pub(crate) fn open(room: LayerRoom, layer: Layer<'a>, width: u32) -> LayerRows<'a>
         requires layer { IsLayer layer }
         requires width { width ≤ 65535 }
@@ -62,7 +62,7 @@ impl<'a> LayerRows<'a> {
         let span = span_of(&layer, width);
         let columns = columns_of(&layer, span);
         let painting = painting_of(&layer);
-        // For its clauses: the sides.
+        // Called for its clauses: the sides.
         let _shape = layer.art.shape();
         let image = RowReader::new(layer.art.rows());
         let mask = open_mask(&layer.mask);
@@ -86,7 +86,7 @@ impl<'a> LayerRows<'a> {
         }
     }
 
-    /// Gives its room back.
+    /// Returns the layer's buffers.
     pub(crate) fn into_room(self) -> LayerRoom {
         LayerRoom {
             paint: self.paint,
@@ -95,7 +95,7 @@ impl<'a> LayerRows<'a> {
         }
     }
 
-    /// The layer shows on row `y` of the page.
+    /// Returns whether the layer shows on row `y` of the page.
     pub(crate) fn shows(&self, y: u32) -> bool
         ensures { result ≡ shows_on self.now.width self.now.layer y }
     {
@@ -105,7 +105,7 @@ impl<'a> LayerRows<'a> {
             && below < self.layer.crop.height * self.layer.scale
     }
 
-    /// The row of the image that shows there.
+    /// Returns the row of the image that shows on row `y` of the page.
     pub(crate) fn row_at(&self, y: u32) -> u32
         requires { IsTrue (shows_on self.now.width self.now.layer y) }
         ensures { result ≡ row_at self.now.layer y }
@@ -113,7 +113,7 @@ impl<'a> LayerRows<'a> {
         self.layer.crop.y + (y - self.layer.y) / self.layer.scale
     }
 
-    /// Lays the layer over row `y` of the page.
+    /// Paints the layer over row `y` of the page.
     pub(crate) fn paint(&mut self, y: u32, room: &mut ReadRoom, into: &mut InkRow)
         requires width { HasWidth into.old self.old.width }
         requires read { self.old.read ≤ row_at self.old.layer y + 1 }
@@ -139,7 +139,8 @@ impl<'a> LayerRows<'a> {
         );
     }
 
-    /// The layer shows at each column of row `y` of the page and replaces what stands below, spot ink too.
+    /// Returns whether the layer shows at each column of row `y` of the page and replaces all ink below,
+    /// including the spot ink.
     pub(crate) fn covers(&self, y: u32) -> bool
         ensures { IsTrue result → (x : ℕ) → x < self.now.width → (under : Planes)
             → painted self.now.layer x y (inks_at under x) ≡ painted self.now.layer x y blank }
@@ -150,7 +151,7 @@ impl<'a> LayerRows<'a> {
             && self.shows(y)
     }
 
-    // Reads up to a row of the image that shows, and makes paint of it.
+    // Reads up to row `row` of the image and expands it to paint, unless that row was read last.
     #[tactic(auto, using(crate::proofs::Layers::row_most))]
     fn stand_behind(&mut self, row: u32, room: &mut ReadRoom)
         requires before { self.old.read ≤ row + 1 }
@@ -184,7 +185,7 @@ impl<'a> LayerRows<'a> {
         );
     }
 
-    /// Row `y` of the page shows the same as the row above it.
+    /// Returns whether row `y` of the page shows the same of the layer as the row above it.
     pub(crate) fn repeats(&self, y: u32) -> bool
         requires { 0 < y }
         ensures { result ≡ shows_alike self.now.width self.now.layer y }
@@ -196,7 +197,7 @@ impl<'a> LayerRows<'a> {
         }
     }
 
-    /// Stands before the first row again.
+    /// Restarts before the first row.
     pub(crate) fn restart(&mut self)
         ensures { self.new ≡ record self.old { read = 0 } }
     {
@@ -205,8 +206,8 @@ impl<'a> LayerRows<'a> {
     }
 }
 
-// The paint of the row that was read last, at each column of the page.
-// What is the same in each row stands there already.
+// Expands the row that was read last to paint, for each column of the page. The inks that are the same in
+// every row are in place already.
 fn paint_row(
     art: &Art<'_>,
     image: &RowReader<'_>,
@@ -227,13 +228,14 @@ fn paint_row(
     ensures paint { IsPaint art.now crop.x scale (image.now.next - 1) (length paint.old.cyan) paint.new }
 {
     if let Art::Contone(contone) = art {
-        // For its clause: four samples a pixel.
+        // Called for its clause: four samples a pixel.
         let _shape = contone.shape();
         paint.set_samples(image.part(crop, image_room), scale as usize);
     }
 }
 
-// Lays the paint of a row of the image. Inks that are the same in each row are not read from it.
+// Paints a row of the image over the page's row. Inks that are the same in every row are not read from the
+// paint.
 fn lay_paint(
     art: &Art<'_>,
     painting: Painting,
@@ -259,7 +261,7 @@ fn lay_paint(
     }
 }
 
-// How a layer is painted.
+// Returns how a layer is painted.
 fn painting_of(layer: &Layer<'_>) -> Painting
     ensures { result ≡ painting_of layer.now }
 {
@@ -272,7 +274,7 @@ fn painting_of(layer: &Layer<'_>) -> Painting
     }
 }
 
-// What a layer paints in each row, where that is the same.
+// Returns the inks that a layer paints in every row, where they are always the same.
 fn fixed_inks(art: &Art<'_>) -> [u8; 5]
     ensures { result ≡ fixed_of art.now }
 {
@@ -282,7 +284,7 @@ fn fixed_inks(art: &Art<'_>) -> [u8; 5]
     }
 }
 
-// The page's columns that a layer covers.
+// Returns how many columns of the page a layer covers.
 fn span_of(layer: &Layer<'_>, width: u32) -> usize
     requires layer { IsLayer layer.now }
     requires width { (shape_of layer.now.art).width ≤ 65535 }
@@ -292,7 +294,7 @@ fn span_of(layer: &Layer<'_>, width: u32) -> usize
     covered.min(width.saturating_sub(layer.x)) as usize
 }
 
-// The columns of the image that show on so many columns of the page.
+// Returns how many columns of the image show on `span` columns of the page.
 fn columns_of(layer: &Layer<'_>, span: usize) -> usize
     requires layer { IsLayer layer.now }
     requires span { span ≤ layer.now.crop.width * layer.now.scale }

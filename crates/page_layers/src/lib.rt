@@ -1,5 +1,5 @@
-// The layers of a page laid in order, row by row in five inks. Page after page is painted in room that is
-// taken once: behind that no call takes memory, and none fails.
+// Page assembly: the layers of a page, painted in order, row by row, in five inks. The memory is allocated
+// once and reused page after page; after that no call allocates or fails.
 #![tactic(auto)]
 
 mod admit;

@@ -1,4 +1,4 @@
-// Marked pixels of a bilevel image as bytes.
+// The marked pixels of a bilevel image as bytes.
 ghost use Rattle.std.specs.Prelude.{◌≡◌, ℕ, ◌+◌, ◌-◌, ◌*◌, ◌%◌, ◌<◌, ◌≤◌, length, slice_index};
 ghost use Rattle.tif_image.specs.Image.{pixel_marked};
 ghost use Rattle.page_layers.specs.Reader.{Holds};
@@ -9,23 +9,23 @@ use crate::row_reader::RowReader;
 use std::simd::prelude::*;
 use tif_image::Bilevel;
 
-/// How many pixels go in one step: the bits of eight bytes.
+/// How many pixels are handled in one step: the bits of eight bytes.
 const BLOCK: usize = 64;
 
-/// The byte, of the eight of a block, that has the bit of each pixel.
+/// For each pixel of a block, which of the block's eight bytes has its bit.
 const BYTE_OF: [usize; BLOCK] = [
     0, 0, 0, 0, 0, 0, 0, 0, 1, 1, 1, 1, 1, 1, 1, 1, 2, 2, 2, 2, 2, 2, 2, 2, 3, 3, 3, 3, 3, 3, 3, 3,
     4, 4, 4, 4, 4, 4, 4, 4, 5, 5, 5, 5, 5, 5, 5, 5, 6, 6, 6, 6, 6, 6, 6, 6, 7, 7, 7, 7, 7, 7, 7, 7,
 ];
 
-/// That bit of it: the first pixel has the highest.
+/// The bit of each pixel within its byte: the first pixel is the highest bit.
 const BIT_OF: [u8; BLOCK] = [
     128, 64, 32, 16, 8, 4, 2, 1, 128, 64, 32, 16, 8, 4, 2, 1, 128, 64, 32, 16, 8, 4, 2, 1, 128, 64,
     32, 16, 8, 4, 2, 1, 128, 64, 32, 16, 8, 4, 2, 1, 128, 64, 32, 16, 8, 4, 2, 1, 128, 64, 32, 16,
     8, 4, 2, 1, 128, 64, 32, 16, 8, 4, 2, 1,
 ];
 
-/// Sets to 0 the bytes of pixels that aren't marked, from the first column of a crop on.
+/// Sets to 0 the bytes of pixels that are not marked, from the first column of a crop on.
 pub(crate) fn keep_marked(
     image: &Bilevel<'_>,
     reader: &RowReader<'_>,
@@ -41,15 +41,15 @@ pub(crate) fn keep_marked(
         (λ n. pixel_marked image.now.shape image.now.bytes (crop.x + n) (reader.now.next - 1))
         (slice_index into.old) (length into.old) into.new }
 {
-    // For its clause: one sample a pixel.
+    // Called for its clause: one sample a pixel.
     let _shape = image.shape();
     // The first byte holds the crop's first column.
     let first = crop.x as usize % 8;
     keep(image.marks_zeros(), reader.part(crop, room), first, into);
 }
 
-// Keeps the bytes of pixels whose bit is 0, or else of those whose bit is 1: first those up to a whole byte
-// of the row, then whole blocks, then the rest.
+// Keeps the bytes of pixels whose bit is 0, or else of those whose bit is 1, and clears the others. The
+// pixels before a byte boundary of the row come first, then whole blocks, then the rest.
 fn keep(zeros: bool, row: &[u8], first: usize, into: &mut [u8])
     requires small { first + length into.old ≤ 65535 }
     requires within { first + length into.old ≤ 8 * length row.now }
@@ -64,7 +64,7 @@ fn keep(zeros: bool, row: &[u8], first: usize, into: &mut [u8])
     keep_bits(zeros, row, first, into, done, all);
 }
 
-// The loop multiplies by 0 or 1: a branch on the bit would often be guessed wrong.
+// The loop multiplies by 0 or 1, since a branch on the bit would often be mispredicted.
 fn keep_bits(zeros: bool, row: &[u8], first: usize, into: &mut [u8], from: usize, to: usize)
     requires order { (from ≤ to) × (to ≤ length into.old) }
     requires small { first + to ≤ 65535 }
@@ -76,7 +76,7 @@ fn keep_bits(zeros: bool, row: &[u8], first: usize, into: &mut [u8], from: usize
     }
 }
 
-// Pixel `x` of a row has the bit 0, or else the bit 1.
+// Returns whether pixel `x` of a row has the bit 0, or else the bit 1.
 #[inline(always)]
 fn has_bit(zeros: bool, row: &[u8], x: usize) -> bool
     requires within { x < 8 * length row.now }
@@ -86,7 +86,7 @@ fn has_bit(zeros: bool, row: &[u8], x: usize) -> bool
     (bit == 1) != zeros
 }
 
-// The same of whole blocks, of which the first begins with a byte of the row.
+// Does the same for whole blocks, the first of which starts at a byte of the row.
 fn keep_blocks(zeros: bool, row: &[u8], first: usize, into: &mut [u8], from: usize, to: usize)
     requires order { (from ≤ to) × (to ≤ length into.old) }
     requires small { first + to ≤ 65535 }
@@ -103,8 +103,8 @@ fn keep_blocks(zeros: bool, row: &[u8], first: usize, into: &mut [u8], from: usi
     }
 }
 
-// The same of one block: each pixel's bit stands alone in a lane, and its byte stays where that is the bit
-// that is wanted.
+// Does the same for one block. Each pixel's bit is isolated in a lane, and its byte is kept where the bit has
+// the value sought.
 fn keep_block(zeros: bool, bits: &[u8], into: &mut [u8])
     requires bits { length bits.now ≡ 8 }
     requires into { length into.old ≡ BLOCK }

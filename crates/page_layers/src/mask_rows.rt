@@ -1,4 +1,4 @@
-// The rows of a mask, where a layer has one.
+// The rows of a mask, if a layer has one.
 ghost use Rattle.std.specs.Prelude.{◌≡◌, ◌+◌, ◌<◌, ◌≤◌, length, option_map};
 ghost use Rattle.std.specs.Option.{ForSome};
 ghost use Rattle.tif_strips.specs.Strips.{row_length};
@@ -8,7 +8,7 @@ use crate::layer::Crop;
 use crate::row_reader::RowReader;
 use tif_image::Bilevel;
 
-/// Stands before the first row of the mask, if there is one.
+/// Opens a reader before the first row of the mask, if there is one.
 pub(crate) fn open_mask<'a>(mask: &Option<Bilevel<'a>>) -> Option<RowReader<'a>>
     ensures { result ≡ option_map (mask_cursor 0) mask.now }
 {
@@ -18,7 +18,8 @@ pub(crate) fn open_mask<'a>(mask: &Option<Bilevel<'a>>) -> Option<RowReader<'a>>
     }
 }
 
-/// Goes up to a row of the mask, and reads a crop's columns of it into the front of a room, if there is one.
+/// Advances to a row of the mask, if there is one, and reads a crop's columns of it into the front of a
+/// buffer.
 pub(crate) fn reach_mask(mask: &mut Option<RowReader<'_>>, row: u32, crop: Crop, room: &mut [u8])
     requires small { row < 65535 }
     requires within { ForSome mask.old (λ reader. (reader.next ≤ row) × (row < reader.shape.length)) }
@@ -33,7 +34,7 @@ pub(crate) fn reach_mask(mask: &mut Option<RowReader<'_>>, row: u32, crop: Crop,
     }
 }
 
-/// Stands before the first row of the mask, if there is one.
+/// Restarts before the first row of the mask, if there is one.
 pub(crate) fn restart_mask<'a>(reader: &mut Option<RowReader<'a>>, mask: &Option<Bilevel<'a>>)
     requires { option_map (at_row 0) reader.old ≡ option_map (mask_cursor 0) mask.now }
     ensures { reader.new ≡ option_map (at_row 0) reader.old }

@@ -1,4 +1,4 @@
-// The rows of a page, its layers laid in order.
+// The rows of a page: its layers, painted in order.
 ghost use Rattle.std.specs.Prelude.{◌≡◌, ℕ, ◌<◌, ◌≤◌, All, IfOk, length};
 ghost use Rattle.std.specs.List.{fold, list_all};
 ghost use Rattle.std.specs.Vec.{vec_capacity};
@@ -16,13 +16,13 @@ use pr_base::NoMemory;
 use std::alloc::Global;
 use std::marker::Model;
 
-/// A page that gives its rows from the top, with room for so many layers: it is cleared, and becomes page
-/// after page. Contracts see its layers, its sides in pixels, the number of the next row, and for how many
-/// layers it has room.
+/// A page that returns its rows from the top, with buffers for a fixed number of layers. `clear` makes it
+/// ready for another page. Contracts see its layers, its sides in pixels, the number of the next row, and the
+/// number of layers that it has buffers for.
 #[derive(Debug, Drop)]
 pub struct PageRows<'a> {
     layers: Vec<LayerRows<'a>>,
-    /// The rooms that no layer of the page uses.
+    /// The buffers that no layer of the page uses.
     rooms: Vec<LayerRoom>,
     read: ReadRoom,
     width: u32,
@@ -57,7 +57,7 @@ impl<'a> PageRows<'a> {
     ghost use Rattle.page_layers.specs.Layer.{IsLayer, ink_at};
     ghost use Rattle.page_layers.specs.Page.{shows_alike};
 
-    /// A page without layers. Takes the room for so many.
+    /// Opens a page without layers, and allocates buffers for `room` layers.
     pub fn open(
         alloc: Global,
         room: usize,
@@ -82,7 +82,7 @@ impl<'a> PageRows<'a> {
         })
     }
 
-    /// Takes all layers from the page, and goes back to row 0.
+    /// Removes all layers, and goes back to row 0.
     pub fn clear(&mut self)
         ensures { self.new ≡ record self.old { layers = []; next = 0 } }
     {
@@ -93,7 +93,7 @@ impl<'a> PageRows<'a> {
         self.next = 0;
     }
 
-    /// Puts a layer on the others, of which the first is at the bottom.
+    /// Adds a layer on top of the others.
     pub fn put(&mut self, layer: Layer<'a>)
         requires layer { IsLayer layer }
         requires room { length self.old.layers < self.old.room }
@@ -105,14 +105,14 @@ impl<'a> PageRows<'a> {
             .push_reserved(LayerRows::open(room, layer, self.width));
     }
 
-    /// The number of rows that are still to come.
+    /// Returns the number of rows that are left.
     pub fn left(&self) -> u32
         ensures { result ≡ self.now.height - self.now.next }
     {
         self.height - self.next
     }
 
-    /// Gives the next row in all five inks.
+    /// Writes the next row in all five inks.
     pub fn next(&mut self, into: &mut InkRow)
         requires left { self.old.next < self.old.height }
         requires width { HasWidth into.old self.old.width }
@@ -127,7 +127,7 @@ impl<'a> PageRows<'a> {
         self.next = y + 1;
     }
 
-    /// Goes over the next row as `next` does, without painting it.
+    /// Skips the next row: advances as `next` does, without painting.
     pub fn pass(&mut self)
         requires { self.old.next < self.old.height }
         ensures { self.new ≡ record self.old { next = self.old.next + 1 } }
@@ -135,8 +135,9 @@ impl<'a> PageRows<'a> {
         self.next += 1;
     }
 
-    /// A row was given since the start, and the next one equals it. It is told where every layer shows one
-    /// row of its image on both, or nothing.
+    /// Returns true only if a row has been written or skipped since the start and the next row equals it.
+    /// Equality is detected where every layer shows the same row of its image on both rows, or nothing on
+    /// both.
     pub fn repeats(&self) -> bool
         ensures given { IsTrue result → 0 < self.now.next }
         ensures equal { IsTrue result
@@ -158,7 +159,7 @@ impl<'a> PageRows<'a> {
     }
 }
 
-// The rooms of so many layers.
+// Allocates the buffers of `count` layers.
 fn layer_rooms(alloc: Global, count: usize) -> Result<Vec<LayerRoom>, NoMemory>
     ensures count { IfOk result (λ rooms. length rooms.items ≡ count) }
     ensures capacity { IfOk result (λ rooms. count ≤ vec_capacity rooms) }
@@ -170,7 +171,7 @@ fn layer_rooms(alloc: Global, count: usize) -> Result<Vec<LayerRoom>, NoMemory>
     Ok(rooms)
 }
 
-// Takes all ink away before row `y` is laid, unless the layer at the bottom replaces all of it.
+// Sets all inks to 0 before row `y` is painted, unless the bottom layer replaces all of them.
 fn clear_under(layers: &[LayerRows<'_>], y: u32, into: &mut InkRow)
     requires width { HasWidth into.old (length into.old.cyan) }
     requires ready { All (IsReady (length into.old.cyan) y) layers.now }
@@ -185,7 +186,7 @@ fn clear_under(layers: &[LayerRows<'_>], y: u32, into: &mut InkRow)
     into.clear();
 }
 
-// Lays the layers in order over row `y`.
+// Paints the layers in order over row `y`.
 fn paint_layers(layers: &mut [LayerRows<'_>], y: u32, read: &mut ReadRoom, into: &mut InkRow)
     requires width { HasWidth into.old (length into.old.cyan) }
     requires ready { All (IsReady (length into.old.cyan) y) layers.old }
@@ -201,7 +202,7 @@ fn paint_layers(layers: &mut [LayerRows<'_>], y: u32, read: &mut ReadRoom, into:
     }
 }
 
-// Row `y` of each layer shows the same as the row above it.
+// Returns whether row `y` of each layer shows the same as the row above it.
 fn all_repeat(layers: &[LayerRows<'_>], y: u32) -> bool
     requires { 0 < y }
     ensures { result ≡ list_all (λ state. shows_alike state.width state.layer y) layers.now }
@@ -209,7 +210,7 @@ fn all_repeat(layers: &[LayerRows<'_>], y: u32) -> bool
     layers.iter().all(|layer| layer.repeats(y))
 }
 
-// Stands before the first row of each layer again.
+// Restarts each layer before its first row.
 fn restart_layers(layers: &mut [LayerRows<'_>])
     ensures layers { layers_of layers.new ≡ layers_of layers.old }
     ensures ready { (width y : ℕ) → All (IsReady width y) layers.old → All (IsReady width 0) layers.new }

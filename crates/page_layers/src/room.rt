@@ -1,4 +1,4 @@
-// Rooms for bytes, which are taken once and used again and again.
+// Byte buffers that are allocated once and reused.
 ghost use Rattle.std.specs.Prelude.{◌≡◌, ◌≤◌, IfOk, replicate};
 ghost use Rattle.std.specs.Vec.{vec_capacity};
 
@@ -9,10 +9,10 @@ use std::marker::Model;
 /// The longest side of an image and of a page, in pixels.
 const WIDEST: usize = 65_535;
 
-/// The bytes of the longest row of an image: four a pixel.
+/// The longest row of an image in bytes: four bytes a pixel.
 const LONGEST: usize = 4 * WIDEST;
 
-/// `len` bytes, each this one, where a row of any page has room.
+/// Allocates `len` bytes of value `byte`, with capacity for a row of any page.
 pub(crate) fn room(alloc: Global, len: usize, byte: u8) -> Result<Vec<u8>, NoMemory>
     ensures items { IfOk result (λ bytes. bytes.items ≡ replicate len byte) }
     ensures widest { IfOk result (λ bytes. 65535 ≤ vec_capacity bytes) }
@@ -22,7 +22,7 @@ pub(crate) fn room(alloc: Global, len: usize, byte: u8) -> Result<Vec<u8>, NoMem
     Ok(bytes)
 }
 
-/// Makes it `len` bytes, each this one, in the room that is there.
+/// Makes the buffer `len` bytes of value `byte`, within its capacity.
 pub(crate) fn refill(bytes: &mut Vec<u8>, len: usize, byte: u8)
     requires { len ≤ vec_capacity bytes.old }
     ensures items { bytes.new.items ≡ replicate len byte }
@@ -35,7 +35,8 @@ pub(crate) fn refill(bytes: &mut Vec<u8>, len: usize, byte: u8)
     }
 }
 
-/// Where the rows of images and of masks are read, for all layers of a page one after the other.
+/// The buffers that rows of images and masks are read into. All layers of a page share them, one after the
+/// other.
 #[derive(Debug, Drop)]
 pub(crate) struct ReadRoom {
     pub(crate) image: Vec<u8>,
@@ -54,7 +55,7 @@ impl Model for ReadRoom {
 }
 
 impl ReadRoom {
-    /// Room for the longest rows.
+    /// Allocates buffers for the longest rows.
     pub(crate) fn new(alloc: Global) -> Result<ReadRoom, NoMemory> {
         Ok(ReadRoom {
             image: vec![in alloc; 0; LONGEST]?,

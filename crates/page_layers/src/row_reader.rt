@@ -1,4 +1,4 @@
-// A cursor over an image, of whose rows a crop's columns are read into a room that all images share.
+// A cursor over an image. It reads a crop's columns of a row into a buffer that all images share.
 use crate::layer::Crop;
 use std::marker::Model;
 use tif_strips::RowCursor;
@@ -7,7 +7,7 @@ use tif_strips::RowCursor;
 #[derive(Debug, Drop)]
 pub(crate) struct RowReader<'a> {
     rows: RowCursor<'a>,
-    /// How many rows were read.
+    /// The number of rows passed so far, including the row read last.
     read: u32,
 }
 
@@ -27,7 +27,7 @@ impl<'a> RowReader<'a> {
     ghost use Rattle.tif_strips.specs.Strips.{row_length};
     ghost use Rattle.page_layers.specs.Reader.{Holds, crop_length, crop_part};
 
-    /// The cursor stands before the first row.
+    /// Makes a reader from a cursor before the first row.
     pub(crate) fn new(rows: RowCursor<'a>) -> RowReader<'a>
         requires { rows.next ≡ 0 }
         ensures { result ≡ rows.entry }
@@ -35,14 +35,14 @@ impl<'a> RowReader<'a> {
         RowReader { rows, read: 0 }
     }
 
-    /// How many rows were read.
+    /// Returns the number of rows passed so far, including the row read last.
     pub(crate) fn read(&self) -> u32
         ensures { result ≡ self.now.next }
     {
         self.read
     }
 
-    /// Goes up to row `y`, and reads a crop's columns of it into the front of a room.
+    /// Advances to row `y`, and reads a crop's columns of it into the front of a buffer.
     pub(crate) fn reach(&mut self, y: u32, crop: Crop, room: &mut [u8])
         requires before { self.old.next ≤ y }
         requires small { y < 65535 }
@@ -59,7 +59,7 @@ impl<'a> RowReader<'a> {
         self.read = y + 1;
     }
 
-    /// The crop's columns of the row that was read last, in the room that they were read into.
+    /// Returns the crop's columns of the row read last, from the buffer that they were read into.
     pub(crate) fn part<'b>(&self, crop: Crop, room: &'b [u8]) -> &'b [u8]
         requires { Holds self.now crop room.now }
         ensures part { result.now ≡ crop_part self.now crop }
@@ -69,7 +69,7 @@ impl<'a> RowReader<'a> {
         &room[..len]
     }
 
-    /// Stands before the first row again, with a new cursor over the same image.
+    /// Restarts before the first row, with a new cursor over the same image.
     pub(crate) fn restart(&mut self, rows: RowCursor<'a>)
         requires { rows ≡ record self.old { next = 0 } }
         ensures { self.new ≡ record self.old { next = 0 } }

@@ -1,31 +1,31 @@
-// The samples of one ink of a row of pixels, taken out of them sixteen pixels at a time: whole blocks, and
-// then the rest one by one.
+// The samples of one ink of a row of pixels, extracted sixteen pixels at a time: whole blocks first, then the
+// rest one by one.
 ghost use Rattle.std.specs.Prelude.{ℕ, ◌*◌, ◌<◌, ◌≤◌, length};
 ghost use Rattle.page_layers.specs.Rows.{IsStretched};
 
 use crate::stretch::runs;
 use std::simd::prelude::*;
 
-/// The bytes of the pixels that go in one step, four each.
+/// The length of a block in bytes: sixteen pixels of four bytes.
 const BLOCK: usize = 64;
 
-/// The place of each value in the pixels of a block, where a sample stands once.
+/// The place in a block of each value to write, when each sample is written once.
 const ONCE: [usize; 16] = [0, 4, 8, 12, 16, 20, 24, 28, 32, 36, 40, 44, 48, 52, 56, 60];
 
-/// The same where it stands twice.
+/// The same when each sample is written twice.
 const TWICE: [usize; 32] = [
     0, 0, 4, 4, 8, 8, 12, 12, 16, 16, 20, 20, 24, 24, 28, 28, 32, 32, 36, 36, 40, 40, 44, 44, 48,
     48, 52, 52, 56, 56, 60, 60,
 ];
 
-/// And where it stands four times.
+/// The same when each sample is written four times.
 const FOUR_TIMES: [usize; 64] = [
     0, 0, 0, 0, 4, 4, 4, 4, 8, 8, 8, 8, 12, 12, 12, 12, 16, 16, 16, 16, 20, 20, 20, 20, 24, 24, 24,
     24, 28, 28, 28, 28, 32, 32, 32, 32, 36, 36, 36, 36, 40, 40, 40, 40, 44, 44, 44, 44, 48, 48, 48,
     48, 52, 52, 52, 52, 56, 56, 56, 56, 60, 60, 60, 60,
 ];
 
-/// Fills a row with each sample of an ink, once.
+/// Fills a row with the samples of one ink, each once.
 pub(crate) fn samples_once(source: &[u8], into: &mut [u8])
     requires small { length into.old ≤ 65535 }
     requires enough { (n : ℕ) → 1 * n < length into.old → 4 * n < length source.now }
@@ -40,7 +40,7 @@ pub(crate) fn samples_once(source: &[u8], into: &mut [u8])
     runs(source, 4, 1, 16 * count, into);
 }
 
-/// Fills a row with each sample of an ink, twice.
+/// Fills a row with the samples of one ink, each twice.
 pub(crate) fn samples_twice(source: &[u8], into: &mut [u8])
     requires small { length into.old ≤ 65535 }
     requires enough { (n : ℕ) → 2 * n < length into.old → 4 * n < length source.now }
@@ -55,7 +55,7 @@ pub(crate) fn samples_twice(source: &[u8], into: &mut [u8])
     runs(source, 4, 2, 16 * count, into);
 }
 
-/// Fills a row with each sample of an ink, four times.
+/// Fills a row with the samples of one ink, each four times.
 pub(crate) fn samples_four_times(source: &[u8], into: &mut [u8])
     requires small { length into.old ≤ 65535 }
     requires enough { (n : ℕ) → 4 * n < length into.old → 4 * n < length source.now }

@@ -1,10 +1,10 @@
-// Values that stand several times side by side.
+// Scaling a row up by a whole number: each value is repeated.
 ghost use Rattle.std.specs.Prelude.{◌≡◌, ℕ, ◌+◌, ◌*◌, ◌/◌, ◌<◌, ◌≤◌, length, slice_index};
 ghost use Rattle.page_layers.specs.Rows.{IsStretched};
 
 use crate::samples::{samples_four_times, samples_once, samples_twice};
 
-/// Fills `into` with each value of the source, `step` apart, `scale` times.
+/// Fills `into` with the values of the source, `step` apart, each repeated `scale` times.
 #[tactic(auto, using(crate::proofs::Stretches::IsStretched_none))]
 pub(crate) fn stretch(source: &[u8], step: usize, scale: usize, into: &mut [u8])
     requires step { (1 ≤ step) × (step ≤ 4) }
@@ -24,7 +24,7 @@ pub(crate) fn stretch(source: &[u8], step: usize, scale: usize, into: &mut [u8])
     }
 }
 
-// The same, of values that stand side by side, once each.
+// Does the same for adjacent values, each once.
 #[inline(always)]
 fn copy(source: &[u8], into: &mut [u8])
     requires { (n : ℕ) → n < length into.old → n < length source.now }
@@ -35,8 +35,8 @@ fn copy(source: &[u8], into: &mut [u8])
     }
 }
 
-// Whole runs behind those that are done, and a front of one more. The caller's numbers are put in, so that a
-// run is a single store.
+// Writes whole runs after the first `done` ones, and the start of one more at the end. It is inlined with the
+// caller's constants, so that a run is a single store.
 #[inline(always)]
 pub(crate) fn runs(source: &[u8], step: usize, scale: usize, done: usize, into: &mut [u8])
     requires step { step ≤ 4 }

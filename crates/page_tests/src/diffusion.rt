@@ -1,11 +1,12 @@
-// Error diffusion: worked rows, and a page whose bits another program made.
+// Error diffusion: worked rows, and a page whose bits come from another program.
 ghost use Rattle.std.specs.Prelude.{◌≡◌, ◌≤◌, length};
 
 use scr_diffuse::{BlockDiffuser, Diffuser};
 use std::process::Abort;
 
-/// A page of 61 by 17 values from a linear congruential generator. A Python program of ten lines, which keeps
-/// the errors of the whole page in a table and reads the formula as it stands, made these bits.
+/// The bits of a page of 61 by 17 values from a linear congruential generator. They come from a Python
+/// program of ten lines that keeps the errors of the whole page in a table and evaluates the formula
+/// directly.
 const SEEDED: [[u8; 8]; 17] = [
     [0x71, 0x9D, 0x37, 0x9D, 0x94, 0xD5, 0x8C, 0xA8],
     [0x9B, 0x38, 0x50, 0xC7, 0x73, 0xAC, 0xB6, 0x08],
@@ -26,8 +27,8 @@ const SEEDED: [[u8; 8]; 17] = [
     [0xAD, 0xAA, 0x54, 0x9F, 0xD9, 0xA4, 0xA7, 0x10],
 ];
 
-/// These rows of values, drawn one below the other over `before`, each from its bit on, give the bits `want`,
-/// and again after a restart.
+/// Asserts that these rows of values, drawn one after the other over `before`, each from its bit on, give the
+/// bits `want`, and give them again after a restart.
 fn assert_drawn<const W: usize, R: Abort + AllocGlobal>(
     rt: &R,
     rows: &[([u8; W], u32)],
@@ -74,7 +75,7 @@ fn seeded_page(rt: HostRuntime) {
     }
 }
 
-// The same page eight rows at a time. Behind its last row any may stand.
+// The same page, eight rows at a time. The rows past its last one may hold anything.
 #[test]
 fn seeded_page_in_blocks(rt: HostRuntime) {
     let mut diffuser = BlockDiffuser::new(rt.alloc(), 61).expect(&rt, "memory");
@@ -83,7 +84,8 @@ fn seeded_page_in_blocks(rt: HostRuntime) {
     assert_block(&rt, &mut diffuser, seed, 16);
 }
 
-/// The next eight rows, from this seed on, give the bits of the page from row `first` on.
+/// Asserts that the next eight rows of the generator, from this seed on, give the bits of the page from row
+/// `first` on. Returns the next seed.
 fn assert_block(rt: &impl Abort, diffuser: &mut BlockDiffuser, seed: u32, first: usize) -> u32
     requires width { diffuser.old.front.width ≡ 61 }
     requires eight { length diffuser.old.held ≡ 8 }
@@ -106,7 +108,7 @@ fn assert_block(rt: &impl Abort, diffuser: &mut BlockDiffuser, seed: u32, first:
     seed
 }
 
-/// The next eight rows of the generator, and where it then stands.
+/// Returns the next eight rows of the generator, and its next seed.
 fn seeded_block(seed: u32) -> ([[u8; 61]; 8], u32) {
     let mut seed = seed;
     let mut rows = [[0; 61]; 8];
@@ -116,7 +118,7 @@ fn seeded_block(seed: u32) -> ([[u8; 61]; 8], u32) {
     (rows, seed)
 }
 
-/// The next values of the generator, and where it then stands.
+/// Returns the next row of values of the generator, and its next seed.
 fn seeded(seed: u32) -> ([u8; 61], u32) {
     let mut seed = seed;
     let mut values = [0; 61];
@@ -127,7 +129,8 @@ fn seeded(seed: u32) -> ([u8; 61], u32) {
     (values, seed)
 }
 
-// All 128: v is 128, 72, 159, 86 and then 101, 168, 80, 183. A page that begins again is drawn as the first.
+// All values are 128: v is 128, 72, 159, 86 and then 101, 168, 80, 183. After a restart the page is drawn as
+// the first time.
 #[test]
 fn four_by_two(rt: HostRuntime) {
     let row = [128; 4];
@@ -141,7 +144,7 @@ fn one_pixel(rt: HostRuntime) {
     assert_drawn(&rt, &[([128], 0)], [0; 4], [0x80, 0, 0, 0]);
 }
 
-// The errors are -55, 82, 75, 48, -60, 71, -105 and 94, of which five sixteenths go down.
+// The errors are -55, 82, 75, 48, -60, 71, -105 and 94, of which five sixteenths are carried down.
 #[test]
 fn one_column(rt: HostRuntime) {
     let rows = [
@@ -184,15 +187,16 @@ fn assert_column(rt: &impl Abort, diffuser: &mut BlockDiffuser)
     assert!(rt; bits == [0x8A]);
 }
 
-// The errors are -55, 75, 82, 60, -49, 68, -98, 84, 39, 12 and 104,
-// of which seven sixteenths go to the right.
+// The errors are -55, 75, 82, 60, -49, 68, -98, 84, 39, 12 and 104, of which seven sixteenths are carried to
+// the right.
 #[test]
 fn one_row(rt: HostRuntime) {
     let row = [200, 100, 50, 25, 180, 90, 128, 127, 3, 250, 99];
     assert_drawn(&rt, &[(row, 0)], [0; 4], [0x8A, 0x40, 0, 0]);
 }
 
-// Twenty pixels from bit 5 on: three up to a whole byte, two bytes, and one more. Bits outside stay.
+// Twenty pixels from bit 5 on: three before a byte boundary, two bytes, and one more. Bits outside the span
+// are unchanged.
 #[test]
 fn white_and_full(rt: HostRuntime) {
     let white = ([0; 20], 5);

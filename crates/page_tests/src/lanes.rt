@@ -1,4 +1,5 @@
-// Eight pages at once, and eight rows of one page at once, beside code that takes one column after the other.
+// Eight pages at once, and eight rows of one page at once, compared with plain code that works column by
+// column.
 ghost use Rattle.std.specs.Prelude.{◌≡◌, ◌≤◌, ◌<◌, length};
 
 use scr_diffuse::{BlockDiffuser, Diffusers};
@@ -8,11 +9,11 @@ const WIDEST: usize = 40;
 
 const HEIGHT: u32 = 20;
 
-/// The errors of a row: that of column x at x + 1, and 0 on either side of the row.
+/// The errors of a row: that of column x at x + 1, and 0 on both sides of the row.
 type Errors = [i32; WIDEST + 2];
 
-/// Draws a row by the formula, column by column. `errors` has those of the row above, and then those of this
-/// one. The first pixel is the highest bit.
+/// Draws a row by the formula, column by column. `errors` holds the errors of the row above, and afterwards
+/// those of this row. The first pixel is the highest bit.
 fn plain_row(values: &[u8], errors: &mut Errors) -> u64
     requires { length values.now ≤ 40 }
 {
@@ -34,9 +35,12 @@ fn plain_row(values: &[u8], errors: &mut Errors) -> u64
     bits
 }
 
-/// The values of a row of a page, up to the widest: any numbers, others in each page and row.
+/// Returns the values of a row of a page, of the greatest width: pseudorandom numbers that differ by page and
+/// row.
 fn row_of(page: usize, y: u32) -> [u8; WIDEST] {
-    let mut seed = (page as u32).wrapping_mul(40_503).wrapping_add(y.wrapping_mul(2_246_822_519));
+    let mut seed = (page as u32)
+        .wrapping_mul(40_503)
+        .wrapping_add(y.wrapping_mul(2_246_822_519));
     let mut values = [0; WIDEST];
     for value in values.iter_mut() {
         seed = seed.wrapping_mul(1_664_525).wrapping_add(1_013_904_223);
@@ -53,7 +57,8 @@ fn rows_at(y: u32) -> [[u8; WIDEST]; 8] {
     rows
 }
 
-/// Hands in row `y` of eight pages; whether each page then has the pixels that the plain code draws.
+/// Diffuses row `y` of eight pages, and returns whether each page then has the pixels that the plain code
+/// draws.
 fn are_drawn(diffusers: &mut Diffusers, errors: &mut [Errors; 8], width: usize, y: u32) -> bool
     requires width { diffusers.old.width ≡ width }
     requires narrow { width ≤ 40 }
@@ -92,8 +97,8 @@ fn eight_pages_of_each_width(rt: HostRuntime) {
     }
 }
 
-/// Hands in eight rows of a page, from row `first` on; whether those that lie on the page have the pixels
-/// that the plain code draws.
+/// Diffuses eight rows of a page, from row `first` on, and returns whether those inside the page have the
+/// pixels that the plain code draws.
 fn is_drawn(diffuser: &mut BlockDiffuser, errors: &mut Errors, width: usize, first: u32) -> bool
     requires width { diffuser.old.front.width ≡ width }
     requires eight { length diffuser.old.held ≡ 8 }
@@ -119,7 +124,7 @@ fn is_drawn(diffuser: &mut BlockDiffuser, errors: &mut Errors, width: usize, fir
     same
 }
 
-// The third block has four rows of the page, and four behind it.
+// The third block has four rows of the page, and four past its end.
 #[test]
 fn blocks_of_each_width(rt: HostRuntime) {
     for width in 1..WIDEST + 1 {
@@ -132,7 +137,7 @@ fn blocks_of_each_width(rt: HostRuntime) {
     }
 }
 
-// All 128: v is 128, 72, 159, 86 and then 101, 168, 80, 183, in each of the eight pages.
+// All values are 128: v is 128, 72, 159, 86 and then 101, 168, 80, 183, in each of the eight pages.
 #[test]
 fn four_by_two_in_each_lane(rt: HostRuntime) {
     let mut diffusers = Diffusers::new(rt.alloc(), 4).expect(&rt, "memory");

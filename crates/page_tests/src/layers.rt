@@ -1,4 +1,4 @@
-// Small files, layers of them, and the pages that these make.
+// Small image files, layers of them, and the pages that these layers make.
 ghost use Rattle.std.specs.Prelude.{◌≡◌, ◌-◌, ◌<◌, ◌≤◌, [], All, length};
 ghost use Rattle.page_layers.specs.Inks.{HasWidth};
 ghost use Rattle.page_layers.specs.Layer.{IsLayer, shape_of};
@@ -9,7 +9,7 @@ use std::process::Abort;
 use tif_image::{Bilevel, BilevelUse, Contone};
 use tif_make::{Compression, ImageForm, Kind, Order, Planar, make_image};
 
-// How the two images are laid into their files: 4 by 2 pixels, in one strip.
+// The form of the two image files: 4 by 2 pixels, in one strip.
 const FORM: ImageForm = ImageForm {
     kind: Kind::Contone,
     width: 4,
@@ -20,7 +20,7 @@ const FORM: ImageForm = ImageForm {
     rows_per_strip: 2,
 };
 
-// A file of four inks: sample i of pixel x of row y is 10 y + x + 40 i + 1.
+// Makes a file of four inks: sample i of the pixel in column x of row y is 10 y + x + 40 i + 1.
 fn contone<R: Abort + AllocGlobal>(rt: &R) -> Vec<u8> {
     let rows = [
         1, 41, 81, 121, 2, 42, 82, 122, 3, 43, 83, 123, 4, 44, 84, 124, //
@@ -29,7 +29,7 @@ fn contone<R: Abort + AllocGlobal>(rt: &R) -> Vec<u8> {
     make_image(rt.alloc(), &FORM, &rows).expect(rt, "memory")
 }
 
-// A file of one bit a pixel: marked are the pixels 0 and 2 of row 0, and 1 to 3 of row 1.
+// Makes a file of one bit a pixel, in which the pixels 0 and 2 of row 0 and 1 to 3 of row 1 are marked.
 fn bilevel<R: Abort + AllocGlobal>(rt: &R) -> Vec<u8> {
     let form = ImageForm {
         kind: Kind::Line,
@@ -38,7 +38,7 @@ fn bilevel<R: Abort + AllocGlobal>(rt: &R) -> Vec<u8> {
     make_image(rt.alloc(), &form, &[0xA0, 0x70]).expect(rt, "memory")
 }
 
-/// What a layer shows: the file of four inks, or that of one bit a pixel in these inks.
+/// The image of a layer: the file of four inks, or the file of one bit a pixel in these inks.
 #[derive(Clone, Copy)]
 pub enum Shown {
     Contone,
@@ -57,7 +57,7 @@ pub struct Laid {
     pub overprint: bool,
 }
 
-/// A whole image in knockout, without a mask, in the page's corner at scale 1.
+/// Returns a layer of a whole image in knockout, without a mask, at the page's top left corner at scale 1.
 pub fn whole(shown: Shown) -> Laid {
     Laid {
         shown,
@@ -75,7 +75,7 @@ pub fn whole(shown: Shown) -> Laid {
     }
 }
 
-// What stood on the page before: a masked photograph at scale 3.
+// The layer of the page that used the buffers before: a masked photograph at scale 3.
 const BEFORE: Laid = Laid {
     shown: Shown::Contone,
     masked: true,
@@ -91,12 +91,12 @@ const BEFORE: Laid = Laid {
     overprint: true,
 };
 
-/// Whether a row repeats the one above it, and its cyan, magenta, yellow, black and spot. A row of which the
-/// values aren't given is passed.
+/// Whether a row repeats the one above it, and its cyan, magenta, yellow, black and spot. A row without
+/// values is skipped.
 pub type Row<const W: usize> = (bool, Option<[[u8; W]; 5]>);
 
-/// The page of these layers, the first at the bottom, gives these rows, in room that another page used
-/// before. After each turn it starts again.
+/// Asserts that the page of these layers, the first at the bottom, gives these rows, in buffers that another
+/// page used before. The page is restarted after each turn.
 pub fn assert_page<const W: usize, R: Abort + AllocGlobal>(
     rt: &R,
     layers: &[Laid],
@@ -133,7 +133,7 @@ fn assert_turns<'a, const W: usize, R: Abort + AllocGlobal>(
     }
 }
 
-// A page without layers, in room that a page of one layer used before.
+// Returns a page without layers, whose buffers a page of one layer used before.
 fn used_page<'a, R: Abort + AllocGlobal>(
     rt: &R,
     before: Layer<'a>,
@@ -159,7 +159,7 @@ fn used_page<'a, R: Abort + AllocGlobal>(
     page
 }
 
-// Puts layers on a page without any.
+// Adds layers to a page that has none.
 fn put_all<'a>(page: &mut PageRows<'a>, layers: Vec<Layer<'a>>)
     requires layers { All IsLayer layers.items }
     requires top { page.old.next ≡ 0 }
@@ -225,7 +225,7 @@ fn assert_plane(rt: &impl Abort, room: &InkRow, ink: Ink, values: &[u8]) {
     assert!(rt; room.plane(ink) == values);
 }
 
-// The layers over these files.
+// Makes layers of these files.
 fn layers_of<'a, R: Abort + AllocGlobal>(
     rt: &R,
     image: &'a [u8],
@@ -241,7 +241,7 @@ fn layers_of<'a, R: Abort + AllocGlobal>(
     layers
 }
 
-// Puts a layer on the others, once it is one that a page takes.
+// Adds a layer on top of the others, after asserting that a page accepts it.
 fn put<'a, R: Abort>(rt: &R, layers: &mut Vec<Layer<'a>>, layer: Layer<'a>)
     requires { All IsLayer layers.old.items }
     ensures { All IsLayer layers.new.items }
@@ -276,12 +276,12 @@ fn mask<'a, R: Abort>(rt: &R, line: &'a [u8], masked: bool) -> Option<Bilevel<'a
     Some(linework(rt, line, BilevelUse::Mask))
 }
 
-/// An image of one bit a pixel.
+/// Opens an image of one bit a pixel.
 pub fn linework<'a, R: Abort>(rt: &R, file: &'a [u8], usage: BilevelUse) -> Bilevel<'a> {
     Bilevel::check(file, usage).expect(rt, "no image")
 }
 
-// Stops unless a page takes this layer.
+// Asserts that a page accepts this layer.
 pub fn assert_layer(rt: &impl Abort, layer: &Layer<'_>)
     ensures { IsLayer layer.now }
 {

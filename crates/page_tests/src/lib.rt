@@ -1,4 +1,4 @@
-// Tests of what makes a page's bits: curves and limits, screens, and layers.
+// Tests of the crates that make a page's bits: tone curves and ink limits, screens, and layers.
 #![tactic(auto)]
 
 #[cfg(test)]

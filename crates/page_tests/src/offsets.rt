@@ -1,4 +1,5 @@
-// Masked linework from each first column and in each width around a block of 64 pixels, beside a plain loop.
+// Masked linework from each first column and in each width around a block of 64 pixels, compared with a plain
+// loop.
 ghost use Rattle.std.specs.Prelude.{◌≡◌, ◌<◌, [], length};
 ghost use Rattle.page_layers.specs.Inks.{HasWidth};
 
@@ -9,13 +10,13 @@ use std::process::Abort;
 use tif_image::BilevelUse;
 use tif_make::{Compression, ImageForm, Kind, Order, Planar, make_image};
 
-// A row of 200 pixels, of which the ones are marked.
+// A row of 200 pixels whose ones are marked.
 const LINE: [u8; 25] = [
     0x5A, 0x00, 0xFF, 0x3C, 0x81, 0xF0, 0x0F, 0x96, 0xC3, 0xFF, 0xFF, 0x18, 0x7E, 0x00, 0x01, 0x80, //
     0xD2, 0x4B, 0x2D, 0xB4, 0xFE, 0x7F, 0x00, 0xA5, 0x69,
 ];
 
-// And one of which the zeros are.
+// A row of 200 pixels whose zeros are marked.
 const MASK: [u8; 25] = [
     0x0F, 0x33, 0x00, 0x55, 0xFF, 0x81, 0x3C, 0x00, 0x66, 0x12, 0x00, 0xE7, 0x40, 0xFF, 0x08, 0x7F, //
     0x24, 0x00, 0xC9, 0x05, 0x10, 0xFF, 0xA0, 0x00, 0x42,
@@ -36,7 +37,8 @@ fn file<R: Abort + AllocGlobal>(rt: &R, row: &[u8]) -> Vec<u8>
     make_image(rt.alloc(), &form, row).expect(rt, "memory")
 }
 
-// Makes PhotometricInterpretation 1, in the fifth of the fields, which begin at byte 10.
+// Sets PhotometricInterpretation to 1. It is the fifth entry of the directory, whose entries start at byte
+// 10.
 fn mark_zeros(rt: &impl Abort, file: &mut [u8]) {
     assert!(rt; file.len() > 66);
     assert!(rt; file[58] == 6 && file[59] == 1 && file[66] == 0);
@@ -53,7 +55,7 @@ fn rows_begin_and_end_at_any_column(rt: HostRuntime) {
     }
 }
 
-// One page of this width after the other, in one room.
+// Asserts pages of this width one after the other, in the same buffers.
 fn assert_columns<R: Abort + AllocGlobal>(rt: &R, line: &[u8], mask: &[u8], width: u32) {
     assert!(rt; width >= 1 && width <= 130);
     let mut page = PageRows::open(rt.alloc(), 1, width, 1).expect(rt, "memory");
@@ -63,7 +65,7 @@ fn assert_columns<R: Abort + AllocGlobal>(rt: &R, line: &[u8], mask: &[u8], widt
     }
 }
 
-// Leaves the page as it was, without layers.
+// Leaves the page unchanged, without layers.
 fn assert_row<'a>(
     rt: &impl Abort,
     line: &'a [u8],

@@ -1,4 +1,5 @@
-// Pages of small layers: one over another, at places, in crops, behind masks, at larger scales, and again.
+// Pages of small layers: on top of each other, at various positions, cropped, masked, scaled up, and drawn
+// again.
 use crate::layers::{Laid, Row, Shown, assert_page, whole};
 use page_layers::Crop;
 
@@ -21,7 +22,7 @@ fn overprint_keeps_inks_and_knockout_replaces_them(rt: HostRuntime) {
 #[test]
 fn edges_cut_layers(rt: HostRuntime) {
     let image = whole(Shown::Contone);
-    // The last three stand wholly outside.
+    // The last three are wholly outside the page.
     let places = [(2, 1), (4, 0), (0, 2), (4_000_000_000, 4_000_000_000)];
     let layers = places.map(|(x, y)| Laid { x, y, ..image });
     let row = [

@@ -1,5 +1,5 @@
 // A row of four inks from each first column, at each left edge and in each width around a block of 64, at the
-// scales whose samples go by vectors and at others, beside a plain loop.
+// scales that are vectorized and at others, compared with a plain loop.
 ghost use Rattle.std.specs.Prelude.{◌≡◌, ◌<◌, [], IfOk, length};
 ghost use Rattle.page_layers.specs.Inks.{HasWidth};
 
@@ -12,12 +12,12 @@ use std::test::Fail;
 use tif_image::Contone;
 use tif_make::{Compression, ImageForm, Kind, Order, Planar, make_image};
 
-// The pixels of the row.
+// The width of the row in pixels.
 const PIXELS: u32 = 260;
 
 const INKS: [Ink; 4] = [Ink::C, Ink::M, Ink::Y, Ink::K];
 
-// Four samples a pixel.
+// Returns the row's samples, four a pixel.
 fn noise() -> [u8; 1040] {
     let mut row = [0; 1040];
     let mut seed = 1u32;
@@ -65,7 +65,7 @@ fn assert_widths<R: Abort + AllocGlobal>(
     Ok(())
 }
 
-// One page of this width after the other, in one room.
+// Asserts pages of this width one after the other, in the same buffers.
 fn assert_columns<R: Abort + AllocGlobal>(
     rt: &R,
     file: &[u8],
@@ -83,7 +83,7 @@ fn assert_columns<R: Abort + AllocGlobal>(
     Ok(())
 }
 
-// Leaves the page as it was, without layers.
+// Leaves the page unchanged, without layers.
 fn assert_row<'a>(
     rt: &impl Abort,
     file: &'a [u8],

@@ -48,7 +48,7 @@ fn sides_that_are_built(rt: HostRuntime) {
     }
 }
 
-/// What `before` becomes where these values of row `y` are screened from bit `from` on.
+/// Returns `before` after these values of row `y` are screened into it from bit `from` on.
 fn screened<const W: usize, const N: usize>(
     rt: &impl Abort,
     tile: &AnyTile,
@@ -64,12 +64,12 @@ fn screened<const W: usize, const N: usize>(
     bits
 }
 
-/// The Bayer tile of a side that is built.
+/// Returns the Bayer tile of a side that is built.
 fn bayer_tile(rt: &impl Abort, side: u8) -> AnyTile {
     AnyTile::bayer(side).expect(rt, "the side is built")
 }
 
-// A flat 128 prints nine dots on one tile.
+// A flat value of 128 prints nine dots on one tile.
 #[test]
 fn dots_of_side_4(rt: HostRuntime) {
     let tile = bayer_tile(&rt, 4);
@@ -81,7 +81,7 @@ fn dots_of_side_4(rt: HostRuntime) {
     assert!(rt; rows == [0xE0, 0x50, 0xA0, 0x50] && dots == 9);
 }
 
-/// A tile of one row of these numbers.
+/// Makes a tile of one row of these thresholds.
 fn own(rt: &impl Abort, numbers: Vec<u8>) -> AnyTile {
     assert!(rt; numbers.len() > 0 && numbers.len() <= 64);
     AnyTile::own(numbers.len() as u32, 1, numbers)
@@ -99,7 +99,7 @@ fn threshold_of_255_prints_nothing(rt: HostRuntime) {
     assert!(rt; screened(&rt, &tile, 0, [255; 8], [0xFF], 0) == [0]);
 }
 
-// 130 pixels from bit 5 on: three up to a whole byte, a block and a block of which one pixel is missing.
+// 130 pixels from bit 5 on: three before a byte boundary, one block, and a block less one pixel.
 #[test]
 fn pixels_outside_the_span_stay(rt: HostRuntime) {
     let tile = bayer_tile(&rt, 8);

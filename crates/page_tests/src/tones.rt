@@ -1,11 +1,11 @@
-// Curves and the limit on a pixel's ink: worked values.
+// Tone curves and the ink limit of a pixel: worked values.
 use page_tone::{Curve, limit_inks, limit_row, valid_points};
 use std::process::Abort;
 
 #[test]
 fn points_of_a_curve(rt: HostRuntime) {
     assert_valid(&rt, &[(0, 0), (128, 110), (255, 255)], true);
-    // One point, two at one place, and no end.
+    // Only one point, two points with the same input value, and a last input value other than 255.
     assert_valid(&rt, &[(0, 0)], false);
     assert_valid(&rt, &[(0, 0), (9, 1), (9, 2), (255, 255)], false);
     assert_valid(&rt, &[(0, 0), (254, 255)], false);
@@ -58,7 +58,7 @@ fn shares_are_quotients(rt: HostRuntime) {
     }
 }
 
-/// Whether the inks of a pixel without black are those that three divisions give.
+/// Returns whether the inks of a pixel without black are those that three divisions give.
 fn is_divided(inks: [u8; 4], limit: u16, limited: [u8; 4]) -> bool {
     let [c, m, y, _] = inks;
     let colours = c as u32 + m as u32 + y as u32;
@@ -76,7 +76,7 @@ fn is_share(value: u8, rest: u16, colours: u32, part: u8) -> bool {
     colours > 0 && value as u32 * rest as u32 / colours == part as u32
 }
 
-/// A pixel over the limit in the first block of a row, in its second, at the ends of each.
+/// One pixel over the limit, in the first block of a row or in its second, at either end.
 #[test]
 fn one_pixel_over_a_limit(rt: HostRuntime) {
     for column in [0, 63, 64, 69] {

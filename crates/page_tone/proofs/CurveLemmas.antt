@@ -20,7 +20,7 @@ reached : (points : List (ℕ × ℕ)) (i v : ℕ) → place points 0 ≡ 0 → 
 reached points zero v first passed = omega (arith, first)
 reached points (suc i) v first passed = omega (arith, passed (suc i) (omega arith) (omega arith))
 
--- where the first point stands at 0, it is enough to look at the points behind it
+-- when the first point is at 0, it is enough to test the points after it
 pub found_before : (points : List (ℕ × ℕ)) (right v : ℕ) → 1 ≤ right → right < length points → place points 0 ≡ 0 → v ≤ place points right → ((k : ℕ) → 1 ≤ k → k < right → place points k < v) → curve_value points v ≡ line_value (slice_index_or points (right - 1) (0, 0)) (slice_index_or points right (0, 0)) v
 found_before points zero v above within first after passed = absurd (omega arith)
 found_before points (suc i) v above within first after passed =

@@ -1,11 +1,11 @@
--- The inks of a pixel under a limit: what the shares are, and what they sum to.
+-- The inks of a pixel under a limit: the shares, and their sum.
 use Rattle.std.proofs.Common.{◌≡◌, ℕ, zero, suc, ◌+◌, ◌-◌, ◌*◌, ◌/◌, ◌<◌, ◌≤◌, Bool, true, false, cond, List, [], ◌∷◌, nat_le, min, refl, ap, subst, ◌∙◌, arith}
 use Rattle.std.proofs.Math.Nat.{mul-div-le, le_of_mul-le-mul_left, mul-div_cancel, min-eq_left, min-eq_right, min_comm}
 use Rattle.std.proofs.lemmas.Bool.Decides.{nat_tests}
 use Rattle.std.specs.Prelude.{◌==◌}
 use Rattle.page_tone.specs.Limit.{limited, share}
 
--- a share in a sum that is not 0
+-- a share when the sum of the colours is not 0
 pub share-above : (value rest t : ℕ) → 0 < t → share value rest t ≡ value * rest / t
 share-above value rest t above = ap (λ test. cond {A = ℕ} test 0 (value * rest / t)) (other t above)
   where
@@ -20,14 +20,14 @@ shares_within a b c rest above =
     let all : (a + b + c) * (a * rest / (a + b + c) + b * rest / (a + b + c) + c * rest / (a + b + c)) ≤ (a + b + c) * rest = omega arith in
     le_of_mul-le-mul_left all above
 
--- what three colours share sums to no more than what is shared
+-- the shares of three colours sum to at most the ink that is shared
 pub sum-shares : (a b c rest t : ℕ) → a + b + c ≡ t → share a rest t + share b rest t + share c rest t ≤ rest
 sum-shares a b c rest zero is = omega arith
 sum-shares a b c rest (suc t) is =
     let all : a * rest / suc t + b * rest / suc t + c * rest / suc t ≤ rest = subst (λ n. a * rest / n + b * rest / n + c * rest / n ≤ rest) is (shares_within a b c rest (omega arith)) in
     rw (share-above a rest (suc t) (omega arith), share-above b rest (suc t) (omega arith), share-above c rest (suc t) (omega arith)) all
 
--- a colour's share of all is the colour
+-- a colour's share of an amount equal to the sum of the colours is the colour itself
 own : (value t : ℕ) → value ≤ t → share value t t ≡ value
 own zero zero within = refl
 own (suc value) zero within = absurd (omega arith)
@@ -43,7 +43,7 @@ fits sum limit is = grind (arith, nat_tests)
 passes : (sum limit : ℕ) → nat_le sum limit ≡ false → limit < sum
 passes sum limit is = grind (arith, nat_tests)
 
--- with or without room for all, the colours share what black leaves, or all that they are
+-- whether or not there is room for all, the colours share the smaller of what black leaves and their sum
 pub limited-is : (c m y k limit b r p q s : ℕ) → b ≡ min limit k → r ≡ min (limit - b) (c + m + y) → p ≡ share c r (c + m + y) → q ≡ share m r (c + m + y) → s ≡ share y r (c + m + y) → p ∷ q ∷ s ∷ b ∷ [] ≡ limited c m y k limit
 limited-is c m y k limit b r p q s black rest cyan magenta yellow = by_test (nat_le (c + m + y + k) limit) refl
   where
@@ -68,7 +68,7 @@ limited-is c m y k limit b r p q s black rest cyan magenta yellow = by_test (nat
         (yellow ∙ ap (λ n. share y n (c + m + y)) rest_is)
         black_is
 
--- values that add up to no more than the limit stay
+-- values that sum to at most the limit are unchanged
 pub limited-free : (c m y k limit : ℕ) → c + m + y + k ≤ limit → limited c m y k limit ≡ c ∷ m ∷ y ∷ k ∷ []
 limited-free c m y k limit within = by_test (nat_le (c + m + y + k) limit) _ _ (room (c + m + y + k) limit within)
   where

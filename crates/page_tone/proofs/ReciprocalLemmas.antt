@@ -1,4 +1,4 @@
--- The table of reciprocals, and that a product with one of them is the quotient.
+-- The table of reciprocals, and that multiplying by one of them gives the quotient.
 use Rattle.std.proofs.Common.{◌≡◌, ℕ, zero, suc, ◌+◌, ◌*◌, ◌/◌, ◌^◌, ◌<◌, ◌≤◌, List, map, get_or, refl, sym, ◌∙◌, arith}
 use Rattle.std.specs.List.{range_with_len}
 use Rattle.std.proofs.lemmas.List.FromFn.{get_or-map-range_with_len}
@@ -24,7 +24,8 @@ pub table_at : (t : ℕ) → t ≤ 765 → 0 < t → get_or table t 0 ≡ 2 ^ 28
 unfolding table
 table_at t within above = get_or-map-range_with_len entry 0 768 t t 0 (omega arith) (omega arith) ∙ entry-is t above
 
--- f sixteenths more than s reciprocals of t hold c * s / t, and less than one more
+-- with f = s * r / 16 for the reciprocal r of t, and q the quotient of c * s by t: c * (f + 1) is at least q
+-- * 2^24, and less than (q + 1) * 2^24
 least : (c s t r f q : ℕ) → 268435456 < t * r → s * r < 16 * f + 16 → q * t ≤ c * s → 0 < t → q * 16777216 ≤ c * (f + 1)
 least c s t r f q low below quotient above =
     let one : s * 268435456 ≤ s * (t * r) = mul-le-mul_left s (omega (arith, low)) in
@@ -43,7 +44,7 @@ most c s t r f q high upto quotient sum value rest =
     let all : t * (c * (f + 1)) < t * ((q + 1) * 16777216) = omega (arith, three, five, quotient) in
     lt_of_mul-lt-mul_left t all
 
--- a reciprocal times its sum is little more than 2^28
+-- a reciprocal times its sum is slightly more than 2^28
 reciprocal-low : (t r : ℕ) → 0 < t → r ≡ 2 ^ 28 / t + 1 → 268435456 < t * r
 reciprocal-low t r above is = rw is (lt-mul-div-succ 268435456 above)
 
@@ -60,7 +61,7 @@ quotient-is c s t r above is sum value rest =
     let high : c * (f + 1) < (q + 1) * 16777216 = most c s t r f q (reciprocal-high t r is) from (lt-mul-div-succ (c * s) above) sum value rest in
     omega (arith, low, high)
 
--- a colour's part by the multiplication is its share
+-- a colour's part, computed by the multiplication, is its share
 pub part-is : (c s t r : ℕ) → (0 < t → r ≡ 2 ^ 28 / t + 1) → t ≤ 765 → c ≤ 255 → c ≤ t → s ≤ t → c * (s * r / 16 + 1) / 2 ^ 24 ≡ share c s t
 part-is zero s zero r is sum value within rest = omega arith
 part-is (suc c) s zero r is sum value within rest = absurd (omega arith)

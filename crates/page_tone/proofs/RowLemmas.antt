@@ -5,7 +5,7 @@ use Rattle.std.proofs.lemmas.Bool.{cases_lt}
 use Rattle.page_tone.specs.Limit.{AreLimited, HasLimited, IsWritten, limited, limited_at}
 use Rattle.page_tone.proofs.LimitLemmas.{limited-free}
 
--- nothing is written
+-- nothing has been written
 written-none : (value : ℕ → ℕ) (from : ℕ) (row : List ℕ) → IsWritten value from from row row
 written-none value from row = record {
   inside = λ x above less. absurd (omega arith);
@@ -13,7 +13,7 @@ written-none value from row = record {
   behind = λ x above. refl;
 }
 
--- one more value is written
+-- one more value has been written
 written-more : (value : ℕ → ℕ) (from x v : ℕ) (old now : List ℕ) → x < length now → from ≤ x → IsWritten value from x old now → v ≡ value x → IsWritten value from (x + 1) old (set now x v)
 written-more value from x v old now within above so is = record {
   inside = λ k reached less. below_more (λ k. from ≤ k → get_or (set now x v) k 0 ≡ value k) x
@@ -23,7 +23,7 @@ written-more value from x v old now within above so is = record {
   behind = λ k past. (let other : k ≢ x = omega arith in get_or-set_other now x k v 0 other ∙ so.behind k (omega arith));
 }
 
--- a part behind another
+-- one written part after another
 written-join : (value next : ℕ → ℕ) (from at to : ℕ) (old mid new : List ℕ) → from ≤ at → at ≤ to → IsWritten value from at old mid → IsWritten next at to mid new → ((x : ℕ) → at ≤ x → next x ≡ value x) → IsWritten value from to old new
 written-join value next from at to old mid new begins ends first second same = record {
   inside = λ x above less. ⊎_elim
@@ -49,7 +49,7 @@ limited-none limit from c m y k = record {
   black_is = written-none _ from k;
 }
 
--- one more pixel is limited
+-- one more pixel has been limited
 pub limited-more : (limit from x : ℕ) (c m y k c' m' y' k' inks : List ℕ) → from ≤ x → x < length c' → x < length m' → x < length y' → x < length k' → HasLimited limit from x c m y k c' m' y' k' → inks ≡ limited_at limit c' m' y' k' x
     → HasLimited limit from (x + 1) c m y k (set c' x (get_or inks 0 0)) (set m' x (get_or inks 1 0)) (set y' x (get_or inks 2 0)) (set k' x (get_or inks 3 0))
 limited-more limit from x c m y k c' m' y' k' inks above cyan magenta yellow black so is =
@@ -61,7 +61,7 @@ limited-more limit from x c m y k c' m' y' k' inks above cyan magenta yellow bla
       black_is = written-more _ from x _ k k' black above so.black_is (ap (λ inks. get_or inks 3 0) all);
     }
 
--- a part of a row behind another
+-- one limited part of a row after another
 pub limited-join : (limit from at to : ℕ) (c m y k c' m' y' k' c2 m2 y2 k2 : List ℕ) → from ≤ at → at ≤ to → HasLimited limit from at c m y k c' m' y' k' → HasLimited limit at to c' m' y' k' c2 m2 y2 k2 → HasLimited limit from to c m y k c2 m2 y2 k2
 limited-join limit from at to c m y k c' m' y' k' c2 m2 y2 k2 begins ends first second =
     let same : (x : ℕ) → at ≤ x → limited_at limit c' m' y' k' x ≡ limited_at limit c m y k x =
@@ -85,7 +85,7 @@ limited-block limit block width to c m y k c' m' y' k' c2 m2 y2 k2 within is fir
     (subst (λ n. HasLimited limit n (min (64 * (block + 1)) width) c' m' y' k' c2 m2 y2 k2) at_is
     (subst (λ n. HasLimited limit (64 * block) n c' m' y' k' c2 m2 y2 k2) to_is second))
 
--- pixels with no more ink than the limit stay
+-- pixels with no more ink than the limit are unchanged
 pub limited-kept : (limit from to : ℕ) (c m y k : List ℕ) → ((x : ℕ) → from ≤ x → x < to → get_or c x 0 + get_or m x 0 + get_or y x 0 + get_or k x 0 ≤ limit) → HasLimited limit from to c m y k c m y k
 limited-kept limit from to c m y k within =
     let all : (x : ℕ) → from ≤ x → x < to → get_or c x 0 ∷ get_or m x 0 ∷ get_or y x 0 ∷ get_or k x 0 ∷ [] ≡ limited_at limit c m y k x =

@@ -1,11 +1,11 @@
-// The curve of an ink: what each value becomes.
+// The tone curve of an ink: what each ink value becomes.
 ghost use Rattle.std.specs.Prelude.{◌≡◌, ℕ, ◌<◌, ◌≤◌, ◌↔◌, IsTrue, length, slice_index};
 ghost use Rattle.page_tone.specs.Curve.{AreValid, curve_value, line_value};
 
 use std::marker::Model;
 
-/// Whether points make a curve: there are 2 to 32, the first stands at 0 and the last at 255, and their
-/// places strictly rise.
+/// Returns whether these points make a curve: 2 to 32 points whose input values strictly rise from 0 to 255.
+/// A point is a pair of an input value and an output value.
 pub fn valid_points(points: &[(u8, u8)]) -> bool
     ensures { IsTrue result ↔ AreValid points.now }
 {
@@ -23,7 +23,7 @@ pub fn valid_points(points: &[(u8, u8)]) -> bool
     true
 }
 
-/// A curve. Contracts see the list of what each of the 256 ink values becomes.
+/// A tone curve. Contracts see the list of what each of the 256 ink values becomes.
 #[derive(Clone, Copy, Debug, PartialEq, Eq)]
 pub struct Curve {
     values: [u8; 256],
@@ -40,7 +40,7 @@ impl Model for Curve {
 }
 
 impl Curve {
-    /// The curve through these points, by straight lines, rounded down.
+    /// Makes the curve through these points: straight lines between neighbours, rounded down.
     pub fn from_points(points: &[(u8, u8)]) -> Curve
         requires { AreValid points.now }
         ensures length { length result ≡ 256 }
@@ -53,7 +53,7 @@ impl Curve {
         Curve { values }
     }
 
-    /// The curve that changes no value.
+    /// Makes the curve that changes no value.
     pub fn identity() -> Curve
         ensures length { length result ≡ 256 }
         ensures values { (v : ℕ) → v < 256 → slice_index result v ≡ v }
@@ -65,7 +65,7 @@ impl Curve {
         Curve { values }
     }
 
-    /// What `v` becomes.
+    /// Returns what `v` becomes.
     pub fn at(&self, v: u8) -> u8
         ensures { result ≡ slice_index self.now v }
     {
@@ -73,7 +73,7 @@ impl Curve {
     }
 }
 
-/// The value at `v` of the curve through points.
+/// Returns the value at `v` of the curve through these points.
 fn value_at(points: &[(u8, u8)], v: u8) -> u8
     requires { AreValid points.now }
     ensures { result ≡ curve_value points.now v }
@@ -86,7 +86,7 @@ fn value_at(points: &[(u8, u8)], v: u8) -> u8
     unreachable!()
 }
 
-/// The value at `v` on the line between two points, rounded down.
+/// Returns the value at `v` on the line between two points, rounded down.
 fn between(left: (u8, u8), right: (u8, u8), v: u8) -> u8
     requires rises { left.0 < right.0 }
     requires left { left.0 ≤ v }

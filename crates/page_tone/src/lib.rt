@@ -1,4 +1,4 @@
-// Tone: the curve of an ink, and the limit on the ink of a pixel.
+// Tone: the tone curve of an ink, and the ink limit (TAC) of a pixel.
 #![tactic(auto)]
 
 mod curve;

@@ -1,4 +1,4 @@
-// Division by the sum of a pixel's colours as a multiplication.
+// Division by the sum of a pixel's colours, done as a multiplication by a reciprocal.
 ghost use Rattle.std.specs.Prelude.{◌≡◌, ℕ, ◌+◌, ◌*◌, ◌/◌, ◌<◌, ◌≤◌, ◌^◌};
 ghost use Rattle.page_tone.specs.Limit.{share};
 
@@ -23,8 +23,8 @@ macro_rules! reciprocals {
     };
 }
 
-/// 2^28 over each sum of three inks, rounded down, and one more, in rows of eight that are named by their
-/// first sum. Nothing is made of the entry of 0.
+/// Entry n is 2^28 / n, rounded down, plus 1, for each sum n of three inks. The macro takes the first sum of
+/// each row of eight. The entry of 0 has no effect.
 static RECIPROCALS: [[u32; 8]; 96] = reciprocals!(
     0 8 16 24 32 40 48 56 64 72 80 88 96 104 112 120 128 136 144 152 160 168 176 184
     192 200 208 216 224 232 240 248 256 264 272 280 288 296 304 312 320 328 336 344 352 360 368 376
@@ -32,7 +32,8 @@ static RECIPROCALS: [[u32; 8]; 96] = reciprocals!(
     576 584 592 600 608 616 624 632 640 648 656 664 672 680 688 696 704 712 720 728 736 744 752 760
 );
 
-/// The share of a rest in the sum of the colours, in parts of 2^24: a colour's part is the product with it.
+/// Returns `rest` over the sum of the colours, in units of 1/2^24 and slightly too large: a colour times this
+/// number, divided by 2^24 and rounded down, is the colour's share of `rest`.
 pub(crate) fn share_of(rest: u32, colours: u32) -> u32
     requires colours { colours ≤ 765 }
     requires rest { rest ≤ colours }
@@ -43,7 +44,7 @@ pub(crate) fn share_of(rest: u32, colours: u32) -> u32
     rest * reciprocal(colours) / 16 + 1
 }
 
-/// 2^28 over a sum of three inks, rounded down, and one more.
+/// Returns 2^28 over a sum of three inks, rounded down, plus 1.
 fn reciprocal(colours: u32) -> u32
     requires { colours ≤ 765 }
     ensures { 0 < colours → result ≡ 2 ^ 28 / colours + 1 }

@@ -1,13 +1,14 @@
-// The limit on the ink of each pixel of a row.
+// The ink limit of each pixel of a row.
 ghost use Rattle.std.specs.Prelude.{◌≡◌, ℕ, ◌+◌, ◌<◌, ◌≤◌, length, slice_index};
 ghost use Rattle.page_tone.specs.Limit.{AreLimited, HasLimited};
 
 use crate::limit::limit_inks;
 
-/// How many pixels are tested at once whether one of them has more ink than the limit.
+/// How many pixels are tested together for one above the limit.
 const BLOCK: usize = 64;
 
-/// Limits the ink of each pixel of a row, whose values stand at one place of four rows, as `limit_inks` does.
+/// Limits the ink of each pixel of a row as `limit_inks` does. The four slices hold the row's values ink by
+/// ink.
 pub fn limit_row(
     limit: u16,
     cyan: &mut [u8],
@@ -30,8 +31,8 @@ pub fn limit_row(
     }
 }
 
-/// Limits the ink of the pixels from column `from` on, as far as `to`. Where none has more than the limit,
-/// nothing is written.
+/// Limits the ink of the pixels from column `from` to `to`, exclusive. Writes nothing where no pixel is above
+/// the limit.
 fn limit_block(
     limit: u16,
     from: usize,
@@ -55,7 +56,7 @@ fn limit_block(
     }
 }
 
-/// No pixel from column `from` on, as far as `to`, has more ink than this.
+/// Returns the most ink, all four values together, of the pixels from column `from` to `to`, exclusive.
 fn most_ink(from: usize, to: usize, cyan: &[u8], magenta: &[u8], yellow: &[u8], black: &[u8]) -> u16
     requires to { to ≤ length cyan.now }
     requires magenta { length magenta.now ≡ length cyan.now }
@@ -72,7 +73,7 @@ fn most_ink(from: usize, to: usize, cyan: &[u8], magenta: &[u8], yellow: &[u8], 
     most
 }
 
-/// Limits the ink of the pixels from column `from` on, as far as `to`.
+/// Limits the ink of the pixels from column `from` to `to`, exclusive.
 fn limit_pixels(
     limit: u16,
     from: usize,

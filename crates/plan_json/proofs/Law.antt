@@ -1,4 +1,4 @@
--- The law: what is a plan 1 is the same plan under the number 2.
+-- The law: a plan with number 1 is the same plan with number 2.
 use Rattle.std.proofs.Common.{◌≡◌, ℕ, ◌==◌, Bool, true, false, cond, List, [], Option, Some, None, Ok, Ordering, Less, Equal, Greater, refl, ap, ◌∙◌}
 use Rattle.std.specs.Prelude.{codes}
 use Rattle.std.specs.Ordering.{nat_cmp, match_ordering}
@@ -50,7 +50,7 @@ plan_by_same : (c d : Data) → Same c d → (spot : Bool) (path : List ℕ) →
 unfolding plan_by
 plan_by_same c d same spot path = simp (front_same c d same, inks_same c d same, layout_same c d same)
 
--- ---- another number under `plan`
+-- ---- another number at the key `plan`
 
 apart : (key : List ℕ) → bytes_eq key (codes "plan") ≡ false → key ≡ codes "plan" → ⊥
 apart key other same = let equal : bytes_eq key (codes "plan") ≡ true = (bytes_eq-Decides key (codes "plan")).1 same in absurd cc
@@ -96,7 +96,7 @@ two : number 1 2 (at_key [] (codes "plan")) (number_data (unsigned 2)) ≡ Ok 2
 unfolding number
 two = refl
 
--- the two readings, one after the other
+-- reading the number, then the keys after it
 made : (ms : Members) (n : ℕ) (plan : PlanData) → first_unknown top_keys ms ≡ None → required (codes "plan") (number 1 2) [] (object ms) ≡ Ok n → plan_by (n == 2) [] (object ms) ≡ Ok plan → plan_in (object ms) ≡ Ok plan
 unfolding plan_in
 made ms n plan known number_is read = rw (object_again top_keys [] ms known, number_is) read

@@ -1,4 +1,4 @@
--- Files noted one after the other are each once, in order of first mention, and keep their indexes.
+-- Files added one after another are each listed once, in order of first mention, and keep their indexes.
 use Rattle.std.proofs.Common.{◌≡◌, ℕ, suc, ◌+◌, ◌<◌, ◌||◌, Bool, true, false, not, cond, ◌⊎◌, inl, inr, List, [], ◌∷◌, ◌++◌, length, map, take, get_or, Option, Some, None, option_map, Bor, refl, sym, ap, subst, ◌∙◌, append_assoc, arith}
 use Rattle.std.specs.Prelude.{option_to_list}
 use Rattle.std.specs.List.{flat_map, list_any, position_or_len, AllByRecursion}
@@ -18,7 +18,7 @@ use Rattle.plan_parts.proofs.Sound.{map-push}
 abbrev Texts : Type 0
 Texts = List (List ℕ)
 
--- ---- the set that keeps them
+-- ---- the set of files
 
 insert_case : (b : Bool) (keys : List (Bor (List ℕ))) (k : Bor (List ℕ)) → texts (cond b keys (keys ++ k ∷ [])) ≡ cond b (texts keys) (texts keys ++ k.now ∷ [])
 insert_case true keys k = refl
@@ -34,7 +34,7 @@ unfolding index_of
 shown-index_of [] s = refl
 shown-index_of (k ∷ keys) s = ap (λ n. cond (not (bytes_eq s k.now)) (1 + n) 0) (shown-index_of keys s)
 
--- ---- indexes that stay
+-- ---- indexes that do not change
 
 pub Known : Texts → List ℕ → Type 0
 Known files s = index_of files s < length files
@@ -90,7 +90,7 @@ unfolding Known
 noted_case true files s e = (refl, any_known files s e)
 noted_case false files s e = let h = none_last files s e in (h.1 ∙ sym h.0, omega (arith, h.1, length_last files s))
 
--- a file that is noted has its old index, or the next one
+-- a file that is added has its old index, or the next one
 pub noted : (files : Texts) (s : List ℕ) → (index_of (insert_key bytes_eq files s) s ≡ index_of files s) × Known (insert_key bytes_eq files s) s
 unfolding Known
 noted files s = noted_case _ files s refl
@@ -132,7 +132,7 @@ mask_noted : (files : Texts) (mask : Option (List ℕ)) → option_map (index_of
 mask_noted files None = refl
 mask_noted files (Some s) = ap Some (noted files s).0
 
--- ---- items one after the other
+-- ---- items in sequence
 
 pub split : {A : Type 0} (P : A → Type 0) (xs ys : List A) → AllByRecursion P (xs ++ ys) → AllByRecursion P xs × AllByRecursion P ys
 split P [] ys h = (tt, h)

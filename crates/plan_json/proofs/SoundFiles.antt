@@ -1,4 +1,4 @@
--- Pages whose layers tell their files by index, and the files, meet what a plan keeps.
+-- Pages whose layers give their files by index, and the files, satisfy the clauses of a plan.
 use Rattle.std.proofs.Common.{◌≡◌, ◌≢◌, ℕ, zero, suc, ◌+◌, ◌<◌, ◌≤◌, ◌||◌, Bool, true, false, cond, List, [], ◌∷◌, ◌++◌, length, map, get_or, Option, Some, None, option_map, nat_eq, ne_eqb, zero-add, refl, sym, ap, ◌∙◌, arith}
 use Rattle.std.specs.Prelude.{All, IfSome, option_to_list}
 use Rattle.std.specs.List.{flat_map, list_any, AllByRecursion, range_with_len}

@@ -1,4 +1,4 @@
--- What is read of pages meets what a plan keeps.
+-- The pages that are read satisfy the clauses of a plan.
 use Rattle.std.proofs.Common.{◌≡◌, ℕ, ◌≤◌, Bool, true, false, List, [], ◌∷◌, ◌++◌, length, Option, Some, None, Ok, refl, subst, arith}
 use Rattle.std.specs.Prelude.{All, IfSome, codes, if◌then◌else◌}
 use Rattle.std.proofs.lemmas.Grind.{common_steps}

@@ -1,4 +1,4 @@
--- What is read is a plan: the reading of each key, put together.
+-- What is read is a plan: the results of reading each key, combined.
 use Rattle.std.proofs.Common.{◌≡◌, ℕ, ◌≤◌, ◌==◌, Bool, true, List, [], length, Ok, refl, sym, ap, subst, ◌∙◌, arith}
 use Rattle.std.specs.Prelude.{All, codes}
 use Rattle.std.proofs.lemmas.Grind.{common_steps}

@@ -1,4 +1,4 @@
--- What is read of sections, zones and sites meets what a plan keeps.
+-- The sections, zones and sites that are read satisfy the clauses of a plan.
 use Rattle.std.proofs.Common.{◌≡◌, ℕ, zero, suc, ◌%◌, ◌<◌, ◌≤◌, ◌==◌, false, List, [], ◌∷◌, ◌++◌, length, map, get_or, Option, None, Ok, refl, ap, subst, arith}
 use Rattle.std.specs.Prelude.{All, AllPairs, IfSome, slice_index_or, codes}
 use Rattle.std.specs.List.{list_any}
@@ -84,7 +84,7 @@ new_page_sound earlier section count path d n e = grind (arith, common_steps, nu
 names_of_sections : (sections : List SectionData) → length (section_names sections) ≡ length sections
 names_of_sections sections = length-map (λ (s : SectionData). s.name) sections
 
--- past the end it doesn't matter what stands there
+-- within the list, the default value does not matter
 same_at : {A : Type 0} (xs : List A) (i : ℕ) (c d : A) → i < length xs → get_or xs i c ≡ get_or xs i d
 same_at [] i c d h = absurd (omega arith)
 same_at (x ∷ xs) zero c d h = refl

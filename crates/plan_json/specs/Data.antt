@@ -1,4 +1,4 @@
--- What a plan says, as plain data. Texts are their bytes; lists of five stand in the order C, M, Y, K, S.
+-- The content of a plan, as plain data. Texts are their bytes; lists of five are in the order C, M, Y, K, S.
 use Rattle.std.specs.Prelude.{ℕ, ◌+◌, ◌*◌, List, ◌∷◌, slice_index, option_to_list}
 use Rattle.std.specs.List.{flat_map}
 use Rattle.plan_parts.specs.declared.printing.Screen.{Screen}
@@ -6,7 +6,7 @@ use Rattle.plan_parts.specs.Data.{CurveData, LayerData, MarkData, PageData, Tile
 use Rattle.plan_json.specs.declared.zoning.Replace.{Replace}
 use Rattle.plan_json.specs.declared.zoning.PlanSite.{PlanSite}
 
--- a page that a zone puts in the place of a section's own
+-- a page that a zone prints instead of one of a section's own
 abbrev pub ReplaceData : Type 0
 ReplaceData = Replace
 
@@ -19,7 +19,7 @@ pub record SectionData : Type 0 where
   pub name : List ℕ
   pub pages : List ℕ
 
--- a zone and the pages that it puts in the place of others
+-- a zone and the replacements that it makes
 pub record ZoneData : Type 0 where
   pub name : List ℕ
   pub replace : List ReplaceData

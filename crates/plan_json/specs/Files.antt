@@ -22,13 +22,13 @@ named_on page = flat_map named_by page.layers
 unfoldable pub files_of : List PageText → List (List ℕ)
 files_of pages = insert_all bytes_eq [] (flat_map named_on pages)
 
--- ---- pages by these indexes
+-- ---- pages with files by index
 
 -- the index of a file
 unfoldable pub index_of : List (List ℕ) → List ℕ → ℕ
 index_of files s = position_or_len (bytes_eq s) files
 
--- a layer that tells its files by their indexes
+-- a layer with its files given by their indexes
 unfoldable pub layer_of : List (List ℕ) → NamedLayer → LayerData
 layer_of files layer = record {
   line = layer.line;
@@ -54,25 +54,25 @@ page_of files page =
 unfoldable pub pages_of : List PageText → List PageData
 pages_of pages = map (page_of (files_of pages)) pages
 
--- ---- one after the other
+-- ---- adding files in sequence
 
--- the texts that a set lends
+-- the texts that a set borrows
 abbrev pub texts : List (Bor (List ℕ)) → List (List ℕ)
 texts keys = map (λ s. s.now) keys
 
--- the files of an item are noted behind the old ones, and the item is told by the new ones
+-- the files of an item are added after the old ones, and the item refers to them by their new indexes
 pub record Places {X Y : Type 0} (names : X → List (List ℕ)) (of : List (List ℕ) → X → Y)
     (old : List (List ℕ)) (x : X) (new : List (List ℕ)) (y : Y) : Type 0 where
   pub files : new ≡ insert_all bytes_eq old (names x)
   pub item : y ≡ of new x
 
--- the same of a list of items
+-- the same for a list of items
 pub record PlacesAll {X Y : Type 0} (names : X → List (List ℕ)) (of : List (List ℕ) → X → Y)
     (old : List (List ℕ)) (xs : List X) (new : List (List ℕ)) (ys : List Y) : Type 0 where
   pub files : new ≡ insert_all bytes_eq old (flat_map names xs)
   pub items : ys ≡ map (of new) xs
 
--- a mask is noted, and told by its index
+-- a mask is added, and given by its index
 pub record NotesMask (old : List (List ℕ)) (mask : Option (List ℕ)) (new : List (List ℕ)) (index : Option ℕ)
     : Type 0 where
   pub files : new ≡ insert_all bytes_eq old (option_to_list mask)

@@ -5,7 +5,7 @@ use Rattle.serde_json.specs.Find.{get_member}
 use Rattle.plan_json.specs.Data.{PlanData}
 use Rattle.plan_json.specs.PlanOf.{plan_in}
 
--- where an object whose `plan` is 1 is a plan, the same object with 2 there is the same plan
+-- an object that is a plan with `plan` equal to 1 is the same plan with 2 there
 abbrev pub PlanOneIsPlanTwo : Type 0
 PlanOneIsPlanTwo =
     (members : Members) (plan : PlanData) → get_member (codes "plan") members ≡ Some (number (unsigned 1))

@@ -1,4 +1,4 @@
--- Reading pages and their layers, each by its table. Layers name their files here.
+-- Reading pages and their layers, each by its table. At this stage layers name their files.
 use Rattle.std.specs.Prelude.{ℕ, ◌&&◌, Bool, true, false, if◌then◌else◌, List, [], ◌∷◌, map, Option, Some}
 use Rattle.std.specs.Prelude.{None, Ok, Err, codes}
 use Rattle.std.specs.Str.{bytes_eq}
@@ -21,12 +21,12 @@ pub record PageText : Type 0 where
 
 -- ---- layers
 
--- the text of two: the second is true
+-- one of two texts: true for the second
 abbrev pub either_text : List ℕ → List ℕ → List ℕ → List ℕ → Read Bool
 either_text path first second s =
     if bytes_eq s first then Ok false else (if bytes_eq s second then Ok true else Err (Range path))
 
--- one text of two
+-- one of two texts
 unfoldable pub either : List ℕ → List ℕ → Reader Bool
 either first second path d = text path d >>= either_text path first second
 
@@ -34,11 +34,11 @@ either first second path d = text path d >>= either_text path first second
 unfoldable pub kind : Reader Bool
 kind = either (codes "contone") (codes "line")
 
--- whether an ink value of 0 leaves what lies below
+-- whether an ink value of 0 leaves the ink below unchanged
 unfoldable pub paint : Reader Bool
 paint = either (codes "knockout") (codes "overprint")
 
--- x and y of 0 to 65535, width and height of 1 to 65535
+-- x and y from 0 to 65535, width and height from 1 to 65535
 unfoldable pub crop : Reader (Option (List ℕ))
 crop path d = do
   items ← items_within 4 4 path d
@@ -53,11 +53,11 @@ mask path d = do
   s ← file_name path d
   Ok (Some s)
 
--- a fifth number, or 0 where there is none
+-- a fifth number, or 0 if there is none
 abbrev pub fifth : List ℕ → Items → Read ℕ
 fifth path items = optional_in 0 (number 0 255) (at_item path 4) (get_item 4 items)
 
--- the values C, M, Y, K and, in plan 2, maybe S
+-- the values C, M, Y, K and, in plan 2, optionally S
 unfoldable pub ink : Bool → Reader (List ℕ)
 ink spot path d = do
   items ← items_within 4 (if spot then 5 else 4) path d
@@ -68,7 +68,7 @@ ink spot path d = do
   s ← fifth path items
   Ok (c ∷ m ∷ y ∷ k ∷ s ∷ [])
 
--- black
+-- black: K at 255
 abbrev pub black : List ℕ
 black = 0 ∷ 0 ∷ 0 ∷ 255 ∷ 0 ∷ []
 
@@ -77,7 +77,7 @@ layer_keys =
     codes "kind" ∷ codes "file" ∷ codes "x" ∷ codes "y" ∷ codes "scale" ∷ codes "crop"
     ∷ codes "mask" ∷ codes "paint" ∷ codes "ink" ∷ []
 
--- where an image lies on the page, and how large
+-- the position of an image on the page, and its scale
 unfoldable pub placing : Reader Placing
 placing path o = do
   x ← optional (codes "x") 0 (number 0 65535) path o
@@ -85,7 +85,7 @@ placing path o = do
   scale ← optional (codes "scale") 1 (number 1 64) path o
   Ok (record { x = x; y = y; scale = scale })
 
--- which part of an image is painted, and how
+-- the part of an image that is painted, and how
 unfoldable pub painting : Bool → Reader Painting
 painting spot path o = do
   crop ← optional (codes "crop") None crop path o

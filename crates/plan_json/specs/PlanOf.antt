@@ -1,4 +1,4 @@
--- What a text is as a plan: the plan, or its first fault with its path.
+-- The plan of a text, or its first fault with the fault's path.
 use Rattle.std.specs.Prelude.{ℕ, ◌==◌, ◌&&◌, Bool, if◌then◌else◌, nat_le, List, [], ◌∷◌, Option, None, Ok}
 use Rattle.std.specs.Prelude.{codes}
 use Rattle.std.specs.Str.{is_utf8}
@@ -15,7 +15,7 @@ use Rattle.plan_json.specs.Pages.{pages, page_names}
 use Rattle.plan_json.specs.Files.{files_of, pages_of}
 use Rattle.plan_json.specs.Zoning.{sections, zones, zone_names, sites}
 
--- ---- the first keys: what is printed on what
+-- ---- the first keys: edition, resolution, the sizes of pages and plates, ink limit
 
 -- width and height
 unfoldable pub page_size : Reader (ℕ × ℕ)
@@ -35,7 +35,7 @@ margins path d = do
   bottom ← nth 3 (number 0 65535) path items
   Ok (left ∷ top ∷ right ∷ bottom ∷ [])
 
--- where no margins are told
+-- the margins if the key is absent
 abbrev pub no_margins : List ℕ
 no_margins = 0 ∷ 0 ∷ 0 ∷ 0 ∷ []
 
@@ -63,7 +63,7 @@ front path o = do
     limit = limit;
   })
 
--- the sides of a plate by them
+-- the sides of a plate by these keys
 abbrev pub front_width : Front → ℕ
 front_width f = width_over f.margins f.page_width f.gutter
 
@@ -72,7 +72,7 @@ front_height f = height_over f.margins f.page_height
 
 -- ---- the next keys: how inks are printed
 
--- on a plate of this width and height
+-- the keys for inks, on a plate of this width and height
 unfoldable pub inks : Bool → ℕ → ℕ → Reader Inks
 inks spot width height path o = do
   tiles ← optional (codes "tiles") [] tiles path o
@@ -99,7 +99,7 @@ top_keys =
     ∷ codes "limit" ∷ codes "tiles" ∷ codes "screens"
     ∷ codes "curves" ∷ codes "marks" ∷ codes "pages" ∷ codes "sections" ∷ codes "zones" ∷ codes "sites" ∷ []
 
--- the plan of its three parts
+-- the plan with these three parts
 unfoldable pub joined : Front → Inks → Layout → PlanData
 joined front inks layout = record {
   edition = front.edition;
@@ -120,7 +120,7 @@ joined front inks layout = record {
   files = files_of layout.pages;
 }
 
--- the keys behind `plan`, with a spot ink or without
+-- the keys after `plan`, with or without a spot ink
 unfoldable pub plan_by : Bool → Reader PlanData
 plan_by spot path o = do
   front ← front path o
@@ -128,17 +128,17 @@ plan_by spot path o = do
   layout ← layout spot path o
   Ok (joined front inks layout)
 
--- the plan that a value is; a spot ink belongs to plan 2
+-- the plan of a value; a spot ink requires plan 2
 unfoldable pub plan_in : Data → Read PlanData
 plan_in d = do
   o ← object_with top_keys [] d
   number ← required (codes "plan") (number 1 2) [] o
   plan_by (number == 2) [] o
 
--- the value that a text is, where it is UTF-8 and JSON
+-- the value of a text, if it is UTF-8 and JSON
 unfoldable pub json_of : List ℕ → Option Data
 json_of bytes = if is_utf8 bytes then read bytes else None
 
--- the plan that a text is
+-- the plan of a text
 unfoldable pub plan_of : List ℕ → Read PlanData
 plan_of bytes = some_or NotJson (json_of bytes) >>= plan_in

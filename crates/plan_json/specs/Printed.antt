@@ -12,7 +12,7 @@ pub record Inks : Type 0 where
   pub curves : List CurveData
   pub marks : List MarkData
 
--- which pages go where
+-- which pages are printed where
 pub record Layout : Type 0 where
   pub pages : List PageText
   pub sections : List SectionData

@@ -2,7 +2,7 @@
 use Rattle.plan_json.specs.declared.plan.Plan.TheInside.{Inside}
 use Rattle.plan_json.specs.Data.{PlanData}
 
--- the plan in memory without where its lists lie
+-- the plan in memory with its lists as plain lists
 abbrev pub shown : Inside → PlanData
 shown p = record {
   edition = p.edition;

@@ -39,7 +39,7 @@ abbrev pub page_count : List SectionData → ℕ → ℕ
 page_count sections section =
     length (slice_index_or sections section (record { name = []; pages = [] })).pages
 
--- an item replaces this page of this section
+-- whether an item replaces this page of this section
 abbrev pub replaces : ℕ → ℕ → ReplaceData → Bool
 replaces section page item = item.section == section && item.page == page
 

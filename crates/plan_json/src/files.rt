@@ -1,5 +1,5 @@
-// The files of a plan: each once, in the order in which the layers name them,
-// and the layers by their indexes.
+// The files of a plan, each once, in the order in which the layers name them, and the layers with their files
+// by index.
 ghost use Rattle.std.specs.Prelude.{◌≡◌, IfOk, OnOk, map};
 ghost use Rattle.std.specs.List.{flat_map};
 ghost use Rattle.std.specs.Str.{bytes_eq};
@@ -12,7 +12,7 @@ use plan_parts::{Page, PlanLayer};
 use pr_base::{NoMemory, PathText};
 use std::alloc::Global;
 
-// Notes a file, which goes last where it is new, and gives its index.
+// Adds a file to the set, at the end if it is new, and returns its index.
 fn noted<'a>(files: &mut IndexSet<&'a str>, file: &'a str) -> Result<usize, NoMemory>
     ensures files { OnOk result
         (spec.texts files.new.keys ≡ insert_key bytes_eq (spec.texts files.old.keys) file.now) }
@@ -114,7 +114,7 @@ fn copies(alloc: Global, names: &[&str]) -> Result<Vec<PathText>, NoMemory>
     Ok(all)
 }
 
-/// The pages with their files by index, and the files.
+/// Returns the pages with their files by index, and the files.
 pub(crate) fn pages_and_files(
     alloc: Global,
     pages: &[NamedPage],

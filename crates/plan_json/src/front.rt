@@ -1,4 +1,4 @@
-// The first keys of a plan: its edition, its resolution, and the sides of pages and plates.
+// The first keys of a plan: edition, resolution, and the sizes of pages and plates.
 ghost use Rattle.std.specs.Prelude.{◌≡◌, ◌≤◌, IfOk};
 ghost use Rattle.plan_json.specs.Data.{width_over, height_over};
 ghost use Rattle.plan_parts.specs.Gives.{Gives};
@@ -8,7 +8,7 @@ ghost use Rattle.plan_json.specs.PlanOf as spec;
 use plan_parts::{Name, Node, Number, Object, PlanFault, Reader};
 use pr_base::PathText;
 
-/// What the first keys of a plan say; lengths are in pixels.
+/// The values of a plan's first keys; lengths are in pixels.
 #[derive(Drop)]
 pub(crate) struct Front {
     pub(crate) edition: PathText,
@@ -20,7 +20,7 @@ pub(crate) struct Front {
     pub(crate) limit: u16,
 }
 
-// Reads the sides of a page.
+// Reads the width and height of a page.
 #[derive(Drop)]
 struct PageSizeReader;
 
@@ -58,14 +58,14 @@ impl Reader for MarginsReader {
     }
 }
 
-// A plate's width: two pages, the gutter, and the margins beside them.
+// Returns a plate's width: two pages, the gutter, and the left and right margins.
 fn sum_width(margins: &[u32; 4], page_width: u32, gutter: u32) -> u64
     ensures { result ≡ width_over margins.now page_width gutter }
 {
     u64::from(margins[0]) + 2 * u64::from(page_width) + u64::from(gutter) + u64::from(margins[2])
 }
 
-// A plate's height: a page, and the margins above and below.
+// Returns a plate's height: a page, and the margins above and below.
 fn sum_height(margins: &[u32; 4], page_height: u32) -> u64
     ensures { result ≡ height_over margins.now page_height }
 {
@@ -78,7 +78,7 @@ fn fits_plate(margins: &[u32; 4], page_width: u32, page_height: u32, gutter: u32
     sum_width(margins, page_width, gutter) <= 65535 && sum_height(margins, page_height) <= 65535
 }
 
-/// The first keys. The plate's sides are tested once the gutter is known.
+/// Reads the first keys. The plate's sides are checked once the gutter is known.
 #[tactic(auto, unfolding(crate::specs::PlanOf::front))]
 pub(crate) fn front_in(o: &Object<'_>) -> Result<Front, PlanFault>
     ensures value { Gives (λ f. f) result (inside o.now spec.front) }
@@ -106,7 +106,7 @@ pub(crate) fn front_in(o: &Object<'_>) -> Result<Front, PlanFault>
 }
 
 impl Front {
-    /// The width of a plate.
+    /// Returns the width of a plate in pixels.
     pub(crate) fn plate_width(&self) -> u32
         requires { width_over self.now.margins self.now.page_width self.now.gutter ≤ 65535 }
         ensures { result ≡ width_over self.now.margins self.now.page_width self.now.gutter }
@@ -114,7 +114,7 @@ impl Front {
         sum_width(&self.margins, self.page_width, self.gutter) as u32
     }
 
-    /// The height of a plate.
+    /// Returns the height of a plate in pixels.
     pub(crate) fn plate_height(&self) -> u32
         requires { height_over self.now.margins self.now.page_height ≤ 65535 }
         ensures { result ≡ height_over self.now.margins self.now.page_height }

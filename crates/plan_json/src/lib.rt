@@ -1,7 +1,7 @@
-// The edition plan: a JSON text is read to a plan, or refused by its first fault with its path. A plan says
-// how large pages and plates are, how inks are screened, which images lie on which page, how pages make
-// sections, and which zone and site prints which pages. Contracts see each type as the plain data of its
-// fields, and `Plan` keeps `IsPlan`.
+// The edition plan: reads a JSON text as a plan, or rejects it with its first fault and that fault's path. A
+// plan gives the sizes of pages and plates, how inks are screened, which images are on which page, which
+// pages form the sections, and which zone and site prints which pages. Contracts see each type as the plain
+// data of its fields, and `Plan` keeps `IsPlan`.
 #![tactic(auto)]
 
 mod files;

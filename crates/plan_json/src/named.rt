@@ -1,4 +1,4 @@
-// Pages as they are read: their layers name their files.
+// Pages as first read: their layers name their files.
 
 use plan_parts::Named;
 use pr_base::PathText;
@@ -8,7 +8,7 @@ use std::marker::Model;
 #[derive(Drop)]
 pub struct NamedPage {
     pub name: PathText,
-    /// Whether it prints C, M and Y beside K.
+    /// Whether it prints C, M and Y in addition to K.
     pub colour: bool,
     /// Whether it prints the spot ink S.
     pub spot: bool,
@@ -31,8 +31,8 @@ impl Named for NamedPage {
     }
 }
 
-/// An image on a page, by the names of its files: what a `PlanLayer` is by their indexes, with the same
-/// fields.
+/// An image on a page, with its files given by name. The fields are those of `PlanLayer`, which gives them by
+/// index.
 #[derive(Drop)]
 pub struct NamedLayer {
     pub line: bool,
@@ -46,7 +46,7 @@ pub struct NamedLayer {
     pub ink: [u8; 5],
 }
 
-/// Where an image lies on its page, in pixels of the page, and how many of them a pixel of the image takes.
+/// The position of an image on its page, in pixels of the page, and how many of these an image pixel covers.
 #[derive(Clone, Copy)]
 pub struct Placing {
     pub x: u32,
@@ -54,7 +54,7 @@ pub struct Placing {
     pub scale: u32,
 }
 
-/// Which part of an image is painted, and how; the fields are those of a `PlanLayer`.
+/// The part of an image that is painted, and how; the fields are those of `PlanLayer`.
 #[derive(Drop)]
 pub struct Painting {
     pub crop: Option<[u32; 4]>,

@@ -5,12 +5,12 @@ use plan_parts::{Mark, Page, PlanCurve, PlanTile, Screen};
 use pr_base::PathText;
 use std::marker::Model;
 
-/// An edition plan. It keeps all that reading tests (`IsPlan`): ranges, lengths, forms of names, that nothing
-/// is named twice, and that every index is in its list. Lists of five stand in the order C, M, Y, K, S.
+/// An edition plan. It keeps everything that reading checks (`IsPlan`): ranges, lengths, forms of names,
+/// distinct names, and indexes within their lists. Lists of five are in the order C, M, Y, K, S.
 #[derive(Debug, Drop)]
 pub struct Plan {
     pub edition: PathText,
-    /// Pixels an inch, 1 to 10,000.
+    /// Pixels per inch, 1 to 10,000.
     pub dpi: u32,
     pub page_width: u32,
     pub page_height: u32,
@@ -18,7 +18,7 @@ pub struct Plan {
     pub margins: [u32; 4],
     /// Pixels between the two pages of a plate.
     pub gutter: u32,
-    /// The most that C, M, Y and K may add up to, 0 to 1020.
+    /// The ink limit (TAC): the most that C, M, Y and K may add up to, 0 to 1020.
     pub limit: u16,
     pub tiles: Vec<PlanTile>,
     pub screens: [Screen; 5],
@@ -48,7 +48,8 @@ impl Plan {
     ghost use Rattle.std.specs.Prelude.{◌≡◌};
     ghost use Rattle.plan_json.specs.Plan.{IsPlan};
 
-    /// The distinct files in order of first mention: page by page, layer by layer, the image before the mask.
+    /// Returns the distinct files in order of first mention: by page, then by layer, the image before the
+    /// mask.
     pub fn files(&self) -> &[PathText]
         ensures files { result.now ≡ self.now.files }
         ensures plan { IsPlan self.now }

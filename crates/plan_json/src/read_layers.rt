@@ -9,7 +9,7 @@ use crate::named::{NamedLayer, Painting, Placing};
 use plan_parts::{FileName, ItemReader, ListOf, Node, Number, Object, PlanFault, Reader};
 use pr_base::PathText;
 
-// Reads one text of two: whether it is the second.
+// Reads one of two texts: returns whether it is the second.
 #[derive(Drop)]
 struct Either<'x>(&'x str, &'x str);
 
@@ -31,7 +31,7 @@ impl Reader for Either<'_> {
     }
 }
 
-// Reads which part of an image is shown.
+// Reads the part of an image that is shown.
 #[derive(Drop)]
 struct CropReader;
 
@@ -66,7 +66,7 @@ impl Reader for MaskReader {
     }
 }
 
-// Reads the values C, M, Y, K and, where there is a spot ink, maybe S.
+// Reads the values C, M, Y, K and, in a plan with a spot ink, optionally S.
 #[derive(Drop)]
 struct InkReader {
     spot: bool,
@@ -90,7 +90,7 @@ impl Reader for InkReader {
     }
 }
 
-// Whether an image is linework.
+// Reads whether an image is linework.
 #[tactic(auto, unfolding(crate::specs::Pages::kind))]
 fn line_in(o: &Object<'_>) -> Result<bool, PlanFault>
     ensures { Gives (λ b. b) result (inside o.now (required (codes "kind") spec.kind)) }
@@ -98,7 +98,7 @@ fn line_in(o: &Object<'_>) -> Result<bool, PlanFault>
     o.required("kind", &Either("contone", "line"))
 }
 
-// Where an image lies on the page, and how large.
+// Reads the position of an image on the page, and its scale.
 #[tactic(auto, unfolding(crate::specs::Pages::placing))]
 fn placing_in(o: &Object<'_>) -> Result<Placing, PlanFault>
     ensures { Gives (λ p. p) result (inside o.now spec.placing) }
@@ -109,7 +109,7 @@ fn placing_in(o: &Object<'_>) -> Result<Placing, PlanFault>
     Ok(Placing { x, y, scale })
 }
 
-// Which part of an image is painted, and how.
+// Reads the part of an image that is painted, and how.
 #[tactic(auto, unfolding(crate::specs::Pages::painting, crate::specs::Pages::paint))]
 fn painting_in(o: &Object<'_>, spot: bool) -> Result<Painting, PlanFault>
     ensures { Gives (λ p. p) result (inside o.now (spec.painting spot)) }
@@ -165,7 +165,7 @@ impl ItemReader for LayerReader {
     }
 }
 
-/// The layers of a page: what its key `layers` has.
+/// Reads the layers of a page: the value of its key `layers`.
 #[tactic(auto, unfolding(crate::specs::Pages::layers))]
 pub(crate) fn layers_in(o: &Object<'_>, spot: bool) -> Result<Vec<NamedLayer>, PlanFault>
     ensures { Gives (λ v. v.items) result (inside o.now (required (codes "layers") (spec.layers spot))) }

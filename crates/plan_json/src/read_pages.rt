@@ -9,7 +9,7 @@ use crate::named::NamedPage;
 use crate::read_layers::layers_in;
 use plan_parts::{ItemReader, ListOf, NewName, Node, Object, PlanFault, Reader};
 
-// Whether a page prints C, M and Y, and whether it prints S.
+// Returns whether a page prints C, M and Y, and whether it prints S.
 #[tactic(auto, unfolding(crate::specs::Pages::inks_named))]
 fn inks_named(spot: bool, node: Node<'_>, s: &str) -> Result<(bool, bool), PlanFault>
     ensures { Gives (λ i. i) result (at node.entry (λ path _. spec.inks_named spot path s.now)) }
@@ -47,7 +47,7 @@ impl Reader for PageInksReader {
     }
 }
 
-// Reads a page, whose name none of the earlier ones has.
+// Reads a page, whose name no earlier page may have.
 #[derive(Drop)]
 struct PageReader {
     spot: bool,
@@ -74,7 +74,7 @@ impl ItemReader for PageReader {
     }
 }
 
-/// The pages of a plan: what the key `pages` of its top object has. The first fault is refused.
+/// Reads the pages of a plan: the value of the key `pages` of its top object. Fails with the first fault.
 #[tactic(auto, unfolding(crate::specs::Pages::pages))]
 pub fn pages_in(o: &Object<'_>, spot: bool) -> Result<Vec<NamedPage>, PlanFault>
     ensures { Gives (λ v. v.items) result (inside o.now (required (codes "pages") (spec.pages spot))) }

@@ -10,7 +10,7 @@ use crate::Section;
 use crate::named::NamedPage;
 use plan_parts::{Defined, ItemReader, ListOf, NewName, Node, Object, PlanFault, Reader};
 
-// Reads the pages of a section, by their names an even number of these.
+// Reads the pages of a section: an even number of names of these pages.
 #[derive(Drop)]
 struct SectionPagesReader<'x> {
     pages: &'x [NamedPage],
@@ -55,7 +55,7 @@ impl ItemReader for SectionReader<'_> {
     }
 }
 
-/// The sections of a plan with these pages: what the key `sections` of its top object has.
+/// Reads the sections of a plan with these pages: the value of the key `sections` of its top object.
 #[tactic(auto, unfolding(crate::specs::Zoning::sections))]
 pub(crate) fn sections_in(o: &Object<'_>, pages: &[NamedPage]) -> Result<Vec<Section>, PlanFault>
     ensures { Gives (λ v. v.items) result

@@ -8,7 +8,7 @@ ghost use Rattle.plan_json.specs.Zoning as spec;
 use crate::{PlanSite, Zone};
 use plan_parts::{Defined, ItemReader, ListOf, NewName, Node, Object, PlanFault, Reader};
 
-// Reads the zone of a site, by its name one of these.
+// Reads the zone of a site: the name of one of these zones.
 #[derive(Drop)]
 struct SiteZoneReader<'x> {
     zones: &'x [Zone],
@@ -45,7 +45,7 @@ impl ItemReader for SiteReader<'_> {
     }
 }
 
-/// The sites of a plan with these zones: what the key `sites` of its top object has.
+/// Reads the sites of a plan with these zones: the value of the key `sites` of its top object.
 #[tactic(auto, unfolding(crate::specs::Zoning::sites))]
 pub(crate) fn sites_in(o: &Object<'_>, zones: &[Zone]) -> Result<Vec<PlanSite>, PlanFault>
     ensures { Gives (λ v. v.items) result

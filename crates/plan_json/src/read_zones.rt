@@ -11,7 +11,7 @@ use crate::named::NamedPage;
 use crate::{Replace, Section, Zone};
 use plan_parts::{Defined, ItemReader, ListOf, NewName, Node, Number, Object, PlanFault, Reader};
 
-// Reads a place in a section of so many pages, from 1, that no earlier item replaces.
+// Reads the number, from 1, of a page in a section of `count` pages that no earlier item replaces.
 #[derive(Drop)]
 struct NewPageReader<'x> {
     earlier: &'x [Replace],
@@ -51,7 +51,7 @@ fn page_count(sections: &[Section], section: usize) -> usize
     section.pages.len()
 }
 
-// Reads a page that a zone replaces, in one of these sections by one of these pages.
+// Reads a replacement: a page of one of these sections, and the one of these pages that is printed instead.
 #[derive(Drop)]
 struct ReplaceReader<'x> {
     pages: &'x [NamedPage],
@@ -108,8 +108,8 @@ impl ItemReader for ZoneReader<'_> {
     }
 }
 
-/// The zones of a plan with these pages and sections: what the key `zones` of its top object has, or none
-/// where the key is absent.
+/// Reads the zones of a plan with these pages and sections: the value of the key `zones` of its top object,
+/// or none if the key is absent.
 #[tactic(auto, unfolding(crate::specs::Zoning::zones))]
 pub(crate) fn zones_in(
     o: &Object<'_>,

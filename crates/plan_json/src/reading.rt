@@ -1,4 +1,4 @@
-// Reading a plan: from bytes to a value, and from the value to the plan by its table.
+// Reading a plan: from bytes to a JSON value, and from the value to the plan by its table.
 ghost use Rattle.std.specs.Prelude.{◌≡◌, ◌≢◌, IfOk, IfErr, Ok, Err};
 ghost use Rattle.plan_parts.specs.Gives.{Gives};
 ghost use Rattle.plan_parts.specs.Node.{inside};
@@ -45,7 +45,7 @@ impl Model for Inks {
     } };
 }
 
-// Which pages go where.
+// Which pages are printed where.
 #[derive(Drop)]
 struct Layout {
     pages: Vec<NamedPage>,
@@ -151,7 +151,7 @@ fn plan_in(alloc: Global, value: &Value) -> Result<Plan, PlanFault>
     plan_by(&o, number == 2)
 }
 
-// The value that a text is.
+// Returns the JSON value of a text.
 #[tactic(auto, unfolding(crate::specs::PlanOf::json_of))]
 fn value_of(alloc: Global, bytes: &[u8]) -> Result<Value, PlanFault>
     ensures { Gives (λ v. view v) result (some_or NotJson (spec.json_of bytes.now)) }
@@ -168,12 +168,12 @@ fn value_of(alloc: Global, bytes: &[u8]) -> Result<Value, PlanFault>
     }
 }
 
-/// The plan that a JSON text is, or its first fault with its path.
+/// Returns the plan of a JSON text, or its first fault with the fault's path.
 #[tactic(auto, unfolding(crate::specs::PlanOf::plan_of))]
 pub fn read_plan(alloc: Global, bytes: &[u8]) -> Result<Plan, PlanFault>
-    // What is read is the plan that the text is.
+    // A plan that is returned is the plan of the text.
     ensures plan { IfOk result (λ plan. spec.plan_of bytes.now ≡ Ok plan) }
-    // What is refused has this fault first, unless memory ran out.
+    // A fault that is returned is the text's first fault, unless memory ran out.
     ensures fault { IfErr result (λ fault. fault ≢ Memory → spec.plan_of bytes.now ≡ Err fault) }
 {
     let value = value_of(alloc, bytes)?;

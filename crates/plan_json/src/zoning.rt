@@ -1,4 +1,4 @@
-// Which pages make which sections, and which site prints which pages.
+// Which pages form which sections, and which site prints which pages.
 
 use plan_parts::Named;
 use pr_base::PathText;
@@ -30,13 +30,13 @@ impl Named for Section {
     }
 }
 
-/// A page that stands in the place of a section's own.
+/// A page that is printed instead of a section's own.
 #[derive(Clone, Copy, Debug, PartialEq, Eq)]
 pub struct Replace {
     pub section: usize,
-    /// The place in the section, from 1.
+    /// The page's number in the section, from 1.
     pub page: u32,
-    /// The index of the page that stands there.
+    /// The index of the page printed instead.
     pub with: usize,
 }
 

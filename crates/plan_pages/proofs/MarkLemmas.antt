@@ -1,4 +1,4 @@
--- The pixels of a row of a plate that are covered by marks.
+-- The pixels of a plate's row that marks cover.
 use Rattle.std.proofs.Common.{◌≡◌, ℕ, ◌+◌, ◌<◌, ◌≤◌, Bool, true, false, ◌&&◌, ◌||◌, List, length, take, get_or, refl, ap, sym, ◌∙◌, subst, arith}
 use Rattle.std.specs.List.{list_any}
 use Rattle.std.proofs.lemmas.Bool.{and_left, and_right, le-ltb}
@@ -14,11 +14,11 @@ use Rattle.plan_pages.specs.Plate.{has_ink, covers, is_marked_at}
 use Rattle.plan_pages.specs.Span.{AddsBits}
 use Rattle.plan_pages.proofs.SpanLemmas.{adds_join}
 
--- pixel x of row y is covered by one of these marks
+-- one of these marks covers pixel x of row y
 abbrev pub marked_by : Ink → ℕ → List MarkData → ℕ → Bool
 marked_by ink y marks x = list_any (λ mark. has_ink ink mark && covers x y mark) marks
 
--- one mark more
+-- one more mark
 pub more_marks : (ink : Ink) (y i : ℕ) (marks : List MarkData) (d : MarkData) (old now new : List ℕ) → i < length marks
     → AddsBits (marked_by ink y (take i marks)) old now → AddsBits (λ x. has_ink ink (get_or marks i d) && covers x y (get_or marks i d)) now new → AddsBits (marked_by ink y (take (i + 1) marks)) old new
 more_marks ink y i marks d old now new within sets adds =
@@ -31,7 +31,7 @@ all_marks ink y i marks old new all sets =
     let P : List MarkData → Type 0 = λ ms. AddsBits (marked_by ink y ms) old new in
     subst P (take_all i marks all) sets
 
--- no mark covers a pixel behind the plate's width
+-- no mark covers a pixel past the plate's width
 past_mark : (ink : Ink) (width height x y : ℕ) (mark : MarkData) → width ≤ x → IsMark width height mark → (has_ink ink mark && covers x y mark) ≡ false
 past_mark ink width height x y mark past is =
     and_right (has_ink ink mark) (covers x y mark) (and_left _ _ (and_right _ _ (le-ltb x (mark.x + mark.w) (let inside = is.right in omega arith))))

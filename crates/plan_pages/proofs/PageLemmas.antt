@@ -9,19 +9,19 @@ use Rattle.plan_json.specs.Data.{PlanData}
 use Rattle.plan_json.specs.Plan.{IsPlan, IsSection, IsZone, IsReplace}
 use Rattle.plan_pages.specs.Pages.{section_pages, page_count, replacements, is_for, chosen_page}
 
--- what holds of each element holds of the one at an index
+-- a fact about each element holds for the element at an index, if there is one
 pub IfSome-slice_get : {X : Type 0} (P : X → Type 0) (xs : List X) (i : ℕ) → All P xs → IfSome (slice_get xs i) P
 IfSome-slice_get P [] i each = tt
 IfSome-slice_get P (x ∷ xs) zero each = All-head P x xs each
 IfSome-slice_get P (x ∷ xs) (suc i) each = IfSome-slice_get P xs i (All-tail P x xs each)
 
--- and of the one that is found
+-- and for the element found by a test, if there is one
 pub IfSome-find : {X : Type 0} (P : X → Type 0) (test : X → Bool) (xs : List X) → All P xs → IfSome (find test xs) P
 IfSome-find P test [] each = tt
 IfSome-find {X} P test (x ∷ xs) each =
     cond_both {A = Option X} (test x) (Some x) (find test xs) (λ o. IfSome o P) (λ _. All-head P x xs each) (λ _. IfSome-find P test xs (All-tail P x xs each))
 
--- what is made of a value, or given where there is none
+-- a fact about the mapped value and about the default
 pub option_map_or-holds : {X Y : Type 0} (P : X → Type 0) (Q : Y → Type 0) (f : X → Y) (o : Option X) (y : Y) → IfSome o P → ((x : X) → P x → Q (f x)) → Q y → Q (option_map_or f o y)
 option_map_or-holds P Q f None y has each none = none
 option_map_or-holds P Q f (Some x) y has each none = each x has

@@ -1,4 +1,4 @@
--- Pixels that are set in a row: by a mask over one byte, by whole bytes, and joined.
+-- Setting pixels in a row: by a mask over one byte, by whole bytes, and by both combined.
 use Rattle.std.proofs.Common.{◌≡◌, ◌≢◌, ℕ, ◌+◌, ◌-◌, ◌*◌, ◌/◌, ◌%◌, ◌^◌, ◌<◌, ◌≤◌, Bool, true, false, ◌&&◌, ◌||◌, List, length, max, min, bit_and, refl, ap, sym, ◌∙◌, inl, inr, arith, eqb, leb, get_or, set, get_or-set_same, get_or-set_other}
 use Rattle.std.specs.Prelude.{bit_or}
 use Rattle.std.proofs.lemmas.Bool.{cases_eq, cases_lt, eq-eqb, ne_eqb, le-leb, lt-leb}
@@ -63,7 +63,7 @@ adds_at bits i byte mask within shows = record {
   ];
 }
 
--- a mask laid over a byte
+-- a mask combined with a byte by OR
 pub adds_mask : (bits : List ℕ) (i mask : ℕ) → i < length bits → AddsBits (in_byte i mask) bits (set bits i (bit_or (get_or bits i 0) mask))
 adds_mask bits i mask within = adds_at bits i _ (byte_bit mask) within (λ k _. byte_bit-or (get_or bits i 0) mask k)
 
@@ -84,7 +84,7 @@ adds_join first second test old now new one two same = record {
 pub adds_same : (first test : ℕ → Bool) (old new : List ℕ) → AddsBits first old new → ((x : ℕ) → first x ≡ test x) → AddsBits test old new
 adds_same first test old new one same = record { each = λ x. one.each x ∙ ap (λ t. bit_at old x || t) (same x) }
 
--- no byte, and one byte more
+-- no bytes, and one more byte
 pub no_bytes : (from x : ℕ) → in_bytes from from x ≡ false
 no_bytes from x = grind (arith, nat_tests)
 
@@ -97,7 +97,7 @@ adds_byte old now from i ordered within sets =
     (adds_at now i 255 (λ _. true) within (λ k small. whole_byte k small ∙ or_true (byte_bit (get_or now i 0) k)))
     (λ x. one_more from i x ordered)
 
--- the pixels of a span within one byte, by columns
+-- the pixels of a span within one byte, by column
 in_one : (from to x : ℕ) → from < to → from / 8 ≡ (to - 1) / 8 → (eqb (x / 8) (from / 8) && (leb (from % 8) (x % 8) && leb (x % 8) ((to - 1) % 8))) ≡ in_span from to x
 in_one from to x some one = grind (arith, nat_tests)
 
@@ -107,7 +107,7 @@ span_of_one from to x some one =
     ∙ ap (λ t. leb (from % 8) (x % 8) && t) (byte_bit-back ((to - 1) % 8) (x % 8) (omega arith) (omega arith)))
     ∙ in_one from to x some one
 
--- the pixels of a span over more bytes
+-- the pixels of a span over several bytes
 in_more : (from to x : ℕ) → from < to → from / 8 ≢ (to - 1) / 8 → (((eqb (x / 8) (from / 8) && leb (from % 8) (x % 8)) || in_bytes (from / 8 + 1) ((to - 1) / 8) x) || (eqb (x / 8) ((to - 1) / 8) && leb (x % 8) ((to - 1) % 8))) ≡ in_span from to x
 in_more from to x some more = grind (arith, nat_tests)
 

@@ -1,2 +1,2 @@
--- Where an ink stands among the five, for the crates above.
+-- The position of an ink among the five, for the crates above.
 pub use Rattle.pr_base.specs.Ink.{slot_of}

@@ -1,4 +1,4 @@
--- Where the pages and the marks of a plate stand, in pixels from its top left corner.
+-- The positions of the pages and the marks of a plate, in pixels from its top left corner.
 use Rattle.std.specs.Prelude.{ℕ, ◌+◌, Bool, false, ◌&&◌, nat_le, nat_lt, slice_index, slice_index_or}
 use Rattle.std.specs.List.{list_any}
 use Rattle.pr_base.specs.declared.ink.Ink.{Ink}
@@ -7,7 +7,7 @@ use Rattle.plan_json.specs.Data.{PlanData, plate_width, plate_height}
 use Rattle.plan_pages.specs.declared.shape.PlateShape.{PlateShape}
 use Rattle.pr_base.specs.Ink.{slot_of}
 
--- the sides of a plate, and the places of its two pages
+-- the sides of a plate, and the positions of its two pages
 abbrev pub shape_of_plate : PlanData → PlateShape
 shape_of_plate plan = record {
   width = plate_width plan;

@@ -1,5 +1,5 @@
-// What stands where on a plate: the pages that a site's zone chooses, the two pages of a pair, the plate's
-// sides and the places of its pages, and the marks around them. No call takes memory.
+// The layout of a plate: the pages that a site's zone chooses, the two pages of a pair, the plate's sides and
+// the positions of its pages, and the marks around them. No call allocates memory.
 #![tactic(auto)]
 
 mod marks;

@@ -10,8 +10,8 @@ use crate::span::set_span;
 use plan_json::{Mark, Plan};
 use pr_base::Ink;
 
-/// Sets the pixels of row `y` of a plate that a mark of this ink covers, and leaves the others. `bits` is a
-/// row of the plate, eight pixels a byte; its padding stays.
+/// Sets the pixels of row `y` of a plate that a mark of this ink covers, and leaves the others unchanged.
+/// `bits` is a row of the plate, eight pixels per byte; its padding bits are unchanged.
 pub fn mark_row(plan: &Plan, ink: Ink, y: u32, bits: &mut [u8])
     requires y { y < plate_height plan.now }
     requires row { length bits.old ≡ row_size (plate_width plan.now) }
@@ -23,7 +23,7 @@ pub fn mark_row(plan: &Plan, ink: Ink, y: u32, bits: &mut [u8])
     }
 }
 
-/// Sets the pixels of row `y` that this mark covers, if it is of this ink.
+/// Sets the pixels of row `y` that this mark covers, if the mark is printed with this ink.
 fn add_mark(mark: &Mark, ink: Ink, y: u32, bits: &mut [u8])
     requires some { 1 ≤ mark.now.w }
     requires right { mark.now.x + mark.now.w ≤ 8 * length bits.old }

@@ -1,9 +1,9 @@
-// Which two pages of a section stand on one plate.
+// The two pages of a section that share a plate.
 ghost use Rattle.std.specs.Prelude.{◌≡◌, ◌≤◌, ◌*◌, ◌%◌};
 ghost use Rattle.plan_pages.specs.Pages.{pair_of};
 
-/// The left and the right page of pair `j` in a section of `n` pages, both from 1: pages `j` and `n + 1 - j`,
-/// the even one left.
+/// Returns the left and the right page of pair `j` in a section of `n` pages, all counted from 1: pages `j`
+/// and `n + 1 - j`, the even one on the left.
 pub fn pair(n: u32, j: u32) -> (u32, u32)
     requires even { n % 2 ≡ 0 }
     requires first { 1 ≤ j }
@@ -21,7 +21,7 @@ mod tests {
     use super::*;
     use std::test::Fail;
 
-    // The number of pages, the pair, its left and its right page.
+    // The number of pages, the pair, its left page and its right page.
     #[rattlefmt::skip]
     const PAIRS: [(u32, u32, u32, u32); 36] = [
         (2, 1, 2, 1),

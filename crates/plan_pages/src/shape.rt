@@ -1,12 +1,11 @@
-// The sides of a plate and the places of its pages.
+// The sides of a plate and the positions of its pages.
 ghost use Rattle.std.specs.Prelude.{◌≡◌};
 ghost use Rattle.pr_base.specs.Number.{IsWithin};
 ghost use Rattle.plan_pages.specs.Plate.{shape_of_plate};
 
 use plan_json::Plan;
 
-/// A plate in pixels: its sides, where its two pages begin from the left,
-/// and how far below the top both begin.
+/// A plate in pixels: its sides, the columns at which its two pages begin, and the row at which both begin.
 #[derive(Clone, Copy, Debug, PartialEq, Eq)]
 pub struct PlateShape {
     pub width: u32,
@@ -16,7 +15,8 @@ pub struct PlateShape {
     pub top_y: u32,
 }
 
-/// The shape of each plate of a plan: two pages side by side, the gutter between them and the margins around.
+/// Returns the shape of every plate of a plan: two pages side by side, the gutter between them and the
+/// margins around them.
 pub fn plate_shape(plan: &Plan) -> PlateShape
     ensures shape { result ≡ shape_of_plate plan.now }
     ensures width { IsWithin 2 65535 result.width }

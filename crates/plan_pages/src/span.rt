@@ -1,8 +1,9 @@
-// A run of pixels set in a packed row: parts of its first and its last byte, and whole bytes between them.
+// Setting a run of pixels in a packed row: parts of its first and last byte, and the whole bytes between
+// them.
 ghost use Rattle.std.specs.Prelude.{◌≡◌, ◌<◌, ◌≤◌, ◌*◌, length};
 ghost use Rattle.plan_pages.specs.Span.{AddsBits, in_byte, in_bytes, in_span};
 
-/// Sets the pixels from `from` up to `to`, of which there is one at least.
+/// Sets the pixels in the range `from..to`, which is not empty.
 pub(crate) fn set_span(bits: &mut [u8], from: u32, to: u32)
     requires some { from < to }
     requires room { to ≤ 8 * length bits.old }
@@ -29,7 +30,7 @@ fn set_in_byte(bits: &mut [u8], i: usize, mask: u8)
     bits[i] |= mask;
 }
 
-/// Sets the pixels of the bytes from `from` up to `to`.
+/// Sets the pixels of the bytes in the range `from..to`.
 fn set_bytes(bits: &mut [u8], from: usize, to: usize)
     requires order { from ≤ to }
     requires room { to ≤ length bits.old }

@@ -1,4 +1,4 @@
-// Which page a site prints at each place of a section.
+// The page that a site prints at each place of a section.
 ghost use Rattle.std.specs.Prelude.{◌≡◌, ◌≤◌, ◌<◌, ◌-◌, length, slice_index};
 ghost use Rattle.std.specs.List.{find};
 ghost use Rattle.std.specs.Option.{option_map};
@@ -7,8 +7,8 @@ ghost use Rattle.plan_json.specs.Plan.{IsPlan};
 
 use plan_json::{Plan, Replace};
 
-/// The index of the page that `site` prints as page `page`, from 1, of `section`: the one that the site's
-/// zone names for this place, else the section's own.
+/// Returns the index of the page that `site` prints as page `page`, from 1, of `section`: the one that the
+/// site's zone gives for this place, otherwise the section's own.
 #[tactic(auto, unfolding(crate::specs::Pages::chosen_page))]
 pub fn chosen(plan: &Plan, site: usize, section: usize, page: u32) -> usize
     requires site { site < length plan.now.sites }
@@ -24,7 +24,7 @@ pub fn chosen(plan: &Plan, site: usize, section: usize, page: u32) -> usize
     }
 }
 
-/// The pages of a section.
+/// Returns the pages of a section.
 fn own_pages(plan: &Plan, section: usize) -> &[usize]
     requires { section < length plan.now.sections }
     ensures { result.now ≡ section_pages plan.now section }
@@ -32,7 +32,7 @@ fn own_pages(plan: &Plan, section: usize) -> &[usize]
     &plan.sections[section].pages
 }
 
-/// What a site's zone replaces.
+/// Returns the replacements of a site's zone; none if it has no zone.
 fn zone_items(plan: &Plan, site: usize) -> &[Replace]
     requires { site < length plan.now.sites }
     ensures items { result.now ≡ replacements plan.now site }
@@ -44,7 +44,7 @@ fn zone_items(plan: &Plan, site: usize) -> &[Replace]
     }
 }
 
-/// The page that stands at this place, if an item names one.
+/// Returns the page that replaces this one, if an item gives one.
 fn replaced(items: &[Replace], section: usize, page: u32) -> Option<usize>
     ensures { result ≡ option_map (λ item. item.with) (find (is_for section page) items.now) }
 {

@@ -13,7 +13,7 @@ pub count_view : (vs : List Value) → count_of (items_view vs) ≡ length vs
 count_view [] = refl
 count_view (v ∷ vs) = ap suc (count_view vs)
 
--- where a step fails, so does what follows from it
+-- where a step fails, the steps after it fail with the same fault
 pub fails_then : {A B : Type 0} (fault : PlanFault) (read : Read A) (rest : A → Read B) → Fails fault read → Fails fault (read >>= rest)
 fails_then Memory read rest h = tt
 fails_then NotJson read rest h = rw h refl
@@ -24,7 +24,7 @@ fails_then (Unknown path) read rest h = rw h refl
 fails_then (Repeat path) read rest h = rw h refl
 
 module _ {A : Type 0} (read : List A → Reader A) (path : List ℕ) (vs : List Value) (total : Read (List A)) where
-  -- what is still to read, with the items before it
+  -- the items that are left to read, given the items before them
   abbrev pub Reads : List A → ℕ → Type 0
   Reads xs i = each_after xs read path (items_view (drop i vs)) ≡ total
 
@@ -45,6 +45,6 @@ module _ {A : Type 0} (read : List A → Reader A) (path : List ℕ) (vs : List 
   unfolding each_after
   each-done xs i all h = sym h ∙ ap (λ ws. each_after xs read path (items_view ws)) (drop_of_length-le vs all)
 
--- so many are read as there are items
+-- as many values are read as there are items
 pub each-count : {A : Type 0} (read : List A → Reader A) (path : List ℕ) (vs : List Value) (xs : List A) → each_after [] read path (items_view vs) ≡ Ok xs → length xs ≡ length vs
 each-count read path vs xs e = omega (arith, (each_keeps read (λ _. Unit {0}) (λ _ _ _ _ _ _. tt) [] path (items_view vs) xs tt e).1, count_view vs)

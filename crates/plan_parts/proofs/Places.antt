@@ -1,4 +1,4 @@
--- Places in lists of names, and the keys of an object.
+-- Indexes in lists of names, and the keys of an object.
 use Rattle.std.proofs.Common.{◌≡◌, ℕ, ◌+◌, Bool, true, false, not, ◌||◌, cond, List, [], ◌∷◌, map, Option, Some, option_map, String, string_bytes, Global, refl, ap}
 use Rattle.std.specs.List.{position_from, list_any, find}
 use Rattle.std.specs.Map.{keys_of}
@@ -19,7 +19,7 @@ unknown_case : (known : Bool) (e : String Global × Value) (rest : Option (Strin
 unknown_case true e rest found h = h
 unknown_case false e rest found h = refl
 
--- the first unknown key of a map is that of the members which the map is seen as
+-- the first unknown key of a map is that of the members that represent the map
 pub first_unknown-entries : (keys : List (List ℕ)) (es : List (String Global × Value))
     → option_map string_bytes (find (λ key. not (is_among keys (string_bytes key))) (keys_of es)) ≡ first_unknown keys (members_view es)
 first_unknown-entries keys [] = refl

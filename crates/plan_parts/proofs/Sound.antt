@@ -1,4 +1,4 @@
--- What the words of reading promise of what they read.
+-- What the vocabulary of reading guarantees about the values read.
 use Rattle.std.proofs.Common.{◌≡◌, ◌≢◌, ℕ, zero, suc, ◌+◌, ◌<◌, ◌≤◌, Bool, true, false, cond, List, [], ◌∷◌, ◌++◌, length, map, get_or, Option, Some, None, Ok, Err, refl, ap, subst, arith}
 use Rattle.std.specs.List.{position_from}
 use Rattle.std.specs.Str.{bytes_eq}
@@ -74,7 +74,7 @@ required_case : {A : Type 0} (P : A → Type 0) (read : Reader A) (path : List �
 required_case P read path None x each e = absurd cc
 required_case P read path (Some d) x each e = each d e
 
--- what holds of all that is read holds of what a key has
+-- a property of everything that is read holds for the value of a key
 pub required_gives : {A : Type 0} (P : A → Type 0) (read : Reader A) → ((path : List ℕ) (d : Data) (x : A) → read path d ≡ Ok x → P x)
     → (key path : List ℕ) (o : Data) (x : A) → required key read path o ≡ Ok x → P x
 unfolding required
@@ -113,7 +113,7 @@ pub nth_sound : (i low high : ℕ) (path : List ℕ) (items : Items) (n : ℕ) �
 unfolding nth
 nth_sound i low high path items n e = required_case (IsWithin low high) (number low high) (at_item path i) (get_item i items) n (λ d. number_sound low high (at_item path i) d n) e
 
--- ---- names apart
+-- ---- distinct names
 
 apart_case : (b : Bool) (i : ℕ) (rest : Option ℕ) → cond b (Some i) rest ≡ None → (b ≡ false) × (rest ≡ None)
 apart_case true i rest e = absurd cc

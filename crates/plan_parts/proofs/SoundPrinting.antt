@@ -1,4 +1,4 @@
--- What is read of tiles, screens, curves and marks meets what a plan keeps.
+-- The tiles, screens, curves and marks that are read have the properties that a plan promises.
 use Rattle.std.proofs.Common.{◌≡◌, ℕ, zero, suc, ◌+◌, ◌-◌, ◌*◌, ◌<◌, ◌≤◌, ◌&&◌, Bool, true, false, cond, IsTrue, List, [], ◌∷◌, ◌++◌, length, map, Option, Some, None, Ok, Err, refl, ap, subst, arith, add-one}
 use borrow.Author.Tests.{ltb-true}
 use Rattle.std.proofs.lemmas.Bool.{leb-true}

@@ -3,7 +3,7 @@ use Rattle.std.proofs.Common.{◌≡◌, ℕ, suc, ◌+◌, ◌==◌, ◌&&◌, 
 use Rattle.std.specs.List.{list_all, position_from}
 use Rattle.plan_parts.specs.Forms.{parts}
 
--- what the parts are where the first `/` stands at an index that is counted from `at`
+-- the parts of a text whose first `/` is at an index counted from `at`
 abbrev PartsAt : List ℕ → ℕ → Option ℕ → Type 0
 PartsAt text at None = parts text ≡ text ∷ []
 PartsAt text at (Some i) = (k : ℕ) × (i ≡ at + k) × (parts text ≡ take k text ∷ parts (drop (suc k) text))

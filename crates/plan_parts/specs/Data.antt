@@ -1,10 +1,9 @@
--- What the parts of a plan say, as plain data. Texts are their bytes; lists of five stand in the order C,
--- M, Y, K, S.
+-- The parts of a plan as plain data. Texts are their bytes; lists of five are in the order C, M, Y, K, S.
 use Rattle.std.specs.Prelude.{ℕ, List, Bool}
 use Rattle.plan_parts.specs.declared.printing.Mark.{Mark}
 use Rattle.plan_parts.specs.declared.layer.PlanLayer.{PlanLayer}
 
--- a mark: its inks, its place and its sides
+-- a mark: its inks, its position and its sides
 abbrev pub MarkData : Type 0
 MarkData = Mark
 
@@ -12,18 +11,18 @@ MarkData = Mark
 abbrev pub LayerData : Type 0
 LayerData = PlanLayer
 
--- the points of a curve: an ink value and what it becomes
+-- the points of a curve: an input ink value, and the value that it becomes
 abbrev pub CurveData : Type 0
 CurveData = List (ℕ × ℕ)
 
--- a threshold tile: its numbers row after row
+-- a threshold tile: its thresholds row by row
 pub record TileData : Type 0 where
   pub name : List ℕ
   pub width : ℕ
   pub height : ℕ
   pub at : List ℕ
 
--- a page; the first layer lies at the bottom
+-- a page; the first layer is at the bottom
 pub record PageData : Type 0 where
   pub name : List ℕ
   pub colour : Bool

@@ -22,14 +22,14 @@ unfoldable pub parts : List ℕ → List (List ℕ)
 parts [] = [] ∷ []
 parts (b ∷ text) = if b == 47 then [] ∷ parts text else put_before b (parts text)
 
--- a part of a path that names a file: neither empty nor `.` nor `..`
+-- a part of a path that names a file: it is not empty, `.` or `..`
 unfoldable pub names_a_file : List ℕ → Bool
 names_a_file [] = false
 names_a_file (b ∷ []) = not (b == 46)
 names_a_file (a ∷ b ∷ []) = not (a == 46 && b == 46)
 names_a_file (a ∷ b ∷ c ∷ rest) = true
 
--- a file name: 1 to 255 bytes, none of them a control code, all parts of which name files
+-- a file name: 1 to 255 bytes, none of them a control code, in parts that all name files
 unfoldable pub is_file_name : List ℕ → Bool
 is_file_name text =
     nat_le 1 (length text) && nat_le (length text) 255 && list_all (nat_le 32) text

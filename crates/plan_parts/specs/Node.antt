@@ -1,4 +1,4 @@
--- Reading a value where it stands, an object where it stands, and the items of a list.
+-- Reading a value or an object at its place, and the items of a list.
 use Rattle.serde_json.specs.View.{view, items_view}
 use Rattle.serde_json.specs.Data.{Items as ItemsData}
 use Rattle.std.specs.Prelude.{ℕ, List}

@@ -1,4 +1,4 @@
--- What holds of the tiles, screens, curves, marks and pages of every plan that is read.
+-- Properties of the tiles, screens, curves, marks and pages of every plan that is read.
 use Rattle.std.specs.Prelude.{◌≡◌, ◌<◌, ◌≤◌, ℕ, ◌+◌, ◌-◌, ◌*◌, ◌==◌, ◌||◌, Bool, IsTrue, List, length}
 use Rattle.std.specs.Prelude.{slice_index, slice_index_or, IfSome, All}
 use Rattle.std.specs.List.{list_any}
@@ -10,7 +10,7 @@ use Rattle.plan_parts.specs.Data.{TileData, PageData, LayerData, MarkData, Curve
 
 -- ---- printing
 
--- a tile's sides are 1 to 64, and it has a number of 0 to 255 for each pixel
+-- a tile's sides are 1 to 64 pixels, and it has a threshold of 0 to 255 for each pixel
 pub record IsTile (tile : TileData) : Type 0 where
   pub name : IsTrue (is_name tile.name)
   pub width : IsWithin 1 64 tile.width
@@ -18,21 +18,21 @@ pub record IsTile (tile : TileData) : Type 0 where
   pub numbers : length tile.at ≡ tile.width * tile.height
   pub bytes : All (IsWithin 0 255) tile.at
 
--- a side of a Bayer tile
+-- the sides of Bayer tiles
 abbrev pub is_bayer : ℕ → Bool
 is_bayer side = side == 2 || side == 4 || side == 8 || side == 16
 
--- a Bayer tile, the diffusion, or one of the plan's tiles
+-- a Bayer tile, error diffusion, or one of the plan's tiles
 abbrev pub IsScreen : ℕ → Screen → Type 0
 IsScreen tiles (Bayer side) = IsTrue (is_bayer side)
 IsScreen tiles Diffuse = Unit {0}
 IsScreen tiles (Own tile) = tile < tiles
 
--- the ink value at which point k stands
+-- the input value of point k
 abbrev pub place : CurveData → ℕ → ℕ
 place points k = (slice_index_or points k (0, 0)).0
 
--- 2 to 32 points of bytes, from 0 to 255, at places that strictly rise
+-- 2 to 32 points of bytes, whose input values strictly rise from 0 to 255
 pub record IsCurve (points : CurveData) : Type 0 where
   pub count : IsWithin 2 32 (length points)
   pub first : place points 0 ≡ 0
@@ -41,7 +41,7 @@ pub record IsCurve (points : CurveData) : Type 0 where
   pub places : All (λ point. point.0 ≤ 255) points
   pub values : All (λ point. point.1 ≤ 255) points
 
--- a mark has some ink, its sides are 1 to 65535, and it lies in the plate
+-- a mark has some ink, its sides are 1 to 65535 pixels, and it is inside the plate
 pub record IsMark (width height : ℕ) (mark : MarkData) : Type 0 where
   pub inks : length mark.inks ≡ 5
   pub some : IsTrue (list_any (λ ink. ink) mark.inks)
@@ -52,7 +52,7 @@ pub record IsMark (width height : ℕ) (mark : MarkData) : Type 0 where
 
 -- ---- pages
 
--- four numbers: x and y of 0 to 65535, width and height of 1 to 65535
+-- four numbers: x and y of 0 to 65535, width and height of 1 to 65535, in pixels
 pub record IsCrop (crop : List ℕ) : Type 0 where
   pub count : length crop ≡ 4
   pub x : slice_index crop 0 ≤ 65535
@@ -60,7 +60,7 @@ pub record IsCrop (crop : List ℕ) : Type 0 where
   pub width : IsWithin 1 65535 (slice_index crop 2)
   pub height : IsWithin 1 65535 (slice_index crop 3)
 
--- a layer of one of so many files
+-- a layer, when there are `file_count` files
 pub record IsLayer (file_count : ℕ) (layer : LayerData) : Type 0 where
   pub file : layer.file < file_count
   pub x : layer.x ≤ 65535

@@ -21,7 +21,7 @@ tile_keys = codes "name" ∷ codes "width" ∷ codes "height" ∷ codes "at" ∷
 abbrev pub tile_names : List TileData → List (List ℕ)
 tile_names tiles = map (λ tile. tile.name) tiles
 
--- so many numbers of 0 to 255
+-- a list of exactly this many numbers of 0 to 255
 unfoldable pub bytes_of : ℕ → Reader (List ℕ)
 bytes_of count = list_of count count (λ _. number 0 255)
 
@@ -39,11 +39,11 @@ tiles = list_of 0 16 tile
 
 -- ---- screens
 
--- where no screen is told
+-- the screens when none is given
 abbrev pub bayer_screens : List Screen
 bayer_screens = Bayer 8 ∷ Bayer 8 ∷ Bayer 8 ∷ Bayer 8 ∷ Bayer 8 ∷ []
 
--- the tile that is named behind `tile:`
+-- the tile whose name follows `tile:`
 abbrev pub own_screen : List (List ℕ) → List ℕ → List ℕ → Read Screen
 own_screen names path s = some_or (Unknown path) (option_map Own (index_in names s))
 
@@ -71,21 +71,21 @@ screens spot tiles path d = do
 
 -- ---- curves
 
--- the curve that changes nothing
+-- the curve that changes no value
 abbrev pub identity : CurveData
 identity = (0, 0) ∷ (255, 255) ∷ []
 
--- where no curve is told
+-- the curves when none is given
 abbrev pub identities : List CurveData
 identities = identity ∷ identity ∷ identity ∷ identity ∷ identity ∷ []
 
--- each point stands to the right of the one before
+-- the input value of each point is above that of the point before
 abbrev pub is_rising : CurveData → Bool
 is_rising [] = true
 is_rising (p ∷ []) = true
 is_rising (p ∷ q ∷ points) = nat_lt p.0 q.0 && is_rising (q ∷ points)
 
--- the points begin at 0, end at 255 and rise
+-- the input values rise from 0 to 255
 unfoldable pub spans : CurveData → Bool
 spans points = place points 0 == 0 && place points (length points - 1) == 255 && is_rising points
 
@@ -118,19 +118,19 @@ curves spot path d = do
 
 -- ---- marks
 
--- whether a text begins with a letter, and what stands behind it
+-- whether a text starts with a letter, and the rest of the text after it
 abbrev pub taken : ℕ → List ℕ → Bool × List ℕ
 taken letter [] = (false, [])
 taken letter (b ∷ s) = if b == letter then (true, s) else (false, b ∷ s)
 
--- which of these letters a text has, where it has them in this order and nothing else
+-- which of these letters a text has, when it has them in this order and nothing else
 abbrev pub flags_in : List ℕ → List ℕ → Option (List Bool)
 flags_in [] [] = Some []
 flags_in [] (b ∷ s) = None
 flags_in (letter ∷ letters) s =
     option_map (λ flags. (taken letter s).0 ∷ flags) (flags_in letters (taken letter s).1)
 
--- some ink, and S only in plan 2
+-- at least one ink, and S only in plan 2
 abbrev pub may_have : Bool → List Bool → Bool
 may_have spot inks = list_any (λ ink. ink) inks && (spot || not (slice_index_or inks 4 false))
 
@@ -144,7 +144,7 @@ mark_inks spot path d = do
 abbrev pub mark_keys : List (List ℕ)
 mark_keys = codes "inks" ∷ codes "x" ∷ codes "y" ∷ codes "w" ∷ codes "h" ∷ []
 
--- a mark that lies in a plate of this width and height
+-- a mark inside a plate of this width and height
 unfoldable pub mark : Bool → ℕ → ℕ → Reader MarkData
 mark spot width height path d = do
   o ← object_with mark_keys path d

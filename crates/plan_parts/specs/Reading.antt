@@ -1,5 +1,5 @@
--- The words of reading: an object with these keys, what a key has, a list of so many items, a number in a
--- range, a text, a name. Each gives a value or the first fault with its path.
+-- The vocabulary of reading: an object with these keys, the value of a key, a list of a stated length, a
+-- number in a range, a text, a name. Each reads a value, or the first fault with its path.
 use Rattle.std.specs.Prelude.{ℕ, suc, ◌&&◌, Bool, true, false, not, if◌then◌else◌, nat_le, List, [], ◌∷◌}
 use Rattle.std.specs.Prelude.{◌++◌, length, Option, Some, None, Result, Ok, Err, option_and_then, is_some}
 use Rattle.std.specs.Prelude.{decimal, codes}
@@ -28,45 +28,45 @@ abbrev pub ◌>>◌ : {A B : Type 0} → Read A → Read B → Read B
 (Ok x) >> rest = rest
 (Err fault) >> rest = Err fault
 
--- this holds, or that is the fault
+-- nothing where the condition holds, and this fault otherwise
 abbrev pub must : Bool → PlanFault → Read (Unit {0})
 must true fault = Ok tt
 must false fault = Err fault
 
--- the value, or that is the fault
+-- the value, or this fault where there is none
 abbrev pub some_or : {A : Type 0} → PlanFault → Option A → Read A
 some_or fault None = Err fault
 some_or fault (Some x) = Ok x
 
 -- ---- paths
 
--- a path and one more step: a key, or an index from 0
+-- a path with one more step: a key, or an index from 0
 abbrev pub at_key : List ℕ → List ℕ → List ℕ
 at_key path key = path ++ 47 ∷ key
 
 abbrev pub at_item : List ℕ → ℕ → List ℕ
 at_item path i = path ++ 47 ∷ decimal i
 
--- ---- what is read from what stands at a path
+-- ---- reading the value at a path
 
 abbrev pub Reader : Type 0 → Type 0
 Reader A = List ℕ → Data → Read A
 
--- the text is one of these
+-- whether the text is one of these
 abbrev pub is_among : List (List ℕ) → List ℕ → Bool
 is_among texts s = list_any (bytes_eq s) texts
 
--- the first key that is none of these; the members of an object stand in byte order
+-- the first key that is none of these; the members of an object are in byte order
 abbrev pub first_unknown : List (List ℕ) → Members → Option (List ℕ)
 first_unknown keys no_members = None
 first_unknown keys (member_data key d more) = if is_among keys key then first_unknown keys more else Some key
 
--- no key is unknown
+-- the value, or a fault where a key is unknown
 abbrev pub all_known : List ℕ → Data → Option (List ℕ) → Read Data
 all_known path d None = Ok d
 all_known path d (Some key) = Err (Unknown (at_key path key))
 
--- an object that has no other keys than these
+-- an object that has no keys but these
 unfoldable pub object_with : List (List ℕ) → Reader Data
 object_with keys path (object all) = all_known path (object all) (first_unknown keys all)
 object_with keys path null = Err (Kind path)
@@ -75,20 +75,20 @@ object_with keys path (number_data n) = Err (Kind path)
 object_with keys path (string s) = Err (Kind path)
 object_with keys path (array _) = Err (Kind path)
 
--- the keys of `screens` and `curves`: an ink each, S only in plan 2
+-- the keys of `screens` and `curves`: one for each ink, S only in plan 2
 abbrev pub ink_keys : Bool → List (List ℕ)
 ink_keys true = codes "C" ∷ codes "M" ∷ codes "Y" ∷ codes "K" ∷ codes "S" ∷ []
 ink_keys false = codes "C" ∷ codes "M" ∷ codes "Y" ∷ codes "K" ∷ []
 
--- what must be there is read
+-- what a reader reads from a value, or the fault `Missing` where the value is absent
 abbrev pub required_in : {A : Type 0} → Reader A → List ℕ → Option Data → Read A
 required_in read path found = some_or (Missing path) found >>= read path
 
--- what a required key has
+-- the value of a required key
 unfoldable pub required : {A : Type 0} → List ℕ → Reader A → Reader A
 required key read path d = required_in read (at_key path key) (get key d)
 
--- what a key has, or that where the key is absent
+-- the value of a key, or a default where the key is absent
 abbrev pub optional_in : {A : Type 0} → A → Reader A → List ℕ → Option Data → Read A
 optional_in absent read path None = Ok absent
 optional_in absent read path (Some d) = read path d
@@ -98,7 +98,7 @@ optional key absent read path d = optional_in absent read (at_key path key) (get
 
 -- ---- numbers and texts
 
--- a whole number of 0 to 2^64 - 1, from low to high
+-- a whole number of 0 to 2^64 - 1 that is from `low` to `high`
 abbrev pub whole_number : List ℕ → ℕ → ℕ → Option ℕ → Read ℕ
 whole_number path low high None = Err (Kind path)
 whole_number path low high (Some n) = if nat_le low n && nat_le n high then Ok n else Err (Range path)
@@ -115,7 +115,7 @@ text path (number_data n) = Err (Kind path)
 text path (array _) = Err (Kind path)
 text path (object _) = Err (Kind path)
 
--- a text of a form
+-- a text of the required form
 abbrev pub text_of : (List ℕ → Bool) → Reader (List ℕ)
 text_of form path d = do
   s ← text path d
@@ -128,18 +128,18 @@ name = text_of is_name
 unfoldable pub file_name : Reader (List ℕ)
 file_name = text_of is_file_name
 
--- the index of a name in a list of them
+-- the index of a name in a list of names
 abbrev pub index_in : List (List ℕ) → List ℕ → Option ℕ
 index_in names s = position_from (λ n. bytes_eq n s) 0 names
 
--- a name that none of the earlier items has
+-- a name that no earlier item has
 unfoldable pub new_name : List (List ℕ) → Reader (List ℕ)
 new_name earlier path d = do
   s ← name path d
   must (not (is_some (index_in earlier s))) (Repeat path)
   Ok s
 
--- the index of the item that is named so
+-- the index of the item with this name
 unfoldable pub defined : List (List ℕ) → Reader ℕ
 defined names path d = do
   s ← name path d
@@ -160,23 +160,23 @@ items_in path (number_data n) = Err (Kind path)
 items_in path (string s) = Err (Kind path)
 items_in path (object _) = Err (Kind path)
 
--- the items of a list that has low to high of them
+-- the items of a list that has `low` to `high` of them
 unfoldable pub items_within : ℕ → ℕ → Reader Items
 items_within low high path d = do
   items ← items_in path d
   must (nat_le low (count_of items) && nat_le (count_of items) high) (Range path)
   Ok items
 
--- the items in order, each read beside those before it
+-- the items in order, each read with access to the items before it
 unfoldable pub each_after : {A : Type 0} → List A → (List A → Reader A) → List ℕ → Items → Read (List A)
 each_after earlier read path no_items = Ok earlier
 each_after earlier read path (item d items) =
     read earlier (at_item path (length earlier)) d >>= λ x. each_after (earlier ++ x ∷ []) read path items
 
--- a list of low to high items
+-- a list of `low` to `high` items
 abbrev pub list_of : {A : Type 0} → ℕ → ℕ → (List A → Reader A) → Reader (List A)
 list_of low high read path d = items_within low high path d >>= each_after [] read path
 
--- what stands at an index of a list
+-- the item at an index of a list
 unfoldable pub nth : {A : Type 0} → ℕ → Reader A → List ℕ → Items → Read A
 nth i read path items = required_in read (at_item path i) (get_item i items)

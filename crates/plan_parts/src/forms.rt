@@ -3,7 +3,7 @@ ghost use Rattle.std.specs.Prelude.{◌≡◌, ◌<◌, ◌==◌, ◌+◌, nat_l
 ghost use Rattle.std.specs.List.{list_all, position_from};
 ghost use Rattle.plan_parts.specs.Forms as spec;
 
-/// Whether the text is a name: 1 to 16 letters, digits and `_`.
+/// Returns whether the text is a name: 1 to 16 letters, digits and `_`.
 #[tactic(auto, unfolding(crate::specs::Forms::is_name))]
 pub(crate) fn is_name(text: &str) -> bool
     ensures { result ≡ spec.is_name text.now }
@@ -25,7 +25,7 @@ fn is_name_byte(b: u8) -> bool
     (b'A' <= b && b <= b'Z') || (b'a' <= b && b <= b'z') || (b'0' <= b && b <= b'9') || b == b'_'
 }
 
-/// Whether the text names a file: 1 to 255 bytes without control codes, in parts that name files.
+/// Returns whether the text is a file name: 1 to 255 bytes without control codes, in parts that name files.
 #[tactic(auto, unfolding(crate::specs::Forms::is_file_name))]
 pub(crate) fn is_file_name(text: &str) -> bool
     ensures { result ≡ spec.is_file_name text.now }
@@ -40,7 +40,7 @@ fn no_control(bytes: &[u8]) -> bool
     bytes.iter().all(|b| *b >= 32)
 }
 
-// Whether each part between `/` is neither empty nor `.` nor `..`.
+// Returns whether no part between `/` is empty, `.` or `..`.
 fn parts_name_files(text: &[u8]) -> bool
     ensures { result ≡ list_all spec.names_a_file (spec.parts text.now) }
 {

@@ -1,9 +1,8 @@
-// The words by which the tables of a plan are read, and the parts of a plan that tell how inks are printed.
-// Words are objects without unknown keys, lists of a stated length, numbers in a range, texts, names and file
-// names of their form, new in a list or defined in another: each is read from a JSON value where it stands,
-// or refused by the first fault with its path. Parts are threshold tiles, screens, tone curves and marks, and
-// what lies on a page; each is a type that contracts see as the plain data of its fields. Pages are read in
-// plan_json.
+// Reading the parts of a plan from JSON. The readers accept objects without unknown keys, lists of a stated
+// length, numbers in a range, texts, names and file names of their form, and names that are new in their list
+// or defined in another one. A reader returns the value, or the first fault with its path. The parts are
+// threshold tiles, screens, tone curves, marks, and the layers of a page; contracts see each as the plain
+// data of its fields. Pages are read in plan_json.
 #![tactic(auto)]
 
 mod fault;

@@ -14,10 +14,10 @@ use pr_base::PathText;
 use serde_json::Value;
 use std::alloc::Global;
 
-/// The items of a list at a path, whose length was tested.
+/// The items of a list at a path, after its length was tested.
 #[derive(Drop)]
 pub struct Items<'a> {
-    /// Where the texts of faults are made.
+    /// The allocator for the paths of faults.
     pub alloc: Global,
     /// The path to the list.
     pub path: PathText,
@@ -25,7 +25,7 @@ pub struct Items<'a> {
 }
 
 impl<'a> Node<'a> {
-    // The items of the list that the value is.
+    // Returns the items of the list, or a fault where the value is not a list.
     #[tactic(auto, unfolding(crate::specs::Reading::items_in))]
     fn values(self) -> Result<&'a [Value], PlanFault>
         ensures { Gives (λ values. items_view values.now) result (at self.entry spec.items_in) }
@@ -36,8 +36,8 @@ impl<'a> Node<'a> {
         }
     }
 
-    /// The items of the list that the value is, from `low` to `high` of them. Another value is refused by
-    /// its kind, a list of another length as out of its range.
+    /// Returns the items of the list, which has `low` to `high` of them. A value that is not a list is a
+    /// fault of kind, a list of another length a fault of range.
     #[tactic(auto, using(crate::proofs::Lists::count_view), unfolding(crate::specs::Reading::items_within))]
     pub fn items(self, low: usize, high: usize) -> Result<Items<'a>, PlanFault>
         ensures value { Gives (λ items. items_view items.values.now) result
@@ -59,7 +59,7 @@ impl<'a> Node<'a> {
 }
 
 impl Items<'_> {
-    /// How many items there are.
+    /// Returns the number of items.
     #[tactic(auto, using(crate::proofs::Lists::count_view))]
     pub fn count(&self) -> usize
         ensures { result ≡ spec.count_of (items_view self.now.values.now) }
@@ -67,7 +67,7 @@ impl Items<'_> {
         self.values.len()
     }
 
-    /// The item at an index, from 0, if there is one.
+    /// Returns the item at an index, from 0, if there is one.
     pub fn get(&self, i: usize) -> Option<Node<'_>>
         ensures value { option_map (λ node. view node.value.now) result
             ≡ get_item i (items_view self.now.values.now) }
@@ -84,7 +84,7 @@ impl Items<'_> {
         }
     }
 
-    /// What is read from the item at an index, from 0. Where there is no such item, it is refused as missing.
+    /// Reads the item at an index, from 0. An absent item is a fault, `Missing`.
     #[tactic(auto, unfolding(crate::specs::Reading::nth))]
     pub fn required<R: Reader>(&self, i: usize, read: &R) -> Result<R::Out, PlanFault>
         ensures value { Gives R.shows.seen result (among self.now (spec.nth i (R.reads read.now))) }
@@ -99,7 +99,7 @@ impl Items<'_> {
         }
     }
 
-    /// What is read from the item at an index, from 0, or `absent` where there is no such item.
+    /// Reads the item at an index, from 0, or returns `absent` where there is no such item.
     pub fn optional<R: Reader>(
         &self,
         i: usize,
@@ -118,7 +118,7 @@ impl Items<'_> {
         }
     }
 
-    /// All items in order, each read beside those before it.
+    /// Reads all items in order, each with access to the items before it.
     pub fn each<I: ItemReader>(&self, read: &I) -> Result<Vec<I::Item>, PlanFault>
         ensures value { Gives (λ all. all.items) result
             (among self.now (spec.each_after [] (I.reads read.now))) }
@@ -138,7 +138,7 @@ impl Items<'_> {
     }
 }
 
-/// Reads a list of items, from the first number to the second of them.
+/// Reads a list whose number of items is from the first number to the second, inclusive.
 #[derive(Drop)]
 pub struct ListOf<I>(pub usize, pub usize, pub I);
 

@@ -1,4 +1,4 @@
-// Names: of the form, new in their list, or defined in another.
+// Names: of the required form, new in their list, or defined in another list.
 ghost use Rattle.std.specs.Prelude.{◌≡◌, ◌<◌, List, ℕ, IfSome, map, length};
 ghost use Rattle.plan_parts.specs.Gives.{Gives};
 ghost use Rattle.plan_parts.specs.Node.{at};
@@ -14,13 +14,13 @@ use pr_base::PathText;
 pub trait Named {
     ghost named: { Self → List ℕ };
 
-    /// The name.
+    /// Returns the name.
     fn name(&self) -> &str
         ensures { result.now ≡ named self.now };
 }
 
 impl<'a> Node<'a> {
-    // A name: a text of 1 to 16 letters, digits and `_`.
+    // Returns the name that the value is: a text of 1 to 16 letters, digits and `_`.
     #[tactic(auto, unfolding(crate::specs::Reading::name))]
     fn name(self) -> Result<&'a str, PlanFault>
         ensures { Gives (λ s. s.now) result (at self.entry spec.name) }
@@ -33,7 +33,7 @@ impl<'a> Node<'a> {
     }
 }
 
-/// Reads a name: a text of 1 to 16 letters, digits and `_`. Another text is refused as out of its range.
+/// Reads a name: a text of 1 to 16 letters, digits and `_`. Another text is a fault of range.
 #[derive(Drop)]
 pub struct Name;
 
@@ -48,8 +48,8 @@ impl Reader for Name {
     }
 }
 
-/// Reads the name of a file: a text of 1 to 255 bytes without control codes, whose parts between `/` are
-/// neither empty nor `.` nor `..`. Another text is refused as out of its range.
+/// Reads a file name: a text of 1 to 255 bytes without control codes, in which no part between `/` is empty,
+/// `.` or `..`. Another text is a fault of range.
 #[derive(Drop)]
 pub struct FileName;
 
@@ -68,7 +68,7 @@ impl Reader for FileName {
     }
 }
 
-/// Reads a name that none of these earlier items has. One that an item has is refused as a repeat.
+/// Reads a name that none of the earlier items has. A name that one of them has is a fault, `Repeat`.
 #[derive(Drop)]
 pub struct NewName<'x, T>(pub &'x [T]);
 
@@ -87,8 +87,8 @@ impl<T: Named> Reader for NewName<'_, T> {
     }
 }
 
-/// Reads the name of one of these items, and gives the item's index, from 0. A name that none of them has
-/// is refused as unknown.
+/// Reads the name of one of these items, and returns the item's index, from 0. A name that none of them has
+/// is a fault, `Unknown`.
 #[derive(Drop)]
 pub struct Defined<'x, T>(pub &'x [T]);
 
@@ -119,7 +119,7 @@ impl<T: Named> ItemReader for Defined<'_, T> {
     }
 }
 
-/// The index, from 0, of the first item with the name, if there is one.
+/// Returns the index, from 0, of the first item with the name, if there is one.
 pub fn index_of<T: Named>(items: &[T], name: &str) -> Option<usize>
     ensures value { result ≡ spec.index_in (map T.named items.now) name.now }
     ensures within { IfSome result (λ i. i < length items.now) }

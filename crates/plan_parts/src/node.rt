@@ -1,4 +1,4 @@
-// A value of a plan and where it stands, and what reads such a value.
+// A value of a plan with its place, and the traits of readers.
 ghost use Rattle.std.specs.Prelude.{◌≡◌, List, ℕ, IfOk};
 ghost use Rattle.plan_parts.specs.Gives.{Gives, View, itself};
 ghost use Rattle.plan_parts.specs.Node.{at};
@@ -13,24 +13,24 @@ use pr_base::{NoMemory, PathText};
 use serde_json::Value;
 use std::alloc::Global;
 
-/// A value of the plan, where it stands.
+/// A value of the plan, with its place.
 #[derive(Clone, Copy)]
 pub struct Node<'a> {
-    /// Where the texts of faults are made.
+    /// The allocator for the paths of faults.
     pub alloc: Global,
     pub place: Place<'a>,
     pub value: &'a Value,
 }
 
 impl<'a> Node<'a> {
-    /// The path to the value. It is refused only for want of memory.
+    /// Returns the path to the value. Fails only when out of memory.
     pub fn path(self) -> Result<PathText, NoMemory>
         ensures { IfOk result (λ path. path ≡ path_of self.entry.place) }
     {
         self.place.path(self.alloc)
     }
 
-    /// The text that the value is. Another value is refused by its kind.
+    /// Returns the text that the value is. A value that is not a text is a fault of kind.
     pub fn text(self) -> Result<&'a str, PlanFault>
         ensures { Gives (λ s. s.now) result (at self.entry spec_text) }
     {
@@ -41,35 +41,35 @@ impl<'a> Node<'a> {
     }
 }
 
-/// What reads a value: by a form, or by a table of keys.
+/// Reads a value, by a form or by a table of keys.
 pub trait Reader {
-    /// What is read.
+    /// The type of what is read.
     type Out: Drop;
 
-    // How clauses see it.
+    // How contracts see it.
     ghost shows: { View Self.Out } = { itself };
 
-    // What a value at a path is, or its first fault.
+    // What is read from a value at a path, or the value's first fault.
     ghost reads: { Self → List ℕ → Data → Read Self.shows.Seen };
 
-    // What holds of all that is read.
+    // A property of everything that is read.
     ghost keeps: { Self → Self.Out → Type 0 } = { λ _ _. Unit {0} };
 
-    /// What the value is, or its first fault.
+    /// Returns what the value is, or its first fault.
     fn read(&self, node: Node<'_>) -> Result<Self::Out, PlanFault>
         ensures value { Gives Self.shows.seen result (at node.entry (Self.reads self.now)) }
         ensures kept { IfOk result (Self.keeps self.now) };
 }
 
-/// What reads an item of a list, beside the items before it.
+/// Reads an item of a list, with access to the items before it.
 pub trait ItemReader {
-    /// What is read.
+    /// The type of what is read.
     type Item: Drop;
 
-    // What an item at a path is, behind these items, or its first fault.
+    // What is read from an item at a path, after these items, or the item's first fault.
     ghost reads: { Self → List Self.Item → List ℕ → Data → Read Self.Item };
 
-    /// What the item is, or its first fault.
+    /// Returns what the item is, or its first fault.
     fn read_item(&self, earlier: &[Self::Item], node: Node<'_>) -> Result<Self::Item, PlanFault>
         ensures { Gives (λ x. x) result (at node.entry (Self.reads self.now earlier.now)) };
 }

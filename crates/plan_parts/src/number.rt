@@ -1,12 +1,12 @@
-// Numbers of a plan.
+// Whole numbers of a plan.
 ghost use Rattle.std.specs.Prelude.{◌≡◌, ◌≤◌};
 ghost use Rattle.plan_parts.specs.Reading.{number};
 
 use crate::PlanFault;
 use crate::node::{Node, Reader};
 
-/// Reads a whole number from the first to the second. Another value is refused by its kind, another number
-/// as out of its range.
+/// Reads a whole number from the first to the second, inclusive. Another value is a fault of kind, another
+/// number a fault of range.
 #[derive(Drop)]
 pub struct Number(pub u64, pub u64);
 

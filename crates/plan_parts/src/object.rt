@@ -1,4 +1,4 @@
-// An object that has no unknown keys, and what its keys have.
+// An object without unknown keys, and the values of its keys.
 ghost use Rattle.std.specs.Prelude.{◌≡◌, IfOk, IfSome, not, map, option_map, string_bytes};
 ghost use Rattle.std.specs.List.{find, list_any};
 ghost use Rattle.std.specs.Str.{bytes_eq};
@@ -18,10 +18,10 @@ use pr_base::{NoMemory, PathText};
 use serde_json::{Map, Value};
 use std::alloc::Global;
 
-/// An object at a path, whose keys were tested.
+/// An object at a path, after its keys were tested.
 #[derive(Drop)]
 pub struct Object<'a> {
-    /// Where the texts of faults are made.
+    /// The allocator for the paths of faults.
     pub alloc: Global,
     /// The path to the object.
     pub path: PathText,
@@ -29,8 +29,8 @@ pub struct Object<'a> {
 }
 
 impl<'a> Node<'a> {
-    /// The object that the value is, which has no other keys than these. Another value is refused by its
-    /// kind, and the first other key in byte order as unknown.
+    /// Returns the object that the value is, when it has no keys but these. A value that is not an object is
+    /// a fault of kind; otherwise the first other key in byte order is a fault, `Unknown`.
     #[tactic(auto, unfolding(crate::specs::Reading::object_with))]
     pub fn object(self, keys: &[&str]) -> Result<Object<'a>, PlanFault>
         ensures value { Gives (λ o. view o.value.now) result
@@ -52,8 +52,8 @@ impl<'a> Node<'a> {
         })
     }
 
-    /// The object whose keys are inks: C, M, Y, K and, where there is a spot ink, S. It is refused as in
-    /// `object`.
+    /// Returns the object that the value is, when its keys are inks: C, M, Y, K and, where there is a spot
+    /// ink, S. The faults are those of `object`.
     pub fn ink_object(self, spot: bool) -> Result<Object<'a>, PlanFault>
         ensures value { Gives (λ o. view o.value.now) result
             (at self.entry (spec.object_with (ink_keys spot))) }
@@ -68,14 +68,14 @@ impl<'a> Node<'a> {
 }
 
 impl Object<'_> {
-    /// The path of a key.
+    /// Returns the path of a key.
     pub fn path_to(&self, key: &str) -> Result<PathText, NoMemory>
         ensures { IfOk result (λ path. path ≡ spec.at_key self.now.path key.now) }
     {
         Place::Key(self.path.as_str(), key).path(self.alloc)
     }
 
-    // What a key has, if it is there.
+    // Returns the value of a key, if the object has the key.
     fn get<'k>(&'k self, key: &'k str) -> Option<Node<'k>>
         ensures value { option_map (λ node. view node.value.now) result
             ≡ get key.now (view self.now.value.now) }
@@ -91,7 +91,7 @@ impl Object<'_> {
         }
     }
 
-    /// What is read from a required key. A key that is absent is refused as missing.
+    /// Reads the value of a required key. An absent key is a fault, `Missing`.
     #[tactic(auto, unfolding(crate::specs::Reading::required))]
     pub fn required<R: Reader>(&self, key: &str, read: &R) -> Result<R::Out, PlanFault>
         ensures value { Gives R.shows.seen result
@@ -104,7 +104,7 @@ impl Object<'_> {
         }
     }
 
-    /// What is read from a key, or `absent` where the key is absent.
+    /// Reads the value of a key, or returns `absent` where the key is absent.
     #[tactic(auto, unfolding(crate::specs::Reading::optional))]
     pub fn optional<R: Reader>(
         &self,
@@ -124,7 +124,7 @@ impl Object<'_> {
     }
 }
 
-// The first key in byte order that is none of these.
+// Returns the first key in byte order that is none of these.
 fn first_unknown<'v>(keys: &[&str], members: &'v Map<String, Value>) -> Option<&'v str>
     ensures { option_map (λ key. key.now) result
         ≡ spec.first_unknown (map (λ key. key.now) keys.now) (members_view members.now.entries) }

@@ -1,11 +1,12 @@
-// Where a value stands in the plan, told as a path only where a fault is found or a list or an object begins.
+// The place of a value in the plan. Its path is built only for a fault and at the start of a list or an
+// object.
 ghost use Rattle.std.specs.Prelude.{◌≡◌, IfOk};
 ghost use Rattle.plan_parts.specs.Place.{path_of};
 
 use pr_base::{NoMemory, PathText};
 use std::alloc::Global;
 
-/// The place of a value: the top, or one step below a path, by a key or by an index from 0.
+/// The place of a value: the top of the plan, or one step below a path, by a key or by an index from 0.
 #[derive(Clone, Copy)]
 pub enum Place<'a> {
     Top,
@@ -14,7 +15,7 @@ pub enum Place<'a> {
 }
 
 impl Place<'_> {
-    /// The path to the place. It is refused only for want of memory.
+    /// Returns the path of the place. Fails only when out of memory.
     pub fn path(self, alloc: Global) -> Result<PathText, NoMemory>
         ensures { IfOk result (λ path. path ≡ path_of self.entry) }
     {

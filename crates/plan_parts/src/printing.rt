@@ -1,16 +1,16 @@
-// How inks are printed: threshold tiles, screens, tone curves and the marks on the plate.
+// How inks are printed: threshold tiles, screens, tone curves, and the marks on the plate.
 
 use crate::Named;
 use pr_base::PathText;
 use std::marker::Model;
 
-/// A threshold tile of the plan's own: `width * height` numbers, row after row.
+/// A custom threshold tile of the plan: `width * height` thresholds, row by row.
 #[derive(Debug, Drop)]
 pub struct PlanTile {
     pub name: PathText,
-    /// 1 to 64 pixels.
+    /// The width in pixels, 1 to 64.
     pub width: u32,
-    /// 1 to 64 pixels.
+    /// The height in pixels, 1 to 64.
     pub height: u32,
     pub at: Vec<u8>,
 }
@@ -31,18 +31,18 @@ impl Named for PlanTile {
     }
 }
 
-/// How an ink is screened.
+/// The screen of an ink.
 #[derive(Clone, Copy, Debug, PartialEq, Eq)]
 pub enum Screen {
-    /// By the Bayer tile of this side: 2, 4, 8 or 16.
+    /// Ordered dither with the Bayer tile of this side: 2, 4, 8 or 16.
     Bayer(u8),
-    /// By error diffusion.
+    /// Error diffusion.
     Diffuse,
-    /// By the plan's tile of this index.
+    /// The plan's tile with this index.
     Own(usize),
 }
 
-/// A tone curve by its points: an ink value, and the value that it becomes.
+/// A tone curve, given by its points: an input ink value, and the value that it becomes.
 #[derive(Debug, Drop)]
 pub struct PlanCurve {
     pub points: Vec<(u8, u8)>,
@@ -59,7 +59,7 @@ impl Model for PlanCurve {
 /// A filled rectangle that is printed on each plate of its inks, in pixels of the plate.
 #[derive(Clone, Copy, Debug, PartialEq, Eq)]
 pub struct Mark {
-    /// Whether it has each of the inks C, M, Y, K, S.
+    /// Whether the mark has each of the inks C, M, Y, K, S.
     pub inks: [bool; 5],
     pub x: u32,
     pub y: u32,

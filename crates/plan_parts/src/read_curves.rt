@@ -27,7 +27,7 @@ impl ItemReader for PointReader {
     }
 }
 
-// Whether each point stands to the right of the one before.
+// Returns whether the input value of each point is above that of the point before.
 fn is_rising(points: &[(u8, u8)]) -> bool
     ensures { result ≡ spec.is_rising points.now }
 {
@@ -37,7 +37,7 @@ fn is_rising(points: &[(u8, u8)]) -> bool
     }
 }
 
-// Whether the points begin at 0, end at 255 and rise.
+// Returns whether the input values rise from 0 to 255.
 #[tactic(auto, unfolding(crate::specs::Printing::spans))]
 fn spans(points: &[(u8, u8)]) -> bool
     ensures { result ≡ spec.spans points.now }
@@ -67,7 +67,7 @@ impl Reader for CurveReader {
     }
 }
 
-// The curve that changes nothing.
+// Makes the curve that changes no value.
 fn identity(alloc: Global) -> Result<PlanCurve, NoMemory>
     ensures { IfOk result (λ c. c ≡ spec.identity) }
 {
@@ -75,7 +75,7 @@ fn identity(alloc: Global) -> Result<PlanCurve, NoMemory>
     Ok(PlanCurve { points })
 }
 
-// Five curves that change nothing.
+// Makes five curves that change no value.
 fn identities(alloc: Global) -> Result<[PlanCurve; 5], NoMemory>
     ensures { IfOk result (λ c. c ≡ spec.identities) }
 {
@@ -110,9 +110,9 @@ impl Reader for CurvesReader {
     }
 }
 
-/// The curves of a plan, one for each ink: what the key `curves` of its top object has, or five curves
-/// that change nothing where the key is absent. A curve of S stands only where there is a spot ink. The
-/// first fault is refused.
+/// Returns the tone curves of a plan, one for each ink: the value of the key `curves` of the top object, or
+/// curves that change no value where the key is absent. S may have a curve only where there is a spot ink.
+/// Returns the first fault otherwise.
 pub fn curves_in(o: &Object<'_>, spot: bool) -> Result<[PlanCurve; 5], PlanFault>
     ensures { Gives (λ c. c) result
         (inside o.now (optional (codes "curves") spec.identities (spec.curves spot))) }

@@ -65,7 +65,7 @@ fn may_have(spot: bool, inks: &[bool; 5]) -> bool
     (inks[0] || inks[1] || inks[2] || inks[3] || inks[4]) && (spot || !inks[4])
 }
 
-// Which of the letters CMYKS the text has, where it has them in this order and nothing else.
+// Returns which of the letters CMYKS the text has, when it has them in this order and nothing else.
 fn flags_in(s: &[u8]) -> Option<[bool; 5]>
     ensures { result ≡ spec.flags_in (codes "CMYKS") s.now }
 {
@@ -81,7 +81,7 @@ fn flags_in(s: &[u8]) -> Option<[bool; 5]>
     }
 }
 
-// Whether the text begins with the letter, and what stands behind it.
+// Returns whether the text starts with the letter, and the rest of the text after it.
 fn taken(letter: u8, s: &[u8]) -> (bool, &[u8])
     ensures { let t = spec.taken letter s.now in (result.0 ≡ t.0) × (result.1.now ≡ t.1) }
 {
@@ -91,9 +91,9 @@ fn taken(letter: u8, s: &[u8]) -> (bool, &[u8])
     }
 }
 
-/// The marks of a plan whose plates have this width and height, in pixels: what the key `marks` of its
-/// top object has, or none where the key is absent. The first fault is refused, as that a mark lies
-/// outside the plate.
+/// Returns the marks of a plan whose plates have this width and height, in pixels: the value of the key
+/// `marks` of the top object, or none where the key is absent. Returns the first fault otherwise; a mark that
+/// is not inside the plate is one.
 #[tactic(auto, unfolding(crate::specs::Printing::marks))]
 pub fn marks_in(o: &Object<'_>, spot: bool, width: u32, height: u32) -> Result<Vec<Mark>, PlanFault>
     ensures { Gives (λ v. v.items) result

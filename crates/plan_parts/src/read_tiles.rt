@@ -11,7 +11,7 @@ use crate::{
     index_of,
 };
 
-// Reads a number of a tile.
+// Reads a threshold of a tile.
 #[derive(Drop)]
 struct ByteReader;
 
@@ -26,7 +26,7 @@ impl ItemReader for ByteReader {
     }
 }
 
-// Reads a tile, whose name none of the earlier ones has.
+// Reads a tile. No earlier tile may have its name.
 #[derive(Drop)]
 struct TileReader;
 
@@ -52,8 +52,8 @@ impl ItemReader for TileReader {
     }
 }
 
-/// The tiles of a plan: what the key `tiles` of its top object has, or none where the key is absent. The
-/// first fault is refused.
+/// Returns the tiles of a plan: the value of the key `tiles` of the top object, or none where the key is
+/// absent. Returns the first fault otherwise.
 #[tactic(auto, unfolding(crate::specs::Printing::tiles))]
 pub fn tiles_in(o: &Object<'_>) -> Result<Vec<PlanTile>, PlanFault>
     ensures { Gives (λ v. v.items) result (inside o.now (optional (codes "tiles") [] spec.tiles)) }
@@ -92,7 +92,7 @@ fn screen_named(tiles: &[PlanTile], node: Node<'_>, s: &str) -> Result<Screen, P
     }
 }
 
-// What stands behind `tile:`.
+// Returns the text after `tile:`, if the text starts so.
 fn own_name(s: &str) -> Option<&str>
     ensures { option_map (λ name. name.now) result
         ≡ (if starts_with nat_eq s.now (codes "tile:") then Some (drop 5 s.now) else None) }
@@ -143,9 +143,9 @@ impl Reader for ScreensReader<'_> {
     }
 }
 
-/// The screens of a plan with these tiles, one for each ink: what the key `screens` of its top object
-/// has, or the Bayer tile of side 8 where there is none. A screen of S stands only where there is a spot
-/// ink. The first fault is refused.
+/// Returns the screens of a plan with these tiles, one for each ink: the value of the key `screens` of the
+/// top object, with the Bayer tile of side 8 where an ink or the key is absent. S may have a screen only
+/// where there is a spot ink. Returns the first fault otherwise.
 pub fn screens_in(o: &Object<'_>, spot: bool, tiles: &[PlanTile]) -> Result<[Screen; 5], PlanFault>
     ensures { Gives (λ s. s) result
         (inside o.now (optional (codes "screens") spec.bayer_screens (spec.screens spot tiles.now))) }

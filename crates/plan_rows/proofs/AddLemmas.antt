@@ -1,4 +1,4 @@
--- Groups that are appended to a row plan, with the numbers of their first rows.
+-- Appending groups to a row plan, with the numbers of their first rows.
 use Rattle.std.proofs.Common.{◌≡◌, ℕ, zero, suc, ◌+◌, ◌-◌, ◌*◌, ◌^◌, ◌<◌, ◌≤◌, true, false, cond, List, [], ◌∷◌, ◌++◌, length, map, refl, ap, sym, ◌∙◌, subst, append_assoc, append-nil, add-one, arith}
 use Rattle.std.specs.Prelude.{sum_by, filter}
 use Rattle.std.specs.List.{flat_map, range_with_len}
@@ -40,9 +40,9 @@ numbered-numbered height first other [] = refl
 numbered-numbered height first other (group ∷ groups) =
     ap (λ zs. record group { first = first } ∷ zs) (numbered-numbered height (first + row_count height group) (other + row_count height group) groups)
 
--- ---- what is added
+-- ---- the appended groups
 
--- the groups of a row plan to which some were added
+-- the groups of a row plan after some were appended
 pub added-groups : (whole : ℕ) (rows : RowPlanData) (groups : List Group) → IsRowPlan whole rows → (added rows groups).groups ≡ rows.groups ++ numbered rows.height (row_total rows) groups
 added-groups whole rows groups is =
     numbered-append rows.height 0 rows.groups groups
@@ -67,13 +67,13 @@ added-added rows xs ys =
 pub length-added : (rows : RowPlanData) (groups : List Group) → length (added rows groups).groups ≡ length rows.groups + length groups
 length-added rows groups = length-numbered rows.height 0 (rows.groups ++ groups) ∙ length-append rows.groups groups
 
--- one group more, numbered by the total so far
+-- one more group, numbered by the total so far
 pub add_one : (whole : ℕ) (rows : RowPlanData) (group : Group) → IsRowPlan whole rows → added rows (group ∷ []) ≡ record { groups = rows.groups ++ record group { first = whole } ∷ []; height = rows.height }
 add_one whole rows group is =
     ap (λ gs. let r : RowPlanData = record { groups = gs; height = rows.height } in r)
     (added-groups whole rows (group ∷ []) is ∙ ap (λ n. rows.groups ++ record group { first = n } ∷ []) (sym is.total))
 
--- and the row plan keeps its order
+-- the row plan keeps its invariant
 pub added_is : (whole : ℕ) (rows : RowPlanData) (group : Group) → IsRowPlan whole rows → length rows.groups < 8192 → IsRowPlan (whole + row_count rows.height group) (added rows (group ∷ []))
 added_is whole rows group is room = record {
   in_order = sym (numbered-numbered rows.height 0 0 (rows.groups ++ group ∷ []));
@@ -87,7 +87,7 @@ added_is whole rows group is room = record {
   count = (let many : length (added rows (group ∷ [])).groups ≡ length rows.groups + 1 = length-added rows (group ∷ []) in omega arith);
 }
 
--- ---- the fields behind a group that is appended
+-- ---- the fields after a group is appended
 
 pub add_fits : (whole : ℕ) (fields : RowPlanData) (group : Group) (inks : List Ink) → IsRowPlan whole fields → inks ≡ inks_of group → whole + fields.height * length inks < 2 ^ 64
 add_fits whole fields group inks is are =
@@ -112,7 +112,7 @@ add_shows whole fields rows group items is shows pushed =
     ap (λ gs. let r : RowPlanData = record { groups = gs; height = fields.height } in r) pushed
     ∙ sym (add_one whole fields group is) ∙ ap {A = RowPlanData} (λ r. added r (group ∷ [])) shows
 
--- ---- groups one by one
+-- ---- one group at a time
 
 range-suc : (from n last : ℕ) → from + n ≡ last → range_with_len from (suc n) ≡ range_with_len from n ++ last ∷ []
 range-suc from zero last is = ap (λ k. k ∷ []) (omega arith)
@@ -127,7 +127,7 @@ among_more plan section pair site pages =
     ∙ ap (λ xs. map (group_of plan section pair pages) xs) (filter-append (is_first pages) (range_with_len 0 site) (site ∷ []))
     ∙ map-append (group_of plan section pair pages) (filter (is_first pages) (range_with_len 0 site)) (filter (is_first pages) (site ∷ []))
 
--- a site that is the first of its part, and one that is not
+-- a site that is the first of its group, and one that is not
 pub among_first : (plan : PlanData) (section pair site : ℕ) (pages : List (ℕ × ℕ)) → is_first pages site ≡ true → groups_among plan section pair pages (site + 1) ≡ groups_among plan section pair pages site ++ group_of plan section pair pages site ∷ []
 among_first plan section pair site pages first =
     among_more plan section pair site pages
@@ -139,7 +139,7 @@ among_other plan section pair site pages other =
     ∙ ap (λ b. groups_among plan section pair pages site ++ map (group_of plan section pair pages) (cond b (site ∷ []) [])) other
     ∙ append-nil (groups_among plan section pair pages site)
 
--- one piece more
+-- one more piece
 pub pieces_more : {X : Type 0} (f : ℕ → List X) (from n last : ℕ) → from + n ≡ last → flat_map f (range_with_len from (n + 1)) ≡ flat_map f (range_with_len from n) ++ f last
 pieces_more f from n last is =
     ap (λ xs. flat_map f xs) (range-more from n last is)
@@ -152,12 +152,12 @@ pieces_more f from n last is =
 pub starts_at : (whole : ℕ) (fields rows : RowPlanData) → IsRowPlan whole fields → fields ≡ rows → rows ≡ added rows []
 starts_at whole fields rows is shows = sym (added-nil whole rows (subst {A = RowPlanData} (λ r. IsRowPlan whole r) shows is))
 
--- after some groups some more
+-- some groups, then some more
 pub goes_on : (start now next : RowPlanData) (xs ys zs : List Group) → now ≡ added start xs → next ≡ added now ys → zs ≡ xs ++ ys → next ≡ added start zs
 goes_on start now next xs ys zs so_far more all =
     more ∙ ap {A = RowPlanData} (λ r. added r ys) so_far ∙ added-added start xs ys ∙ ap (λ gs. added start gs) (sym all)
 
--- one pair more, from pair 1 on
+-- one more pair, from pair 1 on
 pub pairs_more : {X : Type 0} (f : ℕ → List X) (pair : ℕ) → 1 ≤ pair → flat_map f (range_with_len 1 (pair + 1 - 1)) ≡ flat_map f (range_with_len 1 (pair - 1)) ++ f pair
 pairs_more f pair first =
     let next : pair + 1 - 1 ≡ pair - 1 + 1 = omega arith in

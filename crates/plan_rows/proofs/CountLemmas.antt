@@ -1,4 +1,4 @@
--- The pages of a section of a plan.
+-- The number of pages of a section.
 use Rattle.std.proofs.Common.{◌≡◌, ◌<◌, ◌%◌, ℕ, [], length, Option}
 use Rattle.std.proofs.lemmas.Option.{slice_get-get_or}
 use Rattle.std.proofs.lemmas.List.Elements.{All-get_or}
@@ -9,7 +9,7 @@ use Rattle.pr_base.specs.Number.{IsWithin}
 use Rattle.plan_json.specs.Plan.{IsPlan, IsSection}
 use Rattle.plan_pages.specs.Pages.{page_count}
 
--- an even number of them, from 2 to 128
+-- an even number from 2 to 128
 pub record HasCount (count : ℕ) : Type 0 where
   pub within : IsWithin 2 128 count
   pub even : count % 2 ≡ 0

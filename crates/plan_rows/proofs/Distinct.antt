@@ -1,4 +1,4 @@
--- The plates of a site have distinct paths, since no two of its groups are of one pair.
+-- The plates of a site have distinct paths, since no two of its groups have the same section and pair.
 use Rattle.std.proofs.Common.{◌≡◌, ◌≢◌, ℕ, zero, suc, ◌+◌, ◌*◌, ◌/◌, ◌<◌, ◌≤◌, Bool, true, false, cond, List, [], ◌∷◌, ◌++◌, length, map, get_or, refl, ap, sym, ◌∙◌, subst, add-zero, arith}
 use Rattle.std.specs.Prelude.{AllPairs, filter}
 use Rattle.std.specs.List.{flat_map, range_with_len}
@@ -20,7 +20,7 @@ use Rattle.plan_rows.proofs.GroupLemmas.{InPlan, groups_in_plan, plates_each, si
 use Rattle.plan_rows.proofs.Names.{path_under, paths_tell, sections_apart}
 use Rattle.plan_rows.proofs.SitesOf.{has_site_is, first_apart, filter-map, one_of}
 
--- ---- keys that ascend from one number up to another
+-- ---- keys that strictly ascend within bounds
 
 abbrev Runs : ℕ → ℕ → List ℕ → Type 0
 Runs low high [] = low ≤ high
@@ -58,7 +58,7 @@ runs-lt low high (x ∷ xs) (suc i) (suc j) d before within up = runs-lt (suc x)
 
 -- ---- the groups of a site
 
--- what orders the pairs of all sections
+-- a key that orders the pairs of all sections
 abbrev pub pair_key : Group → ℕ
 pair_key group = group.section * 1000 + group.pair
 
@@ -109,7 +109,7 @@ section_runs plan section site is section_within within =
     (runs-lower (section * 1000) (section * 1000 + 1) ((section + 1) * 1000) whole (omega arith)
     (runs-higher (section * 1000 + 1) (section * 1000 + (1 + page_count plan section / 2)) ((section + 1) * 1000) whole (omega arith) run))
 
--- the numbers of first rows have no part in this
+-- the keys do not depend on the numbers of first rows
 keys-numbered : (height first : ℕ) (test : Group → Bool) (groups : List Group) → ((group : Group) (n : ℕ) → test (record group { first = n }) ≡ test group)
     → map pair_key (filter test (numbered height first groups)) ≡ map pair_key (filter test groups)
 keys-numbered height first test [] same = refl
@@ -139,7 +139,7 @@ groups_run plan site is within =
 
 -- ---- the plates of a site
 
--- what orders the plates of all pairs
+-- a key that orders the plates of all pairs
 abbrev pub plate_key : PlateOf → ℕ
 plate_key plate = pair_key plate.0 * 8 + slot_of plate.1
 
@@ -160,7 +160,7 @@ plates_run low high (group ∷ groups) up =
     (runs-lower (low * 8) (k * 8) (high * 8) _ (omega arith)
     (runs-append (k * 8) (suc k * 8) (high * 8) (map (λ ink. k * 8 + slot_of ink) (inks_of group)) others (inks_run group.colour group.spot k) (plates_run (suc k) high groups up.1)))
 
--- no two plates of a site have one path
+-- no two plates of a site have the same path
 pub paths_distinct : (plan : PlanData) (out : List ℕ) (site : ℕ) → IsPlan plan → site < length plan.sites → AllPairs (λ a b. a ≢ b) (map (λ (plate : PlateOf). path_of plan out site plate.0 plate.1) (site_plates plan site))
 unfolding site_plates
 paths_distinct plan out site is within i j d before behind same =

@@ -1,4 +1,4 @@
--- What holds of each group of a plan: its section and pair, its pages, and what they make of its inks.
+-- Facts about each group of a plan: its section and pair, its pages, and the inks that follow from them.
 use Rattle.std.proofs.Common.{◌≡◌, ℕ, zero, suc, ◌+◌, ◌-◌, ◌*◌, ◌/◌, ◌%◌, ◌<◌, ◌≤◌, Bool, true, false, cond, nat_eq, List, [], ◌∷◌, ◌++◌, length, get_or, refl, ap, sym, subst, ◌∙◌, arith}
 use Rattle.std.specs.Prelude.{All, filter, ◌||◌}
 use Rattle.std.specs.List.{flat_map, range_with_len}
@@ -17,7 +17,7 @@ use Rattle.plan_rows.proofs.SitesOf.{has_site_is, pair_decides}
 
 -- ---- lists
 
--- what holds of each piece holds of all
+-- what holds for each piece holds for all pieces together
 pub all_pieces : {X : Type 0} (P : X → Type 0) (f : ℕ → List X) (from n : ℕ)
     → ((k : ℕ) → from ≤ k → k < from + n → All P (f k)) → All P (flat_map f (range_with_len from n))
 all_pieces P f from zero each = All-nil P
@@ -31,7 +31,7 @@ below_all n k d less =
     let at : get_or (range_with_len 0 n) k d ≡ 0 + k = get_or-range_with_len 0 n k d (omega arith) in
     omega arith
 
--- ---- what holds of each group
+-- ---- facts about each group
 
 all_numbered : (P : Group → Type 0) (height first : ℕ) (groups : List Group)
     → ((group : Group) (n : ℕ) → P group → P (record group { first = n }))
@@ -43,7 +43,7 @@ all_numbered P height first (group ∷ groups) stays each =
     (stays group first (All-head P group groups each))
     (all_numbered P height next groups stays (All-tail P group groups each))
 
--- what holds of the sites that print one pair of pages, whatever their first row is
+-- a fact about the sites that print one pair of pages, for any number of the group's first row
 pub record IsOfEach (plan : PlanData) (P : Group → Type 0) : Type 0 where
   pub stays : (group : Group) (n : ℕ) → P group → P (record group { first = n })
   pub each : (section pair site : ℕ) → section < length plan.sections
@@ -71,7 +71,7 @@ all_of_section plan P section is in_plan =
     all_pieces P (pair_groups plan section) 1 (page_count plan section / 2)
     (λ pair low high. all_of_pair plan P section pair is in_plan low (omega arith))
 
--- that holds of each group of the plan
+-- it holds for each group of the plan
 pub all_groups : (plan : PlanData) (P : Group → Type 0) → IsOfEach plan P → All P (groups_of plan)
 unfolding groups_of
 all_groups plan P is =
@@ -80,7 +80,7 @@ all_groups plan P is =
     (all_pieces P (section_groups plan) 0 (length plan.sections)
     (λ section _ high. all_of_section plan P section is (omega arith)))
 
--- what holds of each plate of each group holds of their plates
+-- what holds for each plate of each group holds for all plates of the groups
 pub plates_each : (P : PlateOf → Type 0) (groups : List Group)
     → All (λ group. All (λ ink. P (group, ink)) (inks_of group)) groups → All P (flat_map group_plates groups)
 plates_each P [] each = All-nil P
@@ -90,15 +90,15 @@ plates_each P (group ∷ groups) each =
     (All-map P (λ ink. (group, ink)) (inks_of group) (All-head Of group groups each))
     (plates_each P groups (All-tail Of group groups each))
 
--- groups that are alike in colour and spot have the same inks
+-- groups with the same colour and spot flags have the same inks
 pub inks_by : (a b : Group) → a.colour ≡ b.colour → a.spot ≡ b.spot → inks_of a ≡ inks_of b
 inks_by a b colour spot =
     ap (λ c. process_inks c ++ spot_inks a.spot) colour ∙ ap (λ s. process_inks b.colour ++ spot_inks s) spot
 
--- ---- groups lie in the plan
+-- ---- groups are within the plan
 
--- a group's section is the plan's and its pair is one of the section; its two pages are pages of the plan,
--- those that each of its sites prints as its pair, and they tell its inks
+-- a group's section is in the plan and its pair is in the section; its two pages are pages of the plan, those
+-- that each of its sites prints as this pair, and they determine its inks
 pub record InPlan (plan : PlanData) (group : Group) : Type 0 where
   pub section : group.section < length plan.sections
   pub pair : group.pair ≤ 64
@@ -111,7 +111,7 @@ pub record InPlan (plan : PlanData) (group : Group) : Type 0 where
   pub colour : group.colour ≡ (page_colour plan group.left || page_colour plan group.right)
   pub spot : group.spot ≡ (page_spot plan group.left || page_spot plan group.right)
 
--- the pages of each site
+-- each site has its two pages
 pub site_pages-size : (plan : PlanData) (section pair : ℕ)
     → length (site_pages plan section pair) ≡ length plan.sites
 unfolding site_pages
@@ -125,7 +125,7 @@ site_pages-at plan section pair site within =
     get_or-map-range_with_len (pages_at plan section pair) 0 (length plan.sites) site site (0, 0) within
     (omega arith)
 
--- the two places of a pair lie in its section
+-- the two places of a pair are in the section
 record AreWithin (n : ℕ) (places : ℕ × ℕ) : Type 0 where
   first : (1 ≤ places.0) × (places.0 ≤ n)
   second : (1 ≤ places.1) × (places.1 ≤ n)
@@ -167,7 +167,7 @@ site_in_plan plan section pair site is in_plan first last within =
       spot = refl;
     }
 
--- each group is of a pair of a section of the plan
+-- each group is for a pair of a section of the plan
 pub groups_in_plan : (plan : PlanData) → IsPlan plan → All (InPlan plan) (groups_of plan)
 groups_in_plan plan is = all_groups plan (InPlan plan) (record {
   stays = λ group n has. record {

@@ -1,4 +1,4 @@
--- The rows of one plate, from the top: their numbers, and how many of them stand below a number.
+-- The rows of one plate, from the top: their numbers, and how many of them are below a number.
 use Rattle.std.proofs.Common.{◌≡◌, ◌≢◌, ◌↔◌, ℕ, zero, suc, ◌+◌, ◌-◌, ◌*◌, ◌<◌, ◌≤◌, Bool, true, false, List, ◌∷◌, cond, add-zero, Some, refl, ap, sym, ◌∙◌, inl, inr, arith}
 use Rattle.std.specs.Prelude.{Contains, count_by, nat_lt, slice_get}
 use Rattle.std.specs.List.{range_with_len}
@@ -16,11 +16,11 @@ use Rattle.plan_rows.specs.Plates.{last_row, rows_held}
 use Rattle.plan_rows.proofs.RowLemmas.{ink_count-within}
 use Rattle.plan_rows.proofs.Places.{IsRowAt, row_unique}
 
--- the next row of a plate stands as many rows on as the group has inks
+-- the number of a plate's next row is larger by the number of the group's inks
 pub next_row : (group : Group) (y : ℕ) (ink : Ink) → row_number group (y + 1) ink ≡ row_number group y ink + ink_count group
 next_row group y ink = omega arith
 
--- rows of a plate are numbered from the top
+-- the numbers of a plate's rows ascend from the top
 pub row_number-lt : (group : Group) (y z : ℕ) (ink : Ink) → y < z → row_number group y ink < row_number group z ink
 row_number-lt group y z ink above =
     let least = (ink_count-within group).least in
@@ -33,7 +33,7 @@ row_number-le group y z ink above =
     let more : y * ink_count group ≤ z * ink_count group = mul-le-mul_right (ink_count group) above in
     omega arith
 
--- row n begins its plate exactly where y is 0
+-- row n is the first of its plate exactly if y is 0
 pub begins_plate : (plan : PlanData) (n index : ℕ) (group : Group) (y : ℕ) (ink : Ink) → IsRowAt plan n index group y ink → (n ≡ row_number group 0 ink) ↔ (y ≡ 0)
 begins_plate plan n index group y ink at = (
   λ first. elim (cases_lt 0 y) [
@@ -43,7 +43,7 @@ begins_plate plan n index group y ink at = (
   λ top. at.number ∙ ap (λ z. row_number group z ink) top,
 )
 
--- and ends it exactly where y is the last
+-- and the last of its plate exactly if y is the last row
 pub ends_plate : (plan : PlanData) (n index : ℕ) (group : Group) (y : ℕ) (ink : Ink) → IsRowAt plan n index group y ink → (n ≡ last_row plan (group, ink)) ↔ (y + 1 ≡ plate_height plan)
 ends_plate plan n index group y ink at =
     let top = at.top in
@@ -81,14 +81,14 @@ count_same p q from (suc n) same =
     ∙ ap (λ m. cond (q from) 1 0 + m) (count_same p q (from + 1) n (λ k low high. same k (omega arith) (omega arith)))
     ∙ sym (count_by-cons q from (range_with_len (from + 1) n))
 
--- below the number of its row y a plate has its rows 0 to y - 1
+-- below the number of its row y, a plate has the y rows 0 to y - 1
 pub held_before : (plan : PlanData) (group : Group) (y : ℕ) (ink : Ink) → y ≤ plate_height plan → rows_held plan (row_number group y ink) (group, ink) ≡ y
 held_before plan group y ink within =
     count_first (λ z. nat_lt (row_number group z ink) (row_number group y ink)) 0 (plate_height plan) y within
     (λ k below. lt-ltb _ _ (row_number-lt group (0 + k) y ink (omega arith)))
     (λ k from _. le-ltb _ _ (row_number-le group y (0 + k) ink (omega arith)))
 
--- and with it one more
+-- with that row, it has one more
 pub held_with : (plan : PlanData) (group : Group) (y : ℕ) (ink : Ink) → y < plate_height plan → rows_held plan (row_number group y ink + 1) (group, ink) ≡ y + 1
 held_with plan group y ink within =
     count_first (λ z. nat_lt (row_number group z ink) (row_number group y ink + 1)) 0 (plate_height plan) (y + 1) (omega arith)
@@ -101,7 +101,7 @@ below_next a b other = elim (cases_lt a b) [
   | inr above ↦ le-ltb a (b + 1) (let strict : a ≡ b → ⊥ = other in omega arith) ∙ sym (le-ltb a b above)
 ]
 
--- a row of another plate changes nothing
+-- a row of another plate changes no count
 pub held_other : (plan : PlanData) (n : ℕ) (group : Group) (ink : Ink) → ((z : ℕ) → z < plate_height plan → row_number group z ink ≢ n) → rows_held plan (n + 1) (group, ink) ≡ rows_held plan n (group, ink)
 held_other plan n group ink apart =
     count_same (λ z. nat_lt (row_number group z ink) (n + 1)) (λ z. nat_lt (row_number group z ink) n) 0 (plate_height plan)

@@ -1,4 +1,4 @@
--- Which inks the plates of a group print.
+-- The inks that the plates of a group print.
 use Rattle.std.proofs.Common.{◌≡◌, ℕ, suc, ◌+◌, ◌<◌, true, eqb, List, [], ◌∷◌, length, map, get_or, Some, refl, sym, ap, subst, ◌∙◌, arith}
 use Rattle.std.specs.Prelude.{All, Contains, slice_get}
 use Rattle.std.specs.List.{enumerate_from, flat_map}
@@ -35,7 +35,7 @@ has_ink-in group ink of_ink =
 
 -- ---- the ink of a row
 
--- a row's group is one of these groups, the first of which has this index, and prints the row's ink
+-- the row's group is one of these groups, which are numbered from this index, and prints the row's ink
 record IsPrinted (from : ℕ) (groups : List Group) (place : RowPlace) : Type 0 where
   at : ℕ
   within : at < length groups
@@ -71,7 +71,7 @@ all_print height from (group ∷ groups) =
     })
     others (all_print height (from + 1) groups))
 
--- the ink of a row is one that the plates of its group print
+-- the ink of a row is printed by the plates of its group
 pub place_prints : (plan : PlanData) (n : ℕ) (place : RowPlace) → slice_get (row_places plan) n ≡ Some place
     → (group : Group) → slice_get (groups_of plan) place.group ≡ Some group → has_ink group place.ink ≡ true
 unfolding places_in

@@ -16,7 +16,7 @@ use Rattle.plan_rows.specs.Rows.{is_of, keeps_row}
 use Rattle.plan_rows.specs.Plates.{group_plates, site_plates}
 use Rattle.plan_rows.proofs.Places.{IsRowAt, row_placed}
 
--- a site keeps a row exactly where it is of the row's group
+-- a site keeps a row exactly if it belongs to the row's group
 pub keeps_of : (plan : PlanData) (site n index : ℕ) (group : Group) (y : ℕ) (ink : Ink) → IsPlan plan → IsRowAt plan n index group y ink → keeps_row plan site n ≡ has_site group site
 keeps_of plan site n index group y ink is at =
     ap (λ o. option_map_or (λ place. is_of (groups_of plan) site place.group) o false) (row_placed plan n index group y ink is at)

@@ -1,4 +1,4 @@
--- Paths of plates tell the site, the edition, the section, the pair and the ink, also those of two plans.
+-- The path of a plate determines its site, edition, section, pair and ink by name, also across two plans.
 use Rattle.std.proofs.Common.{◌≡◌, ◌≢◌, ℕ, zero, suc, ◌+◌, ◌/◌, ◌%◌, ◌<◌, Bool, true, false, cond, nat_eq, List, [], ◌∷◌, ◌++◌, length, map, get_or, refl, ap, sym, ◌∙◌, inl, inr, append_assoc, arith}
 use Rattle.std.specs.Prelude.{All, AllPairs, IsTrue, codes, slice_get}
 use Rattle.std.specs.List.{list_all}
@@ -14,12 +14,12 @@ use Rattle.plan_json.specs.Plan.{IsPlan, IsSite, IsSection}
 use Rattle.plan_rows.specs.declared.group.Group.{Group}
 use Rattle.plan_rows.specs.Paths.{letter_of, three_digits, site_name, section_name, path_of, path_text, name_text}
 
--- ---- texts without a byte
+-- ---- texts without a given byte
 
 abbrev pub Lacks : ℕ → List ℕ → Type 0
 Lacks c text = All (λ b. b ≢ c) text
 
--- two texts that end at the first such byte
+-- two equal texts, split at the first such byte, have equal parts
 pub split_at : (c : ℕ) (a b x y : List ℕ) → Lacks c a → Lacks c b → a ++ (c ∷ x) ≡ b ++ (c ∷ y) → (a ≡ b) × (x ≡ y)
 split_at c [] [] x y left right same = (refl, cc)
 split_at c [] (d ∷ b) x y left right same = absurd (All-head (λ k. k ≢ c) d b right cc)
@@ -44,7 +44,7 @@ pub name_lacks : (c : ℕ) (text : List ℕ) → is_name_byte c ≡ false → Is
 name_lacks c text other is =
     All-weaker (λ b. is_name_byte b ≡ true) (λ b. b ≢ c) (λ b passes same. both_ways (is_name_byte c) other (sym (ap is_name_byte same) ∙ passes)) text (name_bytes text is)
 
--- ---- names by their indexes
+-- ---- names by index
 
 abbrev pub named : {X : Type 0} → (X → List ℕ) → List X → ℕ → List ℕ
 named f xs i = option_map_or f (slice_get xs i) []
@@ -68,14 +68,14 @@ named-holds P f [] i within each = absurd (omega arith)
 named-holds P f (x ∷ xs) zero within each = All-head (λ y. P (f y)) x xs each
 named-holds P f (x ∷ xs) (suc i) within each = named-holds P f xs i (omega arith) (All-tail (λ y. P (f y)) x xs each)
 
--- no two sites have one name, and no two sections
+-- no two sites have the same name, and no two sections
 pub sites_apart : (plan : PlanData) (i j : ℕ) → IsPlan plan → i < length plan.sites → j < length plan.sites → site_name plan i ≡ site_name plan j → i ≡ j
 sites_apart plan i j is left right same = named-distinct (λ (s : SiteData). s.name) plan.sites i j is.site_names left right same
 
 pub sections_apart : (plan : PlanData) (i j : ℕ) → IsPlan plan → i < length plan.sections → j < length plan.sections → section_name plan i ≡ section_name plan j → i ≡ j
 sections_apart plan i j is left right same = named-distinct (λ (s : SectionData). s.name) plan.sections i j is.section_names left right same
 
--- names lack what no name has
+-- names have no byte that is not allowed in names
 pub site_lacks : (plan : PlanData) (c site : ℕ) → is_name_byte c ≡ false → IsPlan plan → site < length plan.sites → Lacks c (site_name plan site)
 site_lacks plan c site other is within =
     named-holds (Lacks c) (λ (s : SiteData). s.name) plan.sites site within
@@ -91,7 +91,7 @@ section_lacks plan c section other is within =
 regroup : (o s i e d n a l t : List ℕ) → o ++ s ++ i ++ s ++ (e ++ d ++ (n ++ d ++ a ++ d ++ l) ++ t) ≡ o ++ (s ++ (i ++ (s ++ (e ++ (d ++ (n ++ (d ++ (a ++ (d ++ (l ++ t))))))))))
 regroup o s i e d n a l t = simp append_assoc
 
--- what stands behind the section's name
+-- the text after the section's name
 abbrev pub behind_section : ℕ → Ink → List ℕ
 behind_section pair ink = three_digits pair ++ (45 ∷ (letter_of ink ++ codes ".tif"))
 
@@ -101,11 +101,11 @@ unfolding path_of
 path_is plan out site group ink =
     regroup out (codes "/") (site_name plan site) plan.edition (codes "-") (section_name plan group.section) (three_digits group.pair) (letter_of ink) (codes ".tif")
 
--- the folder stands in front, whichever it is
+-- the path begins with the output folder, whatever it is
 pub path_under : (plan : PlanData) (out : List ℕ) (site : ℕ) (group : Group) (ink : Ink) → path_of plan out site group ink ≡ out ++ path_of plan [] site group ink
 path_under plan out site group ink = path_is plan out site group ink ∙ ap (λ l. out ++ l) (sym (path_is plan [] site group ink))
 
--- behind the folder
+-- the text after the output folder
 path_behind : (a b : PlanData) (out : List ℕ) (site site' : ℕ) (group group' : Group) (ink ink' : Ink)
     → path_of a out site group ink ≡ path_of b out site' group' ink'
     → site_name a site ++ (47 ∷ (a.edition ++ (45 ∷ (section_name a group.section ++ (45 ∷ behind_section group.pair ink)))))
@@ -114,7 +114,7 @@ path_behind a b out site site' group group' ink ink' same =
     let both = append_cancel_left out _ _ (sym (path_is a out site group ink) ∙ same ∙ path_is b out site' group' ink') in
     cc
 
--- plates of two sites have two paths
+-- plates of two sites have different paths
 pub paths_tell_sites : (plan : PlanData) (out : List ℕ) (site other : ℕ) (group group' : Group) (ink ink' : Ink) → IsPlan plan → site < length plan.sites → other < length plan.sites
     → path_of plan out site group ink ≡ path_of plan out other group' ink' → site ≡ other
 unfolding is_name_byte
@@ -143,7 +143,7 @@ ink_of-letter Y = refl
 ink_of-letter K = refl
 ink_of-letter S = refl
 
--- two plates of two plans have one edition, sites and sections of the same names, one pair and one ink
+-- two plates of two plans have the same edition, site name, section name, pair and ink
 pub record SameNames (a : PlanData) (site : ℕ) (group : Group) (ink : Ink) (b : PlanData) (site' : ℕ) (group' : Group) (ink' : Ink) : Type 0 where
   pub site_named : site_name a site ≡ site_name b site'
   pub edition : a.edition ≡ b.edition
@@ -151,14 +151,15 @@ pub record SameNames (a : PlanData) (site : ℕ) (group : Group) (ink : Ink) (b 
   pub pair_is : group.pair ≡ group'.pair
   pub ink_is : ink ≡ ink'
 
--- a plate whose path can be told: its site and its section are the plan's, and its pair has three digits
+-- a plate whose path determines its names: its site and its section are in the plan, and its pair is below
+-- 1000
 pub record CanTell (plan : PlanData) (site : ℕ) (group : Group) : Type 0 where
   pub plan_is : IsPlan plan
   pub of_site : site < length plan.sites
   pub of_section : group.section < length plan.sections
   pub digits : group.pair < 1000
 
--- one path has one edition, one name of a site and a section, one pair and one ink, since no name has `-` or `/`
+-- equal paths have the same edition, site name, section name, pair and ink, since names have no `-` or `/`
 pub paths_tell : (a b : PlanData) (site site' : ℕ) (group group' : Group) (ink ink' : Ink) → CanTell a site group → CanTell b site' group'
     → path_of a [] site group ink ≡ path_of b [] site' group' ink' → SameNames a site group ink b site' group' ink'
 unfolding is_name_byte
@@ -177,7 +178,7 @@ paths_tell a b site site' group group' ink ink' left right same =
       ink_is = sym (ink_of-letter ink) ∙ ap ink_of letters ∙ ink_of-letter ink';
     }
 
--- and plates that have these have one path
+-- plates for which these are the same have equal paths
 pub paths_same : (a b : PlanData) (site site' : ℕ) (group group' : Group) (ink ink' : Ink) → SameNames a site group ink b site' group' ink'
     → path_of a [] site group ink ≡ path_of b [] site' group' ink'
 unfolding path_of

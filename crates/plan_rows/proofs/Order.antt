@@ -1,4 +1,4 @@
--- The plates of a site stand in the order in which their last rows come.
+-- The plates of a site are ordered by their last rows.
 use Rattle.std.proofs.Common.{◌≡◌, ◌≢◌, ℕ, zero, suc, ◌+◌, ◌-◌, ◌*◌, ◌<◌, ◌≤◌, Bool, true, false, cond, List, [], ◌∷◌, ◌++◌, length, map, get_or, Some, refl, ap, sym, ◌∙◌, subst, add-zero, arith}
 use Rattle.std.specs.Prelude.{All, count_by, filter, nat_lt, slice_get}
 use Rattle.std.specs.List.{flat_map, range_with_len}
@@ -18,9 +18,9 @@ use Rattle.plan_rows.specs.Plates.{PlateOf, group_plates, site_plates, last_row,
 use Rattle.plan_rows.proofs.Places.{height_within}
 use Rattle.plan_rows.proofs.Held.{count_by-cons, below_next}
 
--- ---- numbers that ascend
+-- ---- ascending numbers
 
--- the first is no less than a number, and each later one is greater than the one before
+-- the first is at least low, and each later one is greater than the one before
 abbrev pub Ascends : ℕ → List ℕ → Type 0
 Ascends low [] = Unit {0}
 Ascends low (x ∷ xs) = (low ≤ x) × Ascends (suc x) xs
@@ -45,7 +45,7 @@ ascends_at low (x ∷ xs) (suc i) d within up =
     let first = up.0 in
     omega arith
 
--- below the one at index i there are i of them
+-- exactly i of them are less than the one at index i
 count_before : (low : ℕ) (xs : List ℕ) (i d : ℕ) → i < length xs → Ascends low xs → count_by (λ v. nat_lt v (get_or xs i d)) xs ≡ i
 count_before low [] i d within up = absurd (omega arith)
 count_before low (x ∷ xs) zero d within up =
@@ -59,7 +59,7 @@ count_before low (x ∷ xs) (suc i) d within up =
     count_by-cons (λ v. nat_lt v n) x xs
     ∙ ap (λ b. cond b 1 0 + count_by (λ v. nat_lt v n) xs) (lt-ltb x n (omega arith)) ∙ omega arith
 
--- and up to it one more
+-- i + 1 of them are at most that one
 count_upto : (low : ℕ) (xs : List ℕ) (i d : ℕ) → i < length xs → Ascends low xs → count_by (λ v. nat_lt v (get_or xs i d + 1)) xs ≡ i + 1
 count_upto low [] i d within up = absurd (omega arith)
 count_upto low (x ∷ xs) zero d within up =
@@ -75,7 +75,7 @@ count_upto low (x ∷ xs) (suc i) d within up =
 
 -- ---- the last rows of plates
 
--- those of one group, before others
+-- those of one group, followed by others
 inks_ascend : (colour spot : Bool) (from base : ℕ) (others : List ℕ) → from ≤ base → Ascends (base + length (process_inks colour ++ spot_inks spot)) others
     → Ascends from (map (λ ink. base + count_by (λ other. nat_lt (slot_of other) (slot_of ink)) (process_inks colour ++ spot_inks spot)) (process_inks colour ++ spot_inks spot) ++ others)
 inks_ascend true true from base others low up = (omega arith, (omega arith, (omega arith, (omega arith, (omega arith, ascends-lower _ (base + 5) others (omega arith) up)))))
@@ -104,20 +104,20 @@ lasts_ascend height from test (group ∷ groups) least =
     whole_rows zero k least = absurd (omega arith)
     whole_rows (suc h) k least = (let less : suc h - 1 ≡ h = omega arith in ap (λ m. m * k + k) less ∙ omega arith)
 
--- the last rows of a site's plates come in the order of the plates
+-- the last rows of a site's plates ascend in the order of the plates
 pub last_rows_ascend : (plan : PlanData) (site : ℕ) → IsPlan plan → Ascends 0 (map (last_row plan) (site_plates plan site))
 unfolding site_plates groups_of
 last_rows_ascend plan site is =
     lasts_ascend (plate_height plan) 0 (λ group. has_site group site) (flat_map (section_groups plan) (range_with_len 0 (length plan.sections))) (height_within plan is).least
 
--- ---- the plates that are done below a number
+-- ---- the plates that are complete below a number
 
 count_by-map : {X : Type 0} (f : X → ℕ) (p : ℕ → Bool) (xs : List X) → count_by (λ x. p (f x)) xs ≡ count_by p (map f xs)
 count_by-map f p [] = refl
 count_by-map f p (x ∷ xs) =
     count_by-cons (λ y. p (f y)) x xs ∙ ap (λ n. cond (p (f x)) 1 0 + n) (count_by-map f p xs) ∙ sym (count_by-cons p (f x) (map f xs))
 
--- below the last row of plate i of a site, i of its plates are done
+-- below the last row of plate i of a site, i of its plates are complete
 pub done_before : (plan : PlanData) (site i : ℕ) (plate : PlateOf) → IsPlan plan → slice_get (site_plates plan site) i ≡ Some plate → plates_done plan site (last_row plan plate) ≡ i
 done_before plan site i plate is there =
     let lasts = map (last_row plan) (site_plates plan site) in
@@ -127,7 +127,7 @@ done_before plan site i plate is there =
     ∙ ap (λ n. count_by (λ v. nat_lt v n) lasts) (sym last)
     ∙ count_before 0 lasts i 0 (omega (arith, length-map (site_plates plan site) (last_row plan))) (last_rows_ascend plan site is)
 
--- and with it one more
+-- with that row, one more
 pub done_with : (plan : PlanData) (site i : ℕ) (plate : PlateOf) → IsPlan plan → slice_get (site_plates plan site) i ≡ Some plate → plates_done plan site (last_row plan plate + 1) ≡ i + 1
 done_with plan site i plate is there =
     let lasts = map (last_row plan) (site_plates plan site) in
@@ -137,7 +137,7 @@ done_with plan site i plate is there =
     ∙ ap (λ n. count_by (λ v. nat_lt v (n + 1)) lasts) (sym last)
     ∙ count_upto 0 lasts i 0 (omega (arith, length-map (site_plates plan site) (last_row plan))) (last_rows_ascend plan site is)
 
--- a row that ends no plate of the site changes nothing
+-- a row that is not the last of any plate of the site changes no count
 pub done_other : (plan : PlanData) (site n : ℕ) → All (λ plate. last_row plan plate ≢ n) (site_plates plan site) → plates_done plan site (n + 1) ≡ plates_done plan site n
 done_other plan site n apart = go (site_plates plan site) apart
   where

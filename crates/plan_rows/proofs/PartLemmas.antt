@@ -1,4 +1,4 @@
--- The sites of a plan parted by the pages that they print.
+-- The sites of a plan, grouped by the pages that they print.
 use Rattle.std.proofs.Common.{◌≡◌, ℕ, ◌+◌, ◌*◌, ◌%◌, ◌^◌, ◌<◌, ◌≤◌, true, false, cond, add-zero, length-set, List, length, take, set, get_or, get_or-set_same, get_or-set_other, ap, sym, ◌∙◌, subst, inl, inr, arith}
 use Rattle.std.specs.Prelude.{sum_by}
 use Rattle.std.specs.List.{enumerate_from}
@@ -30,7 +30,7 @@ bits_more own pages i d within =
     sum_by_more (site_bit own) (enumerate_from 0 pages) i e (omega (arith, length-enumerate_from 0 pages))
     ∙ ap (λ p. sum_by (site_bit own) (take i (enumerate_from 0 pages)) + site_bit own p) here
 
--- the sites so far, of which there are so many
+-- the bits of the sites among the first i
 pub record HasBits (own : ℕ × ℕ) (pages : List (ℕ × ℕ)) (i sites : ℕ) : Type 0 where
   pub is : sites ≡ sum_by (site_bit own) (take i (enumerate_from 0 pages))
   pub small : sites < 2 ^ i
@@ -86,7 +86,7 @@ pages_more plan section pair n left right pages within has is left_within right_
       size = length-set pages n (left, right) ∙ has.size;
     }
 
--- the pages that are chosen for a site
+-- the two pages chosen for a site
 pub pages_are : (plan : PlanData) (section pair site count left right : ℕ) (places : ℕ × ℕ) → count ≡ page_count plan section → places ≡ pair_of count pair
     → left ≡ chosen_page plan site section places.0 → right ≡ chosen_page plan site section places.1 → ◌≡◌ {A = ℕ × ℕ} (left, right) (pages_at plan section pair site)
 pages_are plan section pair site count left right places counted paired is_left is_right =
@@ -103,7 +103,7 @@ pages_all plan section pair pages room has =
     fill_by_all (pages_at plan section pair) (take (length plan.sites) pages) (length plan.sites) (0, 0) (omega (arith, length-take (length plan.sites) pages))
     (λ k below. get_or-take (length plan.sites) pages k (0, 0) below ∙ has.are k below)
 
--- `1 << i` of a u16
+-- the value of `1 << i` in a u16
 pub bit_is : (i : ℕ) → i < 16 → 1 * 2 ^ i % 65536 ≡ 2 ^ i
 bit_is i small =
     let below : 2 ^ i < 2 ^ 16 = pow-lt small in

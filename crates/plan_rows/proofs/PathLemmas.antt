@@ -5,16 +5,16 @@ use Rattle.std.specs.Fmt.{decimal}
 use Rattle.std.proofs.lemmas.Fmt.{decimal_digit}
 use Rattle.plan_rows.specs.Paths.{path_text, plate_text}
 
--- what holds of the value in an `Ok`, from what else holds of it
+-- what holds for the value in an `Ok`, if it follows from another fact about it
 pub if_ok : {T E : Type 0} (r : Result T E) (P Q : T → Type 0) → IfOk r P → ((x : T) → P x → Q x) → IfOk r Q
 if_ok (Ok x) P Q has so = so x has
 if_ok (Err e) P Q has so = tt
 
--- a digit as it is written
+-- a digit in decimal notation
 pub digit_is : (n : ℕ) → decimal (n % 10) ≡ (48 + n % 10) ∷ []
 digit_is n = decimal_digit (n % 10) (omega arith)
 
--- the parts of a name as they are written, with the digits of the pair
+-- the parts of a name as they are formatted, with the digits of the pair
 abbrev written : List ℕ → List ℕ → List ℕ → List ℕ → List ℕ → List ℕ
 written section letter a b c = section ++ (codes "-" ++ (a ++ (b ++ (c ++ (codes "-" ++ letter)))))
 
@@ -30,7 +30,7 @@ parts_are section letter pair =
     ∙ ap (λ c. all ((48 + pair / 100 % 10) ∷ []) ((48 + pair / 10 % 10) ∷ []) c) (digit_is pair)
     ∙ regroup section (codes "-") ((48 + pair / 100 % 10) ∷ []) ((48 + pair / 10 % 10) ∷ []) ((48 + pair % 10) ∷ []) letter
 
--- the parts of a path as they are written
+-- the parts of a path as they are formatted
 pub joined_are : (out site edition name : List ℕ) →
     out ++ (codes "/" ++ (site ++ (codes "/" ++ (edition ++ (codes "-" ++ (name ++ codes ".tif")))))) ≡ path_text out site (edition ++ codes "-" ++ name ++ codes ".tif")
 joined_are out site edition name = regroup_path out (codes "/") site edition (codes "-") name (codes ".tif")

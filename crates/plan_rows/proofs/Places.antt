@@ -1,4 +1,4 @@
--- The rows of a plan: each is a row of the plate of some group in one of its inks, told by its number.
+-- The rows of a plan: each row number is a row of the plate of one group in one of its inks.
 use Rattle.std.proofs.Common.{◌≡◌, ℕ, zero, suc, ◌+◌, ◌-◌, ◌*◌, ◌/◌, ◌%◌, ◌<◌, ◌≤◌, Bool, true, false, List, [], ◌∷◌, ◌++◌, length, take, get_or, Some, refl, ap, sym, ◌∙◌, subst, inl, inr, arith}
 use Rattle.std.specs.Prelude.{Contains, count_by, filter, nat_lt, slice_get, sum_by}
 use Rattle.std.specs.List.{flat_map, range_with_len}
@@ -81,7 +81,7 @@ plan_is plan is = record {
   count = groups_count plan is;
 }
 
--- ---- an ink's place in its group
+-- ---- an ink's position in its group
 
 place_by_flags : (colour spot : Bool) (k : ℕ) (d : Ink) → k < length (process_inks colour ++ spot_inks spot)
     → count_by (λ other. nat_lt (slot_of other) (slot_of (get_or (process_inks colour ++ spot_inks spot) k d))) (process_inks colour ++ spot_inks spot) ≡ k
@@ -114,7 +114,7 @@ ink_at-place group ink (k, within, there) =
     let place : ink_place group ink ≡ k = ap {A = Ink} (λ i. ink_place group i) (sym there) ∙ ink_place-at group k ink within in
     ap (λ n. get_or (inks_of group) n ink) place ∙ there
 
--- ---- where a row stands
+-- ---- the place of a row
 
 -- row n is row y of the plate of this group, which has this index, in this ink
 pub record IsRowAt (plan : PlanData) (n index : ℕ) (group : Group) (y : ℕ) (ink : Ink) : Type 0 where
@@ -123,7 +123,7 @@ pub record IsRowAt (plan : PlanData) (n index : ℕ) (group : Group) (y : ℕ) (
   pub printed : Contains (inks_of group) ink
   pub number : n ≡ row_number group y ink
 
--- by its number it stands there in the list of all rows
+-- at its number, the list of all rows has its place
 pub row_placed : (plan : PlanData) (n index : ℕ) (group : Group) (y : ℕ) (ink : Ink) → IsPlan plan → IsRowAt plan n index group y ink → slice_get (row_places plan) n ≡ Some (place_of index y ink)
 row_placed plan n index group y ink is at =
     let rows = rows_of plan in
@@ -158,7 +158,7 @@ group_by_sums f (group ∷ groups) n within =
           (suc index, omega arith, omega arith, omega arith)
     ]
 
--- each row stands somewhere: it is a row of the plate of some group in one of its inks
+-- each row has a place: it is a row of the plate of some group in one of its inks
 pub row_found : (plan : PlanData) (n : ℕ) (place : RowPlace) → IsPlan plan → slice_get (row_places plan) n ≡ Some place → (group : Group) × IsRowAt plan n place.group group place.y place.ink × (place.slot ≡ slot_of place.ink)
 row_found plan n place is there =
     let rows = rows_of plan in
@@ -192,7 +192,7 @@ row_found plan n place is there =
     get_or-default (x ∷ xs) zero d e within = refl
     get_or-default (x ∷ xs) (suc i) d e within = get_or-default xs i d e (omega arith)
 
--- a number has one place
+-- a row number has only one place
 pub record IsSamePlace (index index' y y' : ℕ) (ink ink' : Ink) : Type 0 where
   pub same_group : index ≡ index'
   pub same_y : y ≡ y'

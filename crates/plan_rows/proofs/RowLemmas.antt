@@ -1,4 +1,4 @@
--- Where the rows of a row plan stand.
+-- The places of the rows of a row plan.
 use Rattle.std.proofs.Common.{◌≡◌, ℕ, zero, suc, ◌+◌, ◌-◌, ◌*◌, ◌/◌, ◌%◌, ◌<◌, ◌≤◌, List, [], ◌∷◌, ◌++◌, length, map, take, get_or, Some, Bool, true, false, refl, ap, sym, ◌∙◌, subst, inl, inr, lit≤, arith}
 use Rattle.std.specs.Prelude.{All, slice_get, sum_by}
 use Rattle.std.specs.List.{flat_map, enumerate_from, range_with_len}
@@ -31,12 +31,12 @@ numbered-first height from (group ∷ groups) (suc i) d within =
     let rest = numbered-first height (from + row_count height group) groups i d (omega arith) in
     rest ∙ omega arith
 
--- a group begins behind the rows of those before it
+-- the first row of a group comes after the rows of the groups before it
 pub first_is : (total : ℕ) (rows : RowPlanData) (i : ℕ) (d : Group) → IsRowPlan total rows → i < length rows.groups → (get_or rows.groups i d).first ≡ rows_before rows i
 first_is total rows i d is within =
     ap (λ groups. (get_or groups i d).first) is.in_order ∙ numbered-first rows.height 0 rows.groups i d within ∙ omega arith
 
--- ---- pieces of one length
+-- ---- pieces of equal length
 
 length-pieces : {X : Type 0} (f : ℕ → List X) (size from n : ℕ) → ((y : ℕ) → length (f y) ≡ size) → length (flat_map f (range_with_len from n)) ≡ n * size
 length-pieces f size from zero each = omega arith
@@ -89,7 +89,7 @@ pub total_is : (rows : RowPlanData) → length (places_in rows) ≡ row_total ro
 unfolding places_in
 total_is rows = length-places rows.height 0 rows.groups
 
--- a row of a group is one of all rows
+-- a row's offset within its group is less than the number of the group's rows
 row_within : (height count y k : ℕ) → y < height → k < count → y * count + k < height * count
 row_within height count y k top small =
     let next : y + 1 ≤ height = omega arith in
@@ -147,27 +147,27 @@ row_count-most height group small =
     let by_inks : height * ink_count group ≤ height * 5 = mul-le-mul_left height most in
     omega arith
 
--- what holds of every value holds of each element
+-- what holds for every value holds for each element
 All-all : {X : Type 0} (P : X → Type 0) (xs : List X) → ((x : X) → P x) → All P xs
 All-all P [] each = All-nil P
 All-all P (x ∷ xs) each = All-cons P x xs (each x) (All-all P xs each)
 
--- the rows of all groups of any plan
+-- the most rows that the groups of any plan have
 pub total-most : (whole : ℕ) (rows : RowPlanData) → IsRowPlan whole rows → row_total rows ≤ 2684313600
 total-most whole rows is =
     let each = sum_by-le (row_count rows.height) 327675 rows.groups (All-all (λ group. row_count rows.height group ≤ 327675) rows.groups (λ group. row_count-most rows.height group is.height.most)) in
     let most : length rows.groups * 327675 ≤ 8192 * 327675 = mul-le-mul_right 327675 is.count in
     omega arith
 
--- the first row of a group, as it comes from the fields of a row plan
+-- the first row of a group, in terms of the fields of a row plan
 pub first_at : (whole : ℕ) (fields rows : RowPlanData) (i : ℕ) (group : Group) → IsRowPlan whole fields → fields ≡ rows → group ≡ get_or fields.groups i group → i < length rows.groups → group.first ≡ rows_before rows i
 first_at whole fields rows i group is shows same within =
     ap {A = Group} (λ g. g.first) (same ∙ ap {A = RowPlanData} (λ r. get_or r.groups i group) shows)
     ∙ first_is whole rows i group (subst {A = RowPlanData} (λ r. IsRowPlan whole r) shows is) within
 
--- ---- halving
+-- ---- binary search
 
--- row n is of one of the groups from low up to high
+-- row n is in one of the groups in the range low..high
 pub record IsBetween (rows : RowPlanData) (n low high : ℕ) : Type 0 where
   pub some : low < high
   pub within : high ≤ length rows.groups
@@ -210,7 +210,7 @@ between_one rows n low high is one =
 
 -- ---- a row by its number
 
--- what holds of row n, which is one of the group with this index, of these inks
+-- facts about row n in the group with this index, which has these inks
 pub record IsRowOf (rows : RowPlanData) (n index : ℕ) (group : Group) (inks : List Ink) : Type 0 where
   pub begins : group.first ≤ n
   pub y : (n - group.first) / length inks < rows.height
@@ -248,14 +248,14 @@ row_of_inks whole rows n index group is at same =
           ∙ ap {A = Group} (λ g. Some (place_of index (within / count) (get_or (inks_of g) (within % count) ink))) (sym same);
     }
 
--- the same, as it comes from the fields of a row plan
+-- the same, in terms of the fields of a row plan
 pub row_is_of : (whole : ℕ) (fields rows : RowPlanData) (n index : ℕ) (group : Group) (inks : List Ink) → IsRowPlan whole fields → fields ≡ rows → IsGroupAt rows n index → group ≡ get_or fields.groups index group → inks ≡ inks_of group → IsRowOf rows n index group inks
 row_is_of whole fields rows n index group inks is shows at same are =
     let P : List Ink → Type 0 = λ list. IsRowOf rows n index group list in
     subst P (sym are) (row_of_inks whole rows n index group (subst {A = RowPlanData} (λ r. IsRowPlan whole r) shows is) at
     (same ∙ ap {A = RowPlanData} (λ r. get_or r.groups index group) shows))
 
--- whether its group has the site
+-- a site keeps the row exactly if its group has the site
 pub keeps_is : (whole : ℕ) (fields rows : RowPlanData) (n index site : ℕ) (group : Group) → IsRowPlan whole fields → fields ≡ rows → IsGroupAt rows n index → group ≡ get_or fields.groups index group → keeps_in rows site n ≡ has_site group site
 keeps_is whole fields rows n index site group is shows at stands =
     let same : group ≡ get_or rows.groups index group = stands ∙ ap {A = RowPlanData} (λ r. get_or r.groups index group) shows in

@@ -1,4 +1,4 @@
--- Which sites are of a group, and that a site is of one group of a pair at most.
+-- The sites of a group; a site belongs to at most one group of a pair.
 use Rattle.std.proofs.Common.{◌≡◌, ℕ, zero, suc, ◌+◌, ◌-◌, ◌*◌, ◌/◌, ◌%◌, ◌^◌, ◌<◌, ◌≤◌, Bool, true, false, cond, List, [], ◌∷◌, length, map, take, get_or, refl, ap, sym, ◌∙◌, inl, inr, eqb, arith}
 use Rattle.std.specs.Prelude.{◌&&◌, filter, sum_by}
 use Rattle.std.specs.Bool.{Decides}
@@ -16,9 +16,9 @@ use Rattle.plan_rows.specs.Inks.{has_site}
 use Rattle.plan_rows.specs.Groups.{same_pages, pages_of, is_first, site_bit, group_of}
 use Rattle.plan_rows.proofs.PartLemmas.{bits_more}
 
--- ---- whether a site is of a group
+-- ---- whether a site belongs to a group
 
--- the sum of the first n bits, and each of them
+-- the sum of the first n bits, and each of these bits
 record HasSums (own : ℕ × ℕ) (pages : List (ℕ × ℕ)) (n : ℕ) : Type 0 where
   small : sum_by (site_bit own) (take n (enumerate_from 0 pages)) < 2 ^ n
   bits : (k : ℕ) → k < n → sum_by (site_bit own) (take n (enumerate_from 0 pages)) / 2 ^ k % 2 ≡ cond (same_pages own (pages_of pages k)) 1 0
@@ -63,7 +63,7 @@ is_one : (b : Bool) → eqb (cond b 1 0) 1 ≡ b
 is_one true = refl
 is_one false = refl
 
--- a site of the plan is of a group exactly where it prints the group's pages
+-- a site of the plan belongs to a group exactly if it prints the group's pages
 pub has_site_is : (plan : PlanData) (section pair : ℕ) (pages : List (ℕ × ℕ)) (first site : ℕ) → site < length pages → has_site (group_of plan section pair pages first) site ≡ same_pages (pages_of pages first) (pages_of pages site)
 unfolding group_of
 has_site_is plan section pair pages first site within =
@@ -75,7 +75,7 @@ has_site_is plan section pair pages first site within =
 
 -- ---- one group of a pair
 
--- two pairs of numbers are the same where their parts are
+-- two pairs of numbers are equal exactly if their parts are
 pub pair_decides : (p q : ℕ × ℕ) → Decides (eqb p.0 q.0 && eqb p.1 q.1) (p ≡ q)
 pair_decides p q =
     Decides-like (eqb p.0 q.0 && eqb p.1 q.1) (λ both. λ i. (both.0 i, both.1 i))
@@ -86,7 +86,7 @@ same_pages-both : (a b c : ℕ × ℕ) → same_pages a c ≡ true → same_page
 same_pages-both a b c left right =
     (pair_decides b a).1 ((pair_decides b c).0 right ∙ sym ((pair_decides a c).0 left))
 
--- two first sites do not both print what a site prints
+-- no site prints the same pages as two different first sites
 pub first_apart : (pages : List (ℕ × ℕ)) (a b site : ℕ) → a < b → b < length pages → is_first pages b ≡ true
     → same_pages (pages_of pages a) (pages_of pages site) ≡ true → same_pages (pages_of pages b) (pages_of pages site) ≡ true → ⊥
 first_apart pages a b site before within first left right =

@@ -1,4 +1,5 @@
--- The definitions at a plan of four pages, one section and two sites, of which the second prints another page 3.
+-- The definitions, computed for a plan with one section of four pages and two sites; the second site prints a
+-- different page 3.
 use Rattle.std.proofs.Common.{◌≡◌, ℕ, false, List, [], ◌∷◌, map, filter, Some, None, refl}
 use Rattle.std.specs.Prelude.{codes}
 use Rattle.std.specs.List.{range_with_len}
@@ -39,7 +40,7 @@ abbrev part : ℕ → ℕ → ℕ → ℕ → ℕ → Group
 part pair left right sites first =
     record { section = 0; pair = pair; left = left; right = right; sites = sites; colour = false; spot = false; first = first }
 
--- pair 1 of both sites, then pair 2 of each
+-- pair 1 with both sites, then pair 2 with each site on its own
 small_groups : groups_of small ≡ part 1 3 0 3 0 ∷ part 2 1 2 1 2 ∷ part 2 1 4 2 4 ∷ []
 unfolding page groups_of section_groups pair_groups group_of site_pages chosen_page
 small_groups = refl

@@ -1,4 +1,4 @@
--- What a plan says of the spot ink has no part in the order of rows.
+-- What a plan says about the spot ink does not affect the order of rows.
 use Rattle.std.proofs.Common.{◌≡◌, ℕ, ◌/◌, Bool, false, ◌||◌, List, [], ◌∷◌, ◌++◌, length, map, Option, Some, None, refl, ap, sym, ◌∙◌}
 use Rattle.std.specs.Prelude.{slice_get, filter}
 use Rattle.std.specs.List.{flat_map, range_with_len}
@@ -23,7 +23,7 @@ flat_map-same : {X Y : Type 0} (f g : X → List Y) (xs : List X) → ((x : X) �
 flat_map-same f g [] same = refl
 flat_map-same f g (x ∷ xs) same = ap (λ ys. ys ++ flat_map f xs) (same x) ∙ ap (λ ys. g x ++ ys) (flat_map-same f g xs same)
 
--- pages that are changed keep what each of them keeps, as its inks
+-- changing pages keeps a flag of the page at an index, if it keeps that flag of each page
 pub of_page : (other : PageData → PageData) (f : PageData → Bool) (pages : List PageData) (page : ℕ)
     → ((p : PageData) → f (other p) ≡ f p)
     → option_map_or f (slice_get (map other pages) page) false ≡ option_map_or f (slice_get pages page) false

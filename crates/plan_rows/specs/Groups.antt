@@ -1,4 +1,4 @@
--- The groups of a plan: for each section and pair, the sites parted by the two pages that they print.
+-- The groups of a plan: for each section and pair, the sites grouped by the two pages that they print.
 use Rattle.std.specs.Prelude.{ℕ, ◌+◌, ◌*◌, ◌/◌, ◌^◌, Bool, false, not, ◌==◌, ◌&&◌, ◌||◌, if◌then◌else◌, List}
 use Rattle.std.specs.Prelude.{[], ◌∷◌, length, map, filter, take, sum_by, slice_get, slice_index_or}
 use Rattle.std.specs.List.{enumerate_from, flat_map, list_any, range_with_len}
@@ -14,7 +14,7 @@ pages_at plan section pair site =
     let places = pair_of (page_count plan section) pair in
     (chosen_page plan site section places.0, chosen_page plan site section places.1)
 
--- those of each site
+-- these pages, for each site
 unfoldable pub site_pages : PlanData → ℕ → ℕ → List (ℕ × ℕ)
 site_pages plan section pair = map (pages_at plan section pair) (range_with_len 0 (length plan.sites))
 
@@ -25,15 +25,15 @@ same_pages a b = a.0 == b.0 && a.1 == b.1
 abbrev pub pages_of : List (ℕ × ℕ) → ℕ → ℕ × ℕ
 pages_of pages site = slice_index_or pages site (0, 0)
 
--- whether no site before this one prints the same two pages as it
+-- whether no earlier site prints the same two pages as this one
 abbrev pub is_first : List (ℕ × ℕ) → ℕ → Bool
 is_first pages site = not (list_any (same_pages (pages_of pages site)) (take site pages))
 
--- 2 ^ i for a site i that prints these two pages
+-- 2 ^ i if site i prints these two pages, otherwise 0
 abbrev pub site_bit : ℕ × ℕ → ℕ × (ℕ × ℕ) → ℕ
 site_bit pages (site, its) = if same_pages pages its then 2 ^ site else 0
 
--- the sites that print the same two pages as this one, bit i for site i
+-- the sites that print the same two pages as this one: bit i for site i
 abbrev pub sites_like : List (ℕ × ℕ) → ℕ → ℕ
 sites_like pages site = sum_by (site_bit (pages_of pages site)) (enumerate_from 0 pages)
 
@@ -44,7 +44,7 @@ page_colour plan page = option_map_or (λ p. p.colour) (slice_get plan.pages pag
 abbrev pub page_spot : PlanData → ℕ → Bool
 page_spot plan page = option_map_or (λ p. p.spot) (slice_get plan.pages page) false
 
--- the sites that print as this one does, with their first row yet to be numbered
+-- the group of the sites that print the same pages as this one; its first row is numbered later
 unfoldable pub group_of : PlanData → ℕ → ℕ → List (ℕ × ℕ) → ℕ → Group
 group_of plan section pair pages site =
     let left = (pages_of pages site).0 in
@@ -60,26 +60,26 @@ group_of plan section pair pages site =
       first = 0;
     }
 
--- the groups of a pair whose first site is among so many
+-- the groups of a pair whose first site is among the first `sites` sites
 abbrev pub groups_among : PlanData → ℕ → ℕ → List (ℕ × ℕ) → ℕ → List Group
 groups_among plan section pair pages sites =
     map (group_of plan section pair pages) (filter (is_first pages) (range_with_len 0 sites))
 
--- the parts of a pair, in the order of their first sites
+-- the groups of a pair, in the order of their first sites
 unfoldable pub pair_groups : PlanData → ℕ → ℕ → List Group
 pair_groups plan section pair =
     groups_among plan section pair (site_pages plan section pair) (length plan.sites)
 
--- those of a section, pair by pair from 1
+-- the groups of a section, pair by pair from 1
 unfoldable pub section_groups : PlanData → ℕ → List Group
 section_groups plan section =
     flat_map (pair_groups plan section) (range_with_len 1 (page_count plan section / 2))
 
--- the rows of a group
+-- the number of rows of a group
 abbrev pub row_count : ℕ → Group → ℕ
 row_count height group = height * ink_count group
 
--- groups with the numbers of their first rows: each begins where the one before ends
+-- groups with the numbers of their first rows: each begins where the previous one ends
 abbrev pub numbered : ℕ → ℕ → List Group → List Group
 numbered height first [] = []
 numbered height first (group ∷ groups) =

@@ -6,7 +6,7 @@ pub use Rattle.pr_base.specs.Ink.{letter_of}
 use Rattle.plan_json.specs.Data.{PlanData}
 use Rattle.plan_rows.specs.declared.group.Group.{Group}
 
--- a number below 1000 in three digits
+-- the last three decimal digits of a number
 abbrev pub three_digits : ℕ → List ℕ
 three_digits n = (48 + n / 100 % 10) ∷ (48 + n / 10 % 10) ∷ (48 + n % 10) ∷ []
 
@@ -29,7 +29,7 @@ name_text edition section pair letter =
 abbrev pub path_text : List ℕ → List ℕ → List ℕ → List ℕ
 path_text out site name = out ++ codes "/" ++ site ++ codes "/" ++ name
 
--- the name of a plate in its edition
+-- the name of a plate within its edition
 unfoldable pub plate_name_of : PlanData → Group → Ink → List ℕ
 plate_name_of plan group ink = plate_text (section_name plan group.section) group.pair (letter_of ink)
 
@@ -37,6 +37,6 @@ plate_name_of plan group ink = plate_text (section_name plan group.section) grou
 abbrev pub file_name : PlanData → Group → Ink → List ℕ
 file_name plan group ink = name_text plan.edition (section_name plan group.section) group.pair (letter_of ink)
 
--- the path of a plate of a site
+-- the path of a plate at a site
 unfoldable pub path_of : PlanData → List ℕ → ℕ → Group → Ink → List ℕ
 path_of plan out site group ink = path_text out (site_name plan site) (file_name plan group ink)

@@ -1,4 +1,4 @@
--- The plates of a site: what they hold, out of any list of all rows, and in which order they stand.
+-- The plates of a site: their contents, given any list of all rows, and their order.
 use Rattle.std.specs.Prelude.{ℕ, ◌-◌, List, [], map, filter, slice_index_or, count_by, nat_lt}
 use Rattle.std.specs.List.{flat_map, range_with_len}
 use Rattle.pr_base.specs.declared.ink.Ink.{Ink}
@@ -18,11 +18,11 @@ PlateOf = Group × Ink
 abbrev pub group_plates : Group → List PlateOf
 group_plates group = map (λ ink. (group, ink)) (inks_of group)
 
--- the plates of a site: for each group of the site in order each of its inks in order
+-- the plates of a site: its groups in order, and for each group its inks in order
 unfoldable pub site_plates : PlanData → ℕ → List PlateOf
 site_plates plan site = flat_map group_plates (filter (λ group. has_site group site) (groups_of plan))
 
--- the rows of a plate from the top, out of all rows in order
+-- the rows of a plate from the top, given all rows in order
 abbrev pub plate_rows : PlanData → List (List ℕ) → PlateOf → List (List ℕ)
 plate_rows plan rows plate =
     map (λ y. slice_index_or rows (row_number plate.0 y plate.1) []) (range_with_len 0 (plate_height plan))
@@ -37,7 +37,7 @@ file_of plan rows out site plate =
     let file = plate_file (plate_width plan) plan.dpi (plate_rows plan rows plate) in
     (path_of plan out site plate.0 plate.1, file)
 
--- the files of a site in order, out of all rows in order
+-- the files of a site in order, given all rows in order
 abbrev pub site_files : PlanData → List (List ℕ) → List ℕ → ℕ → List (List ℕ × List ℕ)
 site_files plan rows out site = map (file_of plan rows out site) (site_plates plan site)
 
@@ -46,6 +46,6 @@ abbrev pub rows_held : PlanData → ℕ → PlateOf → ℕ
 rows_held plan n plate =
     count_by (λ y. nat_lt (row_number plate.0 y plate.1) n) (range_with_len 0 (plate_height plan))
 
--- how many plates of a site have all their rows below n
+-- how many plates of a site have all their rows numbered below n
 abbrev pub plates_done : PlanData → ℕ → ℕ → ℕ
 plates_done plan site n = count_by (λ plate. nat_lt (last_row plan plate) n) (site_plates plan site)

@@ -15,14 +15,14 @@ use Rattle.pr_base.specs.Number.{IsWithin}
 -- what contracts see of a row plan
 pub record RowPlanData : Type 0 where
   pub groups : List Group
-  -- the rows of each plate
+  -- the number of rows of each plate
   pub height : ℕ
 
 -- the row plan of a plan
 abbrev pub rows_of : PlanData → RowPlanData
 rows_of plan = record { groups = groups_of plan; height = plate_height plan }
 
--- a row of the group with this index
+-- the place of a row in the group with this index
 abbrev pub place_of : ℕ → ℕ → Ink → RowPlace
 place_of group y ink = record { group = group; y = y; ink = ink; slot = slot_of ink }
 
@@ -46,29 +46,29 @@ row_total rows = sum_by (row_count rows.height) rows.groups
 abbrev pub rows_before : RowPlanData → ℕ → ℕ
 rows_before rows index = sum_by (row_count rows.height) (take index rows.groups)
 
--- row n is one of the group with this index
+-- row n is in the group with this index
 pub record IsGroupAt (rows : RowPlanData) (n index : ℕ) : Type 0 where
   pub within : index < length rows.groups
   pub begins : rows_before rows index ≤ n
   pub ends : n < rows_before rows (index + 1)
 
--- the row plan is numbered from 0, and is no larger than that of any plan:
--- 8 sections of 64 pairs for 16 sites
+-- the groups are numbered from row 0, and the row plan is no larger than that of the largest plan: 8 sections
+-- of 64 pairs for 16 sites
 pub record IsRowPlan (whole : ℕ) (rows : RowPlanData) : Type 0 where
   pub in_order : rows.groups ≡ numbered rows.height 0 rows.groups
   pub total : whole ≡ row_total rows
   pub height : IsWithin 1 65535 rows.height
   pub count : length rows.groups ≤ 8192
 
--- groups behind those of a row plan, with the numbers of their first rows
+-- a row plan with groups appended, and the numbers of their first rows
 abbrev pub added : RowPlanData → List Group → RowPlanData
 added rows groups = record { groups = numbered rows.height 0 (rows.groups ++ groups); height = rows.height }
 
--- whether a site prints the group with this index
+-- whether a site belongs to the group with this index
 abbrev pub is_of : List Group → ℕ → ℕ → Bool
 is_of groups site index = option_map_or (λ group. has_site group site) (slice_get groups index) false
 
--- whether a site keeps row n: the group of the row has the site
+-- whether a site keeps row n: it belongs to the row's group
 abbrev pub keeps_in : RowPlanData → ℕ → ℕ → Bool
 keeps_in rows site n =
     option_map_or (λ place. is_of rows.groups site place.group) (slice_get (places_in rows) n) false

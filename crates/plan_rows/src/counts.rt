@@ -1,4 +1,4 @@
-// How many sites a plan has, and how many pages a section.
+// The numbers of sites, sections and pages of a plan.
 ghost use Rattle.std.specs.Prelude.{◌≡◌, ◌<◌, ◌%◌, length};
 ghost use Rattle.pr_base.specs.Number.{IsWithin};
 ghost use Rattle.plan_json.specs.Plan.{IsPlan};
@@ -6,7 +6,7 @@ ghost use Rattle.plan_pages.specs.Pages.{page_count, section_pages};
 
 use plan_json::Plan;
 
-/// The number of sites.
+/// Returns the number of sites.
 pub(crate) fn site_count(plan: &Plan) -> usize
     ensures count { result ≡ length plan.now.sites }
     ensures within { IsWithin 1 16 result }
@@ -14,7 +14,7 @@ pub(crate) fn site_count(plan: &Plan) -> usize
     plan.sites.len()
 }
 
-/// The number of sections.
+/// Returns the number of sections.
 pub(crate) fn section_count(plan: &Plan) -> u32
     ensures count { result ≡ length plan.now.sections }
     ensures within { IsWithin 1 8 result }
@@ -22,7 +22,7 @@ pub(crate) fn section_count(plan: &Plan) -> u32
     plan.sections.len() as u32
 }
 
-/// The number of pages of a section, which is even.
+/// Returns the number of pages of a section, which is even.
 pub(crate) fn pages_in(plan: &Plan, section: usize) -> u32
     requires { section < length plan.now.sections }
     ensures count { result ≡ page_count plan.now section }
@@ -34,7 +34,7 @@ pub(crate) fn pages_in(plan: &Plan, section: usize) -> u32
     pages.len() as u32
 }
 
-/// The pages of a section.
+/// Returns the pages of a section.
 fn own_pages(plan: &Plan, section: usize) -> &[usize]
     requires { section < length plan.now.sections }
     ensures pages { result.now ≡ section_pages plan.now section }

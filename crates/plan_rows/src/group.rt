@@ -3,21 +3,22 @@ ghost use Rattle.std.specs.Prelude.{◌≡◌, ◌<◌};
 
 use pr_base::Ink;
 
-/// A part of the sites: those that print the same two pages as one pair of a section.
+/// A group of sites: those that print the same two pages as one pair of a section.
 #[derive(Clone, Copy, Debug, PartialEq, Eq)]
 pub struct Group {
     /// The index of the section.
     pub section: u32,
-    /// The pair, from 1.
+    /// The number of the pair, from 1.
     pub pair: u32,
     /// The indexes of the left and the right page.
     pub left: usize,
     pub right: usize,
-    /// The sites: bit i stands for site i.
+    /// The sites, as bits: bit i for site i.
     pub sites: u16,
-    /// Whether either page prints C, M and Y. Then the inks are C, M, Y, K, else K alone.
+    /// Whether either page prints C, M and Y. If so, the group's process inks are C, M, Y and K, otherwise K
+    /// alone.
     pub colour: bool,
-    /// Whether either page prints S. Then S follows the other inks.
+    /// Whether either page prints S. If so, S follows the other inks.
     pub spot: bool,
     /// The number of the group's first row.
     pub first: u64,
@@ -26,7 +27,7 @@ pub struct Group {
 impl Group {
     ghost use Rattle.plan_rows.specs.Inks.{has_ink as prints, has_site as is_of_site, inks_of};
 
-    /// The group's inks in order.
+    /// Returns the group's inks in order.
     pub fn inks(&self) -> &'static [Ink]
         ensures { result.now ≡ inks_of self.now }
     {
@@ -38,7 +39,7 @@ impl Group {
         }
     }
 
-    /// Whether the group's plates print an ink.
+    /// Returns whether the group's plates print an ink.
     pub fn has_ink(&self, ink: Ink) -> bool
         ensures { result ≡ prints self.now ink }
     {
@@ -49,7 +50,7 @@ impl Group {
         }
     }
 
-    /// Whether a site is of the group.
+    /// Returns whether a site belongs to the group.
     pub fn has_site(&self, site: usize) -> bool
         requires { site < 16 }
         ensures { result ≡ is_of_site self.now site }

@@ -1,4 +1,4 @@
-// What holds of the order of rows as it is defined.
+// A law of the order of rows, as defined.
 ghost use Rattle.std.specs.Prelude.{◌≡◌, ℕ, List};
 ghost use Rattle.plan_json.specs.Data.{PlanData};
 ghost use Rattle.plan_rows.specs.Groups.{groups_of};
@@ -6,9 +6,9 @@ ghost use Rattle.plan_rows.specs.Rows.{keeps_row, row_places};
 ghost use Rattle.plan_rows.specs.Plates.{site_files};
 ghost use Rattle.plan_rows.specs.Spot.{SameButSpot};
 
-/// Two plans that differ only in what they say of the spot ink (its screen and curve, its letter in marks,
-/// and the layers' values of it) have the same groups and the same rows in the same order; their sites keep
-/// the same rows, and have the same files out of the same rows.
+/// The law of the spot ink. Two plans that differ only in their values for the spot ink (its screen and
+/// curve, its letter in marks, and its values in layers) have the same groups and the same rows in the same
+/// order; their sites keep the same rows, and have the same files given the same rows.
 pub fn spot_law()
     ensures groups { (a b : PlanData) → SameButSpot a b → groups_of a ≡ groups_of b }
     ensures rows { (a b : PlanData) → SameButSpot a b → row_places a ≡ row_places b }

@@ -1,4 +1,4 @@
-// The sites of a plan parted by the two pages that they print as a pair of a section.
+// The sites of a plan, grouped by the two pages that they print as a pair of a section.
 ghost use Rattle.std.specs.Prelude.{◌≡◌, ◌≤◌, ◌<◌, ◌*◌, ℕ, length, sum_by, take};
 ghost use Rattle.std.specs.List.{enumerate_from, list_any};
 ghost use Rattle.plan_pages.specs.Pages.{page_count};
@@ -10,10 +10,10 @@ use crate::counts::{pages_in, site_count};
 use plan_json::Plan;
 use plan_pages::{chosen, pair as pair_at};
 
-/// The most sites that a plan has.
+/// The most sites that a plan may have.
 pub(crate) const SITES: usize = 16;
 
-/// The left and the right page that each site prints as this pair, from 1, of a section.
+/// Returns the left and the right page that each site prints as this pair, from 1, of a section.
 #[tactic(auto, unfolding(crate::specs::Groups::site_pages))]
 pub(crate) fn site_pages(plan: &Plan, section: usize, pair: u32) -> [(usize, usize); SITES]
     requires section { section < length plan.now.sections }
@@ -37,7 +37,7 @@ pub(crate) fn site_pages(plan: &Plan, section: usize, pair: u32) -> [(usize, usi
     pages
 }
 
-/// Whether no site before this one prints the same two pages as it.
+/// Returns whether no earlier site prints the same two pages as this one.
 pub(crate) fn is_first(pages: &[(usize, usize)], site: usize) -> bool
     requires { site < length pages.now }
     ensures { result ≡ is_first_of pages.now site }
@@ -45,21 +45,21 @@ pub(crate) fn is_first(pages: &[(usize, usize)], site: usize) -> bool
     !contains(&pages[..site], pages[site])
 }
 
-/// Whether a site prints these two pages.
+/// Returns whether one of the sites prints these two pages.
 fn contains(pages: &[(usize, usize)], own: (usize, usize)) -> bool
     ensures { result ≡ list_any (alike own) pages.now }
 {
     pages.iter().any(|other| same_pages(own, *other))
 }
 
-/// Whether two sites print the same left and the same right page.
+/// Returns whether two sites print the same left and the same right page.
 fn same_pages(a: (usize, usize), b: (usize, usize)) -> bool
     ensures { result ≡ alike a b }
 {
     a.0 == b.0 && a.1 == b.1
 }
 
-/// The sites that print these two pages: bit i stands for site i.
+/// Returns the sites that print these two pages: bit i for site i.
 fn sites_like(pages: &[(usize, usize)], own: (usize, usize)) -> u16
     requires { length pages.now ≤ 16 }
     ensures { result ≡ sum_by (site_bit own) (enumerate_from 0 pages.now) }
@@ -73,7 +73,7 @@ fn sites_like(pages: &[(usize, usize)], own: (usize, usize)) -> u16
     sites
 }
 
-/// The group of the sites that print the same two pages as this one. Its first row is yet to be numbered.
+/// Returns the group of the sites that print the same two pages as this one. Its first row is numbered later.
 #[tactic(auto, unfolding(crate::specs::Groups::group_of))]
 pub(crate) fn group_of(
     plan: &Plan,

@@ -8,8 +8,8 @@ use plan_json::Plan;
 use pr_base::{Ink, NoMemory, PathText};
 use std::alloc::{AllocError, Global};
 
-/// The path of a group's plate at a site, below the folder `out`: the names of site and edition, and the
-/// plate's name in the edition.
+/// Returns the path of a group's plate at a site, below the folder `out`: the names of site and edition, and
+/// the plate's name within the edition.
 #[tactic(auto, unfolding(crate::specs::Paths::path_of, crate::specs::Paths::plate_name_of))]
 pub fn plate_path(
     alloc: Global,
@@ -30,8 +30,8 @@ pub fn plate_path(
     PathText::of(alloc, text.as_str())
 }
 
-/// The name of a group's plate in its edition, SECTION-PPP-I: the name of the section, the pair in three
-/// digits, and the letter of the ink.
+/// Returns the name of a group's plate within its edition, SECTION-PPP-I: the name of the section, the pair
+/// in three digits, and the letter of the ink.
 #[tactic(auto, unfolding(crate::specs::Paths::plate_name_of))]
 pub fn plate_name(alloc: Global, plan: &Plan, group: &Group, ink: Ink) -> Result<String, AllocError>
     requires section { group.now.section < length plan.now.sections }
@@ -41,7 +41,7 @@ pub fn plate_name(alloc: Global, plan: &Plan, group: &Group, ink: Ink) -> Result
     name_of(alloc, section, group.pair, ink.letter())
 }
 
-/// The parts of a path with what stands between them.
+/// Joins the parts of a path with their separators.
 fn joined(
     alloc: Global,
     out: &str,
@@ -55,7 +55,7 @@ fn joined(
     format!(in alloc; "{out}/{site}/{edition}-{name}.tif")
 }
 
-/// The parts of a plate's name with what stands between them.
+/// Joins the parts of a plate's name with their separators.
 fn name_of(alloc: Global, section: &str, pair: u32, letter: &str) -> Result<String, AllocError>
     ensures { IfOk result (λ text. string_bytes text ≡ plate_text section.now pair letter.now) }
 {
@@ -63,7 +63,7 @@ fn name_of(alloc: Global, section: &str, pair: u32, letter: &str) -> Result<Stri
     format!(in alloc; "{section}-{hundreds}{tens}{ones}-{letter}")
 }
 
-/// The name of a site.
+/// Returns the name of a site.
 pub fn site_name(plan: &Plan, site: usize) -> &str
     requires { site < length plan.now.sites }
     ensures { result.now ≡ name_of_site plan.now site }
@@ -71,7 +71,7 @@ pub fn site_name(plan: &Plan, site: usize) -> &str
     plan.sites[site].name.as_str()
 }
 
-/// The name of a section.
+/// Returns the name of a section.
 pub fn section_name(plan: &Plan, section: usize) -> &str
     requires { section < length plan.now.sections }
     ensures { result.now ≡ name_of_section plan.now section }

@@ -1,4 +1,4 @@
-// Where a row stands.
+// The place of a row.
 
 use pr_base::Ink;
 
@@ -16,7 +16,7 @@ impl RowPlace {
     ghost use Rattle.std.specs.Prelude.{◌≡◌};
     ghost use Rattle.plan_rows.specs.Rows.{place_of};
 
-    /// The place of a row of this ink.
+    /// Returns the place of a row of this ink.
     pub(crate) fn of(group: usize, y: u32, ink: Ink) -> RowPlace
         ensures { result ≡ place_of group y ink }
     {

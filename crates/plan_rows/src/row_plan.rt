@@ -1,4 +1,4 @@
-// All rows of a plan by their numbers.
+// All rows of a plan, by number.
 ghost use Rattle.std.specs.Prelude.{◌≡◌, ◌<◌, ◌≤◌, ◌+◌, ◌*◌, [], ◌∷◌, length, slice_get, Some, IfOk, OnOk};
 
 use crate::counts::{pages_in, section_count, site_count};
@@ -10,13 +10,13 @@ use pr_base::NoMemory;
 use std::alloc::Global;
 use std::marker::Model;
 
-/// The most pairs that a section has.
+/// The most pairs that a section may have.
 const MOST_PAIRS: usize = 64;
 
-/// The most groups that a plan has: 8 sections of 64 pairs, and a group for each of 16 sites.
+/// The most groups that a plan may have: 8 sections of 64 pairs, and one group for each of 16 sites.
 const MOST_GROUPS: usize = 8 * MOST_PAIRS * SITES;
 
-/// The order of all rows of a plan: section, pair, group, y, ink. The rows of a group are neighbours.
+/// The order of all rows of a plan: section, pair, group, y, ink. The rows of a group are consecutive.
 #[derive(Debug, Drop)]
 pub struct RowPlan {
     groups: Vec<Group>,
@@ -42,7 +42,7 @@ impl RowPlan {
     ghost use Rattle.plan_rows.specs.Groups.{pair_groups, section_groups};
     ghost use Rattle.plan_rows.specs.Rows.{IsGroupAt, added, keeps_in, places_in, rows_of};
 
-    /// The row plan of a plan.
+    /// Makes the row plan of a plan.
     #[tactic(auto, unfolding(crate::specs::Groups::groups_of))]
     pub fn of(alloc: Global, plan: &Plan) -> Result<RowPlan, NoMemory>
         ensures { IfOk result (λ rows. rows ≡ rows_of plan.now) }
@@ -54,7 +54,7 @@ impl RowPlan {
         Ok(rows)
     }
 
-    /// A row plan of no groups.
+    /// Makes a row plan without groups.
     fn empty(alloc: Global, height: u32) -> RowPlan
         requires { IsWithin 1 65535 height }
         ensures { result ≡ record { groups = []; height = height } }
@@ -101,7 +101,7 @@ impl RowPlan {
         Ok(())
     }
 
-    /// Appends a group, which begins behind all rows so far.
+    /// Appends a group, whose rows follow all rows so far.
     fn add(&mut self, group: Group) -> Result<(), NoMemory>
         requires { length self.old.groups < 8192 }
         ensures { OnOk result (self.new ≡ added self.old (group ∷ [])) }
@@ -115,7 +115,7 @@ impl RowPlan {
         Ok(())
     }
 
-    /// All groups, in the order of their rows.
+    /// Returns all groups, in the order of their rows.
     pub fn groups(&self) -> &[Group]
         ensures groups { result.now ≡ self.now.groups }
         ensures most { length result.now ≤ 8192 }
@@ -123,7 +123,7 @@ impl RowPlan {
         &self.groups
     }
 
-    /// The number of rows.
+    /// Returns the number of rows.
     pub fn total(&self) -> u64
         ensures total { result ≡ length (places_in self.now) }
         ensures most { result ≤ 2684313600 }
@@ -131,7 +131,7 @@ impl RowPlan {
         self.total
     }
 
-    /// Where row `n` stands.
+    /// Returns the place of row `n`.
     pub fn row_at(&self, n: u64) -> RowPlace
         requires { n < length (places_in self.now) }
         ensures place { slice_get (places_in self.now) n ≡ Some result }
@@ -147,7 +147,7 @@ impl RowPlan {
         RowPlace::of(index, y, inks[within % inks.len()])
     }
 
-    /// Whether a site keeps row `n`.
+    /// Returns whether a site keeps row `n`.
     pub fn keeps(&self, site: usize, n: u64) -> bool
         requires site { site < 16 }
         requires row { n < length (places_in self.now) }
@@ -157,7 +157,7 @@ impl RowPlan {
         self.groups[index].has_site(site)
     }
 
-    /// The index of the group of row `n`, found by halving.
+    /// Returns the index of the group of row `n`, found by binary search.
     fn group_at(&self, n: u64) -> usize
         requires { n < length (places_in self.now) }
         ensures { IsGroupAt self.now n result }

@@ -1,5 +1,5 @@
-// Single changes of a full sample plan 2, with the fault that each is refused by. Texts stand with `'` in the
-// place of `"`.
+// Single changes of a full sample plan 2, each with the fault that rejects it. In these texts `'` stands for
+// `"`.
 use crate::faults::check_changes;
 
 const SAMPLE: &str =
@@ -16,7 +16,7 @@ const SAMPLE: &str =
 'zones':[{'name':'N','replace':[{'section':'A','page':2,'with':'w'},{'section':'A','page':1,'with':'p'}]}],\
 'sites':[{'name':'OSLO','zone':'N'},{'name':'BERGEN'}]}";
 
-// A row is what stands in the sample, what stands there instead, and the fault.
+// Each row: a text of the sample, its replacement, and the fault.
 #[rattlefmt::skip]
 const CHANGES: &str = " |  | ok
 # the top object

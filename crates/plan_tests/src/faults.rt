@@ -1,9 +1,9 @@
-// The faults of texts that are read as plans.
+// The faults of texts read as plans.
 use plan_json::read_plan;
 use std::alloc::{AllocError, Global};
 use std::process::Abort;
 
-// Texts that are no plan, and why.
+// Texts that are not plans, with their faults.
 const OTHERS: [(&str, &str); 4] = [
     ("{", "not JSON"),
     ("[]", ": kind"),
@@ -18,7 +18,7 @@ const OTHERS: [(&str, &str); 4] = [
     ),
 ];
 
-// A text with `"` in the place of `'`.
+// Returns a text with each `'` replaced by `"`.
 pub(crate) fn quoted<R: Abort + AllocGlobal>(rt: &R, text: &str) -> String {
     let mut out = String::new(rt.alloc());
     for c in text.chars() {
@@ -28,7 +28,7 @@ pub(crate) fn quoted<R: Abort + AllocGlobal>(rt: &R, text: &str) -> String {
     out
 }
 
-// The fault of a text, or `ok`.
+// Returns the fault of a text, or `ok`.
 fn fault_of(alloc: Global, text: &str) -> Result<String, AllocError> {
     match read_plan(alloc, text.as_bytes()) {
         Ok(_plan) => String::from_str(alloc, "ok"),
@@ -36,7 +36,7 @@ fn fault_of(alloc: Global, text: &str) -> Result<String, AllocError> {
     }
 }
 
-// Whether this is the fault of a text in which `'` stands for `"`.
+// Returns whether a text, in which `'` stands for `"`, has this fault.
 fn has_fault<R: Abort + AllocGlobal>(rt: &R, text: &str, wanted: &str) -> bool {
     let text = quoted(rt, text);
     fault_of(rt.alloc(), text.as_str())
@@ -45,20 +45,20 @@ fn has_fault<R: Abort + AllocGlobal>(rt: &R, text: &str, wanted: &str) -> bool {
         == wanted
 }
 
-// A sample with its first `old` replaced.
+// Returns a sample with the first occurrence of `old` replaced.
 fn changed<R: Abort + AllocGlobal>(rt: &R, sample: &str, old: &str, new: &str) -> String {
     let (front, back) = sample.split_once(old).expect(rt, "not in the sample");
     format!(in rt.alloc(); "{front}{new}{back}").expect(rt, "memory")
 }
 
-// The three parts of a row.
+// Splits a row into its three parts.
 fn parts(row: &str) -> Option<(&str, &str, &str)> {
     let (old, rest) = row.split_once(" | ")?;
     let (new, fault) = rest.split_once(" | ")?;
     Some((old, new, fault))
 }
 
-// Whether the change of a row has its fault. A line that begins with `#` is none.
+// Returns whether the change of a row has the row's fault. Lines that begin with `#` are comments.
 fn holds<R: Abort + AllocGlobal>(rt: &R, sample: &str, row: &str) -> bool {
     match parts(row) {
         Some((old, new, wanted)) => has_fault(rt, changed(rt, sample, old, new).as_str(), wanted),
@@ -66,7 +66,7 @@ fn holds<R: Abort + AllocGlobal>(rt: &R, sample: &str, row: &str) -> bool {
     }
 }
 
-// Tries each row of a table, one a line.
+// Checks each row of a table, one per line.
 pub(crate) fn check_changes<R: Abort + AllocGlobal>(rt: &R, sample: &str, rows: &str) {
     for row in rows.split('\n') {
         assert!(rt; holds(rt, sample, row), "{row}");

@@ -1,4 +1,4 @@
-// Pages and marks of a plan that is read from a text.
+// Pages and marks of a plan read from a text.
 ghost use Rattle.std.specs.Prelude.{◌≡◌, ◌<◌, length};
 ghost use Rattle.plan_pages.specs.Pages.{section_pages};
 
@@ -24,7 +24,8 @@ const SHAPE: PlateShape = PlateShape {
     top_y: 2,
 };
 
-// Ink, row of the plate, and the row after the marks: it had the first pixel and a padding bit set.
+// Ink, row of the plate, and the expected row after the marks: before, the first pixel and a padding bit were
+// set.
 const ROWS: [(Ink, u32, [u8; 4]); 6] = [
     (Ink::K, 0, [0x80, 0x00, 0x00, 0x01]),
     (Ink::K, 1, [0x87, 0xFF, 0xC0, 0x01]),
@@ -34,7 +35,7 @@ const ROWS: [(Ink, u32, [u8; 4]); 6] = [
     (Ink::M, 1, [0x80, 0x00, 0x00, 0x01]),
 ];
 
-// Site, section, page, and the page that is printed there.
+// Site, section, page, and the index of the page printed there.
 const CHOSEN: [(usize, usize, u32, usize); 4] = [
     (0, 1, 2, 0),
     (1, 1, 2, 2),
@@ -77,7 +78,7 @@ fn expect_chosen(rt: &impl Abort, plan: &Plan, at: [usize; 2], page: u32, wanted
     );
 }
 
-// The pages of a section.
+// Returns the pages of a section.
 fn own_pages(plan: &Plan, section: usize) -> &[usize]
     requires { section < length plan.now.sections }
     ensures { result.now ≡ section_pages plan.now section }

@@ -1,10 +1,10 @@
-// Row plans of plans that are read from texts.
+// Row plans of plans read from texts.
 use plan_json::{Plan, read_plan};
 use plan_rows::{Group, RowPlace, RowPlan, plate_path};
 use pr_base::Ink;
 use std::process::Abort;
 
-// Two sites, of which the second prints another page 3.
+// Two sites; the second prints a different page 3.
 const TWO_SITES: &[u8] = br#"{"plan": 1, "edition": "E1", "dpi": 1200, "page": [8, 2],
     "pages": [{"name": "p", "inks": "K", "layers": []}, {"name": "q", "inks": "K", "layers": []},
         {"name": "r", "inks": "K", "layers": []}, {"name": "s", "inks": "K", "layers": []},
@@ -53,7 +53,7 @@ fn two_sites_share_a_pair(rt: HostRuntime) {
     }
 }
 
-// The row plan of a plan's text.
+// Makes the row plan of a plan's text.
 fn row_plan<R: Abort + AllocGlobal>(rt: &R, text: &[u8]) -> RowPlan {
     let plan = read_plan(rt.alloc(), text).expect(rt, "no plan");
     RowPlan::of(rt.alloc(), &plan).expect(rt, "memory")
@@ -68,7 +68,7 @@ fn expect_kept(rt: &impl Abort, rows: &RowPlan, site: usize, n: u64, kept: bool)
     assert!(rt; rows.keeps(site, n) == kept, "row {n} of site {site}");
 }
 
-// A group of section 0 in black alone.
+// Makes a group of section 0 in black only.
 fn black(pair: u32, left: usize, right: usize, sites: u16, first: u64) -> Group {
     group(0, pair, [left, right], sites, [false, false], first)
 }
@@ -90,10 +90,10 @@ fn three_sites_are_parted_by_their_pages(rt: HostRuntime) {
     shared(&rows);
 }
 
-// Row plans are moved to threads and lent there.
+// Compiles only if row plans can be moved to threads and shared between them.
 fn shared<T: Send + Sync>(_value: &T) {}
 
-// A group by its section, pair, pages, sites, whether it has colour and a spot, and its first row.
+// Makes a group from its section, pair, pages, sites, colour and spot flags, and first row.
 fn group(
     section: u32,
     pair: u32,

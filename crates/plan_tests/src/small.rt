@@ -1,16 +1,16 @@
-// A plan 1 that leaves all defaults: what is read of it, and its single changes.
+// A plan 1 without optional keys in its top object: the result of reading it, and its single changes.
 use crate::faults::{check_changes, quoted};
 use plan_json::{Page, PlanLayer, Screen, read_plan};
 use pr_base::PathText;
 use std::process::Abort;
 
-// Its files are told once each, in the order of their first mention.
+// Its files are listed once each, in the order of first mention.
 const SMALL: &str = "{'plan':1,'edition':'E1','dpi':1200,'page':[8,2],\
 'pages':[{'name':'w','inks':'CMYK','layers':[{'kind':'contone','file':'b','mask':'a'},\
 {'kind':'line','file':'a','mask':'b'},{'kind':'line','file':'c'}]},{'name':'p','inks':'K','layers':[]}],\
 'sections':[{'name':'A','pages':['p','w']}],'sites':[{'name':'OSLO'}]}";
 
-// Changes of this plan 1: what is of a fifth ink isn't known there.
+// Changes of this plan 1, which does not know a fifth ink.
 #[rattlefmt::skip]
 const CHANGES: &str = " |  | ok
 'page':[8,2] | 'page':[8,2],'screens':{'S':'bayer4'} | /screens/S: unknown
@@ -19,7 +19,7 @@ const CHANGES: &str = " |  | ok
 'inks':'CMYK' | 'inks':'KS' | /pages/0/inks: range
 'file':'c'} | 'file':'c','ink':[0,0,0,0,255]} | /pages/0/layers/2/ink: range";
 
-// The second layer of page w: linework in black of the second file with the first one as its mask.
+// The second layer of page w: linework in black from the second file, with the first file as its mask.
 const SECOND: PlanLayer = PlanLayer {
     line: true,
     file: 1,
@@ -46,7 +46,7 @@ fn a_small_plan_is_read(rt: HostRuntime) {
     assert!(rt; is_page(&plan.pages[0]));
 }
 
-// Names, each with a space behind it.
+// Joins names, with a space after each.
 fn joined<R: Abort + AllocGlobal>(rt: &R, names: &[PathText]) -> String {
     let mut out = String::new(rt.alloc());
     for name in names {
@@ -56,7 +56,7 @@ fn joined<R: Abort + AllocGlobal>(rt: &R, names: &[PathText]) -> String {
     out
 }
 
-// Whether a page is that of the three layers.
+// Returns whether a page is the one with three layers.
 fn is_page(page: &Page) -> bool {
     page.colour && !page.spot && page.layers.len() == 3 && page.layers.get(1) == Some(&SECOND)
 }

@@ -1,4 +1,4 @@
--- A plate that grows by rows, and its end.
+-- A plate that grows row by row, and its completion.
 use Rattle.std.proofs.Common.{◌≡◌, ℕ, ◌+◌, ◌/◌, ◌<◌, ◌≤◌, List, [], ◌∷◌, ◌++◌, length, sum, get_or, set, replicate, sym, ap, ◌∙◌, append_assoc, arith}
 use Rattle.std.specs.List.{All, flat_map}
 use Rattle.std.proofs.lemmas.List.{append-nil, length-append}
@@ -24,14 +24,14 @@ so_far-none plate bytes counts ends =
     ∙ ap {A = List ℕ} {B = PlateState} (λ l. record plate { bytes = front_bytes; counts = l }) (counts ∙ sym (counts_so_far-none plate.width plate.height))
     ∙ ap {A = List ℕ} {B = PlateState} (λ l. record plate { bytes = front_bytes; counts = counts_so_far plate.width plate.height []; ends = l }) ends
 
--- a plate by its parts
+-- a plate from its parts
 made : (plate : PlateState) (width height dpi : ℕ) (bytes counts ends : List ℕ) → plate.width ≡ width → plate.height ≡ height → plate.dpi ≡ dpi
     → plate.bytes ≡ bytes → plate.counts ≡ counts → plate.ends ≡ ends
     → plate ≡ record { width = width; height = height; dpi = dpi; bytes = bytes; counts = counts; ends = ends }
 made plate width height dpi bytes counts ends w h d b c e =
     λ i. record { width = w i; height = h i; dpi = d i; bytes = b i; counts = c i; ends = e i }
 
--- its parts are those of its rows
+-- the plate's parts are those of its rows
 pub record HasParts (plate : PlateState) (rows : List (List ℕ)) : Type 0 where
   pub bytes : plate.bytes ≡ front_bytes ++ flat_map packing rows
   pub counts : plate.counts ≡ counts_so_far plate.width plate.height rows
@@ -47,21 +47,21 @@ parts plate rows has = record {
   many = ap {A = PlateState} (λ p. length p.ends) has.is ∙ length-row_ends rows;
 }
 
--- no byte of a plate's rows has a place past 32 bits
+-- every byte of a plate's rows has an offset that fits in 32 bits
 pub bytes-fit : (plate : PlateState) (rows : List (List ℕ)) → IsPlate plate → HasRows plate rows → length rows ≤ plate.height → length plate.bytes ≤ 4000000008
 bytes-fit plate rows is has within =
     let p : HasParts plate rows = parts plate rows has in
     let fits : IsPlaceable (counts_so_far plate.width plate.height rows) = IsPlaceable-so_far plate.width plate.height rows is.width is.height within has.each in
     omega (arith, ap length p.bytes, length-append front_bytes (flat_map packing rows), fits, sum-counts_so_far plate.width plate.height rows within)
 
--- with one row more
+-- one more row
 pub rows-more : (plate : PlateState) (rows : List (List ℕ)) (row packed : List ℕ) → TakesRow plate rows row packed
     → All (λ r. length r ≡ row_size plate.width) (rows ++ row ∷ [])
 rows-more plate rows row packed takes =
     All-append (λ (r : List ℕ). length r ≡ row_size plate.width) rows (row ∷ []) takes.has.each
     (All-cons (λ (r : List ℕ). length r ≡ row_size plate.width) row [] takes.size (All-nil (λ (r : List ℕ). length r ≡ row_size plate.width)))
 
--- where the next row ends
+-- the offset of the end of the next row fits in 32 bits
 pub end-fits : (plate : PlateState) (rows : List (List ℕ)) (row packed : List ℕ) → IsPlate plate → TakesRow plate rows row packed → length plate.bytes + length packed ≤ 4000000008
 end-fits plate rows row packed is takes =
     let p : HasParts plate rows = parts plate rows takes.has in
@@ -80,7 +80,7 @@ end-fits plate rows row packed is takes =
       sum-counts_so_far plate.width plate.height (rows ++ row ∷ []) (omega (arith, takes.more)),
     )
 
--- the strip of the next row is there, and its count passes no 32 bits
+-- the strip of the next row exists, and its byte count fits in 32 bits
 pub strip-there : (plate : PlateState) (rows : List (List ℕ)) (row packed : List ℕ) → IsPlate plate → TakesRow plate rows row packed → length plate.ends / rows_each plate.width < length plate.counts
 strip-there plate rows row packed is takes =
     let p : HasParts plate rows = parts plate rows takes.has in
@@ -94,7 +94,7 @@ count-there plate rows row packed is takes =
     let fits : _ = count-fits plate.width plate.height rows row is.width is.height takes.more takes.has.each takes.size in
     rw (p.many, p.counts, takes.is) fits
 
--- the plate with one row more
+-- the plate after one more row
 pub so_far-more : (plate new : PlateState) (rows : List (List ℕ)) (row packed : List ℕ) (strip : ℕ) → TakesRow plate rows row packed → IsAlike plate new
     → new.bytes ≡ plate.bytes ++ packed → new.ends ≡ plate.ends ++ length (plate.bytes ++ packed) ∷ [] → strip ≡ length plate.ends / rows_each plate.width
     → new.counts ≡ set plate.counts strip (get_or plate.counts strip 0 + length packed) → new ≡ so_far plate.width plate.height plate.dpi (rows ++ row ∷ [])
@@ -115,7 +115,7 @@ so_far-more plate new rows row packed strip takes sides bytes ends here counts =
     ∙ sym (counts_so_far-more plate.width plate.height rows row takes.more))
     (ends ∙ ap (λ l. l ++ length (plate.bytes ++ packed) ∷ []) p.ends ∙ ap (λ n. row_ends rows ++ n ∷ []) (sym last) ∙ sym (row_ends-more rows row))
 
--- no place in the whole plate passes 32 bits
+-- every offset in the complete plate fits in 32 bits
 pub placeable : (plate : PlateState) (rows : List (List ℕ)) → IsPlate plate → HasAllRows plate rows → IsPlaceable plate.counts
 placeable plate rows is has =
     let p : HasParts plate rows = parts plate rows has.has in
@@ -125,7 +125,7 @@ placeable plate rows is has =
 pub front-there : (plate : PlateState) (rows : List (List ℕ)) → HasRows plate rows → 8 ≤ length plate.bytes
 front-there plate rows has = (let p : HasParts plate rows = parts plate rows has in omega (arith, ap length p.bytes, length-append front_bytes (flat_map packing rows)))
 
--- front, packed rows and tail are the plate
+-- front, packed rows and tail are the plate file
 pub whole-is : (plate new : PlateState) (rows : List (List ℕ)) → HasAllRows plate rows → IsAlike plate new
     → new.bytes ≡ with_place (tail_place plate.counts) (plate.bytes ++ tail_bytes plate.width plate.height plate.dpi plate.counts)
     → new.counts ≡ plate.counts → new.ends ≡ plate.ends → new ≡ whole plate.width plate.height plate.dpi rows

@@ -1,4 +1,4 @@
--- The row that holds a place, by where the rows end.
+-- The row that contains an offset, found from where the rows end.
 use Rattle.std.proofs.Common.{◌≡◌, ℕ, zero, suc, ◌+◌, ◌-◌, ◌<◌, ◌≤◌, Bool, true, false, List, [], ◌∷◌, ◌++◌, length, take, get_or, Option, Some, None, cond, refl, sym, ap, ◌∙◌, subst, ⊎_elim, arith}
 use Rattle.std.specs.List.{find, flat_map, range_with_len}
 use Rattle.std.proofs.Math.Seq.{take-add, get_or-append_seam}
@@ -10,7 +10,7 @@ use Rattle.std.proofs.lemmas.Grind.{flat_map-append, same_number_lists}
 use Rattle.tif_packbits.specs.Packbits.{packing}
 use Rattle.plate_bytes.specs.Places.{IsSeam, row_start, row_ends, holds_place, row_holding}
 
--- the first of a range of numbers that passes
+-- the first number of a range that satisfies p
 pub find-range : (p : ℕ → Bool) (from n k : ℕ) → from ≤ k → k < from + n → p k ≡ true → ((j : ℕ) → from ≤ j → j < k → p j ≡ false) → find p (range_with_len from n) ≡ Some k
 find-range p from zero k low high here none = absurd (omega arith)
 find-range p from (suc n) k low high here none =
@@ -21,7 +21,7 @@ find-range p from (suc n) k low high here none =
     ∙ find-range p (from + 1) n k (omega arith) (omega arith) here (λ j l h. none j (omega arith) h))
     (cases_eq from k)
 
--- none of them
+-- no number of the range satisfies p
 pub find-range_none : (p : ℕ → Bool) (from n : ℕ) → ((j : ℕ) → from ≤ j → j < from + n → p j ≡ false) → find p (range_with_len from n) ≡ None
 find-range_none p from zero none = refl
 find-range_none p from (suc n) none =
@@ -44,14 +44,14 @@ row_start-le rows y more =
     ap (λ front. length (flat_map packing front)) (take-add y more rows) ∙ ap length (flat_map-append packing (take y rows) _) ∙ length-append (flat_map packing (take y rows)) _ in
     omega (arith, cut)
 
--- where the first rows end, or byte 8
+-- the end of the first n rows; byte 8 if n is 0
 pub start-at_ends : (rows : List (List ℕ)) (n : ℕ) → n ≤ length rows → get_or (8 ∷ row_ends rows) n 0 ≡ row_start rows n
 start-at_ends rows zero within = refl
 start-at_ends rows (suc n) within =
     let next : n + 1 ≡ suc n = omega arith in
     row_ends-at rows n within ∙ ap (row_start rows) next
 
--- a row that begins behind the place doesn't hold it, nor does one that ends before it
+-- a row that begins after an offset, or ends at or before it, does not contain it
 late : (rows : List (List ℕ)) (at y : ℕ) → at < row_start rows y → holds_place rows at y ≡ false
 late rows at y behind = grind (arith, nat_tests)
 
@@ -61,12 +61,12 @@ early rows at y before = grind (arith, nat_tests)
 here : (rows : List (List ℕ)) (at y : ℕ) → row_start rows y ≤ at → at < row_start rows (y + 1) → holds_place rows at y ≡ true
 here rows at y from below = grind (arith, nat_tests)
 
--- before the first row there is none
+-- no row contains an offset before the first row
 pub row_holding-front : (rows : List (List ℕ)) (at : ℕ) → at < 8 → row_holding rows at ≡ None
 unfolding row_holding
 row_holding-front rows at front = find-range_none (holds_place rows at) 0 (length rows) (λ j _ _. late rows at j (omega arith))
 
--- the row at the seam holds it
+-- the row after the seam contains the offset
 pub row_holding-seam : (ends : List ℕ) (rows : List (List ℕ)) (at n : ℕ) → ends ≡ row_ends rows → IsSeam ends at n → n < length ends → row_holding rows at ≡ Some n
 unfolding row_holding
 row_holding-seam ends rows at n are seam below =
@@ -79,7 +79,7 @@ row_holding-seam ends rows at n are seam below =
     let same : row_start rows ((j + 1) + (n - (j + 1))) ≡ row_start rows n = ap (row_start rows) (omega arith) in
     omega (arith, le, same, from)))
 
--- behind the last row there is none
+-- no row contains an offset after the last row
 pub row_holding-behind : (ends : List ℕ) (rows : List (List ℕ)) (at n : ℕ) → ends ≡ row_ends rows → IsSeam ends at n → length ends ≤ n → row_holding rows at ≡ None
 unfolding row_holding
 row_holding-behind ends rows at n are seam behind =
@@ -91,7 +91,7 @@ row_holding-behind ends rows at n are seam behind =
     let same : row_start rows ((j + 1) + (n - (j + 1))) ≡ row_start rows n = ap (row_start rows) (omega (arith, seam.within)) in
     omega (arith, le, same, from)))
 
--- a place before the last row, where there is one row more
+-- the starts of the existing rows are unchanged by one more row
 front-start : (rows : List (List ℕ)) (row : List ℕ) (y : ℕ) → y ≤ length rows → row_start (rows ++ row ∷ []) y ≡ row_start rows y
 front-start rows row y within = ap (λ front. 8 + length (flat_map packing front)) (take-append-le y rows (row ∷ []) within)
 
@@ -100,7 +100,7 @@ last-start rows row =
     ap (λ front. 8 + length (flat_map packing front)) (take_all (length rows + 1) (rows ++ row ∷ []) (omega (arith, length-append rows (row ∷ []))))
     ∙ ap (λ l. 8 + length l) (flat_map-append packing rows (row ∷ []) ∙ ap (λ l. flat_map packing rows ++ l) (append-nil (packing row)))
 
--- the ends with one row more
+-- the ends after one more row
 pub row_ends-more : (rows : List (List ℕ)) (row : List ℕ) → row_ends (rows ++ row ∷ []) ≡ row_ends rows ++ (8 + length (flat_map packing rows ++ packing row)) ∷ []
 row_ends-more rows row =
     let many : length (rows ++ row ∷ []) ≡ length rows + 1 = length-append rows (row ∷ []) in

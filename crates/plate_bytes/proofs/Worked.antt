@@ -1,4 +1,4 @@
--- The row of a place, in two rows that are packed in two bytes each: they stand at 8 and at 10, and end at 12.
+-- The row at an offset, for two rows of two packed bytes each: they begin at 8 and 10, and end at 12.
 use Rattle.std.proofs.Common.{◌≡◌, [], ◌∷◌, Some, None, refl}
 use Rattle.tif_packbits.specs.Packbits.{packing}
 use Rattle.plate_bytes.specs.Places.{row_ends, row_holding}

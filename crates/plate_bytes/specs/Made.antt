@@ -1,4 +1,4 @@
--- A plate that is made in memory.
+-- A plate built in memory.
 use Rattle.std.specs.Prelude.{◌≡◌, ℕ, ◌<◌, ◌≤◌, List, ◌++◌, length}
 use Rattle.std.specs.List.{All, flat_map}
 use Rattle.pr_base.specs.Row.{row_size}
@@ -7,20 +7,20 @@ use Rattle.tif_plate.specs.Plate.{IsSide, IsDpi, strip_count, plate_file}
 use Rattle.tif_plate.specs.Tail.{counts_so_far, front_bytes}
 use Rattle.plate_bytes.specs.Places.{row_ends}
 
--- what contracts see of a plate in memory
+-- the model of a plate in memory
 pub record PlateState : Type 0 where
-  -- the sides in pixels, and the resolution
+  -- width and height in pixels, and the resolution in pixels per inch
   pub width : ℕ
   pub height : ℕ
   pub dpi : ℕ
-  -- the bytes that are made
+  -- the bytes so far
   pub bytes : List ℕ
-  -- the byte counts of its strips, as far as it is made
+  -- the byte counts of its strips so far
   pub counts : List ℕ
-  -- where each packed row ends
+  -- the offset of the end of each packed row
   pub ends : List ℕ
 
--- a plate of this width, height and resolution with its first rows
+-- a plate of this width, height and resolution that has only these first rows
 unfoldable pub so_far : ℕ → ℕ → ℕ → List (List ℕ) → PlateState
 so_far width height dpi rows = record {
   width = width;
@@ -31,7 +31,7 @@ so_far width height dpi rows = record {
   ends = row_ends rows;
 }
 
--- with all its rows and the bytes behind them: the plate file
+-- a plate with all its rows and the bytes after them: the plate file
 unfoldable pub whole : ℕ → ℕ → ℕ → List (List ℕ) → PlateState
 whole width height dpi rows = record {
   width = width;
@@ -42,41 +42,41 @@ whole width height dpi rows = record {
   ends = row_ends rows;
 }
 
--- the same sides and resolution
+-- the same width, height and resolution
 pub record IsAlike (old new : PlateState) : Type 0 where
   pub width : new.width ≡ old.width
   pub height : new.height ≡ old.height
   pub dpi : new.dpi ≡ old.dpi
 
--- the plate has these rows so far, each of the bytes of a row
+-- the plate has exactly these rows so far, each of the right length
 pub record HasRows (plate : PlateState) (rows : List (List ℕ)) : Type 0 where
   pub is : plate ≡ so_far plate.width plate.height plate.dpi rows
   pub each : All (λ row. length row ≡ row_size plate.width) rows
 
--- it has these rows, and the packing of a next one is there
+-- the plate has these rows, and packed is the packing of a next row
 pub record TakesRow (plate : PlateState) (rows : List (List ℕ)) (row packed : List ℕ) : Type 0 where
   pub has : HasRows plate rows
   pub more : length rows < plate.height
   pub size : length row ≡ row_size plate.width
   pub is : packed ≡ packing row
 
--- it has some rows, and the packing of some next one is there
+-- the plate has some rows, and packed is the packing of some next row
 pub record CanTake (plate : PlateState) (packed : List ℕ) : Type 0 where
   pub rows : List (List ℕ)
   pub row : List ℕ
   pub takes : TakesRow plate rows row packed
 
--- it has these rows, which are all of it
+-- the plate has these rows, and they are all of its rows
 pub record HasAllRows (plate : PlateState) (rows : List (List ℕ)) : Type 0 where
   pub has : HasRows plate rows
   pub all : length rows ≡ plate.height
 
--- it has all of some rows
+-- the plate has all of some rows
 pub record IsFull (plate : PlateState) : Type 0 where
   pub rows : List (List ℕ)
   pub has : HasAllRows plate rows
 
--- what holds of a plate at all times
+-- the invariant of a plate
 pub record IsPlate (plate : PlateState) : Type 0 where
   pub width : IsSide plate.width
   pub height : IsSide plate.height

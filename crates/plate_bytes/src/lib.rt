@@ -1,5 +1,5 @@
-// A plate that is made in memory from packed rows: the bytes of its whole file, and which row holds a place
-// of it. The memory serves for one plate after the other.
+// A plate built in memory from packed rows: the bytes of its complete file, and the row that contains a
+// given offset. The memory can be reused for one plate after another.
 #![tactic(auto)]
 
 mod made;

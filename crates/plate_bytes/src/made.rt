@@ -1,4 +1,4 @@
-// A plate in memory: the front and the packed rows as they come, then the bytes behind them.
+// A plate in memory: the front and the packed rows as they arrive, then the bytes after them.
 ghost use Rattle.std.specs.Prelude.{◌≡◌, ◌+◌, ◌^◌, ◌<◌, ◌≤◌, ◌∷◌, [], ◌++◌, ℕ, List, IfOk, OnOk, OnErr};
 ghost use Rattle.std.specs.Prelude.{length, slice_index, slice_set};
 ghost use Rattle.tif_plate.specs.Plate.{IsSide, IsDpi, strip_count};
@@ -12,26 +12,27 @@ use std::alloc::Global;
 use std::marker::Model;
 use tif_plate::{plate_front, plate_tail, rows_per_strip, strips};
 
-/// The bytes behind the rows of a plate are at most so many, and eight for each strip.
+/// The maximum length of the bytes after a plate's rows, without the eight bytes per strip.
 const MOST_TAIL: usize = 167;
 
 /// The bytes before the first row.
 const FRONT: u64 = 8;
 
-/// A plate in memory, which takes its packed rows from the top and then is the bytes of the whole file. The
-/// directory stands behind the rows, whose packed length isn't known before, so no byte of a plate can be
-/// told before all its rows are there. Its memory serves again for a plate of the same sides.
+/// A plate in memory, which receives its packed rows from top to bottom and then holds the bytes of the
+/// complete file. The header stores the offset of the directory, which follows the rows and so depends on
+/// their packed length; the file can't be written out in order before all rows are there. The memory can be
+/// reused for a plate of the same size.
 #[derive(Debug, Drop)]
 pub struct PlateBytes {
     width: u32,
     height: u32,
     dpi: u32,
     bytes: Vec<u8>,
-    /// The bytes of each strip so far.
+    /// The byte count of each strip so far.
     counts: Vec<u32>,
-    /// Where each packed row ends.
+    /// The offset of the end of each packed row.
     ends: Vec<u32>,
-    /// Room for the bytes behind the rows.
+    /// Space for the bytes after the rows.
     tail: Vec<u8>,
 }
 
@@ -65,7 +66,7 @@ impl PlateBytes {
     ghost use Rattle.plate_bytes.specs.Made.{CanTake, HasAllRows, IsAlike, IsFull, TakesRow, so_far, whole};
     ghost use Rattle.plate_bytes.specs.Places.{row_ends, row_holding};
 
-    /// A plate without rows, `width` by `height` pixels at `dpi` pixels an inch.
+    /// Creates a plate without rows, `width` by `height` pixels at `dpi` pixels per inch.
     pub fn new(alloc: Global, width: u32, height: u32, dpi: u32) -> Result<PlateBytes, NoMemory>
         requires width { IsSide width }
         requires height { IsSide height }
@@ -88,7 +89,7 @@ impl PlateBytes {
         })
     }
 
-    /// Takes all rows away, and keeps the memory.
+    /// Removes all rows but keeps the allocated memory.
     pub fn restart(&mut self) -> Result<(), NoMemory>
         ensures rows { OnOk result
             (self.new ≡ so_far self.old.width self.old.height self.old.dpi []) }
@@ -115,7 +116,7 @@ impl PlateBytes {
         Ok(())
     }
 
-    /// Appends the bytes behind the rows and writes the place of the directory.
+    /// Appends the bytes after the rows and writes the offset of the directory.
     pub fn finish(&mut self) -> Result<(), NoMemory>
         requires { IsFull self.old }
         ensures file { OnOk result ((rows : List (List ℕ)) → HasAllRows self.old rows →
@@ -133,15 +134,16 @@ impl PlateBytes {
         Ok(())
     }
 
-    /// The bytes that are made.
+    /// Returns the bytes written so far.
     pub fn bytes(&self) -> &[u8]
         ensures { result.now ≡ self.now.bytes }
     {
         &self.bytes
     }
 
-    /// The row whose packing holds the byte at a place. None is before byte 8 and none from the end of the
-    /// rows on, so the byte that makes the directory's place even and all behind it belong to no row.
+    /// Returns the row whose packing contains the byte at offset `at`. Returns `None` before byte 8 and
+    /// from the end of the rows on: the byte that pads the directory to an even offset, and all bytes after
+    /// it, belong to no row.
     #[tactic(auto, using(crate::proofs::Seams::seams))]
     pub fn row_of(&self, at: u64) -> Option<u32>
         ensures { (rows : List (List ℕ)) → self.now.ends ≡ row_ends rows → result ≡ row_holding rows at }
@@ -158,7 +160,7 @@ impl PlateBytes {
     }
 }
 
-/// Appends a packed row, and where it ends.
+/// Appends a packed row and records the offset of its end.
 fn append(bytes: &mut Vec<u8>, ends: &mut Vec<u32>, packed: &[u8]) -> Result<(), NoMemory>
     requires { length bytes.old.items + length packed.now < 2 ^ 32 }
     ensures bytes { OnOk result (bytes.new.items ≡ bytes.old.items ++ packed.now) }
@@ -171,7 +173,7 @@ fn append(bytes: &mut Vec<u8>, ends: &mut Vec<u32>, packed: &[u8]) -> Result<(),
     Ok(())
 }
 
-/// Adds the bytes of a packed row to those of its strip.
+/// Adds the length of a packed row to the byte count of its strip.
 fn count(counts: &mut Vec<u32>, strip: usize, len: usize)
     requires strip { strip < length counts.old.items }
     requires len { slice_index counts.old.items strip + len ≤ 4000000000 }
@@ -181,7 +183,7 @@ fn count(counts: &mut Vec<u32>, strip: usize, len: usize)
     counts[strip] += len as u32;
 }
 
-/// Appends the bytes behind the rows, which are made in `room`, and writes the place of the directory.
+/// Appends the bytes after the rows, which are built in `room`, and writes the offset of the directory.
 fn close(
     width: u32,
     height: u32,
@@ -206,7 +208,7 @@ fn close(
     Ok(())
 }
 
-/// Writes the place of the directory into a plate.
+/// Writes the offset of the directory into a plate.
 fn put_place(plate: &mut [u8], place: u32)
     requires { 8 ≤ length plate.old }
     ensures { plate.new ≡ with_place place plate.old }
@@ -214,7 +216,7 @@ fn put_place(plate: &mut [u8], place: u32)
     LittleEndian::write_u32(&mut plate[4..8], place);
 }
 
-/// How many rows end at a place or before it, found by halving.
+/// Returns the number of rows that end at or before an offset, by binary search.
 fn ends_within(ends: &[u32], at: u64) -> usize
     requires { 8 ≤ at }
     ensures { IsSeam ends.now at result }

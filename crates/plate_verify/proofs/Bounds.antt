@@ -1,4 +1,4 @@
--- No plate is longer than what is loaded of one.
+-- No plate is longer than the load limit.
 use Rattle.std.proofs.Common.{◌≡◌, ℕ, ◌*◌, ◌<◌, ◌≤◌, List, [], ◌∷◌, ◌++◌, length, ap, ⊎_elim, arith}
 use Rattle.std.specs.Prelude.{All, slice_index_or}
 use Rattle.std.specs.List.{flat_map, range_with_len}
@@ -44,7 +44,7 @@ length-table width rows =
     omega (arith, length-strip_table (strip_places width rows) (strip_counts width rows) more, counts, length-places width rows, strips-within width (length rows)))
     (cases_lt (length (strip_counts width rows)) 2)
 
--- a plate of so many rows
+-- a plate with at most this many rows
 pub plate-within : (width dpi : ℕ) (rows : List (List ℕ)) → length rows ≤ 65535 → Each (λ row. length row ≤ 8192) rows → length (plate_file width dpi rows) ≤ 600000000
 unfolding plate_file
 plate-within width dpi rows few each =

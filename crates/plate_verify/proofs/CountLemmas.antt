@@ -1,4 +1,4 @@
--- How many plates there are, and the answer that follows from looking at all.
+-- The number of plates, and the result of verifying all of them.
 use Rattle.std.proofs.Common.{◌≡◌, ℕ, zero, suc, ◌+◌, ◌*◌, ◌<◌, ◌≤◌, Bool, true, false, cond, List, [], ◌∷◌, ◌++◌, length, take, get_or, Option, Some, None, Result, Ok, Err, refl, sym, ap, ◌∙◌, arith}
 use Rattle.std.specs.Prelude.{count_by, filter, slice_get, unwrap_or}
 use Rattle.std.specs.List.{filter_map, flat_map, range_with_len}
@@ -21,7 +21,7 @@ use Rattle.plate_verify.proofs.LookLemmas.{if_held}
 use Rattle.plate_verify.proofs.OrderLemmas.{order_is}
 use Rattle.plate_verify.proofs.Rights.{first_none}
 
--- 1 for what passes
+-- 1 for an element that passes
 abbrev pub one_if : Bool → ℕ
 one_if b = cond b 1 0
 
@@ -72,7 +72,7 @@ pub plates-all : (plan : PlanData) (i n : ℕ) → n ≡ length (flat_map (group
 plates-all plan i n is past =
     is ∙ ap (λ gs. length (flat_map (group_sites plan) gs)) (take_all i (groups_of plan) past) ∙ sym (ap {A = List SitePlate} length (order_is plan))
 
--- ---- the answer
+-- ---- the result
 
 pub after_all : (plan : PlanData) (rows : List (List ℕ)) (out : List ℕ) (old new : ShelfTold) (r : Result (Option Checked) VerifyFault) → Looked plan rows out (plates_in_order plan) old new r
     → AfterAll plan rows out old new (answer_of plan r)

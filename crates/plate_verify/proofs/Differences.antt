@@ -7,7 +7,7 @@ use Rattle.std.proofs.lemmas.Bool.{cases_eq, cases_lt, ne_eqb}
 use Rattle.std.proofs.lemmas.List.{take_all, take_more}
 use Rattle.plate_verify.specs.Difference.{IsAlikeTo, difference_of}
 
--- a list and itself have none
+-- a list does not differ from itself
 pub difference-same : (a : List ℕ) → difference_of a a ≡ None
 difference-same [] = refl
 difference-same (x ∷ xs) =
@@ -39,7 +39,7 @@ slice_get-none [] n past = refl
 slice_get-none (x ∷ xs) zero past = absurd (omega arith)
 slice_get-none (x ∷ xs) (suc n) past = slice_get-none xs n (omega arith)
 
--- lists that have none are one
+-- lists without a difference are equal
 pub difference-none : (a b : List ℕ) → difference_of a b ≡ None → a ≡ b
 difference-none [] [] none = refl
 difference-none [] (y ∷ ys) none = cc
@@ -50,7 +50,7 @@ difference-none (x ∷ xs) (y ∷ ys) none =
     (λ (apart : x ≡ y → ⊥). absurd (some_is (sym (heads_apart x y (difference_of xs ys) apart) ∙ none)))
     (cases_eq x y)
 
--- at equal numbers of equal bytes the rest decides; at the first bytes that aren't equal it ends, and where one list ends
+-- after equal prefixes the rest decides; the difference is at the first unequal byte, or where one list ends
 pub difference-ends : (a b : List ℕ) (n : ℕ) → n ≤ length a → n ≤ length b → take n a ≡ take n b → (slice_get a n ≡ slice_get b n → ⊥) → difference_of a b ≡ Some n
 difference-ends [] [] zero p q same other = absurd (other refl)
 difference-ends [] (y ∷ ys) zero p q same other = refl
@@ -62,7 +62,7 @@ difference-ends (x ∷ xs) (y ∷ ys) (suc n) p q same other =
     heads_same x y (difference_of xs ys) (ap (λ l. get_or l 0 0) same)
     ∙ ap (option_map suc) (difference-ends xs ys n (omega arith) (omega arith) (ap (drop 1) same) other)
 
--- the parts behind equal fronts of one length
+-- the parts after equal prefixes of the same length
 pub IsAlikeTo-piece : (a b : List ℕ) (n k : ℕ) → IsAlikeTo a b n → n + k ≤ length a → n + k ≤ length b → take k (drop n a) ≡ take k (drop n b) → IsAlikeTo a b (n + k)
 IsAlikeTo-piece a b n k alike p q same = record {
   a_within = p;
@@ -77,13 +77,13 @@ IsAlikeTo-byte a b n alike p q same = record {
   same = take_more a n 0 p ∙ ap (λ l. l ++ get_or a n 0 ∷ []) alike.same ∙ ap (λ z. take n b ++ z ∷ []) same ∙ sym (take_more b n 0 q);
 }
 
--- both end there
+-- both lists end there
 pub difference-whole : (a b : List ℕ) (n : ℕ) → IsAlikeTo a b n → n ≡ length a → n ≡ length b → difference_of a b ≡ None
 difference-whole a b n alike p q =
     let same : a ≡ b = sym (take_all n a (omega arith)) ∙ alike.same ∙ take_all n b (omega arith) in
     ap (difference_of a) (sym same) ∙ difference-same a
 
--- one ends there, or both go on and differ
+-- one list ends there, or both continue and differ
 pub difference-at : (a b : List ℕ) (n : ℕ) → IsAlikeTo a b n → (n ≡ length a → n ≡ length b → ⊥) → (n < length a → n < length b → get_or a n 0 ≡ get_or b n 0 → ⊥)
     → difference_of a b ≡ Some n
 difference-at a b n alike some other =
@@ -105,7 +105,7 @@ difference-at a b n alike some other =
 true_is : true ≡ false → ⊥
 true_is e = cc
 
--- what `==` says of two slices
+-- what `==` establishes for two slices
 pub pointwise-same : (xs ys : List ℕ) → true ≡ pointwise eqb xs ys → xs ≡ ys
 pointwise-same [] [] e = refl
 pointwise-same [] (y ∷ ys) e = absurd (true_is e)
@@ -116,7 +116,7 @@ pointwise-same (x ∷ xs) (y ∷ ys) e =
     (λ (apart : x ≡ y → ⊥). absurd (true_is (e ∙ ap (λ b. b && pointwise eqb xs ys) (ne_eqb x y apart))))
     (cases_eq x y)
 
--- equal pieces of so many bytes
+-- equal pieces of this length
 pub IsAlikeTo-equal : (a b : List ℕ) (n k m : ℕ) → m ≡ k → IsAlikeTo a b n → n + k ≤ length a → n + k ≤ length b → true ≡ pointwise eqb (take m (drop n a)) (take m (drop n b)) → IsAlikeTo a b (n + k)
 IsAlikeTo-equal a b n k m e alike p q same =
     IsAlikeTo-piece a b n k alike p q

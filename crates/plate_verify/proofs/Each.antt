@@ -1,4 +1,4 @@
--- What holds of each element of a list, by recursion, and through the makers of lists.
+-- Facts that hold for each element of a list, by recursion, and through list functions.
 use Rattle.std.proofs.Common.{◌≡◌, ℕ, zero, suc, ◌+◌, ◌<◌, ◌≤◌, Bool, true, false, cond, List, [], ◌∷◌, ◌++◌, map, Option, Some, None, refl, ap, ◌∙◌, subst, ⊎_elim, arith}
 use Rattle.std.specs.Prelude.{All, filter}
 use Rattle.std.specs.List.{cons_option, filter_map, flat_map, range_with_len}
@@ -81,7 +81,7 @@ one_of_each P from (suc n) each k low high =
     (λ (other : from ≡ k → ⊥). one_of_each P (from + 1) n each.1 k (omega arith) (omega arith))
     (cases_eq from k)
 
--- what holds of each element for each of some things holds for each of them of each element
+-- exchanges a quantifier over elements with one over other things
 pub Each-swap : {I X : Type 0} (Q : I → X → Type 0) (xs : List X) → ((i : I) → Each (Q i) xs) → Each (λ x. (i : I) → Q i x) xs
 Each-swap Q [] each = tt
 Each-swap Q (x ∷ xs) each = (λ i. (each i).0, Each-swap Q xs (λ i. (each i).1))
@@ -90,7 +90,7 @@ cons_none : {Y : Type 0} (o : Option Y) (ys : List Y) → cons_option o ys ≡ [
 cons_none None ys e = (refl, e)
 cons_none (Some y) ys e = cc
 
--- nothing is found of any exactly where it is found of none
+-- the results are empty exactly if no element has a result
 pub none_found : {X Y : Type 0} (f : X → Option Y) (xs : List X) → filter_map f xs ≡ [] → Each (λ x. f x ≡ None) xs
 none_found f [] e = tt
 none_found f (x ∷ xs) e = (let both : (f x ≡ None) × (filter_map f xs ≡ []) = cons_none (f x) (filter_map f xs) e in (both.0, none_found f xs both.1))
@@ -99,7 +99,7 @@ pub found_none : {X Y : Type 0} (f : X → Option Y) (xs : List X) → Each (λ 
 found_none f [] each = refl
 found_none {X} {Y} f (x ∷ xs) each = ap (λ (o : Option Y). cons_option o (filter_map f xs)) each.0 ∙ found_none f xs each.1
 
--- what is found of any
+-- a fact about every result
 pub Each-found : {X Y : Type 0} (P : Y → Type 0) (f : X → Option Y) (xs : List X) → ((x : X) (y : Y) → f x ≡ Some y → P y) → Each P (filter_map f xs)
 Each-found P f [] gives = tt
 Each-found {X} {Y} P f (x ∷ xs) gives = one (f x) (gives x) (Each-found P f xs gives)

@@ -1,4 +1,4 @@
--- The plates of a group, of the rows of a feed.
+-- The plates of a group, made from the rows of a feed.
 use Rattle.std.proofs.Common.{◌≡◌, ℕ, zero, suc, ◌+◌, ◌-◌, ◌*◌, ◌<◌, ◌≤◌, List, [], ◌∷◌, ◌++◌, length, map, take, drop, get_or, Some, Result, Ok, Err, refl, sym, ap, ◌∙◌, ⊎_elim, arith}
 use Rattle.std.specs.Prelude.{OnOk, slice_get}
 use Rattle.std.specs.List.{range_with_len}
@@ -31,7 +31,7 @@ get_or-take (suc k) [] i d below = refl
 get_or-take (suc k) (p ∷ plates) zero d below = refl
 get_or-take (suc k) (p ∷ plates) (suc i) d below = get_or-take k plates i d (omega arith)
 
--- the first plates are fed with the rows of the group
+-- the first plates receive the rows of the group
 pub group_fed : (plan : PlanData) (rows : List (List ℕ)) (group : Group) (plates : List PlateState) (left : List (List ℕ)) (len k : ℕ) → FedGroup plan rows group plates left len → k ≡ ink_count group → k ≤ length plates
     → AreFed (take k plates) left len (sides_of plan) (drop group.first rows)
 group_fed plan rows group plates left len k g is few =
@@ -88,7 +88,7 @@ pub whole_sides : (sides : Sides) (plate : PlateState) (rows : List (List ℕ)) 
 unfolding whole
 whole_sides sides plate rows e = (ap {A = PlateState} (λ p. p.width) e, ap {A = PlateState} (λ p. p.height) e, ap {A = PlateState} (λ p. p.dpi) e)
 
--- the group behind is fed next
+-- the next group follows in the feed
 pub fed_after : (plan : PlanData) (rows : List (List ℕ)) (group : Group) (plates made : List PlateState) (left left' : List (List ℕ)) (len len' k height : ℕ) (turn : ℕ → List (List ℕ))
     → FedGroup plan rows group plates left len → k ≡ ink_count group → height ≡ plate_height plan → length made ≡ length (take k plates) → AreWhole (sides_of plan) turn made
     → left' ≡ map frame_of (drop (height * length (take k plates)) (drop group.first rows)) → len' ≡ len

@@ -1,4 +1,4 @@
--- What one load tells of a plate, and how looks at plates follow each other.
+-- What one load establishes about a plate, and how checks of plates follow each other.
 use Rattle.std.proofs.Common.{◌≡◌, ℕ, ◌+◌, ◌<◌, ◌≤◌, true, false, List, [], ◌∷◌, ◌++◌, length, take, drop, get_or, Option, Some, None, option_map, Result, Ok, Err, refl, sym, ap, ◌∙◌, subst, inl, inr, append_assoc, arith}
 use Rattle.std.specs.Prelude.{IfSome, IsSomeAnd, nat_lt, slice_get}
 use Rattle.std.specs.List.{cons_option, filter_map, flat_map}
@@ -30,11 +30,11 @@ missed-told : (path : List ℕ) (old new : Option (Option (List ℕ))) → new �
 missed-told path None new e = subst {A = Option (Option (List ℕ))} (λ o. IfSome o (λ last. last ≡ Some path)) (sym e) tt
 missed-told path (Some last) new e = subst {A = Option (Option (List ℕ))} (λ o. IfSome o (λ l. l ≡ Some path)) (sym e) refl
 
--- what a load that ended otherwise than by Failed leaves of a shelf
+-- the effect on a shelf of a load with a result other than Failed
 pub quiet : (old new : ShelfTold) (path : List ℕ) → new.missed ≡ missed_after false path old.missed → new.held ≡ old.held → old.faults ≤ new.faults → old.longs ≤ new.longs → IsQuiet old new
 quiet old new path missed held faults longs = record { stays = record { held = held; faults = faults; longs = longs }; missed = missed ∙ missed-same path old.missed }
 
--- what is wrong with bytes that are held, by the plate that was made
+-- the difference of the held bytes from the plate that was made
 wrong_is : (plan : PlanData) (rows : List (List ℕ)) (out : List ℕ) (files : List (List ℕ × List ℕ)) (at : SitePlate) (made : PlateState) (bytes : List ℕ) → IsMade plan rows at.1 made
     → held_at files (path_at plan out at) ≡ Some bytes → length bytes ≤ 600000000
     → wrong_at plan rows out files at ≡ option_map (λ k. OtherAt (path_at plan out at) k (row_holding (plate_rows plan rows at.1) k)) (difference_of made.bytes bytes)
@@ -90,7 +90,7 @@ looked_loaded plan rows out at old new path made bytes found named held short st
       long = not_long path x (λ k. row_holding (plate_rows plan rows at.1) k) (difference_of made.bytes bytes) (Rose old.longs new.longs) e;
     }
 
--- there were too many
+-- there were too many bytes
 pub looked_long : (plan : PlanData) (rows : List (List ℕ)) (out : List ℕ) (at : SitePlate) (old new : ShelfTold) (path : List ℕ)
     → path ≡ path_at plan out at → IsLongerAt old.held path 600000000 → Rose old.longs new.longs → IsQuiet old new → FindsWrong plan rows out (at ∷ []) old new (Long path)
 unfolding wrong_at
@@ -129,7 +129,7 @@ looked_failed plan rows out at old new path named rose missed stays = record {
     nothing None = tt
     nothing (Some files) = refl
 
--- ---- one look after another
+-- ---- one check after another
 
 stays-then : (a b c : ShelfTold) → Stays a b → Stays b c → Stays a c
 stays-then a b c p q = record { held = q.held ∙ p.held; faults = (let f = p.faults in let g = q.faults in omega arith); longs = (let f = p.longs in let g = q.longs in omega arith) }
@@ -155,7 +155,7 @@ none-then plan rows out held xs ys p q =
     both_held held (λ files. filter_map (wrong_at plan rows out files) xs ≡ []) (λ files. filter_map (wrong_at plan rows out files) ys ≡ []) (λ files. filter_map (wrong_at plan rows out files) (xs ++ ys) ≡ []) p q
     (λ files a b. filter_map-append (wrong_at plan rows out files) xs ys ∙ ap (λ l. l ++ filter_map (wrong_at plan rows out files) ys) a ∙ b)
 
--- behind plates that are right
+-- after plates that match
 pub then_looked : (plan : PlanData) (rows : List (List ℕ)) (out : List ℕ) (xs ys : List SitePlate) (a b c : ShelfTold) (r : Result (Option Checked) VerifyFault)
     → AreRight plan rows out xs a b → Looked plan rows out ys b c r → Looked plan rows out (xs ++ ys) a c r
 then_looked plan rows out xs ys a b c (Ok None) p q = record {
@@ -188,13 +188,13 @@ then_looked plan rows out xs ys a b c (Err (Shelf path)) p q = record {
 }
 then_looked plan rows out xs ys a b c (Err Memory) p q = quiet-then a b c p.quiet q
 
--- an answer at which looking ends
+-- a result at which verifying stops
 abbrev pub IsStopped : Result (Option Checked) VerifyFault → Type 0
 IsStopped (Ok None) = ⊥
 IsStopped (Ok (Some found)) = Unit {0}
 IsStopped (Err fault) = Unit {0}
 
--- plates behind that were never looked at
+-- the later plates were not checked
 pub looked_before : (plan : PlanData) (rows : List (List ℕ)) (out : List ℕ) (xs ys : List SitePlate) (a b : ShelfTold) (r : Result (Option Checked) VerifyFault)
     → Looked plan rows out xs a b r → IsStopped r → Looked plan rows out (xs ++ ys) a b r
 looked_before plan rows out xs ys a b (Ok None) p s = absurd s
@@ -221,7 +221,7 @@ looked_before plan rows out xs ys a b (Err (Shelf path)) p s = record {
 }
 looked_before plan rows out xs ys a b (Err Memory) p s = p
 
--- ---- a loop over what has plates
+-- ---- a loop over parts that have plates
 
 pub none_looked : (plan : PlanData) (rows : List (List ℕ)) (out : List ℕ) (told' : ShelfTold) → AreRight plan rows out [] told' told'
 none_looked plan rows out s = record { quiet = record { stays = record { held = refl; faults = omega arith; longs = omega arith }; missed = refl }; right = nothing s.held }

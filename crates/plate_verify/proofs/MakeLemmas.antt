@@ -1,4 +1,4 @@
--- Plates side by side: one row of each, all rows, and their ends.
+-- Plates made together: one row of each, all rows, and their completion.
 use Rattle.std.proofs.Common.{◌≡◌, ℕ, zero, suc, ◌+◌, ◌*◌, ◌<◌, ◌≤◌, cond, List, [], ◌∷◌, ◌++◌, length, map, drop, get_or, set, Result, Ok, Err, refl, sym, ap, ◌∙◌, subst, ⊎_elim, arith}
 use Rattle.std.specs.Prelude.{All, OnOk, nat_lt}
 use Rattle.std.proofs.Math.Seq.{drop-cons}
@@ -45,7 +45,7 @@ takes_row plate left len rows row rest frame packed left' takes given held = rec
   is = held ∙ ap packed_in (frame_is plate left len rows row rest frame left' takes given) ∙ packed_in-frame_of row takes.small;
 }
 
--- a plate that is so far has these rows
+-- a plate in this state has these rows
 pub has_rows : (sides : Sides) (plate : PlateState) (rows : List (List ℕ)) → plate ≡ so_far sides.width sides.height sides.dpi rows → All (λ row. length row ≡ row_size sides.width) rows → HasRows plate rows
 unfolding so_far
 has_rows sides plate rows e each =
@@ -57,7 +57,7 @@ has_rows sides plate rows e each =
       each = subst {A = ℕ} (λ x. All (λ (row : List ℕ). length row ≡ row_size x) rows) (sym w) each;
     }
 
--- what it is with other rows, by its own sides
+-- its state with more rows, by its own sides
 pub by_sides : (sides : Sides) (plate : PlateState) (rows more : List (List ℕ)) → plate ≡ so_far sides.width sides.height sides.dpi rows
     → so_far plate.width plate.height plate.dpi more ≡ so_far sides.width sides.height sides.dpi more
 unfolding so_far
@@ -73,7 +73,7 @@ own_width sides plate rows e = (ap {A = PlateState} (λ p. p.width) e, ap {A = P
 
 -- ---- a row of each
 
--- the rows of plate i where the first j plates took their next
+-- the rows of plate i after the first j plates took their next row
 abbrev taken_rows : (ℕ → List (List ℕ)) → List (List ℕ) → ℕ → ℕ → List (List ℕ)
 taken_rows rows next j i = cond (nat_lt i j) (rows i ++ get_or next i [] ∷ []) (rows i)
 
@@ -271,7 +271,7 @@ fed_again plates plates' left len sides next fed have many = record {
   frame = fed.frame;
 }
 
--- ---- the ends
+-- ---- completion
 
 pub record FinishedTo (sides : Sides) (rows : ℕ → List (List ℕ)) (j : ℕ) (plates : List PlateState) : Type 0 where
   pub done : (i : ℕ) (d : PlateState) → i < j → i < length plates → get_or plates i d ≡ whole sides.width sides.height sides.dpi (rows i)

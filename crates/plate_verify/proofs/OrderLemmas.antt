@@ -1,4 +1,4 @@
--- Groups in order: each is fed with its own rows, and all plates are those of all groups.
+-- Groups in order: each receives its own rows, and all plates are those of all groups.
 use Rattle.std.proofs.Common.{◌≡◌, ℕ, ◌+◌, ◌*◌, ◌<◌, ◌≤◌, List, [], ◌∷◌, ◌++◌, length, map, take, get_or, Option, Result, refl, sym, ap, ◌∙◌, subst, ⊎_elim, arith}
 use Rattle.std.specs.List.{flat_map}
 use Rattle.std.proofs.lemmas.Bool.{cases_lt}
@@ -93,7 +93,7 @@ pub looked_to-all : (plan : PlanData) (rows : List (List ℕ)) (out : List ℕ) 
 looked_to-all plan rows out index a b plates left len past to =
     subst {A = List SitePlate} (λ l. AreRight plan rows out l a b) (sym (order_is plan)) (looked_all plan rows out (group_sites plan) (groups_of plan) index a b past to.right)
 
--- one plate more in memory
+-- one more plate in memory
 pub sides_more : (sides : Sides) (plates : List PlateState) (plate : PlateState) → HaveSides sides plates → plate ≡ so_far sides.width sides.height sides.dpi [] → HaveSides sides (plates ++ plate ∷ [])
 unfolding so_far
 sides_more sides plates plate have is = record {
@@ -111,7 +111,7 @@ sides_more sides plates plate have is = record {
         ap (λ n. f (get_or (plates ++ plate ∷ []) n d)) here ∙ ap f (get_or-append_seam plates plate [] d) ∙ new)
         (cases_lt i (length plates))
 
--- each group is of a section of the plan
+-- each group belongs to a section of the plan
 pub section_at : (plan : PlanData) (groups : List Group) (index : ℕ) (d : Group) → IsPlan plan → groups ≡ groups_of plan → index < length (groups_of plan) → (get_or groups index d).section < length plan.sections
 section_at plan groups index d is are below =
     (let own : InPlan plan (get_or (groups_of plan) index d) = All-get_or (InPlan plan) (groups_of plan) index d below (groups_in_plan plan is) in

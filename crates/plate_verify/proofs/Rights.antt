@@ -1,4 +1,4 @@
--- That all plates are right, and what it says of each site's files.
+-- That all plates match, and what it means for the files of each site.
 use Rattle.std.proofs.Common.{◌≡◌, ℕ, ◌<◌, ◌≤◌, Bool, true, false, cond, List, [], ◌∷◌, length, Option, Some, None, option_map, refl, sym, ap, ◌∙◌, ⊎_elim, arith}
 use Rattle.std.specs.Prelude.{All, filter, nat_lt, slice_get, unwrap_or}
 use Rattle.std.specs.List.{flat_map, range_with_len}
@@ -28,7 +28,7 @@ unmapped : {A B : Type 0} (f : A → B) (o : Option A) → option_map f o ≡ No
 unmapped f None e = refl
 unmapped f (Some x) e = cc
 
--- nothing is wrong only with what is held with its bytes
+-- no difference is found only if the right bytes are held
 pub right_is_held : (file : List ℕ × List ℕ) (rows : List (List ℕ)) (o : Option (List ℕ)) → wrong_with file rows o ≡ None → o ≡ Some file.1
 right_is_held file rows None e = absurd (some_none (NotHeld file.0) e)
 right_is_held file rows (Some bytes) e =
@@ -42,7 +42,7 @@ right_is_held file rows (Some bytes) e =
     ap {A = List ℕ} (λ l. Some l) (sym (difference-none file.1 bytes (unmapped told (difference_of file.1 bytes) none))))
     (cases_lt 600000000 (length bytes))
 
--- and with that nothing is wrong, if it isn't too long
+-- and the right bytes have no difference, if there are not too many
 pub held_is_right : (file : List ℕ × List ℕ) (rows : List (List ℕ)) (o : Option (List ℕ)) → length file.1 ≤ 600000000 → o ≡ Some file.1 → wrong_with file rows o ≡ None
 held_is_right file rows o short held =
     let told : ℕ → Found = λ at. OtherAt file.0 at (row_holding rows at) in
@@ -50,7 +50,7 @@ held_is_right file rows o short held =
     ∙ cond-false (nat_lt 600000000 (length file.1)) (Some (TooMany file.0)) (option_map told (difference_of file.1 file.1)) (le-ltb 600000000 (length file.1) short)
     ∙ ap (option_map told) (difference-same file.1)
 
--- what is wrong is never that all is right
+-- a difference is never AllRight
 pub wrong_is_wrong : (file : List ℕ × List ℕ) (rows : List (List ℕ)) (o : Option (List ℕ)) (n : ℕ) → wrong_with file rows o ≡ Some (AllRight n) → ⊥
 wrong_is_wrong file rows None n e = cc
 wrong_is_wrong file rows (Some bytes) n e = either (nat_lt 600000000 (length bytes)) (difference_of file.1 bytes) e
@@ -62,7 +62,7 @@ wrong_is_wrong file rows (Some bytes) n e = either (nat_lt 600000000 (length byt
 
 -- ---- all plates
 
--- a plate of a site is held with its bytes
+-- a plate of a site is held with the right bytes
 abbrev pub IsHeld : PlanData → List (List ℕ) → List ℕ → List (List ℕ × List ℕ) → ℕ → PlateOf → Type 0
 IsHeld plan rows out held site plate =
     (let file = file_of plan rows out site plate in held_at held file.0 ≡ Some file.1)
@@ -81,7 +81,7 @@ of_group plan P group own =
     (Each-filter (λ s. P s (group, ink)) (has_site group) (range_with_len 0 n) (Each-range (λ s. has_site group s ≡ true → P s (group, ink)) 0 n (λ s low high has. there (s, omega arith, has)))))
     (inks_of group) each)
 
--- what holds of each plate of each site holds in the order of all plates, and back
+-- a fact about each plate of each site, in the order of all plates, and the converse
 pub in_order : (plan : PlanData) (P : ℕ → PlateOf → Type 0) → ((site : ℕ) → site < length plan.sites → Each (P site) (site_plates plan site)) → Each (λ (at : SitePlate). P at.0 at.1) (plates_in_order plan)
 unfolding site_plates plates_in_order
 in_order plan P each =
@@ -118,9 +118,9 @@ by_site plan P each site below =
     (inks_of group) (mapped_each (λ (plate : PlateOf). Each at (plate_sites plan plate)) (λ (ink : Ink). (group, ink)) (inks_of group) own)))
     groups parts))
 
--- ---- the first wrong one
+-- ---- the first difference
 
--- nothing that is wrong is that all are right
+-- no difference is AllRight
 none_right : (plan : PlanData) (rows : List (List ℕ)) (out : List ℕ) (held : List (List ℕ × List ℕ)) → Each (λ x. (m : ℕ) → x ≡ AllRight m → ⊥) (wrongs plan rows out held)
 unfolding wrong_at
 none_right plan rows out held =
@@ -129,7 +129,7 @@ none_right plan rows out held =
     wrong_is_wrong (file_of plan rows out site plate) (plate_rows plan rows plate) (held_at held (file_of plan rows out site plate).0) m
     (found ∙ ap {A = Found} {B = Option Found} (λ y. Some y) is))
 
--- none is wrong where the answer is that all are right, and so many there are
+-- if the result is AllRight, no plate differs, and the number is that of the plates
 pub same-none : (plan : PlanData) (rows : List (List ℕ)) (out : List ℕ) (held : List (List ℕ × List ℕ)) (n : ℕ) → first_wrong plan rows out held ≡ AllRight n
     → (wrongs plan rows out held ≡ []) × (n ≡ length (plates_in_order plan))
 unfolding first_wrong
@@ -145,7 +145,7 @@ pub first_none : (plan : PlanData) (rows : List (List ℕ)) (out : List ℕ) (he
 unfolding first_wrong
 first_none plan rows out held none = ap (λ found. unwrap_or (slice_get found 0) (AllRight (length (plates_in_order plan)))) none
 
--- Same is a yes: then each file of each site is held with its bytes
+-- if the result is Same, each file of each site is held with the right bytes
 pub same_holds : (plan : PlanData) (rows : List (List ℕ)) (out : List ℕ) (held : List (List ℕ × List ℕ)) (n : ℕ) → first_wrong plan rows out held ≡ AllRight n → AreHeld plan rows out held
 unfolding wrong_at
 same_holds plan rows out held n e site below =
@@ -158,7 +158,7 @@ same_holds plan rows out held n e site below =
     (λ plate none. right_is_held (file_of plan rows out site plate) (plate_rows plan rows plate) (held_at held (file_of plan rows out site plate).0) none)
     (site_plates plan site) own))
 
--- and where each is, the answer is Same
+-- and if each file is, the result is Same
 pub held_same : (plan : PlanData) (rows : List (List ℕ)) (out : List ℕ) (held : List (List ℕ × List ℕ)) → IsPlan plan → All (λ row. length row ≤ 8192) rows
     → AreHeld plan rows out held
     → first_wrong plan rows out held ≡ AllRight (length (plates_in_order plan))

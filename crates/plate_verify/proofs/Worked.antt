@@ -1,4 +1,4 @@
--- Where small files first differ, and what is wrong with a plate of two rows in each of their ways.
+-- Where small files first differ, and each kind of difference for a plate of two rows.
 use Rattle.std.proofs.Common.{◌≡◌, [], ◌∷◌, Some, None, refl}
 use Rattle.tif_packbits.specs.Packbits.{packing}
 use Rattle.plate_bytes.specs.Places.{row_holding}
@@ -23,7 +23,7 @@ nothing_held = refl
 one_too_many : difference_of (1 ∷ 2 ∷ []) (1 ∷ 2 ∷ 3 ∷ []) ≡ Some 2
 one_too_many = refl
 
--- a file of 14 bytes whose two packed rows stand at 8 and at 10
+-- a file of 14 bytes whose two packed rows are at offsets 8 and 10
 right : wrong_with (1 ∷ [], 0 ∷ 1 ∷ 2 ∷ 3 ∷ 4 ∷ 5 ∷ 6 ∷ 7 ∷ 0 ∷ 144 ∷ 254 ∷ 1 ∷ 8 ∷ 9 ∷ []) ((144 ∷ []) ∷ (1 ∷ 1 ∷ 1 ∷ []) ∷ [])
     (Some (0 ∷ 1 ∷ 2 ∷ 3 ∷ 4 ∷ 5 ∷ 6 ∷ 7 ∷ 0 ∷ 144 ∷ 254 ∷ 1 ∷ 8 ∷ 9 ∷ [])) ≡ None
 right = refl
@@ -33,7 +33,7 @@ in_second_row : wrong_with (1 ∷ [], 0 ∷ 1 ∷ 2 ∷ 3 ∷ 4 ∷ 5 ∷ 6 ∷ 
 unfolding packing row_holding
 in_second_row = refl
 
--- the row is that of the plate that should be there, also where the one held ends before
+-- the row is that of the right plate, also if the held file ends earlier
 cut_in_first_row : wrong_with (1 ∷ [], 0 ∷ 1 ∷ 2 ∷ 3 ∷ 4 ∷ 5 ∷ 6 ∷ 7 ∷ 0 ∷ 144 ∷ 254 ∷ 1 ∷ 8 ∷ 9 ∷ []) ((144 ∷ []) ∷ (1 ∷ 1 ∷ 1 ∷ []) ∷ [])
     (Some (0 ∷ 1 ∷ 2 ∷ 3 ∷ 4 ∷ 5 ∷ 6 ∷ 7 ∷ 0 ∷ [])) ≡ Some (OtherAt (1 ∷ []) 9 (Some 0))
 unfolding packing row_holding

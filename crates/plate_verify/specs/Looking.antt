@@ -1,4 +1,4 @@
--- Looking at plates one after the other: what a shelf tells, and what comes of it.
+-- Verifying plates one after the other: the state of the shelf, and the result.
 use Rattle.std.specs.Prelude.{◌≡◌, ℕ, ◌≤◌, if◌then◌else◌, List, [], ◌∷◌, ◌++◌, slice_get, Option, Some, None}
 use Rattle.std.specs.Prelude.{IfSome, Result, Ok, Err}
 use Rattle.std.specs.List.{filter_map, flat_map}
@@ -18,19 +18,19 @@ use Rattle.plate_verify.specs.declared.checked.VerifyFault.TheVariants.{Shelf, M
 use Rattle.plate_verify.specs.Order.{SitePlate, plate_sites, plates_in_order}
 use Rattle.plate_verify.specs.Wrong.{Found, AllRight, OtherAt, TooMany, wrong_at, first_wrong}
 
--- what an answer tells
+-- the state of the plates that a result reports
 abbrev pub told : Checked → Found
 told (Same plates) = AllRight plates
 told (Differs path at row) = OtherAt path at row
 told (Long path) = TooMany path
 
--- P where a plate is told to be too long
+-- P if a plate is reported as too long
 abbrev pub IfLong : Checked → Type 0 → Type 0
 IfLong (Same plates) P = Unit {0}
 IfLong (Differs path at row) P = Unit {0}
 IfLong (Long path) P = P
 
--- what a shelf tells
+-- what contracts see of a shelf
 pub record ShelfTold : Type 0 where
   pub held : Option (List (List ℕ × List ℕ))
   pub missed : Option (Option (List ℕ))
@@ -40,18 +40,18 @@ pub record ShelfTold : Type 0 where
 abbrev pub shelf_told : {H : Type 0} → shelf.Ghosts H → H → ShelfTold
 shelf_told g h = record { held = g.held h; missed = g.missed h; faults = g.faults h; longs = g.longs h }
 
--- what it holds stays, and no count falls
+-- the contents of the shelf are unchanged, and no count decreases
 pub record Stays (old new : ShelfTold) : Type 0 where
   pub held : new.held ≡ old.held
   pub faults : old.faults ≤ new.faults
   pub longs : old.longs ≤ new.longs
 
--- and no load failed
+-- the same, and no load failed
 pub record IsQuiet (old new : ShelfTold) : Type 0 where
   pub stays : Stays old new
   pub missed : new.missed ≡ old.missed
 
--- where told, none of these plates is wrong
+-- all of these plates match, where the contents of the shelf are known
 abbrev pub NoneWrong : PlanData → List (List ℕ) → List ℕ → Option (List (List ℕ × List ℕ))
     → List SitePlate → Type 0
 NoneWrong plan rows out held plates = IfSome held (λ files. filter_map
@@ -61,13 +61,13 @@ NoneWrong plan rows out held plates = IfSome held (λ files. filter_map
 abbrev pub path_at : PlanData → List ℕ → SitePlate → List ℕ
 path_at plan out (site, plate) = path_of plan out site plate.0 plate.1
 
--- all are right
+-- all match
 pub record AreRight (plan : PlanData) (rows : List (List ℕ)) (out : List ℕ) (plates : List SitePlate)
     (old new : ShelfTold) : Type 0 where
   pub quiet : IsQuiet old new
   pub right : NoneWrong plan rows out old.held plates
 
--- the first that is wrong is told
+-- the first plate that does not match is reported
 pub record FindsWrong (plan : PlanData) (rows : List (List ℕ)) (out : List ℕ)
     (plates : List SitePlate) (old new : ShelfTold) (found : Checked) : Type 0 where
   pub quiet : IsQuiet old new
@@ -75,7 +75,7 @@ pub record FindsWrong (plan : PlanData) (rows : List (List ℕ)) (out : List ℕ
       (wrong_at plan rows out files) plates) 0 ≡ Some (told found))
   pub long : IfLong found (Rose old.longs new.longs)
 
--- the load of one failed, and those before it are right
+-- the load of one plate failed, and those before it match
 pub record FailsAt (plan : PlanData) (rows : List (List ℕ)) (out : List ℕ) (plates : List SitePlate)
     (old new : ShelfTold) (path : List ℕ) : Type 0 where
   pub stays : Stays old new
@@ -88,7 +88,7 @@ pub record FailsAt (plan : PlanData) (rows : List (List ℕ)) (out : List ℕ) (
   pub named : path ≡ path_at plan out at
   pub right : NoneWrong plan rows out old.held before
 
--- what comes of looking at these plates in order
+-- the outcome of verifying these plates in order
 abbrev pub Looked : PlanData → List (List ℕ) → List ℕ → List SitePlate → ShelfTold → ShelfTold
     → Result (Option Checked) VerifyFault → Type 0
 Looked plan rows out plates old new (Ok None) = AreRight plan rows out plates old new
@@ -96,12 +96,12 @@ Looked plan rows out plates old new (Ok (Some found)) = FindsWrong plan rows out
 Looked plan rows out plates old new (Err (Shelf path)) = FailsAt plan rows out plates old new path
 Looked plan rows out plates old new (Err Memory) = IsQuiet old new
 
--- a plate was made of its rows
+-- a plate was made from its rows
 abbrev pub IsMade : PlanData → List (List ℕ) → PlateOf → PlateState → Type 0
 IsMade plan rows plate made = made ≡ whole (plate_width plan) (plate_height plan) plan.dpi
     (plate_rows plan rows plate)
 
--- a plate at a site, if the site has it
+-- the plate at a site, if the site has it
 abbrev pub plates_at : PlateOf → ℕ → List SitePlate
 plates_at plate site = if has_site plate.0 site then (site, plate) ∷ [] else []
 
@@ -109,13 +109,13 @@ plates_at plate site = if has_site plate.0 site then (site, plate) ∷ [] else [
 abbrev pub group_sites : PlanData → Group → List SitePlate
 group_sites plan group = flat_map (λ ink. plate_sites plan (group, ink)) (inks_of group)
 
--- the first of these plates were made of the rows of a group's plates, in the order of its inks
+-- the first of these plates were made from the rows of a group's plates, in the order of its inks
 pub record AreMade (plan : PlanData) (rows : List (List ℕ)) (group : Group)
     (made : List PlateState) : Type 0 where
   pub each : (i : ℕ) (ink : Ink) (plate : PlateState) → slice_get (inks_of group) i ≡ Some ink
       → slice_get made i ≡ Some plate → IsMade plan rows (group, ink) plate
 
--- what comes of looking at all plates
+-- the outcome of verifying all plates
 pub record Verified (plan : PlanData) (rows : List (List ℕ)) (out : List ℕ) (old new : ShelfTold)
     (checked : Checked) : Type 0 where
   pub quiet : IsQuiet old new

@@ -1,4 +1,4 @@
--- Plates that are made side by side out of the rows of a feed, one row of each in turn.
+-- Plates that are made together from the rows of a feed, one row of each in turn.
 use Rattle.std.specs.Prelude.{◌≡◌, ℕ, ◌+◌, ◌*◌, ◌<◌, ◌≤◌, All, List, [], ◌∷◌, length, map, slice_index_or}
 use Rattle.std.specs.List.{range_with_len}
 use Rattle.pr_base.specs.Row.{row_size}
@@ -62,11 +62,11 @@ pub record EachCanTake (plates : List PlateState) (left : List (List ℕ)) (len 
   pub next : List (List ℕ)
   pub takes : EachTakes plates left len sides rows next
 
--- the first y rows of plate i of k, where rows come in turn
+-- the first y rows of plate i of k, where the plates' rows come in turn
 abbrev pub turn_rows : ℕ → List (List ℕ) → ℕ → ℕ → List (List ℕ)
 turn_rows k next y i = map (λ z. slice_index_or next (z * k + i) []) (range_with_len 0 y)
 
--- plates of these sides, and the frames of all their rows are the next of a feed
+-- plates of these sides; the frames of all their rows are the next of a feed
 pub record AreFed (plates : List PlateState) (left : List (List ℕ)) (len : ℕ) (sides : Sides)
     (next : List (List ℕ)) : Type 0 where
   pub have : HaveSides sides plates
@@ -82,7 +82,7 @@ pub record CanBeFed (plates : List PlateState) (left : List (List ℕ)) (len hei
   pub fed : AreFed plates left len sides next
   pub high : height ≡ sides.height
 
--- the same of plates that have no row yet
+-- the same for plates that have no rows yet
 pub record CanTakeAll (plates : List PlateState) (left : List (List ℕ)) (len height : ℕ) : Type 0 where
   pub sides : Sides
   pub next : List (List ℕ)
@@ -90,7 +90,7 @@ pub record CanTakeAll (plates : List PlateState) (left : List (List ℕ)) (len h
   pub none : HaveRows sides (λ i. []) plates
   pub high : height ≡ sides.height
 
--- plate i has these rows, which are all of it
+-- plate i has these rows, which are all its rows
 pub record AreFull (sides : Sides) (rows : ℕ → List (List ℕ)) (plates : List PlateState) : Type 0 where
   pub have : HaveRows sides rows plates
   pub each : (i : ℕ) → i < length plates → All (λ row. length row ≡ row_size sides.width) (rows i)

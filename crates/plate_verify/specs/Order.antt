@@ -1,4 +1,4 @@
--- The plates of all sites in the order in which they are asked for.
+-- The plates of all sites in the order in which they are loaded.
 use Rattle.std.specs.Prelude.{ℕ, List, length, map, filter}
 use Rattle.std.specs.List.{flat_map, range_with_len}
 use Rattle.plan_json.specs.Data.{PlanData}
@@ -10,7 +10,7 @@ use Rattle.plan_rows.specs.Plates.{PlateOf, group_plates}
 abbrev pub SitePlate : Type 0
 SitePlate = ℕ × PlateOf
 
--- one plate at each site that has it, in the order of the sites
+-- one plate for each site that has it, in the order of the sites
 abbrev pub plate_sites : PlanData → PlateOf → List SitePlate
 plate_sites plan plate = map (λ site. (site, plate)) (filter (has_site plate.0) (range_with_len 0
     (length plan.sites)))

@@ -19,8 +19,8 @@ use Rattle.plate_verify.specs.Making.{Sides, HaveSides}
 abbrev pub sides_of : PlanData → Sides
 sides_of plan = record { width = plate_width plan; height = plate_height plan; dpi = plan.dpi }
 
--- plates in memory for the plates of a plan, and the frames of these rows from a number on are the next of
--- a feed
+-- plates in memory for the plates of a plan; the frames of these rows, from this number on, are the next of a
+-- feed
 pub record FedFrom (plan : PlanData) (rows : List (List ℕ)) (number : ℕ) (plates : List PlateState)
     (left : List (List ℕ)) (len : ℕ) : Type 0 where
   pub have : HaveSides (sides_of plan) plates
@@ -41,20 +41,20 @@ pub record CanMakeGroup (plan : PlanData) (group : Group) (plates : List PlateSt
   pub rows : List (List ℕ)
   pub fed : FedGroup plan rows group plates left len
 
--- P of the path of a load that failed
+-- P of the path of a failed load
 abbrev pub IfShelf : {T : Type 0} → Result T VerifyFault → (List ℕ → Type 0) → Type 0
 IfShelf (Ok value) P = Unit {0}
 IfShelf (Err (Shelf path)) P = P path
 IfShelf (Err Memory) P = Unit {0}
 
--- the frames of all rows of a plan are to come
+-- the frames of all rows of a plan are still to come
 pub record CanBeLooked (plan : PlanData) (plates : List PlateState) (left : List (List ℕ))
     (len : ℕ) : Type 0 where
   pub rows : List (List ℕ)
   pub fed : FedFrom plan rows 0 plates left len
   pub all : length rows ≡ row_total (rows_of plan)
 
--- the answer where the first wrong plate was found, or none is wrong
+-- the result, given the first plate that does not match, or none
 abbrev pub answer_of : PlanData → Result (Option Checked) VerifyFault → Result Checked VerifyFault
 answer_of plan (Ok None) = Ok (Same (length (plates_in_order plan)))
 answer_of plan (Ok (Some found)) = Ok found

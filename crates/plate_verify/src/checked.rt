@@ -1,32 +1,32 @@
-// What comes of looking at the plates of an edition.
+// The result of verifying the plates of an edition.
 
 use pr_base::PathText;
 use thiserror::Error;
 
-/// What was found of the plates that are held.
+/// The state of the held plates.
 #[derive(Debug, Drop, PartialEq, Eq)]
 pub enum Checked {
-    /// The plates of all sites are held with their bytes.
+    /// The plates of all sites are held with the right bytes.
     Same {
         plates: u32,
     },
-    /// The first that isn't right has another byte, or none, at a place, which lies in a packed row of the
-    /// plate that should be there, or in none.
+    /// The first plate that does not match differs at offset `at`: another byte, a missing byte or an extra
+    /// byte. `row` is the packed row of the right plate that contains the offset, if any does.
     Differs {
         path: PathText,
         at: u64,
         row: Option<u32>,
     },
-    /// The first that isn't right has more bytes than any plate.
+    /// The first plate that does not match has more bytes than any plate.
     Long {
         path: PathText,
     },
 }
 
-/// Why it wasn't found.
+/// Why plates could not be verified.
 #[derive(Debug, Drop, PartialEq, Eq, Error)]
 pub enum VerifyFault {
-    /// The plate at a path couldn't be loaded. The shelf has counted it.
+    /// The plate at this path could not be loaded. The shelf has counted the failure.
     #[error("the shelf failed at {0}")]
     Shelf(PathText),
     #[error("out of memory")]

@@ -1,4 +1,4 @@
-// How many plates the sites of a plan have.
+// The number of plates of a plan's sites.
 ghost use Rattle.std.specs.Prelude.{◌≡◌, ◌*◌, ◌≤◌, count_by, length};
 ghost use Rattle.std.specs.List.{range_with_len};
 ghost use Rattle.plan_rows.specs.Inks.{has_site};
@@ -11,7 +11,7 @@ use crate::look::{ink_number, site_count};
 use plan_json::Plan;
 use plan_rows::{Group, RowPlan};
 
-/// The sites that have the plates of a group.
+/// The number of sites that have the plates of a group.
 fn sites_of(group: &Group, sites: usize) -> u32
     requires { sites ≤ 16 }
     ensures count { result ≡ count_by (has_site group.now) (range_with_len 0 sites) }
@@ -26,7 +26,7 @@ fn sites_of(group: &Group, sites: usize) -> u32
     count
 }
 
-/// The plates of a group at all its sites.
+/// The number of plates of a group at all its sites.
 fn group_count(plan: &Plan, group: &Group) -> u32
     ensures count { result ≡ length (group_sites plan.now group.now) }
     ensures within { result ≤ 80 }
@@ -34,7 +34,7 @@ fn group_count(plan: &Plan, group: &Group) -> u32
     ink_number(group) as u32 * sites_of(group, site_count(plan))
 }
 
-/// The plates of all sites.
+/// The number of plates of all sites.
 pub(crate) fn count_plates(plan: &Plan, rows: &RowPlan) -> u32
     requires { rows.now ≡ rows_of plan.now }
     ensures { result ≡ length (plates_in_order plan.now) }

@@ -1,12 +1,12 @@
-// Where two files first differ. Nothing here takes memory.
+// Where two files first differ. Nothing here allocates memory.
 ghost use Rattle.std.specs.Prelude.{◌≡◌, ◌<◌, ◌≢◌, length, slice_index};
 ghost use Rattle.plate_verify.specs.Difference.{IsAlikeTo, difference_of};
 
-/// The bytes that are compared at a time.
+/// The number of bytes compared at a time.
 const PIECE: usize = 4_096;
 
-/// The first place at which one has a byte that the other lacks or has otherwise. There is none exactly where
-/// both are equal.
+/// Returns the first offset at which one file has a byte that differs from the other's, or that the other
+/// lacks; `None` exactly if the files are equal.
 pub fn first_difference(a: &[u8], b: &[u8]) -> Option<u64>
     ensures { result ≡ difference_of a.now b.now }
 {
@@ -18,7 +18,7 @@ pub fn first_difference(a: &[u8], b: &[u8]) -> Option<u64>
     }
 }
 
-/// The bytes of whole pieces that are equal at the front of both.
+/// The length in bytes of the common prefix, in whole pieces.
 fn equal_pieces(a: &[u8], b: &[u8]) -> usize
     ensures { IsAlikeTo a.now b.now result }
 {
@@ -30,7 +30,7 @@ fn equal_pieces(a: &[u8], b: &[u8]) -> usize
     at
 }
 
-/// The bytes that are equal at the front of both, of which so many are known to be.
+/// The length in bytes of the common prefix, of which `known` bytes are known to be equal.
 fn equal_bytes(a: &[u8], b: &[u8], known: usize) -> usize
     requires { IsAlikeTo a.now b.now known }
     ensures alike { IsAlikeTo a.now b.now result }

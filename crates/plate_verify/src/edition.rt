@@ -1,4 +1,4 @@
-// Whether the plates that a shelf holds are those of an edition.
+// Whether the plates held by a shelf are those of an edition.
 ghost use Rattle.std.specs.Prelude.{◌≡◌, ◌<◌, ◌≤◌, ℕ, List, IfOk, IfSome, IsErrOf, OnOk, length, map};
 ghost use Rattle.std.specs.Prelude.{slice_index_or};
 ghost use Rattle.pr_base.specs.Count.{Rose};
@@ -27,10 +27,10 @@ use pr_ports::Shelf;
 use std::alloc::Global;
 use tif_packbits::frame_len;
 
-/// The most inks of a group.
+/// The largest number of inks in a group.
 const INKS: usize = 5;
 
-/// Plates in memory for a group.
+/// Returns plates in memory for a group.
 fn plates_for(alloc: Global, width: u32, height: u32, dpi: u32) -> Result<Vec<PlateBytes>, NoMemory>
     requires width { IsSide width }
     requires height { IsSide height }
@@ -46,7 +46,7 @@ fn plates_for(alloc: Global, width: u32, height: u32, dpi: u32) -> Result<Vec<Pl
     Ok(plates)
 }
 
-/// Room for a frame of a row.
+/// Returns a buffer for the frame of a row.
 fn frame_room(alloc: Global, width: u32) -> Result<Vec<u8>, NoMemory>
     requires { IsSide width }
     ensures { IfOk result (λ room. length room.items ≡ frame_size (row_size width)) }
@@ -55,7 +55,7 @@ fn frame_room(alloc: Global, width: u32) -> Result<Vec<u8>, NoMemory>
     Ok(room)
 }
 
-/// How many groups a plan has.
+/// The number of groups of a plan.
 pub(crate) fn group_number(plan: &Plan, rows: &RowPlan) -> usize
     requires { rows.now ≡ rows_of plan.now }
     ensures { result ≡ length (groups_of plan.now) }
@@ -63,7 +63,7 @@ pub(crate) fn group_number(plan: &Plan, rows: &RowPlan) -> usize
     rows.groups().len()
 }
 
-/// One of them.
+/// Lends the group with this index.
 pub(crate) fn group_at<'a>(plan: &Plan, rows: &'a RowPlan, index: usize) -> &'a Group
     requires rows { rows.now ≡ rows_of plan.now }
     requires index { index < length (groups_of plan.now) }
@@ -71,12 +71,12 @@ pub(crate) fn group_at<'a>(plan: &Plan, rows: &'a RowPlan, index: usize) -> &'a 
     ensures section { result.now.section < length plan.now.sections }
     ensures plan { IsPlan plan.now }
 {
-    // A plan tells what holds of it where it is read.
+    // Reading the plan makes its invariant available to the proof.
     let _files = plan.files();
     &rows.groups()[index]
 }
 
-/// Looks at the plates of each group in order.
+/// Verifies the plates of each group in order.
 fn check_groups<F: RowFeed, H: Shelf>(
     alloc: Global,
     plan: &Plan,
@@ -107,7 +107,7 @@ fn check_groups<F: RowFeed, H: Shelf>(
     Ok(None)
 }
 
-/// Looks at all plates.
+/// Verifies all plates.
 fn check_all<F: RowFeed, H: Shelf>(
     alloc: Global,
     plan: &Plan,
@@ -144,7 +144,7 @@ fn check_all<F: RowFeed, H: Shelf>(
     answer(plan, rows, looked)
 }
 
-/// The answer where all plates were looked at, or the first that is wrong was found.
+/// Returns the result after all plates were verified, or after the first that does not match was found.
 fn answer(
     plan: &Plan,
     rows: &RowPlan,
@@ -162,10 +162,10 @@ fn answer(
     }
 }
 
-/// Whether the plates that a shelf holds below the folder `out` are those of a plan, whose rows the feed
-/// gives. The plates are loaded in the order group, ink, site, each once, up to the first that isn't right.
-/// Those of a group are made in memory of the packed rows of the feed, and compared in place with what is
-/// loaded.
+/// Verifies that the plates held by a shelf below the folder `out` are those of a plan, whose rows come from
+/// the feed. Loads each plate once, in the order group, ink, site, up to the first that does not match. The
+/// plates of a group are made in memory from the packed rows of the feed, and compared with the loaded bytes
+/// in place.
 pub fn verify<F: RowFeed, H: Shelf>(
     alloc: Global,
     plan: &Plan,
@@ -181,7 +181,7 @@ pub fn verify<F: RowFeed, H: Shelf>(
     ensures found { IfOk result (λ checked. IfSome (H.held shelf.old) (λ held.
         first_wrong plan.now (map framed_row (F.left feed.old)) out.now held ≡ told checked)) }
     ensures long { IfOk result (λ checked. IfLong checked (Rose (H.longs shelf.old) (H.longs shelf.new))) }
-    // The load that failed was counted, at the path of a plate before which all are right.
+    // The failed load was counted, for the path of a plate before which all plates match.
     ensures failed { IfShelf result (FailsAt plan.now (map framed_row (F.left feed.old)) out.now
         (plates_in_order plan.now) (shelf_told H.Shelf shelf.old) (shelf_told H.Shelf shelf.new)) }
     ensures ok_missed { OnOk result (H.missed shelf.new ≡ H.missed shelf.old) }

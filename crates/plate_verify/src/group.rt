@@ -1,4 +1,4 @@
-// One group: its plates are made of the next rows of a feed, and then looked at.
+// One group: its plates are made from the next rows of a feed and then verified.
 ghost use Rattle.std.specs.Prelude.{◌≡◌, ◌+◌, ◌*◌, ◌<◌, ℕ, List, OnOk, length};
 ghost use Rattle.plan_json.specs.Data.{plate_height};
 ghost use Rattle.plan_rows.specs.Inks.{ink_count};
@@ -15,7 +15,7 @@ use pr_base::RowFeed;
 use pr_ports::Shelf;
 use std::alloc::Global;
 
-/// Makes the plates of a group of the next rows of a feed, and looks at each at all its sites.
+/// Makes the plates of a group from the next rows of a feed, and verifies each at all its sites.
 pub(crate) fn check_group<F: RowFeed, H: Shelf>(
     alloc: Global,
     plan: &Plan,

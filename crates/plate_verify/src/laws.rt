@@ -1,4 +1,4 @@
-// What it says that all plates are right.
+// What it means that all plates match.
 ghost use Rattle.std.specs.Prelude.{◌≡◌, ◌≤◌, ℕ, List, All, length};
 ghost use Rattle.plan_json.specs.Data.{PlanData, plate_width};
 ghost use Rattle.plan_json.specs.Plan.{IsPlan};
@@ -7,9 +7,9 @@ ghost use Rattle.tif_plate.specs.Plate.{plate_file};
 ghost use Rattle.plate_verify.specs.Order.{plates_in_order};
 ghost use Rattle.plate_verify.specs.Wrong.{AllRight, AreHeld, first_wrong, most_bytes};
 
-/// That no plate is wrong is a yes: it is so exactly where each file of each site is held with its bytes.
-/// The number told is then that of the plates of all sites. Of rows of at most 8,192 bytes, as those of each
-/// plan, no plate is longer than what is loaded of one, so none that is right is told as too long.
+/// `Same` is equivalent to every file of every site being held with its right bytes; its number is then the
+/// number of plates of all sites. With rows of at most 8,192 bytes, as in every plan, no plate is longer than
+/// the load limit, so no right plate is reported as too long.
 pub fn same_is_a_yes()
     ensures held { (plan : PlanData) (rows : List (List ℕ)) (out : List ℕ)
         (held : List (List ℕ × List ℕ)) (n : ℕ) →

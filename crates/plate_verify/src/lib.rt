@@ -1,5 +1,4 @@
-// Whether the plates that a shelf holds are those of an edition, and where the first of them that isn't
-// begins to differ.
+// Verifies that the plates held by a shelf are those of an edition, and finds the first difference.
 #![tactic(auto)]
 
 mod checked;

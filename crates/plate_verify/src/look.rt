@@ -1,4 +1,4 @@
-// Looking at the plates of a group that are held, beside those that were made.
+// Compares the held plates of a group with those that were made.
 ghost use Rattle.std.specs.Prelude.{◌≡◌, ◌<◌, ◌≤◌, ◌∷◌, [], ℕ, List, Some, length, option_map, slice_get};
 ghost use Rattle.plate_bytes.specs.Places.{row_ends, row_holding};
 ghost use Rattle.plate_verify.specs.Difference.{difference_of};
@@ -16,10 +16,10 @@ use pr_base::{Ink, PathText};
 use pr_ports::{LoadFault, Shelf};
 use std::alloc::Global;
 
-/// The most bytes that are loaded of a plate. No plate has more.
+/// The largest number of bytes loaded of a plate. No plate is longer.
 const MOST_BYTES: u64 = 600_000_000;
 
-/// Where the bytes that are held of a plate differ from it.
+/// Returns where the held bytes of a plate differ from the plate, if they do.
 fn compare(path: PathText, made: &PlateBytes, held: &[u8]) -> Option<Checked>
     ensures { (rows : List (List ℕ)) → made.now.ends ≡ row_ends rows →
         option_map told result ≡ option_map (λ at. OtherAt path at (row_holding rows at))
@@ -71,7 +71,7 @@ pub(crate) fn site_count(plan: &Plan) -> usize
     plan.sites.len()
 }
 
-/// Looks at a plate at a site, if the site has it.
+/// Verifies a plate at a site, if the site has it.
 fn look_at_site<H: Shelf>(
     alloc: Global,
     plan: &Plan,
@@ -95,7 +95,7 @@ fn look_at_site<H: Shelf>(
     look_at(alloc, plan, out, group, ink, site, made, shelf)
 }
 
-/// Looks at a plate at each site that has it.
+/// Verifies a plate at each site that has it.
 fn look_at_sites<H: Shelf>(
     alloc: Global,
     plan: &Plan,
@@ -146,7 +146,7 @@ pub(crate) fn look_at_group<H: Shelf>(
     Ok(None)
 }
 
-/// How many inks a group has.
+/// The number of inks of a group.
 pub(crate) fn ink_number(group: &Group) -> usize
     ensures count { result ≡ ink_count group.now }
     ensures within { result ≤ 5 }
@@ -154,7 +154,7 @@ pub(crate) fn ink_number(group: &Group) -> usize
     group.inks().len()
 }
 
-/// One of them.
+/// The ink with this index.
 fn ink_at(group: &Group, i: usize) -> Ink
     requires { i < ink_count group.now }
     ensures { slice_get (inks_of group.now) i ≡ Some result }
@@ -162,7 +162,7 @@ fn ink_at(group: &Group, i: usize) -> Ink
     group.inks()[i]
 }
 
-/// A plate that was made.
+/// Lends a plate that was made.
 fn plate_at(made: &[PlateBytes], i: usize) -> &PlateBytes
     requires { i < length made.now }
     ensures { slice_get made.now i ≡ Some result.now }

@@ -1,4 +1,4 @@
-// Making the plates of a group in memory, out of the rows of a feed.
+// Makes the plates of a group in memory from the rows of a feed.
 ghost use Rattle.std.specs.Prelude.{◌≡◌, ◌*◌, ◌∷◌, [], ◌++◌, ℕ, List, OnOk, drop, length, map};
 ghost use Rattle.std.specs.Prelude.{slice_index_or};
 ghost use Rattle.tif_packbits.specs.Frame.{frame_of};
@@ -11,7 +11,7 @@ use plate_bytes::PlateBytes;
 use pr_base::{NoMemory, RowFeed};
 use tif_packbits::framed;
 
-/// Gives a plate the next row of a feed. `frame` is room for its frame.
+/// Appends the next row of a feed to a plate. `frame` is the buffer for its frame.
 fn take_next<F: RowFeed>(
     plate: &mut PlateBytes,
     feed: &mut F,
@@ -29,7 +29,7 @@ fn take_next<F: RowFeed>(
     plate.push(framed(frame))
 }
 
-/// Gives each plate its next row, in the order in which they come.
+/// Appends to each plate its next row, in the order in which the rows come.
 fn take_each<F: RowFeed>(
     plates: &mut [PlateBytes],
     feed: &mut F,
@@ -49,7 +49,7 @@ fn take_each<F: RowFeed>(
     Ok(())
 }
 
-/// Takes the rows of all plates away.
+/// Removes all rows from the plates.
 fn restart_all(plates: &mut [PlateBytes]) -> Result<(), NoMemory>
     ensures none { OnOk result ((sides : Sides) → HaveSides sides plates.old →
         HaveRows sides (λ i. []) plates.new) }
@@ -61,7 +61,7 @@ fn restart_all(plates: &mut [PlateBytes]) -> Result<(), NoMemory>
     Ok(())
 }
 
-/// Gives each plate all its rows, one of each in turn.
+/// Appends all rows to the plates, one row of each plate in turn.
 fn take_all<F: RowFeed>(
     plates: &mut [PlateBytes],
     height: u32,
@@ -83,7 +83,7 @@ fn take_all<F: RowFeed>(
     Ok(())
 }
 
-/// Makes whole files of plates that have all their rows.
+/// Completes the files of plates that have all their rows.
 fn finish_all(plates: &mut [PlateBytes]) -> Result<(), NoMemory>
     requires { CanFinish plates.old }
     ensures { OnOk result ((sides : Sides) (rows : ℕ → List (List ℕ)) → AreFull sides rows plates.old →
@@ -95,8 +95,8 @@ fn finish_all(plates: &mut [PlateBytes]) -> Result<(), NoMemory>
     Ok(())
 }
 
-/// Makes plates out of the next rows of a feed, of which one of each comes in turn. The memory of the plates
-/// is used again.
+/// Makes plates from the next rows of a feed, which come one row of each plate in turn. Reuses the memory of
+/// the plates.
 pub(crate) fn make_plates<F: RowFeed>(
     plates: &mut [PlateBytes],
     height: u32,

@@ -1,25 +1,25 @@
--- Pixels of a packed row after a write of one byte, and joined spans of pixels.
+-- Pixels of a packed row after one byte is written, and lemmas that join spans of pixels.
 use Rattle.std.proofs.Common.{◌≡◌, ◌≢◌, ℕ, ◌+◌, ◌-◌, ◌*◌, ◌/◌, ◌%◌, ◌^◌, ◌<◌, ◌≤◌, Bool, true, false, List, length, slice_set, bit_and, refl, ap, sym, ◌∙◌, inl, inr, arith, eqb, get_or, get_or-set_same, get_or-set_other, w8}
 use Rattle.std.specs.Prelude.{bit_or}
 use Rattle.std.proofs.lemmas.Bool.{cases_eq, cases_lt}
 use Rattle.std.proofs.lemmas.Nat.Bits.{bit_at_set_same, bit_at_set_other, bit_at_clear_same, bit_at_clear_other}
 use Rattle.pr_base.specs.Bits.{bit_at, byte_bit, SetsBits}
 
--- two places in one byte with one column are one place
+-- two indices with the same byte and the same column are equal
 pub same_place : (j k : ℕ) → j / 8 ≡ k / 8 → j % 8 ≡ k % 8 → j ≡ k
 same_place j k bytes columns = omega arith
 
--- a pixel of a byte that was written
+-- a pixel of the written byte
 pub bit_at-set_here : (bits : List ℕ) (i byte k : ℕ) → i < length bits → k / 8 ≡ i → bit_at (slice_set bits i byte) k ≡ byte_bit byte (k % 8)
 bit_at-set_here bits i byte k within here =
     ap (λ b. byte_bit b (k % 8)) (rw here (get_or-set_same bits i byte 0 within))
 
--- a pixel of another byte
+-- a pixel of any other byte
 pub bit_at-set_elsewhere : (bits : List ℕ) (i byte k : ℕ) → k / 8 ≢ i → bit_at (slice_set bits i byte) k ≡ bit_at bits k
 bit_at-set_elsewhere bits i byte k other =
     ap (λ b. byte_bit b (k % 8)) (get_or-set_other bits i (k / 8) byte 0 other)
 
--- `byte | 1 << (7 - x)`
+-- set one bit: `byte | 1 << (7 - x)`
 pub byte_bit-set_same : (n x : ℕ) → x < 8 → byte_bit (bit_or n (1 * 2 ^ (7 - x) % 256)) x ≡ true
 byte_bit-set_same n x within = ap (λ b. eqb b 1) (bit_at_set_same w8 n (7 - x) (omega arith))
 
@@ -27,7 +27,7 @@ pub byte_bit-set_other : (n x y : ℕ) → x < 8 → y < 8 → y ≢ x → byte_
 byte_bit-set_other n x y x_within y_within other =
     ap (λ b. eqb b 1) (bit_at_set_other w8 n (7 - x) (omega arith) (7 - y) (λ e. other (omega arith)))
 
--- `byte & !(1 << (7 - x))`
+-- clear one bit: `byte & !(1 << (7 - x))`
 pub byte_bit-clear_same : (n x : ℕ) → x < 8 → byte_bit (bit_and n (255 - 1 * 2 ^ (7 - x) % 256)) x ≡ false
 byte_bit-clear_same n x within = ap (λ b. eqb b 1) (bit_at_clear_same w8 n (7 - x) (omega arith))
 
@@ -35,7 +35,7 @@ pub byte_bit-clear_other : (n x y : ℕ) → x < 8 → y < 8 → y ≢ x → byt
 byte_bit-clear_other n x y x_within y_within other =
     ap (λ b. eqb b 1) (bit_at_clear_other w8 n (7 - x) (omega arith) (7 - y) (omega arith) (λ e. other (omega arith)))
 
--- a byte of which one pixel was written shows each other pixel as it was
+-- writing a byte that differs in one pixel leaves every other pixel unchanged
 pub bit_at-set_others : (bits : List ℕ) (place byte : ℕ) → place < 8 * length bits → ((y : ℕ) → y < 8 → y ≢ place % 8 → byte_bit byte y ≡ byte_bit (get_or bits (place / 8) 0) y) → (k : ℕ) → k ≢ place → bit_at (slice_set bits (place / 8) byte) k ≡ bit_at bits k
 bit_at-set_others bits place byte within others k other =
     elim (cases_eq (k / 8) (place / 8)) [
@@ -45,12 +45,12 @@ bit_at-set_others bits place byte within others k other =
       | inr elsewhere ↦ bit_at-set_elsewhere bits (place / 8) byte k elsewhere
     ]
 
--- no pixel is set
+-- an empty span
 pub SetsBits_none : (test : ℕ → Bool) (from : ℕ) (bits : List ℕ) → SetsBits test from 0 bits bits
 SetsBits_none test from bits =
     record { inside = λ x h. absurd (omega arith); before = λ k h. refl; behind = λ k h. refl }
 
--- one pixel more
+-- a span extended by one pixel
 pub SetsBits_more : (test : ℕ → Bool) (from n : ℕ) (old now new : List ℕ) → SetsBits test from n old now → bit_at new (from + n) ≡ test n → ((k : ℕ) → k ≢ from + n → bit_at new k ≡ bit_at now k) → SetsBits test from (n + 1) old new
 SetsBits_more test from n old now new sets here elsewhere = record {
   inside = λ x below.
@@ -62,7 +62,7 @@ SetsBits_more test from n old now new sets here elsewhere = record {
   behind = λ k above. elsewhere k (λ e. absurd (omega arith)) ∙ sets.behind k (omega arith);
 }
 
--- one span, and the next
+-- two adjacent spans joined
 pub SetsBits_join : (test : ℕ → Bool) (from n at m total : ℕ) (old now new : List ℕ) → at ≡ from + n → total ≡ n + m → SetsBits test from n old now → SetsBits (λ x. test (n + x)) at m now new → SetsBits test from total old new
 SetsBits_join test from n at m total old now new next whole first second = record {
   inside = λ x below.
@@ -76,12 +76,12 @@ SetsBits_join test from n at m total old now new next whole first second = recor
   behind = λ k above. second.behind k (omega arith) ∙ first.behind k (omega arith);
 }
 
--- by another test that says the same
+-- a span under another test with the same values
 pub SetsBits_same : (test other : ℕ → Bool) (from n : ℕ) (old new : List ℕ) → ((x : ℕ) → x < n → test x ≡ other x) → SetsBits test from n old new → SetsBits other from n old new
 SetsBits_same test other from n old new same sets =
     record { inside = λ x below. sets.inside x below ∙ same x below; before = sets.before; behind = sets.behind }
 
--- one byte that was written
+-- a span of one whole written byte
 pub SetsBits_byte : (test : ℕ → Bool) (bits : List ℕ) (i byte : ℕ) → i < length bits → ((y : ℕ) → y < 8 → byte_bit byte y ≡ test y) → SetsBits test (8 * i) 8 bits (slice_set bits i byte)
 SetsBits_byte test bits i byte within shows = record {
   inside = λ x below.
@@ -91,7 +91,7 @@ SetsBits_byte test bits i byte within shows = record {
   behind = λ k above. bit_at-set_elsewhere bits i byte k (λ e. absurd (omega arith));
 }
 
--- where no pixel is set it doesn't matter from where on
+-- for an empty span, neither the start nor the test matters
 pub SetsBits_nowhere : (test other : ℕ → Bool) (from at : ℕ) (old new : List ℕ) → SetsBits test from 0 old new → SetsBits other at 0 old new
 SetsBits_nowhere test other from at old new sets =
     let same : (k : ℕ) → bit_at new k ≡ bit_at old k =

@@ -5,22 +5,22 @@ use Rattle.std.proofs.lemmas.Bool.Decides.{nat_tests}
 use Rattle.pr_base.specs.Row.{row_size}
 use Rattle.pr_base.specs.Bits.{bit_at, bit_number, packed_byte, packed_row}
 
--- a bit as a number again
+-- a bit converted to a boolean and back
 bit_number-test : (n : ℕ) → bit_number (nat_eq (n % 2) 1) ≡ n % 2
 bit_number-test n = grind (arith, nat_tests)
 
--- a byte is made of its eight bits
+-- a byte equals its eight bits packed
 byte_is : (b : ℕ) → b < 256 → b ≡ packed_byte (λ k. nat_eq (b / 2 ^ (7 - k) % 2) 1)
 byte_is b small = omega (arith, bit_number-test (b / 128), bit_number-test (b / 64), bit_number-test (b / 32), bit_number-test (b / 16), bit_number-test (b / 8), bit_number-test (b / 4), bit_number-test (b / 2), bit_number-test (b / 1))
 
--- the bits of byte j, one by one
+-- the bits of byte j, each by its column
 bits_of-byte : (row : List ℕ) (j k : ℕ) → k < 8 → bit_at row (8 * j + k) ≡ nat_eq (get_or row j 0 / 2 ^ (7 - k) % 2) 1
 bits_of-byte row j k small =
     let place : (8 * j + k) / 8 ≡ j = omega arith in
     let within : (8 * j + k) % 8 ≡ k = omega arith in
     ap (λ n. nat_eq (get_or row n 0 / 2 ^ (7 - (8 * j + k) % 8) % 2) 1) place ∙ ap (λ n. nat_eq (get_or row j 0 / 2 ^ (7 - n) % 2) 1) within
 
--- bytes of the same eight bits are made alike
+-- eight equal bits pack to equal bytes
 packed_byte-same : (f g : ℕ → Bool) → ((k : ℕ) → k < 8 → f k ≡ g k) → packed_byte f ≡ packed_byte g
 packed_byte-same f g same =
     let e0 : f 0 ≡ g 0 = same 0 (omega arith) in
@@ -33,11 +33,11 @@ packed_byte-same f g same =
     let e7 : f 7 ≡ g 7 = same 7 (omega arith) in
     cc
 
--- a pixel that is set within the width, and not behind it
+-- a pixel with the given value within the width, and clear past it
 within : (width x : ℕ) (seen bit : Bool) → (x < width → seen ≡ bit) → (width ≤ x → seen ≡ false) → seen ≡ (nat_lt x width && bit)
 within width x seen bit inside behind = grind (arith, nat_tests)
 
--- a row whose bits are these within the width and 0 behind it is their packing
+-- a row whose bits are these within the width, and 0 past it, is their packing
 pub row_is_packed : (row : List ℕ) (width : ℕ) (bit : ℕ → Bool) → length row ≡ row_size width → ((j : ℕ) → get_or row j 0 < 256)
     → ((x : ℕ) → x < width → bit_at row x ≡ bit x) → ((x : ℕ) → width ≤ x → bit_at row x ≡ false) → row ≡ packed_row width bit
 unfolding packed_row
@@ -46,7 +46,7 @@ row_is_packed row width bit size bytes inside behind =
     (λ j _. byte_is (get_or row j 0) (bytes j) ∙ packed_byte-same (λ k. nat_eq (get_or row j 0 / 2 ^ (7 - k) % 2) 1) (λ k. nat_lt (8 * j + k) width && bit (8 * j + k))
     (λ k small. sym (bits_of-byte row j k small) ∙ within width (8 * j + k) (bit_at row (8 * j + k)) (bit (8 * j + k)) (inside (8 * j + k)) (behind (8 * j + k))))
 
--- a packed row has the bytes of a row
+-- a packed row has the length of a row
 pub length-packed_row : (width : ℕ) (bit : ℕ → Bool) → length (packed_row width bit) ≡ row_size width
 unfolding packed_row
 length-packed_row width bit = length-map-range_with_len (λ j. packed_byte (λ k. nat_lt (8 * j + k) width && bit (8 * j + k))) 0 (row_size width)

@@ -4,7 +4,7 @@ use Rattle.pr_base.specs.declared.ink.Ink.{Ink}
 use Rattle.pr_base.specs.declared.ink.Ink.TheVariants.{C, M, Y, K, S}
 use Rattle.pr_base.specs.Ink.{all_inks, slot_of}
 
--- each ink stands at its slot
+-- each ink is at its slot in the list
 pub ink_at_slot : (ink e : Ink) → get_or all_inks (slot_of ink) e ≡ ink
 ink_at_slot C e = refl
 ink_at_slot M e = refl
@@ -19,6 +19,6 @@ slot_below Y = omega arith
 slot_below K = omega arith
 slot_below S = omega arith
 
--- inks of one slot are the same
+-- inks with equal slots are equal
 pub slot_tells : (ink other : Ink) → slot_of ink ≡ slot_of other → ink ≡ other
 slot_tells ink other same = sym (ink_at_slot ink ink) ∙ ap {A = ℕ} (λ n. get_or all_inks n ink) same ∙ ink_at_slot other ink

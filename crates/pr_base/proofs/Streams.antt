@@ -1,4 +1,4 @@
--- How what a writer takes adds up over calls.
+-- Bytes accepted by a writer, accumulated over calls.
 use Rattle.std.proofs.Common.{◌≡◌, ℕ, List, ◌++◌, length, take, drop, Option, ap, sym, ◌∙◌, append_assoc, subst}
 use Rattle.std.specs.Io.KnownBytes.{Keeps, Appends}
 use Rattle.std.proofs.KnownBytes.{Appends-trans, Appends-kept}
@@ -6,13 +6,13 @@ use Rattle.std.proofs.Math.Seq.{take-append_seam}
 use Rattle.std.proofs.lemmas.List.{take-append-drop}
 use Rattle.pr_base.specs.Stream.{AppendsFront}
 
--- of all bytes the writer took those before the rest
+-- the writer has accepted all bytes before the rest
 pub record HasPassed (old new : Option (List ℕ)) (all rest : List ℕ) : Type 0 where
   pub front : List ℕ
   pub whole : front ++ rest ≡ all
   pub taken : Appends old new front
 
--- the writer took some more of the rest
+-- the writer accepts some more of the rest
 pub passed_more : {old mid : Option (List ℕ)} {all rest : List ℕ} (new : Option (List ℕ)) (count : ℕ) (behind : List ℕ) → behind ≡ drop count rest →
     HasPassed old mid all rest → Appends mid new (take count rest) → HasPassed old new all behind
 passed_more {old} {mid} {all} {rest} new count behind is passed more = record {
@@ -22,7 +22,7 @@ passed_more {old} {mid} {all} {rest} new count behind is passed more = record {
   taken = Appends-trans old mid new passed.front (take count rest) passed.taken more;
 }
 
--- a writer that took no more has taken a front of all
+-- a writer that accepts no more has accepted a prefix of all
 pub passed_front : {old mid : Option (List ℕ)} {all rest : List ℕ} (new : Option (List ℕ)) → HasPassed old mid all rest → Keeps mid new → AppendsFront old new all
 passed_front {old} {mid} {all} {rest} new passed kept = (
   length passed.front,

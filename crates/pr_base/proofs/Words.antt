@@ -1,4 +1,4 @@
--- The bits of a number's eight bytes, the highest first.
+-- The bits of a 64-bit number as eight bytes, most significant first.
 use Rattle.std.proofs.Common.{◌≡◌, ℕ, zero, suc, ◌+◌, ◌-◌, ◌*◌, ◌/◌, ◌%◌, ◌^◌, ◌<◌, eqb, get_or, refl, ap, sym, ◌∙◌, arith, w64}
 use Rattle.std.specs.Int.{byte_at, bytes_high_first, to_be_bytes}
 use Rattle.std.proofs.lemmas.Nat.{div-add-mod', pow-add}
@@ -16,7 +16,7 @@ byte_at_is : (i n : ℕ) → byte_at i n ≡ n / 2 ^ (8 * i) % 256
 byte_at_is zero n = ap (λ m. m % 256) (sym (div-one n))
 byte_at_is (suc i) n = ap (λ p. n / p % 256) (pow_256 (suc i))
 
--- a byte of a number, the highest first
+-- byte j of a number, most significant first
 high_first : (k n j : ℕ) → j < k → get_or (bytes_high_first k n) j 0 ≡ byte_at (k - 1 - j) n
 high_first zero n j within = absurd (omega arith)
 high_first (suc k) n zero within = ap (λ i. byte_at i n) (omega arith)
@@ -29,7 +29,7 @@ bit_of_byte n shift b within =
     sym (bit_at_cat_low (m / 256) 8 (m % 256) b within) ∙ ap (λ v. v / 2 ^ b % 2) (div-add-mod' m 256)
     ∙ ap (λ v. v % 2) (div-div-eq-div-mul n (2 ^ shift) (2 ^ b) ∙ ap (λ p. n / p) (sym (pow-add 2 shift b)))
 
--- the bits of the eight bytes of a number are those of the number
+-- the bits of the eight bytes are the bits of the number
 pub byte_bit-number : (n j y : ℕ) → j < 8 → y < 8 → byte_bit (get_or (to_be_bytes w64 n) j 0) y ≡ eqb (n / 2 ^ (63 - (8 * j + y)) % 2) 1
 byte_bit-number n j y byte bit =
     let place : 8 * (8 - 1 - j) + (7 - y) ≡ 63 - (8 * j + y) = omega arith in

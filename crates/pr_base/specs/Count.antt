@@ -1,7 +1,7 @@
--- Counts that rise by one and stay at their last value.
+-- Saturating counts.
 use Rattle.std.specs.Prelude.{◌≡◌, ℕ, ◌+◌, ◌<◌, ◌⊎◌, Bool, min, if◌then◌else◌}
 
--- the last value of a count, 2^64 - 1
+-- the maximum of a count, 2^64 - 1
 abbrev pub last_count : ℕ
 last_count = 18446744073709551615
 
@@ -9,10 +9,10 @@ last_count = 18446744073709551615
 abbrev pub count_after : ℕ → ℕ
 count_after count = min (count + 1) last_count
 
--- the count rose: it is greater than before, or stands at its last value
+-- the count rose: it is greater than before, or at its maximum
 abbrev pub Rose : ℕ → ℕ → Type 0
 Rose before now = (before < now) ⊎ (now ≡ last_count)
 
--- the count after a call that succeeded, or failed
+-- the count after a call that succeeded (unchanged) or failed (one more)
 abbrev pub count_unless : Bool → ℕ → ℕ
 count_unless done count = if done then count else count_after count

@@ -1,13 +1,13 @@
--- The five inks: their order, and their letters.
+-- The five inks: their order and their letters.
 use Rattle.std.specs.Prelude.{ℕ, List, [], ◌∷◌, codes}
 use Rattle.pr_base.specs.declared.ink.Ink.{Ink}
 use Rattle.pr_base.specs.declared.ink.Ink.TheVariants.{C, M, Y, K, S}
 
--- all inks: the samples of a CMYK pixel in their order (TIFF 6.0, Section 16), and the spot ink behind them
+-- all inks: the samples of a CMYK pixel in order (TIFF 6.0, Section 16), then the spot ink
 abbrev pub all_inks : List Ink
 all_inks = C ∷ M ∷ Y ∷ K ∷ S ∷ []
 
--- the place of an ink among the five
+-- the index of an ink in that list
 abbrev pub slot_of : Ink → ℕ
 slot_of C = 0
 slot_of M = 1

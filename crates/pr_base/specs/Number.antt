@@ -1,7 +1,7 @@
--- What holds of whole numbers that are read or counted.
+-- Conditions on whole numbers that are read or counted.
 use Rattle.std.specs.Prelude.{◌≤◌, ℕ}
 
--- the number lies between two bounds
+-- the number is between two bounds, inclusive
 pub record IsWithin (low high n : ℕ) : Type 0 where
   pub least : low ≤ n
   pub most : n ≤ high

@@ -1,8 +1,8 @@
-// A count that rises by one and stays at its last value.
+// A count that saturates at its maximum.
 ghost use Rattle.std.specs.Prelude.{◌≡◌};
 ghost use Rattle.pr_base.specs.Count.{count_after};
 
-/// The count after one more event.
+/// Returns the count after one more event; 2^64 - 1 stays unchanged.
 pub fn raised(count: u64) -> u64
     ensures { result ≡ count_after count }
 {

@@ -1,4 +1,4 @@
-// A stream of the machine whose failed calls are counted.
+// An operating-system stream that counts its failed calls.
 ghost use Rattle.std.specs.Prelude.{◌≡◌, ◌<◌, ◌≤◌, IfSome, Some, is_some, length};
 ghost use Rattle.std.specs.Bool.{OnTrue};
 ghost use Rattle.std.specs.Io.KnownBytes.{Appends, Keeps};
@@ -10,8 +10,8 @@ use std::fs::OpenFile;
 use std::io::{Read, Seek, SeekFrom, Write};
 use std::marker::Model;
 
-/// A reader or a writer with a count of its calls that failed. The count rises here alone, by one for each
-/// failure, and stays at its last value.
+/// A reader or a writer with a count of its failed calls. The count rises only in these methods, by one per
+/// failure, and saturates at 2^64 - 1.
 #[derive(Drop)]
 pub struct Counted<S> {
     stream: S,
@@ -27,21 +27,21 @@ impl<S> Model for Counted<S> {
 }
 
 impl<S> Counted<S> {
-    /// The stream, with this many failures counted before.
+    /// Wraps the stream, starting from a count of `faults`.
     pub fn new(stream: S, faults: u64) -> Counted<S>
         ensures { result ≡ record { stream = stream; faults = faults } }
     {
         Counted { stream, faults }
     }
 
-    /// How many calls failed.
+    /// Returns the number of failed calls.
     pub fn faults(&self) -> u64
         ensures { result ≡ self.now.faults }
     {
         self.faults
     }
 
-    /// The stream.
+    /// Returns the stream.
     pub fn into_stream(self) -> S
         ensures { result ≡ self.stream }
     {
@@ -49,7 +49,7 @@ impl<S> Counted<S> {
         stream
     }
 
-    /// Counts a failure where the call wasn't done, and answers whether it was.
+    /// Counts a failure if the call did not succeed, and returns `done`.
     fn counted(&mut self, done: bool) -> bool
         ensures answer { result ≡ done }
         ensures stream { self.new.stream ≡ self.old.stream }
@@ -64,8 +64,9 @@ impl<S> Counted<S> {
 }
 
 impl<R: Read> Counted<R> {
-    /// Reads to the front of `into` and answers how many bytes came, 0 at the end alone.
-    /// An error of the reader is `None`, and counted.
+    /// Reads into the start of `into` and returns the number of bytes read. An empty read of a non-empty
+    /// buffer means the end of the stream.
+    /// Returns `None` for an error of the reader, which is counted.
     pub fn read(&mut self, into: &mut [u8]) -> Option<usize>
         ensures within { IfSome result (λ count. count ≤ length into.new) }
         ensures bytes { ReadsSome (R.remaining self.old.stream) (R.remaining self.new.stream)
@@ -84,8 +85,8 @@ impl<R: Read> Counted<R> {
 }
 
 impl<W: Write> Counted<W> {
-    /// Writes some of `piece`, from its front, and answers how many bytes were taken. An error of the writer,
-    /// or that it took nothing, is `None`, and counted.
+    /// Writes a prefix of `piece` and returns the number of bytes accepted, at least one. Returns `None`
+    /// for an error of the writer, or a write that accepted nothing; both are counted.
     fn write(&mut self, piece: &[u8]) -> Option<usize>
         ensures some { IfSome result (λ count. 0 < count) }
         ensures within { IfSome result (λ count. count ≤ length piece.now) }
@@ -103,7 +104,8 @@ impl<W: Write> Counted<W> {
         }
     }
 
-    /// Writes all of `bytes`. False where the writer failed, which is counted; it took a front of them then.
+    /// Writes all of `bytes`. Returns false if the writer failed, which is counted; it has then accepted a
+    /// prefix of `bytes`.
     pub fn append(&mut self, bytes: &[u8]) -> bool
         ensures written { OnTrue result
             (Appends (W.contents self.old.stream) (W.contents self.new.stream) bytes.now) }
@@ -121,7 +123,7 @@ impl<W: Write> Counted<W> {
         true
     }
 
-    /// Has the writer pass on what it holds. False where it failed, which is counted.
+    /// Flushes the writer. Returns false if that failed, which is counted.
     pub fn flush(&mut self) -> bool
         ensures bytes { Keeps (W.contents self.old.stream) (W.contents self.new.stream) }
         ensures count { self.new.faults ≡ count_unless result self.old.faults }
@@ -133,7 +135,7 @@ impl<W: Write> Counted<W> {
 }
 
 impl<F: Seek> Counted<F> {
-    /// Goes to this place of the file. False where it failed, which is counted.
+    /// Seeks to byte `place` of the file. Returns false if that failed, which is counted.
     pub fn go_to(&mut self, place: u64) -> bool
         ensures there { OnTrue result
             (IfSome (F.stream_position self.old.stream)
@@ -147,8 +149,8 @@ impl<F: Seek> Counted<F> {
 }
 
 impl<F: Write + OpenFile> Counted<F> {
-    /// Has the machine keep what was written. False where that failed, as a close of the file would,
-    /// which is counted.
+    /// Flushes the writer and syncs the file to storage. Returns false if either failed, as closing the file
+    /// might; the failure is counted.
     pub fn keep(&mut self) -> bool
         ensures bytes { Keeps (F.contents self.old.stream) (F.contents self.new.stream) }
         ensures count { self.new.faults ≡ count_unless result self.old.faults }

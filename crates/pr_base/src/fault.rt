@@ -1,4 +1,4 @@
-// What can be wrong with an input file: the kind, the TIFF tag where it was found, and the file.
+// Faults of an input file: the kind, the TIFF tag where it was found, and the file.
 ghost use Rattle.std.specs.Prelude.{◌≡◌};
 ghost use Rattle.pr_base.specs.Fault.{kind_number, kind_text};
 
@@ -6,8 +6,8 @@ use crate::PathText;
 use std::fmt;
 use thiserror::Error;
 
-/// What is wrong with a file. The numbers and texts are plateroom's own; a test of one TIFF field is
-/// named after that field (TIFF 6.0, Sections 8 and 16).
+/// The kind of a fault. Numbers and texts are plateroom's own; the test of a single TIFF field is named
+/// after that field (TIFF 6.0, Sections 8 and 16).
 #[derive(Clone, Copy, Debug, PartialEq, Eq, PartialOrd, Ord, Hash)]
 pub enum FaultKind {
     TooLong = 1,
@@ -37,14 +37,14 @@ pub enum FaultKind {
 }
 
 impl FaultKind {
-    /// The kind's number.
+    /// Returns the kind's number.
     pub fn number(self) -> u8
         ensures { result ≡ kind_number self }
     {
         self as u8
     }
 
-    /// The kind as a line of the program tells it.
+    /// Returns the kind's text, as the program prints it.
     pub fn text(self) -> &'static str
         ensures { result.now ≡ kind_text self }
     {
@@ -88,7 +88,7 @@ impl fmt::Display for FaultKind {
     }
 }
 
-/// What is wrong with an image, and at which TIFF tag. Tag 0 stands for the file as a whole.
+/// A fault of an image and the TIFF tag at which it was found. Tag 0 means the file as a whole.
 #[derive(Clone, Copy, Debug, PartialEq, Eq, Hash, Error)]
 #[error("tag {tag}: {kind}")]
 pub struct TagFault {
@@ -96,7 +96,7 @@ pub struct TagFault {
     pub kind: FaultKind,
 }
 
-/// What is wrong with which file. The file is named as the plan or the command names it.
+/// A fault together with its file, which is named as in the plan or on the command line.
 #[derive(Debug, PartialEq, Eq, Drop, Error)]
 #[error("file {file}: tag {tag}: {kind}")]
 pub struct FileFault {

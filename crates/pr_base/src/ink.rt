@@ -3,7 +3,7 @@ ghost use Rattle.std.specs.Prelude.{◌≡◌, ◌<◌};
 ghost use Rattle.pr_base.specs.Ink.{all_inks, letter_of, slot_of};
 
 /// An ink of a plate. The four process inks come first, in the order in which TIFF 6.0, Section 16, stores
-/// the samples of a CMYK pixel; `S`, a spot ink, follows them.
+/// the samples of a CMYK pixel; the spot ink `S` follows.
 #[derive(Clone, Copy, Debug, PartialEq, Eq, PartialOrd, Ord, Hash)]
 pub enum Ink {
     C,
@@ -17,7 +17,7 @@ impl Ink {
     /// The five inks, in the order of their slots.
     pub const ALL: [Ink; 5] = [Ink::C, Ink::M, Ink::Y, Ink::K, Ink::S];
 
-    /// The place of the ink in a list of five.
+    /// Returns the index of the ink in `ALL`.
     pub fn slot(self) -> usize
         ensures slot { result ≡ slot_of self }
         ensures within { result < 5 }
@@ -25,7 +25,7 @@ impl Ink {
         self as usize
     }
 
-    /// The letter of the ink.
+    /// Returns the letter of the ink.
     pub fn letter(self) -> &'static str
         ensures { result.now ≡ letter_of self }
     {
@@ -39,7 +39,7 @@ impl Ink {
     }
 }
 
-/// The list of the inks has each once, in the order of the slots.
+/// States that `Ink::ALL` lists each ink once, in slot order.
 pub fn inks_law()
     ensures all { Ink.ALL ≡ all_inks }
 {}

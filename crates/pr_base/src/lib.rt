@@ -1,6 +1,6 @@
-// What every layer of plateroom names: inks, texts, the faults of input files, want of memory, single pixels,
-// counts of failures and the streams of the machine that keep them, and the two ways in which rows pass
-// between layers (a numbered deal of rows, and a feed that gives them in order).
+// Types that every layer of plateroom uses: inks, texts, the faults of input files, the out-of-memory
+// error, single pixels, saturating counts and streams that count their failures, and the two ways in which
+// rows pass between layers (a numbered deal of rows, and a feed that produces them in order).
 #![tactic(auto)]
 
 mod count;

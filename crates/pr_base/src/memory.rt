@@ -1,10 +1,10 @@
-// Want of memory.
+// The out-of-memory error.
 ghost use Rattle.std.specs.Prelude.{◌≡◌};
 
 use std::alloc::{AllocError, AllocFailed};
 use thiserror::Error;
 
-/// The allocator refused. Every call that allocates may answer it, and it stands for nothing else.
+/// An allocation failed. Every call that allocates may return it, and it has no other cause.
 #[derive(Clone, Copy, Debug, PartialEq, Eq, Hash, Error)]
 #[error("out of memory")]
 pub struct NoMemory;

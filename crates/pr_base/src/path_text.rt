@@ -1,4 +1,4 @@
-// A text that contracts see as its bytes: a path, a name, a file's word.
+// A text that contracts see as its bytes: a path, a name or a word from a file.
 ghost use Rattle.std.specs.Prelude.{◌≡◌, List, ℕ, IfOk, string_bytes, nat_eq};
 ghost use Rattle.std.specs.Cmp.Lexicographic.{pointwise};
 ghost use Rattle.std.proofs.lemmas.Cmp.{nat_list_eq_equiv};
@@ -9,7 +9,7 @@ use std::alloc::Global;
 use std::fmt;
 use std::marker::Model;
 
-/// A text of its own, such as the path of a file. Contracts see its UTF-8 bytes.
+/// An owned text, such as the path of a file. Contracts see its UTF-8 bytes.
 #[derive(Debug, Drop)]
 pub struct PathText {
     text: String,
@@ -22,7 +22,7 @@ impl Model for PathText {
 }
 
 impl PathText {
-    /// A copy of `text`.
+    /// Copies `text`.
     pub fn of(alloc: Global, text: &str) -> Result<PathText, NoMemory>
         ensures { IfOk result (λ path. path ≡ text.now) }
     {
@@ -31,7 +31,7 @@ impl PathText {
         })
     }
 
-    /// Lends the text.
+    /// Returns the text.
     pub fn as_str(&self) -> &str
         ensures { result.now ≡ self.now }
     {

@@ -2,7 +2,7 @@
 ghost use Rattle.std.specs.Prelude.{◌≡◌, ℕ, ◌*◌, ◌<◌, ◌≢◌, length};
 ghost use Rattle.pr_base.specs.Bits.{bit_at};
 
-/// Sets pixel `place` of a row, or clears it, and no other.
+/// Sets or clears pixel `place` of a row and leaves all others unchanged.
 pub fn set_bit(bits: &mut [u8], place: usize, on: bool)
     requires { place < 8 * length bits.old }
     ensures here { bit_at bits.new place ≡ on }

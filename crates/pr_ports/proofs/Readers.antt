@@ -1,11 +1,11 @@
--- What a reader gave.
+-- Bytes that a reader delivered.
 use Rattle.std.proofs.Common.{◌≡◌, ℕ, ◌+◌, ◌-◌, ◌<◌, ◌≤◌, List, ◌++◌, length, take, drop, replicate, Option, ap, ◌∙◌, arith}
 use Rattle.std.specs.Io.KnownBytes.{Consumes, IsAtEnd}
 use Rattle.std.proofs.Math.Seq.{take-add, take-append_seam}
 use Rattle.std.proofs.lemmas.List.{length-append, length-drop, length-replicate, length-take-le}
 use Rattle.pr_ports.specs.Shelf.{HasCome}
 
--- a piece that was read into the room behind some bytes, once the rest of that room is cut off
+-- a piece read into the space behind existing bytes, once the unused rest of that space is cut off
 pub piece_came : (old new : Option (List ℕ)) (before resized into after : List ℕ) (most count : ℕ) → 0 < most → resized ≡ before ++ replicate most 0
     → length into ≡ length resized → take (length before) into ≡ take (length before) resized → length before + count ≤ length into
     → Consumes old new (take count (drop (length before) into)) → (count ≡ 0 → 0 < length (drop (length before) into) → IsAtEnd new)

@@ -1,4 +1,4 @@
--- What contracts see of the shelf and the sink in memory.
+-- The models of the shelves and of the sink in memory.
 use Rattle.std.specs.Prelude.{◌≡◌, ℕ, List, ◌++◌, map, Option, Some, Result, Ok, Err}
 use Rattle.std.specs.Global.{Vec}
 use Rattle.pr_base.specs.Count.{count_after}
@@ -7,11 +7,11 @@ use Rattle.pr_ports.specs.declared.shelf.LoadFault.TheVariants.{Failed, TooLong,
 use Rattle.pr_ports.specs.declared.sink.SinkFault.{SinkFault}
 use Rattle.pr_ports.specs.declared.sink.SinkFault.TheVariants as sink_faults
 
--- the files of a shelf: each path with its bytes
+-- the files of a shelf, each as its path and bytes
 abbrev pub files_of : List (List ℕ × Vec ℕ) → List (List ℕ × List ℕ)
 files_of files = map (λ file. (file.0, file.1.items)) files
 
--- a shelf in memory
+-- the model of a shelf in memory
 pub record ShelfState : Type 0 where
   -- each file's path and bytes
   pub files : List (List ℕ × List ℕ)
@@ -24,9 +24,9 @@ pub record ShelfState : Type 0 where
   -- the path of the last call that failed
   pub missed : Option (List ℕ)
 
--- a sink in memory
+-- the model of a sink in memory
 pub record SinkState : Type 0 where
-  -- all bytes taken so far
+  -- all bytes accepted so far
   pub bytes : List ℕ
   -- the numbers of the calls that fail
   pub failing : List ℕ
@@ -34,13 +34,13 @@ pub record SinkState : Type 0 where
   pub calls : ℕ
   pub faults : ℕ
 
--- what a call that fails at this path makes of a shelf, and what it answers
+-- the shelf after a failing call at this path, by the error that the call returns
 abbrev pub Misses : ShelfState → ShelfState → List ℕ → LoadFault → Type 0
 Misses old new path Failed = new ≡ record old { faults = count_after old.faults; missed = Some path }
 Misses old new path (TooLong limit) = ⊥
 Misses old new path Memory = new ≡ old
 
--- the shelf after a call of load at path that gave this answer
+-- the shelf after a call of load at path, by the call's result
 abbrev pub shelf_after : {T : Type 0} → ShelfState → List ℕ → Result T LoadFault → ShelfState
 shelf_after shelf path (Ok bytes) = record shelf { calls = count_after shelf.calls }
 shelf_after shelf path (Err Failed) =
@@ -49,19 +49,19 @@ shelf_after shelf path (Err (TooLong limit)) =
     record shelf { calls = count_after shelf.calls; longs = count_after shelf.longs }
 shelf_after shelf path (Err Memory) = record shelf { calls = count_after shelf.calls }
 
--- the sink after a call of put that gave this answer
+-- the sink after a call of put, by the call's result
 abbrev pub sink_after : {T : Type 0} → SinkState → List ℕ → Result T SinkFault → SinkState
 sink_after sink bytes (Ok done) = record sink { calls = count_after sink.calls; bytes = sink.bytes ++ bytes }
 sink_after sink bytes (Err sink_faults.Failed) =
     record sink { calls = count_after sink.calls; faults = count_after sink.faults }
 sink_after sink bytes (Err sink_faults.Memory) = record sink { calls = count_after sink.calls }
 
--- what the shelf of the machine tells
+-- the model of the shelf of host files
 pub record Counts : Type 0 where
   pub faults : ℕ
   pub longs : ℕ
 
--- the counts of the shelf of the machine after a load that gave this answer
+-- the counts of the shelf of host files after a call of load, by the call's result
 abbrev pub counts_after : {T : Type 0} → Counts → Result T LoadFault → Counts
 counts_after counts (Ok bytes) = counts
 counts_after counts (Err Failed) = record counts { faults = count_after counts.faults }

@@ -1,4 +1,4 @@
--- What a shelf holds, and what a call of load tells of it.
+-- What a shelf holds, and what a call of load implies about it.
 use Rattle.std.specs.Prelude.{◌≡◌, ℕ, ◌<◌, ◌≤◌, Bool, true, false, if◌then◌else◌, List, ◌++◌, length, Option}
 use Rattle.std.specs.Prelude.{Some, IfSome, IsSomeAnd, Result, Ok, Err, nat_eq}
 use Rattle.std.specs.Option.{option_map}
@@ -12,38 +12,38 @@ use Rattle.pr_ports.specs.declared.shelf.LoadFault.TheVariants.{Failed, TooLong,
 abbrev pub held_at : List (List ℕ × List ℕ) → List ℕ → Option (List ℕ)
 held_at files path = lookup (λ name. pointwise nat_eq name path) files
 
--- where the shelf tells its files, these are the bytes at the path
+-- where the shelf's files are known, these are the bytes at the path
 abbrev pub IsHeldAt : Option (List (List ℕ × List ℕ)) → List ℕ → List ℕ → Type 0
 IsHeldAt held path bytes = IfSome held (λ files. held_at files path ≡ Some bytes)
 
--- where the shelf tells its files, there are more than limit bytes at the path
+-- where the shelf's files are known, the file at the path has more than limit bytes
 abbrev pub IsLongerAt : Option (List (List ℕ × List ℕ)) → List ℕ → ℕ → Type 0
 IsLongerAt held path limit =
     IfSome held (λ files. IsSomeAnd (held_at files path) (λ bytes. limit < length bytes))
 
--- the call answered Failed
+-- whether the call returned Failed
 abbrev pub has_failed : {T : Type 0} → Result T LoadFault → Bool
 has_failed (Ok value) = false
 has_failed (Err Failed) = true
 has_failed (Err (TooLong limit)) = false
 has_failed (Err Memory) = false
 
--- P of the limit that an answer TooLong tells
+-- P holds of the limit in a TooLong error; no condition on any other result
 abbrev pub IfTooLong : {T : Type 0} → Result T LoadFault → (ℕ → Type 0) → Type 0
 IfTooLong (Ok value) P = Unit {0}
 IfTooLong (Err Failed) P = Unit {0}
 IfTooLong (Err (TooLong limit)) P = P limit
 IfTooLong (Err Memory) P = Unit {0}
 
--- the path of the last failed call, after a call at path that failed or didn't
+-- the path of the last failed call, after a call at path that failed or did not
 abbrev pub missed_after : Bool → List ℕ → Option (Option (List ℕ)) → Option (Option (List ℕ))
 missed_after failed path missed = option_map (λ last. if failed then Some path else last) missed
 
--- where a reader tells what it has left, it gave at most so many bytes
+-- the reader delivered at most this many bytes, where its remaining bytes are known
 abbrev pub GaveAtMost : ℕ → Option (List ℕ) → Option (List ℕ) → Type 0
 GaveAtMost most old new = (given : List ℕ) × Consumes old new given × (length given ≤ most)
 
--- where a reader tells what it has left, so many bytes of it came behind those before, none at the end alone
+-- where the reader's remaining bytes are known, count of them were appended to before; none only at the end
 pub record HasCome (old new : Option (List ℕ)) (before after : List ℕ) (count : ℕ) : Type 0 where
   pub came : List ℕ
   pub joined : after ≡ before ++ came

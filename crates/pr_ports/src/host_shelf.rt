@@ -1,4 +1,4 @@
-// The shelf of the machine's files.
+// The shelf of files on the host.
 ghost use Rattle.std.specs.Prelude.{◌≡◌, ◌+◌, ◌<◌, ◌≤◌, None, IfOk, IfSome, IsErrOf, OnErr, ◌==◌, drop};
 ghost use Rattle.std.specs.Prelude.{false, if◌then◌else◌, is_some, length, min, not, take};
 ghost use Rattle.std.specs.Io.KnownBytes.{Keeps};
@@ -16,8 +16,8 @@ use std::io::Read;
 use std::marker::Model;
 use std::rt::Files;
 
-/// The files of the machine, by path. A file that can't be opened or read is a counted `Failed`. It tells
-/// nothing but its counts.
+/// Files on the host, by path. A file that can't be opened or read is a counted `Failed`. Contracts know
+/// only its counts, not the files.
 #[derive(Drop)]
 pub struct HostShelf<R: Files + AllocGlobal> {
     rt: R,
@@ -32,7 +32,7 @@ impl<R: Files + AllocGlobal> Model for HostShelf<R> {
 }
 
 impl<R: Files + AllocGlobal> HostShelf<R> {
-    /// The machine's files, with no failure counted yet.
+    /// A shelf of the host's files, with no failures counted.
     pub fn new(rt: R) -> HostShelf<R>
         ensures { result ≡ record { faults = 0; longs = 0 } }
     {
@@ -44,10 +44,10 @@ impl<R: Files + AllocGlobal> HostShelf<R> {
     }
 }
 
-/// The most bytes of one read.
+/// The maximum bytes of one read.
 const PIECE: usize = 65_536;
 
-/// Reads behind the first `at` bytes of `into`, as far as it has room, and answers how many bytes came.
+/// Reads into `into` from index `at` on, at most to its end, and returns the number of bytes read.
 fn read_behind<F: Read>(file: &mut Counted<F>, into: &mut [u8], at: usize) -> Option<usize>
     requires { at < length into.old }
     ensures front { take at into.new ≡ take at into.old }
@@ -59,8 +59,8 @@ fn read_behind<F: Read>(file: &mut Counted<F>, into: &mut [u8], at: usize) -> Op
     file.read(&mut into[at..])
 }
 
-/// Reads a piece of at most `most` bytes into the room behind `bytes`, and puts what came behind them.
-/// Answers how many bytes came, 0 at the end of the file alone.
+/// Reads at most `most` bytes and appends them to `bytes`. Returns the number of bytes read, which is 0
+/// only at the end of the file.
 fn read_piece<F: Read>(
     file: &mut Counted<F>,
     bytes: &mut Vec<u8>,
@@ -87,8 +87,8 @@ fn read_piece<F: Read>(
     }
 }
 
-/// Reads a file to its end, and no more than one byte beyond `limit`. `size` is what the file says of its
-/// length, for which memory is taken beforehand, with a byte more for the read that finds the end.
+/// Reads a file to its end, or to one byte beyond `limit`. `size` is the length that the file's metadata
+/// reports. Memory for it is reserved in advance, plus one byte for the read that detects the end.
 fn read_whole<F: Read>(
     alloc: Global,
     file: &mut Counted<F>,
@@ -120,8 +120,8 @@ fn read_whole<F: Read>(
     }
 }
 
-/// The bytes of the next read, where there are `room` to the limit and memory for `spare` is taken: one
-/// beyond the limit at most, and no further than the memory where there is some.
+/// Returns the size of the next read in bytes, where `room` bytes are left to the limit and `spare` bytes
+/// are allocated but unused: at most one byte beyond the limit, and no more than `spare` unless that is 0.
 fn piece_len(room: u64, spare: usize) -> usize
     ensures value { let most = min (room + 1) PIECE in
         result ≡ (if spare == 0 then most else min most spare) }

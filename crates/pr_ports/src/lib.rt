@@ -1,6 +1,6 @@
-// The outside of plateroom: the shelf that input files are loaded from, and the sinks that text and plates
-// are written to. Each is a trait whose failures are counted, with one implementation in memory that tells
-// everything and one on the machine that tells its counts alone.
+// Input and output of plateroom: the shelf that input files are loaded from, and the sinks that text and
+// plates are written to. Each is a trait whose failures are counted. One implementation works in memory,
+// with a model of its full contents; one works on the host, where only the counts are known to contracts.
 #![tactic(auto)]
 
 mod host_shelf;

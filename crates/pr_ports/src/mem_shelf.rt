@@ -1,4 +1,4 @@
-// A shelf in memory that tells all, and fails at chosen calls.
+// A shelf in memory, with known contents, that fails at chosen calls.
 ghost use Rattle.std.specs.Prelude.{◌≡◌, ◌≤◌, ◌⊎◌, [], List, ℕ, None, Some, Contains, IfOk, IsErrOf, length};
 ghost use Rattle.std.specs.Prelude.{false, map, nat_eq};
 ghost use Rattle.std.specs.Cmp.Lexicographic.{pointwise};
@@ -13,8 +13,8 @@ use pr_base::{PathText, raised};
 use std::alloc::Global;
 use std::marker::Model;
 
-/// A shelf in memory. Calls are numbered from 0, and those whose numbers are in `failing` fail, as does a
-/// call for a path that isn't held. A number past 2^64 - 1 counts as 2^64 - 1.
+/// A shelf in memory. Calls are numbered from 0. A call fails if its number is in `failing`, or if its path
+/// isn't held. The call number saturates at 2^64 - 1.
 #[derive(Debug, Drop)]
 pub struct MemShelf {
     alloc: Global,
@@ -40,7 +40,7 @@ impl Model for MemShelf {
 }
 
 impl MemShelf {
-    /// A shelf of these files that fails at the calls with these numbers.
+    /// A shelf of these files that fails at the calls with the given numbers.
     pub fn new(alloc: Global, files: Vec<(PathText, Vec<u8>)>, failing: Vec<u64>) -> MemShelf
         requires { IsDistinct (pointwise nat_eq) (map (λ file. file.0) (files_of files.items)) }
         ensures { result ≡ record {
@@ -64,7 +64,7 @@ impl MemShelf {
     }
 }
 
-/// The bytes of the file at `path`.
+/// Returns the bytes of the file at `path`.
 fn find<'a>(files: &'a [(PathText, Vec<u8>)], path: &str) -> Option<&'a [u8]>
     ensures { option_copied result ≡ held_at (files_of files.now) path.now }
 {
@@ -77,7 +77,8 @@ fn find<'a>(files: &'a [(PathText, Vec<u8>)], path: &str) -> Option<&'a [u8]>
 }
 
 impl MemShelf {
-    /// Counts a failure at `path`.
+    /// Counts a failure at `path` and returns the error to report; without memory to record the path it
+    /// counts nothing and returns `Memory`.
     fn miss(&mut self, path: &str) -> LoadFault
         ensures cases { Misses self.old self.new path.now result }
         ensures faults_stay { self.old.faults ≤ self.new.faults }

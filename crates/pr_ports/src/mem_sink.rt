@@ -1,4 +1,4 @@
-// A sink in memory that tells all, and fails at chosen calls.
+// A sink in memory, with known contents, that fails at chosen calls.
 ghost use Rattle.std.specs.Prelude.{◌≡◌, ◌≤◌, [], List, ℕ, Some, Contains, OnOk, OnErr, IsErrOf};
 ghost use Rattle.pr_base.specs.Count.{Rose};
 ghost use Rattle.pr_ports.specs.Mem.{SinkState, sink_after};
@@ -9,8 +9,8 @@ use pr_base::raised;
 use std::alloc::Global;
 use std::marker::Model;
 
-/// A sink in memory. Calls are numbered from 0, and those whose numbers are in `failing` fail and take
-/// nothing. A number past 2^64 - 1 counts as 2^64 - 1.
+/// A sink in memory. Calls are numbered from 0. A call whose number is in `failing` fails and accepts
+/// nothing. The call number saturates at 2^64 - 1.
 #[derive(Debug, Drop)]
 pub struct MemSink {
     bytes: Vec<u8>,
@@ -27,7 +27,7 @@ impl Model for MemSink {
 }
 
 impl MemSink {
-    /// An empty sink that fails at the calls with these numbers.
+    /// An empty sink that fails at the calls with the given numbers.
     pub fn new(alloc: Global, failing: Vec<u64>) -> MemSink
         ensures { result ≡ record { bytes = []; failing = failing.items; calls = 0; faults = 0 } }
     {
@@ -39,7 +39,7 @@ impl MemSink {
         }
     }
 
-    /// Lends all bytes taken so far.
+    /// Returns all bytes accepted so far.
     pub fn bytes(&self) -> &[u8]
         ensures { result.now ≡ self.now.bytes }
     {

@@ -1,14 +1,14 @@
-// Where input files come from.
+// The source of input files.
 ghost use Rattle.std.specs.Prelude.{◌≡◌, ◌≤◌, ℕ, List, Option, Bool, false, IfOk, IsErrOf, length};
 ghost use Rattle.pr_base.specs.Count.{Rose};
 ghost use Rattle.pr_ports.specs.Shelf.{IsHeldAt, IsLongerAt, missed_after, has_failed, IfTooLong};
 
 use thiserror::Error;
 
-/// Why a file wasn't loaded.
+/// The reason why a file was not loaded.
 #[derive(Clone, Copy, Debug, PartialEq, Eq, Error)]
 pub enum LoadFault {
-    /// The file isn't there, or reading it failed. The shelf has counted it.
+    /// The file does not exist, or reading it failed. The shelf has counted the failure.
     #[error("the file could not be read")]
     Failed,
     /// The file has more bytes than the caller allowed.
@@ -20,25 +20,25 @@ pub enum LoadFault {
 
 /// A store of files, each loaded whole by its path.
 ///
-/// Implementers define what the shelf tells. `held` is the list of paths and bytes, `missed` the path of
-/// the last call that failed, if one did; either may be untold (`None`). `faults` counts the calls that
-/// answered `Failed` and `longs` those that answered `TooLong`; a count at 2^64 - 1 stays there.
+/// Implementers define what is known about the shelf. `held` is the list of paths and bytes, `missed` the
+/// path of the last failed call, if one failed; either may be unknown (`None`). `faults` counts the calls
+/// that returned `Failed`, and `longs` those that returned `TooLong`; both saturate at 2^64 - 1.
 ///
-/// Callers learn from a failure that `faults` rose in that call, which they can't bring about themselves.
+/// Callers learn from a failure that `faults` rose in that call, which they cannot cause themselves.
 pub trait Shelf {
-    /// Each file's path and bytes, where told.
+    /// Each file's path and bytes, where known.
     ghost held: { Self → Option (List (List ℕ × List ℕ)) };
 
-    /// The path of the last call that answered `Failed`, where told.
+    /// The path of the last call that returned `Failed`, where known.
     ghost missed: { Self → Option (Option (List ℕ)) };
 
-    /// How many calls answered `Failed`.
+    /// The number of calls that returned `Failed`.
     ghost faults: { Self → ℕ };
 
-    /// How many calls answered `TooLong`.
+    /// The number of calls that returned `TooLong`.
     ghost longs: { Self → ℕ };
 
-    /// The bytes of the file at `path`, at most `limit` of them.
+    /// Returns the bytes of the file at `path`, at most `limit` of them.
     fn load(&mut self, path: &str, limit: u64) -> Result<Vec<u8>, LoadFault>
         ensures within { IfOk result (λ bytes. length bytes.items ≤ limit) }
         ensures bytes { IfOk result (λ bytes. IsHeldAt (held self.old) path.now bytes.items) }

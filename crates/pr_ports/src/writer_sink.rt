@@ -1,4 +1,4 @@
-// A sink over a writer of the machine.
+// A sink over an operating-system writer.
 ghost use Rattle.std.specs.Prelude.{◌≡◌, ◌≤◌, IfErr, IsErrOf, OnErr, OnOk, is_ok};
 ghost use Rattle.pr_base.specs.Count.{Rose, count_unless};
 ghost use Rattle.pr_ports.specs.Sink.{Grew, GrewByPrefix};
@@ -8,9 +8,9 @@ use pr_base::Counted;
 use std::io::Write;
 use std::marker::Model;
 
-/// A sink that passes each piece on to a writer, flushed, before it answers. An error of the writer, or a
-/// write that takes no byte, is a counted `Failed`. It tells what its writer tells that it holds, which the
-/// streams of the machine leave untold, and its count.
+/// A sink that passes each piece on to a writer and flushes it before returning. An error of the writer, or
+/// a write that accepts no byte, is a counted `Failed`. The bytes given are the writer's contents where
+/// those are known; for host streams they are not, so contracts know only the count.
 #[derive(Drop)]
 pub struct WriterSink<W: Write> {
     inner: Counted<W>,
@@ -25,7 +25,7 @@ impl<W: Write> Model for WriterSink<W> {
 }
 
 impl<W: Write> WriterSink<W> {
-    /// A sink over `inner` that hasn't failed yet.
+    /// A sink over `inner`, with no failures counted.
     pub fn new(inner: W) -> WriterSink<W>
         ensures { result ≡ record { given = W.contents inner; faults = 0 } }
     {

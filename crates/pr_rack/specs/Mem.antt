@@ -13,11 +13,11 @@ use Rattle.pr_rack.specs.declared.rack.RackCall.{RackCall}
 use Rattle.pr_rack.specs.declared.rack.RackFault.{RackFault}
 use Rattle.pr_rack.specs.declared.rack.RackFault.TheVariants.{Failed, Memory}
 
--- a plate as the code holds it, its path and its bytes
+-- a plate in the code's form: its path and its bytes
 abbrev pub plate_of : List ℕ × Vec ℕ → Plate
 plate_of plate = (plate.0, plate.1.items)
 
--- what stands in the slots
+-- the contents of the slots
 abbrev pub slots_of : List (Option (List ℕ × Vec ℕ)) → Slots
 slots_of slots = map (option_map plate_of) slots
 
@@ -25,7 +25,7 @@ slots_of slots = map (option_map plate_of) slots
 abbrev pub files_of : List (List ℕ × Vec ℕ) → List Plate
 files_of files = map plate_of files
 
--- each plate in a slot has the eight bytes that stand before its rows
+-- each plate in a slot has the eight bytes before its rows
 abbrev pub AreBegun : List (Option (List ℕ × Vec ℕ)) → Type 0
 AreBegun slots = All (λ slot. ForSome slot (λ plate. 8 ≤ length plate.1.items)) slots
 
@@ -39,33 +39,33 @@ pub record MissState : Type 0 where
   -- the last call that failed, and the path of its plate
   pub missed : Option (RackCall × List ℕ)
 
--- what a call that is to fail for the plate at this path makes of them, and what it answers
+-- the effect on them of a call that is to fail for the plate at this path, by the fault it returns
 abbrev pub Misses : MissState → MissState → RackCall → List ℕ → RackFault → Type 0
 Misses old new call path Failed = new ≡ record { faults = count_after old.faults; missed = Some (call, path) }
 Misses old new call path Memory = new ≡ old
 
 -- a rack in memory
 pub record MemState : Type 0 where
-  -- what stands in each slot
+  -- the content of each slot
   pub slots : Slots
   -- the finished plates
   pub files : List Plate
-  -- the number and the source of each row that was taken
+  -- the number and the source of each row taken
   pub taken : List (ℕ × Source)
   -- the numbers of the calls that fail
   pub failing : List ℕ
   -- the number of the next call
   pub calls : ℕ
-  -- the calls that failed
+  -- the failed calls
   pub misses : MissState
 
--- the call was counted, and failed for the plate at this path
+-- the rack after a counted call that failed for the plate at this path
 abbrev pub failed_at : RackCall → List ℕ → MemState → MemState
 failed_at call path rack =
     let misses : MissState = record { faults = count_after rack.misses.faults; missed = Some (call, path) } in
     record rack { calls = count_after rack.calls; misses = misses }
 
--- the rack stands as it should after a call for the plate at this path that was to make `done` of it
+-- the rack after a call for the plate at this path that turns it into `done` if it succeeds
 abbrev pub IsAfter : {T : Type 0} → MemState → MemState → RackCall → List ℕ → MemState
     → Result T RackFault → Type 0
 IsAfter old new call path done (Ok value) = new ≡ record done { calls = count_after old.calls }
@@ -81,24 +81,24 @@ in_slot slot plate rack = record rack { slots = slice_set rack.slots slot plate 
 abbrev pub at_slot : MemState → ℕ → Option Plate
 at_slot rack slot = slice_index_or rack.slots slot None
 
--- the rack after a call of begin that did what it was asked
+-- the rack after a successful call of `begin`
 abbrev pub after_begin : MemState → ℕ → List ℕ → List ℕ → MemState
 after_begin old slot path head = in_slot slot (Some (path, head)) old
 
--- the rack after a call of row that did what it was asked
+-- the rack after a successful call of `row`
 abbrev pub after_row : MemState → ℕ → HeldRow → MemState
 after_row old slot held =
     let plate : Option Plate = option_map (with_bytes (packed_in held.bytes)) (at_slot old slot) in
     let done : MemState = in_slot slot plate old in
     record done { taken = old.taken ++ (held.number, held.source) ∷ [] }
 
--- the rack after a call of finish that did what it was asked
+-- the rack after a successful call of `finish`
 abbrev pub after_finish : MemState → ℕ → List ℕ → ℕ → MemState
 after_finish old slot tail place =
     let plates : List Plate = option_to_list (option_map (closed tail place) (at_slot old slot)) in
     record old { slots = slice_set old.slots slot None; files = old.files ++ plates }
 
--- what the rack of the machine tells
+-- what contracts see of the rack on the machine
 pub record HostState : Type 0 where
   pub begun : List Bool
   pub faults : ℕ

@@ -1,28 +1,28 @@
--- What a rack tells, by the members of its type: the one place where they are put together.
+-- What contracts see of a rack, collected from the members of its type: the only place where that is done.
 use Rattle.std.specs.Prelude.{ℕ, Bool, List, Option, map}
 use Rattle.ring_lanes.specs.declared.source.Source.{Source}
 use Rattle.pr_rack.specs.declared.rack.Rack.{Ghosts}
 use Rattle.pr_rack.specs.declared.rack.RackCall.{RackCall}
 use Rattle.pr_rack.specs.Rack.{Plate, Slots}
 
--- the finished plates, what stands in the slots, which of them are begun, and the rows that were taken
+-- the finished plates, the contents of the slots, which of them are begun, and the rows taken
 pub record Tells : Type 0 where
   pub finished : Option (List Plate)
   pub working : Option Slots
   pub begun : List Bool
   pub taken : Option (List (ℕ × Source))
 
--- the last failed call and its plate's path, where told
+-- the last failed call and its plate's path, where known
 abbrev pub Missed : Type 0
 Missed = Option (Option (RackCall × List ℕ))
 
--- the same, with the last failed call and how many calls failed
+-- the same, with the last failed call and the number of failed calls
 pub record RackTells : Type 0 where
   pub tells : Tells
   pub missed : Missed
   pub faults : ℕ
 
--- what a rack tells
+-- what contracts see of a rack
 abbrev pub told : {R : Type 0} → Ghosts R → R → RackTells
 told g rack = record {
   tells = record {
@@ -35,6 +35,6 @@ told g rack = record {
   faults = g.faults rack;
 }
 
--- what each of these racks tells
+-- what contracts see of each of these racks
 abbrev pub all_told : {R : Type 0} → Ghosts R → List R → List RackTells
 all_told g racks = map (told g) racks

@@ -1,4 +1,4 @@
-// A plate of the machine that is begun: its file, under a name of its own until it is whole.
+// A plate begun on the machine: its file, under a temporary name until it is complete.
 ghost use Rattle.std.specs.Prelude.{◌≡◌, length};
 
 use crate::RackFault;
@@ -12,14 +12,15 @@ use std::io::{BufWriter, ErrorKind};
 use std::rt::Files;
 use std::{fs, io};
 
-/// A plate's names, and its file with a block for the bytes that wait for the machine.
+/// The names of a plate, and its file with a buffer for the bytes that are not yet written.
 #[derive(Drop)]
 pub(crate) struct BegunPlate {
     name: PlateName,
     pub(crate) file: Counted<BufWriter<File>>,
 }
 
-/// Makes an empty file for a plate. What stands under its name is replaced: a link there is not followed.
+/// Creates an empty file for a plate. Removes an existing entry of that name; a symbolic link is not
+/// followed.
 fn create<R: Files<File = File>>(rt: &R, part: &str) -> io::Result<File> {
     match fs::remove_file(rt, part) {
         Err(error) if error.kind() != ErrorKind::NotFound => Err(error),
@@ -27,7 +28,7 @@ fn create<R: Files<File = File>>(rt: &R, part: &str) -> io::Result<File> {
     }
 }
 
-/// Whether a folder stands at this path, where no plate can come.
+/// Whether this path is a directory, where a plate cannot be written.
 fn is_folder<R: Files>(rt: &R, path: &str) -> bool {
     match fs::symlink_metadata(rt, path) {
         Ok(found) => found.is_dir(),
@@ -35,8 +36,8 @@ fn is_folder<R: Files>(rt: &R, path: &str) -> bool {
     }
 }
 
-/// The file of a plate, with a block for its bytes. Where there is no memory for one they go to the machine as
-/// they come.
+/// Creates the file of a plate, with a buffer of `BLOCK` bytes. If the buffer cannot be allocated, bytes are
+/// written unbuffered.
 fn create_plate<R: Files<File = File> + AllocGlobal>(
     rt: &R,
     name: &PlateName,
@@ -50,7 +51,7 @@ fn create_plate<R: Files<File = File> + AllocGlobal>(
     }
 }
 
-/// Begins the plate at `path` with its head, in a folder that is locked then.
+/// Begins the plate at `path` with its head. Locks the plate's folder.
 pub(crate) fn begin_plate<R: Files<File = File> + AllocGlobal>(
     rt: &R,
     folders: &mut Folders,
@@ -69,7 +70,7 @@ pub(crate) fn begin_plate<R: Files<File = File> + AllocGlobal>(
     Ok(BegunPlate { name, file })
 }
 
-/// A plate's file of the machine, with all its bytes but the place of its directory.
+/// The file of a plate on the machine, complete except for the offset of its directory.
 #[derive(Drop)]
 struct WrittenPlate<'a, R: Files<File = File>> {
     rt: &'a R,
@@ -102,8 +103,8 @@ impl<R: Files<File = File>> PlateFile for WrittenPlate<'_, R> {
     }
 }
 
-/// Writes the tail of a plate and the place `at` of its directory, and makes the file the plate. False where
-/// the machine failed.
+/// Writes the tail of a plate and the offset `at` of its directory, and gives the file the plate's name.
+/// Returns false if the machine failed.
 pub(crate) fn complete<R: Files<File = File>>(
     rt: &R,
     plate: BegunPlate,

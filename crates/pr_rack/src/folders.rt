@@ -7,14 +7,14 @@ use std::io::ErrorKind;
 use std::rt::Files;
 use std::{fs, io};
 
-/// The folders in which plates were begun. Each stays locked until these are let go, so that no other run
-/// writes there.
+/// The folders in which plates were begun. Each stays locked until this value is dropped, so that no other
+/// run writes to it.
 #[derive(Drop)]
 pub(crate) struct Folders {
     locked: Vec<(PathText, File)>,
 }
 
-/// The folder of a plate.
+/// The folder of the plate at `path`.
 pub(crate) fn folder_of(path: &str) -> &str {
     match path.rsplit_once('/') {
         Some((folder, _)) if !folder.is_empty() => folder,
@@ -23,7 +23,7 @@ pub(crate) fn folder_of(path: &str) -> &str {
     }
 }
 
-/// Locks a folder, where its file system has locks. An error where another run has it; this never waits.
+/// Locks a folder, if its file system supports locks. Fails without waiting if another run holds the lock.
 fn lock(folder: &File) -> io::Result<()> {
     match folder.try_lock() {
         Err(TryLockError::Error(error)) if error.kind() == ErrorKind::Unsupported => Ok(()),
@@ -32,7 +32,7 @@ fn lock(folder: &File) -> io::Result<()> {
     }
 }
 
-/// Makes a folder and those above it, and locks it.
+/// Creates a folder and its parents, and locks it.
 fn open_locked<R: Files<File = File>>(rt: &R, folder: &str) -> io::Result<File> {
     fs::create_dir_all(rt, folder)?;
     let opened = fs::open(rt, folder)?;
@@ -41,19 +41,19 @@ fn open_locked<R: Files<File = File>>(rt: &R, folder: &str) -> io::Result<File> 
 }
 
 impl Folders {
-    /// No folder is locked.
+    /// Returns an empty set of locked folders.
     pub(crate) fn new(alloc: Global) -> Folders {
         Folders {
             locked: Vec::new(alloc),
         }
     }
 
-    /// Whether this folder is locked here.
+    /// Whether this set holds the lock of `folder`.
     fn has(&self, folder: &str) -> bool {
         self.locked.iter().any(|held| held.0.as_str() == folder)
     }
 
-    /// Makes a folder and locks it, where that wasn't done before.
+    /// Creates and locks a folder, unless this set already holds its lock.
     pub(crate) fn enter<R: Files<File = File> + AllocGlobal>(
         &mut self,
         rt: &R,

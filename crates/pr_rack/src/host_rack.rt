@@ -1,4 +1,4 @@
-// The rack of the machine's files.
+// The rack that writes files on the machine.
 ghost use Rattle.std.specs.Prelude.{refl, ◌≡◌, ◌≤◌, true, false, None, Some, IfErr, IsErrOf, OnErr, OnOk};
 ghost use Rattle.std.specs.Prelude.{is_ok, is_some, length, map, not, slice_get, slice_set};
 ghost use Rattle.tif_packbits.specs.Frame.{IsFrame};
@@ -16,12 +16,12 @@ use std::fs::File;
 use std::marker::Model;
 use std::rt::Files;
 
-/// The files of the machine. A plate's file is written by blocks as its rows come, as `PLATE.part` in the
-/// plate's folder, which is made. `finish` syncs it and renames it, so a file under a plate's name is whole;
-/// a file that stood there is replaced then. The partial file of a plate that isn't finished stays. An error
-/// of the machine is a counted `Failed` of the call that wrote the block. The folder is locked from the first
-/// `begin` there until the rack is let go; where another run has it `begin` fails. It tells nothing but which
-/// slots are begun, and its count.
+/// A rack that writes files on the machine. Rows are buffered and written in blocks to `PLATE.part` in the
+/// plate's folder, which is created. `finish` syncs and renames that file, so a file under a plate's name is
+/// complete; it replaces an existing file. The partial file of an unfinished plate is not removed. An error
+/// of the machine is counted, and returned as `Failed` by the call that wrote the block. The folder is locked
+/// from the first `begin` in it until the rack is dropped; `begin` fails if another run holds the lock.
+/// Contracts see only which slots are begun and the count of failures.
 #[derive(Drop)]
 pub struct HostRack<R: Files<File = File> + AllocGlobal> {
     rt: R,
@@ -39,7 +39,7 @@ impl<R: Files<File = File> + AllocGlobal> Model for HostRack<R> {
 }
 
 impl<R: Files<File = File> + AllocGlobal> HostRack<R> {
-    /// A rack of the machine's files with no begun slot, and no failure counted yet.
+    /// Returns a rack with no slot begun and no failures counted.
     pub fn new(rt: R) -> HostRack<R>
         ensures { result ≡ record { begun = none_begun; faults = 0 } }
     {

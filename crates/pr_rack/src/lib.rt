@@ -1,5 +1,5 @@
-// The racks of the print sites, on which plates are built row by row and kept when they are finished: what a
-// rack is, one in memory that tells all, and one that writes files on the machine.
+// The racks of the print sites, which build plates row by row and keep the finished ones: the trait, a
+// transparent rack in memory, and one that writes files on the machine.
 #![tactic(auto)]
 
 mod begun_plate;

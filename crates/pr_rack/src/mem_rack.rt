@@ -1,4 +1,4 @@
-// A rack in memory that tells all, and fails at chosen calls.
+// A transparent rack in memory, which fails at chosen calls.
 ghost use Rattle.std.specs.Prelude.{refl, ◌≡◌, ◌≤◌, ◌⊎◌, [], true, false, None, Some, Contains, IsTrue, OnOk};
 ghost use Rattle.std.specs.Prelude.{OnErr, IfOk, IfErr, IfSome, IsErrOf, is_some, length, map, slice_get};
 ghost use Rattle.std.specs.Prelude.{slice_set};
@@ -19,8 +19,8 @@ use std::alloc::Global;
 use std::marker::Model;
 use tif_packbits::framed;
 
-/// A rack in memory. Calls are numbered from 0, and those whose numbers are in `failing` fail. A number past
-/// 2^64 - 1 counts as 2^64 - 1.
+/// A rack in memory. Calls are numbered from 0; the calls whose numbers are in `failing` fail. Numbers above
+/// 2^64 - 1 count as 2^64 - 1.
 #[derive(Debug, Drop)]
 pub struct MemRack {
     alloc: Global,
@@ -48,7 +48,7 @@ impl Model for MemRack {
 }
 
 impl MemRack {
-    /// An empty rack that fails at the calls with these numbers.
+    /// Returns an empty rack that fails at the calls with these numbers.
     pub fn new(alloc: Global, failing: Vec<u64>) -> MemRack
         ensures { result ≡ record {
           slots = empty_slots;
@@ -77,14 +77,14 @@ impl MemRack {
         self.files.as_slice()
     }
 
-    /// Lends the number and the source of each row that was taken.
+    /// Lends the number and the source of each row taken.
     pub fn taken(&self) -> &[(u64, Source)]
         ensures { result.now ≡ self.now.taken }
     {
         self.taken.as_slice()
     }
 
-    /// Counts a call, and says whether it is one that fails.
+    /// Counts a call. Returns whether it is one that fails.
     fn fails(&mut self) -> bool
         ensures listed { IsTrue result → Contains self.old.failing self.old.calls }
         ensures unlisted { Contains self.old.failing self.old.calls → IsTrue result }
@@ -96,7 +96,7 @@ impl MemRack {
     }
 }
 
-/// A plate at `path` that begins with `head`.
+/// Returns a plate at `path` that begins with `head`.
 fn begun(alloc: Global, path: &str, head: &[u8]) -> Result<Plate, RackFault>
     ensures plate { IfOk result (λ plate. plate_of plate ≡ (path.now, head.now)) }
     ensures memory { IfErr result (λ fault. fault ≡ RackFault.Memory) }

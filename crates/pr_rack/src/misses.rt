@@ -7,7 +7,7 @@ use pr_base::{PathText, raised};
 use std::alloc::Global;
 use std::marker::Model;
 
-/// How many calls failed, and which was the last, with the path of its plate.
+/// The number of failed calls, and the last of them with the path of its plate.
 #[derive(Debug, Drop)]
 pub(crate) struct Misses {
     faults: u64,
@@ -23,7 +23,7 @@ impl Model for Misses {
 }
 
 impl Misses {
-    /// No call failed yet.
+    /// Returns the state before any failure.
     pub(crate) fn new() -> Misses
         ensures { result ≡ record { faults = 0; missed = None } }
     {
@@ -33,7 +33,8 @@ impl Misses {
         }
     }
 
-    /// Counts a failure of `call` for the plate at `path`, where there is memory for the path.
+    /// Counts a failure of `call` for the plate at `path`. Returns `Memory`, and counts nothing, if the path
+    /// cannot be copied.
     pub(crate) fn miss(&mut self, alloc: Global, call: RackCall, path: &str) -> RackFault
         ensures cases { IsMissed self.old self.new call path.now result }
         ensures faults_stay { self.old.faults ≤ self.new.faults }

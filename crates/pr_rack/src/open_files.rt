@@ -1,11 +1,11 @@
-// The files that a rack of the machine has open.
+// The open files of a rack on the machine.
 ghost use Rattle.std.specs.Prelude.{◌≡◌, ◌<◌, true, false, Some, length, slice_get, slice_set};
 ghost use Rattle.pr_rack.specs.Rack.{none_begun};
 
 use crate::begun_plate::BegunPlate;
 use std::marker::Model;
 
-/// The plate of each slot where one is begun. Contracts see which slots are begun.
+/// The plate of each begun slot. Contracts see which slots are begun.
 #[derive(Drop)]
 pub(crate) struct OpenFiles {
     files: [Option<BegunPlate>; 5],
@@ -20,7 +20,7 @@ impl Model for OpenFiles {
 }
 
 impl OpenFiles {
-    /// No file is open.
+    /// Returns five empty slots.
     pub(crate) fn new() -> OpenFiles
         ensures { result ≡ none_begun }
     {
@@ -29,7 +29,7 @@ impl OpenFiles {
         }
     }
 
-    /// Takes the plate of a slot.
+    /// Takes the plate out of a slot.
     pub(crate) fn take(&mut self, slot: usize) -> BegunPlate
         requires { slice_get self.old slot ≡ Some true }
         ensures { self.new ≡ slice_set self.old slot false }

@@ -1,4 +1,4 @@
-// What is written to a plate's file: its head, its rows, its tail, and the place of its directory.
+// The bytes written to the file of a plate: its head, its rows, its tail, and the offset of its directory.
 ghost use Rattle.std.specs.Prelude.{◌≡◌, ◌≤◌, IfSome, length};
 ghost use Rattle.std.specs.Bool.{OnTrue};
 ghost use Rattle.std.specs.Io.Buffered.{writer_contents};
@@ -13,14 +13,13 @@ use ring_lanes::Held;
 use std::io::{BufWriter, Seek, Write};
 use tif_packbits::framed;
 
-/// The most bytes that wait for the machine. Rows are a few bytes to a few thousand.
+/// The capacity of a plate's write buffer in bytes. A packed row has a few bytes to a few thousand.
 pub(crate) const BLOCK: usize = 65_536;
 
-/// Where the place of a plate's directory stands in its file.
+/// The position of the directory's offset in the file of a plate.
 const PLACE: u64 = 4;
 
-/// Writes the eight bytes that stand before the rows of a plate, and passes them on. False where the file
-/// failed.
+/// Writes the eight bytes before the rows of a plate, and flushes them. Returns false if the file failed.
 pub(crate) fn append_head<W: Write>(file: &mut Counted<W>, head: &[u8]) -> bool
     requires { length head.now ≡ 8 }
     ensures head { OnTrue result
@@ -31,7 +30,7 @@ pub(crate) fn append_head<W: Write>(file: &mut Counted<W>, head: &[u8]) -> bool
     file.append(head) && file.flush()
 }
 
-/// Puts the packed bytes of a row behind those of its plate. False where the file failed.
+/// Appends the packed bytes of a row to its plate. Returns false if the file failed.
 pub(crate) fn append_row<W: Write>(file: &mut Counted<W>, held: &Held) -> bool
     requires frame { IsFrame held.now.bytes }
     ensures row { OnTrue result
@@ -42,7 +41,7 @@ pub(crate) fn append_row<W: Write>(file: &mut Counted<W>, held: &Held) -> bool
     file.append(framed(held.bytes()))
 }
 
-/// Writes the tail of a plate and all that waits before it, and answers the file. None where that failed.
+/// Appends the tail of a plate, flushes the buffer and returns the file. Returns `None` if that failed.
 pub(crate) fn close_block<W: Write + Drop>(
     mut file: Counted<BufWriter<W>>,
     tail: &[u8],
@@ -60,8 +59,8 @@ pub(crate) fn close_block<W: Write + Drop>(
     }
 }
 
-/// Writes the place `at` of a plate's directory over its bytes 4 to 7, least significant byte first. False
-/// where the file failed.
+/// Writes the offset `at` of a plate's directory over bytes 4 to 7 of the file, least significant byte
+/// first. Returns false if the file failed.
 pub(crate) fn write_place<F: Write + Seek>(file: &mut Counted<F>, at: u32) -> bool
     ensures place { OnTrue result
         (IsPlaced F.stream_position F.contents file.old.stream file.new.stream at) }

@@ -1,4 +1,4 @@
-// The two names of a plate's file.
+// The final name and the temporary name of a plate's file.
 ghost use Rattle.std.specs.Prelude.{◌≡◌, IfOk};
 ghost use Rattle.pr_rack.specs.Delivery.{part_of};
 
@@ -6,7 +6,7 @@ use pr_base::{NoMemory, PathText};
 use std::alloc::Global;
 use std::marker::Model;
 
-/// The plate's path, and the name under which its file is written until it is whole.
+/// The path of a plate, and the name under which its file is written until it is complete.
 #[derive(Drop)]
 pub(crate) struct PlateName {
     plate: PathText,
@@ -25,7 +25,7 @@ impl Model for PlateName {
 }
 
 impl PlateName {
-    /// The names of the plate at `path`.
+    /// Returns the names of the plate at `path`.
     pub(crate) fn of(alloc: Global, path: &str) -> Result<PlateName, NoMemory>
         ensures { IfOk result (λ name. name ≡ path.now) }
     {

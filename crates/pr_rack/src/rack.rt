@@ -1,4 +1,4 @@
-// Where a site's plates are built and kept.
+// The trait of the racks, on which a site's plates are built and kept.
 ghost use Rattle.std.specs.Prelude.{◌≡◌, ◌≤◌, ℕ, List, Bool, true, false, None, Option, Some, IfSome, OnOk};
 ghost use Rattle.std.specs.Prelude.{OnErr, IsErrOf, is_some, length, map, slice_get, slice_set};
 ghost use Rattle.tif_packbits.specs.Frame.{IsFrame, packed_in};
@@ -12,10 +12,10 @@ ghost use Rattle.pr_rack.specs.Rack.{with_row};
 use ring_lanes::Held;
 use thiserror::Error;
 
-/// Why a rack didn't do what it was asked.
+/// Why a rack refused a call.
 #[derive(Clone, Copy, Debug, PartialEq, Eq, Error)]
 pub enum RackFault {
-    /// The call failed. The rack has counted it.
+    /// The call failed. The rack has counted the failure.
     #[error("the plate could not be kept")]
     Failed,
     #[error("out of memory")]
@@ -30,37 +30,37 @@ pub enum RackCall {
     Finish,
 }
 
-/// A site's rack: five slots, numbered from 0, in which plates are built, and the plates that are finished. A
-/// plate takes its rows from what was taken of a deck or a ring, and from nothing else.
+/// The rack of a site: five slots, numbered from 0, in which plates are built, and the finished plates. A
+/// plate takes its rows only from rows that were taken out of a deck or a ring.
 ///
-/// Implementers define what the rack tells. `finished` is the list of the finished plates, each with its path
-/// and its bytes, `working` what stands in each slot, `taken` the number and the source of each row, and
-/// `missed` the last call that failed, if one did, with its plate's path; each of them may be untold
-/// (`None`), `finished` and `missed` wherever `working` is. `begun` says of each slot whether it is begun,
-/// and `faults` counts the calls that answered `Failed`, up to 2^64 - 1.
+/// Implementers define what contracts see of the rack. `finished` lists the finished plates, each with its
+/// path and its bytes; `working` is the content of each slot; `taken` is the number and the source of each
+/// row; `missed` is the last call that failed, if any, with the path of its plate. Each may be unknown
+/// (`None`); `finished` and `missed` are unknown wherever `working` is. `begun` is whether each slot is
+/// begun, and `faults` counts the calls that returned `Failed`, up to 2^64 - 1.
 ///
-/// Callers learn from a refusal that `faults` rose in that call, which they can't bring about themselves, or
-/// that memory was wanted; they don't use the slot again. No call changes another slot.
+/// To callers, a refusal means that `faults` rose in that call, which they cannot bring about themselves, or
+/// that the rack ran out of memory. They do not use that slot again. No call changes another slot.
 pub trait Rack {
-    /// The path and the bytes of each finished plate, in order, where told.
+    /// The path and the bytes of each finished plate, in order, where known.
     ghost finished: { Self → Option (List Plate) };
 
-    /// The path and the bytes of the plate in each slot where one is begun, where told.
+    /// The path and the bytes of the plate in each begun slot, where known.
     ghost working: { Self → Option Slots };
 
     /// Whether each slot is begun.
     ghost begun: { Self → List Bool };
 
-    /// The number and the source of each row that was taken, in order, where told.
+    /// The number and the source of each row taken, in order, where known.
     ghost taken: { Self → Option (List (ℕ × SourceData)) };
 
-    /// The last call that answered `Failed`, if one did, and the path of its plate, where told.
+    /// The last call that returned `Failed`, if any, and the path of its plate, where known.
     ghost missed: { Self → Option (Option (CallData × List ℕ)) };
 
-    /// How many calls answered `Failed`.
+    /// The number of calls that returned `Failed`.
     ghost faults: { Self → ℕ };
 
-    /// Begins the plate at `path` in an empty slot, with the eight bytes that stand before its rows.
+    /// Begins the plate at `path` in an empty slot, with the eight bytes before its rows.
     fn begin(&mut self, slot: usize, path: &str, head: &[u8]) -> Result<(), RackFault>
         requires empty { slice_get (begun self.old) slot ≡ Some false }
         requires head { length head.now ≡ 8 }
@@ -76,7 +76,7 @@ pub trait Rack {
         ensures counted { IsErrOf result RackFault.Failed → Rose (faults self.old) (faults self.new) }
         ensures faults_stay { faults self.old ≤ faults self.new };
 
-    /// Puts the packed bytes of a row, which was taken as a frame, behind the plate of a slot.
+    /// Appends the packed bytes of a row, which was taken as a frame, to the plate in a slot.
     fn row(&mut self, slot: usize, held: &Held) -> Result<(), RackFault>
         requires begun { slice_get (begun self.old) slot ≡ Some true }
         requires frame { IsFrame held.now.bytes }
@@ -95,9 +95,9 @@ pub trait Rack {
         ensures counted { IsErrOf result RackFault.Failed → Rose (faults self.old) (faults self.new) }
         ensures faults_stay { faults self.old ≤ faults self.new };
 
-    /// Finishes the plate of a slot: `tail` stands behind its rows, and the place `at` of its directory in
-    /// its bytes 4 to 7, least significant byte first. The directory stands right behind the rows,
-    /// so that no row is in `tail`.
+    /// Finishes the plate in a slot: appends `tail` to its rows, and writes the offset `at` of its directory
+    /// to bytes 4 to 7, least significant byte first. The directory directly follows the rows, so `tail`
+    /// contains no row.
     fn finish(&mut self, slot: usize, tail: &[u8], at: u32) -> Result<(), RackFault>
         requires begun { slice_get (begun self.old) slot ≡ Some true }
         requires place { IfSome (plate_in (working self.old) slot) (λ plate. IsBehind (length plate.1) at) }
@@ -115,12 +115,12 @@ pub trait Rack {
         ensures counted { IsErrOf result RackFault.Failed → Rose (faults self.old) (faults self.new) }
         ensures faults_stay { faults self.old ≤ faults self.new };
 
-    /// Finished plates are told only where the slots are.
+    /// The finished plates are known only where the slots are.
     ghost finished_told: { (rack : Self) → working rack ≡ None → finished rack ≡ None };
 
-    /// The call that failed is told only where the slots are.
+    /// The call that failed is known only where the slots are.
     ghost missed_told: { (rack : Self) → working rack ≡ None → missed rack ≡ None };
 
-    /// Where the slots are told, one is begun exactly where a plate stands in it.
+    /// Where the slots are known, a slot is begun exactly if it holds a plate.
     ghost begun_told: { (rack : Self) → IfSome (working rack) (λ slots. begun rack ≡ map is_some slots) };
 }

@@ -10,8 +10,7 @@ use std::marker::Model;
 /// A plate: its path and its bytes.
 pub(crate) type Plate = (PathText, Vec<u8>);
 
-/// The plates that a rack builds, each in its slot.
-/// A plate has at least the eight bytes that stand before its rows.
+/// The plates under construction, each in its slot. A plate has at least the eight bytes before its rows.
 #[derive(Debug, Drop)]
 pub(crate) struct Slots {
     plates: [Option<Plate>; 5],
@@ -29,7 +28,7 @@ impl Model for Slots {
 }
 
 impl Slots {
-    /// Five empty slots.
+    /// Returns five empty slots.
     pub(crate) fn new() -> Slots
         ensures { result ≡ empty_slots }
     {
@@ -38,7 +37,7 @@ impl Slots {
         }
     }
 
-    /// The path of the plate in a slot.
+    /// Lends the path of the plate in a slot.
     pub(crate) fn path(&self, slot: usize) -> &str
         requires { slice_get (map is_some self.now) slot ≡ Some true }
         ensures { result.now ≡ path_in (Some self.now) slot }
@@ -50,7 +49,7 @@ impl Slots {
         }
     }
 
-    /// Takes the plate out of a slot, which is empty then.
+    /// Takes the plate out of a slot, leaving the slot empty.
     pub(crate) fn take(&mut self, slot: usize) -> Plate
         requires { slice_get (map is_some self.old) slot ≡ Some true }
         ensures plate { slice_index_or self.old slot None ≡ Some (plate_of result) }

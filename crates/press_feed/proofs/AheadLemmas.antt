@@ -1,4 +1,4 @@
--- Rows that are drawn ahead, and the chains that they are diffused in.
+-- Rows drawn ahead, and the chains that diffuse them.
 use Rattle.std.proofs.Common.{◌≡◌, ◌≢◌, ℕ, zero, suc, ◌+◌, ◌-◌, ◌*◌, ◌/◌, ◌%◌, ◌<◌, ◌≤◌, Bool, true, false, List, [], length, get_or, is_some, refl, ap, sym, subst, ◌∙◌, inl, inr, arith}
 use Rattle.std.proofs.lemmas.Bool.{cases_eq, cases_lt}
 use Rattle.std.proofs.lemmas.List.{get_or_append_left, get_or-append_right, get_or_default, length-append}
@@ -71,21 +71,21 @@ ahead_next job page ink first chain ahead held eight = record {
   ];
 }
 
--- the page has no further row
+-- the page has no more rows
 pub held_past : (job : JobData) (page : ℕ) (ink : Ink) (first k : ℕ) (held : List (List ℕ)) → job.plan.page_height ≤ first + k → AreHeldFrom job page ink first k held → AreHeldFrom job page ink first (k + 1) held
 held_past job page ink first k held past are = record { rows_are = λ j less within. are.rows_are j (omega arith) within }
 
 -- ---- the sheet
 
--- two places of a sheet
+-- two indexes of a sheet
 pub places_apart : (k j : ℕ) (ink other : Ink) → k ≢ j → 5 * k + slot_of ink ≢ 5 * j + slot_of other
 places_apart k j ink other apart = λ same. apart (let a = slot_below ink in let b = slot_below other in omega arith)
 
--- two inks have no place in common, of whichever rows
+-- two inks never share an index, whatever their rows
 pub slots_apart : (k j : ℕ) (ink other : Ink) → ink ≢ other → 5 * k + slot_of ink ≢ 5 * j + slot_of other
 slots_apart k j ink other apart = λ same. apart (slot_tells ink other (let a = slot_below ink in let b = slot_below other in omega arith))
 
--- a sheet of which a row was written
+-- a sheet in which one row was written
 pub rows_kept : (len i : ℕ) (old new : List (List ℕ)) → AreRows 40 len old → IsSetAt i old new → AreRows 40 len new
 rows_kept len i old new are set = record {
   count_is = set.count ∙ are.count_is;
@@ -97,7 +97,7 @@ rows_kept len i old new are set = record {
       ]);
 }
 
--- one row more is drawn in each ink that isn't diffused
+-- one more row is drawn in each ink that is not diffused
 pub tiled_more : (job : JobData) (group : Group) (lone : Ink) (first k : ℕ) (old new : List (List ℕ)) → AreTiled job group lone first k old
     → ((ink : Ink) → has_ink group ink ≡ true → ink ≢ lone → DrawsPages job group ink (first + k) (sheet_at new k ink)) → ((j : ℕ) (ink : Ink) → j ≢ k → sheet_at new j ink ≡ sheet_at old j ink) → AreTiled job group lone first (k + 1) new
 tiled_more job group lone first k old new tiled drawn others = record {
@@ -116,7 +116,7 @@ tiled_kept job group lone first old new tiled others = record {
   each = λ k ink less within has other. subst {A = List ℕ} (DrawsPages job group ink (first + k)) (sym (others k ink other)) (tiled.each k ink less within has other);
 }
 
--- one row more is drawn in the one that is
+-- one more row is drawn in the diffused ink
 pub diffused_more : (job : JobData) (group : Group) (lone : Ink) (first k : ℕ) (old new : List (List ℕ)) → AreDiffused job group lone first k old → DrawsPages job group lone (first + k) (sheet_at new k lone)
     → IsSetAt (5 * k + slot_of lone) old new → AreDiffused job group lone first (k + 1) new
 diffused_more job group lone first k old new diffused drawn set = record {
@@ -129,7 +129,7 @@ diffused_more job group lone first k old new diffused drawn set = record {
 pub diffused_past : (job : JobData) (group : Group) (lone : Ink) (first k : ℕ) (sheet : List (List ℕ)) → job.plan.page_height ≤ first + k → AreDiffused job group lone first k sheet → AreDiffused job group lone first (k + 1) sheet
 diffused_past job group lone first k sheet past diffused = record { each = λ j less within. diffused.each j (omega arith) within }
 
--- ---- the rows that are taken, step by step
+-- ---- taking rows, step by step
 
 pub hold_then : (job : JobData) (group : Group) (lone : Ink) (first n m : ℕ) (a b c : Chains) → HoldRows job group lone first n a b → HoldRows job group lone first m b c → HoldRows job group lone first m a c
 hold_then job group lone first n m a b c before after = record {
@@ -147,7 +147,7 @@ hold_past job group lone first k a b past hold = record {
   right_front = hold.right_front;
 }
 
--- an ink of the list at its slot
+-- an ink of the list is at its slot
 pub slot_at : (i : ℕ) (d : Ink) → i < 5 → slot_of (get_or all_inks i d) ≡ i
 slot_at zero d within = refl
 slot_at (suc zero) d within = refl
@@ -156,7 +156,7 @@ slot_at (suc (suc (suc zero))) d within = refl
 slot_at (suc (suc (suc (suc zero)))) d within = refl
 slot_at (suc (suc (suc (suc (suc i))))) d within = absurd (omega arith)
 
--- the row is drawn in the inks up to one, and another one is drawn
+-- the row is drawn in the first inks, and in one more
 pub inks_more : (job : JobData) (group : Group) (lone ink : Ink) (y k i : ℕ) (old new : List (List ℕ)) → slot_of ink ≡ i
     → ((other : Ink) → slot_of other < i → has_ink group other ≡ true → other ≢ lone → DrawsPages job group other y (sheet_at old k other))
     → (has_ink group ink ≡ true → ink ≢ lone → DrawsPages job group ink y (sheet_at new k ink)) → IsSetAt (5 * k + slot_of ink) old new
@@ -182,9 +182,9 @@ row_kept job lone pages chains sheet held blocks group ink y are there has row w
       | inr other ↦ (of.tiled (omega arith)).each (y % 8) ink (omega arith) (omega arith) has (λ same. absurd (other (ap slot_of same)))
     ])
 
--- ---- the ink that is diffused alone
+-- ---- the single diffused ink
 
--- of the first inks none is diffused, or one
+-- among the first inks none is diffused, or one
 pub record IsLone (plan : PlanData) (count : ℕ) (found : Option Ink) : Type 0 where
   pub none : found ≡ None → (ink : Ink) → slot_of ink < count → is_diffused plan ink ≡ false
   pub is : ForSome found (λ one. is_diffused plan one ≡ true)
@@ -203,12 +203,12 @@ lone_at_first plan = record {
   within = λ one there. cc;
 }
 
--- an ink that is diffused, and isn't
+-- an ink cannot be both diffused and not diffused
 apart : (b : Bool) → b ≡ true → b ≡ false → ⊥
 apart true on off = cc
 apart false on off = cc
 
--- one that isn't diffused more
+-- one more ink that is not diffused
 pub lone_same : (plan : PlanData) (ink : Ink) (i : ℕ) (found : Option Ink) → slot_of ink ≡ i → is_diffused plan ink ≡ false → IsLone plan i found → IsLone plan (i + 1) found
 lone_same plan ink i found slot off lone = record {
   none = λ n other less. elim (cases_eq (slot_of other) (slot_of ink)) [
@@ -223,7 +223,7 @@ lone_same plan ink i found slot off lone = record {
   within = λ one there. (let before = lone.within one there in omega arith);
 }
 
--- the first one that is
+-- the first diffused ink
 pub lone_found : (plan : PlanData) (ink : Ink) (i : ℕ) → slot_of ink ≡ i → is_diffused plan ink ≡ true → IsLone plan i None → IsLone plan (i + 1) (Some ink)
 lone_found plan ink i slot on lone = record {
   none = λ n. cc;
@@ -235,19 +235,19 @@ lone_found plan ink i slot on lone = record {
   within = λ one there. subst {A = Ink} (λ j. slot_of j < i + 1) (same_Some ink one there) (omega arith);
 }
 
--- and of all inks
+-- and among all inks
 pub lone_all : (plan : PlanData) (i : ℕ) (found : Option Ink) → 5 ≤ i → IsLone plan i found → ForSome found (IsOnly plan)
 lone_all plan i found all lone = λ one there. record {
   is = lone.is one there;
   only = λ other on. (let below = slot_below other in lone.only one there other (omega arith) on);
 }
 
--- an ink that is diffused alone was found, where all were looked at
+-- a single diffused ink was found after all inks were examined
 pub lone_is : (plan : PlanData) (i : ℕ) (found : Option Ink) (ink : Ink) → 5 ≤ i → IsLone plan i found → IsOnly plan ink → found ≡ Some ink
 lone_is plan i None ink all lone only = absurd (apart (is_diffused plan ink) only.is (lone.none refl ink (let below = slot_below ink in omega arith)))
 lone_is plan i (Some one) ink all lone only = ap {A = Ink} Some (only.only one (lone.is one refl))
 
--- and no ink is, where a second one was met
+-- no ink is the only one if a second one was found
 pub lone_no_more : (plan : PlanData) (i : ℕ) (found : Option Ink) (second ink : Ink) → is_some found ≡ true → slot_of second ≡ i → is_diffused plan second ≡ true → IsLone plan i found → IsOnly plan ink → None ≡ Some ink
 lone_no_more plan i None second ink some slot on lone only = cc
 lone_no_more plan i (Some one) second ink some slot on lone only =
@@ -258,19 +258,19 @@ lone_no_more plan i (Some one) second ink some slot on lone only =
     below : (a b : ℕ) → a < b → a ≡ b → ⊥
     below a b less same = omega arith
 
--- ---- a block more
+-- ---- one more block
 
 wide_behind : (width : ℕ) (chain : BlockFront) → IsWide width chain → IsWide width (behind_held chain)
 wide_behind width chain wide = record { width_is = wide.width_is; eight = wide.eight }
 
--- the front of a side's chain, behind the rows of a block
+-- the front of a side's chain after the rows of a block
 ahead_more : (job : JobData) (page : ℕ) (lone : Ink) (blocks : ℕ) (old held new : BlockFront) → IsAhead job page lone (8 * blocks) old.front → held.front ≡ old.front → AreHeldFrom job page lone (8 * blocks) 8 held.held
     → IsWide job.plan.page_width held → new ≡ behind_held held → IsAhead job page lone (8 * blocks + 8) new.front
 ahead_more job page lone blocks old held new ahead same are wide new_is =
     subst {A = BlockFront} (λ chain. IsAhead job page lone (8 * blocks + 8) chain.front) (sym new_is)
     (ahead_next job page lone (8 * blocks) held (subst {A = PageFront} (IsAhead job page lone (8 * blocks)) (sym same) ahead) are wide.eight)
 
--- the chains of both pages, behind the rows of a block that was taken of the pages of the same job
+-- the chains of both pages after the rows of a block, taken from the pages of the same job
 pub chains_more : (job own : JobData) (lone : Ink) (group : Group) (old held new : Chains) (sheet : List (List ℕ)) (blocks : ℕ) → own ≡ job → IsBlockOf job lone old sheet blocks group → HoldRows own group lone (8 * blocks) 8 old held → AreWide own held
     → new.left ≡ behind_held held.left → new.right ≡ behind_held held.right
     → IsAhead job group.left lone (8 * blocks + 8) new.left.front × (IsAhead job group.right lone (8 * blocks + 8) new.right.front × AreWide job new)
@@ -299,6 +299,6 @@ block_next job lone group new held sheet blocks left right tiled others diffused
       diffused = λ some. subst {A = ℕ} (λ n. AreDiffused job group lone n 8 sheet) first diffused;
     }
 
--- the group whose rows stand in the sheet
+-- the group whose rows are in the sheet
 pub of_same : (P : Group → Type 0) (own group : Group) (held : Option Group) → held ≡ Some own → P own → held ≡ Some group → P group
 of_same P own group held is of there = subst {A = Group} P (same_Some own group (sym is ∙ there)) of

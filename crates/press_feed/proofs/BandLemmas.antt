@@ -1,4 +1,4 @@
--- Frames that are made one after the other, and shares that stand behind one another.
+-- Frames made one after the other, and consecutive shares.
 use Rattle.std.proofs.Common.{inl, inr, ◌≡◌, ℕ, ◌+◌, ◌-◌, ◌*◌, ◌/◌, ◌%◌, ◌<◌, ◌≤◌, List, length, set, get_or, sym, ◌∙◌, subst, arith}
 use Rattle.std.specs.Prelude.{Some, slice_get}
 use Rattle.std.proofs.Math.Nat.{mul-le-mul_right}
@@ -30,7 +30,7 @@ made_more job first i frames frame within own is = record {
 
 -- ---- the shares of a band
 
--- a place below all of them lies in one of them
+-- an index below the total is in one of the shares
 share_within : (at each count : ℕ) → 0 < each → at < count * each → at / each < count
 share_within at each count some within =
     elim (cases_lt (at / each) count) [
@@ -38,7 +38,7 @@ share_within at each count some within =
       | inr above ↦ (let low = mul-le-mul_right each above in let whole = div-add-mod' at each in absurd (omega arith))
     ]
 
--- the frame at its place is that of its number
+-- the frame at its index has the right number
 pub band_frame : (job : JobData) (each first end n : ℕ) (shares : List ShareData) (share : ShareData) (frame : List ℕ) → IsBand job each first end shares → first ≤ n → n < end
     → share ≡ get_or shares ((n - first) / each) share → slice_get share.frames ((n - first) % each) ≡ Some frame → IsFrameAt job n frame
 band_frame job each first end n shares share frame is low high share_is there =
@@ -55,7 +55,7 @@ band_frame job each first end n shares share frame is low high share_is there =
     let number : first + k * each + i ≡ n = omega arith in
     subst {A = ℕ} (λ m. IsFrameAt job m frame) number here
 
--- a share is one of the band's job
+-- a share belongs to the band's job
 pub band_share : (job : JobData) (each first end n : ℕ) (shares : List ShareData) (share : ShareData) → IsBand job each first end shares → first ≤ n → n < end
     → share ≡ get_or shares ((n - first) / each) share → IsShareOf job each share
 band_share job each first end n shares share is low high share_is =
@@ -63,7 +63,7 @@ band_share job each first end n shares share is low high share_is =
     let below : (n - first) / each < length shares = share_within (n - first) each (length shares) is.some (omega arith) in
     subst {A = ShareData} (IsShareOf job each) (sym share_is) (is.own ((n - first) / each) share below)
 
--- a band behind the making of its shares
+-- a band after its shares were made
 pub IsBand-make : (job : JobData) (each first end from : ℕ) (old new : List ShareData) → IsBand job each first end old → length new ≡ length old → AreMade from each old new
     → IsBand job each from (from + length new * each) new
 IsBand-make job each first end from old new is long made =

@@ -1,4 +1,4 @@
--- The frames of a feed: the one of a row, and those that are left.
+-- The frames of a feed: the frame of a row, and those that are left.
 use Rattle.std.proofs.Common.{zero, suc, ◌≡◌, ℕ, ◌+◌, ◌<◌, List, [], ◌∷◌, length, drop, map, get_or, ap, sym, ◌∙◌, arith}
 use Rattle.std.specs.Prelude.{Option, Some, slice_get}
 use Rattle.std.specs.List.{All}
@@ -21,7 +21,7 @@ use Rattle.press_job.proofs.FrameLemmas.{each-plate_frames, length-plate_frames}
 
 -- ---- the frames that are left
 
--- a feed that fits its next row has one
+-- a feed that fits its next row has a next row
 pub next_within : (xs : List (List ℕ)) (n size : ℕ) → FitsNext (drop n xs) size → n < length xs
 next_within [] zero size fits = absurd fits
 next_within [] (suc n) size fits = absurd fits
@@ -43,7 +43,7 @@ frame_fits plan files n size fits =
 pub place_within : (plan : PlanData) (files : List (List ℕ)) (n size : ℕ) → FitsNext (drop n (plate_frames plan files)) size → n < length (row_places plan)
 place_within plan files n size fits = (let within = next_within (plate_frames plan files) n size fits in omega (arith, length-plate_frames plan files))
 
--- the frame of a row stands at its number
+-- the frame of a row is at its number
 pub frame_is : (plan : PlanData) (files : List (List ℕ)) (n : ℕ) (place : RowPlace) (group : Group) (bits row : List ℕ) → slice_get (row_places plan) n ≡ Some place
     → slice_get (groups_of plan) place.group ≡ Some group → bits ≡ plate_row plan files group.left group.right place.ink place.y → row ≡ frame_of bits
     → slice_get (plate_frames plan files) n ≡ Some row
@@ -60,13 +60,13 @@ frame_is plan files n place group bits row there of bits_are row_is =
     ∙ ap {A = Option Group} (λ o. plate_row plan files (option_map_or (λ g. g.left) o 0) (option_map_or (λ g. g.right) o 0) place.ink place.y) of) in
     slice_get-get_or (plate_frames plan files) n [] (omega arith) ∙ ap {A = List ℕ} Some (own ∙ ap frame_of (sym bits_are) ∙ sym row_is)
 
--- a frame that is found stands before the rest
+-- a frame that is found precedes the rest
 pub frame_first : (frames : List (List ℕ)) (n : ℕ) (frame : List ℕ) → slice_get frames n ≡ Some frame → drop n frames ≡ frame ∷ drop (n + 1) frames
 frame_first frames n frame there =
     drop_more frames n [] (slice_get_within frames n frame there)
     ∙ ap (λ (first : List ℕ). first ∷ drop (n + 1) frames) (get_or_from_slice_get frames n frame [] there)
 
--- a row of values fits the next row of a list of such rows
+-- a row of bytes fits the next row of a list of such rows
 pub fits_at : (xs : List (List ℕ)) (n size : ℕ) → n < length xs → All (λ row. length row ≡ size) xs → FitsNext (drop n xs) size
 fits_at [] n size within each = absurd (omega arith)
 fits_at (x ∷ xs) zero size within each = sym (All-head (λ row. length row ≡ size) x xs each)

@@ -1,4 +1,4 @@
--- How the two pages of a plate go from row to row.
+-- How the two pages of a plate advance from row to row.
 use Rattle.std.proofs.Common.{◌≡◌, ℕ, ◌+◌, ◌-◌, ◌<◌, Bool, List, [], ap, sym, refl, subst, ◌∙◌}
 use Rattle.std.specs.Prelude.{None}
 use Rattle.std.specs.Option.{ForSome}
@@ -17,7 +17,7 @@ use Rattle.press_feed.proofs.ScreensLemmas.{diffused-from_top, screens-behind, s
 use Rattle.press_job.specs.Job.{JobData}
 use Rattle.press_job.specs.Printing.{printed_row}
 
--- a side of a job stays one
+-- a side of a job remains one
 pub of_moved : (job : JobData) (side : Side) (old new : SideData) (page shown : ℕ) → IsOf job side old → new ≡ record old { page = page; shown = shown } → IsOf job side new
 of_moved job side old new page shown is new_is =
     subst {A = SideData} (IsOf job side) (sym new_is) (record { plan_is = is.plan_is; files_are = is.files_are; side_is = is.side_is })
@@ -36,7 +36,7 @@ IsPair-begin job apart left right left' right' a b screens screens' is left_is r
       (diffused-from_top job.plan job.files left.page right.page a right'.page left.shown screens is.diffused));
 }
 
--- where nothing is diffused, any row may be shown next
+-- if nothing is diffused, any row may be made next
 none_diffused : (plan : PlanData) (files : List (List ℕ)) (left right y : ℕ) (screens : Screens) → screens.process ≡ None → screens.spot ≡ None
     → HaveDiffused plan files left right y screens
 none_diffused plan files left right y screens process spot = record { process = λ front there. cc; spot = λ front there. cc }
@@ -52,7 +52,7 @@ IsPair-shown job apart left right left' right' shown screens is process spot lef
   diffused = none_diffused job.plan job.files left'.page right'.page left'.shown screens process spot;
 }
 
--- one row more of both pages is shown, and taken into the diffusion
+-- one more row of both pages is made, and given to the diffusion
 pub IsPair-next : (job : JobData) (apart : Bool) (left right left' right' : SideData) (on_left on_right : Planes) (screens screens' : Screens) → IsPair job apart left right screens
     → left' ≡ record left { shown = left.shown + 1 } → right' ≡ record right { shown = right.shown + 1 }
     → (0 < left'.shown → (ink : Ink) → plane_of on_left ink ≡ printed_row left'.plan left'.files left'.page ink (left'.shown - 1))
@@ -94,7 +94,7 @@ IsPair-open job apart left right screens is left_is right_is are process spot = 
     opened_of : (job : JobData) (side : Side) (pages : SideData) → pages ≡ opened_side job side → IsOf job side pages
     opened_of job side pages is = record { plan_is = ap {A = SideData} (λ s. s.plan) is; files_are = ap {A = SideData} (λ s. s.files) is; side_is = ap {A = SideData} (λ s. s.side) is }
 
--- what stands before a side's next row, by its own names
+-- the diffusers before a side's next row, in the side's terms
 pub side_front : (job : JobData) (side : Side) (pages : SideData) (ink : Ink) (y : ℕ) (screens : Screens) → IsOf job side pages
     → ForSome (bank_of screens ink) (IsFrontOf job.plan job.files pages.page ink (lane_of side ink) (y + 1))
     → ForSome (bank_of screens ink) (IsFrontOf pages.plan pages.files pages.page ink (lane_of pages.side ink) (y + 1))

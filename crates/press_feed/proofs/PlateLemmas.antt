@@ -1,4 +1,4 @@
--- The row of a plate that its two pages and its marks make.
+-- The row of a plate, composed of its two pages and its marks.
 use Rattle.std.proofs.Common.{inl, inr, zero, suc, ◌%◌, ◌≡◌, ℕ, ◌+◌, ◌-◌, ◌/◌, ◌<◌, ◌≤◌, Bool, true, false, cond, ◌&&◌, ◌||◌, nat_lt, nat_le, List, length, replicate, get_or, refl, ap, sym, ◌∙◌, subst, arith}
 use Rattle.std.specs.Prelude.{Option, Some, None}
 use Rattle.std.proofs.lemmas.Bool.{cases_lt}
@@ -19,7 +19,7 @@ use Rattle.press_job.specs.Printing.{page_bit}
 use Rattle.press_job.specs.Rows.{placed_bit, plate_bit, plate_row}
 use Rattle.press_feed.specs.Sides.{SideData, left_edge}
 
--- no pixel of bytes that are 0 is set
+-- no pixel of zero bytes is set
 pub bit_at-zeros : (n x : ℕ) → bit_at (replicate {A = ℕ} n 0) x ≡ false
 bit_at-zeros n x = ap (λ byte. byte_bit byte (x % 8)) (zero_at n (x / 8)) ∙ byte_bit-zero (x % 8)
   where
@@ -31,7 +31,7 @@ bit_at-zeros n x = ap (λ byte. byte_bit byte (x % 8)) (zero_at n (x / 8)) ∙ b
     byte_bit-zero : (k : ℕ) → byte_bit 0 k ≡ false
     byte_bit-zero k = grind (arith, nat_tests)
 
--- pixels that are set to a test in a span, and stand as they were outside
+-- pixels that are set by a test within a span, and unchanged outside
 sets_span : (test : ℕ → Bool) (from n x : ℕ) (old new : List ℕ) → SetsBits test from n old new → bit_at new x ≡ cond (in_span from (from + n) x) (test (x - from)) (bit_at old x)
 sets_span test from n x old new sets =
     elim (cases_lt x from) [
@@ -57,7 +57,7 @@ sets_span test from n x old new sets =
     within : (from to x : ℕ) → from ≤ x → x < to → in_span from to x ≡ true
     within from to x low high = grind (arith, nat_tests)
 
--- where both pages are seen on a row of the plate
+-- where both pages are visible on a row of the plate
 by_sides : (left right a b : Bool) → (left ≡ true → right ≡ true → ⊥) → cond right b (cond left a false) ≡ (((left && true) && a) || ((right && true) && b))
 by_sides true true a b apart = absurd (apart refl refl)
 by_sides true false true b apart = refl
@@ -69,7 +69,7 @@ by_sides false false a b apart = refl
 apart_spans : (low high low' high' x : ℕ) → high ≤ low' → in_span low high x ≡ true → in_span low' high' x ≡ true → ⊥
 apart_spans low high low' high' x apart first second = grind (arith, nat_tests)
 
--- which row of its pages a plate shows
+-- the row of its pages that a plate shows
 page_row-is : (plan : PlanData) (y row : ℕ) → page_row plan y ≡ Some row
     → (in_span (shape_of_plate plan).top_y ((shape_of_plate plan).top_y + plan.page_height) y ≡ true) × (y - (shape_of_plate plan).top_y ≡ row)
 page_row-is plan y row there = found (shape_of_plate plan).top_y plan.page_height there
@@ -83,7 +83,7 @@ page_row-none plan y none = outside (shape_of_plate plan).top_y plan.page_height
     outside : (top height : ℕ) → cond {A = Option ℕ} (nat_le top y && nat_lt (y - top) height) (Some (y - top)) None ≡ None → in_span top (top + height) y ≡ false
     outside top height h = grind (arith, nat_tests)
 
--- two pages that are set in a row of no pixels
+-- two pages drawn on a blank row
 pub pages_set : (plan : PlanData) (files : List (List ℕ)) (left right : ℕ) (ink : Ink) (y row n : ℕ) (zeros one two : List ℕ) → zeros ≡ replicate {A = ℕ} n 0 → page_row plan y ≡ Some row
     → SetsBits (λ x. page_bit plan files left ink x row) (shape_of_plate plan).left_x plan.page_width zeros one
     → SetsBits (λ x. page_bit plan files right ink x row) (shape_of_plate plan).right_x plan.page_width one two → ShowsPages plan files left right ink y two
@@ -127,7 +127,7 @@ no_pages plan files left right ink y n zeros none outside =
     none_of false true a b = refl
     none_of false false a b = refl
 
--- no page reaches past the plate
+-- no page extends beyond the plate
 past : (plan : PlanData) (files : List (List ℕ)) (left right : ℕ) (ink : Ink) (x y : ℕ) → plate_width plan ≤ x
     → (placed_bit plan files left (shape_of_plate plan).left_x ink x y || placed_bit plan files right (shape_of_plate plan).right_x ink x y) ≡ false
 past plan files left right ink x y above =
@@ -141,7 +141,7 @@ past plan files left right ink x y above =
     right_of : (from to x : ℕ) → to ≤ x → in_span from to x ≡ false
     right_of from to x h = grind (arith, nat_tests)
 
--- the marks over the pages make the row of the plate
+-- the marks over the pages complete the row of the plate
 pub row_is : (plan : PlanData) (files : List (List ℕ)) (left right : ℕ) (ink : Ink) (y : ℕ) (old new : List ℕ) → length new ≡ row_size (plate_width plan) → ((j : ℕ) → get_or new j 0 < 256)
     → ShowsPages plan files left right ink y old → ((x : ℕ) → bit_at new x ≡ (bit_at old x || is_marked_at plan ink x y)) → ((x : ℕ) → plate_width plan ≤ x → bit_at new x ≡ bit_at old x)
     → new ≡ plate_row plan files left right ink y

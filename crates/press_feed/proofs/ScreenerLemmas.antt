@@ -1,4 +1,4 @@
--- The screeners of a plan's inks: one for each, what each makes of a row, and what it keeps of it.
+-- The screeners of a plan's inks: one for each, what each makes of a row, and its errors.
 use Rattle.std.proofs.Common.{◌≡◌, ◌≢◌, ℕ, ◌+◌, ◌-◌, ◌<◌, true, List, [], ◌∷◌, ◌++◌, length, take, get_or, refl, ap, sym, ◌∙◌, subst, arith, below_more}
 use Rattle.std.proofs.lemmas.List.{get_or_push, get_or_append_left, get_or-take, get_or_default}
 use Rattle.std.proofs.lemmas.List.FromFn.{get_or-map-range_with_len, length-map-range_with_len}
@@ -25,7 +25,7 @@ use Rattle.press_feed.specs.Screens.{IsFrontOf, bit_by}
 
 -- ---- one for each ink
 
--- one more is put behind those of the inks so far
+-- one more is appended to those of the inks so far
 pub screeners_more : (plan : PlanData) (inks : List Ink) (screeners : List Screener) (screener : Screener) (i : ℕ) (ink : Ink) → length screeners ≡ i → i < length inks
     → ink ≡ get_or inks i ink
     → ((k : ℕ) (e : Ink) (d : Screener) → k < i → IsScreener plan (get_or inks k e) (get_or screeners k d)) → IsScreener plan ink screener
@@ -59,7 +59,7 @@ pub length-page_values : (plan : PlanData) (files : List (List ℕ)) (page : ℕ
 unfolding page_values
 length-page_values plan files page ink = length-map-range_with_len (printed_row plan files page ink) 0 plan.page_height
 
--- a pixel of row y waits for the rows up to it alone
+-- a pixel of row y depends only on the rows up to it
 diffused-front : (values : List (List ℕ)) (x y : ℕ) → diffused_bit (take (y + 1) values) x y ≡ diffused_bit values x y
 diffused-front values x y = ap prints (v_at-same (take (y + 1) values) values x y (λ j less. get_or-take (y + 1) values j [] less))
 

@@ -24,14 +24,14 @@ use Rattle.press_feed.specs.Screens.{AreScreens, HaveDiffused, IsFrontOf, bank_o
 abbrev Rows : Type 0
 Rows = Planes → Planes → List (List ℕ)
 
--- at the top nothing was diffused, of whichever pages
+-- at the top nothing was diffused, for any pages
 top_at : (rows : Rows) (plan : PlanData) (files : List (List ℕ)) (left right left' right' y : ℕ) (bank : Option EightFronts) → ForSome bank (λ front. front ≡ front_at rows plan files left right y)
     → ForSome (option_map without_rows bank) (λ front. front ≡ front_at rows plan files left' right' 0)
 top_at rows plan files left right left' right' y None is = λ front there. cc
 top_at rows plan files left right left' right' y (Some eight) is = λ front there.
     sym (same_Some (without_rows eight) front there) ∙ ap {A = EightFronts} without_rows (is eight refl)
 
--- behind a row one more was
+-- after a row, one more was diffused
 behind_at : (rows : Rows) (plan : PlanData) (files : List (List ℕ)) (left right y : ℕ) (on_left on_right : Planes) (bank : Option EightFronts) → ForSome bank (λ front. front ≡ front_at rows plan files left right y)
     → on_left ≡ printed_planes plan files left y → on_right ≡ printed_planes plan files right y
     → ForSome (option_map (behind_rows (rows on_left on_right)) bank) (λ front. front ≡ front_at rows plan files left right (y + 1))
@@ -73,7 +73,7 @@ some_kept f (Some a) some = λ e. cc
 none_kept : {A B : Type 0} (f : A → B) (o : Option A) → o ≡ None → option_map f o ≡ None
 none_kept f o none = ap (option_map f) none
 
--- they screen as before
+-- the screens are unchanged
 screens_kept : (plan : PlanData) (apart : Bool) (f g : EightFronts → EightFronts) (screens : Screens) → AreScreens plan apart screens → AreScreens plan apart (record screens { process = option_map f screens.process; spot = option_map g screens.spot })
 screens_kept plan apart f g screens are = record { screeners = are.screeners; diffused = by_ink; none = none_by_ink }
   where
@@ -131,7 +131,7 @@ front_on_right plan files left right y screens Y have within = λ front there. l
 front_on_right plan files left right y screens K have within = λ front there. lane_front process_rows plan files left right y right 7 K (λ j. refl) within front (have.process front there)
 front_on_right plan files left right y screens S have within = λ front there. lane_front spot_rows plan files left right y right 1 S (λ j. refl) within front (have.spot front there)
 
--- the widths that a row is asked for
+-- the widths that a row must have
 wide : (rows : Rows) (plan : PlanData) (files : List (List ℕ)) (left right y : ℕ) (planes : Planes) (bank : Option EightFronts) → ForSome bank (λ front. front ≡ front_at rows plan files left right y)
     → HasWidth planes plan.page_width → ForSome bank (λ front. HasWidth planes front.width)
 wide rows plan files left right y planes bank is has = λ front there. subst {A = EightFronts} (λ f. HasWidth planes f.width) (sym (is front there)) has
@@ -144,9 +144,9 @@ pub wide_spot : (plan : PlanData) (files : List (List ℕ)) (left right y : ℕ)
     → ForSome screens.spot (λ front. HasWidth planes front.width)
 wide_spot plan files left right y planes screens have has = wide spot_rows plan files left right y planes screens.spot have.spot has
 
--- ---- what a screener draws
+-- ---- the pixels of a screener
 
--- a screener that was read is the one that stands there
+-- a screener that was read is the one at that index
 pub found : (screeners : List Screener) (i slot : ℕ) (own screener : Screener) → i ≡ slot → own ≡ get_or screeners i own → slice_get screeners slot ≡ Some screener → own ≡ screener
 found screeners i slot own screener same own_is there =
     own_is ∙ ap (λ n. get_or screeners n own) same ∙ get_or_from_slice_get screeners slot screener own there
@@ -164,7 +164,7 @@ drawn_last (Some eight) own lane own_lane y from n values old new same lanes som
 
 -- ---- a row of two sides
 
--- the row of an ink of a page that a side has just shown
+-- the row of an ink of a page that a side has just made
 shown_row : (pages new : SideData) (y : ℕ) (planes : Planes) → pages.shown ≡ y → new ≡ record pages { shown = pages.shown + 1 }
     → (0 < new.shown → (ink : Ink) → plane_of planes ink ≡ printed_row new.plan new.files new.page ink (new.shown - 1)) → (ink : Ink) → plane_of planes ink ≡ printed_row pages.plan pages.files pages.page ink y
 shown_row pages new y planes shown new_is shows ink =

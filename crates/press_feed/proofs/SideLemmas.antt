@@ -1,4 +1,4 @@
--- What the code of a side keeps, step by step.
+-- The invariant of a side's pages, step by step.
 use Rattle.std.proofs.Common.{◌≡◌, ℕ, ◌+◌, ◌-◌, ◌<◌, Bool, List, length, get_or, ap, sym, ◌∙◌, subst, arith}
 use Rattle.std.specs.Prelude.{◌≤◌, Some, slice_get}
 use Rattle.std.proofs.lemmas.Option.{same_Some, slice_get-get_or}
@@ -38,9 +38,9 @@ IsSide-begin job rows new old page shown tones planes is new_is =
       shows = λ none. absurd (omega arith);
     }
 
--- ---- one row on
+-- ---- one more row
 
--- the row before its next one is shown, if there is one
+-- the row before its next one is the current one, if there is one
 pub before_next : (job : JobData) (rows : Page) (page shown : ℕ) (tones : PlanData) (planes : Planes) (colour spot : Bool)
     → IsSide job rows page shown tones planes → colour ≡ page_colour job.plan page → spot ≡ page_spot job.plan page
     → 0 < rows.next → ShowsInks tones colour spot rows.layers rows.width (rows.next - 1) planes
@@ -49,7 +49,7 @@ before_next job rows page shown tones planes colour spot is colour_is spot_is =
     (λ above. at_inks job.plan tones (page_colour job.plan page) colour (page_spot job.plan page) spot (layers_of job.plan job.files page) job.plan.page_width (shown - 1) planes
     (sym is.tones_are) (sym colour_is) (sym spot_is) (shows_printed job.plan job.files page (shown - 1) planes (is.shows above)))
 
--- row y is painted, and the rows above were passed over
+-- row y is painted, and the rows above were skipped
 pub IsSide-painted : (job : JobData) (rows passed new : Page) (page shown y : ℕ) (tones : PlanData) (planes row : Planes) (colour spot : Bool)
     → IsSide job rows page shown tones planes → y < job.plan.page_height → colour ≡ page_colour job.plan page → spot ≡ page_spot job.plan page
     → passed ≡ record rows { next = y } → new ≡ record passed { next = passed.next + 1 } → ShowsInks tones colour spot passed.layers passed.width passed.next row
@@ -80,9 +80,9 @@ IsSide-show job rows new page shown tones planes row colour spot is within colou
     let here : rows ≡ record rows { next = shown } = ap (λ n. record rows { next = n }) (ap (λ (p : Page). p.next) is.rows_are) in
     IsSide-painted job rows rows new page shown shown tones planes row colour spot is within colour_is spot_is here new_is shows wide
 
--- ---- a row that is drawn
+-- ---- drawing a row
 
--- the values of an ink of the row that was shown last
+-- the values of an ink of the row made last
 pub values_are : (job : JobData) (rows : Page) (page shown y : ℕ) (tones : PlanData) (planes : Planes) (ink : Ink) (values : List ℕ) → IsSide job rows page shown tones planes
     → shown ≡ y + 1 → values ≡ plane_of planes ink → (values ≡ printed_row job.plan job.files page ink y) × (length values ≡ job.plan.page_width)
 values_are job rows page shown y tones planes ink values is shown_is own =
@@ -91,7 +91,7 @@ values_are job rows page shown y tones planes ink values is shown_is own =
       ap {A = List ℕ} length own ∙ plane_width planes job.plan.page_width ink is.wide,
     )
 
--- any screener
+-- an arbitrary screener
 abbrev no_screener : Screener
 no_screener = Diffusion
 
@@ -101,13 +101,13 @@ pub own_screener : (plan : PlanData) (ink : Ink) (screeners : List Screener) →
 own_screener plan ink screeners are =
     (get_or screeners (slot_of ink) no_screener, (let five = are.five in let below = slot_below ink in slice_get-get_or screeners (slot_of ink) no_screener (omega arith)), are.each ink no_screener)
 
--- a screener that stands there is the ink's
+-- a screener at its slot is the ink's
 pub found_screener : (plan : PlanData) (ink : Ink) (screeners : List Screener) (screener : Screener) → AreScreeners plan screeners → slice_get screeners (slot_of ink) ≡ Some screener → IsScreener plan ink screener
 found_screener plan ink screeners screener are there =
     let own = own_screener plan ink screeners are in
     subst {A = Screener} (IsScreener plan ink) (same_Some own.0 screener (sym own.1 ∙ there)) own.2
 
--- ---- a side that is opened
+-- ---- a new side
 
 pub IsSide-open : (job : JobData) (rows : Page) (tones : PlanData) (planes : Planes) → IsPlan job.plan → rows ≡ page_before job.plan job.files rows.room 0 0
     → ((page : ℕ) → length (planned_layers job.plan page) ≤ rows.room) → tones ≡ job.plan

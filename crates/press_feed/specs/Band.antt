@@ -1,4 +1,4 @@
--- A band of frames that stand behind one another in the order of a job's rows.
+-- A band of consecutive frames in the order of a job's rows.
 use Rattle.std.specs.Prelude.{◌≡◌, ℕ, ◌+◌, ◌*◌, ◌<◌, ◌≤◌, List, length, slice_get, slice_index_or, Some}
 use Rattle.std.specs.List.{All}
 use Rattle.pr_base.specs.Row.{row_size}
@@ -11,23 +11,23 @@ use Rattle.press_job.specs.Rows.{plate_frames}
 abbrev pub frame_bytes : JobData → ℕ
 frame_bytes job = frame_size (row_size (plate_width job.plan))
 
--- frame n of a job, where it has one
+-- this is frame n of a job, if the job has it
 abbrev pub IsFrameAt : JobData → ℕ → List ℕ → Type 0
 IsFrameAt job n frame = n < length (plate_frames job.plan job.files)
     → slice_get (plate_frames job.plan job.files) n ≡ Some frame
 
 -- ---- a thread's share of a band
 
--- room for some frames of a job
+-- buffers for some frames of a job
 pub record ShareData : Type 0 where
   pub job : JobData
   pub frames : List (List ℕ)
 
--- each has a frame's length
+-- each has the length of a frame
 pub record IsShare (job : JobData) (frames : List (List ℕ)) : Type 0 where
   pub each : All (λ frame. length frame ≡ frame_bytes job) frames
 
--- it has room for so many frames of this job
+-- it has buffers for this many frames of this job
 pub record IsShareOf (job : JobData) (count : ℕ) (share : ShareData) : Type 0 where
   pub job_is : share.job ≡ job
   pub count_is : length share.frames ≡ count
@@ -38,14 +38,14 @@ pub record HoldsFrom (job : JobData) (first : ℕ) (frames : List (List ℕ)) : 
 
 -- ---- a band
 
--- the frames of a job from number first to below end; there is room for size of them
+-- the frames of a job from number `first` to below `end`; `size` is the capacity
 pub record BandData : Type 0 where
   pub job : JobData
   pub size : ℕ
   pub first : ℕ
   pub end : ℕ
 
--- shares with room for as many frames each, which stand behind one another where the band isn't empty
+-- shares of equal capacity, whose frames are consecutive if the band is not empty
 pub record IsBand (job : JobData) (each first end : ℕ) (shares : List ShareData) : Type 0 where
   pub some : 0 < each
   pub few : each ≤ 65536
@@ -55,7 +55,7 @@ pub record IsBand (job : JobData) (each first end : ℕ) (shares : List ShareDat
   pub made : (k : ℕ) (d : ShareData) → k < length shares → first < end
       → HoldsFrom job (first + k * each) (slice_index_or shares k d).frames
 
--- the shares of a band were made from frame first on
+-- the shares of a band were made from frame `first` on
 pub record AreMade (first each : ℕ) (old new : List ShareData) : Type 0 where
   pub frames : (k : ℕ) (d : ShareData) → k < length old
       → HoldsFrom (slice_index_or old k d).job (first + k * each) (slice_index_or new k d).frames

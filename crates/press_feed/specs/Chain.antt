@@ -7,7 +7,7 @@ pub record IsWide (width : ℕ) (chain : BlockFront) : Type 0 where
   pub width_is : chain.front.width ≡ width
   pub eight : length chain.held ≡ 8
 
--- and took none yet
+-- and has taken none yet
 pub record IsAtTop (width : ℕ) (chain : BlockFront) : Type 0 where
   pub wide : IsWide width chain
   pub none : chain.front.rows ≡ []

@@ -1,4 +1,4 @@
--- What a feed is.
+-- The state of a feed.
 use Rattle.std.specs.Prelude.{◌≡◌, ℕ, List, drop}
 use Rattle.plan_json.specs.Plan.{IsPlan}
 use Rattle.press_feed.specs.Band.{BandData}
@@ -14,9 +14,9 @@ pub record FeedData : Type 0 where
 abbrev pub rows_left : FeedData → List (List ℕ)
 rows_left feed = drop feed.next (plate_frames feed.job.plan feed.job.files)
 
--- ---- what the code of a feed keeps
+-- ---- the invariant of a feed
 
--- what makes a row and the band are of the feed's job
+-- the maker of rows and the band belong to the feed's job
 pub record IsFeed (job maker : JobData) (band : BandData) (next : ℕ) : Type 0 where
   pub plan_is : IsPlan job.plan
   pub maker_is : maker ≡ job

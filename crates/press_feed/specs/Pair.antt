@@ -9,45 +9,45 @@ use Rattle.press_feed.specs.Screens.{AreScreens, HaveDiffused}
 use Rattle.press_feed.specs.Sides.{SideData}
 use Rattle.press_job.specs.Job.{JobData}
 
--- two pages of a job, and how many of their rows were shown
+-- two pages of a job, and how many of their rows were made
 pub record PairData : Type 0 where
   pub job : JobData
-  -- what is diffused is drawn apart
+  -- diffused inks are drawn elsewhere
   pub apart : Bool
   pub left : ℕ
   pub right : ℕ
   pub shown : ℕ
 
--- the page that is shown on a side
+-- the current page of a side
 abbrev pub page_shown : Side → PairData → ℕ
 page_shown Left pair = pair.left
 page_shown Right pair = pair.right
 
--- the pages of a group, of which so many rows were shown
+-- the pages of a group, of which this many rows were made
 abbrev pub of_group : Group → ℕ → PairData → PairData
 of_group group shown pair = record pair { left = group.left; right = group.right; shown = shown }
 
--- the pages of a job, of which what is diffused is drawn apart
+-- the pages of a job, whose diffused inks are drawn elsewhere
 pub record AreApart (job : JobData) (pages : PairData) : Type 0 where
   pub job_is : pages.job ≡ job
   pub apart_is : pages.apart ≡ true
 
--- such pages, which show row y of a group
+-- such pages, with row y of a group as the current row
 pub record ShowsRow (job : JobData) (group : Group) (y : ℕ) (pages : PairData) : Type 0 where
   pub pages_are : AreApart job pages
   pub left_is : pages.left ≡ group.left
   pub right_is : pages.right ≡ group.right
   pub shown : pages.shown ≡ y + 1
 
--- ---- what the code of two pages keeps
+-- ---- the invariant of two pages
 
--- a side is one of a job
+-- a side belongs to a job
 pub record IsOf (job : JobData) (side : Side) (pages : SideData) : Type 0 where
   pub plan_is : pages.plan ≡ job.plan
   pub files_are : pages.files ≡ job.files
   pub side_is : pages.side ≡ side
 
--- as many rows were shown on both sides, and these were diffused where an ink is, and not apart
+-- as many rows were made on both sides, and these were diffused if an ink is, and not elsewhere
 pub record IsPair (job : JobData) (apart : Bool) (left right : SideData) (screens : Screens) : Type 0 where
   pub plan_is : IsPlan job.plan
   pub left_is : IsOf job Left left

@@ -1,4 +1,4 @@
--- A row of a plate as the two pages and the marks make it.
+-- A row of a plate, composed of the two pages and the marks.
 use Rattle.std.specs.Prelude.{◌≡◌, ℕ, ◌-◌, ◌&&◌, ◌||◌, nat_lt, nat_le, if◌then◌else◌, List}
 use Rattle.std.specs.Prelude.{Option, Some, None}
 use Rattle.pr_base.specs.Bits.{bit_at}

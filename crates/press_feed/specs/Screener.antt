@@ -11,24 +11,24 @@ use Rattle.press_feed.specs.declared.screener.Screener.{Screener}
 use Rattle.press_feed.specs.declared.screener.Screener.TheVariants.{Tile, Diffusion}
 use Rattle.press_job.specs.Printing.{own_threshold, screen_of}
 
--- ---- what the plan says
+-- ---- the screens of a plan
 
 abbrev pub is_diffusion : Screen → Bool
 is_diffusion (Bayer side) = false
 is_diffusion Diffuse = true
 is_diffusion (Own tile) = false
 
--- whether the plan has an ink diffused
+-- whether the plan diffuses an ink
 abbrev pub is_diffused : PlanData → Ink → Bool
 is_diffused plan ink = is_diffusion (screen_of plan ink)
 
--- the threshold of a pixel under a screen; 0 where the ink is diffused
+-- the threshold of a pixel under a screen; 0 if the ink is diffused
 abbrev pub threshold_under : PlanData → Screen → ℕ → ℕ → ℕ
 threshold_under plan (Bayer side) x y = threshold_at side x y
 threshold_under plan Diffuse x y = 0
 threshold_under plan (Own tile) x y = own_threshold plan tile x y
 
--- one ink is diffused, and no other one
+-- this ink is diffused, and no other
 pub record IsOnly (plan : PlanData) (ink : Ink) : Type 0 where
   pub is : is_diffused plan ink ≡ true
   pub only : (other : Ink) → is_diffused plan other ≡ true → other ≡ ink
@@ -43,7 +43,7 @@ abbrev pub threshold_in : Screener → ℕ → ℕ → ℕ
 threshold_in (Tile tile) x y = threshold_of tile x y
 threshold_in Diffusion x y = 0
 
--- it screens as the plan says of an ink
+-- it screens an ink as the plan says
 pub record IsScreener (plan : PlanData) (ink : Ink) (screener : Screener) : Type 0 where
   pub kind : diffuses screener ≡ is_diffused plan ink
   pub thresholds : (x y : ℕ) → threshold_in screener x y ≡ threshold_under plan (screen_of plan ink) x y

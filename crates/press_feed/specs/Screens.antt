@@ -1,4 +1,4 @@
--- How the two pages of a plate are screened, row by row.
+-- The screening of the two pages of a plate, row by row.
 use Rattle.std.specs.Prelude.{◌≡◌, ◌≢◌, ℕ, ◌-◌, Bool, true, false, List, [], ◌∷◌, ◌++◌, length, map, take}
 use Rattle.std.specs.Prelude.{Option, None, slice_index}
 use Rattle.std.specs.List.{range_with_len}
@@ -19,7 +19,7 @@ use Rattle.press_feed.specs.declared.side.Side.TheVariants.{Left, Right}
 use Rattle.press_job.specs.Printing.{page_values, printed_row}
 use Rattle.press_feed.specs.Screener.{AreScreeners, is_diffused}
 
--- ---- which lane an ink of a page has
+-- ---- the lane of an ink of a page
 
 -- the diffusers of an ink: S has its own
 abbrev pub bank_of : Screens → Ink → Option EightFronts
@@ -29,7 +29,7 @@ bank_of screens Y = screens.process
 bank_of screens K = screens.process
 bank_of screens S = screens.spot
 
--- the lane of an ink of a side's page among them
+-- the lane of an ink of a side's page in its diffusers
 abbrev pub lane_of : Side → Ink → ℕ
 lane_of Left C = 0
 lane_of Left M = 1
@@ -42,24 +42,24 @@ lane_of Right Y = 6
 lane_of Right K = 7
 lane_of Right S = 1
 
--- the rows of C, M, Y and K of both pages, by lanes
+-- the rows of C, M, Y and K of both pages, by lane
 abbrev pub process_rows : Planes → Planes → List (List ℕ)
 process_rows left right =
     left.cyan ∷ left.magenta ∷ left.yellow ∷ left.black
     ∷ right.cyan ∷ right.magenta ∷ right.yellow ∷ right.black ∷ []
 
--- the rows of S, of which two lanes are read
+-- the rows of S; only two lanes are read
 abbrev pub spot_rows : Planes → Planes → List (List ℕ)
 spot_rows left right =
     left.spot ∷ right.spot ∷ left.spot ∷ right.spot ∷ left.spot ∷ right.spot ∷ left.spot ∷ right.spot ∷ []
 
--- ---- what a row makes
+-- ---- the effect of a row
 
--- behind a row of eight pages
+-- the diffusers after one more row of eight pages
 abbrev pub behind_rows : List (List ℕ) → EightFronts → EightFronts
 behind_rows rows front = record front { rows = front.rows ++ rows ∷ [] }
 
--- before their first rows
+-- the diffusers before their first rows
 abbrev pub without_rows : EightFronts → EightFronts
 without_rows front = record front { rows = [] }
 
@@ -70,7 +70,7 @@ from_top screens = record screens {
   spot = option_map without_rows screens.spot;
 }
 
--- the screens behind a row of two pages
+-- the screens after a row of two pages
 abbrev pub behind_planes : Planes → Planes → Screens → Screens
 behind_planes left right screens = record screens {
   process = option_map (behind_rows (process_rows left right)) screens.process;
@@ -86,15 +86,15 @@ abbrev pub bit_by : Screener → Option EightFronts → ℕ → ℕ → List ℕ
 bit_by (Tile tile) bank lane y values x = tile_bit (slice_index values x) (threshold_of tile x y)
 bit_by Diffusion bank lane y values x = option_map_or (λ front. last_bit lane front x) bank false
 
--- ---- what the code of a feed keeps
+-- ---- the invariant of screens
 
--- they screen as a plan says; where what is diffused is drawn apart, they hold no diffusers
+-- they screen as a plan says; if diffused inks are drawn elsewhere, they hold no diffusers
 pub record AreScreens (plan : PlanData) (apart : Bool) (screens : Screens) : Type 0 where
   pub screeners : AreScreeners plan screens.screeners.items
   pub diffused : (ink : Ink) → is_diffused plan ink ≡ true → apart ≡ false → bank_of screens ink ≢ None
   pub none : apart ≡ true → (ink : Ink) → bank_of screens ink ≡ None
 
--- row y of two pages, by lanes
+-- row y of a page in the five inks
 abbrev pub printed_planes : PlanData → List (List ℕ) → ℕ → ℕ → Planes
 printed_planes plan files page y = record {
   cyan = printed_row plan files page C y;
@@ -104,7 +104,7 @@ printed_planes plan files page y = record {
   spot = printed_row plan files page S y;
 }
 
--- eight pages of which the first y rows of two pages were handed in
+-- the diffusers after the first y rows of two pages
 abbrev pub front_at : (Planes → Planes → List (List ℕ)) → PlanData → List (List ℕ) → ℕ → ℕ → ℕ
     → EightFronts
 front_at rows plan files left right y = record {
@@ -113,13 +113,13 @@ front_at rows plan files left right y = record {
       (range_with_len 0 y);
 }
 
--- the first y rows of two pages were diffused, where an ink is
+-- the first y rows of two pages were diffused, if an ink is
 pub record HaveDiffused (plan : PlanData) (files : List (List ℕ)) (left right y : ℕ)
     (screens : Screens) : Type 0 where
   pub process : ForSome screens.process (λ front. front ≡ front_at process_rows plan files left right y)
   pub spot : ForSome screens.spot (λ front. front ≡ front_at spot_rows plan files left right y)
 
--- diffusers whose lane has the first y rows of an ink of a page
+-- diffusers with a lane that contains the first y rows of an ink of a page
 pub record IsFrontOf (plan : PlanData) (files : List (List ℕ)) (page : ℕ) (ink : Ink) (lane y : ℕ)
     (front : EightFronts) : Type 0 where
   pub width_is : front.width ≡ plan.page_width

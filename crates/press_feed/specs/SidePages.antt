@@ -1,4 +1,4 @@
--- What the code of a side keeps.
+-- The invariant of a side's pages.
 use Rattle.std.specs.Prelude.{◌≡◌, ℕ, ◌-◌, ◌<◌, ◌≤◌, length}
 use Rattle.pr_base.specs.declared.ink.Ink.{Ink}
 use Rattle.page_layers.specs.Inks.{HasWidth, Planes, plane_of}
@@ -11,7 +11,7 @@ use Rattle.press_job.specs.Layers.{planned_layers}
 use Rattle.press_job.specs.Printing.{printed_row}
 use Rattle.press_feed.specs.Sides.{SideData, page_before}
 
--- a side of which no page is shown yet
+-- a side whose page has no row made yet
 abbrev pub opened_side : JobData → Side → SideData
 opened_side job side = record {
   plan = job.plan;
@@ -21,8 +21,8 @@ opened_side job side = record {
   shown = 0;
 }
 
--- the side shows some rows of a page, from the first on: the planes are those of the last one, and the page
--- is before the next in room for any page of the plan
+-- the side has made some rows of a page, from the first on: the planes are those of the last one, and the
+-- page is before the next one, in buffers for any page of the plan
 pub record IsSide (job : JobData) (rows : Page) (page shown : ℕ) (tones : PlanData)
     (planes : Planes) : Type 0 where
   pub plan_is : IsPlan job.plan

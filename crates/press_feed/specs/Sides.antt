@@ -1,4 +1,4 @@
--- The pages that stand on one side of the plates: which they are, and what is shown of them.
+-- The pages on one side of the plates: which they are, and how far they were read.
 use Rattle.std.specs.Prelude.{ℕ, ◌+◌, List}
 use Rattle.page_layers.specs.Page.{Page}
 use Rattle.plan_json.specs.Data.{PlanData}
@@ -13,14 +13,14 @@ abbrev pub page_on : Side → Group → ℕ
 page_on Left group = group.left
 page_on Right group = group.right
 
--- where the pages of a side begin from the left
+-- the left edge of a side's pages on the plate
 abbrev pub left_edge : PlanData → Side → ℕ
 left_edge plan Left = (shape_of_plate plan).left_x
 left_edge plan Right = (shape_of_plate plan).right_x
 
--- ---- what is shown
+-- ---- the current page and row
 
--- the page of a side that is shown, and how many of its rows were
+-- the current page of the side, and how many of its rows were made
 pub record SideData : Type 0 where
   pub plan : PlanData
   pub files : List (List ℕ)
@@ -32,13 +32,13 @@ pub record SideData : Type 0 where
 abbrev pub at_top : ℕ → SideData → SideData
 at_top page side = record side { page = page; shown = 0 }
 
--- the same side behind a row of its page
+-- the same side after a row of its page
 abbrev pub behind_row : ℕ → SideData → SideData
 behind_row y side = record side { shown = y + 1 }
 
--- ---- what the code of a side keeps
+-- ---- the invariant of a side
 
--- a page of the plan before row y, in room for so many layers
+-- a page of the plan before row y, in buffers for this many layers
 abbrev pub page_before : PlanData → List (List ℕ) → ℕ → ℕ → ℕ → Page
 page_before plan files room page y =
     record {

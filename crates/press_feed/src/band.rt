@@ -1,4 +1,4 @@
-// A band of frames, which as many threads make as there are shares.
+// A band of frames, made by as many threads as it has shares.
 ghost use Rattle.std.specs.Prelude.{All, ◌≡◌, ℕ, ◌+◌, ◌*◌, ◌<◌, ◌≤◌, ◌^◌, IfOk, IsTrue, ◌↔◌, length};
 ghost use Rattle.std.specs.Prelude.{slice_index_or};
 ghost use Rattle.press_feed.specs.Band.{AreMade, HoldsFrom, IsShareOf, ShareData};
@@ -10,13 +10,13 @@ use std::alloc::Global;
 use std::marker::Model;
 use std::thread::{Threads, for_each_mut};
 
-/// Frames of a job that stand behind one another. Contracts see the job, for how many there is room, the
-/// number of the first one, and that behind the last.
+/// Consecutive frames of a job. Contracts see the job, the capacity in frames, the number of the first frame,
+/// and the number after the last.
 #[derive(Drop)]
 pub(crate) struct Band<'j> {
     job: &'j Job,
     shares: Vec<Share<'j>>,
-    /// How many frames a share has.
+    /// The number of frames in a share.
     each: usize,
     first: u64,
     end: u64,
@@ -41,8 +41,7 @@ impl<'j> Model for Band<'j> {
 impl<'j> Band<'j> {
     ghost use Rattle.press_feed.specs.Band.{IsFrameAt, frame_bytes};
 
-    /// A band without frames, which so many threads will make. Without threads it stays so. Takes all
-    /// buffers.
+    /// Returns an empty band for this many threads, with all its buffers. Without threads it stays empty.
     pub(crate) fn open(
         alloc: Global,
         job: &'j Job,
@@ -64,8 +63,8 @@ impl<'j> Band<'j> {
         })
     }
 
-    /// Makes as many frames as there is room for, from this number on, as far as the job has some. Where a
-    /// thread can't be started this one makes its share.
+    /// Makes frames from this number on, as many as the band has room for, as far as the job has them. If a
+    /// thread cannot be started, the calling thread makes its share.
     pub(crate) fn make<T: Threads + Sync>(&mut self, rt: &T, first: u64)
         requires { first ≤ 2684313600 }
         ensures { self.new ≡ record self.old { first = first; end = first + self.old.size } }
@@ -75,14 +74,14 @@ impl<'j> Band<'j> {
         self.end = first + (self.shares.len() * self.each) as u64;
     }
 
-    /// Whether frame `n` stands in the band.
+    /// Whether frame `n` is in the band.
     pub(crate) fn has(&self, n: u64) -> bool
         ensures { IsTrue result ↔ ((self.now.first ≤ n) × (n < self.now.end)) }
     {
         self.first <= n && n < self.end
     }
 
-    /// Frame `n`, which stands in the band.
+    /// Lends frame `n`, which is in the band.
     pub(crate) fn frame(&self, n: u64) -> &[u8]
         requires first { self.now.first ≤ n }
         requires end { n < self.now.end }
@@ -95,7 +94,7 @@ impl<'j> Band<'j> {
     }
 }
 
-/// So many shares.
+/// Returns `count` shares of `each` frames.
 fn open_shares<'j>(
     alloc: Global,
     job: &'j Job,
@@ -112,7 +111,7 @@ fn open_shares<'j>(
     Ok(shares)
 }
 
-/// Makes all shares of a band, each in a thread of its own, from this frame on.
+/// Makes all shares of a band from this frame on, each in a thread of its own.
 fn make_shares<T: Threads + Sync>(rt: &T, first: u64, each: usize, shares: &mut [Share<'_>])
     requires first { first ≤ 2684313600 }
     requires each { each ≤ 65536 }

@@ -1,4 +1,4 @@
-// The rows of a block: taken into the chains, and drawn in the sheet.
+// The rows of a block: given to the chains, and drawn in the sheet.
 ghost use Rattle.std.specs.Prelude.{◌≡◌, ◌≢◌, ℕ, ◌+◌, ◌*◌, ◌<◌, ◌≤◌, true};
 ghost use Rattle.pr_base.specs.Ink.{slot_of};
 ghost use Rattle.pr_base.specs.declared.ink.Ink.{Ink as InkData};
@@ -20,8 +20,8 @@ use press_job::Job;
 /// The rows of a block.
 pub(crate) const BLOCK: u32 = 8;
 
-/// Takes the rows of a block into the chains, as far as the pages have some, and draws them in each ink of
-/// the group that isn't diffused.
+/// Gives the rows of a block to the chains, as far as the pages have them, and draws them in each ink of the
+/// group that is not diffused.
 pub(crate) fn take_rows(
     pages: &mut PagePair<'_>,
     group: &Group,
@@ -50,7 +50,7 @@ pub(crate) fn take_rows(
     }
 }
 
-/// Shows a row of the pages, and takes it into the chains.
+/// Makes a row of the pages, and gives it to the chains.
 fn take_row(
     pages: &mut PagePair<'_>,
     group: &Group,
@@ -76,7 +76,7 @@ fn take_row(
     chains.right.put(k as usize, values);
 }
 
-/// Draws the row that is shown in each ink of the group that isn't diffused.
+/// Draws the current row of the pages in each ink of the group that is not diffused.
 fn tile_row(pages: &PagePair<'_>, group: &Group, lone: Ink, y: u32, k: usize, sheet: &mut Sheet)
     requires k { k < 8 }
     requires within { y < pages.now.job.plan.page_height }
@@ -93,7 +93,7 @@ fn tile_row(pages: &PagePair<'_>, group: &Group, lone: Ink, y: u32, k: usize, sh
     }
 }
 
-/// Draws it in an ink, if that isn't diffused, and if the plates print it.
+/// Draws the row in an ink, if the ink is not diffused and the plates print it.
 fn tile_ink(
     pages: &PagePair<'_>,
     group: &Group,
@@ -118,7 +118,7 @@ fn tile_ink(
     }
 }
 
-/// Draws the rows that the chains took last in the ink that is diffused, as far as the pages have some.
+/// Draws the rows that the chains took last in the diffused ink, as far as the pages have them.
 pub(crate) fn diffuse_rows(
     job: &Job,
     group: &Group,

@@ -1,4 +1,4 @@
-// Room for the bytes of one row.
+// A buffer for the bytes of one row.
 ghost use Rattle.std.specs.Prelude.{◌≡◌, ℕ, List, IfOk, length, replicate};
 ghost use Rattle.press_feed.specs.Rows.{AreRows};
 
@@ -21,7 +21,7 @@ impl Model for ByteRow {
 }
 
 impl ByteRow {
-    /// A row of so many bytes.
+    /// Returns a row of `len` bytes.
     pub(crate) fn new(alloc: Global, len: usize) -> Result<ByteRow, NoMemory>
         ensures { IfOk result (λ row. length row ≡ len) }
     {
@@ -30,7 +30,7 @@ impl ByteRow {
         })
     }
 
-    /// Its bytes.
+    /// Lends the bytes.
     pub(crate) fn bytes(&self) -> &[u8]
         ensures { result.now ≡ self.now }
     {
@@ -38,7 +38,7 @@ impl ByteRow {
     }
 }
 
-/// So many rows of so many bytes.
+/// Returns `count` rows of `len` bytes each.
 pub(crate) fn byte_rows(alloc: Global, count: usize, len: usize) -> Result<Vec<ByteRow>, NoMemory>
     ensures { IfOk result (λ rows. AreRows count len rows.items) }
 {
@@ -49,7 +49,7 @@ pub(crate) fn byte_rows(alloc: Global, count: usize, len: usize) -> Result<Vec<B
     Ok(rows)
 }
 
-/// Leaves a row without a pixel.
+/// Clears all pixels of a row.
 pub(crate) fn clear(bits: &mut [u8])
     ensures { bits.new ≡ replicate (length bits.old) 0 }
 {

@@ -7,7 +7,7 @@ use pr_base::NoMemory;
 use scr_diffuse::BlockDiffuser;
 use std::alloc::Global;
 
-/// The chains of an ink of the left and of the right page.
+/// The chains of an ink of the left and the right page.
 #[derive(Drop)]
 pub(crate) struct Chains {
     pub(crate) left: BlockDiffuser,
@@ -15,7 +15,7 @@ pub(crate) struct Chains {
 }
 
 impl Chains {
-    /// The chains of two pages of a plan, before their first rows.
+    /// Returns the chains of two pages of a plan, before their first rows.
     pub(crate) fn open(alloc: Global, plan: &Plan) -> Result<Chains, NoMemory>
         ensures left { IfOk result (λ chains. IsAtTop plan.now.page_width chains.left) }
         ensures right { IfOk result (λ chains. IsAtTop plan.now.page_width chains.right) }

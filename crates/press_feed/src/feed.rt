@@ -12,18 +12,18 @@ use std::alloc::Global;
 use std::marker::Model;
 use std::thread::{Threads, available_parallelism};
 
-/// The most threads that make a band.
+/// The largest number of threads that make a band.
 const MOST_THREADS: usize = 8;
 
-/// The frames that a thread makes of a band have about so many bytes.
+/// The approximate size in bytes of the frames that one thread makes of a band.
 const SHARE_BYTES: usize = 1 << 22;
 
-/// A job whose frames have fewer bytes together isn't worth a second thread.
+/// The size in bytes of all frames of a job below which a second thread does not pay.
 const FEW_BYTES: u64 = 1 << 20;
 
-/// The rows of a job from the first on, each made when it is asked for, or before, in a band. It holds no
-/// whole page. After it is opened nothing takes memory, and nothing fails. Contracts see the job, and the
-/// number of the next row.
+/// The rows of a job from the first on, each made when it is requested, or ahead of that in a band. It never
+/// holds a whole page. After it is opened, nothing is allocated and nothing fails. Contracts see the job and
+/// the number of the next row.
 #[derive(Drop)]
 pub struct Feed<'j> {
     job: &'j Job,
@@ -45,23 +45,23 @@ impl<'j> Model for Feed<'j> {
 }
 
 impl<'j> Feed<'j> {
-    /// Takes all buffers. The images of the first page are tested again, and pass as they did when the job
-    /// was prepared. Rows are made in the thread that asks for them.
+    /// Returns the feed of a job, with all its buffers. The images of the first page are tested again; they
+    /// pass, as they did when the job was prepared. Rows are made in the thread that requests them.
     pub fn open(alloc: Global, job: &'j Job) -> Result<Feed<'j>, NoMemory>
         ensures { IfOk result (λ feed. feed ≡ record { job = job.now; next = 0 }) }
     {
         Feed::with_threads(alloc, job, 0)
     }
 
-    /// The same with bands that a thread for each processor makes, eight at most. There are none on one
-    /// processor, where an ink is diffused, and where all rows have few bytes.
+    /// The same with bands, made by one thread per processor, at most eight. No bands are used on one
+    /// processor, if an ink is diffused, or if all rows together have few bytes.
     pub fn open_wide<T: Threads>(rt: &T, alloc: Global, job: &'j Job) -> Result<Feed<'j>, NoMemory>
         ensures { IfOk result (λ feed. feed ≡ record { job = job.now; next = 0 }) }
     {
         Feed::with_threads(alloc, job, threads_for(rt, job))
     }
 
-    /// The same with bands that so many threads make.
+    /// The same with bands made by this many threads.
     fn with_threads(alloc: Global, job: &'j Job, threads: usize) -> Result<Feed<'j>, NoMemory>
         requires { threads ≤ 8 }
         ensures { IfOk result (λ feed. feed ≡ record { job = job.now; next = 0 }) }
@@ -96,7 +96,7 @@ impl<'j> BandFeed for Feed<'j> {
     }
 }
 
-/// Makes frame `n`, or gives that of the band.
+/// Makes frame `n`, or copies it from the band.
 fn make_row(maker: &mut RowMaker<'_>, band: &Band<'_>, n: u64, row: &mut [u8])
     requires job { band.now.job ≡ maker.old }
     requires n { n < length (plate_frames maker.old.plan maker.old.files) }
@@ -111,8 +111,8 @@ fn make_row(maker: &mut RowMaker<'_>, band: &Band<'_>, n: u64, row: &mut [u8])
     }
 }
 
-/// How many threads make the bands of a job: none, where each row is as well made when it is asked for, as on
-/// one processor. Where an ink is diffused a row waits for the row above.
+/// Returns the number of threads that make the bands of a job: none if making each row on request is as fast,
+/// as on one processor. If an ink is diffused, each row depends on the row above.
 fn threads_for<T: Threads>(rt: &T, job: &Job) -> usize
     ensures { result ≤ 8 }
 {
@@ -126,14 +126,15 @@ fn threads_for<T: Threads>(rt: &T, job: &Job) -> usize
     }
 }
 
-/// Whether the plan has some ink diffused.
+/// Whether an ink of the plan is diffused.
 fn is_diffused(plan: &Plan) -> bool {
     plan.screens
         .iter()
         .any(|screen| matches!(screen, Screen::Diffuse))
 }
 
-/// How many frames a thread makes of a band: whole rows of its pages, in one to five inks.
+/// The number of frames that one thread makes of a band: a multiple of 20, so that it covers whole rows of
+/// the pages in 1, 2, 4 or 5 inks.
 fn share_len(job: &Job) -> usize
     ensures { (1 ≤ result) × (result ≤ 65536) }
 {

@@ -1,4 +1,4 @@
-// A frame of a job, made in the room of a row.
+// A frame of a job, made in the buffer of a row.
 ghost use Rattle.std.specs.Prelude.{◌≡◌, length};
 ghost use Rattle.press_feed.specs.Band.{IsFrameAt, frame_bytes};
 
@@ -6,7 +6,7 @@ use crate::byte_row::ByteRow;
 use crate::row_maker::RowMaker;
 
 impl ByteRow {
-    /// Becomes frame `n`, if the job has it.
+    /// Sets the buffer to frame `n`, if the job has it.
     pub(crate) fn make(&mut self, n: u64, maker: &mut RowMaker<'_>)
         requires { length self.old ≡ frame_bytes maker.old }
         ensures frame { IsFrameAt maker.old n self.new }

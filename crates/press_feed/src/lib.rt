@@ -1,6 +1,5 @@
-// The feed of a job: all its plate rows in order, painted, toned, limited, screened and packed when they are
-// asked for, or before, a band of them by several threads at once. What a job is, its tests and what its rows
-// are stand in press_job.
+// The feed of a job: all its plate rows in order, painted, toned, limited, screened and packed on request, or
+// ahead in bands made by several threads. press_job defines what a job is, its tests and its rows.
 #![tactic(auto)]
 
 mod band;

@@ -1,5 +1,5 @@
-// The two pages of a plate by blocks of rows, where one ink alone is diffused: a chain that takes eight rows
-// at once goes faster than one in a lane of its own.
+// The two pages of a plate in blocks of rows, for plans in which a single ink is diffused: diffusing eight
+// rows of it at once is faster than diffusing one row in a lane of its own.
 ghost use Rattle.std.specs.Prelude.{◌≡◌, ◌+◌, ◌*◌, ◌/◌, ◌<◌, IfOk, None, Some, length, true};
 ghost use Rattle.pr_base.specs.Row.{row_size};
 ghost use Rattle.plan_json.specs.Data.{plate_width};
@@ -18,8 +18,8 @@ use press_job::Job;
 use std::alloc::Global;
 use std::marker::Model;
 
-/// The pages, a block of rows of theirs that are drawn in each ink, and the chains of the ink that is
-/// diffused. Contracts see the job and this ink, and how many blocks of which group were drawn.
+/// The pages, a block of their rows drawn in each ink, and the chains of the diffused ink. Contracts see the
+/// job, this ink, and how many blocks of which group have been drawn.
 #[derive(Drop)]
 pub(crate) struct PageBlocks<'j> {
     job: &'j Job,
@@ -48,7 +48,7 @@ impl<'j> Model for PageBlocks<'j> {
 }
 
 impl<'j> PageBlocks<'j> {
-    /// Takes all buffers. No row is drawn.
+    /// Allocates all buffers. No row is drawn.
     pub(crate) fn open(alloc: Global, job: &'j Job, lone: Ink) -> Result<PageBlocks<'j>, NoMemory>
         requires { IsOnly job.now.plan lone }
         ensures { IfOk result (λ made. made
@@ -69,8 +69,8 @@ impl<'j> PageBlocks<'j> {
     }
 
     /// Draws a row of a plate that shows row `y` of the pages of a group: the two pages in an ink of the
-    /// group, and nothing else. In order it costs least. A group that doesn't print the ink that is diffused
-    /// needs no blocks.
+    /// group, and nothing else. Rows in order cost least. A group that does not print the diffused ink needs
+    /// no blocks.
     pub(crate) fn draw(&mut self, group: &Group, ink: Ink, y: u32, bits: &mut [u8])
         requires ink { has_ink group.now ink ≡ true }
         requires within { y < self.old.job.plan.page_height }
@@ -86,7 +86,7 @@ impl<'j> PageBlocks<'j> {
         bits.copy_from_slice(self.row(group, ink, y));
     }
 
-    /// The row of the plate that shows row `y` in an ink of the group, which stands in the block.
+    /// Lends the row of the plate that shows row `y` in an ink of the group, which is in the block.
     fn row(&self, group: &Group, ink: Ink, y: u32) -> &[u8]
         requires ink { has_ink group.now ink ≡ true }
         requires group { self.now.group ≡ Some group.now }
@@ -98,7 +98,7 @@ impl<'j> PageBlocks<'j> {
         self.sheet.row((y % BLOCK) as usize, ink)
     }
 
-    /// Draws the block that has row `y` of the pages of a group, unless it stands here.
+    /// Draws the block that contains row `y` of the pages of a group, unless it is the current one.
     fn reach(&mut self, group: &Group, y: u32)
         requires { y < self.old.job.plan.page_height }
         ensures { self.new ≡ at_block group.now (y / 8 + 1) self.old }
@@ -112,7 +112,7 @@ impl<'j> PageBlocks<'j> {
         }
     }
 
-    /// Goes to the top of the pages of a group.
+    /// Moves to the top of the pages of a group.
     fn begin(&mut self, group: &Group)
         ensures { self.new ≡ at_block group.now 0 self.old }
     {

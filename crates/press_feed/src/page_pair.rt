@@ -1,4 +1,4 @@
-// The two pages of a plate, shown and diffused row by row.
+// The two pages of a plate, made and diffused row by row.
 ghost use Rattle.std.specs.Prelude.{◌≡◌, ℕ, ◌+◌, ◌-◌, ◌<◌, ◌≤◌, IfOk, Some, false, length, replicate, true};
 ghost use Rattle.pr_base.specs.Row.{row_size};
 ghost use Rattle.pr_base.specs.declared.ink.Ink.{Ink as InkData};
@@ -21,12 +21,13 @@ use press_job::{Job, PrintedRow};
 use std::alloc::Global;
 use std::marker::Model;
 
-/// The pages of both sides and their screens. It holds one row of each page, and no whole page. Contracts see
-/// the job, whether what is diffused is drawn apart, the two pages, and how many of their rows were shown.
+/// The pages of both sides and their screens. It holds one row of each page, never a whole page. Contracts
+/// see the job, whether diffused inks are drawn elsewhere, the two pages, and how many of their rows were
+/// made.
 #[derive(Drop)]
 pub(crate) struct PagePair<'j> {
     job: &'j Job,
-    /// What is diffused is drawn by others.
+    /// Whether diffused inks are drawn elsewhere.
     apart: bool,
     left: SidePages<'j>,
     right: SidePages<'j>,
@@ -54,8 +55,8 @@ impl<'j> Model for PagePair<'j> {
 impl<'j> PagePair<'j> {
     ghost use Rattle.press_feed.specs.Pair.{of_group};
 
-    /// Takes the room for the pages. The images of the first page are tested again, and pass as they did when
-    /// the job was prepared.
+    /// Allocates the buffers of the pages. The images of the first page are tested again; they pass, as they
+    /// did when the job was prepared.
     pub(crate) fn open(alloc: Global, job: &'j Job, apart: bool) -> Result<PagePair<'j>, NoMemory>
         ensures pages { IfOk result (λ pair. pair
             ≡ record { job = job.now; apart = apart; left = 0; right = 0; shown = 0 }) }
@@ -73,15 +74,15 @@ impl<'j> PagePair<'j> {
         })
     }
 
-    /// The rows of a page.
+    /// The number of rows of a page.
     pub(crate) fn height(&self) -> u32
         ensures { result ≡ self.now.job.plan.page_height }
     {
         self.job.plan().page_height
     }
 
-    /// Shows row `y` of the pages of a group, whatever was shown before. The rows above are diffused where an
-    /// ink is, and else passed over.
+    /// Makes row `y` of the pages of a group, whatever the current row is. The rows above are diffused if an
+    /// ink is, and skipped otherwise.
     pub(crate) fn show(&mut self, group: &Group, y: u32)
         requires { y < self.old.job.plan.page_height }
         ensures { self.new ≡ of_group group.now (y + 1) self.old }
@@ -92,8 +93,8 @@ impl<'j> PagePair<'j> {
         }
     }
 
-    /// Goes to the top of the pages of a group, unless they stand here and row `y` was shown last or is still
-    /// to come.
+    /// Moves to the top of the pages of a group, unless they are the current ones and row `y` is their
+    /// current row or still to come.
     fn enter(&mut self, group: &Group, y: u32)
         requires { y < self.old.job.plan.page_height }
         ensures pages { self.new ≡ of_group group.now self.new.shown self.old }
@@ -107,7 +108,7 @@ impl<'j> PagePair<'j> {
         }
     }
 
-    /// Goes to the top of the pages of a group.
+    /// Moves to the top of the pages of a group.
     fn begin(&mut self, group: &Group)
         ensures { self.new ≡ of_group group.now 0 self.old }
     {
@@ -116,7 +117,7 @@ impl<'j> PagePair<'j> {
         self.screens.restart();
     }
 
-    /// Shows row `y`, which is still to come.
+    /// Makes row `y`, which is still to come.
     fn reach(&mut self, y: u32)
         requires next { self.old.shown ≤ y }
         requires within { y < self.old.job.plan.page_height }
@@ -130,7 +131,7 @@ impl<'j> PagePair<'j> {
         }
     }
 
-    /// Shows each row up to row `y`.
+    /// Makes each row up to row `y`.
     fn show_each(&mut self, y: u32)
         requires next { self.old.shown ≤ y }
         requires within { y < self.old.job.plan.page_height }
@@ -141,7 +142,7 @@ impl<'j> PagePair<'j> {
         }
     }
 
-    /// Shows the next row of both pages, and takes it into the diffusion.
+    /// Makes the next row of both pages, and gives it to the diffusion.
     fn show_next(&mut self)
         requires { self.old.shown < self.old.job.plan.page_height }
         ensures { self.new ≡ record self.old { shown = self.old.shown + 1 } }
@@ -151,7 +152,7 @@ impl<'j> PagePair<'j> {
         self.screens.advance(self.left.row(), self.right.row());
     }
 
-    /// The row of a side's page that was shown last.
+    /// Lends the current row of a side's page.
     pub(crate) fn row(&self, side: Side) -> &PrintedRow
         ensures wide { HasWidth result.now self.now.job.plan.page_width }
         ensures shows { 0 < self.now.shown → (ink : InkData) → plane_of result.now ink
@@ -164,8 +165,8 @@ impl<'j> PagePair<'j> {
         }
     }
 
-    /// Draws a row of a plate that shows row `y` of the pages of a group, whatever was shown before: the two
-    /// pages in an ink, and nothing else.
+    /// Draws a row of a plate that shows row `y` of the pages of a group, whatever the current row is: the
+    /// two pages in an ink, and nothing else.
     pub(crate) fn draw_at(&mut self, group: &Group, ink: Ink, y: u32, bits: &mut [u8])
         requires within { y < self.old.job.plan.page_height }
         requires own { is_diffused self.old.job.plan ink ≡ true → self.old.apart ≡ false }
@@ -178,8 +179,8 @@ impl<'j> PagePair<'j> {
         self.draw(ink, y, bits);
     }
 
-    /// Sets the pixels of an ink on a blank row of the plate that shows row `y` of the pages, the row that
-    /// was shown last.
+    /// Sets the pixels of an ink on a blank row of the plate that shows row `y` of the pages, their current
+    /// row.
     pub(crate) fn draw(&self, ink: Ink, y: u32, bits: &mut [u8])
         requires shown { self.now.shown ≡ y + 1 }
         requires within { y < self.now.job.plan.page_height }

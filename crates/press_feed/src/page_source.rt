@@ -1,4 +1,4 @@
-// What draws the two pages of a plate.
+// The source of the two pages of a plate.
 ghost use Rattle.std.specs.Prelude.{IfOk};
 ghost use Rattle.press_feed.specs.Maker.{IsSourceOf};
 
@@ -9,7 +9,7 @@ use pr_base::NoMemory;
 use press_job::Job;
 use std::alloc::Global;
 
-/// The pages of a job, row by row, or by blocks of rows where one ink alone is diffused.
+/// The pages of a job, row by row, or in blocks of rows if a single ink is diffused.
 #[derive(Drop)]
 pub(crate) enum PageSource<'j> {
     Rows(PagePair<'j>),
@@ -17,7 +17,7 @@ pub(crate) enum PageSource<'j> {
 }
 
 impl<'j> PageSource<'j> {
-    /// Takes all buffers.
+    /// Allocates all buffers.
     pub(crate) fn open(alloc: Global, job: &'j Job) -> Result<PageSource<'j>, NoMemory>
         ensures { IfOk result (IsSourceOf job.now) }
     {

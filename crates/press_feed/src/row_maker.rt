@@ -1,4 +1,4 @@
-// The frames of a job, each made when it is asked for.
+// The frames of a job, each made on request.
 ghost use Rattle.std.specs.Prelude.{◌≡◌, ◌<◌, IfOk, Some, length, slice_get, true};
 ghost use Rattle.pr_base.specs.Row.{row_size};
 ghost use Rattle.plan_json.specs.Data.{plate_height, plate_width};
@@ -19,13 +19,13 @@ use std::alloc::Global;
 use std::marker::Model;
 use tif_packbits::frame_row;
 
-/// Makes any frame of a job. In order it costs least: then each row of a page is painted once for all its
+/// Makes any frame of a job. Frames in order cost least: then each row of a page is painted once for all its
 /// inks. Contracts see the job.
 #[derive(Drop)]
 pub(crate) struct RowMaker<'j> {
     job: &'j Job,
     pages: PageSource<'j>,
-    /// A row of a plate, eight pixels a byte.
+    /// A row of a plate, eight pixels per byte.
     bits: Vec<u8>,
 }
 
@@ -45,7 +45,7 @@ impl<'j> RowMaker<'j> {
     ghost use Rattle.press_feed.specs.Band.{frame_bytes};
     ghost use Rattle.press_job.specs.Rows.{plate_frames};
 
-    /// Takes all buffers.
+    /// Allocates all buffers.
     pub(crate) fn open(alloc: Global, job: &'j Job) -> Result<RowMaker<'j>, NoMemory>
         ensures { IfOk result (λ maker. maker ≡ job.now) }
     {
@@ -76,7 +76,7 @@ impl<'j> RowMaker<'j> {
     }
 }
 
-/// The group with this index.
+/// Lends the group with this index.
 fn group_at(rows: &RowPlan, index: usize) -> &Group
     requires { index < length rows.now.groups }
     ensures { slice_get rows.now.groups index ≡ Some result.now }
@@ -85,7 +85,7 @@ fn group_at(rows: &RowPlan, index: usize) -> &Group
     &groups[index]
 }
 
-/// Draws a row of a plate of a group: the two pages where they stand, the marks, and nothing else.
+/// Draws a row of a plate of a group: the two pages at their positions, the marks, and nothing else.
 fn draw_row(job: &Job, group: &Group, place: RowPlace, pages: &mut PageSource<'_>, bits: &mut [u8])
     requires source { IsSourceOf job.now pages.old }
     requires ink { has_ink group.now place.ink ≡ true }
@@ -99,7 +99,7 @@ fn draw_row(job: &Job, group: &Group, place: RowPlace, pages: &mut PageSource<'_
     mark_row(job.plan(), place.ink, place.y, bits);
 }
 
-/// Draws the two pages where they stand on a row of a plate, and nothing else.
+/// Draws the two pages at their positions on a row of a plate, and nothing else.
 fn draw_pages(
     job: &Job,
     group: &Group,
@@ -124,7 +124,7 @@ fn draw_pages(
     }
 }
 
-/// Which row of its pages row `y` of a plate shows, if it shows one.
+/// The row of its pages that row `y` of a plate shows, if it shows one.
 fn page_row(plan: &Plan, shape: PlateShape, y: u32) -> Option<u32>
     requires { shape ≡ shape_of_plate plan.now }
     ensures { result ≡ row_of_pages plan.now y }

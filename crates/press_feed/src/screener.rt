@@ -1,4 +1,4 @@
-// How an ink is screened: by a tile, or by error diffusion.
+// How an ink is screened: by a tile or by error diffusion.
 ghost use Rattle.std.specs.Prelude.{◌≡◌, ℕ, ◌<◌, IfOk, IsTrue, Some, length};
 ghost use Rattle.std.specs.Option.{ForSome};
 ghost use Rattle.pr_base.specs.declared.ink.Ink.{Ink as InkData};
@@ -13,18 +13,18 @@ use pr_base::{Ink, NoMemory};
 use scr_tile::AnyTile;
 use std::alloc::Global;
 
-/// What makes pixels of the values of an ink.
+/// Turns the values of an ink into pixels.
 #[derive(Drop)]
 pub(crate) enum Screener {
     Tile(AnyTile),
-    /// The errors are carried for several inks at once.
+    /// The errors are kept by diffusers that serve several inks at once.
     Diffusion,
 }
 
 impl Screener {
     ghost use Rattle.press_feed.specs.Screener.{IsScreener};
 
-    /// The screener of an ink of the plan.
+    /// Returns the screener of an ink of the plan.
     pub(crate) fn of(alloc: Global, plan: &Plan, ink: Ink) -> Result<Screener, NoMemory>
         ensures { IfOk result (IsScreener plan.now ink) }
     {
@@ -36,7 +36,7 @@ impl Screener {
     }
 }
 
-/// Whether the plan has an ink diffused.
+/// Whether the plan diffuses an ink.
 pub(crate) fn has_diffused(plan: &Plan, ink: Ink) -> bool
     ensures { result ≡ is_diffused plan.now ink }
 {
@@ -46,7 +46,7 @@ pub(crate) fn has_diffused(plan: &Plan, ink: Ink) -> bool
     }
 }
 
-/// The ink that is diffused, if it is one alone.
+/// Returns the diffused ink, if exactly one ink is diffused.
 pub(crate) fn lone_diffused(plan: &Plan) -> Option<Ink>
     ensures is { ForSome result (IsOnly plan.now) }
     ensures only { (ink : InkData) → IsOnly plan.now ink → result ≡ Some ink }
@@ -63,7 +63,7 @@ pub(crate) fn lone_diffused(plan: &Plan) -> Option<Ink>
     found
 }
 
-/// The Bayer tile of a side that the plan may name.
+/// Returns the Bayer tile with a side that a plan can name.
 fn bayer_tile(side: u8) -> AnyTile
     requires { IsTrue (is_bayer side) }
     ensures { (x y : ℕ) → threshold_of result x y ≡ threshold_at side x y }
@@ -74,7 +74,7 @@ fn bayer_tile(side: u8) -> AnyTile
     }
 }
 
-/// The plan's tile of this index.
+/// Returns the plan's tile with this index.
 fn own_tile(alloc: Global, plan: &Plan, tile: usize) -> Result<AnyTile, NoMemory>
     requires { tile < length plan.now.tiles }
     ensures { IfOk result (λ made. (x y : ℕ) → threshold_of made x y ≡ own_threshold plan.now tile x y) }

@@ -1,4 +1,4 @@
-// How the two pages of a plate are screened in each ink: by a tile, or by error diffusion of both pages at
+// The screening of the two pages of a plate in each ink: by a tile, or by error diffusion of both pages at
 // once.
 ghost use Rattle.std.specs.Prelude.{◌≡◌, ◌≢◌, ◌+◌, ◌*◌, ◌<◌, ◌≤◌, IfOk, None, Some, [], false, true, length};
 ghost use Rattle.std.specs.Prelude.{slice_get};
@@ -25,17 +25,17 @@ use std::alloc::Global;
 /// The screens of the inks, and the diffusion of two pages.
 #[derive(Drop)]
 pub(crate) struct Screens {
-    /// By the ink's slot.
+    /// Indexed by the ink's slot.
     pub(crate) screeners: Vec<Screener>,
-    /// C, M, Y and K of the left page, and then of the right one, if one of these inks is diffused.
+    /// C, M, Y and K of the left page and then of the right one, if one of these inks is diffused.
     pub(crate) process: Option<Diffusers>,
     /// S of both pages, if it is diffused.
     pub(crate) spot: Option<Diffusers>,
 }
 
 impl Screens {
-    /// The screens of a plan, at the top of two pages. Where what is diffused is drawn `apart`, there are no
-    /// diffusers.
+    /// Returns the screens of a plan, at the top of two pages. If diffused inks are drawn elsewhere
+    /// (`apart`), there are no diffusers.
     pub(crate) fn of(alloc: Global, plan: &Plan, apart: bool) -> Result<Screens, NoMemory>
         ensures screens { IfOk result (AreScreens plan.now apart) }
         ensures process { IfOk result (λ screens. ForSome screens.process
@@ -53,7 +53,7 @@ impl Screens {
         })
     }
 
-    /// Goes to the top of two pages.
+    /// Moves to the top of two pages.
     pub(crate) fn restart(&mut self)
         ensures { self.new ≡ from_top self.old }
     {
@@ -61,7 +61,7 @@ impl Screens {
         restart(&mut self.spot);
     }
 
-    /// Whether some ink is diffused, so that no row of the pages may be passed over.
+    /// Whether an ink is diffused, so that no row of the pages may be skipped.
     pub(crate) fn diffuse(&self) -> bool
         ensures process { result ≡ false → self.now.process ≡ None }
         ensures spot { result ≡ false → self.now.spot ≡ None }
@@ -81,8 +81,8 @@ impl Screens {
         advance_spot(&mut self.spot, left, right);
     }
 
-    /// Sets the pixels from `from` on to those of row `y` of a side's page, whose values these are. Where the
-    /// ink is diffused it is the row that was taken last.
+    /// Sets the pixels from `from` on to those of row `y` of a side's page, which has these values. If the
+    /// ink is diffused, this is the row taken last.
     pub(crate) fn draw(
         &self,
         side: Side,
@@ -110,7 +110,7 @@ impl Screens {
         }
     }
 
-    /// The diffusers of an ink.
+    /// Lends the diffusers of an ink.
     fn bank(&self, ink: Ink) -> &Option<Diffusers>
         ensures { result.now ≡ bank_of self.now ink }
     {
@@ -121,7 +121,7 @@ impl Screens {
     }
 }
 
-/// The screeners of all inks.
+/// Returns the screeners of all inks.
 fn open_screeners(alloc: Global, plan: &Plan) -> Result<Vec<Screener>, NoMemory>
     ensures { IfOk result (λ screeners. AreScreeners plan.now screeners.items) }
 {
@@ -132,7 +132,7 @@ fn open_screeners(alloc: Global, plan: &Plan) -> Result<Vec<Screener>, NoMemory>
     Ok(screeners)
 }
 
-/// The diffusers of C, M, Y and K, if one of these inks is diffused, and not apart.
+/// Returns the diffusers of C, M, Y and K, if one of these inks is diffused and not drawn elsewhere.
 fn open_process(alloc: Global, plan: &Plan, apart: bool) -> Result<Option<Diffusers>, NoMemory>
     ensures top { IfOk result (λ process. ForSome process
         (λ front. front ≡ record { width = plan.now.page_width; rows = [] })) }
@@ -152,7 +152,7 @@ fn open_process(alloc: Global, plan: &Plan, apart: bool) -> Result<Option<Diffus
     }
 }
 
-/// The diffusers of S, if it is diffused, and not apart.
+/// Returns the diffusers of S, if it is diffused and not drawn elsewhere.
 fn open_spot(alloc: Global, plan: &Plan, apart: bool) -> Result<Option<Diffusers>, NoMemory>
     ensures top { IfOk result (λ spot. ForSome spot
         (λ front. front ≡ record { width = plan.now.page_width; rows = [] })) }
@@ -166,7 +166,7 @@ fn open_spot(alloc: Global, plan: &Plan, apart: bool) -> Result<Option<Diffusers
     }
 }
 
-/// Puts diffusers before row 0.
+/// Resets diffusers to before row 0.
 fn restart(bank: &mut Option<Diffusers>)
     ensures { bank.new ≡ option_map without_rows bank.old }
 {
@@ -195,7 +195,7 @@ fn advance_process(process: &mut Option<Diffusers>, left: &PrintedRow, right: &P
     }
 }
 
-/// Takes S of the next row of both pages. The other lanes are read by nobody.
+/// Takes S of the next row of both pages. The other lanes are never read.
 fn advance_spot(spot: &mut Option<Diffusers>, left: &PrintedRow, right: &PrintedRow)
     requires left { ForSome spot.old (λ front. HasWidth left.now front.width) }
     requires right { ForSome spot.old (λ front. HasWidth right.now front.width) }
@@ -221,7 +221,7 @@ fn lane(side: Side, ink: Ink) -> usize
     }
 }
 
-/// Sets the pixels from `from` on to those of the row that was taken last.
+/// Sets the pixels from `from` on to those of the row taken last.
 fn draw_last(bank: &Option<Diffusers>, lane: usize, bits: &mut [u8], from: u32)
     requires lane { lane < 8 }
     requires some { bank.now ≢ None }

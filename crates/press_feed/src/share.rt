@@ -1,4 +1,4 @@
-// A thread's share of a band: room for some frames that stand behind one another, and what makes them.
+// A thread's share of a band: a buffer for some consecutive frames, and their maker.
 ghost use Rattle.std.specs.Prelude.{All, ◌≡◌, ◌+◌, ◌<◌, ◌≤◌, ◌^◌, IfOk, Some, length, slice_get};
 ghost use Rattle.press_feed.specs.Band.{HoldsFrom, IsShare, frame_bytes};
 
@@ -29,7 +29,7 @@ impl<'j> Model for Share<'j> {
 impl<'j> Share<'j> {
     ghost use Rattle.press_feed.specs.Band.{HoldsFrom, IsShareOf, frame_bytes};
 
-    /// Takes the room for so many frames.
+    /// Allocates a share of `count` frames.
     pub(crate) fn open(alloc: Global, job: &'j Job, count: usize) -> Result<Share<'j>, NoMemory>
         ensures { IfOk result (IsShareOf job.now count) }
     {
@@ -38,7 +38,7 @@ impl<'j> Share<'j> {
         Ok(Share { maker, frames })
     }
 
-    /// Makes the frames from this number on, as far as the job has some.
+    /// Makes the frames from this number on, as far as the job has them.
     pub(crate) fn make_from(&mut self, first: u64)
         requires { first + length self.old.frames < 2 ^ 63 }
         ensures made { HoldsFrom self.old.job first self.new.frames }
@@ -47,7 +47,7 @@ impl<'j> Share<'j> {
         make_frames(&mut self.maker, first, &mut self.frames);
     }
 
-    /// The frame at a place.
+    /// Lends the frame at an index of the share.
     pub(crate) fn frame(&self, place: usize) -> &[u8]
         requires { place < length self.now.frames }
         ensures frame { slice_get self.now.frames place ≡ Some result.now }
@@ -58,7 +58,7 @@ impl<'j> Share<'j> {
     }
 }
 
-/// Makes the frames from this number on, as far as the job has some.
+/// Makes the frames from this number on, as far as the job has them.
 fn make_frames(maker: &mut RowMaker<'_>, first: u64, frames: &mut [ByteRow])
     requires first { first + length frames.old < 2 ^ 63 }
     requires each { IsShare maker.old frames.old }

@@ -1,4 +1,4 @@
-// The rows of a plate that are drawn ahead: eight rows of its pages, each in each ink.
+// Rows of a plate drawn ahead: eight rows of its pages, each in each ink.
 ghost use Rattle.std.specs.Prelude.{◌≡◌, ◌+◌, ◌*◌, ◌<◌, IfOk, false, length};
 ghost use Rattle.pr_base.specs.Ink.{slot_of};
 ghost use Rattle.pr_base.specs.Row.{row_size};
@@ -19,11 +19,10 @@ use press_job::Job;
 use std::alloc::Global;
 use std::marker::Model;
 
-/// The inks of a plate at most.
+/// The largest number of inks of a plate.
 const INKS: usize = 5;
 
-/// Eight rows of a plate in each ink. Contracts see the rows, those of the first row of the pages first, each
-/// in the order of the inks' slots.
+/// Eight rows of a plate in each ink. Contracts see the rows, ordered by row and then by the slot of the ink.
 #[derive(Drop)]
 pub(crate) struct Sheet {
     rows: Vec<ByteRow>,
@@ -40,7 +39,7 @@ impl Model for Sheet {
 }
 
 impl Sheet {
-    /// Room for rows of so many bytes.
+    /// Allocates a sheet with rows of `len` bytes.
     pub(crate) fn new(alloc: Global, len: usize) -> Result<Sheet, NoMemory>
         ensures { IfOk result (AreRows 40 len) }
     {
@@ -49,7 +48,7 @@ impl Sheet {
         })
     }
 
-    /// One of the eight rows in an ink.
+    /// Lends one of the eight rows in an ink.
     pub(crate) fn row(&self, k: usize, ink: Ink) -> &[u8]
         requires { k < 8 }
         ensures { result.now ≡ sheet_at self.now k ink }
@@ -57,7 +56,7 @@ impl Sheet {
         self.rows[INKS * k + ink.slot()].bytes()
     }
 
-    /// Draws one of the eight rows in an ink that isn't diffused: that which the pages show.
+    /// Draws one of the eight rows, the current row of the pages, in an ink that is not diffused.
     pub(crate) fn tile(&mut self, k: usize, pages: &PagePair<'_>, group: &Group, ink: Ink, y: u32)
         requires k { k < 8 }
         requires shows { ShowsRow pages.now.job group.now y pages.now }
@@ -70,7 +69,7 @@ impl Sheet {
         self.rows[INKS * k + ink.slot()].tile(pages, group, ink, y);
     }
 
-    /// Draws one of the eight rows in the ink that is diffused: that of the chains' last rows.
+    /// Draws one of the eight rows in the diffused ink, from the chains' last rows.
     pub(crate) fn diffuse(
         &mut self,
         k: usize,
@@ -90,7 +89,7 @@ impl Sheet {
 }
 
 impl ByteRow {
-    /// Becomes the row of a plate that the pages show, in an ink that isn't diffused.
+    /// Draws the current row of the pages, as a row of a plate, in an ink that is not diffused.
     fn tile(&mut self, pages: &PagePair<'_>, group: &Group, ink: Ink, y: u32)
         requires shows { ShowsRow pages.now.job group.now y pages.now }
         requires within { y < pages.now.job.plan.page_height }
@@ -103,8 +102,8 @@ impl ByteRow {
         pages.draw(ink, y, &mut self.bytes);
     }
 
-    /// Becomes the row of a plate that shows row `y` of the pages of a group, one of the last eight that the
-    /// chains took: the two pages in the ink that is diffused, and nothing else.
+    /// Draws the row of a plate that shows row `y` of the pages of a group, one of the last eight that the
+    /// chains took: the two pages in the diffused ink, and nothing else.
     fn diffuse(&mut self, k: usize, job: &Job, group: &Group, ink: Ink, y: u32, chains: &Chains)
         requires took { HaveTaken job.now group.now ink k y chains.now }
         requires room { length self.old ≡ row_size (plate_width job.now.plan) }
@@ -115,7 +114,7 @@ impl ByteRow {
     }
 }
 
-/// Draws the row that `ByteRow::diffuse` becomes, into bytes that are lent.
+/// Does what `ByteRow::diffuse` does, on borrowed bytes.
 fn diffuse_pages(
     k: usize,
     job: &Job,

@@ -1,11 +1,11 @@
-// The two sides of a plate, and which pages stand on them.
+// The two sides of a plate, and the pages on them.
 ghost use Rattle.std.specs.Prelude.{◌≡◌};
 ghost use Rattle.press_feed.specs.Sides.{left_edge, page_on};
 
 use plan_rows::Group;
 use press_job::Job;
 
-/// A side of a plate, on which one of its two pages stands.
+/// A side of a plate, where one of its two pages is.
 #[derive(Clone, Copy, Debug, PartialEq, Eq)]
 pub(crate) enum Side {
     Left,
@@ -13,7 +13,7 @@ pub(crate) enum Side {
 }
 
 impl Side {
-    /// The page of a group that stands on this side.
+    /// The page of a group on this side.
     pub(crate) fn page_of(self, group: &Group) -> usize
         ensures { result ≡ page_on self group.now }
     {
@@ -23,7 +23,7 @@ impl Side {
         }
     }
 
-    /// Where its pages begin from the left.
+    /// The left edge of this side's pages on the plate, in pixels.
     pub(crate) fn left_edge(self, job: &Job) -> u32
         ensures { result ≡ left_edge job.now.plan self }
     {

@@ -1,4 +1,4 @@
-// The pages that stand on one side of the plates, each read row by row.
+// The pages on one side of the plates, each read row by row.
 ghost use Rattle.std.specs.Prelude.{◌≡◌, ◌≢◌, ℕ, ◌+◌, ◌-◌, ◌*◌, ◌<◌, ◌≤◌, IfOk, None, length, true};
 ghost use Rattle.std.specs.Option.{ForSome};
 ghost use Rattle.pr_base.specs.Bits.{SetsBits};
@@ -20,14 +20,14 @@ use press_job::{Job, PrintedRow, Tones, most_layers, put_layers};
 use std::alloc::Global;
 use std::marker::Model;
 
-/// The pages of one side. One of them is shown row by row, in room for any of them; a row is painted and
-/// toned once for all its inks. Contracts see the job, the side, which page is shown, and how many of its
-/// rows were shown.
+/// The pages of one side. One of them is read row by row, in buffers large enough for any; a row is painted
+/// and toned once for all its inks. Contracts see the job, the side, the current page, and how many of its
+/// rows were made.
 #[derive(Drop)]
 pub(crate) struct SidePages<'j> {
     job: &'j Job,
     side: Side,
-    /// The page that is shown.
+    /// The current page.
     page_rows: PageRows<'j>,
     page: usize,
     shown: u32,
@@ -58,7 +58,8 @@ impl<'j> SidePages<'j> {
     ghost use Rattle.press_feed.specs.Sides.{at_top, behind_row};
     ghost use Rattle.press_feed.specs.SidePages.{opened_side};
 
-    /// Takes the room for its pages. The first of the plan stands there until another is entered.
+    /// Allocates the buffers of the pages. The first page of the plan is current until another one is
+    /// entered.
     pub(crate) fn open(alloc: Global, job: &'j Job, side: Side) -> Result<SidePages<'j>, NoMemory>
         ensures { IfOk result (λ pages. pages ≡ opened_side job.now side) }
     {
@@ -77,7 +78,7 @@ impl<'j> SidePages<'j> {
         })
     }
 
-    /// Goes to the top of a page.
+    /// Moves to the top of a page.
     pub(crate) fn begin(&mut self, page: usize)
         ensures { self.new ≡ at_top page self.old }
     {
@@ -86,21 +87,21 @@ impl<'j> SidePages<'j> {
         self.shown = 0;
     }
 
-    /// The page that is shown.
+    /// The index of the current page.
     pub(crate) fn page(&self) -> usize
         ensures { result ≡ self.now.page }
     {
         self.page
     }
 
-    /// How many rows of the page were shown.
+    /// The number of rows of the current page that were made.
     pub(crate) fn shown(&self) -> u32
         ensures { result ≡ self.now.shown }
     {
         self.shown
     }
 
-    /// The row that was shown last.
+    /// Lends the row made last.
     pub(crate) fn row(&self) -> &PrintedRow
         ensures wide { HasWidth result.now self.now.plan.page_width }
         ensures shows { 0 < self.now.shown → (ink : InkData) → plane_of result.now ink
@@ -109,7 +110,8 @@ impl<'j> SidePages<'j> {
         &self.row
     }
 
-    /// Sets the pixels of an ink of row `y` of the page, which was shown last, where it stands on the plate.
+    /// Sets the pixels of an ink of row `y` of the page, the row made last, at the page's position on the
+    /// plate.
     pub(crate) fn draw(&self, screens: &Screens, ink: Ink, y: u32, bits: &mut [u8])
         requires shown { self.now.shown ≡ y + 1 }
         requires within { y < self.now.plan.page_height }
@@ -127,7 +129,7 @@ impl<'j> SidePages<'j> {
         screens.draw(self.side, ink, y, values, bits, from);
     }
 
-    /// Shows the next row of the page.
+    /// Makes the next row of the page.
     pub(crate) fn show(&mut self)
         requires { self.old.shown < self.old.plan.page_height }
         ensures { self.new ≡ record self.old { shown = self.old.shown + 1 } }
@@ -138,7 +140,7 @@ impl<'j> SidePages<'j> {
         self.shown += 1;
     }
 
-    /// Shows row `y` of the page, which is still to come. The rows above are passed over.
+    /// Makes row `y` of the page, which is still to come. Skips the rows above.
     pub(crate) fn show_at(&mut self, y: u32)
         requires next { self.old.shown ≤ y }
         requires within { y < self.old.plan.page_height }
@@ -151,7 +153,7 @@ impl<'j> SidePages<'j> {
         }
     }
 
-    /// The same where rows above are still to come, so that the row is painted whatever stands here.
+    /// The same if rows above are still to come, so that the row is painted whatever row was made last.
     fn show_below(&mut self, y: u32)
         requires next { self.old.shown ≤ y }
         requires within { y < self.old.plan.page_height }
@@ -165,7 +167,7 @@ impl<'j> SidePages<'j> {
     }
 }
 
-/// Goes over so many rows of a page.
+/// Skips this many rows of a page.
 fn pass_rows(count: u32, rows: &mut PageRows<'_>)
     requires { rows.old.next + count ≤ rows.old.height }
     ensures { rows.new ≡ record rows.old { next = rows.old.next + count } }
@@ -175,7 +177,7 @@ fn pass_rows(count: u32, rows: &mut PageRows<'_>)
     }
 }
 
-/// The first page of the plan, in room for the one with the most layers.
+/// Returns the first page of the plan, in buffers for the page with the most layers.
 fn open_page<'j>(alloc: Global, job: &'j Job) -> Result<PageRows<'j>, NoMemory>
     ensures page { IfOk result (λ rows. rows ≡ page_before job.now.plan job.now.files rows.room 0 0) }
     ensures room { IfOk result
@@ -187,7 +189,7 @@ fn open_page<'j>(alloc: Global, job: &'j Job) -> Result<PageRows<'j>, NoMemory>
     Ok(rows)
 }
 
-/// Goes from one page of the plan to row 0 of another, or of the same, whose images needn't be tested again.
+/// Moves from one page of the plan to row 0 of another, or of the same. Images are not tested again.
 fn turn_to<'j>(job: &'j Job, from: usize, page: usize, rows: &mut PageRows<'j>)
     requires from { rows.old.layers ≡ layers_of job.now.plan job.now.files from }
     requires room { length (planned_layers job.now.plan page) ≤ rows.old.room }

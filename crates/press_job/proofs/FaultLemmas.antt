@@ -1,4 +1,4 @@
--- No test of an image or of a layer finds that a file is too long, and each names a file of the plan.
+-- No test of an image or of a layer reports a file as too long, and each fault names a file of the plan.
 use Rattle.std.proofs.Common.{◌≢◌, ℕ, ◌+◌, ◌<◌, not, Bool, true, false, cond, List, [], ◌∷◌, length, map, get_or}
 use Rattle.std.specs.Prelude.{All, IfSome, Option, Some, None, Result, Ok, Err, nat_eq, nat_lt, ok_or, option_map, slice_index}
 use Rattle.std.specs.List.{range_with_len}
@@ -27,19 +27,19 @@ use Rattle.pr_base.specs.First.{first_some}
 use Rattle.press_job.specs.Tests.{crop_fault, fault_for, fault_of_file, fault_of_layers, fault_where, fit_fault, layer_fault, length_of, mask_fault, mention_fault, mentions_of, page_fault, page_fit_fault, width_of}
 use Rattle.press_job.specs.Layers.{bytes_at}
 
--- ---- the first answer of a list
+-- ---- the first result of a list
 
 option_or-holds : {B : Type 0} (P : B → Type 0) (a b : Option B) → IfSome a P → IfSome b P → IfSome (option_or a b) P
 option_or-holds P None b first second = second
 option_or-holds P (Some x) b first second = first
 
--- what holds of each answer holds of the first
+-- what holds of each result holds of the first
 pub first_some-holds : {A B : Type 0} (P : B → Type 0) (f : A → Option B) (xs : List A) → All (λ x. IfSome (f x) P) xs → IfSome (first_some f xs) P
 first_some-holds P f [] all = tt
 first_some-holds {A} {B} P f (x ∷ xs) all =
     option_or-holds P (f x) (first_some f xs) (All-head (λ x. IfSome (f x) P) x xs all) (first_some-holds P f xs (All-tail (λ x. IfSome (f x) P) x xs all))
 
--- what holds of any answer holds of the first
+-- what holds of any result holds of the first
 first_some-any : {A B : Type 0} (P : B → Type 0) (f : A → Option B) (xs : List A) → ((x : A) → IfSome (f x) P) → IfSome (first_some f xs) P
 first_some-any P f [] each = tt
 first_some-any P f (x ∷ xs) each = option_or-holds P (f x) (first_some f xs) (each x) (first_some-any P f xs each)
@@ -50,7 +50,7 @@ first_some-any P f (x ∷ xs) each = option_or-holds P (f x) (first_some f xs) (
 abbrev IsShort : TagFault → Type 0
 IsShort fault = fault.kind ≢ kind.TooLong
 
--- no answer is a fault that says TooLong
+-- no result is a TooLong fault
 abbrev NeverLong : {A : Type 0} → Result A TagFault → Type 0
 NeverLong (Ok value) = Unit {0}
 NeverLong (Err fault) = IsShort fault
@@ -226,7 +226,7 @@ mention-never file bytes (other, usage) = chosen (nat_eq other file) (fault_for 
     chosen true o short = short
     chosen false o short = tt
 
--- no fault of a file says that it is too long
+-- no fault of a file is TooLong
 pub file_never_long : (plan : PlanData) (file : ℕ) (bytes : List ℕ) → IfSome (fault_of_file plan file bytes) (λ fault. fault.kind ≢ kind.TooLong)
 unfolding fault_of_file layer_fault
 file_never_long plan file bytes =
@@ -236,7 +236,7 @@ file_never_long plan file bytes =
 
 -- ---- layers
 
--- a fault of a layer names a file of the plan, and says that a crop or a mask doesn't fit
+-- a fault of a layer names a file of the plan, and reports a crop or a mask that does not fit
 pub record IsMisfit (count : ℕ) (misfit : Misfit) : Type 0 where
   pub within : misfit.file < count
   pub short : misfit.kind ≢ kind.TooLong

@@ -1,4 +1,4 @@
--- What the tests of a job's files say of each layer, and that each layer is one that a page takes.
+-- What the tests of a job's files establish for each layer, and that a page accepts each layer.
 use Rattle.std.proofs.Common.{◌≡◌, ℕ, ◌+◌, ◌<◌, ◌≤◌, Bool, true, false, cond, ◌&&◌, not, List, [], ◌∷◌, length, get_or, refl, ap, sym, ◌∙◌, subst, arith}
 use Rattle.std.specs.Prelude.{All, IfSome, Option, Some, None, Result, Ok, Err, nat_eq, nat_lt, nat_le, option_map, option_to_list, slice_index, slice_get}
 use Rattle.std.specs.Option.{ForSome, option_map_or, option_or}
@@ -31,13 +31,13 @@ use Rattle.press_job.specs.Fit.{ArePlanned, PassesTests}
 use Rattle.press_job.specs.Layers.{art_in, art_of, bilevel_of, bytes_at, crop_of, layer_of, planned_layers, shape_told}
 use Rattle.press_job.specs.Tests.{crop_fault, fault_for, fault_of_file, fault_of_layers, fault_where, fit_fault, layer_fault, length_of, mask_fault, mention_fault, page_fault, page_fit_fault, use_of, width_of}
 
--- ---- where there is no answer
+-- ---- if there is no result
 
 or_none : {B : Type 0} (a b : Option B) → option_or a b ≡ None → (a ≡ None) × (b ≡ None)
 or_none None b none = (refl, none)
 or_none (Some x) b none = cc
 
--- where there is no first answer, there is none
+-- if there is no first result, every result is None
 none_each : {A B : Type 0} (f : A → Option B) (xs : List A) → first_some f xs ≡ None → All (λ x. f x ≡ None) xs
 none_each f [] none = All-nil (λ x. f x ≡ None)
 none_each f (x ∷ xs) none = (let both = or_none (f x) (first_some f xs) none in All-cons (λ x. f x ≡ None) x xs both.0 (none_each f xs both.1))
@@ -50,7 +50,7 @@ same_file n o none = (let e : nat_eq n n ≡ true = itself n in sym (ap (λ t. c
     itself : (n : ℕ) → nat_eq n n ≡ true
     itself n = grind (arith, nat_tests)
 
--- what a layer's file finds for its own mention, and the mask for its own
+-- the tests that a layer's file and its mask pass for their mentions in this layer
 mentions_pass : (files : List (List ℕ)) (layer : LayerData) → layer_fault layer.file (bytes_at files layer.file) layer ≡ None → fault_for (use_of layer) (bytes_at files layer.file) ≡ None
 unfolding layer_fault
 mentions_pass files layer none =
@@ -105,7 +105,7 @@ layer_passes plan files page i page_item item are within page_is below item_is =
     at_crop : (o : Option (List ℕ)) (crop : List ℕ) → o ≡ Some crop → IfSome o IsCrop → IsCrop crop
     at_crop o crop e h = subst {A = Option (List ℕ)} (λ o. IfSome o IsCrop) e h
 
--- each that the plan tells of a page
+-- each of the plan's layers of a page
 pub planned_pass : (plan other : PlanData) (files all : List (List ℕ)) (page i : ℕ) (planned : List LayerData) (d : LayerData) → ArePlanned plan files → all ≡ files → other ≡ plan
     → planned ≡ planned_layers other page → i < length planned → PassesTests all (get_or planned i d)
 planned_pass plan other files all page i planned d are all_is other_is planned_is within =
@@ -158,14 +158,14 @@ within_ok bytes at least most kind value is =
     at_least : (least v most : ℕ) → (nat_le least v && nat_le v most) ≡ true → least ≤ v
     at_least least v most h = grind (arith, nat_tests)
 
--- a shape's sides are those that the fields tell, and at least 1
+-- the sides of a shape are those in the fields, and at least 1
 pub record HasSides (bytes : List ℕ) (shape : Shape) : Type 0 where
   pub width : shape.width ≡ width_of bytes
   pub length : shape.length ≡ length_of bytes
   pub wide : 1 ≤ shape.width
   pub long : 1 ≤ shape.length
 
--- the first tests give the two sides
+-- the first tests determine the two sides
 sides_from : (first : Result (Unit {0}) TagFault) (w l : Result ℕ TagFault) (rest : ℕ → ℕ → Result Shape TagFault) (shape : Shape)
     → ((width length : ℕ) → rest width length ≡ Ok shape → (width ≡ shape.width) × (length ≡ shape.length))
     → (first >> (w >>= (λ width. l >>= (λ length. rest width length)))) ≡ Ok shape → (w ≡ Ok shape.width) × (l ≡ Ok shape.length)
@@ -174,7 +174,7 @@ sides_from (Ok u) (Err fault) l rest shape tells is = cc
 sides_from (Ok u) (Ok width) (Err fault) rest shape tells is = cc
 sides_from (Ok u) (Ok width) (Ok length) rest shape tells is = (let both = tells width length is in (ap {A = ℕ} Ok both.0, ap {A = ℕ} Ok both.1))
 
--- the later ones give a shape that they make
+-- the later ones give a shape with these sides
 made_from : (a : Result ℕ TagFault) (b : Result (Unit {0}) TagFault) (c d e f g : Result ℕ TagFault) (h : Result (Unit {0}) TagFault) (i : Result ℕ TagFault) (make : ℕ → ℕ → ℕ → Shape) (shape : Shape)
     → (a >> (b >> (c >>= (λ x. d >> (e >> (f >> (g >>= (λ y. h >> (i >>= (λ z. Ok (make x y z))))))))))) ≡ Ok shape → (x : ℕ) × (y : ℕ) × (z : ℕ) × (make x y z ≡ shape)
 made_from (Err fault) b c d e f g h i make shape is = cc
@@ -236,7 +236,7 @@ told_sides usage bytes passes = by_result (shape_of usage bytes) refl passes
     by_result (Ok shape) is none = shape_sides usage bytes shape is
     by_result (Err fault) is none = cc
 
--- the image of a layer that passes has the sides that its file tells
+-- the image of a layer that passes has the sides in its file's fields
 art_sides : (bytes : List ℕ) (layer : LayerData) → fault_for (use_of layer) bytes ≡ None → HasSides bytes (laid.shape_of (art_in bytes layer))
 art_sides bytes layer passes = by_line layer.line refl
   where
@@ -254,7 +254,7 @@ where_none : (test : Bool) (file at : ℕ) (kind : FaultKind) → fault_where te
 where_none true file at kind none = cc
 where_none false file at kind none = refl
 
--- a part of an image that lies in it, and isn't empty
+-- a part of an image that lies within it and is not empty
 record LiesIn (shape : Shape) (x y width height : ℕ) : Type 0 where
   wide : 1 ≤ width
   high : 1 ≤ height
@@ -302,7 +302,7 @@ mask_of files layer shape (Some mask) image sides none passes there =
     let same = same_Some (bilevel_of bilevel.Mask (bytes_at files mask)) image there in
     (sym (ap {A = BilevelImage} (λ i. i.shape.width) same) ∙ both.0, sym (ap {A = BilevelImage} (λ i. i.shape.length) same) ∙ both.1)
 
--- a layer that passes is one that a page takes
+-- a page accepts a layer that passes
 pub layer_fits : (files : List (List ℕ)) (layer : LayerData) → PassesTests files layer → IsLayer (layer_of files layer)
 unfolding fit_fault
 layer_fits files layer passes =

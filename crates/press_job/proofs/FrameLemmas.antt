@@ -1,4 +1,4 @@
--- The rows of a job and their frames: how many there are, and how long each is.
+-- The rows of a job and their frames: their number and the length of each.
 use Rattle.std.proofs.Common.{◌≡◌, ℕ, List, length, map, get_or, refl, ap, ◌∙◌, arith}
 use Rattle.std.specs.List.{All}
 use Rattle.std.proofs.lemmas.List.{length-map}
@@ -22,7 +22,7 @@ length-plate_frames plan files =
     length-map (plate_rows plan files) frame_of
     ∙ length-map (row_places plan) (row_at_place plan files (groups_of plan))
 
--- each row has the bytes of a plate's width
+-- each row has as many bytes as the plate's width requires
 row-long : (plan : PlanData) (files : List (List ℕ)) (place : RowPlace)
     → length (row_at_place plan files (groups_of plan) place) ≡ row_size (plate_width plan)
 row-long plan files place =
@@ -56,7 +56,7 @@ are_frames plan files is = record {
   are = refl;
 }
 
--- and hold these rows
+-- and contain these rows
 pub rows_are : (plan : PlanData) (files : List (List ℕ)) → IsPlan plan
     → map framed_row (plate_frames plan files) ≡ plate_rows plan files
 rows_are plan files is =

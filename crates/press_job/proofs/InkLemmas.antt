@@ -1,4 +1,4 @@
--- The five inks of a row of a page behind curves and limit.
+-- The five inks of a row of a page after curves and limit.
 use Rattle.std.proofs.Common.{◌≡◌, ℕ, ◌<◌, ◌≤◌, Bool, true, false, List, [], ◌∷◌, length, ap, sym, ◌∙◌, arith}
 use Rattle.std.specs.Prelude.{nat_lt, slice_index}
 use Rattle.std.proofs.lemmas.Bool.Decides.{nat_tests}
@@ -15,7 +15,7 @@ use Rattle.press_job.specs.Printing.{limited_inks, printed_ink, toned_ink}
 use Rattle.press_job.specs.Tones.{limits}
 use Rattle.press_job.proofs.LimitLemmas.{limited-same}
 
--- five rows behind their curves
+-- five rows after their curves
 pub record AreToned (plan : PlanData) (colour spotted : Bool) (inks shown : Planes) : Type 0 where
   pub cyan : IsToned plan C colour inks.cyan shown.cyan
   pub magenta : IsToned plan M colour inks.magenta shown.magenta
@@ -46,7 +46,7 @@ has_values plan colour spot inks shown width x wide are less =
       spot = are.spot.values x (omega arith);
     }
 
--- without a limit the rows behind their curves are printed
+-- without a limit, the rows after their curves are printed
 pub shows_unlimited : (plan : PlanData) (colour spot : Bool) (layers : List Layer) (width y : ℕ) (inks shown : Planes) → HasWidth inks width → ((x : ℕ) → x < width → inks_at inks x ≡ ink_at layers x y)
     → AreToned plan colour spot inks shown → limits plan K ≡ false → ShowsInks plan colour spot layers width y shown
 shows_unlimited plan colour spot layers width y inks shown wide laid are off = record { each = λ ink x less. at ink x less ∙ ap (λ e. printed_ink plan colour spot e ink) (laid x less) }
@@ -76,7 +76,7 @@ shows_unlimited plan colour spot layers width y inks shown wide laid are off = r
     at K x less = sym (ap (λ values. slice_index values 3) (free x less))
     at S x less = (has_values plan colour spot inks shown width x wide are less).spot
 
--- with one the limited rows are
+-- with a limit, the limited rows are printed
 pub shows_limited : (plan : PlanData) (colour spot : Bool) (layers : List Layer) (width y : ℕ) (inks shown new : Planes) → HasWidth inks width → HasWidth shown width
     → ((x : ℕ) → x < width → inks_at inks x ≡ ink_at layers x y) → AreToned plan colour spot inks shown
     → AreLimited plan.limit shown.cyan shown.magenta shown.yellow shown.black new.cyan new.magenta new.yellow new.black → new.spot ≡ shown.spot → ShowsInks plan colour spot layers width y new

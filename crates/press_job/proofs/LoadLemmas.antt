@@ -1,4 +1,4 @@
--- Files that are loaded one after the other, and the verdict on them.
+-- Files loaded one after the other, and the verdict on them.
 use Rattle.std.proofs.Common.{inl, inr, ◌≡◌, ℕ, zero, suc, ◌+◌, ◌-◌, ◌<◌, ◌≤◌, Bool, true, false, cond, List, [], ◌∷◌, ◌++◌, length, refl, ap, sym, ◌∙◌, subst, arith}
 use Rattle.std.specs.Prelude.{IfSome, Option, Some, None, Err, nat_lt, option_map, sum_by, unwrap_or}
 use Rattle.std.specs.List.{range_with_len}
@@ -18,7 +18,7 @@ use Rattle.pr_base.specs.First.{first_some}
 use Rattle.press_job.specs.Tests.{ArePassed, fault_of_file}
 use Rattle.press_job.specs.Verdict.{AreFirst, IfFile, first_files, held_bytes, limit_behind, path_of, verdict_at, verdict_before, verdict_on}
 
--- ---- one more question
+-- ---- one more element
 
 range_more : (n : ℕ) → range_with_len 0 (n + 1) ≡ range_with_len 0 n ++ n ∷ []
 range_more n =
@@ -62,7 +62,7 @@ verdict_stops plan folder held n count refusal within before here =
 
 -- ---- one more file
 
--- the verdict on the file behind the first ones
+-- the verdict on the file after the first ones
 at_first : (plan : PlanData) (folder : List ℕ) (held : List (List ℕ × List ℕ)) (files : List (List ℕ)) (limit : ℕ) → AreFirst plan folder held files → limit ≡ limit_behind (sum_by length files)
     → verdict_at plan folder held (length files) ≡ verdict_on plan folder limit (length files) (held_at held (path_of plan folder (length files)))
 unfolding verdict_at
@@ -100,7 +100,7 @@ first_more plan folder held files bytes limit are limit_is there within pass =
     passed true refusal o f e none = cc
     passed false refusal o f e none = ap (option_map f) none
 
--- the same, where a shelf may tell its files
+-- the same where the contents of the shelf may be known
 pub first_more_told : (plan : PlanData) (folder : List ℕ) (held : Option (List (List ℕ × List ℕ))) (files : List (List ℕ)) (bytes : List ℕ) (file limit : ℕ) → length files ≡ file
     → IfSome held (λ all. AreFirst plan folder all files) → limit ≡ limit_behind (sum_by length files) → IfSome held (λ all. held_at all (path_of plan folder file) ≡ Some bytes) → length bytes ≤ limit
     → fault_of_file plan file bytes ≡ None → IfSome held (λ all. AreFirst plan folder all (files ++ bytes ∷ []))
@@ -125,13 +125,13 @@ passed_more plan files bytes file count are pass = record {
 
 -- ---- refusals
 
--- what follows for the fault of a refused file
+-- an implication between facts about the fault of a refused file
 pub IfFile-weaker : (A B : Type 0) (refusal : Refusal) (P Q : FileFault → Type 0) → ((fault : FileFault) → P fault → Q fault) → IfFile {T = A} (Err refusal) P → IfFile {T = B} (Err refusal) Q
 IfFile-weaker A B (File fault) P Q step h = step fault h
 IfFile-weaker A B (Shelf path) P Q step h = tt
 IfFile-weaker A B Memory P Q step h = tt
 
--- a file that is refused is the verdict on all
+-- the refusal of a file is the verdict on all
 pub refused_told : (plan : PlanData) (folder : List ℕ) (held : Option (List (List ℕ × List ℕ))) (files : List (List ℕ)) (file limit : ℕ) (fault : FileFault) → length files ≡ file
     → file < length plan.files → IfSome held (λ all. AreFirst plan folder all files) → limit ≡ limit_behind (sum_by length files)
     → IfSome held (λ all. verdict_on plan folder limit file (held_at all (path_of plan folder file)) ≡ Some (File fault))
@@ -143,9 +143,9 @@ refused_told plan folder (Some held) files file limit fault count within are lim
     (ap (verdict_at plan folder held) (sym count) ∙ at_first plan folder held files limit are limit_is
     ∙ ap (λ n. verdict_on plan folder limit n (held_at held (path_of plan folder n))) count ∙ refused)
 
--- ---- what loading keeps
+-- ---- the invariant of loading
 
--- so many files, of so many bytes together, are loaded and pass
+-- `file` files, of `loaded` bytes together, are loaded and pass
 pub record AreLoaded (plan : PlanData) (folder : List ℕ) (held : Option (List (List ℕ × List ℕ))) (files : List (List ℕ)) (file loaded : ℕ) : Type 0 where
   pub count : length files ≡ file
   pub room : sum_by length files ≡ loaded

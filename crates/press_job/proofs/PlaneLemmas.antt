@@ -1,4 +1,4 @@
--- Planes that show a row of a page: they hold the rows that are printed.
+-- Planes that show a row of a page hold the rows that are printed.
 use Rattle.std.proofs.Common.{◌≡◌, ℕ, ◌<◌, Bool, List, length, get_or, ap, ◌∙◌, subst, arith}
 use Rattle.std.proofs.lemmas.List.FromFn.{fill_by_all, get_or-map-range_with_len}
 use Rattle.pr_base.specs.declared.ink.Ink.{Ink}
@@ -11,11 +11,11 @@ use Rattle.press_job.specs.Layers.{layers_of}
 use Rattle.press_job.specs.Planes.{ShowsInks}
 use Rattle.press_job.specs.Printing.{printed_at, printed_row}
 
--- the value of column x of a row
+-- the value at column x of a row
 pub get_or-printed_row : (plan : PlanData) (files : List (List ℕ)) (page : ℕ) (ink : Ink) (x y : ℕ) → x < plan.page_width → get_or (printed_row plan files page ink y) x 0 ≡ printed_at plan files page ink x y
 get_or-printed_row plan files page ink x y within = get_or-map-range_with_len (λ x. printed_at plan files page ink x y) 0 plan.page_width x x 0 within (omega arith)
 
--- each plane has the width of all
+-- all planes have the same width
 pub plane_width : (planes : Planes) (width : ℕ) (ink : Ink) → HasWidth planes width → length (plane_of planes ink) ≡ width
 plane_width planes width C wide = wide.cyan
 plane_width planes width M wide = wide.magenta
@@ -30,7 +30,7 @@ unfolding printed_at
 plane_is plan files page y planes ink wide shows =
     fill_by_all (λ x. printed_at plan files page ink x y) (plane_of planes ink) plan.page_width 0 (plane_width planes plan.page_width ink wide) (λ x less. shows.each ink x less)
 
--- and the other way
+-- and the converse
 pub shows_printed : (plan : PlanData) (files : List (List ℕ)) (page y : ℕ) (planes : Planes) → ((ink : Ink) → plane_of planes ink ≡ printed_row plan files page ink y)
     → ShowsInks plan (page_colour plan page) (page_spot plan page) (layers_of plan files page) plan.page_width y planes
 unfolding printed_at
@@ -38,7 +38,7 @@ shows_printed plan files page y planes are = record {
   each = λ ink x less. ap (λ row. get_or row x 0) (are ink) ∙ get_or-printed_row plan files page ink x y less;
 }
 
--- the inks that are shown, by another name of the plan and of what a page prints
+-- the inks that are shown, with equal plans and inks substituted
 pub at_inks : (plan other : PlanData) (colour colour' spot spot' : Bool) (layers : List Layer) (width y : ℕ) (planes : Planes) → plan ≡ other → colour ≡ colour' → spot ≡ spot'
     → ShowsInks plan colour spot layers width y planes → ShowsInks other colour' spot' layers width y planes
 at_inks plan other colour colour' spot spot' layers width y planes plans colours spots shows =

@@ -1,5 +1,5 @@
--- The definitions at a small job: a section of two black pages, of which the second, which stands left, shows an image of 4 by 1
--- pixels at scale 2 under Bayer's tile of side 4.
+-- The definitions evaluated on a small job: a section of two black pages, of which the second, on the left,
+-- shows an image of 4 by 1 pixels at scale 2 under Bayer's tile of side 4.
 use Rattle.std.proofs.Common.{◌≡◌, ℕ, false, List, [], ◌∷◌, ◌++◌, None, refl}
 use Rattle.std.specs.Prelude.{codes}
 use Rattle.pr_base.specs.Bits.{packed_row}
@@ -70,7 +70,7 @@ small = record {
   files = codes "a.tif" ∷ [];
 }
 
--- nothing is wrong with the image and its layer
+-- the image and its layer pass all tests
 pub small_passes : fault_of_file small 0 image ≡ None
 unfolding fault_of_file layer_fault shape_of image_fields no_tiles number_within number_among bits_each full_dot_range number_at field_of directory_of planes plane_row_length strips_per_plane strip_count strip_rows needed_length strip_offset strip_size stored_bytes strip_data fault_of_strip strip_fault plane_data plane_row planar_pixel image_row
 small_passes = refl

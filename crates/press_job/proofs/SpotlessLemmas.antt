@@ -1,5 +1,5 @@
--- Without a spot, what a plan says of the spot ink has no part in its rows. A plan without the last of each of
--- its lists of five is what the other inks see of it.
+-- Without a spot, what a plan says about the spot ink does not affect its rows. The other inks depend only on
+-- the plan without the last entry of each of its lists of five.
 use Rattle.std.proofs.Common.{zero, suc, ◌≡◌, ◌≢◌, ℕ, ◌+◌, ◌-◌, ◌<◌, Bool, true, false, cond, ◌&&◌, ◌||◌, List, [], ◌∷◌, ◌++◌, map, take, refl, ap, sym, ◌∙◌, arith}
 use Rattle.std.specs.Prelude.{All, Option, Some, None, slice_get, slice_index}
 use Rattle.std.specs.List.{enumerate_from, flat_map, fold, list_any, range_with_len}
@@ -63,7 +63,7 @@ front-end [] last = refl
 front-end (x ∷ []) last = refl
 front-end (x ∷ y ∷ ys) last = ap (λ zs. x ∷ zs) (front-end (y ∷ ys) last)
 
--- ---- what the other inks see of a plan
+-- ---- what the other inks depend on in a plan
 
 abbrev process_mark : MarkData → MarkData
 process_mark mark = record mark { inks = take 4 mark.inks }
@@ -119,7 +119,7 @@ fronts plan =
 process_alike : (a b : PlanData) → SameButSpot a b → process_plan a ≡ process_plan b
 process_alike a b same = sym (fronts a) ∙ ap front_plan same ∙ fronts b
 
--- ---- the bits of an ink that isn't S
+-- ---- the bits of an ink other than S
 
 slot-within : (ink : Ink) → ink ≢ S → slot_of ink < 4
 slot-within C other = omega arith
@@ -128,7 +128,7 @@ slot-within Y other = omega arith
 slot-within K other = omega arith
 slot-within S other = absurd (other refl)
 
--- values laid one over the other, and the first of them
+-- the first n values after painting values over others
 take-laid : (n : ℕ) (overprint : Bool) (paints unders : List ℕ) → take n (laid overprint paints unders) ≡ laid overprint (take n paints) (take n unders)
 take-laid zero overprint paints unders = refl
 take-laid (suc n) overprint [] unders = refl
@@ -258,7 +258,7 @@ row-alike plan files left right ink y other =
     ap (λ n. packed_row n (λ x. plate_bit (process_plan plan) files left right ink x y)) width
     ∙ ap {A = ℕ → Bool} (λ bits. packed_row (plate_width plan) bits) (fun_ext (λ x. plate-alike plan files left right ink x y other))
 
--- ---- no row is one of S
+-- ---- no row belongs to S
 
 -- an ink that is not S
 abbrev IsNotSpot : Ink → Type 0

@@ -1,4 +1,4 @@
--- Files that a shelf doesn't tell: there are some of which the same verdict holds.
+-- Files of a shelf whose contents are unknown: some files exist of which the same verdict holds.
 use Rattle.std.proofs.Common.{inl, inr, ◌≡◌, ◌≢◌, ℕ, zero, suc, ◌+◌, ◌<◌, ◌≤◌, Bool, true, false, cond, List, [], ◌∷◌, ◌++◌, length, take, refl, ap, sym, ◌∙◌, subst, replicate, arith}
 use Rattle.std.specs.Prelude.{IfSome, IsSomeAnd, Option, Some, None, nat_lt, nat_eq, option_map, slice_index_or, sum_by}
 use Rattle.std.specs.Cmp.Lexicographic.{bytes_decides, pointwise}
@@ -73,7 +73,7 @@ paired_at folder (name ∷ names) (bytes ∷ files) (suc k) distinct named withi
 
 -- ---- the first files
 
--- each of these first files is no longer than it may be behind those before it
+-- each of these first files is no longer than the limit after those before it allows
 pub record AreWithin (files : List (List ℕ)) : Type 0 where
   pub each : (k : ℕ) → k < length files → length (bytes_at files k) ≤ limit_behind (sum_by length (take k files))
 
@@ -98,7 +98,7 @@ within_more files bytes are fits = record {
         let Q : List (List ℕ) → Type 0 = λ l. length c ≤ limit_behind (sum_by length l) in
         subst P (sym is) (subst Q (sym front) h)
 
--- files that are held at their paths, each within its limit and with no fault, are the first
+-- files held at their paths, each within its limit and without a fault, are the first files
 first_in : (plan : PlanData) (folder : List ℕ) (held : Held) (files : List (List ℕ)) → ((k : ℕ) → k < length files → held_at held (path_of plan folder k) ≡ Some (bytes_at files k))
     → AreWithin files → ArePassed plan files → AreFirst plan folder held files
 first_in plan folder held files there within passed =
@@ -117,7 +117,7 @@ first_in plan folder held files there within passed =
           (ap (λ k. held_at held (path_of plan folder k)) long ∙ there n (omega arith)) (within.each n (omega arith))
           (ap (λ k. fault_of_file plan k bytes) long ∙ passed.each n (omega arith)))
 
--- there are files of which these are the first: those that are held, where told
+-- some files exist of which these are the first; they are the held files where known
 pub are_first : (plan : PlanData) (folder : List ℕ) (held : Option Held) (files : List (List ℕ)) → AreDistinct plan.files → length files ≤ length plan.files
     → IfSome held (λ all. AreFirst plan folder all files) → AreWithin files → ArePassed plan files → OfFiles held (λ all. AreFirst plan folder all files)
 are_first plan folder (Some all) files distinct count first within passed = first
@@ -144,7 +144,7 @@ long_found plan folder held limit file fault longer is = by held longer where
       record { found = Some (replicate (limit + 1) 0); is_held = tt; refused = long_is (Some (replicate (limit + 1) 0)) (omega (arith, long)) }
   by (Some files) longer = record { found = held_at files (path_of plan folder file); is_held = refl; refused = long_is (held_at files (path_of plan folder file)) longer }
 
--- and of one that has a fault
+-- and of a file that has a fault
 pub fault_found : (plan : PlanData) (folder : List ℕ) (held : Option Held) (limit file : ℕ) (bytes : List ℕ) (tags : TagFault) (fault : FileFault)
     → IfSome held (λ files. held_at files (path_of plan folder file) ≡ Some bytes) → length bytes ≤ limit → fault_of_file plan file bytes ≡ Some tags
     → fault ≡ named_fault plan file tags.tag tags.kind → WasFound plan folder held limit file fault
@@ -157,7 +157,7 @@ fault_found plan folder held limit file bytes tags fault there within faulty is 
       ∙ ap (option_map (refusal_of plan file)) faulty ∙ ap (λ f. Some (File f)) (sym is);
 }
 
--- a file that is refused for what was found is the verdict on all
+-- the refusal of a file for what was found is the verdict on all
 pub refused_of : (plan : PlanData) (folder : List ℕ) (held : Option Held) (files : List (List ℕ)) (file limit : ℕ) (fault : FileFault) → AreDistinct plan.files → length files ≡ file
     → file < length plan.files → IfSome held (λ all. AreFirst plan folder all files) → AreWithin files → ArePassed plan files → limit ≡ limit_behind (sum_by length files)
     → WasFound plan folder held limit file fault → OfFiles held (λ all. verdict_before plan folder all (length plan.files) ≡ Some (File fault))
@@ -176,9 +176,9 @@ refused_of plan folder None files file limit fault distinct count less first wit
       let here : held_at all (path_of plan folder file) ≡ Some bytes = at file (omega arith) ∙ ap (λ b. Some b) (get_or_push files bytes [] file count) in
       (all, refused_told plan folder (Some all) files file limit fault count less before limit_is (ap (verdict_on plan folder limit file) here ∙ refused))
 
--- ---- what becomes of a plan's files
+-- ---- the verdict on a plan's files
 
--- the verdict on files that were loaded is that on the layers
+-- the verdict on loaded files is the verdict on the layers
 judged_is : (plan : PlanData) (folder : List ℕ) (all : Held) (files : List (List ℕ)) → length files ≡ length plan.files → AreFirst plan folder all files
     → verdict_on_files plan folder all ≡ option_map (misfit_refusal plan) (fault_of_layers plan files)
 judged_is plan folder all files count are =
@@ -195,7 +195,7 @@ sound_of plan folder held files count first fit =
       pass = judged_is plan folder all files count are ∙ ap (option_map (misfit_refusal plan)) fit;
     }) first
 
--- and a layer doesn't
+-- all files were loaded, and a layer does not fit
 pub misfit_of : (plan : PlanData) (folder : List ℕ) (held : Option Held) (files : List (List ℕ)) (misfit : Misfit) (fault : FileFault) → length files ≡ length plan.files
     → OfFiles held (λ all. AreFirst plan folder all files) → fault_of_layers plan files ≡ Some misfit → fault ≡ named_fault plan misfit.file misfit.tag misfit.kind
     → OfFiles held (IsFirstFault plan folder fault)

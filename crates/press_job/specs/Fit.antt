@@ -1,4 +1,4 @@
--- What the tests of a job's files say of each of its layers.
+-- What the tests of a job's files establish for each of its layers.
 use Rattle.std.specs.Prelude.{◌≡◌, List, ℕ, length, None}
 use Rattle.std.specs.Option.{ForSome}
 use Rattle.tif_image.specs.declared.usage.BilevelUse.TheVariants.{Mask}

@@ -1,4 +1,4 @@
--- What a job is.
+-- The contents of a job.
 use Rattle.std.specs.Prelude.{◌≡◌, ℕ, List}
 use Rattle.plan_json.specs.Data.{PlanData}
 use Rattle.plan_pages.specs.declared.shape.PlateShape.{PlateShape}
@@ -6,12 +6,12 @@ use Rattle.plan_pages.specs.Plate.{shape_of_plate}
 use Rattle.plan_rows.specs.Rows.{RowPlanData, rows_of}
 use Rattle.press_job.specs.Fit.{ArePlanned}
 
--- a plan and the bytes of its files in their order
+-- a plan and the bytes of its files in order
 pub record JobData : Type 0 where
   pub plan : PlanData
   pub files : List (List ℕ)
 
--- the files of a job pass the tests of their uses, and its layers theirs
+-- the files of a job pass the tests of their uses, and its layers pass theirs
 pub record IsJob (plan : PlanData) (files : List (List ℕ)) (rows : RowPlanData)
     (shape : PlateShape) : Type 0 where
   pub planned : ArePlanned plan files

@@ -20,7 +20,7 @@ use Rattle.plan_json.specs.Data.{PlanData}
 abbrev pub bytes_at : List (List ℕ) → ℕ → List ℕ
 bytes_at files file = slice_index_or files file []
 
--- the shape that the fields of a file tell; none of a file that is refused
+-- the shape in the fields of a file; a shape without pixels for a file that is refused
 abbrev pub shape_told : Result Shape TagFault → Shape
 shape_told told =
     result_unwrap_or told (record {
@@ -33,7 +33,7 @@ shape_told told =
       rows_per_strip = 0;
     })
 
--- a file as a bilevel image of this use
+-- a file as a bilevel image for this use
 abbrev pub bilevel_of : BilevelUse → List ℕ → BilevelImage
 bilevel_of usage bytes = record {
   usage = usage;
@@ -41,17 +41,17 @@ bilevel_of usage bytes = record {
   bytes = bytes;
 }
 
--- what a layer shows of a file
+-- the art that a layer makes of a file
 abbrev pub art_in : List ℕ → LayerData → Art
 art_in bytes layer =
     if layer.line then Line (bilevel_of usage.Line bytes) layer.ink
     else Contone (record { shape = shape_told (contone_shape bytes); bytes = bytes })
 
--- what a layer shows
+-- the art of a layer
 abbrev pub art_of : List (List ℕ) → LayerData → Art
 art_of files layer = art_in (bytes_at files layer.file) layer
 
--- the part of an image that is shown: x, y, width and height, or the whole image
+-- the part of an image that is shown: the crop (x, y, width and height), or the whole image
 abbrev pub crop_of : Shape → Option (List ℕ) → Crop
 crop_of shape None = record { x = 0; y = 0; width = shape.width; height = shape.length }
 crop_of shape (Some crop) =
@@ -74,10 +74,10 @@ layer_of files layer = record {
   overprint = layer.overprint;
 }
 
--- what the plan says of the layers of a page
+-- the plan's layers of a page
 abbrev pub planned_layers : PlanData → ℕ → List LayerData
 planned_layers plan page = option_map_or (λ p. p.layers) (slice_get plan.pages page) []
 
--- the layers of a page, the first at the bottom
+-- the layers of a page, the bottom one first
 unfoldable pub layers_of : PlanData → List (List ℕ) → ℕ → List Layer
 layers_of plan files page = map (layer_of files) (planned_layers plan page)

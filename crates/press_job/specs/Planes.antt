@@ -8,11 +8,11 @@ use Rattle.plan_json.specs.Data.{PlanData}
 use Rattle.press_job.specs.declared.plane.Plane.{Plane}
 use Rattle.press_job.specs.Printing.{printed_ink, toned}
 
--- the values that a plane shows: its own, or those of the row that they were left in
+-- the values of a plane: its own, or those of the row if they were left there
 abbrev pub shown_in : List ℕ → Plane → List ℕ
 shown_in row plane = if plane.is_left then row else plane.values.items
 
--- those of five planes
+-- the values of five planes
 abbrev pub shown_planes : Planes → Plane → Plane → Plane → Plane → Plane → Planes
 shown_planes inks cyan magenta yellow black spot = record {
   cyan = shown_in inks.cyan cyan;
@@ -22,19 +22,19 @@ shown_planes inks cyan magenta yellow black spot = record {
   spot = shown_in inks.spot spot;
 }
 
--- the values of an ink on a page that prints it, or not, behind its curve; each is a byte
+-- the values of an ink after its curve, on a page that prints it or not; each is a byte
 pub record IsToned (plan : PlanData) (ink : Ink) (prints : Bool) (row shown : List ℕ) : Type 0 where
   pub values : (x : ℕ) → x < length row
       → slice_index shown x ≡ (if prints then toned plan ink (slice_index row x) else 0)
   pub bytes : (x : ℕ) → x < length row → slice_index shown x ≤ 255
 
--- the planes show row y of a page of these layers that prints C, M and Y or not, and S or not
+-- the planes hold row y of a page of these layers that prints C, M and Y if `colour`, and S if `spot`
 pub record ShowsInks (plan : PlanData) (colour spot : Bool) (layers : List Layer) (width y : ℕ)
     (planes : Planes) : Type 0 where
   pub each : (ink : Ink) (x : ℕ) → x < width
       → slice_index (plane_of planes ink) x ≡ printed_ink plan colour spot (ink_at layers x y) ink
 
--- five planes and the row of the page's layers have one width
+-- five planes and the row of the page's layers have the same width
 pub record HaveWidth (inks : Planes) (cyan magenta yellow black spot : Plane) : Type 0 where
   pub inks_wide : HasWidth inks (length inks.cyan)
   pub cyan_wide : length cyan.values.items ≡ length inks.cyan

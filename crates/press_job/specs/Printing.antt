@@ -1,5 +1,5 @@
--- What a page prints at each pixel: its ink values, and its bits. A pixel is counted from the page's top left
--- corner.
+-- What a page prints at each pixel: its ink values and its bits. Pixels are counted from the top left corner
+-- of the page.
 use Rattle.std.specs.Prelude.{ℕ, Bool, true, if◌then◌else◌, List, [], map, slice_index, slice_index_or}
 use Rattle.std.specs.List.{range_with_len}
 use Rattle.pr_base.specs.declared.ink.Ink.{Ink}
@@ -20,7 +20,7 @@ use Rattle.press_job.specs.Layers.{layers_of}
 
 -- ---- values
 
--- a page prints K; C, M and Y where it is in colour; S where it has a spot
+-- a page prints K, also C, M and Y if it is in colour, and S if it has a spot
 abbrev pub prints_ink : Bool → Bool → Ink → Bool
 prints_ink colour spot C = colour
 prints_ink colour spot M = colour
@@ -28,22 +28,22 @@ prints_ink colour spot Y = colour
 prints_ink colour spot K = true
 prints_ink colour spot S = spot
 
--- what the curve of an ink makes of a value
+-- a value of an ink after its curve
 abbrev pub toned : PlanData → Ink → ℕ → ℕ
 toned plan ink value = curve_value (slice_index_or plan.curves (slot_of ink) []) value
 
--- the value of an ink of the five at a pixel behind its curve, 0 of an ink that the page doesn't print
+-- the value of one of the five inks at a pixel after its curve; 0 if the page does not print the ink
 abbrev pub toned_ink : PlanData → Bool → Bool → List ℕ → Ink → ℕ
 toned_ink plan colour spot inks ink =
     if prints_ink colour spot ink then toned plan ink (slice_index inks (slot_of ink)) else 0
 
--- the values of C, M, Y and K under the plan's limit
+-- the values of C, M, Y and K under the plan's ink limit
 abbrev pub limited_inks : PlanData → Bool → Bool → List ℕ → List ℕ
 limited_inks plan colour spot inks =
     let value = toned_ink plan colour spot inks in
     limited (value C) (value M) (value Y) (value K) plan.limit
 
--- what a page prints of an ink, out of the five values at a pixel; S is not limited
+-- what a page prints of an ink, from the five values at a pixel; S is not limited
 abbrev pub printed_ink : PlanData → Bool → Bool → List ℕ → Ink → ℕ
 printed_ink plan colour spot inks C = slice_index (limited_inks plan colour spot inks) 0
 printed_ink plan colour spot inks M = slice_index (limited_inks plan colour spot inks) 1
@@ -70,8 +70,8 @@ page_values plan files page ink = map (printed_row plan files page ink) (range_w
 
 -- ---- bits
 
--- the threshold of a pixel under copies of one of the plan's tiles; a tile that it doesn't have has no
--- numbers
+-- the threshold of a pixel under repetitions of one of the plan's tiles; a tile that the plan does not have
+-- is empty
 abbrev pub own_threshold : PlanData → ℕ → ℕ → ℕ → ℕ
 own_threshold plan tile x y =
     let it = slice_index_or plan.tiles tile (record { name = []; width = 0; height = 0; at = [] }) in
@@ -85,7 +85,7 @@ bit_under plan files page ink x y (Own tile) = tile_bit (printed_at plan files p
     (own_threshold plan tile x y)
 bit_under plan files page ink x y Diffuse = diffused_bit (page_values plan files page ink) x y
 
--- how the plan screens an ink
+-- the plan's screen for an ink
 abbrev pub screen_of : PlanData → Ink → Screen
 screen_of plan ink = slice_index_or plan.screens (slot_of ink) Diffuse
 

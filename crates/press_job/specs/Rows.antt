@@ -15,27 +15,27 @@ use Rattle.press_job.specs.Printing.{page_bit}
 
 -- ---- a plate
 
--- whether a page that stands at this left edge covers a pixel of the plate
+-- whether a page with this left edge covers a pixel of the plate
 abbrev pub covers_pixel : PlanData → ℕ → ℕ → ℕ → Bool
 covers_pixel plan left_x x y =
     let top_y = (shape_of_plate plan).top_y in
     in_span left_x (left_x + plan.page_width) x && in_span top_y (top_y + plan.page_height) y
 
--- what a page that stands at this left edge prints at a pixel of the plate; nothing outside itself
+-- what a page with this left edge prints at a pixel of the plate; nothing outside the page
 abbrev pub placed_bit : PlanData → List (List ℕ) → ℕ → ℕ → Ink → ℕ → ℕ → Bool
 placed_bit plan files page left_x ink x y =
     covers_pixel plan left_x x y && page_bit plan files page ink (x - left_x) (y -
     (shape_of_plate plan).top_y)
 
--- whether a plate of two pages prints an ink at a pixel: a mark covers it, or the page prints there that
--- covers it
+-- whether a plate of two pages prints an ink at a pixel: a mark covers the pixel, or the page that covers it
+-- prints there
 unfoldable pub plate_bit : PlanData → List (List ℕ) → ℕ → ℕ → Ink → ℕ → ℕ → Bool
 plate_bit plan files left right ink x y =
     let shape = shape_of_plate plan in
     is_marked_at plan ink x y || placed_bit plan files left shape.left_x ink x y
     || placed_bit plan files right shape.right_x ink x y
 
--- row y of a plate of two pages, with padding bits 0
+-- row y of a plate of two pages, with zero padding bits
 abbrev pub plate_row : PlanData → List (List ℕ) → ℕ → ℕ → Ink → ℕ → List ℕ
 plate_row plan files left right ink y = packed_row (plate_width plan)
     (λ x. plate_bit plan files left right ink x y)

@@ -1,4 +1,4 @@
--- What the tests of a file keep.
+-- The uses for which a file has passed its tests.
 use Rattle.std.specs.Prelude.{◌≡◌, ℕ, Bool, true, List, None}
 use Rattle.tif_image.specs.declared.usage.BilevelUse.TheVariants.{Line, Mask}
 use Rattle.tif_image.specs.declared.usage.Usage.TheVariants.{Contone, Bilevel}

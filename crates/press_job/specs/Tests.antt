@@ -1,4 +1,4 @@
--- What is tested of a plan's files: each for its uses, and then each layer's crop and mask against its image.
+-- The tests of a plan's files: each for its uses, and then each layer's crop and mask against its image.
 use Rattle.std.specs.Prelude.{◌≡◌, ℕ, ◌+◌, ◌==◌, ◌<◌, not, nat_lt, Bool, if◌then◌else◌, List, ◌∷◌, length}
 use Rattle.std.specs.Prelude.{slice_index, Option, Some, None, option_map, option_to_list}
 use Rattle.std.specs.Option.{option_or}
@@ -24,7 +24,7 @@ use Rattle.press_job.specs.Layers.{bytes_at}
 abbrev pub fault_for : Usage → List ℕ → Option TagFault
 fault_for usage bytes = result_err (shape_of usage bytes)
 
--- what the image of a layer is used for
+-- the use of a layer's image
 abbrev pub use_of : LayerData → Usage
 use_of layer = if layer.line then Bilevel Line else Contone
 
@@ -33,7 +33,7 @@ abbrev pub mentions_of : LayerData → List (ℕ × Usage)
 mentions_of layer = (layer.file, use_of layer) ∷ option_to_list (option_map (λ mask.
     (mask, Bilevel Mask)) layer.mask)
 
--- what a mention of a file finds in its bytes; nothing if it is one of another file
+-- the fault of a file's bytes for a mention; none if another file is mentioned
 abbrev pub mention_fault : ℕ → List ℕ → ℕ × Usage → Option TagFault
 mention_fault file bytes (other, usage) = if other == file then fault_for usage bytes else None
 
@@ -49,14 +49,14 @@ fault_of_file plan file bytes = first_some (page_fault file bytes) plan.pages
 
 -- ---- crops and masks
 
--- the pixels of a row of a file's image, and its rows
+-- the pixels per row of a file's image, and its rows
 abbrev pub width_of : List ℕ → ℕ
 width_of bytes = result_unwrap_or (number_at bytes image_width 0 1) 0
 
 abbrev pub length_of : List ℕ → ℕ
 length_of bytes = result_unwrap_or (number_at bytes image_length 0 1) 0
 
--- a fault that a test finds
+-- a fault found by a test
 abbrev pub fault_where : Bool → ℕ → ℕ → FaultKind → Option Misfit
 fault_where found file tag kind = if found then Some (record {
   file = file;
@@ -64,7 +64,7 @@ fault_where found file tag kind = if found then Some (record {
   kind = kind;
 }) else None
 
--- a crop ends in the image: first its width is tested, then its height
+-- a crop ends within the image: its width is tested first, then its height
 abbrev pub crop_fault : ℕ → List ℕ → Option (List ℕ) → Option Misfit
 crop_fault file bytes None = None
 crop_fault file bytes (Some crop) =
@@ -73,7 +73,7 @@ crop_fault file bytes (Some crop) =
     (fault_where (nat_lt (length_of bytes)
     (slice_index crop 1 + slice_index crop 3)) file image_length kind.Crop)
 
--- a mask has the sides of the whole image: first its width is tested, then its length
+-- a mask has the sides of the whole image: its width is tested first, then its length
 abbrev pub mask_fault : List (List ℕ) → List ℕ → Option ℕ → Option Misfit
 mask_fault files bytes None = None
 mask_fault files bytes (Some mask) =
@@ -81,7 +81,7 @@ mask_fault files bytes (Some mask) =
     option_or (fault_where (not (width_of own == width_of bytes)) mask image_width kind.MaskSize)
     (fault_where (not (length_of own == length_of bytes)) mask image_length kind.MaskSize)
 
--- the first fault of a layer; that of the crop names the image, and that of the mask the mask
+-- the first fault of a layer; a fault of the crop names the image, a fault of the mask names the mask
 unfoldable pub fit_fault : List (List ℕ) → LayerData → Option Misfit
 fit_fault files layer =
     let bytes = bytes_at files layer.file in

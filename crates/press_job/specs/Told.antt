@@ -1,4 +1,4 @@
--- What a call that loads files of a plan says of the shelf, whatever it answers.
+-- What holds of the shelf after a call that loads files of a plan, whatever its result.
 use Rattle.std.specs.Prelude.{◌≡◌, ◌≤◌, Contains, IfSome, IsErrOf, OnOk, Result, Some}
 use Rattle.pr_base.specs.declared.fault.FaultKind.TheVariants.{TooLong}
 use Rattle.pr_base.specs.Count.{Rose}
@@ -10,20 +10,20 @@ use Rattle.press_job.specs.Verdict.{IfFile, IfShelf}
 
 pub record TellsShelf {H T : Type 0} (g : shelf.Ghosts H) (plan : PlanData) (old new : H)
     (result : Result T Refusal) : Type 0 where
-  -- a refused file is one of the plan's, and is told too long only where the shelf counted that
+  -- a refused file is one of the plan's, and is refused as too long only if the shelf counted that
   pub named : IfFile result (λ fault. Contains plan.files fault.file)
   pub too_long : IfFile result (λ fault. fault.kind ≡ TooLong → Rose (g.longs old) (g.longs new))
-  -- a path is told as failed only where the shelf counted that, and it is the last that failed
+  -- a path is refused as failed only if the shelf counted the failure, and it is the last that failed
   pub counted : IfShelf result (λ path. Rose (g.faults old) (g.faults new))
   pub missed : IfShelf result (λ path. IfSome (g.missed new) (λ last. last ≡ Some path))
-  -- with every other answer no load failed
+  -- with any other result no load failed
   pub done_missed : OnOk result (g.missed new ≡ g.missed old)
   pub file_missed : IfFile result (λ fault. g.missed new ≡ g.missed old)
   pub memory_missed : IsErrOf result Memory → g.missed new ≡ g.missed old
   pub done_faults : OnOk result (g.faults new ≡ g.faults old)
   pub file_faults : IfFile result (λ fault. g.faults new ≡ g.faults old)
   pub memory_faults : IsErrOf result Memory → g.faults new ≡ g.faults old
-  -- what it holds stays, and no count falls
+  -- the contents of the shelf are unchanged, and no count decreases
   pub held : g.held new ≡ g.held old
   pub faults_stay : g.faults old ≤ g.faults new
   pub longs_stay : g.longs old ≤ g.longs new

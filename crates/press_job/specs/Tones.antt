@@ -9,15 +9,15 @@ use Rattle.plan_json.specs.Plan.{IsPlan}
 use Rattle.pr_base.specs.Ink.{slot_of}
 use Rattle.press_job.specs.Printing.{toned}
 
--- tables of the curves of a plan
+-- the tables of a plan's curves
 pub record AreCurves (plan : PlanData) (curves : List (List ℕ)) : Type 0 where
   pub plan_is : IsPlan plan
   pub five : length curves ≡ 5
   pub each : (ink : Ink) (value : ℕ) → value < 256
       → slice_index (slice_index_or curves (slot_of ink) []) value ≡ toned plan ink value
 
--- whether the plan's limit can change the values of an ink: S isn't limited, and four values add up to no
--- more than 1020
+-- whether the plan's limit can change the values of an ink: S is not limited, and four values add up to at
+-- most 1020
 abbrev pub limits : PlanData → Ink → Bool
 limits plan C = nat_lt plan.limit 1020
 limits plan M = nat_lt plan.limit 1020
@@ -25,6 +25,6 @@ limits plan Y = nat_lt plan.limit 1020
 limits plan K = nat_lt plan.limit 1020
 limits plan S = false
 
--- the points of the curve that changes nothing
+-- the points of the identity curve
 abbrev pub identity : CurveData
 identity = (0, 0) ∷ (255, 255) ∷ []

@@ -10,8 +10,8 @@ use pr_base::TagFault;
 use std::marker::Model;
 use tif_image::{Bilevel, BilevelUse, Contone, Usage};
 
-/// A file, and for which uses it has passed the tests: it is tested once for each. Contracts see the file's
-/// bytes.
+/// A file, and the uses for which it has passed the tests, so that it is tested once for each. Contracts see
+/// the bytes of the file.
 #[derive(Drop)]
 struct FileTest<'a> {
     bytes: &'a [u8],
@@ -33,7 +33,7 @@ impl<'a> Model for FileTest<'a> {
 }
 
 impl<'a> FileTest<'a> {
-    /// Tests the file for a use, if that hasn't been done.
+    /// Tests the file for a use, unless it has already passed.
     fn check(&mut self, usage: Usage) -> Result<(), TagFault>
         ensures first { result_err result ≡ fault_for usage self.old }
         ensures file { self.new ≡ self.old }
@@ -56,7 +56,7 @@ impl<'a> FileTest<'a> {
         }
     }
 
-    /// Notes that it has.
+    /// Notes that the file has passed the tests for a use.
     fn note(&mut self, usage: Usage)
         requires { fault_for usage self.old ≡ None }
         ensures { self.new ≡ self.old }
@@ -99,7 +99,7 @@ pub(crate) fn test_file(plan: &Plan, file: usize, bytes: &[u8]) -> Result<(), Ta
     test_uses_on_pages(&mut test, file, plan.pages.as_slice())
 }
 
-/// Tests it for its uses on these pages.
+/// Tests the file for its uses on these pages.
 fn test_uses_on_pages(test: &mut FileTest<'_>, file: usize, pages: &[Page]) -> Result<(), TagFault>
     ensures first { result_err result ≡ first_some (page_fault file test.old) pages.now }
     ensures file { test.new ≡ test.old }
@@ -110,7 +110,7 @@ fn test_uses_on_pages(test: &mut FileTest<'_>, file: usize, pages: &[Page]) -> R
     Ok(())
 }
 
-/// Tests it for its uses in these layers.
+/// Tests the file for its uses in these layers.
 fn test_uses_in_layers(
     test: &mut FileTest<'_>,
     file: usize,
@@ -125,7 +125,7 @@ fn test_uses_in_layers(
     Ok(())
 }
 
-/// Tests it for its uses in this layer.
+/// Tests the file for its uses in this layer.
 #[tactic(auto, unfolding(crate::specs::Tests::layer_fault))]
 fn test_uses_in_layer(
     test: &mut FileTest<'_>,

@@ -6,7 +6,7 @@ use pr_base::NoMemory;
 use std::alloc::Global;
 use std::marker::Model;
 
-/// Files, each whole. Contracts see the list of their bytes.
+/// Files, each loaded whole. Contracts see the list of their bytes.
 #[derive(Debug, Drop)]
 pub(crate) struct Files {
     files: Vec<Vec<u8>>,
@@ -21,7 +21,7 @@ impl Model for Files {
 }
 
 impl Files {
-    /// No files.
+    /// Returns an empty list of files.
     pub(crate) fn new(alloc: Global) -> Files
         ensures { result ≡ [] }
     {
@@ -30,7 +30,7 @@ impl Files {
         }
     }
 
-    /// Puts a file behind them.
+    /// Appends a file.
     pub(crate) fn push(&mut self, bytes: Vec<u8>) -> Result<(), NoMemory>
         ensures { OnOk result (self.new ≡ self.old ++ bytes.items ∷ []) }
     {
@@ -38,14 +38,14 @@ impl Files {
         Ok(())
     }
 
-    /// The bytes of each, in their order.
+    /// Lends the bytes of each file, in order.
     pub(crate) fn each(&self) -> &[Vec<u8>]
         ensures { map (λ file. file.items) result.now ≡ self.now }
     {
         self.files.as_slice()
     }
 
-    /// The bytes of the file with this index, none where there is no such file.
+    /// Lends the bytes of the file with this index; no bytes if the index is out of range.
     pub(crate) fn bytes(&self, file: usize) -> &[u8]
         ensures { result.now ≡ bytes_at self.now file }
     {

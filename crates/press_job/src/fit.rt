@@ -11,7 +11,7 @@ use plan_json::{Page, Plan, PlanLayer};
 use pr_base::FaultKind;
 use tif_dir::{read_dir, tag};
 
-/// A crop or a mask that doesn't fit: the file that is named, the tag of the side, and the kind.
+/// A crop or a mask that does not fit: the index of the file to report, the tag of the side, and the kind.
 #[derive(Clone, Copy)]
 pub(crate) struct Misfit {
     pub(crate) file: usize,
@@ -55,7 +55,7 @@ fn test_fit_of_layer(layer: &PlanLayer, files: &Files) -> Result<(), Misfit>
     test_mask(bytes, files, layer.mask)
 }
 
-/// A crop ends in the image: its width is tested first.
+/// Tests that a crop ends within the image, its width first.
 fn test_crop(file: usize, bytes: &[u8], crop: Option<[u32; 4]>) -> Result<(), Misfit>
     ensures { result_err result ≡ crop_fault file bytes.now crop }
 {
@@ -80,7 +80,7 @@ fn test_crop(file: usize, bytes: &[u8], crop: Option<[u32; 4]>) -> Result<(), Mi
     Ok(())
 }
 
-/// A mask has the sides of the whole image: its width is tested first.
+/// Tests that a mask has the sides of the whole image, its width first.
 fn test_mask(bytes: &[u8], files: &Files, mask: Option<usize>) -> Result<(), Misfit>
     ensures { result_err result ≡ mask_fault files.now bytes.now mask }
 {
@@ -105,7 +105,7 @@ fn test_mask(bytes: &[u8], files: &Files, mask: Option<usize>) -> Result<(), Mis
     Ok(())
 }
 
-/// The pixels of a row of an image, as its file tells.
+/// The pixels per row of an image, from the fields of its file.
 #[tactic(auto, unfolding(tif_dir::specs::Directory::number_at, tif_dir::specs::Directory::field_of))]
 fn width_in(bytes: &[u8]) -> u32
     ensures { result ≡ width_of bytes.now }
@@ -116,7 +116,7 @@ fn width_in(bytes: &[u8]) -> u32
     }
 }
 
-/// The rows of an image, as its file tells.
+/// The rows of an image, from the fields of its file.
 #[tactic(auto, unfolding(tif_dir::specs::Directory::number_at, tif_dir::specs::Directory::field_of))]
 fn length_in(bytes: &[u8]) -> u32
     ensures { result ≡ length_of bytes.now }

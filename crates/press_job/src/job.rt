@@ -1,4 +1,4 @@
-// A job: a plan and its files, all of whose tests have passed, and the order of its rows.
+// A job: a plan and its files, all of which have passed their tests, and the order of its rows.
 ghost use Rattle.std.specs.Prelude.{◌≡◌, length, map};
 
 use crate::files::Files;
@@ -9,9 +9,9 @@ use pr_base::{Deal, row_bytes};
 use std::marker::Model;
 use tif_packbits::frame_len;
 
-/// A plan whose files pass the tests of their uses, and whose crops and masks fit their images. So nothing
-/// that is made of it can be refused but for want of memory. Contracts see the plan and the bytes of its
-/// files in their order.
+/// A plan whose files pass the tests of their uses, and whose crops and masks fit their images. Nothing made
+/// from it can be refused, except for lack of memory. Contracts see the plan and the bytes of its files in
+/// order.
 #[derive(Debug, Drop)]
 pub struct Job {
     plan: Plan,
@@ -37,7 +37,8 @@ impl Job {
     ghost use Rattle.plan_pages.specs.Plate.{shape_of_plate};
     ghost use Rattle.plan_rows.specs.Rows.{rows_of};
 
-    /// A job of a plan, its row plan, the shape of its plates and its files, which have passed all tests.
+    /// Returns a job of a plan, its row plan, the shape of its plates and its files, which have passed all
+    /// tests.
     pub(crate) fn of(plan: Plan, rows: RowPlan, shape: PlateShape, files: Files) -> Job
         requires { IsJob plan files rows shape }
         ensures { result ≡ record { plan = plan; files = files } }
@@ -50,7 +51,7 @@ impl Job {
         }
     }
 
-    /// Its files, which have passed all tests.
+    /// Lends the files, which have passed all tests.
     pub(crate) fn tested_files(&self) -> &Files
         ensures files { result.now ≡ self.now.files }
         ensures planned { ArePlanned self.now.plan self.now.files }
@@ -58,7 +59,7 @@ impl Job {
         &self.files
     }
 
-    /// The bytes of its files, in the order of `Plan::files`.
+    /// Lends the bytes of the files, in the order of `Plan::files`.
     pub fn files(&self) -> &[Vec<u8>]
         ensures bytes { map (λ file. file.items) result.now ≡ self.now.files }
         ensures count { length result.now ≡ length self.now.plan.files }
@@ -66,7 +67,7 @@ impl Job {
         self.files.each()
     }
 
-    /// The plan.
+    /// Lends the plan.
     pub fn plan(&self) -> &Plan
         ensures plan { result.now ≡ self.now.plan }
         ensures valid { IsPlan self.now.plan }
@@ -74,14 +75,14 @@ impl Job {
         &self.plan
     }
 
-    /// The order of its rows.
+    /// Lends the order of the rows.
     pub fn rows(&self) -> &RowPlan
         ensures { result.now ≡ rows_of self.now.plan }
     {
         &self.rows
     }
 
-    /// The sides of its plates, and where pages stand on them.
+    /// The sides of the plates, and the positions of the pages on them.
     pub fn shape(&self) -> PlateShape
         ensures { result ≡ shape_of_plate self.now.plan }
     {

@@ -1,4 +1,4 @@
-// The layers of a page with their images. Each was tested when the job was prepared, and none is tested here.
+// The layers of a page with their images. They were tested when the job was prepared and are not tested here.
 ghost use Rattle.std.specs.Prelude.{◌≡◌, ◌≤◌, ℕ, None, length, option_map};
 ghost use Rattle.std.specs.Option.{ForSome};
 ghost use Rattle.page_layers.specs.Layer.{shape_of};
@@ -16,9 +16,9 @@ use page_layers::{Art, Crop, Layer, PageRows};
 use plan_json::{Plan, PlanLayer};
 use tif_image::{Bilevel, BilevelUse, Contone};
 
-/// Makes `rows` a page of a job before its first row, with its layers, their images and their masks, the
-/// first at the bottom. The page is an index into the plan's pages. Their tests have passed, and nothing
-/// takes memory, so nothing is refused.
+/// Sets `rows` to a page of a job before its first row, with its layers, their images and their masks, the
+/// bottom layer first. `page` is an index into the plan's pages. The layers have passed their tests and
+/// nothing is allocated, so the call cannot fail.
 pub fn put_layers<'j>(job: &'j Job, page: usize, rows: &mut PageRows<'j>)
     requires room { length (planned_layers job.now.plan page) ≤ rows.old.room }
     ensures { rows.new
@@ -32,7 +32,7 @@ pub fn put_layers<'j>(job: &'j Job, page: usize, rows: &mut PageRows<'j>)
     }
 }
 
-/// The most layers that a page of a job has.
+/// The largest number of layers on a page of a job.
 pub fn most_layers(job: &Job) -> usize
     ensures { (page : ℕ) → length (planned_layers job.now.plan page) ≤ result }
 {
@@ -44,7 +44,7 @@ pub fn most_layers(job: &Job) -> usize
     most
 }
 
-/// What the plan says of the layers of a page.
+/// Lends the plan's layers of a page.
 fn planned_on(plan: &Plan, page: usize) -> &[PlanLayer]
     ensures { result.now ≡ planned_layers plan.now page }
 {
@@ -54,7 +54,7 @@ fn planned_on(plan: &Plan, page: usize) -> &[PlanLayer]
     }
 }
 
-/// A layer of the plan with its image and its mask.
+/// Returns a layer of the plan with its image and its mask.
 fn open_layer<'j>(files: &'j Files, layer: &PlanLayer) -> Layer<'j>
     requires { PassesTests files.now layer.now }
     ensures { result ≡ layer_of files.now layer.now }
@@ -72,7 +72,7 @@ fn open_layer<'j>(files: &'j Files, layer: &PlanLayer) -> Layer<'j>
     }
 }
 
-/// The image of a layer.
+/// Returns the image of a layer.
 fn open_art<'j>(bytes: &'j [u8], layer: &PlanLayer) -> Art<'j>
     requires { fault_for (use_of layer.now) bytes.now ≡ None }
     ensures { result ≡ art_in bytes.now layer.now }
@@ -84,7 +84,7 @@ fn open_art<'j>(bytes: &'j [u8], layer: &PlanLayer) -> Art<'j>
     }
 }
 
-/// The mask of a layer, if it has one.
+/// Returns the mask of a layer, if it has one.
 fn open_mask<'j>(files: &'j Files, mask: Option<usize>) -> Option<Bilevel<'j>>
     requires { ForSome mask (λ file. fault_for (uses.Bilevel usages.Mask) (bytes_at files.now file) ≡ None) }
     ensures { result ≡ option_map (λ file. bilevel_of usages.Mask (bytes_at files.now file)) mask }
@@ -95,7 +95,7 @@ fn open_mask<'j>(files: &'j Files, mask: Option<usize>) -> Option<Bilevel<'j>>
     }
 }
 
-/// The part of an image that is shown: the crop, or the whole image.
+/// Returns the part of an image that is shown: the crop, or the whole image.
 fn shown_part(art: &Art<'_>, crop: Option<[u32; 4]>) -> Crop
     ensures { result ≡ crop_of (shape_of art.now) crop }
 {

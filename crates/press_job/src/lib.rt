@@ -1,6 +1,6 @@
-// A job: a plan and its files, tested before any row is made. After `prepare` nothing can be refused but for
-// want of memory. What the rows of its plates are is defined here, and what a run asks of their feed
-// (`BandFeed`). A row of a page is made here as it is printed (`PrintedRow`); the crates above screen it, and
+// A job: a plan and its files, tested before any row is made. After `prepare` nothing can be refused, except
+// for lack of memory. This crate defines the rows of the plates and what a run requires of their feed
+// (`BandFeed`). It makes the rows of pages in ink values (`PrintedRow`); the crates above screen them and
 // make the rows of plates.
 #![tactic(auto)]
 

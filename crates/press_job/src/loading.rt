@@ -16,13 +16,13 @@ use pr_base::{FaultKind, FileFault, NoMemory, PathText};
 use pr_ports::{LoadFault, Shelf};
 use std::alloc::Global;
 
-/// The bytes that one file may have.
+/// The largest size of one file in bytes.
 const FILE_LIMIT: u64 = 536_870_912;
 
-/// The bytes that all files of a plan may have together.
+/// The largest size of all files of a plan together in bytes.
 const ALL_LIMIT: u64 = 3_221_225_472;
 
-/// The bytes that a file may have behind files of so many bytes.
+/// The largest size of a file, in bytes, after files of `loaded` bytes together.
 fn limit_behind(loaded: u64) -> u64
     requires { loaded ≤ 3221225472 }
     ensures limit { result ≡ limit_after loaded }
@@ -40,7 +40,7 @@ fn name_at(plan: &Plan, file: usize) -> &str
     files[file].as_str()
 }
 
-/// The fault of a file of the plan, with its name.
+/// Returns the fault of a file of the plan, with its name.
 pub(crate) fn fault_of(
     alloc: Global,
     plan: &Plan,
@@ -58,7 +58,7 @@ pub(crate) fn fault_of(
     })
 }
 
-/// Where a file of the plan lies in a folder.
+/// Returns the path of a file of the plan in a folder.
 fn file_path(alloc: Global, plan: &Plan, folder: &str, file: usize) -> Result<PathText, NoMemory>
     requires { file < length plan.now.files }
     ensures { IfOk result (λ path. path ≡ path_of plan.now folder.now file) }

@@ -1,4 +1,4 @@
-// A row of one ink of a page behind its curve.
+// A row of one ink of a page after its tone curve.
 ghost use Rattle.std.specs.Prelude.{◌≡◌, ◌≤◌, ◌<◌, ℕ, IfOk, if◌then◌else◌, length, slice_index, true, false};
 ghost use Rattle.press_job.specs.Printing.{toned};
 
@@ -7,8 +7,8 @@ use page_tone::Curve;
 use pr_base::{Ink, NoMemory};
 use std::alloc::Global;
 
-/// The values of one ink. Where no curve and no limit changes them, they are left where the page's layers
-/// were laid.
+/// The values of one ink. If neither a curve nor a limit changes them, they stay in the row where the page's
+/// layers were painted.
 #[derive(Drop)]
 pub(crate) struct Plane {
     pub(crate) values: Vec<u8>,
@@ -19,7 +19,7 @@ impl Plane {
     ghost use Rattle.press_job.specs.Planes.{IsToned, shown_in};
     ghost use Rattle.press_job.specs.Tones.{limits};
 
-    /// A row of `width` values.
+    /// Returns a row of `width` values.
     pub(crate) fn new(alloc: Global, width: u32) -> Result<Plane, NoMemory>
         ensures width { IfOk result (λ plane. length plane.values.items ≡ width) }
         ensures left { IfOk result (λ plane. plane.is_left ≡ false) }
@@ -30,7 +30,7 @@ impl Plane {
         })
     }
 
-    /// Shows a row of ink values behind the curve of the ink, or no ink where the page doesn't print it.
+    /// Applies the ink's curve to a row of ink values, or sets no ink if the page does not print this ink.
     pub(crate) fn tone(&mut self, tones: &Tones<'_>, ink: Ink, prints: bool, row: &[u8])
         requires { length row.now ≡ length self.old.values.items }
         ensures values { IsToned tones.now ink prints row.now (shown_in row.now self.new) }
@@ -43,7 +43,7 @@ impl Plane {
         }
     }
 
-    /// The values: its own, or those of the row that they were left in.
+    /// Lends the values: its own, or those of `row` if they were left there.
     pub(crate) fn of<'a>(&'a self, row: &'a [u8]) -> &'a [u8]
         ensures { result.now ≡ shown_in row.now self.now }
     {
@@ -55,7 +55,7 @@ impl Plane {
     }
 }
 
-/// Writes what the curve of an ink makes of values, or no ink.
+/// Writes values after the curve of an ink, or no ink.
 fn tone_values(tones: &Tones<'_>, ink: Ink, prints: bool, values: &[u8], into: &mut [u8])
     requires { length values.now ≡ length into.old }
     ensures values { (x : ℕ) → x < length into.new →
@@ -71,7 +71,7 @@ fn tone_values(tones: &Tones<'_>, ink: Ink, prints: bool, values: &[u8], into: &
     }
 }
 
-/// Writes what a curve makes of values.
+/// Writes values after a curve.
 fn apply(curve: &Curve, values: &[u8], into: &mut [u8])
     requires { length values.now ≡ length into.old }
     ensures { (x : ℕ) → x < length into.new →

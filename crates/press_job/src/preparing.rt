@@ -13,9 +13,9 @@ use plan_rows::RowPlan;
 use pr_ports::Shelf;
 use std::alloc::Global;
 
-/// Makes a job of a plan and its files in the folder `files`. It loads each file once, in the order in which
-/// the plan mentions them, and tests it for each of its uses; then it tests the crop and the mask of each
-/// layer. The first refusal of this order is the answer.
+/// Makes a job of a plan and its files in the folder `files`. Loads each file once, in the order in which the
+/// plan mentions them, and tests it for each of its uses; then tests the crop and the mask of each layer.
+/// Returns the first refusal in this order.
 pub fn prepare<H: Shelf>(
     alloc: Global,
     plan: Plan,
@@ -27,19 +27,19 @@ pub fn prepare<H: Shelf>(
         (λ held. job.files ≡ files_in plan files.now held)) }
     ensures room { IfOk result (λ job. sum_by length job.files ≤ 3221225472) }
 
-    // Where the shelf tells its files: nothing is wrong with them, or the answer is the first thing that is.
+    // Where the contents of the shelf are known: all files pass, or the result is their first fault.
     ensures passed { OnOk result (IfSome (H.held shelf.old)
         (λ held. verdict_on_files plan files.now held ≡ None)) }
     ensures refused { IfFile result (λ fault. IfSome (H.held shelf.old)
         (λ held. verdict_on_files plan files.now held ≡ Some (Refusal.File fault))) }
 
-    // Where it tells none, there are files of which the same holds.
+    // Where they are unknown: some files exist of which the same holds.
     ensures sound { IfOk result (λ job. OfFiles (H.held shelf.old)
         (AreSound plan files.now job.files)) }
     ensures faulty { IfFile result (λ fault. OfFiles (H.held shelf.old)
         (IsFirstFault plan files.now fault)) }
 
-    // And what the shelf tells.
+    // What contracts see of the shelf.
     ensures path { IfShelf result (IsMissing plan files.now (H.held shelf.old)) }
     ensures shelf { TellsShelf H.Shelf plan shelf.old shelf.new result }
 {

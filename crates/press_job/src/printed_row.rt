@@ -1,5 +1,5 @@
-// A row of a page as it is printed: its layers laid, each ink behind its curve, and the limit on the ink of a
-// pixel.
+// A row of a page as it is printed: its layers painted, each ink after its curve, and the ink limit of a
+// pixel applied.
 ghost use Rattle.std.specs.Prelude.{◌≡◌, ◌+◌, ◌-◌, ◌<◌, ◌≤◌, IfOk, length};
 ghost use Rattle.page_layers.specs.Inks.{HasWidth, plane_of};
 ghost use Rattle.page_tone.specs.Limit.{AreLimited};
@@ -14,8 +14,8 @@ use pr_base::{Ink, NoMemory};
 use std::alloc::Global;
 use std::marker::Model;
 
-/// The row of a page that was shown last, as it is printed: in each of the five inks a byte a pixel from the
-/// left, 0 for no ink and 255 for full ink. Contracts see these values.
+/// The row of a page that was made last, as it is printed: for each of the five inks one byte per pixel from
+/// the left, 0 for no ink and 255 for full ink. Contracts see these values.
 #[derive(Drop)]
 pub struct PrintedRow {
     inks: InkRow,
@@ -39,7 +39,7 @@ impl Model for PrintedRow {
 }
 
 impl PrintedRow {
-    /// Takes the room for a row of any page of the plan, as wide as its pages. It shows no row yet.
+    /// Allocates a row as wide as the plan's pages. It holds no row yet.
     pub fn new(alloc: Global, plan: &Plan) -> Result<PrintedRow, NoMemory>
         ensures { IfOk result (λ row. HasWidth row plan.now.page_width) }
     {
@@ -54,10 +54,10 @@ impl PrintedRow {
         })
     }
 
-    /// Shows the next row of a page that prints C, M and Y or not (`colour`), and S or not (`spot`). Each
-    /// page prints K. The page has a row left, is as wide as this row, and stands behind its next row
-    /// afterwards. Where the page is before its first row, anything may stand here; else its row before does,
-    /// which was shown with the same tone and the same inks. Where the two rows are equal nothing is painted.
+    /// Makes the next row of a page that prints C, M and Y if `colour`, and S if `spot`. Every page prints K.
+    /// The page has a row left and is as wide as this row; the call moves it to its following row. Before the
+    /// page's first row this value may hold any row; later it holds the page's previous row, made with the
+    /// same tone and the same inks. If the two rows are equal, nothing is painted.
     pub fn advance(&mut self, page: &mut PageRows<'_>, tones: &Tones<'_>, colour: bool, spot: bool)
         requires left { page.old.next < page.old.height }
         requires width { HasWidth self.old page.old.width }
@@ -75,8 +75,8 @@ impl PrintedRow {
         }
     }
 
-    /// Shows the next row of a page as `advance` does, but paints it, whatever stands here. So the rows above
-    /// it may have been passed over.
+    /// Makes the next row of a page like `advance`, but always paints it, whatever row this value holds. The
+    /// rows above it may have been skipped.
     pub fn paint(&mut self, page: &mut PageRows<'_>, tones: &Tones<'_>, colour: bool, spot: bool)
         requires left { page.old.next < page.old.height }
         requires width { HasWidth self.old page.old.width }
@@ -106,7 +106,8 @@ impl PrintedRow {
         }
     }
 
-    /// The values of an ink, a byte a pixel from the left. Those of an ink that the page doesn't print are 0.
+    /// Lends the values of an ink, one byte per pixel from the left. They are 0 if the page does not print
+    /// it.
     pub fn values(&self, ink: Ink) -> &[u8]
         ensures { result.now ≡ plane_of self.now ink }
     {
@@ -121,7 +122,7 @@ impl PrintedRow {
     }
 }
 
-/// Limits the ink of each pixel of a row.
+/// Applies the ink limit to each pixel of a row.
 fn limit_planes(
     limit: u16,
     cyan: &mut Plane,

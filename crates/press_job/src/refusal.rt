@@ -1,17 +1,17 @@
-// Why a job wasn't prepared.
+// Why a job was not prepared.
 ghost use Rattle.std.specs.Prelude.{◌≡◌};
 ghost use Rattle.press_job.specs.declared.refusal.Refusal.TheVariants.{Memory};
 
 use pr_base::{FileFault, NoMemory, PathText};
 use thiserror::Error;
 
-/// Why a plan's files don't make a job.
+/// Why a plan and its files do not make a job.
 #[derive(Debug, Drop, Error)]
 pub enum Refusal {
-    /// A file is refused, or a crop or a mask doesn't fit its image.
+    /// A file is refused, or a crop or a mask does not fit its image.
     #[error("{0}")]
     File(FileFault),
-    /// The shelf failed to load this path, and counted it.
+    /// The shelf failed to load this path, and counted the failure.
     #[error("shelf: {0}")]
     Shelf(PathText),
     #[error("out of memory")]

@@ -1,5 +1,4 @@
-// The tone of a plan: what each ink value becomes by the curve of its ink, and the limit on the ink of a
-// pixel.
+// The tone of a plan: the curve of each ink, and the ink limit of a pixel.
 ghost use Rattle.std.specs.Prelude.{◌≡◌, ◌<◌, ◌≤◌, ℕ, IfOk, IsTrue, slice_index};
 ghost use Rattle.press_job.specs.Tones.{identity};
 
@@ -9,11 +8,11 @@ use pr_base::{Ink, NoMemory};
 use std::alloc::Global;
 use std::marker::Model;
 
-/// The most that four inks add up to. This limit changes nothing.
+/// The largest sum of four ink values. This limit changes nothing.
 const NO_LIMIT: u16 = 4 * 255;
 
-/// What each ink value from 0 to 255 becomes by the curve of its ink, as a table for each of the five inks,
-/// and the limit on the ink of a pixel. Contracts see the plan that these are of.
+/// The tone of a plan: for each of the five inks a table of its curve over the ink values 0 to 255, and the
+/// ink limit of a pixel. Contracts see the plan.
 #[derive(Drop)]
 pub struct Tones<'j> {
     plan: &'j Plan,
@@ -36,7 +35,7 @@ impl<'j> Tones<'j> {
     ghost use Rattle.press_job.specs.Printing.{toned};
     ghost use Rattle.press_job.specs.Tones.{limits};
 
-    /// The tone of a plan. It takes the room for five tables; nothing else takes memory.
+    /// Returns the tone of a plan. Allocates the five tables; no other call allocates memory.
     pub fn of(alloc: Global, plan: &'j Plan) -> Result<Tones<'j>, NoMemory>
         ensures { IfOk result (λ tones. tones ≡ plan.now) }
     {
@@ -47,7 +46,7 @@ impl<'j> Tones<'j> {
         Ok(Tones { plan, curves })
     }
 
-    /// The most that C, M, Y and K of a pixel may add up to.
+    /// The largest sum of C, M, Y and K at a pixel.
     pub(crate) fn limit(&self) -> u16
         ensures limit { result ≡ self.now.limit }
         ensures most { result ≤ 1020 }
@@ -63,7 +62,7 @@ impl<'j> Tones<'j> {
         ink != Ink::S && self.limit() < NO_LIMIT
     }
 
-    /// Whether the curve of an ink changes no value. Its points tell that.
+    /// Whether the curve of an ink changes no value, judged by its points.
     pub(crate) fn is_plain(&self, ink: Ink) -> bool
         ensures { IsTrue result → (value : ℕ) → value < 256 → toned self.now ink value ≡ value }
     {
@@ -72,7 +71,7 @@ impl<'j> Tones<'j> {
         is_identity(&curve.points)
     }
 
-    /// The curve of an ink.
+    /// Lends the curve of an ink.
     pub(crate) fn curve(&self, ink: Ink) -> &Curve
         ensures { (value : ℕ) → value < 256 → slice_index result.now value ≡ toned self.now ink value }
     {
@@ -80,7 +79,7 @@ impl<'j> Tones<'j> {
     }
 }
 
-/// Whether these are the two points of the curve that changes nothing.
+/// Whether these are the two points of the identity curve.
 fn is_identity(points: &[(u8, u8)]) -> bool
     ensures { IsTrue result → points.now ≡ identity }
 {

@@ -1,11 +1,11 @@
-// What the layers of a page use files for.
+// The uses of files by the layers of a page.
 ghost use Rattle.std.specs.Prelude.{◌≡◌};
 ghost use Rattle.press_job.specs.Tests.{use_of};
 
 use plan_json::{Page, PlanLayer};
 use tif_image::{BilevelUse, Usage};
 
-/// What the image of a layer is used for.
+/// The use of a layer's image.
 pub(crate) fn use_of(layer: &PlanLayer) -> Usage
     ensures { result ≡ use_of layer.now }
 {
@@ -16,7 +16,7 @@ pub(crate) fn use_of(layer: &PlanLayer) -> Usage
     }
 }
 
-/// The layers of a page.
+/// Lends the layers of a page.
 pub(crate) fn layers_on(page: &Page) -> &[PlanLayer]
     ensures { result.now ≡ page.now.layers }
 {

@@ -52,7 +52,7 @@ small-frame (suc (suc n)) bytes there = absurd (omega (arith, slice_get_within s
 abbrev pub key_data : RowPlanData → CountsData → KeyReaderData
 key_data rows counts = record { rows = rows; counts = counts }
 
--- a new key reader at a new reader
+-- a new key reader with a new reader
 pub counting-first : (count groups keys : ℕ) (rows : RowPlanData) (reader : ReaderState) (key : KeyReaderData) → 0 < count → length (places_in rows) ≡ count
     → key ≡ key_data rows (no_counts groups 16 keys) → reader.ring ≡ ring_of 2 1 (numbered count) 5 → reader.cursor ≡ 0 → reader.left ≡ false → reader.held ≡ false
     → IsCounting reader key

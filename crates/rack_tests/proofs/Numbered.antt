@@ -71,7 +71,7 @@ numbered-frames count = record {
   frames [] = refl
   frames (n ∷ ns) = ap (λ f. f ∷ map (λ m. frame_of (row m)) ns) (ap frame_of (sym (framed_row-frame_of (row n) (omega arith)))) ∙ ap (λ rest. frame_of (framed_row (frame_of (row n))) ∷ rest) (frames ns)
 
--- ---- a row that is handed on
+-- ---- a row that is passed on
 
 pub of_done : (last : Kept) (P : Type 0) → last ≡ Done → OnDone last P → P
 of_done Done P is p = p
@@ -121,7 +121,7 @@ next-fed count n writer feeding less = ap (λ r. slice_get r.rows writer.head) f
 pub rows-fed : (count n : ℕ) (writer : WriterState) → IsFeeding count n writer → writer.ring.total ≡ count
 rows-fed count n writer feeding = ap (λ r. r.total) feeding.ring ∙ length-numbered count
 
--- a new site at a new reader
+-- a new site with a new reader
 pub turning-first : (count : ℕ) (source : Source) (reader : ReaderState) (rack : MemState) (site : SiteData) → 0 < count
     → IsGoing (map framed_row (numbered count)) source told_first told_first site → site.next ≡ 0 → reader.ring ≡ ring_of 2 1 (numbered count) 5 → reader.cursor ≡ 0
     → reader.left ≡ false → reader.held ≡ false → rack.slots ≡ empty_slots → IsTurning reader rack site

@@ -4,7 +4,7 @@ use Rattle.std.specs.List.{All}
 use Rattle.tif_packbits.specs.Frame.{frame_of}
 use Rattle.tif_packbits.proofs.Frames.{length-frame_of}
 
--- each of one row is as long as that row
+-- in a list of one row, each row has that row's length
 pub each_long : (frame : List ℕ) (n : ℕ) → length frame ≡ n → All (λ row. length row ≡ n) (frame ∷ [])
 each_long frame n long zero d within = long
 each_long frame n long (suc k) d within = absurd (omega arith)

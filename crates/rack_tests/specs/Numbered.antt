@@ -1,5 +1,5 @@
--- Rows by which tests tell plates apart, and what stands between two calls of a test: a rack, a site that
--- goes on, ends.
+-- Rows by which the tests identify plates, and the state between two calls of a test: a rack, a site partway
+-- through its rows, the ends of a ring.
 use Rattle.std.specs.Prelude.{◌≡◌, ℕ, ◌+◌, ◌<◌, List, [], ◌∷◌, false, map, Some, is_some}
 use Rattle.std.specs.List.{range_with_len}
 use Rattle.tif_packbits.specs.Frame.{frame_of, framed_row}
@@ -14,11 +14,11 @@ use Rattle.site_agent.specs.Draw.{IsReady, stage}
 use Rattle.site_agent.specs.Going.{IsGoing}
 use Rattle.site_agent.specs.Site.{SiteData}
 
--- so many frames of rows of two bytes: row n is n + 1 and 0
+-- this many frames of rows of two bytes: row n is n + 1 and 0
 unfoldable pub numbered : ℕ → List (List ℕ)
 numbered count = map (λ n. frame_of ((n + 1) ∷ 0 ∷ [])) (range_with_len 0 count)
 
--- what a rack in memory tells of its plates
+-- what contracts see of a rack in memory: its plates
 abbrev pub told_by : MemState → Tells
 told_by rack = record {
   finished = Some rack.files;
@@ -27,7 +27,7 @@ told_by rack = record {
   taken = Some rack.taken;
 }
 
--- what it tells at first
+-- the same at the start
 abbrev pub told_first : Tells
 told_first = record {
   finished = Some [];
@@ -36,22 +36,22 @@ told_first = record {
   taken = Some [];
 }
 
--- all that it tells
+-- the same, with failures
 abbrev pub all_by : MemState → RackTells
 all_by rack = record { tells = told_by rack; missed = Some rack.misses.missed; faults = rack.misses.faults }
 
--- a site goes on with rows of these frames, taken from a deck
+-- a site is partway through rows of these frames, taken from a deck
 abbrev pub Takes : List (List ℕ) → MemState → SiteData → Type 0
 Takes frames rack site = IsGoing (map framed_row frames) Deck told_first (told_by rack) site
 
 -- ---- at a ring of two places and one reader
 
--- the writer published so many of these frames
+-- the writer published `head` of these frames
 pub record IsFeeding (count head : ℕ) (writer : WriterState) : Type 0 where
   pub ring : writer.ring ≡ ring_of 2 1 (numbered count) 5
   pub at : writer.head ≡ head
 
--- the reader took no row yet, nor did it leave
+-- the reader has taken no row yet and has not left
 pub record IsNew (count : ℕ) (reader : ReaderState) : Type 0 where
   pub ring : reader.ring ≡ ring_of 2 1 (numbered count) 5
   pub cursor : reader.cursor ≡ 0

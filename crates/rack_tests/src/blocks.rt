@@ -1,4 +1,4 @@
-// The machine's rack, at plates that are longer than what waits for the machine at a time.
+// The rack on the machine, with plates longer than its write buffer.
 ghost use Rattle.std.specs.Prelude.{◌≡◌, true, OnOk, Some, slice_get};
 ghost use Rattle.tif_packbits.specs.Frame.{IsFrame};
 ghost use Rattle.pr_rack.specs.Rack.{none_begun};
@@ -10,15 +10,15 @@ use ring_lanes::{Deck, Held};
 use std::fs;
 use tif_packbits::frame_row;
 
-// The rows of a plate, so that a block ends within a row, and what is left is no whole block.
+// The rows of a plate: a block ends within a row, and the rest does not fill a block.
 const ROWS: usize = 30_000;
 
 const PACKED: [u8; 3] = [1, 0xAB, 0];
 
-// Behind 8 + 3 * 30,000 bytes: 90,008.
+// The offset of the directory after 8 + 3 * 30,000 bytes: 90,008.
 const PLACE: [u8; 4] = [0x98, 0x5F, 1, 0];
 
-// Puts all rows of two plates, in turn.
+// Appends all rows to two plates, in turn.
 fn put_rows(rack: &mut HostRack<HostRuntime>, held: &Held) -> Result<(), RackFault>
     requires first { slice_get rack.old.begun 0 ≡ Some true }
     requires second { slice_get rack.old.begun 1 ≡ Some true }
@@ -32,7 +32,7 @@ fn put_rows(rack: &mut HostRack<HostRuntime>, held: &Held) -> Result<(), RackFau
     Ok(())
 }
 
-// Begins two plates and puts their rows. The first is finished, the second is left.
+// Begins two plates and appends their rows. The first is finished, the second is not.
 fn build(
     rack: &mut HostRack<HostRuntime>,
     held: &Held,
@@ -48,7 +48,7 @@ fn build(
     rack.finish(0, &[0, 7], 90_008)
 }
 
-// Whether that is done. The rack is let go behind it.
+// Whether that succeeds. The rack is dropped afterwards.
 fn is_built(rt: &HostRuntime, held: &Held, first: &str, second: &str) -> bool
     requires { IsFrame held.now.bytes }
 {
@@ -58,7 +58,7 @@ fn is_built(rt: &HostRuntime, held: &Held, first: &str, second: &str) -> bool
     build(&mut HostRack::new(rt), held, first, second).is_ok()
 }
 
-// Whether the file has this place in its head, all rows and this tail.
+// Whether the file has this offset in its head, all rows and this tail.
 fn has_plate(rt: &HostRuntime, path: &str, place: &[u8], tail: &[u8]) -> bool {
     match fs::read(rt, path) {
         Ok(bytes) => is_plate(&bytes, place, tail),
@@ -90,8 +90,8 @@ fn long_files_are_whole(rt: HostRuntime) {
     assert!(rt; whole);
 }
 
-// Builds both plates of the row of a deck. One is finished. Of the other, which is left, all rows reach the
-// disk when the rack is let go.
+// Builds both plates from the row of a deck. One is finished. All rows of the other, unfinished one are on
+// disk once the rack is dropped.
 fn are_whole(rt: &HostRuntime, first: &str, second: &str) -> bool {
     let mut frame = [0u8; 5];
     frame_row(&[0xAB, 0], &mut frame);
@@ -106,7 +106,7 @@ fn are_whole(rt: &HostRuntime, first: &str, second: &str) -> bool {
     built && has_plate(rt, first, &PLACE, &[0, 7]) && has_part(rt, second)
 }
 
-// Whether the plate that was left has its rows.
+// Whether the partial file of the unfinished plate has its rows.
 fn has_part(rt: &HostRuntime, path: &str) -> bool {
     match format!(in rt.alloc(); "{path}.part") {
         Ok(part) => has_plate(rt, part.as_str(), &[0; 4], &[]),

@@ -1,11 +1,11 @@
-// The order in which a plate's file becomes the plate, on one that records what is done with it.
+// The order of the calls that give a plate's file the plate's name, on a file that records them.
 ghost use Rattle.std.specs.Prelude.{◌≡◌, Some};
 ghost use Rattle.std.specs.Bool.{OnFalse, OnTrue};
 ghost use Rattle.pr_rack.specs.Delivery.{with_call};
 
 use pr_rack::{FileCall, PlateFile, deliver};
 
-// Where the directory of the plate is said to stand.
+// The offset of the plate's directory.
 const PLACE: u32 = 90_008;
 
 const ORDER: [FileCall; 4] = [
@@ -15,7 +15,7 @@ const ORDER: [FileCall; 4] = [
     FileCall::SyncFolder,
 ];
 
-// A file that records the calls that succeed. Those behind the first `most` fail.
+// A file that records the calls that succeed. Those after the first `most` fail.
 #[derive(Drop)]
 struct Recorded {
     calls: Vec<FileCall>,
@@ -52,7 +52,7 @@ impl PlateFile for Recorded {
     }
 }
 
-// Whether so many calls are made in order, and all of them where none fails.
+// Whether exactly the first `most` calls are made, in order, and `deliver` succeeds only if none fails.
 fn is_in_order(rt: &HostRuntime, most: usize) -> bool {
     let mut file = Recorded {
         calls: Vec::new(rt.alloc()),

@@ -1,5 +1,5 @@
-// Ink keys: the keys of columns, the rows of a small edition, and the turns of a key reader at a ring of two
-// places.
+// Ink keys: the keys of columns, the counts of a small edition, and the turns of a key reader at a ring with
+// two places.
 ghost use Rattle.std.specs.Prelude.{◌≡◌, ◌+◌, ◌<◌, ◌≤◌, false, IfOk, length, slice_get};
 ghost use Rattle.plan_rows.specs.Rows.{places_in, rows_of};
 ghost use Rattle.ink_keys.specs.Counts.{IsBounded, no_counts};
@@ -21,7 +21,7 @@ use std::process::Abort;
 
 // ---- columns
 
-/// Width, keys, column and its key: the column times the keys over the width, rounded down.
+/// Width, keys, column and its key: the column times the keys divided by the width, rounded down.
 const COLUMNS: [(u32, u32, u32, u32); 11] = [
     (16, 4, 0, 0),
     // 60 / 16
@@ -33,7 +33,7 @@ const COLUMNS: [(u32, u32, u32, u32); 11] = [
     (3, 64, 0, 0),
     (3, 64, 1, 21),
     (3, 64, 2, 42),
-    // The widest row: 65,472 and 65,536 over 65,535, and 4,194,176, which is 64 less than 64 times as much.
+    // The widest row: 65,472 / 65,535 and 65,536 / 65,535, and 4,194,176 / 65,535, 64 less than 64 * 65,535.
     (65535, 64, 0, 0),
     (65535, 64, 1023, 0),
     (65535, 64, 1024, 1),
@@ -80,7 +80,7 @@ impl Deal for SmallRows {
     }
 }
 
-/// Zeros for rows of 16 pixels.
+/// Returns zero counts for rows of 16 pixels.
 fn zeros(alloc: Global, rows: &RowPlan, keys: u32) -> Result<Counts, NoMemory>
     requires least { 1 ≤ keys }
     requires most { keys ≤ 64 }
@@ -90,7 +90,7 @@ fn zeros(alloc: Global, rows: &RowPlan, keys: u32) -> Result<Counts, NoMemory>
     Ok(Counts::new(alloc, rows, 16, keys)?)
 }
 
-/// Puts the next row of the small edition, and adds it at its place.
+/// Puts the next row of the small edition on the deck, and counts it at its place.
 fn add_next(deck: &mut Deck<'_, SmallRows>, rows: &RowPlan, counts: &mut Counts, frame: &[u8])
     requires home { deck.old.out ≡ false }
     requires rows { deck.old.rows ≡ small_rows }
@@ -110,7 +110,7 @@ fn add_next(deck: &mut Deck<'_, SmallRows>, rows: &RowPlan, counts: &mut Counts,
     deck.give(held);
 }
 
-/// Counts both rows of the small edition. `frame(n)` is that of n + 1 and 0.
+/// Counts both rows of the small edition. `frame(n)` is the frame of the row n + 1 and 0.
 fn count_small(alloc: Global, rows: &RowPlan, keys: u32) -> Result<Counts, NoMemory>
     requires least { 1 ≤ keys }
     requires most { keys ≤ 64 }
@@ -136,7 +136,7 @@ const SMALL: &[u8] = br#"{"plan": 1, "edition": "E1", "dpi": 1200, "page": [8, 2
     "sections": [{"name": "A", "pages": ["p", "p"]}],
     "sites": [{"name": "OSLO"}]}"#;
 
-// The rows of the small edition have these counts in so many keys.
+// Checks the counts of the small edition's rows with this many keys.
 fn check_small(rt: &impl Abort, alloc: Global, rows: &RowPlan, keys: u32, wanted: &[u64])
     requires least { 1 ≤ keys }
     requires most { keys ≤ 64 }
@@ -148,9 +148,9 @@ fn check_small(rt: &impl Abort, alloc: Global, rows: &RowPlan, keys: u32, wanted
     assert!(rt; counted(&counts, 0, wanted), "{keys} keys");
 }
 
-// 171 and 19 are 10101011 and 00010011. Of four keys each has four columns: 2 and 1 dots in the first four, 3
-// and 2 in the next. Of three the first has columns 0 to 5, the second 6 to 10: 3 and 1 dots there, 2 and 2
-// here.
+// 171 and 19 are 10101011 and 00010011. With four keys each key has four columns: 2 and 1 dots in the first
+// four, 3 and 2 in the next. With three keys the first has columns 0 to 5, the second 6 to 10: 3 and 1 dots
+// in the first, 2 and 2 in the second.
 #[test]
 fn rows_are_counted(rt: HostRuntime) {
     let plan = plan_of(&rt, SMALL);
@@ -170,7 +170,7 @@ fn check_counts(rt: &impl Abort, alloc: Global, plan: &Plan, rows: &RowPlan)
 
 // ---- turns
 
-// The next turn of a key reader whose last one ended so. One that finished has no further turn.
+// Makes the next turn of a key reader whose last turn ended with `last`. After `Finished` no turn is made.
 fn go(
     last: KeyEnd,
     key: &mut KeyReader<'_>,
@@ -188,8 +188,8 @@ fn go(
     }
 }
 
-// Three turns of a key reader, the first before a row is published and each other behind two rows more. Gives
-// how each ended.
+// Makes three turns of a key reader: the first before any row is published, the others after two more rows
+// each. Returns how each ended.
 fn take_turns(
     rt: &impl Abort,
     writer: &mut Writer<'_, Numbered>,
@@ -210,7 +210,8 @@ fn take_turns(
     [first, second, last]
 }
 
-// How three turns of a key reader end that count all rows of a ring, and its counts by three keys.
+// Makes three turns of a key reader that counts all rows of a ring. Returns how each ended, and the counts
+// for three keys.
 fn count_all<R: Abort + AllocGlobal>(rt: &R, rows: &RowPlan) -> ([KeyEnd; 3], Counts)
     requires { length (places_in rows.now) ≡ 4 }
     ensures { result.1.groups ≡ length rows.now.groups }
@@ -230,13 +231,13 @@ const TWO_PAIRS: &[u8] = br#"{"plan": 1, "edition": "E1", "dpi": 1200, "page": [
     "sections": [{"name": "A", "pages": ["p", "p", "p", "p"]}],
     "sites": [{"name": "OSLO"}]}"#;
 
-// A turn that waits at this row.
+// Whether a turn ended waiting at this row.
 fn waits(end: KeyEnd, row: u64) -> bool {
     end == KeyEnd::Waiting { head: row }
 }
 
-// The first bytes of the rows are 1 to 4, with dots at columns 7, 6, 6 and 7, and 5. Columns 0 to 5 are of
-// key 0, 6 to 10 of key 1. Two rows are of each pair.
+// The first bytes of the rows are 1 to 4, with dots at columns 7, 6, 6 and 7, and 5. Columns 0 to 5 belong to
+// key 0, 6 to 10 to key 1. Each pair has two rows.
 #[test]
 fn a_turn_counts_rows_of_a_ring(rt: HostRuntime) {
     let plan = plan_of(&rt, TWO_PAIRS);

@@ -1,4 +1,4 @@
-// Tests of the machine's rack, of a site and of ink keys. They use public names alone.
+// Tests of the rack on the machine, of a site and of ink keys, through public names only.
 #![tactic(auto)]
 
 #[cfg(test)]

@@ -1,4 +1,4 @@
-// The machine's rack, whose files are read back.
+// The rack on the machine, whose files are read back.
 ghost use Rattle.std.specs.Prelude.{◌≡◌};
 ghost use Rattle.tif_packbits.specs.Frame.{IsFrame};
 ghost use Rattle.pr_rack.specs.Rack.{none_begun};
@@ -31,7 +31,7 @@ impl Deal for OneRow {
     }
 }
 
-/// What a plate begins with.
+/// The first bytes of a plate.
 pub const HEAD: [u8; 8] = [0x49, 0x49, 0x2A, 0, 0, 0, 0, 0];
 
 // A plate of one such row, closed by a tail of two bytes.
@@ -42,10 +42,10 @@ const LONG: [u8; 16] = [
     0x49, 0x49, 0x2A, 0, 14, 0, 0, 0, 1, 0xAB, 0, 1, 0xAB, 0, 9, 9,
 ];
 
-// What is there of a plate that was left behind its first row.
+// The contents of a plate that was abandoned after its first row.
 const PART: [u8; 11] = [0x49, 0x49, 0x2A, 0, 0, 0, 0, 0, 1, 0xAB, 0];
 
-// Builds two files at once, and finishes the second first.
+// Builds two files at the same time, and finishes the second first.
 fn build_files(
     rack: &mut HostRack<HostRuntime>,
     held: &Held,
@@ -64,7 +64,7 @@ fn build_files(
     rack.finish(0, &[0, 7], 12)
 }
 
-// Begins a file and leaves it after a row.
+// Begins a file and abandons it after a row.
 fn leave_file(rack: &mut HostRack<HostRuntime>, held: &Held, path: &str) -> Result<(), RackFault>
     requires empty { rack.old.begun ≡ none_begun }
     requires frame { IsFrame held.now.bytes }
@@ -73,7 +73,7 @@ fn leave_file(rack: &mut HostRack<HostRuntime>, held: &Held, path: &str) -> Resu
     rack.row(2, held)
 }
 
-// Whether that is done. The rack is let go behind it.
+// Whether that succeeds. The rack is dropped afterwards.
 fn are_built(rt: &HostRuntime, held: &Held, first: &str, second: &str) -> bool
     requires { IsFrame held.now.bytes }
 {
@@ -101,7 +101,7 @@ fn writes_files_of_the_machine(rt: HostRuntime) {
     assert!(rt; written);
 }
 
-// Writes both files with the row of a deck.
+// Writes both files from the row of a deck.
 fn write_row(rt: &HostRuntime, first: &str, second: &str) -> bool {
     let mut frame = [0u8; 5];
     frame_row(&[0xAB, 0], &mut frame);
@@ -116,7 +116,7 @@ fn write_row(rt: &HostRuntime, first: &str, second: &str) -> bool {
     written
 }
 
-// A plate that isn't finished stays under its own name, and the one that is there as it was.
+// An unfinished plate stays under its temporary name, and the existing plate is unchanged.
 fn write(rt: &HostRuntime, held: &Held, first: &str, second: &str) -> bool
     requires { IsFrame held.now.bytes }
 {
@@ -132,7 +132,7 @@ fn write(rt: &HostRuntime, held: &Held, first: &str, second: &str) -> bool
         && !has_part(rt, second, &PART)
 }
 
-// Compares the bytes of a file.
+// Whether a file has these bytes.
 fn has(rt: &HostRuntime, path: &str, bytes: &[u8]) -> bool {
     match fs::read(rt, path) {
         Ok(read) => read.as_slice() == bytes,
@@ -140,7 +140,7 @@ fn has(rt: &HostRuntime, path: &str, bytes: &[u8]) -> bool {
     }
 }
 
-// Compares the bytes of a plate that isn't whole.
+// Whether the partial file of a plate has these bytes.
 fn has_part(rt: &HostRuntime, path: &str, bytes: &[u8]) -> bool {
     match format!(in rt.alloc(); "{path}.part") {
         Ok(part) => has(rt, part.as_str(), bytes),

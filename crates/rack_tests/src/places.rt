@@ -1,4 +1,4 @@
-// What stands in the places of the machine's rack: links, folders, and another rack's lock.
+// What may occupy the paths of a plate on the machine: links, folders, and another rack's lock.
 ghost use Rattle.std.specs.Prelude.{◌≡◌, OnOk};
 ghost use Rattle.pr_rack.specs.Rack.{none_begun};
 
@@ -8,10 +8,10 @@ use pr_rack::{HostRack, Rack, RackFault};
 use std::fs;
 use std::os::unix::fs::symlink;
 
-// A plate with no row, closed by a tail of two bytes.
+// A plate without rows, closed by a tail of two bytes.
 const EMPTY: [u8; 10] = [0x49, 0x49, 0x2A, 0, 8, 0, 0, 0, 0, 7];
 
-// What stood there before.
+// The earlier contents of a file.
 const OLD: [u8; 3] = [1, 2, 3];
 
 // Begins a plate and finishes it.
@@ -23,7 +23,7 @@ fn build(rack: &mut HostRack<HostRuntime>, path: &str) -> Result<(), RackFault>
     rack.finish(0, &[0, 7], 8)
 }
 
-// What a rack of its own answers, which is let go behind it.
+// Builds a plate on a new rack, which is dropped afterwards. Returns its result.
 fn built(rt: &HostRuntime, path: &str) -> Result<(), RackFault> {
     let Ok(rt) = rt.clone() else {
         return Err(RackFault::Memory);
@@ -31,7 +31,7 @@ fn built(rt: &HostRuntime, path: &str) -> Result<(), RackFault> {
     build(&mut HostRack::new(rt), path)
 }
 
-// What it answers to a plate that is begun and left.
+// Begins a plate on a new rack and abandons it. Returns its result.
 fn begun(rt: &HostRuntime, path: &str) -> Result<(), RackFault> {
     let Ok(rt) = rt.clone() else {
         return Err(RackFault::Memory);
@@ -39,7 +39,7 @@ fn begun(rt: &HostRuntime, path: &str) -> Result<(), RackFault> {
     HostRack::new(rt).begin(0, path, &HEAD)
 }
 
-// Whether the file at this path, and no link, holds these bytes.
+// Whether this path is a regular file, not a link, with these bytes.
 fn holds(rt: &HostRuntime, path: &str, bytes: &[u8]) -> bool {
     let is_file = match fs::symlink_metadata(rt, path) {
         Ok(found) => found.is_file(),
@@ -52,7 +52,8 @@ fn holds(rt: &HostRuntime, path: &str, bytes: &[u8]) -> bool {
     is_file && is_same
 }
 
-// While a rack lives no other one begins a plate in its folder, also where the plates of the first are finished.
+// While a rack exists, no other rack begins a plate in its folder, even after the first rack's plates are
+// finished.
 fn is_alone(rt: &HostRuntime, first: &str, second: &str) -> bool {
     let Ok(own) = rt.clone() else {
         return false;
@@ -64,7 +65,7 @@ fn is_alone(rt: &HostRuntime, first: &str, second: &str) -> bool {
         && begun(rt, first) == Err(RackFault::Failed)
 }
 
-// A link in the place of the plate, or of its file, is replaced, and what it leads to stays.
+// A link at the path of the plate or of its partial file is replaced, and its target is unchanged.
 fn follows_no_link(rt: &HostRuntime, path: &str, link: &str, file: &str) -> bool {
     fs::write(rt, file, &OLD).is_ok()
         && symlink(rt, file, link).is_ok()
@@ -73,7 +74,8 @@ fn follows_no_link(rt: &HostRuntime, path: &str, link: &str, file: &str) -> bool
         && holds(rt, file, &OLD)
 }
 
-// A folder in the place of a plate is refused at begin, and an empty one in that of its file too.
+// A folder at the path of a plate makes `begin` fail, and so does an empty folder at that of its partial
+// file.
 fn refuses_folder(rt: &HostRuntime, path: &str, folder: &str) -> bool {
     fs::create_dir(rt, folder).is_ok()
         && begun(rt, path) == Err(RackFault::Failed)
@@ -81,7 +83,7 @@ fn refuses_folder(rt: &HostRuntime, path: &str, folder: &str) -> bool {
         && built(rt, path).is_ok()
 }
 
-// A folder that comes into the place of a plate after it was begun is refused at finish.
+// A folder created at the path of a plate after it was begun makes `finish` fail.
 fn refuses_late_folder(rt: &HostRuntime, path: &str, part: &str) -> bool {
     let Ok(own) = rt.clone() else {
         return false;
@@ -94,7 +96,7 @@ fn refuses_late_folder(rt: &HostRuntime, path: &str, part: &str) -> bool {
         && holds(rt, part, &EMPTY)
 }
 
-// The first of these that doesn't hold, if one doesn't.
+// Returns the index of the first of these that does not hold, if any.
 fn first_false(rt: &HostRuntime, first: &str, second: &str, part: &str) -> Option<usize> {
     let told = [
         built(rt, first).is_ok() && holds(rt, first, &EMPTY),

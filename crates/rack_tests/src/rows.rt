@@ -1,4 +1,4 @@
-// The rows that the tests hand to a site, and the plates that it makes of them.
+// The rows that the tests give to a site, and the plates that the site makes of them.
 ghost use Rattle.std.specs.Prelude.{◌≡◌, ◌∷◌, ◌+◌, ◌<◌, []};
 ghost use Rattle.tif_packbits.specs.Frame.{frame_of};
 ghost use Rattle.plan_rows.specs.Rows.{rows_of};
@@ -33,7 +33,7 @@ impl Deal for Numbered {
     }
 }
 
-/// The frame of row `n`.
+/// Returns the frame of row `n`.
 pub fn frame(n: u8) -> [u8; 5]
     requires { n < 255 }
     ensures { result ≡ frame_of ((n + 1) ∷ 0 ∷ []) }
@@ -43,8 +43,8 @@ pub fn frame(n: u8) -> [u8; 5]
     frame
 }
 
-/// A plate file of 16 by 2 pixels at 1200 dpi in the table of its places. Its two rows are 1 and 0, and 2
-/// and 0.
+/// A plate file of 16 by 2 pixels at 1200 dpi, laid out by its parts and directory entries. Its two rows are
+/// 1 and 0, and 2 and 0.
 #[rattlefmt::skip]
 const PLATE: [u8; 180] = [
     0x49, 0x49, 0x2A, 0x00, 14, 0, 0, 0,
@@ -68,7 +68,7 @@ const PLATE: [u8; 180] = [
     0xB0, 0x04, 0, 0, 1, 0, 0, 0,
 ];
 
-// The plate file whose two rows are these.
+// Whether this is the plate file with these two rows.
 fn is_plate(bytes: &[u8], top: u8, last: u8) -> bool {
     let mut plate = PLATE;
     plate[9] = top.wrapping_add(1);
@@ -102,7 +102,8 @@ fn took(rack: &MemRack, source: Source, count: usize) -> bool {
     true
 }
 
-/// A rack has these plates, each a path and the numbers of its rows, and took so many rows at this source.
+/// Checks that a rack has these plates, each given by its path and the numbers of its two rows, and took this
+/// many rows from this source.
 pub fn check_rack(
     rt: &impl Abort,
     rack: &MemRack,
@@ -114,12 +115,12 @@ pub fn check_rack(
     assert!(rt; took(rack, source, taken), "rows taken");
 }
 
-/// The plan of a text.
+/// Reads the plan of a text.
 pub fn plan_of<R: Abort + AllocGlobal>(rt: &R, text: &[u8]) -> Plan {
     read_plan(rt.alloc(), text).expect(rt, "no plan")
 }
 
-/// The rows of a plan.
+/// Returns the rows of a plan.
 pub fn plan_rows<R: Abort + AllocGlobal>(rt: &R, plan: &Plan) -> RowPlan
     ensures { result ≡ rows_of plan.now }
 {

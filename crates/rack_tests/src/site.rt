@@ -19,7 +19,7 @@ use site_agent::{Kept, Site};
 use std::alloc::Global;
 use std::process::Abort;
 
-// Hands the row that was put last to a site whose last answer this is, and gives its answer. One that
+// Gives the row put last to a site whose last result is `last`. Returns the site's result. A site that has
 // ended takes no more rows.
 fn offer(deck: &mut Deck<'_, Numbered>, last: Kept, site: &mut Site, rack: &mut MemRack) -> Kept
     requires home { deck.old.out ≡ false }
@@ -41,7 +41,7 @@ fn offer(deck: &mut Deck<'_, Numbered>, last: Kept, site: &mut Site, rack: &mut 
     }
 }
 
-// Puts so many rows on a deck, one after the other, hands each to a site, and gives what it answered last.
+// Puts `count` rows on a deck, one after the other, and gives each to a site. Returns the site's last result.
 fn carry(deck: &mut Deck<'_, Numbered>, count: u8, site: &mut Site, rack: &mut MemRack) -> Kept
     requires deck { deck.old ≡ record { rows = numbered count; put = 0; out = false } }
     requires takes { Takes (numbered count) rack.old site.old }
@@ -55,10 +55,10 @@ fn carry(deck: &mut Deck<'_, Numbered>, count: u8, site: &mut Site, rack: &mut M
     last
 }
 
-/// Threads take sites and key readers along.
+/// Requires that sites and key readers can be sent to threads.
 pub fn sent<T: Send>(_value: &T) {}
 
-/// The site with this index of a plan whose plates have rows of two bytes.
+/// Returns the site with this index of a plan whose plates have rows of two bytes.
 pub fn site_of(alloc: Global, plan: &Plan, rows: &RowPlan, index: usize) -> Result<Site, NoMemory>
     requires rows { rows.now ≡ rows_of plan.now }
     requires site { index < length plan.now.sites }
@@ -72,7 +72,7 @@ pub fn site_of(alloc: Global, plan: &Plan, rows: &RowPlan, index: usize) -> Resu
     Site::new(alloc, plan, rows, "OUT", index)
 }
 
-// What the first site of a plan makes of its rows: its last answer, and its rack.
+// Gives all rows of a plan to its first site. Returns the site's last result, and its rack.
 fn run<R: Abort + AllocGlobal>(rt: &R, plan: &Plan, rows: &RowPlan) -> (Kept, MemRack)
     requires rows { rows.now ≡ rows_of plan.now }
     requires site { 0 < length plan.now.sites }
@@ -103,7 +103,7 @@ const INKS: [(&str, u8, u8); 5] = [
     ("OUT/OSLO/E1-A-001-S.tif", 4, 9),
 ];
 
-// Each of the five has a row before the first of them is finished.
+// Each of the five plates has a row before the first of them is finished.
 #[test]
 fn five_plates_are_open_at_once(rt: HostRuntime) {
     let plan = plan_of(&rt, FIVE_INKS);

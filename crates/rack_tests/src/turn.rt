@@ -1,4 +1,4 @@
-// A site that takes its rows by turns from a ring of two places.
+// A site that takes its rows in turns from a ring with two places.
 ghost use Rattle.std.specs.Prelude.{◌≡◌, ◌+◌, ◌<◌, length, true};
 ghost use Rattle.pr_base.specs.Row.{row_size};
 ghost use Rattle.plan_json.specs.Data.{plate_width};
@@ -29,7 +29,7 @@ pub fn publish(rt: &impl Abort, writer: &mut Writer<'_, Numbered>, count: u8, n:
     writer.publish(pass, &frame(n));
 }
 
-/// The ends of a ring of four rows in two places, which has one reader.
+/// Returns the ends of a ring of four rows with two places and one reader.
 pub fn ends_of<'r, R: Abort + AllocGlobal>(
     rt: &R,
     ring: &'r mut Ring<'_, Numbered>,
@@ -47,7 +47,7 @@ pub fn ends_of<'r, R: Abort + AllocGlobal>(
     (writer, reader)
 }
 
-// The next turn of a site whose last one ended so. One that doesn't wait has no further turn.
+// Makes the next turn of a site whose last turn ended with `last`. If that is not `Waiting`, no turn is made.
 fn go(
     last: TurnEnd,
     site: &mut Site,
@@ -73,8 +73,8 @@ fn head_of(end: &TurnEnd) -> Option<u64> {
     }
 }
 
-// Three turns of a site, the first before a row is published and each other behind two rows more. Gives
-// where the first two waited, and how the last one ended.
+// Makes three turns of a site: the first before any row is published, the others after two more rows each.
+// Returns where the first two waited, and how the last one ended.
 fn take_turns(
     rt: &impl Abort,
     writer: &mut Writer<'_, Numbered>,
@@ -97,8 +97,8 @@ fn take_turns(
     ([first_head, second_head], last)
 }
 
-// What the site with this index makes of all rows of a ring by three turns: where it waited, its last answer,
-// and its rack.
+// Makes three turns of the site with this index over all rows of a ring. Returns where it waited, the last
+// result, and its rack.
 fn take_all<R: Abort + AllocGlobal>(
     rt: &R,
     plan: &Plan,

@@ -1,4 +1,4 @@
--- A schedule made of its readers' parts, after an event: the parts that change are those that the event names.
+-- A schedule built from its readers' parts, after an event: only the parts named by the event change.
 use Rattle.std.proofs.Common.{◌≡◌, ◌≢◌, ℕ, ◌+◌, ◌*◌, ◌<◌, Bool, true, ◌&&◌, inl, inr, ap, sym, ◌∙◌, subst, arith, length-set}
 use Rattle.std.specs.Prelude.{Some, None, nat_lt, unwrap_or, is_some}
 use Rattle.std.proofs.lemmas.Bool.{cases_eq, and_from, lt-ltb}
@@ -13,11 +13,11 @@ use Rattle.ring_core.proofs.Whole.{each_below_yes}
 use Rattle.ring_core.proofs.Lower.{unsettled}
 use Rattle.ring_core.proofs.Made.{IsMade}
 
--- a fact of reader r and of all others is one of each
+-- a fact about reader r and about all others holds for each reader
 split : (n r : ℕ) (P : ℕ → Type 0) → P r → ((q : ℕ) → q < n → q ≢ r → P q) → (q : ℕ) → q < n → P q
 split n r P here else q h = elim (cases_eq q r) [ inl e ↦ subst P (sym e) here | inr e ↦ else q h e ]
 
--- a reader's event is possible where its own condition holds
+-- a reader's event is possible if its own condition holds
 can_reader : (r n m : ℕ) (can : Bool) → m ≡ n → r < n → can ≡ true → (nat_lt r m && can) ≡ true
 can_reader r n m can e h c = and_from (nat_lt r m) can (lt-ltb r m (omega arith)) c
 
@@ -128,7 +128,7 @@ module _ (s : Schedule) (places total head n : ℕ) (p : ℕ → Progress) (l : 
         (λ q j o. Readers.fill_else s r q m.some_place o ∙ (m.lanes q j ∙ sym (else q j o)));
   }
 
-  -- the cursor that s shows of a reader
+  -- the cursor that s shows for a reader
   cursor_made : (r c : ℕ) → r < n → (p r).cursor ≡ Some c → cursor_at s r ≡ c
   cursor_made r c h at = ap (λ (x : Progress). unwrap_or x.cursor 0) (m.progress r h) ∙ ap (λ o. unwrap_or o 0) at
 
@@ -235,7 +235,7 @@ module _ (s : Schedule) (places total head n : ℕ) (p : ℕ → Progress) (l : 
         lanes = m.lanes;
       }
 
-  -- the stage of reader r read as closed
+  -- the stage of reader r, read as closed
   pub closed_made : (r : ℕ) (k : ℕ → Lanes) → r < n → k r ≡ unsettled (l r) → ((q : ℕ) → q < n → q ≢ r → k q ≡ l q) → Now (read_closed r s) p k
   closed_made r k h own else = record {
     places_is = m.places_is;

@@ -1,5 +1,5 @@
--- Each event keeps the soundness of a reader: its progress, and its lanes. One lemma an event and half; those that an event
--- does not change are kept as they are. All are over plain values, with no list in them.
+-- Each event keeps a reader's progress and lanes sound. One lemma per event and half; a half that the event
+-- does not change needs no lemma. All are over plain values, without lists.
 use Rattle.std.proofs.Common.{◌≡◌, ℕ, ◌+◌, ◌%◌, ◌<◌, ◌≤◌, ◌≢◌, Bool, true, false, not, ◌&&◌, ◌||◌, List, [], ◌∷◌, ◌++◌, length, get_or, inl, inr, ap, sym, ◌∙◌, refl, arith, length-append}
 use Rattle.std.specs.Prelude.{Option, Some, None, is_some, is_none, option_map, nat_lt}
 use Rattle.std.proofs.lemmas.Bool.{and_parts, ltb-true, cases_eq, cases_lt, not-true, false≢true}
@@ -11,7 +11,7 @@ use Rattle.ring_core.specs.Events.{is_idle, is_holding, is_closed, is_above, is_
 use Rattle.ring_core.specs.Sound.{IsSoundProgress, IsSoundLanes}
 use Rattle.ring_core.proofs.Places.{apart, put_same, put_other, put_cases}
 
--- What the tests say.
+-- What the tests of the stage mean.
 
 pub idle_is : (s : Stage) → is_idle s ≡ true → s ≡ Idle
 idle_is Idle e = refl
@@ -32,7 +32,7 @@ pub some_is : (o : Option ℕ) → is_some o ≡ true → (c : ℕ) × (o ≡ So
 some_is None e = absurd (false≢true e)
 some_is (Some c) e = (c, refl)
 
--- the cursor that the writer knows leaves room for head
+-- the cursor that the writer knows leaves room for row head
 pub record HasRoom (places total head : ℕ) (p : Progress) (l : Lanes) : Type 0 where
   pub from : ℕ
   pub known : p.known ≡ Some from
@@ -115,7 +115,7 @@ fill_lanes places total head p l can h m =
       fresh = λ f. put_same places head (Some head) l.row head refl;
     }
 
--- Publish. The first half asks only for room, which a filled lane has
+-- Publish. The first half needs only room, which a filled lane implies
 
 pub publish_progress : (places head : ℕ) (p : Progress) → ((k : ℕ) → p.known ≡ Some k → head < k + places) → IsSoundProgress places head p → IsSoundProgress places (head + 1) p
 publish_progress places head p room h = record {
@@ -188,7 +188,7 @@ see_lanes places total head p l h m = record {
 
 -- Open and close, at the cursor c
 
--- where the cursor stands, and which rows lie within a turn of it
+-- the position of the cursor, and which rows are within one turn (places rows) of it
 near : (places head : ℕ) (p : Progress) (c : ℕ) → p.cursor ≡ Some c → IsSoundProgress places head p → head ≤ c + places
 near places head p c e h = let j = h.joined_known c e in omega (arith, h.within j.0 j.1)
 
@@ -271,7 +271,7 @@ close_lanes places total head p l c at can h m =
           put_other places c (Some c) l.row head away ∙ m.fresh f;
     }
 
--- Advance, at the cursor c. The first half asks only that the reader knows of a row at its cursor
+-- Advance, at the cursor c. The first half needs only that the reader knows of a row at its cursor
 
 ordered_more : (xs : List ℕ) (c : ℕ) → length xs ≡ c → ((i : ℕ) → i < length xs → get_or xs i 0 ≡ i) → (i : ℕ) → i < length (xs ++ c ∷ []) → get_or (xs ++ c ∷ []) i 0 ≡ i
 ordered_more xs c len each i h = elim (cases_lt i (length xs)) [
@@ -312,7 +312,7 @@ advance_lanes places total head p l c at can m =
       fresh = m.fresh;
     }
 
--- what makes an advance possible says that the reader knows of a row at its cursor
+-- where an advance is possible, the reader knows of a row at its cursor
 pub advance_ahead : (places total head : ℕ) (p : Progress) (l : Lanes) (c : ℕ) → p.cursor ≡ Some c → can_advance p l ≡ true → IsSoundLanes places total head p l → c < p.seen
 advance_ahead places total head p l c at can m = m.closed_ahead c at (closed_is l.stage (and_parts (is_some p.cursor) (is_closed l.stage) can).1)
 

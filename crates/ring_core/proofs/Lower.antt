@@ -1,4 +1,5 @@
--- The plain reading of one reader's lanes keeps their soundness, and so does the reading of a row that is in its lane again as closed.
+-- The plain reading of one reader's lanes stays sound, also where a row already back in its lane is read as
+-- closed.
 use Rattle.std.proofs.Common.{◌≡◌, ℕ, ◌<◌, ◌≤◌, cond, inl, inr, ap, sym, ◌∙◌, refl, arith}
 use Rattle.std.specs.Prelude.{Option, Some, None, unwrap_or}
 use Rattle.std.proofs.lemmas.Bool.{cases_lt, lt-ltb, le-ltb}
@@ -8,14 +9,14 @@ use Rattle.ring_core.specs.Schedule.{Progress, Lanes}
 use Rattle.ring_core.specs.Sound.{IsSoundProgress, IsSoundLanes}
 use Rattle.ring_core.specs.Plain.{plain_stage, from_low, first_row, plain_lanes}
 
--- a number that isn't below low stays
+-- a number that is not below low is kept
 pub from_low_same : (low n : ℕ) → low ≤ n → from_low low (Some n) ≡ Some n
 from_low_same low n h = let none : Option ℕ = None in ap (λ b. cond b none (Some n)) (le-ltb n low h)
 
 pub from_low_none : (low n : ℕ) → n < low → from_low low (Some n) ≡ None
 from_low_none low n h = let none : Option ℕ = None in ap (λ b. cond b none (Some n)) (lt-ltb n low h)
 
--- a number that stayed is one that was there, and not below low
+-- a number that was kept was present, and is not below low
 pub from_low_is : (low n : ℕ) (o : Option ℕ) → from_low low o ≡ Some n → (o ≡ Some n) × (low ≤ n)
 from_low_is low n None e = cc
 from_low_is low n (Some k) e = elim (cases_lt k low) [
@@ -23,7 +24,7 @@ from_low_is low n (Some k) e = elim (cases_lt k low) [
   | inr above ↦ let f : Some k ≡ Some n = sym (from_low_same low k above) ∙ e in let is : k ≡ n = cc in (f, omega arith)
 ]
 
--- a second look at a higher bound is one look
+-- reading again with a higher bound is the same as reading once with it
 pub from_low_twice : (low high : ℕ) (o : Option ℕ) → low ≤ high → from_low high (from_low low o) ≡ from_low high o
 from_low_twice low high None h = refl
 from_low_twice low high (Some n) h = elim (cases_lt n low) [
@@ -45,7 +46,7 @@ below_head : (head : ℕ) (o : Option ℕ) → ((c : ℕ) → o ≡ Some c → c
 below_head head None f = omega arith
 below_head head (Some c) f = f c refl
 
--- no more than the rows below head are passed
+-- only rows below head have been passed
 pub first_low : (places head : ℕ) (p : Progress) → IsSoundProgress places head p → first_row head p.cursor ≤ head
 first_low places head p h = below_head head p.cursor (λ c e. omega (arith, h.seen_ahead c e, h.seen_in))
 
@@ -66,7 +67,7 @@ plain_keeps places total head p l h m = record {
   fresh = λ f. ap (from_low (first_row head p.cursor)) (m.fresh f) ∙ from_low_same (first_row head p.cursor) head (first_low places head p h);
 }
 
--- a reader's row that lies in its lane, read as closed
+-- a row that is back in its reader's lane, read as closed
 abbrev pub unsettled : Lanes → Lanes
 unsettled l = record l { stage = Closed }
 

@@ -1,4 +1,4 @@
--- A schedule by the parts of its readers: made of them, read plainly, and after an event.
+-- A schedule in terms of its readers' parts: as built from them, as read plainly, and after an event.
 use Rattle.std.proofs.Common.{◌≡◌, ℕ, zero, suc, ◌+◌, ◌*◌, ◌/◌, ◌%◌, ◌<◌, ◌≤◌, false, List, [], ◌∷◌, map, replicate, get_or, ap, sym, ◌∙◌, refl, subst, arith}
 use Rattle.std.specs.Prelude.{Option, Some, None}
 use Rattle.std.specs.List.{range_with_len}
@@ -12,12 +12,12 @@ use Rattle.ring_core.proofs.Readers.{lane_in, fresh_progress, fresh_lanes}
 use Rattle.ring_core.proofs.Lower.{plain_keeps}
 use Rattle.ring_core.specs.Plain.{numbers, from_low, first_row, plain_lanes, schedule_of, plain}
 
--- functions that agree on a range have one list of values there
+-- functions that agree on a range map it to the same list
 pub map_same : {A : Type 0} (f g : ℕ → A) (a n : ℕ) → ((k : ℕ) → a ≤ k → k < a + n → f k ≡ g k) → map f (range_with_len a n) ≡ map g (range_with_len a n)
 map_same f g a zero h = refl
 map_same f g a (suc n) h = λ i. h a (omega arith) (omega arith) i ∷ map_same f g (a + 1) n (λ k low high. h k (omega arith) (omega arith)) i
 
--- the schedule s has n readers, whose parts are p and l
+-- schedule s has n readers, whose parts are p and l
 pub record IsMade (s : Schedule) (places total head n : ℕ) (p : ℕ → Progress) (l : ℕ → Lanes) : Type 0 where
   pub places_is : s.places ≡ places
   pub total_is : s.total ≡ total
@@ -28,7 +28,7 @@ pub record IsMade (s : Schedule) (places total head n : ℕ) (p : ℕ → Progre
   pub progress : (r : ℕ) → r < n → progress_of s r ≡ p r
   pub lanes : (r : ℕ) → r < n → lanes_of s r ≡ l r
 
--- rows are found by their place
+-- the row in a lane depends on the place alone
 abbrev pub ByPlace : ℕ → Lanes → Type 0
 ByPlace places l = (k : ℕ) → l.row (k % places) ≡ l.row k
 
@@ -79,7 +79,7 @@ is_made places total head n p l some by = record {
   lanes = λ r h. made_lanes places total head n p l r some h (by r h);
 }
 
--- schedules with the same parts are the same
+-- schedules with the same parts are equal
 pub made_same : (places total head n : ℕ) (p q : ℕ → Progress) (l m : ℕ → Lanes) → 0 < places → ((r : ℕ) → r < n → p r ≡ q r) → ((r : ℕ) → r < n → l r ≡ m r)
     → schedule_of places total head n p l ≡ schedule_of places total head n q m
 made_same places total head n p q l m some e f =
@@ -93,7 +93,7 @@ made_same places total head n p q l m some e f =
     let taken = map_same (λ r. (p r).taken) (λ r. (q r).taken) 0 n (λ k _ h. ap (λ (x : Progress). x.taken) (e k (omega arith))) in
     λ i. record { places = places; total = total; head = head; filled = filled i; known = known i; cursor = cursor i; seen = seen i; stage = stage i; lane = lane i; taken = taken i }
 
--- the plain reading of a schedule, by the parts of its readers
+-- the plain reading of a schedule, in terms of its readers' parts
 pub made_plain : (s : Schedule) (places total head n : ℕ) (p : ℕ → Progress) (l : ℕ → Lanes) → IsMade s places total head n p l
     → plain s ≡ schedule_of places total head n p (λ r. plain_lanes head (p r) (l r))
 made_plain s places total head n p l m =
@@ -102,7 +102,7 @@ made_plain s places total head n p l m =
     ∙ made_same places total head n (progress_of s) p (λ r. plain_lanes head (progress_of s r) (lanes_of s r)) (λ r. plain_lanes head (p r) (l r)) some m.progress
     (λ r h i. plain_lanes head (m.progress r h i) (m.lanes r h i))
 
--- a schedule made of sound parts is sound
+-- a schedule built from sound parts is sound
 pub made_sound : (s : Schedule) (places total head n : ℕ) (p : ℕ → Progress) (l : ℕ → Lanes) → IsMade s places total head n p l → IsSoundWords places total head n p
     → ((r : ℕ) → r < n → IsSoundLanes places total head (p r) (l r)) → IsSound s
 made_sound s places total head n p l m words lanes = record {
@@ -120,7 +120,7 @@ made_sound s places total head n p l m words lanes = record {
 pub own_parts : (s : Schedule) → IsSized s → 0 < s.places → IsMade s s.places s.total s.head (readers s) (progress_of s) (lanes_of s)
 own_parts s z some = record { places_is = refl; total_is = refl; head_is = refl; some_place = some; count = refl; sized = z; progress = λ r h. refl; lanes = λ r h. refl }
 
--- rows that are found by their place still are so in the plain reading
+-- in the plain reading the row in a lane still depends on the place alone
 pub plain_by_place : (places head : ℕ) (p : Progress) (l : Lanes) → ByPlace places l → ByPlace places (plain_lanes head p l)
 plain_by_place places head p l by k = ap (from_low (first_row head p.cursor)) (by k)
 
@@ -136,7 +136,7 @@ plain_sound s h =
     made_sound (plain s) s.places s.total s.head n p l (is_made s.places s.total s.head n p l some (λ r i. plain_by_place s.places s.head (p r) (lanes_of s r) (own_by_place s r)))
     h.words (λ r i. plain_keeps s.places s.total s.head (p r) (lanes_of s r) (h.words.each r i) (h.lanes r i))
 
--- a schedule whose readers have not begun is the start
+-- a schedule whose readers have not begun is the initial schedule
 map_const : {A : Type 0} (c : A) (a n : ℕ) → map (λ (k : ℕ). c) (range_with_len a n) ≡ replicate n c
 map_const c a zero = refl
 map_const c a (suc n) = λ i. c ∷ map_const c (a + 1) n i

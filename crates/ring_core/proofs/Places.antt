@@ -1,4 +1,4 @@
--- Row numbers and their places, and what lies there after a write.
+-- Row numbers and their places, and what each place holds after a write.
 use Rattle.std.proofs.Common.{◌≡◌, ℕ, suc, ◌+◌, ◌*◌, ◌/◌, ◌%◌, ◌<◌, ◌≤◌, ◌≢◌, ◌⊎◌, Option, inl, inr, ap, ◌∙◌, sym, mul-le-mul_right, suc-mul, lt_of_not-le, div-add-mod', arith, cond}
 use Rattle.std.proofs.lemmas.Bool.{cases_eq, eq-eqb, ne_eqb}
 use native.Mathlib.Decide.{dec_le}
@@ -31,11 +31,11 @@ turns n a b le lt e (no d) =
     let m' : x + n ≤ y = m in
     absurd (omega arith)
 
--- two row numbers less than a turn apart, at one place, are one number
+-- two row numbers less than one turn apart and at the same place are equal
 pub one_turn : (n a b : ℕ) → a ≤ b → b < a + n → a % n ≡ b % n → a ≡ b
 one_turn n a b le lt e = turns n a b le lt e (dec_le (b / n) (a / n))
 
--- two row numbers less than a turn apart have places of their own
+-- two different row numbers less than one turn apart have different places
 pub apart : (n a b : ℕ) → a < b → b < a + n → a % n ≢ b % n
 apart n a b l lt e = let h : a ≡ b = one_turn n a b (omega arith) lt e in omega arith
 
@@ -45,7 +45,7 @@ put_same places n v row k e = ap (λ b. cond b v (row k)) (eq-eqb (k % places) (
 pub put_other : (places n : ℕ) (v : Option ℕ) (row : ℕ → Option ℕ) (k : ℕ) → k % places ≢ n % places → put_row places n v row k ≡ row k
 put_other places n v row k e = ap (λ b. cond b v (row k)) (ne_eqb (k % places) (n % places) e)
 
--- what lies at a place after a write: what was written there, or what lay there
+-- what a place holds after a write: the value written there, or the previous one
 pub put_cases : (places n : ℕ) (v : Option ℕ) (row : ℕ → Option ℕ) (k : ℕ) →
     ((k % places ≡ n % places) × (put_row places n v row k ≡ v)) ⊎ ((k % places ≢ n % places) × (put_row places n v row k ≡ row k))
 put_cases places n v row k = elim (cases_eq (k % places) (n % places)) [

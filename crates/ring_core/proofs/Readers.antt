@@ -1,5 +1,5 @@
--- A schedule after an event, read as the parts of its readers: the reader's own part changes as the event says, and the
--- others stay.
+-- A schedule after an event, in terms of its readers' parts: the reader's own part changes as the event says,
+-- and the others are unchanged.
 use Rattle.std.proofs.Common.{◌≡◌, ℕ, ◌+◌, ◌*◌, ◌%◌, ◌<◌, ◌≤◌, ◌≢◌, Bool, true, false, List, [], ◌∷◌, ◌++◌, length, get_or, set, inl, inr, ap, sym, ◌∙◌, arith, get_or-set_same, get_or-set_other}
 use Rattle.std.specs.Prelude.{Option, Some, None}
 use Rattle.std.proofs.lemmas.Bool.{cases_eq, cases_lt}
@@ -12,14 +12,14 @@ use Rattle.ring_core.specs.Sound.{IsSized}
 use Rattle.ring_core.specs.Plain.{read_closed}
 use Rattle.ring_core.proofs.Places.{further, put_same, put_other}
 
--- lanes of two readers stand apart
+-- lanes of two readers have different indices
 pub lanes_apart : (places q r a b : ℕ) → a < places → b < places → q ≢ r → q * places + a ≢ r * places + b
 lanes_apart places q r a b ha hb other e = elim (cases_lt q r) [
   | inl below ↦ let f = further q r places below in let x : ℕ = q * places in let y : ℕ = r * places in let f' : x + places ≤ y = f in let e' : x + a ≡ y + b = e in omega arith
   | inr above ↦ let f = further r q places (omega arith) in let x : ℕ = q * places in let y : ℕ = r * places in let f' : y + places ≤ x = f in let e' : x + a ≡ y + b = e in omega arith
 ]
 
--- a reader's lanes are among all lanes
+-- the index of a reader's lane is in range
 pub lane_in : (places n r k : ℕ) → 0 < places → r < n → lane_place places r k < n * places
 lane_in places n r k some h =
     let f = further r n places h in
@@ -48,7 +48,7 @@ pub lane_other : (places q r n k : ℕ) (v : Option ℕ) (lane : List (Option �
 lane_other places q r n k v lane some other =
     get_or-set_other lane (lane_place places r n) (lane_place places q k) v None (lanes_apart places q r (k % places) (n % places) (omega (arith, some)) (omega (arith, some)) other)
 
--- where the lane for row n of reader r stands
+-- the index of reader r's lane for row n is in range
 pub lane_within : (s : Schedule) (r n : ℕ) → IsSized s → 0 < s.places → r < readers s → lane_place s.places r n < length s.lane
 lane_within s r n z some h = let a = lane_in s.places (readers s) r n some h in let e = z.lane in omega arith
 
@@ -145,7 +145,7 @@ leave_else s r q n =
     let e = get_or-set_other s.cursor r q None None n in
     λ i. record { known = get_or s.known q None; cursor = e i; seen = get_or s.seen q 0; taken = get_or s.taken q [] }
 
--- the stage of reader r read as closed
+-- the stage of reader r, read as closed
 pub closed_shows : (s : Schedule) (r : ℕ) → IsSized s → r < readers s → lanes_of (read_closed r s) r ≡ record (lanes_of s r) { stage = Closed }
 closed_shows s r z h =
     let e = get_or-set_same s.stage r Closed Idle (let k = z.stage in omega arith) in

@@ -1,4 +1,4 @@
--- A Core after a method that does an event.
+-- A Core after a method that performs an event.
 use Rattle.std.proofs.Common.{Bool, true, false, subst, sym}
 use Rattle.ring_core.specs.declared.state.Core.{Core}
 use Rattle.ring_core.specs.declared.event.Event.{Event}

@@ -1,4 +1,4 @@
--- Each event takes a sound schedule to a sound schedule, and so does every list of events.
+-- Each event, and every list of events, takes a sound schedule to a sound schedule.
 use Rattle.std.proofs.Common.{◌≡◌, ℕ, zero, suc, ◌+◌, ◌*◌, ◌%◌, ◌<◌, ◌≢◌, Bool, true, false, cond, ◌&&◌, List, [], ◌∷◌, length, replicate, inl, inr, ap, sym, ◌∙◌, refl, subst, arith, length-set}
 use Rattle.std.specs.Prelude.{Option, Some, None, is_some, unwrap_or, nat_lt}
 use Rattle.std.proofs.lemmas.Bool.{and_parts, and_from, and_left, and_right, ltb-true, cases_eq, cases_lt, cases_Bool, false≢true}
@@ -14,7 +14,7 @@ use Rattle.ring_core.proofs.Places.{one_turn}
 use Rattle.ring_core.proofs.Keeps.{some_is, below_is, fill_room, look_progress, look_lanes, fill_lanes, publish_progress, publish_lanes, ready_room, see_progress, see_lanes, open_lanes, close_lanes, advance_progress, advance_lanes, advance_ahead, leave_progress, leave_lanes}
 use Rattle.ring_core.proofs.Readers
 
--- what holds of one number below n and of all others, holds of each
+-- what holds for one number below n and for all others holds for each
 pub each_by : (n r : ℕ) (P : ℕ → Type 0) → P r → ((q : ℕ) → q < n → q ≢ r → P q) → (q : ℕ) → q < n → P q
 each_by n r P here else q h = elim (cases_eq q r) [ inl e ↦ subst P (sym e) here | inr e ↦ else q h e ]
 
@@ -27,18 +27,18 @@ each_below_is (suc n) p e k h =
       | inr above ↦ let at : n ≡ k = omega arith in subst (λ j. p j ≡ true) at parts.1
     ]
 
--- a reader's event: its number is that of a reader, and its own condition holds
+-- a possible event of a reader: its number is below the number of readers, and its own condition holds
 event_parts : (n r : ℕ) (can : Bool) → (nat_lt r n && can) ≡ true → (r < n) × (can ≡ true)
 event_parts n r can e = let x = and_parts (nat_lt r n) can e in (ltb-true r n x.0, x.1)
 
--- the cursor of a reader that has one
+-- the cursor of a reader that has not left
 cursor_is : (s : Schedule) (r : ℕ) → is_some (progress_of s r).cursor ≡ true → (progress_of s r).cursor ≡ Some (cursor_at s r)
 cursor_is s r e = let x = some_is (progress_of s r).cursor e in x.1 ∙ ap Some (sym (ap (λ o. unwrap_or o 0) x.1))
 
 abbrev SoundLanes : Schedule → Progress → Lanes → Type 0
 SoundLanes s p l = IsSoundLanes s.places s.total s.head p l
 
--- the progress of one reader changed
+-- only one reader's progress changed
 words_by : (s : Schedule) (r : ℕ) (p : ℕ → Progress) → IsSound s → IsSoundProgress s.places s.head (p r) → ((q : ℕ) → q ≢ r → p q ≡ progress_of s q)
     → IsSoundWords s.places s.total s.head (readers s) p
 words_by s r p h here else = record {
@@ -47,7 +47,7 @@ words_by s r p h here else = record {
   each = each_by (readers s) r (λ q. IsSoundProgress s.places s.head (p q)) here (λ q l n. subst (λ x. IsSoundProgress s.places s.head x) (sym (else q n)) (h.words.each q l));
 }
 
--- the lanes of one reader changed, or what they are compared with
+-- only one reader's lanes changed, or the values that they are compared with
 lanes_by : (s : Schedule) (r : ℕ) (p : ℕ → Progress) (l : ℕ → Lanes) → IsSound s → SoundLanes s (p r) (l r)
     → ((q : ℕ) → q ≢ r → p q ≡ progress_of s q) → ((q : ℕ) → q ≢ r → l q ≡ lanes_of s q)
     → (q : ℕ) → q < readers s → SoundLanes s (p q) (l q)
@@ -312,7 +312,7 @@ start_sound places n total some =
           (subst (λ l. IsSoundLanes places total 0 Readers.fresh_progress l) (sym (Readers.start_lanes places n total r some (subst (λ k. r < k) count h))) (fresh_lanes_sound places total));
     }
 
--- what a filled lane is filled over, was closed
+-- when a lane may be filled, its reader has closed every earlier row of that place
 pub fills_closed : (s : Schedule) (r c : ℕ) → IsSound s → can_be s (Fill r) ≡ true → (progress_of s r).cursor ≡ Some c → WasClosed s r c
 fills_closed s r c h can at =
     let p = progress_of s r in

@@ -24,22 +24,22 @@ is_closed Idle = false
 is_closed Holding = false
 is_closed Closed = true
 
--- there is a number, and it is above low
+-- there is a number, and it exceeds low
 abbrev pub is_above : ℕ → Option ℕ → Bool
 is_above low None = false
 is_above low (Some n) = nat_lt low n
 
--- there is a number, and it is below high
+-- there is a number, and it is less than high
 abbrev pub is_below : ℕ → Option ℕ → Bool
 is_below high None = false
 is_below high (Some n) = nat_lt n high
 
--- p of each number below n
+-- p holds for each number below n
 abbrev pub each_below : ℕ → (ℕ → Bool) → Bool
 each_below zero p = true
 each_below (suc n) p = each_below n p && p n
 
--- What of one reader makes its event possible.
+-- The state of one reader that makes its event possible.
 
 abbrev pub can_fill : ℕ → ℕ → ℕ → Progress → Lanes → Bool
 can_fill places total head p l =
@@ -83,11 +83,11 @@ IsAdvance (Close r) = ⊥
 IsAdvance (Advance r) = Unit {0}
 IsAdvance (Leave r) = ⊥
 
--- where a reader's cursor stands
+-- the cursor of reader r
 abbrev pub cursor_at : Schedule → ℕ → ℕ
 cursor_at s r = unwrap_or (progress_of s r).cursor 0
 
--- what the event changes, where it is possible
+-- the effect of the event, where it is possible
 abbrev pub after : Schedule → Event → Schedule
 after s (Look r) = record s { known = slice_set s.known r (progress_of s r).cursor }
 after s (Fill r) = record s {
@@ -120,9 +120,9 @@ abbrev pub run : Schedule → List Event → Schedule
 run s [] = s
 run s (e ∷ es) = run (step s e) es
 
--- The same changes, in the part of one reader.
+-- The same changes, in one reader's part.
 
--- what lies at each row's place, once v lies at the place of row n
+-- the row at each row's place, once v is stored at the place of row n
 abbrev pub put_row : ℕ → ℕ → Option ℕ → (ℕ → Option ℕ) → ℕ → Option ℕ
 put_row places n v row k = if nat_eq (k % places) (n % places) then v else row k
 

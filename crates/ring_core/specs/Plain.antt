@@ -1,5 +1,5 @@
--- What shared words and lanes can show of a schedule: a closed row counts as one that was not taken, and a
--- row that its reader has passed doesn't count. So a schedule is read before it is compared with a ring.
+-- What shared words and lanes can show of a schedule: a closed row counts as one not yet taken, and a row
+-- that its reader has passed does not count. A schedule is read this way before it is compared with a ring.
 use Rattle.std.specs.Prelude.{List, ℕ, ◌*◌, ◌/◌, ◌%◌, nat_lt, if◌then◌else◌, map, Option, Some, None}
 use Rattle.std.specs.Prelude.{unwrap_or, slice_set}
 use Rattle.std.specs.List.{range_with_len}
@@ -8,7 +8,7 @@ use Rattle.ring_core.specs.declared.event.Stage.TheVariants.{Idle, Holding, Clos
 use Rattle.ring_core.specs.Schedule.{Schedule, readers, Progress, Lanes, progress_of, lanes_of}
 use Rattle.ring_core.specs.Sound.{IsSound}
 
--- a closed row is read as one that was not taken
+-- a closed row is read as one not yet taken
 abbrev pub plain_stage : Stage → Stage
 plain_stage Idle = Idle
 plain_stage Holding = Holding
@@ -19,11 +19,11 @@ abbrev pub from_low : ℕ → Option ℕ → Option ℕ
 from_low low None = None
 from_low low (Some n) = if nat_lt n low then None else Some n
 
--- the first row number that counts in a reader's lanes: its cursor, or head once it left
+-- the first row number that counts in a reader's lanes: its cursor, or head once it has left
 abbrev pub first_row : ℕ → Option ℕ → ℕ
 first_row head cursor = unwrap_or cursor head
 
--- the lanes of a reader with no row that it has passed
+-- the lanes of a reader without the rows that it has passed
 abbrev pub plain_row : ℕ → Option ℕ → (ℕ → Option ℕ) → ℕ → Option ℕ
 plain_row head cursor row n = from_low (first_row head cursor) (row n)
 
@@ -38,7 +38,7 @@ plain_lanes head p l = record {
 abbrev pub numbers : ℕ → List ℕ
 numbers n = range_with_len 0 n
 
--- the schedule of n readers, reader r with the progress p r and the lanes l r
+-- the schedule of n readers, where reader r has progress p r and lanes l r
 abbrev pub schedule_of : ℕ → ℕ → ℕ → ℕ → (ℕ → Progress) → (ℕ → Lanes) → Schedule
 schedule_of places total head n p l = record {
   places = places;

@@ -1,13 +1,13 @@
--- The schedule of a ring as plain lists, and the part of one reader in it: how far it is, and its lanes. A
--- ring of preallocated places with one sequence for each consumer, where the producer may not pass the
--- slowest (LMAX Disruptor).
+-- The schedule of a ring as plain lists, and the part of one reader in it: its progress and its lanes. A ring
+-- of preallocated places with one sequence per consumer, where the producer may not pass the slowest one
+-- (LMAX Disruptor).
 use Rattle.std.specs.Prelude.{ℕ, ◌+◌, ◌*◌, ◌%◌, Bool, false, List, [], length, replicate, Option, Some, None}
 use Rattle.std.specs.Prelude.{slice_index, slice_index_or}
 use Rattle.ring_core.specs.declared.event.Stage.{Stage}
 use Rattle.ring_core.specs.declared.event.Stage.TheVariants.{Idle}
 
--- a list with one entry for each reader, but for lane: at r * places + p the number of the row that lies in
--- the lane of reader r at place p
+-- each list has one entry per reader, except lane: its entry r * places + p is the number of the row in the
+-- lane of reader r at place p
 pub record Schedule : Type 0 where
   pub places : ℕ
   pub total : ℕ
@@ -23,21 +23,22 @@ pub record Schedule : Type 0 where
 abbrev pub readers : Schedule → ℕ
 readers s = length s.cursor
 
--- how far a reader is and knows the head, and what the writer knows of its cursor; None: it left
+-- a reader's cursor, the rows it took, the head it knows, and its cursor as the writer knows it; None: it
+-- left
 pub record Progress : Type 0 where
   pub known : Option ℕ
   pub cursor : Option ℕ
   pub seen : ℕ
   pub taken : List ℕ
 
--- a reader's lanes: whether the one for the row numbered head is filled, how far the reader is with its row,
--- and for each row number what lies at that row's place
+-- a reader's lanes: whether the one for row head is filled, the reader's stage with the row at its cursor,
+-- and for each row number the row stored at that number's place
 pub record Lanes : Type 0 where
   pub filled : Bool
   pub stage : Stage
   pub row : ℕ → Option ℕ
 
--- where the lane of reader r for row n stands among all lanes
+-- the index of reader r's lane for row n among all lanes
 abbrev pub lane_place : ℕ → ℕ → ℕ → ℕ
 lane_place places r n = r * places + n % places
 
@@ -56,7 +57,7 @@ lanes_of s r = record {
   row = λ n. slice_index_or s.lane (lane_place s.places r n) None;
 }
 
--- no row has been filled or taken, and all readers are there
+-- no row has been filled or taken, and no reader has left
 abbrev pub start : ℕ → ℕ → ℕ → Schedule
 start places n total = record {
   places = places;

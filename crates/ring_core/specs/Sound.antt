@@ -1,45 +1,45 @@
--- A sound schedule. The clauses on head, cursors, known and seen stand apart from those on lanes, so that a
--- rule over shared words alone can cite them; all are said of one reader over plain values.
+-- A sound schedule. The clauses on head, cursors, known and seen are separate from those on lanes, so that a
+-- rule over shared words alone can cite them. All are stated for one reader, over plain values.
 use Rattle.std.specs.Prelude.{◌≡◌, ◌≢◌, ℕ, ◌+◌, ◌*◌, ◌%◌, ◌<◌, ◌≤◌, true, length, Some, None, slice_index}
 use Rattle.ring_core.specs.declared.event.Stage.TheVariants.{Idle, Holding, Closed}
 use Rattle.ring_core.specs.Schedule.{Schedule, readers, Progress, Lanes, progress_of, lanes_of}
 
--- a reader's cursor, what it took, and what it and the writer know
+-- a reader's cursor, the rows it took, and what it and the writer know
 pub record IsSoundProgress (places head : ℕ) (p : Progress) : Type 0 where
-  -- it took rows 0, 1, 2, and so on, each once
+  -- it took rows 0, 1, 2 and so on, each once
   pub in_order : (i : ℕ) → i < length p.taken → slice_index p.taken i ≡ i
   -- its cursor is the number of rows that it took
   pub counted : (c : ℕ) → p.cursor ≡ Some c → length p.taken ≡ c
-  -- it knows of no row that is not published
+  -- the head that it knows is at most the published head
   pub seen_in : p.seen ≤ head
   -- its cursor does not pass the head that it knows
   pub seen_ahead : (c : ℕ) → p.cursor ≡ Some c → c ≤ p.seen
-  -- while it is joined the writer knows a cursor of it, which it has reached
+  -- while it is joined, the writer knows a cursor of it that is not past its present one
   pub joined_known : (c : ℕ) → p.cursor ≡ Some c → (k : ℕ) × (p.known ≡ Some k) × (k ≤ c)
-  -- of one that left the writer knows that, or a number of rows that it took
+  -- once it left, the writer knows that, or a number of rows no larger than it took
   pub left_known : p.cursor ≡ None → (k : ℕ) → p.known ≡ Some k → k ≤ length p.taken
-  -- head is no more than a turn of the ring ahead of the cursor that the writer knows
+  -- head is at most one turn of the ring ahead of the cursor that the writer knows
   pub within : (k : ℕ) → p.known ≡ Some k → head ≤ k + places
 
--- a reader's stage and what lies in its lanes
+-- a reader's stage, and the rows in its lanes
 pub record IsSoundLanes (places total head : ℕ) (p : Progress) (l : Lanes) : Type 0 where
   -- a row that it holds or closed is one that it saw published
   pub holding_ahead : (c : ℕ) → p.cursor ≡ Some c → l.stage ≡ Holding → c < p.seen
   pub closed_ahead : (c : ℕ) → p.cursor ≡ Some c → l.stage ≡ Closed → c < p.seen
-  -- one that left holds nothing
+  -- a reader that left holds nothing
   pub left_idle : p.cursor ≡ None → l.stage ≡ Idle
-  -- a lane was filled only where there was room
+  -- a lane is filled only where there is room
   pub room : (k : ℕ) → p.known ≡ Some k → l.filled ≡ true → head < k + places
-  -- each published row that it has yet to close lies in its lane, but for the one that it holds
+  -- each published row that it has not passed is in its lane, except the one that it holds
   pub lies : (c n : ℕ) → p.cursor ≡ Some c → c ≤ n → n < head → (l.stage ≡ Holding → n ≢ c) → l.row n ≡ Some n
   -- the lane of the row that it holds is empty
   pub out : (c : ℕ) → p.cursor ≡ Some c → l.stage ≡ Holding → l.row c ≡ None
-  -- a row lies at its own place
+  -- a row is stored at its own place
   pub placed : (q n : ℕ) → l.row q ≡ Some n → q % places ≡ n % places
-  -- no row above head lies in a lane, and row head only where the lane is filled
+  -- no row above head is in a lane, and row head only if the lane is filled
   pub not_ahead : (q n : ℕ) → l.row q ≡ Some n → n ≤ head
   pub newest : (q : ℕ) → l.row q ≡ Some head → l.filled ≡ true
-  -- a filled lane has row head, which is one of the rows
+  -- a filled lane holds row head, which is below total
   pub in_total : l.filled ≡ true → head < total
   pub fresh : l.filled ≡ true → l.row head ≡ Some head
 

@@ -1,15 +1,15 @@
-// What can happen to a schedule, and how far a reader is with its row.
+// The events of a schedule, and the stage of a reader with its row.
 
-/// One event of the schedule. The number is a reader's.
+/// One event of the schedule. The number is that of the reader.
 #[derive(Clone, Copy, Debug, PartialEq, Eq, Hash)]
 pub enum Event {
-    /// The writer looks at the reader's cursor.
+    /// The writer loads the reader's cursor.
     Look(u32),
     /// The writer fills the reader's lane with the row numbered head.
     Fill(u32),
     /// The writer adds 1 to head.
     Publish,
-    /// The reader sees the head.
+    /// The reader loads the head.
     See(u32),
     /// The reader takes the row at its cursor out of its lane.
     Open(u32),
@@ -17,17 +17,17 @@ pub enum Event {
     Close(u32),
     /// The reader adds 1 to its cursor.
     Advance(u32),
-    /// The reader leaves, for good.
+    /// The reader leaves, permanently.
     Leave(u32),
 }
 
-/// How far a reader is with the row at its cursor.
+/// The stage of a reader with the row at its cursor.
 #[derive(Clone, Copy, Debug, PartialEq, Eq, Hash)]
 pub enum Stage {
-    /// It has not taken the row.
+    /// The reader has not taken the row.
     Idle,
-    /// It has the row out of its lane.
+    /// The reader has taken the row out of its lane.
     Holding,
-    /// It gave the row back, and its cursor still stands there.
+    /// The reader has given the row back, but has not yet advanced its cursor.
     Closed,
 }

@@ -1,8 +1,8 @@
-// What holds of every schedule, each law the contract of a function with nothing to do.
+// Laws that hold for every schedule. Each is the contract of a function with an empty body.
 ghost use Rattle.ring_core.specs.Plain.{PlainIsSound};
 ghost use Rattle.ring_core.specs.Laws.{EveryEventKeeps, EveryRunIsSound, FillsOnlyClosedRows};
 
-/// An event that is possible takes a sound schedule to a sound schedule.
+/// Every possible event takes a sound schedule to a sound schedule.
 pub fn every_event_keeps()
     ensures { EveryEventKeeps }
 {}
@@ -12,7 +12,7 @@ pub fn every_run_is_sound()
     ensures { EveryRunIsSound }
 {}
 
-/// A lane is filled only once its reader closed all rows that lay there.
+/// A lane is filled only after its reader has closed all earlier rows of that lane.
 pub fn fills_only_closed_rows()
     ensures { FillsOnlyClosedRows }
 {}

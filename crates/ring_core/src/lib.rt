@@ -1,6 +1,6 @@
-// The schedule of a ring of rows as one value: a writer that fills lanes, readers that take rows in order,
-// and the eight events that move them. No thread, atomic or buffer stands here; the definitions are over
-// plain lists, so that a ring of shared words and lanes can be compared with them.
+// The schedule of a ring of rows as a single value: a writer that fills lanes, readers that take rows in
+// order, and the eight events that change it. It uses no threads, atomics or buffers; the definitions are
+// over plain lists, so that a ring of shared words and lanes can be compared with them.
 #![tactic(auto)]
 
 mod event;

@@ -1,4 +1,4 @@
-// The state of a schedule: what a ring of shared words and lanes, its writer and its readers add up to.
+// The state of a schedule: the combined state of a ring's shared words and lanes, its writer and its readers.
 ghost use Rattle.std.specs.Prelude.{◌≡◌, ◌≤◌, IfOk, [], map, replicate};
 
 use crate::Stage;
@@ -7,23 +7,23 @@ use std::alloc::Global;
 
 /// The schedule of a ring: `total` rows pass through `places` places to every reader.
 ///
-/// The lists have one entry for each reader. `lane` has one for each reader and place, reader after reader.
+/// Each list has one entry per reader, except `lane`, which has one per reader and place, reader by reader.
 #[derive(Debug, Drop)]
 pub struct Core {
     pub places: u32,
     pub total: u64,
     /// The number of rows published.
     pub head: u64,
-    /// Whether the reader's lane has the row numbered head.
+    /// Whether the reader's lane has been filled with the row numbered head.
     pub filled: Vec<bool>,
-    /// The cursor that the writer knows, none once it has seen that the reader left.
+    /// The reader's cursor as the writer knows it; `None` once the writer has seen that the reader left.
     pub known: Vec<Option<u64>>,
-    /// The reader's next row, none once it left.
+    /// The reader's next row; `None` once it has left.
     pub cursor: Vec<Option<u64>>,
     /// The head that the reader knows.
     pub seen: Vec<u64>,
     pub stage: Vec<Stage>,
-    /// At `r * places + p` the number of the row that lies there, none where none does.
+    /// At `r * places + p`, the number of the row in reader r's lane at place p; `None` if it is empty.
     pub lane: Vec<Option<u64>>,
     /// The rows that the reader took, in order.
     pub taken: Vec<Vec<u64>>,
@@ -34,7 +34,7 @@ impl Core {
     ghost use Rattle.ring_core.specs.Sound.{IsSound};
     ghost use Rattle.ring_core.specs.Shown.{schedule_in};
 
-    /// The schedule before the first event.
+    /// Returns the schedule before the first event.
     pub fn new(alloc: Global, places: u32, readers: u32, total: u64) -> Result<Core, NoMemory>
         requires some_place { 1 ≤ places }
         requires few_places { places ≤ 1024 }
@@ -59,7 +59,7 @@ impl Core {
     }
 }
 
-// As many empty lists.
+// Returns `count` empty lists.
 fn empty_lists(alloc: Global, count: usize) -> Result<Vec<Vec<u64>>, NoMemory>
     ensures { IfOk result (λ lists. map (λ list. list.items) lists.items ≡ replicate count []) }
 {

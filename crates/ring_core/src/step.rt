@@ -1,4 +1,4 @@
-// The eight events, each one method: it does the event where it is possible, and else nothing.
+// The eight events, one method each: a possible event is performed, an impossible one changes nothing.
 ghost use Rattle.std.specs.Prelude.{◌≡◌, ◌<◌, ◌++◌, ◌∷◌, [], OnErr, OnOk, IfOk, map, false, slice_set};
 ghost use Rattle.std.specs.Prelude.{slice_index_or, vec_len};
 ghost use Rattle.ring_core.specs.Sound.{IsSound};
@@ -9,8 +9,8 @@ use crate::{Core, Event, Stage};
 use pr_base::NoMemory;
 
 impl Core {
-    /// Does the event and answers true where it is possible, and else answers false and changes nothing.
-    /// Only an advance takes memory, and where there is none nothing changes.
+    /// Performs the event and returns true if it is possible; otherwise returns false and changes nothing.
+    /// Only an advance allocates; if the allocation fails, nothing changes.
     pub fn step(&mut self, event: Event) -> Result<bool, NoMemory>
         requires { IsSound (schedule_in self.old) }
         ensures done { IfOk result (λ done. done ≡ can_be (schedule_in self.old) event) }
@@ -157,7 +157,7 @@ impl Core {
     }
 }
 
-// Makes each flag false.
+// Sets each flag to false.
 fn clear(flags: &mut [bool])
     ensures { flags.new ≡ map (λ flag. false) flags.old }
 {
@@ -166,7 +166,7 @@ fn clear(flags: &mut [bool])
     }
 }
 
-// Adds a row number to the list of one reader.
+// Appends a row number to one reader's list.
 fn push_row(taken: &mut Vec<Vec<u64>>, reader: usize, row: u64) -> Result<(), NoMemory>
     requires { reader < vec_len taken.old }
     ensures ok { OnOk result (let lists = map (λ rows. rows.items) taken.old.items in

@@ -1,4 +1,4 @@
--- What a deck keeps when a row is put.
+-- The invariant of a deck after a row is put.
 use Rattle.std.proofs.Common.{◌≡◌, ℕ, ◌+◌, ◌-◌, ◌<◌, List, length, ap, ◌∙◌, Option, Some, slice_get, arith}
 use Rattle.std.specs.Global.{Vec}
 use Rattle.std.specs.Vec.{with_items}
@@ -7,15 +7,15 @@ use Rattle.std.proofs.lemmas.List.Elements.{All-get_or}
 use Rattle.std.proofs.lemmas.Option.{slice_get_within, get_or_from_slice_get}
 use Rattle.ring_lanes.specs.Deck.{Keeps}
 
--- the row before the next number is the row that was put last
+-- the row before the next number is the row put last
 last_put : (rows : List (List ℕ)) (put : ℕ) (row items : List ℕ) → slice_get rows put ≡ Some row → items ≡ row → slice_get rows (put + 1 - 1) ≡ Some items
 last_put rows put row items next same = let e : put + 1 - 1 ≡ put = omega arith in rw (e, same) next
 
--- a buffer that is known to be b has what is known of the buffer
+-- two names for one buffer have the same contents
 read_back : (v b : Vec ℕ) (row : List ℕ) → Some v ≡ Some b → v.items ≡ row → b.items ≡ row
 read_back v b row is same = cc
 
--- after the next row was copied into the buffer, the place holds that row
+-- after the next row is copied into the buffer, the place holds that row
 pub puts : {rows : List (List ℕ)} {size put : ℕ} {place : Option (Vec ℕ)} (row new : List ℕ) (v : Vec ℕ) → place ≡ Some v →
     slice_get rows put ≡ Some row → new ≡ row → Keeps rows size put place → Keeps rows size (put + 1) (Some (with_items v new))
 puts {rows} {size} {put} row new v is next same kept =

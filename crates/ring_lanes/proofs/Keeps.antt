@@ -1,4 +1,4 @@
--- What the ends of a ring keep from call to call.
+-- The invariants that the ends of a ring keep between calls.
 use Rattle.std.proofs.Common.{◌≡◌, ℕ, zero, suc, ◌+◌, ◌<◌, true, false, List, [], ◌∷◌, ◌++◌, Bool, length, map, replicate, get_or, sym, refl, ap, ◌∙◌, subst, inl, inr, arith, length-append}
 use Rattle.std.specs.Prelude.{Some}
 use Rattle.std.proofs.lemmas.Bool.{cases_lt, false≢true}
@@ -19,7 +19,7 @@ use Rattle.ring_lanes.specs.Reader.{AreNewSeats, IsReader, reader_state, new_rea
 use Rattle.ring_lanes.specs.Writer.{WriterState, HasRoom, IsWriter, cursor_known, writer_state}
 use Rattle.ring_lanes.proofs.Fills.{with_filled}
 
--- the writer's end once it published a row for which there was room
+-- the writer's end after publishing a row for which there was room
 pub published_end : (m s a : WriterMark) (n : Numbers) (head : ℕ) (known : List ℕ) (now : WriterState) → IsWriter m n head known → writer_state m ≡ now → HasRoom now → head < n.total
     → s ≡ with_filled m s.view.filled → length s.view.filled ≡ s.view.ring.readers → a ≡ record s { view = published s.view } → IsWriter a n (head + 1) known
 published_end m s a n head known now i is room row same count e =
@@ -103,7 +103,7 @@ new_seats table ring n h r m e =
     let same = h.readers_is in
     subst (λ (x : ReaderMark). IsReader x n r 0 0 true) is (new_reader_end table ring n r h (omega arith))
 
--- the next seat stands at its reader's index
+-- the next seat is at its reader's index
 pub next_seat : (n : Numbers) (seats done rest : List ReaderMark) (m : ReaderMark) (r : ℕ) → AreNewSeats n seats → seats ≡ done ++ m ∷ rest → r ≡ length done → IsReader m n r 0 0 true
 next_seat n seats done rest m r new split at =
     let long : length seats ≡ length (done ++ m ∷ rest) = ap {B = ℕ} length split in
@@ -114,6 +114,6 @@ next_seat n seats done rest m r new split at =
 pub seats_count : (table : TableId) (ring : RingNumbers) (n : Numbers) (seats : List ReaderMark) → HasNumbers ring n → seats ≡ map (new_reader_mark table ring) (up_to ring.readers) → length seats ≡ n.readers
 seats_count table ring n seats h e = ap {B = ℕ} length e ∙ (length-map (up_to ring.readers) (new_reader_mark table ring) ∙ (length_up ring.readers ∙ h.readers_is))
 
--- what contracts see of the readers' ends
+-- the readers' ends as contracts see them
 pub new_readers : (table : TableId) (ring : RingNumbers) → map reader_state (map (new_reader_mark table ring) (up_to ring.readers)) ≡ map (new_reader_state table ring) (up_to ring.readers)
 new_readers table ring = map-map reader_state (new_reader_mark table ring) (up_to ring.readers)

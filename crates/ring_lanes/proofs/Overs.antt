@@ -1,4 +1,4 @@
--- A reader that takes row after row and gives each back.
+-- A reader that takes each row in turn and gives it back.
 use Rattle.std.proofs.Common.{◌≡◌, ℕ, ◌+◌, ◌<◌, ◌≤◌, false, refl, sym, ap, ◌∙◌, ⊎_elim, arith}
 use Rattle.std.proofs.lemmas.Bool.{cases_lt}
 use Rattle.ring_lanes.specs.declared.answer.NotYet.{NotYet}
@@ -44,11 +44,11 @@ chained first now next cursor was is =
     let all : next ≡ at first cursor next.seen next.loads = is ∙ ap (λ r. at r cursor next.seen next.loads) was in
     all ∙ ap (λ n. at first n next.seen next.loads) (sym (ap (λ r. r.cursor) all))
 
--- no row was taken
+-- no rows taken
 pub over-first : (s : ReaderState) → s.cursor ≤ s.ring.total → GoesOver s s 0
 over-first s within = record { reader = refl; grows = omega arith; within = within; seen = omega arith; counted = omega arith; found = omega arith }
 
--- a row more was taken
+-- one more row taken
 pub over-on : (first now next : ReaderState) (waits : ℕ) → now.cursor < now.ring.total → GoesOver first now waits → Closes now next → GoesOver first next waits
 over-on first now next waits less goes closes =
     let total : now.ring.total ≡ first.ring.total = ap (λ r. r.ring.total) goes.reader in
@@ -69,7 +69,7 @@ over-on first now next waits less goes closes =
       found = omega arith;
     }
 
--- the row was awaited once more
+-- one more load found no row
 pub over-awaiting : (first now next : ReaderState) (waits : ℕ) (answer : NotYet) → GoesOver first now waits → now.seen ≤ now.cursor → IsNotYet now next answer → GoesOver first next (waits + 1)
 over-awaiting first now next waits answer goes behind not_yet =
     let same : next ≡ at now now.cursor answer.head (now.loads + 1) = not_yet.stays in

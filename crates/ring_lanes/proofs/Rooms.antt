@@ -1,4 +1,4 @@
--- The writer's way over its readers in search of room.
+-- The writer's pass over its readers when it checks for room.
 use Rattle.std.proofs.Common.{◌≡◌, ℕ, ◌+◌, ◌<◌, ◌≤◌, sym, ap, ◌∙◌, subst, inl, inr, arith}
 use Rattle.std.specs.Prelude.{Result, Ok, Err, IfErr, IsErrAnd}
 use Rattle.std.proofs.lemmas.Bool.{cases_eq, cases_lt}
@@ -7,11 +7,11 @@ use Rattle.ring_rule.specs.Views.{cursor_in}
 use Rattle.ring_lanes.specs.declared.answer.Full.{Full}
 use Rattle.ring_lanes.specs.Writer.{WriterState, HasRoom, HasRoomFor, IsPassedOver, IsLook, IsBehind, IsFull, LooksOnce, LooksOnceAt, OthersStand}
 
--- no more than known words and counts of loads differ
+-- only the known words and the counts of loads differ
 abbrev pub IsSameEnd : WriterState → WriterState → Type 0
 IsSameEnd before after = after ≡ record before { known = after.known; loads = after.loads }
 
--- of the first n readers each has room, behind them no cursor was loaded
+-- each of the first n readers has room; no cursor of a later reader was loaded
 pub record Visited (before after : WriterState) (n : ℕ) : Type 0 where
   pub same : IsSameEnd before after
   pub room : (r : ℕ) → r < n → HasRoomFor after r
@@ -27,7 +27,7 @@ same_ring b a e = ap (λ (w : WriterState). w.ring) e
 same_end : (b m a : WriterState) → IsSameEnd b m → IsSameEnd m a → IsSameEnd b a
 same_end b m a p q = q ∙ ap (λ (w : WriterState). let v : WriterState = record w { known = a.known; loads = a.loads } in v) p
 
--- what was known of a reader whose cursor was not loaded
+-- a reader whose cursor was not loaded keeps its known word
 over_over : (b m a : WriterState) (r : ℕ) → IsPassedOver b m r → IsPassedOver m a r → IsPassedOver b a r
 over_over b m a r p q = record { known = q.known ∙ p.known; loads = q.loads ∙ p.loads }
 
@@ -38,7 +38,7 @@ over_room m a r e p h k f =
     let low = h k (ap cursor_in (sym p.known) ∙ f) in
     omega arith
 
--- a load after readers were passed over, and readers passed over after a load
+-- a load after a reader was passed over, and a reader passed over after a load
 over_look : (b m a : WriterState) (r : ℕ) → IsSameEnd b m → IsPassedOver b m r → IsLook m a r → IsLook b a r
 over_look b m a r e p l =
     let head = same_head b m e in
@@ -70,7 +70,7 @@ once_over : (b m a : WriterState) (r : ℕ) → LooksOnceAt b m r → IsPassedOv
 once_over b m a r (inl q) p = inl (over_over b m a r q p)
 once_over b m a r (inr l) p = inr (look_over b m a r l p)
 
--- one reader more has room
+-- one more reader has room
 pub visited_more : (b m a : WriterState) (n : ℕ) → Visited b m n → HasRoomFor a n → LooksOnceAt m a n → OthersStand m a n → IsSameEnd m a → Visited b a (n + 1)
 visited_more b m a n v room look others e = record {
   same = same_end b m a v.same e;
@@ -92,13 +92,13 @@ visited_looks b a n v r l = elim (cases_lt r n) [
   | inr high ↦ inl (v.rest r (omega arith))
 ]
 
--- with all readers visited the row may be published
+-- once all readers are visited, the row may be published
 pub visited_room : (b a : WriterState) (n : ℕ) → n ≡ b.ring.readers → Visited b a n → HasRoom a
 visited_room b a n e v r l =
     let readers : a.ring.readers ≡ b.ring.readers = ap (λ (g : RingNumbers). g.readers) (same_ring b a v.same) in
     v.room r (omega arith)
 
--- a reader that is in the ring is so at each visit
+-- a reader's number stays in range at each visit
 pub visited_range : (b a : WriterState) (n r : ℕ) → Visited b a n → r < b.ring.readers → r < a.ring.readers
 visited_range b a n r v l =
     let readers : a.ring.readers ≡ b.ring.readers = ap (λ (g : RingNumbers). g.readers) (same_ring b a v.same) in
@@ -123,7 +123,7 @@ visited_full_looks b m a n v look others e r l = elim (cases_eq r n) [
   | inr other ↦ once_over b m a r (visited_looks b m n v r l) (others r other)
 ]
 
--- a refusal that is handed on
+-- an error that is passed on
 pub err_told : {T E : Type 0} (F : E → Type 0) (r : Result T E) (x : E) → F x → IsErrAnd r (λ y. y ≡ x) → IfErr r F
 err_told F (Ok v) x f h = absurd h
 err_told F (Err y) x f h = subst F (sym h) f

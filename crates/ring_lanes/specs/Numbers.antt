@@ -12,7 +12,7 @@ pub record HasNumbers (ring : RingNumbers) (n : Numbers) : Type 0 where
   pub row_len_is : ring.row_len ≡ n.row_len
   pub some_place : 1 ≤ n.places
   pub few_readers : n.readers ≤ 17
-  -- the cursor word of a reader that left is no number of rows
+  -- the cursor word of a reader that left is not a number of rows
   pub total_in : n.total < left_word
   pub rows_in : length ring.rows ≡ n.total
   pub some_byte : 1 ≤ n.row_len

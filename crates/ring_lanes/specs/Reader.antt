@@ -1,4 +1,4 @@
--- What contracts see of a reader's end of a ring, what its calls answer, and what it keeps.
+-- What contracts see of a reader's end of a ring, the results of its calls, and its invariant.
 use Rattle.std.specs.Prelude.{◌≡◌, ℕ, ◌+◌, ◌<◌, ◌≤◌, Bool, true, false, not, List, Some, slice_get}
 use Rattle.atomic_table.specs.Seated.{TableId}
 use Rattle.ring_rule.specs.declared.view.RingNumbers.{RingNumbers}
@@ -12,17 +12,17 @@ use Rattle.ring_lanes.specs.Numbers.{HasNumbers}
 
 -- a reader's end of a ring
 pub record ReaderState : Type 0 where
-  -- which ring it is of, and that ring's numbers and rows
+  -- the ring's table, and the ring's numbers and rows
   pub table : TableId
   pub ring : RingNumbers
-  -- which reader it is
+  -- the reader's number
   pub number : ℕ
   -- how many rows it took and gave back
   pub cursor : ℕ
   pub left : Bool
   -- the row at the cursor is out
   pub held : Bool
-  -- the head that was loaded last, and how often one was loaded
+  -- the head last loaded, and how often it was loaded
   pub seen : ℕ
   pub loads : ℕ
 
@@ -61,8 +61,8 @@ pub record IsNextRow (x : ReaderState) (held : HeldRow) : Type 0 where
   pub bytes : slice_get x.ring.rows x.cursor ≡ Some held.bytes
   pub source : held.source ≡ source_of x
 
--- the head was loaded at most once: where a row at the cursor is known of, it wasn't; else it was, and what
--- is found is no lower than what was known, and no more than there are rows
+-- the head was loaded exactly once if no row at the cursor was known, and otherwise not at all; the head
+-- found is at least the known one and at most the number of rows
 pub record SeesOnce (before after : ReaderState) : Type 0 where
   pub seen : before.cursor < before.seen → after.seen ≡ before.seen
   pub loads : before.cursor < before.seen → after.loads ≡ before.loads
@@ -76,18 +76,18 @@ pub record IsOpened (before after : ReaderState) (held : HeldRow) : Type 0 where
   pub ahead : before.cursor < after.seen
   pub stays : after ≡ record before { held = true; seen = after.seen; loads = after.loads }
 
--- the row at the cursor was taken and given back, and the head loaded perhaps
+-- the row at the cursor was taken and given back, possibly after loading the head
 pub record Closes (old new : ReaderState) : Type 0 where
   pub reader : new ≡ record old { cursor = old.cursor + 1; seen = new.seen; loads = new.loads }
   pub known : old.cursor < new.seen
   pub grows : old.seen ≤ new.seen
   pub within : new.seen ≤ old.ring.total
   pub loads : old.loads ≤ new.loads
-  -- a load found a row more
+  -- each load found at least one more row
   pub found : new.loads + old.seen ≤ old.loads + new.seen
 
--- the rows from the first cursor up to this one were taken and given back, and so many were awaited between
--- them
+-- the rows from the first cursor up to this one were taken and given back, and in between, waits loads found
+-- no row
 pub record GoesOver (first now : ReaderState) (waits : ℕ) : Type 0 where
   pub reader : now ≡ record first { cursor = now.cursor; seen = now.seen; loads = now.loads }
   pub grows : first.cursor ≤ now.cursor
@@ -96,19 +96,19 @@ pub record GoesOver (first now : ReaderState) (waits : ℕ) : Type 0 where
   pub counted : first.loads + waits ≤ now.loads
   pub found : now.loads + first.seen ≤ first.loads + waits + now.seen
 
--- a load found head at the cursor
+-- a load found head equal to the cursor
 pub record IsNotYet (before after : ReaderState) (answer : NotYet) : Type 0 where
   pub head : answer.head ≡ before.cursor
   pub stays : after ≡ record before { seen = answer.head; loads = before.loads + 1 }
 
--- the row at the reader's cursor was looked for at least so often, and the last load found this head there
+-- the head was loaded at least patience times, and the last load found it equal to the reader's cursor
 pub record Waits (old new : ReaderState) (patience head : ℕ) : Type 0 where
   pub at : head ≡ new.cursor
   pub within : head < old.ring.total
   pub last : new.seen ≡ head
   pub counted : old.loads + patience ≤ new.loads
 
--- what a reader's end keeps between its calls, over its copies of the numbers
+-- the invariant of a reader's end between its calls, over its copies of the numbers
 pub record IsReader (m : ReaderMark) (n : Numbers) (number cursor seen : ℕ) (joined : Bool) : Type 0 where
   pub numbers : HasNumbers m.view.ring n
   pub number_is : m.view.number ≡ number
@@ -121,6 +121,6 @@ pub record IsReader (m : ReaderMark) (n : Numbers) (number cursor seen : ℕ) (j
   -- a row that is out is one that the reader knows of
   pub ahead : m.view.out ≡ true → cursor < seen
 
--- seats of a ring of these numbers, in the order of readers, before the first call
+-- seats of a ring of these numbers, in order of readers, before the first call
 abbrev pub AreNewSeats : Numbers → List ReaderMark → Type 0
 AreNewSeats n seats = (r : ℕ) (m : ReaderMark) → slice_get seats r ≡ Some m → IsReader m n r 0 0 true

@@ -1,4 +1,4 @@
--- What contracts see of the writer's end of a ring, what its calls answer, and what it keeps.
+-- What contracts see of the writer's end of a ring, the results of its calls, and its invariant.
 use Rattle.std.specs.Prelude.{◌≡◌, ◌≢◌, ℕ, ◌+◌, ◌<◌, ◌≤◌, ◌⊎◌, not, nat_eq, false, List, length, replicate}
 use Rattle.std.specs.Prelude.{count_by, Option, Some, slice_index, slice_index_or}
 use Rattle.atomic_table.specs.Seated.{TableId}
@@ -12,12 +12,12 @@ use Rattle.ring_lanes.specs.Numbers.{HasNumbers}
 
 -- the writer's end of a ring
 pub record WriterState : Type 0 where
-  -- which ring it is of, and that ring's numbers and rows
+  -- the ring's table, and the ring's numbers and rows
   pub table : TableId
   pub ring : RingNumbers
   -- how many rows were published
   pub head : ℕ
-  -- of each reader the cursor word that was loaded last, and how often one was loaded
+  -- for each reader the cursor word last loaded, and how often it was loaded
   pub known : List ℕ
   pub loads : List ℕ
 
@@ -30,7 +30,7 @@ writer_state m = record {
   loads = m.view.loads;
 }
 
--- before the first call
+-- the writer's end before the first call
 abbrev pub new_writer_state : TableId → RingNumbers → WriterState
 new_writer_state table ring = record {
   table = table;
@@ -40,15 +40,15 @@ new_writer_state table ring = record {
   loads = replicate ring.readers 0;
 }
 
--- the cursor of reader r by these words, none where they say that it left
+-- the cursor of reader r by these words; None if they say that it left
 abbrev pub cursor_known : List ℕ → ℕ → Option ℕ
 cursor_known known r = cursor_in (slice_index known r)
 
--- how many readers didn't leave by these words
+-- how many readers have not left, by these words
 abbrev pub joined_count : List ℕ → ℕ
 joined_count known = count_by (λ word. not (nat_eq word left_word)) known
 
--- as far as the writer knows reader r left, or has closed the row in whose place row head will lie
+-- as far as the writer knows, reader r left or has closed the row whose place row head takes
 abbrev pub HasRoomFor : WriterState → ℕ → Type 0
 HasRoomFor w r = (k : ℕ) → cursor_known w.known r ≡ Some k → w.head < k + w.ring.places
 
@@ -59,7 +59,7 @@ HasRoom w = (r : ℕ) → r < w.ring.readers → HasRoomFor w r
 pub record PassState : Type 0 where
   pub head : ℕ
 
--- the writer may publish by this pass
+-- this pass permits the writer to publish
 pub record IsPass (w : WriterState) (pass : PassState) : Type 0 where
   pub head : pass.head ≡ w.head
   pub room : HasRoom w
@@ -69,53 +69,53 @@ pub record IsPassedOver (before after : WriterState) (r : ℕ) : Type 0 where
   pub known : slice_index after.known r ≡ slice_index before.known r
   pub loads : slice_index after.loads r ≡ slice_index before.loads r
 
--- it was loaded once: what is found is no lower than what was known and at most head, or that the reader left
+-- it was loaded once: the cursor found is at least the known one and at most head, or the reader left
 pub record IsLoaded (before after : WriterState) (r : ℕ) : Type 0 where
   pub counted : slice_index after.loads r ≡ slice_index before.loads r + 1
   pub found : (k : ℕ) → cursor_known after.known r ≡ Some k
       → (j : ℕ) × (cursor_known before.known r ≡ Some j) × (j ≤ k) × (k ≤ before.head)
 
--- it was loaded once, where the known cursor was head less places
+-- it was loaded once, with the known cursor equal to head - places
 pub record IsLook (before after : WriterState) (r : ℕ) : Type 0 where
   pub known : ℕ
   pub known_is : cursor_known before.known r ≡ Some known
   pub behind : known + before.ring.places ≡ before.head
   pub loaded : IsLoaded before after r
 
--- the cursor of reader r was loaded at most once, and only where the known one was head less places
+-- the cursor of reader r was loaded at most once, and only if the known one was head - places
 abbrev pub LooksOnceAt : WriterState → WriterState → ℕ → Type 0
 LooksOnceAt before after r = IsPassedOver before after r ⊎ IsLook before after r
 
--- so that of each reader
+-- the same for every reader
 abbrev pub LooksOnce : WriterState → WriterState → Type 0
 LooksOnce before after = (r : ℕ) → r < before.ring.readers → LooksOnceAt before after r
 
 abbrev pub OthersStand : WriterState → WriterState → ℕ → Type 0
 OthersStand before after reader = (r : ℕ) → r ≢ reader → IsPassedOver before after r
 
--- a load found this cursor of a joined reader, which is head less places
+-- a load found this cursor of a joined reader, equal to head - places
 pub record IsBehind (before after : WriterState) (full : Full) : Type 0 where
   pub look : IsLook before after full.site
   pub found : cursor_known after.known full.site ≡ Some full.at
   pub behind : full.at + before.ring.places ≡ before.head
 
--- so it did, of the first reader that is behind; after that none was loaded
+-- the first reader that is behind was found so by a load; no cursor of a later reader was loaded
 pub record IsFull (before after : WriterState) (full : Full) : Type 0 where
   pub in_range : full.site < before.ring.readers
   pub found : IsBehind before after full
   pub first : (r : ℕ) → r < full.site → HasRoomFor after r
   pub others : (r : ℕ) → full.site < r → IsPassedOver before after r
 
--- a cursor word that the writer may know: that of a reader that left, or one from head less places up to head
+-- a cursor word that the writer may know: that of a reader that left, or one from head - places to head
 abbrev pub IsKnown : ℕ → ℕ → ℕ → Type 0
 IsKnown places head word = word ≢ left_word → (word ≤ head) × (head ≤ word + places)
 
--- each known cursor lies between head less places and head
+-- each known cursor is between head - places and head
 abbrev pub AreKnown : List ℕ → ℕ → ℕ → ℕ → Type 0
 AreKnown known places readers head = (r : ℕ) → r < readers → IsKnown places head (slice_index known r)
 
--- the writer may fill the lanes of all readers that it didn't see leave: there is a row, and room, and none
--- is filled
+-- the writer may fill the lanes of all readers that it has not seen leave: a row remains, there is room for
+-- it, and no lane is filled
 pub record MayFillAll (v : WriterView) : Type 0 where
   pub row : v.head < v.ring.total
   pub known_in : length v.known ≡ v.ring.readers
@@ -123,7 +123,7 @@ pub record MayFillAll (v : WriterView) : Type 0 where
   pub filled_in : length v.filled ≡ v.ring.readers
   pub unfilled : (r : ℕ) → slice_index_or v.filled r false ≡ false
 
--- what the writer's end keeps between its calls, over its copies of head and of the known words
+-- the invariant of the writer's end between its calls, over its copies of head and of the known words
 pub record IsWriter (m : WriterMark) (n : Numbers) (head : ℕ) (known : List ℕ) : Type 0 where
   pub numbers : HasNumbers m.view.ring n
   pub head_is : m.view.head ≡ head

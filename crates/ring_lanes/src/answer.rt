@@ -1,9 +1,9 @@
-// What the ends of a ring answer: the leave to publish a row, and why one can't go on yet.
+// Results of the ring's ends: permission to publish a row, and why an end cannot go on yet.
 use std::marker::Model;
 use thiserror::Error;
 
-/// The leave to publish the next row, which `Writer::room` gives and `Writer::publish` takes. Contracts see
-/// the row's number. This crate alone makes one.
+/// Permission to publish the next row: `Writer::room` returns it and `Writer::publish` takes it. Contracts
+/// see the row's number. Only this crate makes one.
 #[derive(Debug, Drop)]
 pub struct Pass {
     head: u64,
@@ -20,7 +20,7 @@ impl Model for Pass {
 impl Pass {
     ghost use Rattle.std.specs.Prelude.{◌≡◌};
 
-    /// The leave to publish the row numbered head.
+    /// Makes the permission to publish the row numbered head.
     pub(crate) fn of(head: u64) -> Pass
         ensures { result ≡ record { head = head } }
     {
@@ -28,20 +28,20 @@ impl Pass {
     }
 }
 
-/// A reader has yet to close the row in whose place the next one will lie.
+/// A reader has not yet closed the row whose place the next row takes.
 #[derive(Clone, Copy, Debug, PartialEq, Eq, Error)]
 #[error("reader {site} has yet to close row {at}")]
 pub struct Full {
     /// The number of that reader.
     pub site: u32,
-    /// Its cursor, which is the number of that row.
+    /// The reader's cursor, which is the number of that row.
     pub at: u64,
 }
 
-/// The row at the reader's cursor isn't published yet.
+/// The row at the reader's cursor is not yet published.
 #[derive(Clone, Copy, Debug, PartialEq, Eq, Error)]
 #[error("{head} rows are published")]
 pub struct NotYet {
-    /// The head that was loaded, which is the cursor.
+    /// The head that was loaded, which equals the cursor.
     pub head: u64,
 }

@@ -1,4 +1,4 @@
-// The deck: one place through which one thread hands each row of a deal to one site after the other.
+// The deck: a single place through which one thread hands each row of a deal to one site after another.
 ghost use Rattle.std.specs.Prelude.{◌≡◌, ◌+◌, ◌<◌, true, false, Some, IfOk, slice_get};
 
 use crate::{Held, Source};
@@ -6,9 +6,8 @@ use pr_base::{Deal, NoMemory};
 use std::alloc::Global;
 use std::marker::Model;
 
-/// The rows of a deal in one place. Each row is put once, in order, and then taken and given back as often
-/// as there are sites. Contracts see the rows of the deal, how many of them were put, and whether a row is
-/// out.
+/// The rows of a deal, through a single place. Each row is put once, in order, and then taken and given back
+/// once per site. Contracts see the rows of the deal, how many of them were put, and whether a row is out.
 #[derive(Drop)]
 pub struct Deck<'d, D: Deal> {
     deal: &'d D,
@@ -28,11 +27,11 @@ impl<'d, D: Deal> Model for Deck<'d, D> {
 }
 
 impl<'d, D: Deal> Deck<'d, D> {
-    /// A deck of the rows of `deal`, of which none was put yet.
+    /// Opens a deck of the rows of `deal`, with none put yet.
     pub fn open(alloc: Global, deal: &'d D) -> Result<Deck<'d, D>, NoMemory>
         ensures { IfOk result (λ deck. deck ≡ record { rows = D.rows deal.now; put = 0; out = false }) }
     {
-        // For its clause: a word can number the rows.
+        // Called for its contract: the number of rows fits 64 bits.
         let _total = deal.total();
         let place = vec![in alloc; 0; deal.row_len()].map_err(|_| NoMemory)?;
         Ok(Deck {
@@ -42,7 +41,7 @@ impl<'d, D: Deal> Deck<'d, D> {
         })
     }
 
-    /// Puts the next row of the deal in the place of the one before.
+    /// Puts the next row of the deal in place of the previous one.
     pub fn put(&mut self, row: &[u8])
         requires home { self.old.out ≡ false }
         requires next { slice_get self.old.rows self.old.put ≡ Some row.now }
@@ -55,7 +54,7 @@ impl<'d, D: Deal> Deck<'d, D> {
         self.put += 1;
     }
 
-    /// Takes the row that was put last.
+    /// Takes the row put last.
     pub fn take(&mut self) -> Held
         requires some { 0 < self.old.put }
         requires home { self.old.out ≡ false }

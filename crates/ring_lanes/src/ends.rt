@@ -1,4 +1,4 @@
-// The readers' ends of a ring, made of its readers' seats.
+// The readers' ends of a ring, made from its readers' seats.
 ghost use Rattle.std.specs.Prelude.{◌≡◌, ◌≤◌, [], length, map, vec_capacity};
 ghost use Rattle.ring_lanes.specs.Reader.{AreNewSeats, reader_state};
 
@@ -7,7 +7,7 @@ use crate::numbers::Numbers;
 use pr_base::Deal;
 use ring_rule::ReaderSeat;
 
-/// Makes an end of each reader's seat, and puts them into a list that has room for them.
+/// Makes an end from each reader's seat, and pushes them into a list with enough capacity.
 pub fn reader_ends<'r, D: Deal>(
     mut list: Vec<Reader<'r, D>>,
     seats: Vec<ReaderSeat<'r, D>>,

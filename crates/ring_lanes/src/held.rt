@@ -4,9 +4,9 @@ ghost use Rattle.std.specs.Prelude.{◌≡◌};
 use crate::Source;
 use std::marker::Model;
 
-/// A row that was taken from a deck or a ring: its bytes, its number among the rows of its deal and where
-/// it was taken. It holds the very buffer that the row lay in, and goes home by the call that takes it
-/// back. This crate alone makes one.
+/// A row taken from a deck or a ring: its bytes, its number among the rows of its deal, and where it was
+/// taken. It owns the buffer of the place that the row was taken from; the call that takes the row back
+/// returns the buffer there. Only this crate makes one.
 #[derive(Debug, Drop)]
 pub struct Held {
     bytes: Vec<u8>,
@@ -23,7 +23,7 @@ impl Model for Held {
 }
 
 impl Held {
-    /// The row `number` of a deal, taken at `source`.
+    /// Makes the row `number` of a deal, taken at `source`.
     pub(crate) fn of(bytes: Vec<u8>, number: u64, source: Source) -> Held
         ensures { result ≡ record { number = number; bytes = bytes.items; source = source } }
     {
@@ -34,28 +34,28 @@ impl Held {
         }
     }
 
-    /// The buffer of the row, which goes home.
+    /// Returns the row's buffer, for its place.
     pub(crate) fn into_bytes(self) -> Vec<u8>
         ensures { result.items ≡ self.bytes }
     {
         self.bytes
     }
 
-    /// The row's number among the rows of its deal.
+    /// Returns the row's number among the rows of its deal.
     pub fn number(&self) -> u64
         ensures { result ≡ self.now.number }
     {
         self.number
     }
 
-    /// Lends the row's bytes.
+    /// Returns the row's bytes.
     pub fn bytes(&self) -> &[u8]
         ensures { result.now ≡ self.now.bytes }
     {
         self.bytes.as_slice()
     }
 
-    /// Where the row was taken.
+    /// Returns where the row was taken.
     pub fn source(&self) -> Source
         ensures { result ≡ self.now.source }
     {

@@ -1,4 +1,4 @@
-// A row is copied into the lanes of a ring's readers.
+// Copying a row into the lanes of a ring's readers.
 ghost use Rattle.std.specs.Prelude.{◌≡◌, length};
 ghost use Rattle.ring_rule.specs.Kept.{row_at};
 ghost use Rattle.ring_rule.specs.Plays.{MayPublish};
@@ -7,7 +7,7 @@ ghost use Rattle.ring_lanes.specs.Writer.{MayFillAll};
 use pr_base::Deal;
 use ring_rule::WriterSeat;
 
-/// Fills a lane of each reader that the writer hasn't seen leave with the row numbered head, each once.
+/// Fills, once each, the lane for the row numbered head of every reader that the writer has not seen leave.
 pub fn fill_lanes<D: Deal>(seat: &mut WriterSeat<'_, D>, known: &[u64], readers: u32, row: &[u8])
     requires may { MayFillAll seat.old.view }
     requires readers { readers ≡ seat.old.view.ring.readers }

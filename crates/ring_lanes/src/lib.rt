@@ -1,6 +1,6 @@
-// Rows on their way from one writer to the sites: a row that was taken, where it came from, the ring, by
-// which one thread passes the rows of a deal to readers in other threads, and the deck, by which one thread
-// hands each row to one site after the other.
+// Rows on their way from one writer to the sites: a row that was taken and where it came from; the ring,
+// which passes the rows of a deal from one thread to readers in other threads; and the deck, through which
+// one thread hands each row to one site after another.
 #![tactic(auto)]
 
 mod answer;

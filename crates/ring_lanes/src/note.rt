@@ -6,8 +6,8 @@ use pr_base::Deal;
 use ring_rule::{CursorNoteSeat, HeadNoteSeat};
 use std::marker::Model;
 
-/// A note of the writer. Contracts see which ring it is of, how many rows were published when it was made,
-/// and which cursors the writer knew.
+/// A note of the writer. Contracts see its ring's table, how many rows were published when it was made, and
+/// which cursors the writer knew.
 #[derive(Drop)]
 pub struct HeadNote<D: Deal> {
     seat: HeadNoteSeat<D>,
@@ -33,8 +33,8 @@ impl<D: Deal> HeadNote<D> {
     }
 }
 
-/// A note of a reader. Contracts see which ring and which reader it is of, how many rows the reader had taken
-/// and given back when it was made, and whether it had left.
+/// A note of a reader. Contracts see its ring's table, its reader's number, how many rows the reader had
+/// taken and given back when it was made, and whether it had left.
 #[derive(Drop)]
 pub struct CursorNote<D: Deal> {
     seat: CursorNoteSeat<D>,

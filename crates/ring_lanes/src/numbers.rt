@@ -1,9 +1,9 @@
-// The numbers of a ring, which each of its ends keeps, and whether it pauses.
+// The numbers of a ring, which each of its ends keeps, and whether its ends pause.
 use pr_base::Deal;
 use ring_rule::RingTable;
 
-/// How many places and readers a ring has, how many rows pass through it, the bytes of each, and whether an
-/// end pauses between two looks.
+/// A ring's numbers of places, readers and rows, the bytes of each row, and whether an end pauses between two
+/// loads.
 #[derive(Clone, Copy)]
 pub struct Numbers {
     pub places: u32,
@@ -16,7 +16,7 @@ pub struct Numbers {
 impl Numbers {
     ghost use Rattle.ring_lanes.specs.Numbers.{HasNumbers};
 
-    /// Those of the ring of this table.
+    /// Returns the numbers of this table's ring.
     pub fn of<D: Deal>(table: &RingTable<'_, D>, pauses: bool) -> Numbers
         ensures { HasNumbers table.now.ring result }
     {

@@ -13,10 +13,10 @@ use pr_base::Deal;
 use ring_rule::{LaneRow, ReaderSeat};
 use std::marker::Model;
 
-/// The end of a ring by which one thread takes the rows of the deal in order, and gives each back.
+/// The end of a ring through which one thread takes the rows of the deal in order, and gives each back.
 ///
-/// Contracts see which ring and which reader it is of, how many rows it took and gave back, whether it has
-/// left, whether a row is out, and the head that was loaded last and how often one was loaded.
+/// Contracts see its ring and its reader's number, how many rows it took and gave back, whether it has left,
+/// whether a row is out, the head last loaded and how often it was loaded.
 #[derive(Drop)]
 pub struct Reader<'r, D: Deal> {
     seat: ReaderSeat<'r, D>,
@@ -36,7 +36,7 @@ impl<'r, D: Deal> Model for Reader<'r, D> {
 }
 
 impl<'r, D: Deal> Reader<'r, D> {
-    /// The end that steps by this seat.
+    /// Makes the end that uses this seat.
     pub(crate) fn new(seat: ReaderSeat<'r, D>, numbers: Numbers, number: u32) -> Reader<'r, D>
         requires { IsReader seat numbers number 0 0 true }
         ensures { result ≡ reader_state seat.entry }
@@ -51,7 +51,7 @@ impl<'r, D: Deal> Reader<'r, D> {
         }
     }
 
-    /// The reader's number, from 0.
+    /// Returns the reader's number, counted from 0.
     pub fn number(&self) -> u32
         ensures number { result ≡ self.now.number }
         ensures within { result < self.now.ring.readers }
@@ -59,7 +59,7 @@ impl<'r, D: Deal> Reader<'r, D> {
         self.number
     }
 
-    /// The number of rows that it took and gave back, also once it has left.
+    /// Returns the number of rows that it took and gave back; it is unchanged when the reader leaves.
     pub fn cursor(&self) -> u64
         ensures cursor { result ≡ self.now.cursor }
         ensures known { result ≤ self.now.seen }
@@ -68,29 +68,28 @@ impl<'r, D: Deal> Reader<'r, D> {
         self.cursor
     }
 
-    /// Pauses between two looks, if its ring does. `look` is any number that isn't known before the program
-    /// runs.
+    /// Pauses between two loads, if the ring's ends pause. `look` is any number not known at compile time.
     pub fn pause(&self, look: u32) {
         if self.numbers.pauses {
             pause(look);
         }
     }
 
-    /// The number of rows of the deal.
+    /// Returns the number of rows of the deal.
     pub fn total(&self) -> u64
         ensures { result ≡ self.now.ring.total }
     {
         self.numbers.total
     }
 
-    /// Whether it hasn't left.
+    /// Returns whether the reader is joined: it has not left.
     pub fn joined(&self) -> bool
         ensures { result ≡ not self.now.left }
     {
         self.joined
     }
 
-    /// Where it takes its rows.
+    /// Returns where the reader takes its rows.
     pub fn source(&self) -> Source
         ensures { result ≡ source_of self.now }
     {
@@ -101,7 +100,7 @@ impl<'r, D: Deal> Reader<'r, D> {
         }
     }
 
-    /// Takes the row at its cursor. Loads the head where it knows of no row there.
+    /// Takes the row at its cursor. Loads the head first if it knows of no row there.
     pub fn open(&mut self) -> Result<Held, NotYet>
         requires joined { self.old.left ≡ false }
         requires home { self.old.held ≡ false }
@@ -117,7 +116,7 @@ impl<'r, D: Deal> Reader<'r, D> {
         Ok(Held::of(row.into_bytes(), self.cursor, self.source()))
     }
 
-    // The known head, loaded where it isn't above the cursor.
+    // Returns the known head, after loading it if it equals the cursor.
     fn look(&mut self) -> u64
         requires { self.old.left ≡ false }
         ensures seen { result ≡ self.new.seen }
@@ -130,7 +129,7 @@ impl<'r, D: Deal> Reader<'r, D> {
         self.seen
     }
 
-    /// Gives back the row that is out, and goes on to the next.
+    /// Gives back the row that is out, and advances to the next.
     pub fn close(&mut self, held: Held)
         requires out { self.old.held ≡ true }
         requires row { IsNextRow self.old held }
@@ -141,7 +140,7 @@ impl<'r, D: Deal> Reader<'r, D> {
         self.cursor += 1;
     }
 
-    /// Leaves the ring: the writer need no longer wait for this reader.
+    /// Leaves the ring: the writer no longer waits for this reader.
     pub fn leave(&mut self)
         requires joined { self.old.left ≡ false }
         requires home { self.old.held ≡ false }
@@ -159,7 +158,7 @@ impl<'r, D: Deal> Reader<'r, D> {
         CursorNote::of(self.seat.note())
     }
 
-    /// Takes in a note of the writer of this ring, and loads the head.
+    /// Takes in a note of this ring's writer, and loads the head.
     #[tactic(auto, using(crate::proofs::Looks::told_joined))]
     pub fn learn(&mut self, note: HeadNote<D>)
         requires ring { note.table ≡ self.old.table }

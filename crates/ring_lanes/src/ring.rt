@@ -15,7 +15,7 @@ use std::marker::Model;
 
 /// A ring of lanes through which one writer passes the rows of a deal to several readers.
 ///
-/// Contracts see which ring it is, its numbers and rows, and whether its ends are still there.
+/// Contracts see its table, its numbers and rows, and whether it still has its ends.
 #[derive(Drop)]
 pub struct Ring<'d, D: Deal> {
     table: RingTable<'d, D>,
@@ -28,14 +28,14 @@ impl<'d, D: Deal> Model for Ring<'d, D> {
     ghost view = { λ ring. ring.table };
 }
 
-/// The ends of a ring. Reader r stands at index r.
+/// The ends of a ring. Reader r is at index r.
 #[derive(Drop)]
 pub struct Ends<'r, D: Deal> {
     pub writer: Writer<'r, D>,
     pub readers: Vec<Reader<'r, D>>,
 }
 
-/// A ring for the rows of a deal, with all the buffers that it will need.
+/// Opens a ring for the rows of a deal, with all the buffers that it will need.
 pub fn open_ring<'d, D: Deal>(
     alloc: Global,
     deal: &'d D,
@@ -61,16 +61,16 @@ pub fn open_ring<'d, D: Deal>(
 }
 
 impl<'d, D: Deal> Ring<'d, D> {
-    /// Sets whether the ends that it will give out pause between two looks in vain; as a ring is opened they
-    /// do. Where all threads share one processor a pause helps no one.
+    /// Sets whether the ends that it gives out pause after a load that found nothing new. By default they
+    /// pause. Where all threads share one processor, pausing does not help.
     pub fn set_pauses(&mut self, pauses: bool)
         ensures { self.new ≡ self.old }
     {
         self.pauses = pauses;
     }
 
-    /// Gives out the ends, all of this ring, with every reader joined. That is done once; where there is no
-    /// memory they are still there.
+    /// Gives out all the ends of this ring, with every reader joined. This succeeds once; if allocation
+    /// fails, the ring still has the ends.
     pub fn ends(&mut self, alloc: Global) -> Result<Ends<'_, D>, NoMemory>
         requires { self.old.fresh ≡ true }
         ensures writer { IfOk result (λ ends. ends.writer ≡ new_writer_state self.old.table self.old.ring) }

@@ -5,7 +5,7 @@
 pub enum Source {
     /// A deck, which has one place.
     Deck,
-    /// A ring of this many readers and places, by the reader with this number.
+    /// A ring with this many readers and places, by the reader with this number.
     Ring {
         reader: u32,
         readers: u32,

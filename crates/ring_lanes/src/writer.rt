@@ -16,10 +16,10 @@ use pr_base::Deal;
 use ring_rule::WriterSeat;
 use std::marker::Model;
 
-/// The end of a ring by which one thread publishes the rows of the deal in order.
+/// The end of a ring through which one thread publishes the rows of the deal in order.
 ///
-/// Contracts see which ring it is of, how many rows were published, and of each reader the cursor that was
-/// loaded last and how often one was loaded.
+/// Contracts see its ring, how many rows were published, and for each reader the cursor last loaded and how
+/// often it was loaded.
 #[derive(Drop)]
 pub struct Writer<'r, D: Deal> {
     seat: WriterSeat<'r, D>,
@@ -37,7 +37,7 @@ impl<'r, D: Deal> Model for Writer<'r, D> {
 }
 
 impl<'r, D: Deal> Writer<'r, D> {
-    /// The end that steps by this seat.
+    /// Makes the end that uses this seat.
     pub(crate) fn new(seat: WriterSeat<'r, D>, numbers: Numbers, known: Vec<u64>) -> Writer<'r, D>
         requires { IsWriter seat numbers 0 known.items }
         ensures { result ≡ writer_state seat.entry }
@@ -50,7 +50,7 @@ impl<'r, D: Deal> Writer<'r, D> {
         }
     }
 
-    /// The number of rows that were published.
+    /// Returns the number of rows published.
     pub fn head(&self) -> u64
         ensures head { result ≡ self.now.head }
         ensures within { result ≤ self.now.ring.total }
@@ -59,7 +59,7 @@ impl<'r, D: Deal> Writer<'r, D> {
         self.head
     }
 
-    /// How many readers the writer hasn't seen leave.
+    /// Returns how many readers the writer has not seen leave.
     pub fn joined(&self) -> u32
         ensures count { result ≡ joined_count self.now.known }
         ensures known { length self.now.known ≡ self.now.ring.readers }
@@ -67,22 +67,21 @@ impl<'r, D: Deal> Writer<'r, D> {
         self.known.iter().filter(|word| **word != u64::MAX).count() as u32
     }
 
-    /// Pauses between two looks, if its ring does. `look` is any number that isn't known before the program
-    /// runs.
+    /// Pauses between two loads, if the ring's ends pause. `look` is any number not known at compile time.
     pub fn pause(&self, look: u32) {
         if self.numbers.pauses {
             pause(look);
         }
     }
 
-    /// The number of rows of the deal.
+    /// Returns the number of rows of the deal.
     pub fn total(&self) -> u64
         ensures { result ≡ self.now.ring.total }
     {
         self.numbers.total
     }
 
-    /// The bytes of each row.
+    /// Returns the number of bytes of each row.
     pub fn row_len(&self) -> usize
         ensures row_len { result ≡ self.now.ring.row_len }
         ensures some { 1 ≤ result }
@@ -91,9 +90,9 @@ impl<'r, D: Deal> Writer<'r, D> {
         self.numbers.row_len
     }
 
-    /// Finds out whether each reader that is joined has closed the row in whose place the next one will lie.
-    /// Loads the cursor of a reader only where the known one doesn't tell, in order of readers, up to the
-    /// first that hasn't.
+    /// Checks whether each joined reader has closed the row whose place the next row takes. Loads a reader's
+    /// cursor only if the known one is too low, in order of readers, and stops at the first reader that is
+    /// behind.
     pub fn room(&mut self) -> Result<Pass, Full>
         requires { self.old.head < self.old.ring.total }
         ensures pass { IfOk result (λ pass. IsPass self.new pass) }
@@ -107,7 +106,7 @@ impl<'r, D: Deal> Writer<'r, D> {
         Ok(Pass::of(self.head))
     }
 
-    // Finds it out of one reader.
+    // Checks it for one reader.
     fn room_for(&mut self, reader: u32) -> Result<(), Full>
         requires { reader < self.old.ring.readers }
         ensures room { OnOk result (HasRoomFor self.new reader) }
@@ -130,7 +129,7 @@ impl<'r, D: Deal> Writer<'r, D> {
         })
     }
 
-    // Whether a cursor word that the writer may know leaves room for the next row.
+    // Returns whether a cursor word that the writer may know leaves room for the next row.
     fn leaves_room(&self, word: u64) -> bool
         requires { IsKnown self.now.ring.places self.now.head word }
         ensures room { IsTrue result → word ≢ left_word → self.now.head < word + self.now.ring.places }
@@ -153,14 +152,14 @@ impl<'r, D: Deal> Writer<'r, D> {
         word
     }
 
-    /// Publishes the next row: copies it into a lane of each reader that the writer hasn't seen leave, and
-    /// then stores the head.
+    /// Publishes the next row: copies it into a lane of each reader that the writer has not seen leave, then
+    /// stores the head.
     pub fn publish(&mut self, pass: Pass, row: &[u8])
         requires pass { IsPass self.old pass }
         requires row { slice_get self.old.ring.rows self.old.head ≡ Some row.now }
         ensures { self.new ≡ record self.old { head = self.old.head + 1 } }
     {
-        // A pass is good for one row.
+        // Consumes the pass: it permits one row.
         let _ = pass;
         fill_lanes(&mut self.seat, &self.known, self.numbers.readers, row);
         self.seat.store_head();
@@ -175,7 +174,7 @@ impl<'r, D: Deal> Writer<'r, D> {
         HeadNote::of(self.seat.note())
     }
 
-    /// Takes in a note of a reader of this ring, and loads that reader's cursor.
+    /// Takes in a note of one of this ring's readers, and loads that reader's cursor.
     pub fn learn(&mut self, note: CursorNote<D>)
         requires { note.table ≡ self.old.table }
         ensures number { note.number < self.old.ring.readers }

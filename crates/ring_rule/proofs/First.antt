@@ -1,4 +1,4 @@
--- The table's first state keeps the rule and shows the core's start.
+-- The table's initial state satisfies the rule and shows the core's initial schedule.
 use Rattle.std.proofs.Common.{◌≡◌, ◌≢◌, ℕ, zero, suc, ◌+◌, ◌<◌, ◌≤◌, false, List, [], ◌∷◌, map, length, replicate, get_or, sym, refl, ap, ◌∙◌, subst, arith}
 use Rattle.std.specs.Prelude.{Some, None}
 use Rattle.std.proofs.lemmas.List.{get_or-replicate, length-replicate, length-map, get_or-map}
@@ -32,7 +32,7 @@ module _ (g : RingNumbers) (slots : List Slot) (f : IsFirst g slots) where
   abbrev homes : Homes
   homes = map some slots
 
-  -- each slot has an empty lane at home
+  -- each slot holds an empty lane
   home_is : (r n : ℕ) → r < g.readers → (lane : Lane) × (home_at homes (lane_place g.places r n) ≡ some (Some lane)) × (lane.number ≡ None) × (length lane.bytes.items ≡ g.row_len)
   home_is r n l =
       let i = lane_place g.places r n in
@@ -112,6 +112,6 @@ module _ (g : RingNumbers) (slots : List Slot) (f : IsFirst g slots) where
         ∙ start_made g.places g.total g.readers));
   }
 
--- the first state, with the words as they are given
+-- the initial state, with the words as given
 pub first_of_words : (g : RingNumbers) (words : List ℕ) (slots : List Slot) → words ≡ replicate (g.readers + 1) 0 → IsFirst g slots → Kept g (opening words slots (Writer (new_writer g)))
 first_of_words g words slots e f = subst (λ ws. Kept g (opening ws slots (Writer (new_writer g)))) (sym e) (first_kept g slots f)

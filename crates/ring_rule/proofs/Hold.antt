@@ -1,4 +1,5 @@
--- What the rule says of lanes, brought to where it is used: numbers at home, the readers' stages, and what the plain reading leaves.
+-- Consequences of the rule for lanes: numbers in slots, the readers' stages, and what the plain reading
+-- leaves.
 use Rattle.std.proofs.Common.{◌≡◌, ◌≢◌, ℕ, ◌%◌, ◌<◌, ◌≤◌, Bool, true, false, cond, ◌&&◌, ◌||◌, List, length, get_or, sym, refl, ap, ◌∙◌, subst, inl, inr, arith}
 use Rattle.std.specs.Prelude.{Option, Some, None, nat_eq}
 use Rattle.std.proofs.lemmas.Bool.{cases_eq, cases_lt, cases_Bool, lt-ltb, le-ltb, eq-eqb, ne_eqb, false≢true}
@@ -21,12 +22,12 @@ use Rattle.ring_rule.specs.Kept.{Holds, Fits, is_handed, is_away, LaneIs, HoldsL
 use Rattle.ring_rule.proofs.Numbers.{length_up, or_true, and_false}
 use Rattle.ring_rule.proofs.Slots.{counted_plain, stage_plain}
 
--- a lane's slot is among the slots
+-- the index of a lane's slot is in range
 pub slot_in : (g : RingNumbers) (words : List ℕ) (homes : Homes) (w : WriterView) (readers : ℕ → ReaderView) (r n : ℕ) → Holds g words w readers → HoldsLanes g words homes w readers → r < g.readers
     → lane_place g.places r n < length homes
 slot_in g words homes w readers r n h m l = let a = lane_in g.places g.readers r n h.sound.some_place l in let e = m.deep in omega arith
 
--- a number at home is at most head
+-- the number of a buffer in its slot is at most head
 number_below : (g : RingNumbers) (head : ℕ) (home : AtHome Slot) (away : Bool) (n : ℕ) → LaneIs g head home away → number_in home ≡ Some n → n ≤ head
 number_below g head home true n h e = let f : None ≡ Some n = ap number_in (sym h) ∙ e in cc
 number_below g head home false n h e = h.2.not_ahead n (ap number_in (sym h.1) ∙ e)
@@ -36,20 +37,20 @@ pub number_in_head : (g : RingNumbers) (words : List ℕ) (homes : Homes) (w : W
 number_in_head g words homes w readers r k n m l e =
     number_below g (head_shown words) (home_at homes (lane_place g.places r k)) (is_away g.places w readers r k) n (m.lane_is r k l) e
 
--- a lane that shows a number at home, or has none out
+-- a lane that is not away is in its slot
 pub at_home : (g : RingNumbers) (head : ℕ) (home : AtHome Slot) (away : Bool) → away ≡ false → LaneIs g head home away → LaneIs g head home false
 at_home g head home away e h = subst (LaneIs g head home) e h
 
 pub gone_out : (g : RingNumbers) (head : ℕ) (home : AtHome Slot) (away : Bool) → away ≡ true → LaneIs g head home away → home ≡ none
 gone_out g head home away e h = subst (LaneIs g head home) e h
 
--- a slot that shows a number is at home
+-- a slot that shows a number is not out
 pub out_shows : (home : AtHome Slot) (head n : ℕ) (cursor : Option ℕ) → counted head cursor (number_in home) ≡ Some n → is_out home ≡ false
 out_shows none head n None e = cc
 out_shows none head n (Some c) e = cc
 out_shows (some s) head n cursor e = refl
 
--- The stage that slots show is that of the view
+-- The stage that the slots show is the stage by the view
 
 -- the stage of a reader by its view
 abbrev pub stage_by : ReaderView → Stage
@@ -65,7 +66,7 @@ held_stage x e = stage_is_held x.out e
 pub idle_stage : (x : ReaderView) → x.out ≡ false → stage_by x ≡ Idle
 idle_stage x e = ap (λ b. cond b Holding Idle) e
 
--- what is counted for the views is the same as for the slots
+-- the stage computed from the slots equals the stage by the view
 same_stage : (head : ℕ) (cursor : Option ℕ) (out : ℕ → Bool) (held : Bool) → ((c : ℕ) → cursor ≡ Some c → held ≡ true → (c < head) × (out c ≡ true)) → ((c : ℕ) → cursor ≡ Some c → held ≡ false → c < head → out c ≡ false) → (cursor ≡ None → held ≡ false)
     → stage_shown head cursor out ≡ cond held Holding Idle
 same_stage head None out held yes' no' left = ap (λ b. cond b Holding Idle) (sym (left refl))
@@ -87,7 +88,7 @@ same_filled head (Some n) false yes' no' = elim (cases_eq n head) [
 ]
 
 module _ (g : RingNumbers) (words : List ℕ) (homes : Homes) (w : WriterView) (readers : ℕ → ReaderView) (h : Holds g words w readers) (m : HoldsLanes g words homes w readers) where
-  -- a reader that left has nothing out, by its view
+  -- a reader that left has no lane out, by its view
   left_home : (r : ℕ) → r < g.readers → cursor_shown words r ≡ None → (readers r).out ≡ false
   left_home r l e = elim (cases_Bool (readers r).out) [
     | inl out ↦
@@ -97,7 +98,7 @@ module _ (g : RingNumbers) (words : List ℕ) (homes : Homes) (w : WriterView) (
     | inr home ↦ home
   ]
 
-  -- what the slots show is what the views say
+  -- the lanes that the slots show are those that the views imply
   pub lanes_agree : (r : ℕ) → r < g.readers → lanes_shown g.places words homes r ≡ lanes_known g.places words homes w readers r
   lanes_agree r l =
       let s = m.sound r l in
@@ -122,11 +123,11 @@ module _ (g : RingNumbers) (words : List ℕ) (homes : Homes) (w : WriterView) (
 
 -- Lanes by one reader's view
 
--- what is known of a reader's lanes rests on its own view alone
+-- the lanes known for a reader depend on its own view alone
 abbrev pub lanes_by : ℕ → List ℕ → Homes → WriterView → ReaderView → ℕ → Lanes
 lanes_by places words homes w x r = record { filled = get_or w.filled r false; stage = stage_by x; row = row_shown places words homes r }
 
--- read plainly they stay
+-- the plain reading leaves them unchanged
 pub lanes_plain : (places : ℕ) (words : List ℕ) (homes : Homes) (w : WriterView) (x : ReaderView) (r : ℕ) (p : Progress) → p.cursor ≡ cursor_shown words r
     → lanes_by places words homes w x r ≡ plain_lanes (head_shown words) p (lanes_by places words homes w x r)
 lanes_plain places words homes w x r p e =
@@ -135,7 +136,7 @@ lanes_plain places words homes w x r p e =
     (λ i. record { filled = get_or w.filled r false; stage = sym (stage_plain x.out) i; row = λ k. sym (counted_plain head cursor (number_in (home_at homes (lane_place places r k)))) i })
     ∙ (λ i. record { filled = get_or w.filled r false; stage = plain_stage (stage_by x); row = λ k. from_low (first_row head (sym e i)) (row_shown places words homes r k) })
 
--- what the plain reading of an event's effect is, is sound
+-- lanes that are the plain reading of an event's effect are sound
 pub sound_by : (places total head : ℕ) (p : Progress) (e l : Lanes) → IsSoundProgress places head p → IsSoundLanes places total head p e → l ≡ plain_lanes head p e → IsSoundLanes places total head p l
 sound_by places total head p e l h s is = subst (λ x. IsSoundLanes places total head p x) (sym is) (plain_keeps places total head p e h s)
 
@@ -148,7 +149,7 @@ lane_later g head later home true h l = l
 lane_later g head later home false h l = (l.0, l.1, fits_later g head later l.0 h l.2)
 
 module _ (g : RingNumbers) (words : List ℕ) (homes : Homes) (w : WriterView) (readers : ℕ → ReaderView) (h : Holds g words w readers) (m : HoldsLanes g words homes w readers) where
-  -- the writer has not the lane of a row that a joined reader has yet to pass
+  -- the writer does not hold the lane of a published row that a joined reader has not passed
   pub not_handed : (r c : ℕ) → r < g.readers → cursor_shown words r ≡ Some c → c < head_shown words → is_handed g.places w r c ≡ false
   not_handed r c l e below = by_hand w.hand refl
     where

@@ -1,5 +1,6 @@
--- Each kind of step, over the writer's view and the function from reader to view: the progress that is shown afterwards, and that the
--- words and the views still fit. Soundness is never proved anew: what is shown is an event's effect, and the event keeps it.
+-- Each kind of step, over the writer's view and the function from reader to view: the progress shown
+-- afterwards, and that the words and the views still fit. Soundness is not proved again: what is shown is the
+-- effect of an event, and events keep it.
 use Rattle.std.proofs.Common.{◌≡◌, ◌≢◌, ℕ, ◌+◌, ◌<◌, ◌≤◌, false, cond, List, [], ◌∷◌, ◌++◌, length, get_or, set, sym, refl, ap, ◌∙◌, subst, inl, inr, arith, get_or-set_same, get_or-set_other, length-set}
 use Rattle.std.specs.Prelude.{Some, None}
 use Rattle.std.proofs.lemmas.Bool.{cases_eq}
@@ -24,11 +25,11 @@ put_here y readers r e = pick_same y.number r y (readers r) e
 pub put_else : (y : ReaderView) (readers : ℕ → ReaderView) (r : ℕ) → y.number ≢ r → put_reader y readers r ≡ readers r
 put_else y readers r e = pick_other y.number r y (readers r) e
 
--- what is shown of a reader rests on its own view alone
+-- the progress shown for a reader depends on its own view alone
 abbrev pub shown_by : List ℕ → WriterView → ReaderView → ℕ → Progress
 shown_by words w x r = record { known = cursor_in (get_or w.known r 0); cursor = cursor_in (get_or words (r + 1) 0); seen = x.seen; taken = up_to x.taken }
 
--- The writer looks
+-- The writer loads a cursor
 
 pub look_own : (g : RingNumbers) (words : List ℕ) (w : WriterView) (readers : ℕ → ReaderView) (r : ℕ) → Holds g words w readers → r < g.readers
     → shown words (looked_at r (get_or words (r + 1) 0) w) readers r ≡ looked (shown words w readers r)
@@ -120,14 +121,14 @@ publish_holds g words w readers h row room =
 
 -- A reader's view changes
 
--- what is shown of a reader by its new view, and of the others by theirs
+-- the progress shown for the reader by its new view, and for the others by theirs
 pub by_view : (words : List ℕ) (w : WriterView) (readers : ℕ → ReaderView) (y : ReaderView) (r : ℕ) → y.number ≡ r → shown words w (put_reader y readers) r ≡ shown_by words w y r
 by_view words w readers y r e = ap (λ (x : ReaderView). shown_by words w x r) (put_here y readers r e)
 
 by_others : (words : List ℕ) (w : WriterView) (readers : ℕ → ReaderView) (y : ReaderView) (r q : ℕ) → y.number ≡ r → q ≢ r → shown words w (put_reader y readers) q ≡ shown words w readers q
 by_others words w readers y r q e o = ap (λ (x : ReaderView). shown_by words w x q) (put_else y readers q (λ f. o (sym f ∙ e)))
 
--- A fact of each reader, where one view is new
+-- A fact about each reader, where one view is new
 pub put_each : (readers : ℕ → ReaderView) (y : ReaderView) (P : ℕ → ReaderView → Type 0) (r : ℕ) → y.number ≡ r → P r y → ((q : ℕ) → q ≢ r → P q (readers q)) → (q : ℕ) → P q (put_reader y readers q)
 put_each readers y P r e here else q = elim (cases_eq q r) [
   | inl is ↦ subst (λ x. P q x) (sym (put_here y readers q (e ∙ sym is))) (subst (λ k. P k y) (sym is) here)
@@ -167,12 +168,12 @@ see_holds g words w readers x h is l =
       };
     }
 
--- the cursor that is shown of a joined reader, and where its word is known
+-- the cursor shown for a joined reader, with its word given
 pub joined_cursor : (g : RingNumbers) (words : List ℕ) (w : WriterView) (readers : ℕ → ReaderView) (x : ReaderView) → Holds g words w readers → readers x.number ≡ x → x.number < g.readers → x.left ≡ false
     → get_or words (x.number + 1) 0 ≡ x.taken
 joined_cursor g words w readers x h is l j = h.cursor_is x.number l ∙ (ap word_of is ∙ word_joined x j)
 
--- the same by the function alone
+-- the same, by the function alone
 pub joined_here : (g : RingNumbers) (words : List ℕ) (w : WriterView) (readers : ℕ → ReaderView) (r : ℕ) → Holds g words w readers → r < g.readers → (readers r).left ≡ false
     → (shown words w readers r).cursor ≡ Some (readers r).taken
 joined_here g words w readers r h l j =
@@ -180,7 +181,7 @@ joined_here g words w readers r h l j =
     let t = h.total_in in
     ap cursor_in (h.cursor_is r l ∙ word_joined (readers r) j) ∙ cursor_some (readers r).taken (λ e. omega arith)
 
--- it is a row number, so it stands for itself
+-- its word is a row number, so it shows that number
 pub joined_shown : (g : RingNumbers) (words : List ℕ) (w : WriterView) (readers : ℕ → ReaderView) (x : ReaderView) → Holds g words w readers → readers x.number ≡ x → x.number < g.readers → x.left ≡ false
     → (shown words w readers x.number).cursor ≡ Some x.taken
 joined_shown g words w readers x h is l j =
@@ -202,7 +203,7 @@ advance_own g words w readers x h is l ahead =
     let rows : up_to (c + 1) ≡ up_to (readers r).taken ++ c ∷ [] = up_to_more c ∙ ap (λ (z : ReaderView). up_to z.taken ++ c ∷ []) (sym is) in
     by_view (set words (r + 1) (c + 1)) w readers (went_on x) r refl ∙ (λ i. record { known = cursor_in (get_or w.known r 0); cursor = word i; seen = sym s i; taken = rows i })
 
--- another reader's word and view changed
+-- another reader's word and view change
 pub word_other : (words : List ℕ) (w : WriterView) (readers : ℕ → ReaderView) (x y : ReaderView) (n q : ℕ) → y.number ≡ x.number → q ≢ x.number
     → shown (set words (x.number + 1) n) w (put_reader y readers) q ≡ shown words w readers q
 word_other words w readers x y n q same o =
@@ -286,7 +287,7 @@ leave_holds g words w readers x h is l j =
       };
     }
 
--- Views change in what no word tells
+-- Views change in fields that no word shows
 
 pub record SameWords (x y : ReaderView) : Type 0 where
   pub ring : x.ring ≡ y.ring
@@ -318,13 +319,13 @@ same_holds g words w readers later e h = record {
   };
 }
 
--- a reader's view with the same words in its place
+-- a reader's view replaced by one with the same words
 pub same_put : (readers : ℕ → ReaderView) (x y : ReaderView) → readers x.number ≡ x → y.number ≡ x.number → SameWords y x → (r : ℕ) → SameWords (put_reader y readers r) (readers r)
 same_put readers x y is n e = put_each readers y (λ q z. SameWords z (readers q)) x.number n
     record { ring = e.ring ∙ ap (λ (z : ReaderView). z.ring) (sym is); number = e.number ∙ ap (λ (z : ReaderView). z.number) (sym is); taken = e.taken ∙ ap (λ (z : ReaderView). z.taken) (sym is); left = e.left ∙ ap (λ (z : ReaderView). z.left) (sym is); seen = e.seen ∙ ap (λ (z : ReaderView). z.seen) (sym is) }
     (λ q o. record { ring = refl; number = refl; taken = refl; left = refl; seen = refl })
 
--- the writer's view with the same words
+-- the writer's view replaced by one with the same words
 pub writer_holds : (g : RingNumbers) (words : List ℕ) (w v : WriterView) (readers : ℕ → ReaderView) → v.ring ≡ w.ring → v.head ≡ w.head → v.made ≤ g.readers → v.known ≡ w.known → v.loads ≡ w.loads
     → Holds g words w readers → Holds g words v readers
 writer_holds g words w v readers ring head made known loads h = record {

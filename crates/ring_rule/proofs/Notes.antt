@@ -1,4 +1,5 @@
--- Seats are cut and joined: the writer's seat gives a reader's, each seat makes notes and meets them. What is shown stays.
+-- Seats are split and joined: the writer's seat gives a reader its seat, each seat makes notes and takes them
+-- in. What is shown is unchanged.
 use Rattle.std.proofs.Common.{◌≡◌, ◌≢◌, ℕ, ◌+◌, ◌<◌, ◌≤◌, Bool, true, List, [], ◌∷◌, ◌++◌, get_or, sym, refl, ap, ◌∙◌, subst, inl, inr, arith}
 use Rattle.std.specs.Prelude.{Option, Some, None}
 use Rattle.std.proofs.lemmas.Bool.{cases_Bool}
@@ -26,7 +27,7 @@ use Rattle.ring_rule.proofs.ReaderLanes
 use Rattle.ring_rule.proofs.Tables.{changed, holds_at, lanes_at, notes_at, reader_is, reader_in_range, ring_is, reader_ring_is, by_view, writer_now, readers_same, by_writer, readers_now, writer_same, by_reader, by_more}
 use Rattle.ring_rule.proofs.Schedules.{same_shows}
 
--- the writer's view changes in what neither words nor slots tell
+-- the writer's view changes in fields that neither words nor slots show
 writer_lanes : (g : RingNumbers) (words : List ℕ) (homes : Homes) (w v : WriterView) (readers : ℕ → ReaderView) → v.hand ≡ w.hand → v.head ≡ w.head → v.known ≡ w.known → v.filled ≡ w.filled
     → HoldsLanes g words homes w readers → HoldsLanes g words homes v readers
 writer_lanes g words homes w v readers hand head known filled m =
@@ -55,7 +56,7 @@ module _ (g : RingNumbers) (s : RingState) (id : ℕ) (w : WriterView) (k : Kept
       by_writer g s id w (more w) s.words s.homes k at (omega arith) (omega arith) (notes_at g s id w k at).writer_told
       (Moves.writer_holds g s.words w (more w) readers refl refl (omega arith) refl refl h) (writer_lanes g s.words s.homes w (more w) readers refl refl refl refl (lanes_at g s id w k at))
 
-  -- no view is of the reader that gets its seat
+  -- no view belongs yet to the reader that gets its seat
   none_yet : (j : ℕ) (u : View) → get_elem? s.views j ≡ some u → actor_of u ≢ Some (w.made + 1)
   none_yet j (Writer v) e f = let x : 0 ≡ w.made + 1 = cc in omega arith
   none_yet j (Reader y) e f =
@@ -100,7 +101,7 @@ module _ (g : RingNumbers) (s : RingState) (id : ℕ) (w : WriterView) (k : Kept
       (λ i. reader_of g (one.views ++ Reader (new_reader (ring_is g s id w k at i) w.made) ∷ [])) ∙ ((λ i r. readers_first g one.views w.made r i) ∙ readers_same g s id w v at) in
       record { kept = kept; same = same_shows g s t w v readers k kept (writer_at g s.views id w k.alone at) now then refl (λ r _. refl) (λ r _. refl) }
 
-  -- The writer notes
+  -- The writer makes a note
 
   -- a reader that the writer saw leave has left
   seen_left : (r : ℕ) → r < g.readers → get_or w.known r 0 ≡ left_word → (reader_of g s.views r).left ≡ true
@@ -135,7 +136,7 @@ module _ (g : RingNumbers) (s : RingState) (id : ℕ) (w : WriterView) (k : Kept
       let T : List View → Type 0 = λ vs. ShowsTheSame g s record { words = s.words; homes = s.homes; views = vs ++ v ∷ [] } in
       subst T (sym (set_again s.views id (Writer w) at)) (record { kept = head_note_kept; same = same })
 
--- A reader notes
+-- A reader makes a note
 
 cursor_note_kept : (g : RingNumbers) (s : RingState) (id : ℕ) (x : ReaderView) → Kept g s → Has s id (Reader x) → Kept g record { words = s.words; homes = s.homes; views = s.views ++ CursorNote (cursor_note x) ∷ [] }
 cursor_note_kept g s id x k at =
@@ -164,9 +165,9 @@ cursor_note_same g s id x k at =
     let T : List View → Type 0 = λ vs. ShowsTheSame g s record { words = s.words; homes = s.homes; views = vs ++ v ∷ [] } in
     subst T (sym (set_again s.views id (Reader x) at)) (record { kept = kept; same = same })
 
--- A note is joined to a seat, and is spent
+-- A note is joined to a seat, and is then spent
 
--- the view of a note in the table becomes the spent one
+-- the view of a note in the table becomes Spent
 spend_kept : (g : RingNumbers) (s : RingState) (id : ℕ) (v : View) → Kept g s → Has s id v → actor_of v ≡ None → Kept g (changed s s.words s.homes id Spent)
 spend_kept g s id v k at none' =
     let w = writer_of g s.views in
@@ -182,7 +183,7 @@ spend_same g s id v k at none' =
     same_shows g s (changed s s.words s.homes id Spent) w w (reader_of g s.views) k (spend_kept g s id v k at none') refl
     (writer_kept g s.views id v Spent at (apart 0) (λ e. cc)) (λ i r. reader_kept g s.views id r v Spent at (apart (r + 1)) (λ e. cc) i) refl (λ r _. refl) (λ r _. refl)
 
--- a reader's seat met a note: the rule holds before it is spent
+-- a reader's seat takes in a note: the rule holds before the note is spent
 reader_met_kept : (g : RingNumbers) (s : RingState) (id : ℕ) (x : ReaderView) (n : HeadNoteView) → Kept g s → Has s id (Reader x) → IsTrueHead g (writer_of g s.views) (reader_of g s.views) n
     → ShowsTheSame g s (changed s s.words s.homes id (Reader (reader_met n x)))
 reader_met_kept g s id x n k at true' =
@@ -216,7 +217,7 @@ writer_met_kept g s id w n k at true' =
       same = same_shows g s (changed s s.words s.homes id (Writer v)) w v readers k kept (writer_at g s.views id w k.alone at) (writer_now g s id w v k at) (readers_same g s id w v at) refl (λ r _. refl) (λ r _. refl);
     }
 
--- two seats with different views are two
+-- two seats with different views are different seats
 apart_seats : (s : RingState) (id other : ℕ) (u v : View) → Has s id u → Has s other v → u ≢ v → other ≢ id
 apart_seats s id other u v a b n e = n (some-injective u v (sym a ∙ subst (λ i. get_elem? s.views i ≡ some v) e b))
 

@@ -6,21 +6,21 @@ use Rattle.ring_rule.specs.declared.view.ReaderView.{ReaderView}
 use Rattle.ring_rule.specs.Views.{left_word, cursor_in, word_of, up_to}
 use Rattle.ring_rule.proofs.Roster.{pick_same, pick_other}
 
--- a row number's word shows that number
+-- the word of a row number shows that number
 pub cursor_some : (n : ℕ) → n ≢ left_word → cursor_in n ≡ Some n
 cursor_some n h = let none : Option ℕ = None in pick_other n left_word none (Some n) h
 
 pub cursor_none : (n : ℕ) → n ≡ left_word → cursor_in n ≡ None
 cursor_none n h = let none : Option ℕ = None in pick_same n left_word none (Some n) h
 
--- what a word shows, if a number, is the word
+-- a number that a word shows is the word itself
 pub cursor_is_word : (n k : ℕ) → cursor_in n ≡ Some k → n ≡ k
 cursor_is_word n k e = elim (cases_eq n left_word) [
   | inl is ↦ let f : None ≡ Some k = sym (cursor_none n is) ∙ e in cc
   | inr other ↦ let f : Some n ≡ Some k = sym (cursor_some n other) ∙ e in cc
 ]
 
--- the word of a reader that is joined is the number of rows that it took
+-- the word of a joined reader is the number of rows that it took
 pub word_joined : (x : ReaderView) → x.left ≡ false → word_of x ≡ x.taken
 word_joined x e = ap (λ t. cond t left_word x.taken) e
 

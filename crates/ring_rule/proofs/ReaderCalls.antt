@@ -1,4 +1,5 @@
--- What each call of a reader asks of the table: the step keeps the rule and tells what its play says.
+-- The table's conditions on each call of a reader: the step keeps the rule and has the result that its play
+-- states.
 use Rattle.std.proofs.Common.{◌≡◌, ℕ, ◌+◌, ◌<◌, ◌≤◌, true, false, List, [], ◌∷◌, length, get_or, set, sym, refl, ap, ◌∙◌, subst, arith}
 use Rattle.std.specs.Prelude.{Some}
 use Rattle.std.proofs.lemmas.Bool.{false≢true}

@@ -38,11 +38,11 @@ module _ (g : RingNumbers) (s : RingState) (id : ℕ) (x : ReaderView) (k : Kept
   pub in_range : x.number < g.readers
   in_range = reader_in_range g s id x k at
 
-  -- what note was joined last to the seat, is true
+  -- the note last joined to the seat is true
   pub told_here : (n : HeadNoteView) → x.told ≡ Some n → IsTrueHead g (writer_of g s.views) (reader_of g s.views) n
   told_here n e = k.told.reader_told x.number n in_range (ap (λ (y : ReaderView). y.told) is_here ∙ e)
 
-  -- what is known of a reader by its new view, and of the others by theirs
+  -- the lanes known for the reader by its new view, and for the others by theirs
   lanes_own : (words : List ℕ) (homes : Homes) (y : ReaderView) → y.number ≡ x.number → let w = writer_of g s.views in
       lanes_known g.places words homes w (put_reader y (reader_of g s.views)) x.number ≡ lanes_by g.places words homes w y x.number
   lanes_own words homes y n = ap (λ (z : ReaderView). lanes_by g.places words homes (writer_of g s.views) z x.number) (put_here y (reader_of g s.views) x.number n)
@@ -96,7 +96,7 @@ module _ (g : RingNumbers) (s : RingState) (id : ℕ) (x : ReaderView) (k : Kept
   pub slot_is : slot_of x ≡ lane_place g.places x.number x.taken
   slot_is = ap (λ (z : RingNumbers). lane_place z.places x.number x.taken) (reader_ring_is g s id x k at)
 
-  -- the view changed in what no word tells
+  -- the view changes in fields that no word shows
   same_words : (y : ReaderView) → Moves.SameWords y x → let w = writer_of g s.views in Holds g s.words w (put_reader y (reader_of g s.views))
   same_words y e = Moves.same_holds g s.words (writer_of g s.views) (reader_of g s.views) (put_reader y (reader_of g s.views)) (Moves.same_put (reader_of g s.views) x y is_here e.number e) k.holds
 
@@ -132,7 +132,7 @@ module _ (g : RingNumbers) (s : RingState) (id : ℕ) (x : ReaderView) (k : Kept
             refl (λ j _. same_progress y j e) (λ j _. lanes_plain g.places s.words hs w (put_reader y readers j) j (p j) refl);
       }
 
-  -- the lane that it takes
+  -- the lane that it takes is in its slot
   pub take_found : MayTake x → (lane : Lane) × (get_elem? s.homes (slot_of x) ≡ some (some (Some lane))) × Fits g (head_shown s.words) lane × (lane.number ≡ Some x.taken)
   take_found may =
       let w = writer_of g s.views in
@@ -203,12 +203,12 @@ module _ (g : RingNumbers) (s : RingState) (id : ℕ) (x : ReaderView) (k : Kept
 
   -- The reader's word changes
 
-  -- another reader's progress stays
+  -- another reader's progress is unchanged
   word_others : (y : ReaderView) (n q : ℕ) → y.number ≡ x.number → q ≢ x.number → let w = writer_of g s.views in
       shown (set s.words (x.number + 1) n) w (put_reader y (reader_of g s.views)) q ≡ shown s.words w (reader_of g s.views) q
   word_others y n q same other = Moves.word_other s.words (writer_of g s.views) (reader_of g s.views) x y n q same other
 
-  -- and so do its lanes, read plainly
+  -- and so are its lanes, read plainly
   word_lanes_others : (y : ReaderView) (n q : ℕ) → y.number ≡ x.number → q ≢ x.number → let w = writer_of g s.views in let ws = set s.words (x.number + 1) n in
       lanes_known g.places ws s.homes w (put_reader y (reader_of g s.views)) q
       ≡ plain_lanes (head_shown s.words) (shown ws w (put_reader y (reader_of g s.views)) q) (lanes_known g.places s.words s.homes w (reader_of g s.views) q)

@@ -1,5 +1,5 @@
--- A reader's steps, over slots: what the lanes show afterwards, and that slots and views still fit. What holds of the reader by its new
--- view, and of each other reader by the old one, holds of each.
+-- A reader's steps, over slots: what the lanes show afterwards, and that slots and views still fit. What
+-- holds for the reader by its new view, and for every other reader by the old one, holds for each.
 use Rattle.std.proofs.Common.{◌≡◌, ◌≢◌, ℕ, ◌+◌, ◌%◌, ◌<◌, ◌≤◌, true, false, cond, ◌&&◌, ◌||◌, List, length, get_or, set, sym, refl, ap, ◌∙◌, subst, inl, inr, arith, get_or-set_other, length-set}
 use Rattle.std.specs.Prelude.{Option, Some, None, is_some, nat_eq}
 use Rattle.std.proofs.lemmas.Bool.{cases_eq, eq-eqb, ne_eqb, lt-ltb}
@@ -27,7 +27,7 @@ use Rattle.ring_rule.proofs.Hold.{slot_in, number_in_head, at_home, stage_by, la
 
 module _ (g : RingNumbers) (words : List ℕ) (homes : Homes) (w : WriterView) (readers : ℕ → ReaderView) (h : Holds g words w readers) (m : HoldsLanes g words homes w readers)
     (x : ReaderView) (is : readers x.number ≡ x) (l : x.number < g.readers) where
-  -- what the rule says of the reader, by its own view
+  -- what the rule says about the reader, by its own view
   sound_here : IsSoundLanes g.places g.total (head_shown words) (shown_by words w x x.number) (lanes_by g.places words homes w x x.number)
   sound_here = subst (λ z. IsSoundLanes g.places g.total (head_shown words) (shown_by words w z x.number) (lanes_by g.places words homes w z x.number)) is (m.sound x.number l)
 
@@ -66,7 +66,7 @@ module _ (g : RingNumbers) (words : List ℕ) (homes : Homes) (w : WriterView) (
             (λ q o. m.sound q);
       }
 
-  -- A view changes in what neither words nor slots tell
+  -- A view changes in fields that neither words nor slots show
 
   pub view_keeps : (y : ReaderView) → y.number ≡ x.number → y.out ≡ x.out → y.taken ≡ x.taken → y.left ≡ x.left → y.seen ≡ x.seen → HoldsLanes g words homes w (put_reader y readers)
   view_keeps y number out taken left seen =
@@ -92,7 +92,7 @@ module _ (g : RingNumbers) (words : List ℕ) (homes : Homes) (w : WriterView) (
 
   -- Take
 
-  -- the lane that it takes is at home, with the row at the cursor
+  -- the lane that it takes is in its slot, with the row at the cursor
   pub free_here : MayTake x → (is_handed g.places w x.number x.taken || is_held g.places x x.taken) ≡ false
   free_here may =
       let r = x.number in
@@ -104,7 +104,7 @@ module _ (g : RingNumbers) (words : List ℕ) (homes : Homes) (w : WriterView) (
   pub take_home : MayTake x → LaneIs g (head_shown words) (home_at homes (lane_place g.places x.number x.taken)) false
   take_home may = at_home g (head_shown words) (home_at homes (lane_place g.places x.number x.taken)) (is_handed g.places w x.number x.taken || is_held g.places x x.taken) (free_here may) (lane_here x.taken)
 
-  -- its row is shown there
+  -- the slot shows its row
   pub take_shows : MayTake x → row_shown g.places words homes x.number x.taken ≡ Some x.taken
   take_shows may =
       let s = progress_here.seen_in in
@@ -120,7 +120,7 @@ module _ (g : RingNumbers) (words : List ℕ) (homes : Homes) (w : WriterView) (
       let row = λ (k : ℕ). row_put g.places r x.taken head cursor homes none None k (slot_in g words homes w readers r x.taken h m l) (counted_none head cursor) in
       λ i. record { filled = get_or w.filled r false; stage = Holding; row = λ k. row k i }
 
-  -- a slot of another reader changed
+  -- a slot of another reader changes
   pub lanes_else : (v : AtHome Slot) (n q : ℕ) (z : ReaderView) → q ≢ x.number → lanes_by g.places words (set homes (lane_place g.places x.number n) v) w z q ≡ lanes_by g.places words homes w z q
   lanes_else v n q z other =
       let row = λ (k : ℕ). ap (λ a. counted (head_shown words) (cursor_shown words q) (number_in a)) (home_else g.places x.number n homes v q k h.sound.some_place other) in
@@ -220,19 +220,19 @@ module _ (g : RingNumbers) (words : List ℕ) (homes : Homes) (w : WriterView) (
 
   -- The reader's word changes
 
-  -- the head that is shown then
+  -- the head shown afterwards
   head_then : (n : ℕ) → head_shown (set words (x.number + 1) n) ≡ head_shown words
   head_then n = get_or-set_other words (x.number + 1) 0 n 0 (λ f. omega arith)
 
   cursor_else : (n q : ℕ) → q ≢ x.number → cursor_shown (set words (x.number + 1) n) q ≡ cursor_shown words q
   cursor_else n q other = ap cursor_in (get_or-set_other words (x.number + 1) (q + 1) n 0 (λ f. other (let k : q ≡ x.number = omega arith in k)))
 
-  -- another reader's lanes stay as they were
+  -- another reader's lanes are unchanged
   pub word_lanes_else : (n q : ℕ) (z : ReaderView) → q ≢ x.number → lanes_by g.places (set words (x.number + 1) n) homes w z q ≡ lanes_by g.places words homes w z q
   word_lanes_else n q z other =
       λ i. record { filled = get_or w.filled q false; stage = stage_by z; row = λ k. counted (head_then n i) (cursor_else n q other i) (number_in (home_at homes (lane_place g.places q k))) }
 
-  -- with nothing out before and after, the slots are as the views say
+  -- with no lane out before and after, the slots are as the views say
   word_keeps : (n : ℕ) (y : ReaderView) → y.number ≡ x.number → x.out ≡ false → y.out ≡ false
       → IsSoundLanes g.places g.total (head_shown words) (shown_by (set words (x.number + 1) n) w y x.number) (lanes_by g.places (set words (x.number + 1) n) homes w y x.number)
       → HoldsLanes g (set words (x.number + 1) n) homes w (put_reader y readers)

@@ -1,4 +1,4 @@
--- Views found in a list of views by their actor, before and after one view changes or a new one comes.
+-- Looking up views by actor in a list of views, before and after one view changes or is appended.
 use Rattle.std.proofs.Common.{◌≡◌, ◌≢◌, ℕ, zero, suc, ◌+◌, ◌<◌, ◌⊎◌, cond, eqb, List, [], ◌∷◌, ◌++◌, length, set, sym, refl, ap, ◌∙◌, inl, inr, arith}
 use Rattle.std.specs.Prelude.{Some}
 use Rattle.std.proofs.lemmas.Bool.{cases_eq, eq-eqb, ne_eqb}
@@ -20,7 +20,7 @@ pick_same n m a b e = ap (λ t. cond t a b) (eq-eqb n m e)
 pub pick_other : {A : Type 0} (n m : ℕ) (a b : A) → n ≢ m → cond (eqb n m) a b ≡ b
 pick_other n m a b e = ap (λ t. cond t a b) (ne_eqb n m e)
 
--- a view of another actor is passed over
+-- a view of another actor is skipped
 writer_skip : (v : View) (w : WriterView) → actor_of v ≢ Some 0 → writer_or v w ≡ w
 writer_skip (Writer u) w n = absurd (n refl)
 writer_skip (Reader x) w n = refl
@@ -35,14 +35,15 @@ reader_skip r (HeadNote h) x n = refl
 reader_skip r (CursorNote c) x n = refl
 reader_skip r Spent x n = refl
 
--- the first of two views of one actor in a list leaves none behind it
+-- if no actor has two views in a list, the same holds for its tail, and the first view's actor is not in the
+-- tail
 alone_rest : (v : View) (vs : List View) → Alone (v ∷ vs) → Alone vs
 alone_rest v vs h i j n a b p q s t = let e : suc i ≡ suc j = h (suc i) (suc j) n a b p q s t in omega arith
 
 alone_first : (v u : View) (vs : List View) (i n : ℕ) → Alone (v ∷ vs) → get_elem? vs i ≡ some u → actor_of u ≡ Some n → actor_of v ≢ Some n
 alone_first v u vs i n h at e f = let same : 0 ≡ suc i = h 0 (suc i) n v u refl at f e in absurd (omega arith)
 
--- the view that a list has of an actor is the one that is found
+-- the view of an actor in the list is the one that the lookup returns
 pub writer_at : (g : RingNumbers) (vs : List View) (i : ℕ) (w : WriterView) → Alone vs → get_elem? vs i ≡ some (Writer w) → writer_of g vs ≡ w
 writer_at g [] i w h e = absurd (some-ne-none (Writer w) (sym e))
 writer_at g (v ∷ vs) zero w h e = ap (λ (u : View). writer_or u (writer_of g vs)) (some-injective v (Writer w) e)
@@ -54,7 +55,7 @@ reader_at g (v ∷ vs) zero x h e =
     ap (λ (u : View). reader_or x.number u (reader_of g vs x.number)) (some-injective v (Reader x) e) ∙ pick_same x.number x.number x (reader_of g vs x.number) refl
 reader_at g (v ∷ vs) (suc i) x h e = reader_skip x.number v (reader_of g vs x.number) (alone_first v (Reader x) vs i (x.number + 1) h e refl) ∙ reader_at g vs i x (alone_rest v vs h) e
 
--- a change from one view to another, neither of this actor, changes nothing that is found of it
+-- replacing one view by another, neither of this actor, does not change what the lookup returns for it
 pub writer_kept : (g : RingNumbers) (vs : List View) (i : ℕ) (a b : View) → get_elem? vs i ≡ some a → actor_of a ≢ Some 0 → actor_of b ≢ Some 0 → writer_of g (set vs i b) ≡ writer_of g vs
 writer_kept g [] i a b e n m = refl
 writer_kept g (v ∷ vs) zero a b e n m =
@@ -67,7 +68,7 @@ reader_kept g (v ∷ vs) zero r a b e n m =
     reader_skip r b (reader_of g vs r) m ∙ sym (ap (λ (u : View). reader_or r u (reader_of g vs r)) (some-injective v a e) ∙ reader_skip r a (reader_of g vs r) n)
 reader_kept g (v ∷ vs) (suc i) r a b e n m = ap (reader_or r v) (reader_kept g vs i r a b e n m)
 
--- a view of the same actor in the place of another, or of none
+-- a view replaced by one of the same actor, or of none
 pub alone_set : (vs : List View) (i : ℕ) (a b : View) → Alone vs → get_elem? vs i ≡ some a → ((n : ℕ) → actor_of b ≡ Some n → actor_of a ≡ Some n) → Alone (set vs i b)
 alone_set vs i a b h e same j k n u v p q s t = elim (at_set vs i j b u p) [
   | inl x ↦
@@ -82,7 +83,7 @@ alone_set vs i a b h e same j k n u v p q s t = elim (at_set vs i j b u p) [
   ]
 ]
 
--- the list with y in the place of the view of its reader
+-- the list with y in the place of its reader's view
 pub readers_put : (g : RingNumbers) (vs : List View) (i : ℕ) (x y : ReaderView) (r : ℕ) → Alone vs → get_elem? vs i ≡ some (Reader x) → y.number ≡ x.number → i < length vs
     → reader_of g (set vs i (Reader y)) r ≡ put_reader y (reader_of g vs) r
 readers_put g vs i x y r h e n in_list = elim (cases_eq y.number r) [
@@ -100,7 +101,7 @@ at_in [] i v e = absurd (some-ne-none v (sym e))
 at_in (x ∷ vs) zero v e = omega arith
 at_in (x ∷ vs) (suc i) v e = let h = at_in vs i v e in omega arith
 
--- a view behind the others: of another actor, or a reader's first view
+-- a view appended to the others: of another actor, or a reader's first view
 pub writer_more : (g : RingNumbers) (vs : List View) (v : View) → actor_of v ≢ Some 0 → writer_of g (vs ++ v ∷ []) ≡ writer_of g vs
 writer_more g [] v n = writer_skip v (writer_of g []) n
 writer_more g (u ∷ vs) v n = ap (writer_or u) (writer_more g vs v n)
@@ -116,14 +117,14 @@ readers_first g [] m r = elim (cases_eq m r) [
 ]
 readers_first g (u ∷ vs) m r = ap (reader_or r u) (readers_first g vs m r)
 
--- the last element of a longer list, or one of the list
+-- an element of a list with one appended is in the list or is the appended one
 pub at_end : (vs : List View) (a b : View) (j : ℕ) → get_elem? (vs ++ a ∷ []) j ≡ some b → (get_elem? vs j ≡ some b) ⊎ ((j ≡ length vs) × (a ≡ b))
 at_end [] a b zero e = inr (refl, some-injective a b e)
 at_end [] a b (suc j) e = absurd (some-ne-none b (sym e))
 at_end (x ∷ vs) a b zero e = inl e
 at_end (x ∷ vs) a b (suc j) e = elim (at_end vs a b j e) [ inl h ↦ inl h | inr h ↦ inr (ap suc h.0, h.1) ]
 
--- a view of an actor that had none, or of none, behind the others
+-- a view appended to the others, of an actor that had none, or of no actor
 pub alone_more : (vs : List View) (a : View) → Alone vs → ((n j : ℕ) (v : View) → actor_of a ≡ Some n → get_elem? vs j ≡ some v → actor_of v ≢ Some n) → Alone (vs ++ a ∷ [])
 alone_more vs a h fresh i j n u v p q s t = elim (at_end vs a u i p) [
   | inl x ↦ elim (at_end vs a v j q) [

@@ -1,4 +1,4 @@
--- The schedule that a table shows, by the views that are found in it, and after an event.
+-- The schedule that a table shows, in terms of the views found in it, and after an event.
 use Rattle.std.proofs.Common.{◌≡◌, ℕ, ◌<◌, sym, refl, ◌∙◌}
 use Rattle.ring_core.specs.Schedule.{Schedule, Progress, Lanes}
 use Rattle.ring_core.specs.Plain.{plain, plain_lanes, schedule_of}
@@ -13,7 +13,7 @@ use Rattle.ring_rule.specs.Laws.{ShowsSound}
 use Rattle.ring_rule.proofs.Slots.{shown_by_place}
 use Rattle.ring_rule.proofs.Hold.{lanes_agree}
 
--- the schedule that is shown, as a ring of parts, with filled and stage as the views say
+-- the schedule shown, as built from its readers' parts, with filled and stage as the views say
 pub before_made : (g : RingNumbers) (s : RingState) (w : WriterView) → Kept g s → writer_of g s.views ≡ w
     → IsMade (schedule_shown g s) g.places g.total (head_shown s.words) g.readers (shown s.words w (reader_of g s.views)) (lanes_known g.places s.words s.homes w (reader_of g s.views))
 before_made g s w k is =
@@ -43,7 +43,7 @@ table_shows g t v later k now then =
     k.holds.sound.some_place (λ r h. refl) (lanes_agree g t.words t.homes found readers k.holds k.lanes)
     ∙ (λ i. schedule_of g.places g.total (head_shown t.words) g.readers (shown t.words (now i) (then i)) (lanes_known g.places t.words t.homes (now i) (then i)))
 
--- a table that shows the parts of what an event does, read plainly, shows the plain reading
+-- a table that shows the parts of an event's effect, read plainly, shows the plain reading of that effect
 pub event_shows : (g : RingNumbers) (t : RingState) (v : WriterView) (later : ℕ → ReaderView) (after : Schedule) (head : ℕ) (p : ℕ → Progress) (l : ℕ → Lanes) → Kept g t → writer_of g t.views ≡ v → reader_of g t.views ≡ later
     → IsMade after g.places g.total head g.readers p l → head_shown t.words ≡ head → ((r : ℕ) → r < g.readers → shown t.words v later r ≡ p r)
     → ((r : ℕ) → r < g.readers → lanes_known g.places t.words t.homes v later r ≡ plain_lanes head (p r) (l r)) → schedule_shown g t ≡ plain after
@@ -53,7 +53,7 @@ event_shows g t v later after head p l k now then made at progress lanes =
     ∙ (made_same g.places g.total head g.readers (shown t.words v later) p (lanes_known g.places t.words t.homes v later) (λ r. plain_lanes head (p r) (l r)) k.holds.sound.some_place progress lanes
     ∙ sym (made_plain after g.places g.total head g.readers p l made)))
 
--- a table that shows the same parts shows the same
+-- tables that show the same parts show the same schedule
 pub same_shows : (g : RingNumbers) (s t : RingState) (w v : WriterView) (later : ℕ → ReaderView) → Kept g s → Kept g t → writer_of g s.views ≡ w → writer_of g t.views ≡ v → reader_of g t.views ≡ later
     → t.words ≡ s.words → ((r : ℕ) → r < g.readers → shown s.words v later r ≡ shown s.words w (reader_of g s.views) r)
     → ((r : ℕ) → r < g.readers → lanes_known g.places s.words t.homes v later r ≡ lanes_known g.places s.words s.homes w (reader_of g s.views) r) → schedule_shown g t ≡ schedule_shown g s

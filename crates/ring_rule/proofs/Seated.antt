@@ -1,4 +1,5 @@
--- What each call asks of the table, for a seat whose view its invariant tells, and the seat after it.
+-- The table's conditions on each call, for a seat whose invariant gives its view, and the seat after the
+-- call.
 use Rattle.std.proofs.Common.{◌≡◌, ℕ, ◌+◌, ◌<◌, Bool, true, false, cond, [], ◌∷◌, sym, ◌∙◌, refl, ap, subst}
 use Rattle.std.specs.Prelude.{Some, None}
 use Rattle.std.proofs.lemmas.Bool.{false≢true}
@@ -52,14 +53,14 @@ module _ (g : RingNumbers) (slots id : ℕ) (m : Sat) (w : WriterView) (e : m �
       let P : Sat → Sat → Type 0 = λ m o. Joins (Kept g) id m.0 other o.0 (met m.0 o.0) Spent in
       subst (λ x. x) (λ i. P (sym e i) (sym f i)) (WriterCalls.meets g slots id w other n)
 
--- the writer with a lane out gives it home
+-- the writer with a lane out returns it to its slot
 pub may_place : (g : RingNumbers) (slots id r slot : ℕ) (m : Sat) (w : WriterView) (lane : Lane) → m ≡ (Writer w, (slot, Some lane) ∷ []) → slot ≡ slot_for w r → w.hand ≡ Some r → lane.number ≡ Some w.head → lane.bytes.items ≡ row_at w.ring w.head
     → Allows (Kept g) slots id m 0 (λ n. n) (PlacesAt (step slots 0 0 0 none) m)
 may_place g slots id r slot m w lane e place hand number row =
     let P : Sat → Type 0 = λ m. Allows (Kept g) slots id m 0 (λ n. n) (PlacesAt (step slots 0 0 0 none) m) in
     subst P (sym e) (WriterCalls.places g slots id w r slot lane place hand number row)
 
--- the writer's seat after a look
+-- the writer's seat after loading a cursor
 pub looked_seat : (g : RingNumbers) (shared own after : TableId) (slots r n places head total : ℕ) (m later : Sat) → IsWriterSeat g shared own m places head total → after ≡ own → LooksAt (step slots (r + 1) 0 0 none) m n later
     → IsWriterSeat g shared after later places head total
 looked_seat g shared own after slots r n places head total m later i t h =
@@ -81,7 +82,7 @@ looked_seat g shared own after slots r n places head total m later i t h =
       total_is = i.total_is;
     }
 
--- with nothing out, a reader's seat holds no slot
+-- with no lane out, a reader's seat holds no slot
 pub empty_hands : (m : Sat) → m ≡ seated_reader (reader_in m.0) → (reader_in m.0).out ≡ false → m ≡ (Reader (reader_in m.0), [])
 empty_hands m e out = e ∙ (λ i. (Reader (reader_in m.0), cond (out i) ((slot_of (reader_in m.0), None) ∷ []) []))
 
@@ -122,14 +123,14 @@ module _ (g : RingNumbers) (slots id : ℕ) (m : Sat) (x : ReaderView) where
       let P : Sat → Sat → Type 0 = λ m o. Joins (Kept g) id m.0 other o.0 (met m.0 o.0) Spent in
       subst (λ z. z) (λ i. P (sym e i) (sym f i)) (ReaderCalls.meets g slots id x other n)
 
--- where the reader's lane for its next row stands
+-- the index of the reader's lane for its next row
 pub reader_slot : (g : RingNumbers) (shared own : TableId) (m : Sat) (number places cursor seen : ℕ) (closed : Bool) → IsReaderSeat g shared own m number places cursor seen closed
     → slot_of (reader_in m.0) ≡ lane_place places number cursor
 reader_slot g shared own m number places cursor seen closed i =
     let x = reader_in m.0 in
     (λ j. lane_place (i.ring j).places (i.number_is j) (sym i.cursor_is j)) ∙ (λ j. lane_place (i.places_is j) number cursor)
 
--- the slot that a reader holds once it took its row
+-- the slot that a reader holds once it has taken its row
 pub taken_slot : (m after : Sat) (slot : ℕ) → m ≡ (Reader (reader_in m.0), []) → slot_of (reader_in m.0) ≡ slot → IsTake m after → (old : Slot) × (after.1 ≡ (slot, old) ∷ rest after.1)
 taken_slot m after slot e place t =
     let held : after.1 ≡ (slot_of (reader_in m.0), Some t.lane) ∷ m.1 = ap (λ (a : Sat). a.1) t.seat in
@@ -140,11 +141,11 @@ taken_slot m after slot e place t =
 pub held_out : (m : Sat) → m ≡ seated_reader (reader_in m.0) → (reader_in m.0).out ≡ true → m ≡ (Reader (reader_in m.0), (slot_of (reader_in m.0), None) ∷ [])
 held_out m e out = e ∙ (λ i. (Reader (reader_in m.0), cond (out i) ((slot_of (reader_in m.0), None) ∷ []) []))
 
--- that slot with the row in it again
+-- that slot with the row back in it
 pub filled_slot : (m after : Sat) (slot : ℕ) (lane : Lane) → m ≡ (Reader (reader_in m.0), (slot_of (reader_in m.0), None) ∷ []) → after ≡ (m.0, (slot, Some lane) ∷ rest m.1) → after ≡ (Reader (reader_in m.0), (slot, Some lane) ∷ [])
 filled_slot m after slot lane e f = f ∙ (λ i. ((e i).0, (slot, Some lane) ∷ rest (e i).1))
 
--- the reader's seat once it gave its row back
+-- the reader's seat once it has given its row back
 pub given_seat : (g : RingNumbers) (shared own last : TableId) (number places cursor seen slot : ℕ) (closed : Bool) (lane : Lane) (m mid after : Sat) → IsReaderSeat g shared own m number places cursor seen closed
     → (reader_in m.0).out ≡ true → last ≡ own → mid ≡ (Reader (reader_in m.0), (slot, Some lane) ∷ []) → GivesAt (step 0 0 0 0 none) mid 0 after → IsReaderSeat g shared last after number places cursor seen true
 given_seat g shared own last number places cursor seen slot closed lane m mid after i out t e h =
@@ -170,11 +171,11 @@ given_seat g shared own last number places cursor seen slot closed lane m mid af
       closed_fits = λ _. subst P (sym is) record { joined = f.joined; ahead = f.ahead; home = refl };
     }
 
--- where the writer's lane of a reader for row head stands
+-- the index of the writer's lane of a reader for row head
 pub writer_slot : (g : RingNumbers) (shared own : TableId) (m : Sat) (places head total r : ℕ) → IsWriterSeat g shared own m places head total → slot_for (writer_in m.0) r ≡ lane_place places r head
 writer_slot g shared own m places head total r i = (λ j. lane_place (i.ring j).places r (sym i.head_is j)) ∙ (λ j. lane_place (i.places_is j) r head)
 
--- the slot that the writer holds once it took it
+-- the slot that the writer holds once it has taken it
 pub picked_slot : (m after : Sat) (r slot : ℕ) → m ≡ seated_writer (writer_in m.0) → slot_for (writer_in m.0) r ≡ slot → IsPick r m after → (old : Slot) × (after.1 ≡ (slot, old) ∷ rest after.1)
 picked_slot m after r slot e place t =
     let held : after.1 ≡ (slot_for (writer_in m.0) r, Some t.lane) ∷ m.1 = ap (λ (a : Sat). a.1) t.seat in
@@ -190,7 +191,7 @@ placed_slot m one two three r slot lane e t f h =
     let b : two ≡ (Writer v, (slot, None) ∷ []) = f ∙ (λ i. ((a i).0, (slot, None) ∷ rest (a i).1)) in
     h ∙ (λ i. ((b i).0, (slot, Some lane) ∷ rest (b i).1))
 
--- Seats that met a note
+-- Seats that took in a note
 
 pub reader_after : (m o mid : Sat) (n : HeadNoteView) → m ≡ seated_reader (reader_in m.0) → o ≡ (HeadNote n, []) → mid ≡ (met m.0 o.0, m.1) → mid ≡ seated_reader (reader_met n (reader_in m.0))
 reader_after m o mid n e f h = h ∙ (λ i. (met (e i).0 (f i).0, (e i).1))
@@ -216,11 +217,11 @@ met_writer_seat g shared own last places head total m mid n i t e =
       total_is = i.total_is;
     }
 
--- what a look behind a note tells of its reader
+-- after a note was taken in, a load of the reader's cursor word is past the note
 pub told_past : (slots r n : ℕ) (m mid after : Sat) (note : CursorNoteView) → mid ≡ seated_writer (writer_met note (writer_in m.0)) → note.number ≡ r → LooksAt (step slots (r + 1) 0 0 none) mid n after → IsPastNote note n
 told_past slots r n m mid after note e number h = (h r refl).told note (ap (λ (x : Sat). (writer_in x.0).told) e) number
 
--- what a sight behind a note tells
+-- after a note was taken in, a load of the head is past the note
 pub told_head : (slots n : ℕ) (m mid after : Sat) (note : HeadNoteView) → mid ≡ seated_reader (reader_met note (reader_in m.0)) → SeesAt (step slots 0 0 0 none) mid n after → IsPastHead note (reader_in m.0).number n
 told_head slots n m mid after note e h =
     subst (λ (x : ReaderView). IsPastHead note x.number n) (ap (λ (x : Sat). reader_in x.0) e) (h.told note (ap (λ (x : Sat). (reader_in x.0).told) e))

@@ -1,4 +1,4 @@
--- Slots by reader and row number, and what they show: after a slot changed, and read again by the plain reading.
+-- Slots by reader and row number, and what they show: after a slot changes, and under the plain reading.
 use Rattle.std.proofs.Common.{◌≡◌, ◌≢◌, ℕ, zero, suc, ◌+◌, ◌*◌, ◌%◌, ◌<◌, ◌≤◌, ◌⊎◌, Bool, true, false, cond, List, [], ◌∷◌, length, get_or, set, sym, refl, ap, ◌∙◌, inl, inr, arith, get_or-set_same, get_or-set_other}
 use Rattle.std.specs.Prelude.{Option, Some, None}
 use Rattle.std.proofs.lemmas.Bool.{cases_eq}
@@ -15,13 +15,13 @@ use Rattle.ring_core.proofs.Lower.{from_low_same, from_low_none, from_low_twice}
 use Rattle.ring_rule.specs.Shown.{Slot, Homes, home_at, number_in, only, counted}
 use Rattle.ring_rule.proofs.Roster.{pick_same, pick_other}
 
--- what lies at an index is found there
+-- the lookup at an index returns the element there
 pub found_at : {A : Type 0} (l : List A) (i : ℕ) (d a : A) → i < length l → get_or l i d ≡ a → get_elem? l i ≡ some a
 found_at [] i d a h e = absurd (omega arith)
 found_at (x ∷ xs) zero d a h e = ap some e
 found_at (x ∷ xs) (suc i) d a h e = found_at xs i d a (omega arith) e
 
--- two lanes are one, of two readers, or at two places
+-- two lanes are the same; otherwise they differ in reader or in place
 pub record IsOneLane (places r m q k : ℕ) : Type 0 where
   pub reader : q ≡ r
   pub place : k % places ≡ m % places
@@ -62,7 +62,7 @@ only_is head n (Some q) e = elim (cases_eq q head) [
   | inr other ↦ let f : None ≡ Some n = sym (only_none head q other) ∙ e in cc
 ]
 
--- read plainly, what counts stays
+-- the plain reading keeps the numbers that count
 pub counted_plain : (head : ℕ) (cursor number : Option ℕ) → from_low (first_row head cursor) (counted head cursor number) ≡ counted head cursor number
 counted_plain head None None = refl
 counted_plain head None (Some n) = elim (cases_eq n head) [
@@ -75,7 +75,7 @@ counted_plain head None (Some n) = elim (cases_eq n head) [
 ]
 counted_plain head (Some c) number = from_low_twice c c number (omega arith)
 
--- once its reader went on, or left, a number counts where it counted before and isn't below the new bound
+-- once its reader advanced or left, a number counts if it counted before and is not below the new bound
 pub counted_on : (head c : ℕ) (number : Option ℕ) → from_low (c + 1) (counted head (Some c) number) ≡ counted head (Some (c + 1)) number
 counted_on head c number = from_low_twice c (c + 1) number (omega arith)
 
@@ -86,7 +86,7 @@ counted_left head c (Some n) h in_head = from_low_twice c head (Some n) h ∙ el
   | inr other ↦ from_low_none head n (let l = in_head n refl in omega arith) ∙ sym (only_none head n other)
 ]
 
--- once head rose
+-- the same once head has grown
 pub counted_next : (head : ℕ) (cursor number : Option ℕ) → ((n : ℕ) → number ≡ Some n → n ≤ head) → from_low (first_row (head + 1) cursor) (counted head cursor number) ≡ counted (head + 1) cursor number
 counted_next head None None in_head = refl
 counted_next head None (Some n) in_head = elim (cases_eq n head) [
@@ -95,7 +95,7 @@ counted_next head None (Some n) in_head = elim (cases_eq n head) [
 ]
 counted_next head (Some c) number in_head = from_low_twice c c number (omega arith)
 
--- row head counts wherever the cursor isn't above it, and the row at a cursor counts there
+-- row head counts unless the cursor is above it, and the row at a cursor counts
 pub counted_head : (head : ℕ) (cursor : Option ℕ) → ((c : ℕ) → cursor ≡ Some c → c ≤ head) → counted head cursor (Some head) ≡ Some head
 counted_head head None h = only_same head head refl
 counted_head head (Some c) h = from_low_same c head (h c refl)
@@ -103,17 +103,17 @@ counted_head head (Some c) h = from_low_same c head (h c refl)
 pub counted_here : (head : ℕ) (cursor : Option ℕ) (c : ℕ) → cursor ≡ Some c → counted head cursor (Some c) ≡ Some c
 counted_here head cursor c e = ap (λ o. counted head o (Some c)) e ∙ from_low_same c c (omega arith)
 
--- nothing counts where nothing lies
+-- an empty lane has no number that counts
 pub counted_none : (head : ℕ) (cursor : Option ℕ) → counted head cursor None ≡ None
 counted_none head None = refl
 counted_none head (Some c) = refl
 
--- a stage that views give is read as it is
+-- the plain reading leaves a stage by the views unchanged
 pub stage_plain : (b : Bool) → plain_stage (cond b Holding Idle) ≡ cond b Holding Idle
 stage_plain true = refl
 stage_plain false = refl
 
--- what lies at each place once one slot of a reader changed
+-- the row at each place after one slot of a reader changed
 pub row_put : (places r m head : ℕ) (cursor : Option ℕ) (homes : Homes) (v : AtHome Slot) (o : Option ℕ) (k : ℕ) → lane_place places r m < length homes → counted head cursor (number_in v) ≡ o
     → counted head cursor (number_in (home_at (set homes (lane_place places r m) v) (lane_place places r k))) ≡ put_row places m o (λ j. counted head cursor (number_in (home_at homes (lane_place places r j)))) k
 row_put places r m head cursor homes v o k h e =
@@ -123,7 +123,7 @@ row_put places r m head cursor homes v o k h e =
       | inr apart ↦ ap (λ x. counted head cursor (number_in x)) (home_apart places r m homes v r k refl apart) ∙ sym (put_other places m o row k apart)
     ]
 
--- lanes are found by their place
+-- the row shown for a lane depends on the place alone
 pub shown_by_place : (places r head : ℕ) (cursor : Option ℕ) (homes : Homes) (k : ℕ)
     → counted head cursor (number_in (home_at homes (lane_place places r (k % places)))) ≡ counted head cursor (number_in (home_at homes (lane_place places r k)))
 shown_by_place places r head cursor homes k = ap (λ j. counted head cursor (number_in (home_at homes (r * places + j)))) (mod-mod k places)

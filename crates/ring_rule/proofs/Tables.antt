@@ -1,4 +1,4 @@
--- The rule over the list of views: one seat's view changes, or a seat is cut in two.
+-- The rule over the list of views: one seat's view changes, or a seat is split.
 use Rattle.std.proofs.Common.{◌≡◌, ◌≢◌, ℕ, ◌+◌, ◌<◌, ◌≤◌, true, List, [], ◌∷◌, ◌++◌, set, sym, ap, ◌∙◌, subst, inl, inr, arith}
 use Rattle.std.specs.Prelude.{Some}
 use mathlib.Core.Option.{some}
@@ -21,7 +21,7 @@ use Rattle.ring_rule.proofs.Roster.{writer_at, reader_at, writer_kept, reader_ke
 abbrev pub changed : RingState → List ℕ → Homes → ℕ → View → RingState
 changed s words homes id v = record { words = words; homes = homes; views = set s.views id v }
 
--- What the rule says of a seat's own view
+-- What the rule says about a seat's own view
 
 pub holds_at : (g : RingNumbers) (s : RingState) (id : ℕ) (w : WriterView) → Kept g s → get_elem? s.views id ≡ some (Writer w) → Holds g s.words w (reader_of g s.views)
 holds_at g s id w k at = subst (λ v. Holds g s.words v (reader_of g s.views)) (writer_at g s.views id w k.alone at) k.holds
@@ -38,16 +38,16 @@ reader_is g s id x k at = reader_at g s.views id x k.alone at
 pub reader_in_range : (g : RingNumbers) (s : RingState) (id : ℕ) (x : ReaderView) → Kept g s → get_elem? s.views id ≡ some (Reader x) → x.number < g.readers
 reader_in_range g s id x k at = let a = k.made id x at in let b = k.holds.made_in in omega arith
 
--- the ring's numbers are the same in a seat's view
+-- a seat's view has the ring's numbers
 pub ring_is : (g : RingNumbers) (s : RingState) (id : ℕ) (w : WriterView) → Kept g s → get_elem? s.views id ≡ some (Writer w) → w.ring ≡ g
 ring_is g s id w k at = (holds_at g s id w k at).writer_ring
 
 pub reader_ring_is : (g : RingNumbers) (s : RingState) (id : ℕ) (x : ReaderView) → Kept g s → get_elem? s.views id ≡ some (Reader x) → x.ring ≡ g
 reader_ring_is g s id x k at = ap (λ (y : ReaderView). y.ring) (sym (reader_is g s id x k at)) ∙ k.holds.reader_ring x.number (reader_in_range g s id x k at)
 
--- What notes say stays true
+-- What notes say remains true
 
--- head and the rows taken only grow, and one that left stays so
+-- head and the rows taken only grow, and a reader that left does not rejoin
 pub record IsLater (w : WriterView) (readers : ℕ → ReaderView) (v : WriterView) (later : ℕ → ReaderView) : Type 0 where
   pub head : w.head ≤ v.head
   pub taken : (r : ℕ) → (readers r).taken ≤ (later r).taken
@@ -59,7 +59,8 @@ later_head g w v readers later n l t = record { ring = t.ring; head = let a = l.
 pub later_cursor : (g : RingNumbers) (w v : WriterView) (readers later : ℕ → ReaderView) (n : CursorNoteView) → IsLater w readers v later → IsTrueCursor g readers n → IsTrueCursor g later n
 later_cursor g w v readers later n l t = record { ring = t.ring; in_range = t.in_range; taken = let a = l.taken n.number in let b = t.taken in omega arith; left = λ e. l.left n.number (t.left e) }
 
--- what a view tells others is true: a reader's is of one that the writer made, and a note's holds
+-- what a view tells others is true: a reader's view is of a reader that the writer made, and a note's content
+-- holds
 pub record TellsTrue (g : RingNumbers) (w : WriterView) (readers : ℕ → ReaderView) (v : View) : Type 0 where
   pub made : (x : ReaderView) → v ≡ Reader x → x.number < w.made
   pub head_note : (n : HeadNoteView) → v ≡ HeadNote n → IsTrueHead g w readers n

@@ -1,4 +1,5 @@
--- What each call of the writer asks of the table: the step keeps the rule and tells what its play says.
+-- The table's conditions on each call of the writer: the step keeps the rule and has the result that its play
+-- states.
 use Rattle.std.proofs.Common.{◌≡◌, ℕ, ◌+◌, ◌<◌, ◌≤◌, true, List, [], ◌∷◌, length, get_or, set, sym, refl, ap, ◌∙◌, subst, inl, inr, arith}
 use Rattle.std.specs.Prelude.{Some, None}
 use Rattle.std.proofs.lemmas.Bool.{cases_Bool}
@@ -22,7 +23,7 @@ use Rattle.ring_rule.proofs.Tables.{holds_at, lanes_at, notes_at, ring_is}
 use Rattle.ring_rule.proofs.WriterEvents
 use Rattle.ring_rule.proofs.Notes
 
--- a cursor word against what a note of its reader said
+-- a cursor word is past what a note of its reader said
 pub past_note : (g : RingNumbers) (words : List ℕ) (w : WriterView) (readers : ℕ → ReaderView) (r : ℕ) (n : CursorNoteView) → Holds g words w readers → IsTrueCursor g readers n → n.number ≡ r → IsPastNote n (get_or words (r + 1) 0)
 past_note g words w readers r n h t e =
     let l : r < g.readers = let a = t.in_range in omega arith in

@@ -59,7 +59,7 @@ module _ (g : RingNumbers) (s : RingState) (id : ℕ) (w : WriterView) (k : Kept
 
   -- Publish
 
-  -- a reader that the writer didn't see leave has its lane filled
+  -- a reader that the writer has not seen leave has its lane filled
   ready : MayPublish w → (r : ℕ) → r < g.readers → is_ready (shown s.words w (reader_of g s.views) r) (lanes_known g.places s.words s.homes w (reader_of g s.views) r) ≡ true
   ready may r l = by_known (cursor_in (get_or w.known r 0)) refl
     where
@@ -93,11 +93,11 @@ module _ (g : RingNumbers) (s : RingState) (id : ℕ) (w : WriterView) (k : Kept
 
   -- The writer takes a lane
 
-  -- the ring's numbers are those of the view
+  -- the view has the ring's numbers
   places_are : w.ring.places ≡ g.places
   places_are = ap (λ (z : RingNumbers). z.places) (ring_is g s id w k at)
 
-  -- what the call asks for is what the rule says of a lane that is out
+  -- the call's condition implies the rule's condition for a lane that is out
   pub may_hand : (r : ℕ) → MayFill w r → HandFits g w r
   may_hand r may =
       let e = ring_is g s id w k at in
@@ -131,7 +131,7 @@ module _ (g : RingNumbers) (s : RingState) (id : ℕ) (w : WriterView) (k : Kept
             (WriterLanes.pick_lanes_are g s.words s.homes w readers h m r l empty);
       }
 
-  -- the lane that it takes
+  -- the lane that it takes is in its slot
   pub pick_found : (r : ℕ) → w.hand ≡ None → MayFill w r → (lane : Lane) × (get_elem? s.homes (slot_for w r) ≡ some (some (Some lane))) × Fits g (head_shown s.words) lane
   pick_found r hand may =
       let readers = reader_of g s.views in
@@ -152,7 +152,7 @@ module _ (g : RingNumbers) (s : RingState) (id : ℕ) (w : WriterView) (k : Kept
         step = λ y e. subst (λ x. x) (λ i. ShowsTheSame g s (changed s (sym (set-get_or s.words 0 0) i) (set s.homes (sym slot i) none) id (Writer (picked r w)))) (pick_plain r hand may);
       }
 
-  -- The writer gives it home, filled
+  -- The writer returns it to its slot, filled
 
   place_plain : (r : ℕ) (lane : Lane) → w.hand ≡ Some r → lane.number ≡ Some w.head → Fits g w.head lane
       → IsEvent g s (changed s s.words (set s.homes (lane_place g.places r w.head) (some (Some lane))) id (Writer (WriterLanes.put_home g s.words s.homes w (reader_of g s.views) (holds_at g s id w k at) (lanes_at g s id w k at) r))) (Fill r)

@@ -66,7 +66,7 @@ module _ (g : RingNumbers) (words : List ℕ) (homes : Homes) (w : WriterView) (
         row = λ k. ((λ j. counted (at j) (word j) (number k)) ∙ sym (counted_next head (cursor_shown words r) (number k) (λ n e. number_in_head g words homes w readers r k n m l e))) i;
       }
 
-  -- a filled lane for each known reader leaves none out with the writer
+  -- where each joined reader's lane is filled, the writer has no lane out
   pub nothing_out : MayPublish w → w.hand ≡ None
   nothing_out may = by_hand w.hand refl
     where
@@ -109,7 +109,7 @@ module _ (g : RingNumbers) (words : List ℕ) (homes : Homes) (w : WriterView) (
 
   -- The writer takes a lane
 
-  -- what lies there doesn't count
+  -- the lane has no number that counts
   pub unfilled_shows_none : (r : ℕ) → r < g.readers → get_or w.filled r false ≡ false → (k : ℕ) → cursor_in (get_or w.known r 0) ≡ Some k → head_shown words < k + g.places
       → row_shown g.places words homes r (head_shown words) ≡ None
   unfilled_shows_none r l unfilled k known room = by_row (row_shown g.places words homes r (head_shown words)) refl
@@ -117,7 +117,7 @@ module _ (g : RingNumbers) (words : List ℕ) (homes : Homes) (w : WriterView) (
       head : ℕ
       head = head_shown words
 
-      -- a number there would be a row that the reader has yet to pass, less than a turn away
+      -- a number that counts there would be a row that the reader has not passed, less than a turn away
       below : (n : ℕ) (cursor : Option ℕ) → cursor_shown words r ≡ cursor → counted head cursor (number_in (home_at homes (lane_place g.places r head))) ≡ Some n → row_shown g.places words homes r head ≡ Some n → n ≡ head
       below n None at e row = Slots.only_is head n (number_in (home_at homes (lane_place g.places r head))) e
       below n (Some c) at e row =
@@ -133,7 +133,7 @@ module _ (g : RingNumbers) (words : List ℕ) (homes : Homes) (w : WriterView) (
           let is = below n (cursor_shown words r) refl e e in
           absurd (false≢true (sym unfilled ∙ (m.sound r l).newest head (e ∙ ap Some is)))
 
-  -- a lane that shows no row at its place looks the same without it
+  -- a lane that shows no row at its place looks the same without its buffer
   none_put : (r : ℕ) (row : ℕ → Option ℕ) (n : ℕ) → ((k : ℕ) → row (k % g.places) ≡ row k) → row n ≡ None → (k : ℕ) → put_row g.places n None row k ≡ row k
   none_put r row n by e k = elim (cases_eq (k % g.places) (n % g.places)) [
     | inl same ↦ put_same g.places n None row k same ∙ sym (sym (by k) ∙ (ap row same ∙ (by n ∙ e)))
@@ -158,7 +158,7 @@ module _ (g : RingNumbers) (words : List ℕ) (homes : Homes) (w : WriterView) (
       → lanes_known g.places words (set homes (lane_place g.places r w.head) none) (picked r w) readers q ≡ lanes_known g.places words homes w readers q
   pick_lanes_are r l empty q j = λ i. record { filled = get_or w.filled q false; stage = stage_by (readers q); row = λ k. pick_shows r l empty q k j i }
 
-  -- whose lane it is that the writer has
+  -- which lane the writer has out
   pub handed_here : (r n : ℕ) → n % g.places ≡ w.head % g.places → is_handed g.places (picked r w) r n ≡ true
   handed_here r n e = λ i. eq-eqb r r refl i && eq-eqb (n % g.places) (w.head % g.places) e i
 
@@ -168,7 +168,7 @@ module _ (g : RingNumbers) (words : List ℕ) (homes : Homes) (w : WriterView) (
   pub handed_else : (r q n : ℕ) → q ≢ r → is_handed g.places (picked r w) q n ≡ false
   handed_else r q n e = λ i. ne_eqb r q (λ f. e (sym f)) i && nat_eq (n % g.places) (w.head % g.places)
 
-  -- with nothing out at the writer
+  -- the writer has no lane out
   pub none_handed : w.hand ≡ None → (q n : ℕ) → is_handed g.places w q n ≡ false
   none_handed hand q n = λ i. is_number q (hand i) && nat_eq (n % g.places) (w.head % g.places)
 
@@ -207,7 +207,7 @@ module _ (g : RingNumbers) (words : List ℕ) (homes : Homes) (w : WriterView) (
         sound = λ q j. subst (λ x. IsSoundLanes g.places g.total head (shown words w readers q) x) (sym (pick_lanes_are r l empty q j)) (m.sound q j);
       }
 
-  -- the lane of row head isn't out with its reader, where there is room for that row
+  -- the lane of row head is not out with its reader, where there is room for that row
   pub not_held_at : (r n : ℕ) → HandFits g w r → n % g.places ≡ w.head % g.places → is_held g.places (readers r) n ≡ false
   not_held_at r n fits same = by_out (readers r).out refl
     where
@@ -234,16 +234,16 @@ module _ (g : RingNumbers) (words : List ℕ) (homes : Homes) (w : WriterView) (
   not_held_head : (r : ℕ) → HandFits g w r → is_held g.places (readers r) w.head ≡ false
   not_held_head r fits = not_held_at r w.head fits refl
 
-  -- what lies in the lane that the writer takes
+  -- the content of the lane that the writer takes
   pub pick_home : (r : ℕ) → w.hand ≡ None → HandFits g w r → LaneIs g (head_shown words) (home_at homes (lane_place g.places r w.head)) false
   pick_home r hand fits =
       let l = fits.in_range in
       let away : is_away g.places w readers r w.head ≡ false = (λ i. none_handed hand r w.head i || is_held g.places (readers r) w.head) ∙ not_held_head r fits in
       at_home g (head_shown words) (home_at homes (lane_place g.places r w.head)) (is_away g.places w readers r w.head) away (m.lane_is r w.head l)
 
-  -- The writer gives the lane home, filled
+  -- The writer returns the lane to its slot, filled
 
-  -- the writer's view then
+  -- the writer's view afterwards
   abbrev pub put_home : ℕ → WriterView
   put_home r = record w { hand = None; filled = set w.filled r true }
 
@@ -270,7 +270,7 @@ module _ (g : RingNumbers) (words : List ℕ) (homes : Homes) (w : WriterView) (
       let row = λ (k : ℕ). ap (λ x. counted head (cursor_shown words q) (number_in x)) (home_else g.places r w.head homes (some (Some lane)) q k h.sound.some_place other) in
       λ i. record { filled = filled i; stage = stage_by (readers q); row = λ k. row k i }
 
-  -- room and an unfilled lane are what a fill asks for
+  -- room and an unfilled lane suffice for a fill
   pub fill_possible : (r : ℕ) → HandFits g w r → can_fill g.places g.total (head_shown words) (shown words w readers r) (lanes_known g.places words homes w readers r) ≡ true
   fill_possible r fits =
       let head = head_shown words in

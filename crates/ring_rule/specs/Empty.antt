@@ -3,7 +3,7 @@ use Rattle.std.specs.Prelude.{◌≡◌, ℕ, Some, None, length}
 use Rattle.ring_rule.specs.declared.lane.Lane.{Lane}
 use Rattle.ring_rule.specs.Shown.{Slot}
 
--- a buffer of this length with no row's number
+-- a buffer of this length without a row number
 pub record IsEmptyLane (row_len : ℕ) (slot : Slot) : Type 0 where
   pub lane : Lane
   pub is : slot ≡ Some lane

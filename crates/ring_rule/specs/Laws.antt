@@ -28,8 +28,8 @@ use Rattle.ring_rule.specs.Plays.{slot_for, slot_of, looked_at, published, picke
 use Rattle.ring_rule.specs.Plays.{gave, went_on, gone, MayPublish, MayFill, MayTake, made_more, made_reader}
 use Rattle.ring_rule.specs.Plays.{noted, met}
 
--- the step from s to t keeps the rule, the event is possible in what was shown, and what is shown is the
--- plain reading of what it does
+-- the step to state t keeps the rule, the event is possible in the schedule before, and what t shows is the
+-- plain reading of the event's effect
 pub record IsEventFrom (before : Schedule) (g : RingNumbers) (t : RingState) (e : Event) : Type 0 where
   pub kept : Kept g t
   pub can : can_be before e ≡ true
@@ -38,16 +38,16 @@ pub record IsEventFrom (before : Schedule) (g : RingNumbers) (t : RingState) (e 
 abbrev pub IsEvent : RingNumbers → RingState → RingState → Event → Type 0
 IsEvent g s t e = IsEventFrom (schedule_shown g s) g t e
 
--- the step from s to t keeps the rule, and what is shown stays
+-- the step from s to t keeps the rule and shows the same schedule
 pub record ShowsTheSame (g : RingNumbers) (s t : RingState) : Type 0 where
   pub kept : Kept g t
   pub same : schedule_shown g t ≡ schedule_shown g s
 
--- the seat id has this view
+-- seat id has view v
 abbrev pub Has : RingState → ℕ → View → Type 0
 Has s id v = get_elem? s.views id ≡ some v
 
--- the seat id stores n in word i, and has the view v then
+-- seat id stores n in word i, and has view v afterwards
 abbrev pub stores : RingState → ℕ → ℕ → ℕ → View → RingState
 stores s i n id v = stepped s i n id [] v keeps
 
@@ -55,11 +55,11 @@ stores s i n id v = stepped s i n id [] v keeps
 abbrev pub loads : RingState → ℕ → ℕ → View → RingState
 loads s i id v = stores s i (slice_index s.words i) id v
 
--- with that load it takes slot k, in which y lay
+-- with that load it takes y out of slot k
 abbrev pub takes_slot : RingState → ℕ → ℕ → View → ℕ → Slot → RingState
 takes_slot s i id v k y = stepped s i (slice_index s.words i) id [] v (takes k y)
 
--- with that load it gives slot k home with y in it
+-- with that load it puts y back into slot k
 abbrev pub gives_slot : RingState → ℕ → ℕ → View → ℕ → Slot → RingState
 gives_slot s i id v k y = stepped s i (slice_index s.words i) id ((k, y) ∷ []) v gives
 
@@ -69,20 +69,20 @@ LookIsEvent = (g : RingNumbers) (s : RingState) (id r : ℕ) (w : WriterView) �
     → r < g.readers → w.hand ≡ None → let n = slice_index s.words (r + 1) in
     IsEvent g s (loads s (r + 1) id (Writer (looked_at r n w))) (Look r)
 
--- the writer loads word 0 and takes the lane of reader r: there is a buffer at home, and whichever it is,
--- what is shown stays
+-- the writer loads word 0 and takes the lane of reader r: its slot holds a buffer, and whichever buffer it
+-- is, the same schedule is shown
 pub record PickStays (g : RingNumbers) (s : RingState) (id r : ℕ) (w : WriterView) : Type 0 where
   pub home : (lane : Lane) × (get_elem? s.homes (slot_for w r) ≡ some (some (Some lane)))
   pub step : (y : Slot) → get_elem? s.homes (slot_for w r) ≡ some (some y)
       → ShowsTheSame g s (takes_slot s 0 id (Writer (picked r w)) (slot_for w r) y)
 
--- with no lane out before
+-- the same for a writer with no lane out
 abbrev pub PickShowsTheSame : Type 0
 PickShowsTheSame = (g : RingNumbers) (s : RingState) (id r : ℕ) (w : WriterView) → Kept g s
     → Has s id (Writer w)
     → w.hand ≡ None → MayFill w r → PickStays g s id r w
 
--- the writer loads word 0 and gives the lane of reader r home with row head
+-- the writer loads word 0 and puts the lane of reader r back with row head
 abbrev pub PlaceIsFill : Type 0
 PlaceIsFill = (g : RingNumbers) (s : RingState) (id r : ℕ) (w : WriterView) (lane : Lane) → Kept g s
     → Has s id (Writer w)
@@ -101,8 +101,8 @@ SeeIsEvent = (g : RingNumbers) (s : RingState) (id : ℕ) (x : ReaderView) → K
     → x.left ≡ false
     → IsEvent g s (loads s 0 id (Reader (saw_head (slice_index s.words 0) x))) (See x.number)
 
--- a reader loads its word and takes its lane: there is a buffer at home, and whichever it is, the step is
--- an open
+-- a reader loads its word and takes its lane: its slot holds a buffer, and whichever buffer it is, the step
+-- is an open
 pub record TakeOpens (g : RingNumbers) (s : RingState) (id : ℕ) (x : ReaderView) : Type 0 where
   pub home : (lane : Lane) × (get_elem? s.homes (slot_of x) ≡ some (some (Some lane)))
   pub step : (y : Slot) → get_elem? s.homes (slot_of x) ≡ some (some y)
@@ -113,28 +113,28 @@ TakeIsOpen = (g : RingNumbers) (s : RingState) (id : ℕ) (x : ReaderView) → K
     → MayTake x
     → TakeOpens g s id x
 
--- a reader loads its word and gives its lane home with its row
+-- a reader loads its word and puts its lane back with its row
 abbrev pub GiveIsClose : Type 0
 GiveIsClose = (g : RingNumbers) (s : RingState) (id : ℕ) (x : ReaderView) (lane : Lane) → Kept g s
     → Has s id (Reader x)
     → x.out ≡ true → lane.number ≡ Some x.taken → Fits g x.taken lane
     → IsEvent g s (gives_slot s (x.number + 1) id (Reader (gave x)) (slot_of x) (Some lane)) (Close x.number)
 
--- a joined reader that knows of a row at its cursor, and has nothing out, stores its cursor + 1; its stage
--- is first read as closed
+-- a joined reader that knows of a row at its cursor, and has no lane out, stores its cursor + 1; its stage is
+-- first read as closed
 abbrev pub AdvanceIsEvent : Type 0
 AdvanceIsEvent = (g : RingNumbers) (s : RingState) (id : ℕ) (x : ReaderView) → Kept g s → Has s id (Reader x)
     → MayTake x
     → let before = read_closed x.number (schedule_shown g s) in
     IsEventFrom before g (stores s (x.number + 1) (x.taken + 1) id (Reader (went_on x))) (Advance x.number)
 
--- a joined reader with nothing out stores 2^64 - 1
+-- a joined reader with no lane out stores 2^64 - 1
 abbrev pub LeaveIsEvent : Type 0
 LeaveIsEvent = (g : RingNumbers) (s : RingState) (id : ℕ) (x : ReaderView) → Kept g s → Has s id (Reader x)
     → x.left ≡ false
     → x.out ≡ false → IsEvent g s (stores s (x.number + 1) left_word id (Reader (gone x))) (Leave x.number)
 
--- the table with the view of one seat changed and one more seat, which is how a seat is cut
+-- the table with one seat's view changed and one seat added: the effect of splitting a seat
 abbrev pub cut : RingState → ℕ → View → View → RingState
 cut s id left right = record {
   words = s.words;
@@ -157,7 +157,7 @@ abbrev pub CursorNoteShowsTheSame : Type 0
 CursorNoteShowsTheSame = (g : RingNumbers) (s : RingState) (id : ℕ) (x : ReaderView) → Kept g s
     → Has s id (Reader x) → ShowsTheSame g s (cut s id (Reader x) (noted (Reader x)))
 
--- the table with the view of the seat id made from it and that of another seat, which is spent
+-- the table after seat id takes in another seat, whose view becomes Spent
 abbrev pub joined : RingState → ℕ → View → ℕ → RingState
 joined s id both other = record {
   words = s.words;
@@ -176,7 +176,7 @@ MeetCursorShowsTheSame = (g : RingNumbers) (s : RingState) (id other : ℕ) (w :
     → (n : CursorNoteView) → Kept g s → Has s id (Writer w) → Has s other (CursorNote n)
     → ShowsTheSame g s (joined s id (met (Writer w) (CursorNote n)) other)
 
--- what the table shows is sound, and its slots show what the views say: which lanes are filled, and which
+-- what the table shows is sound, and its slots agree with the views on which lanes are filled and which
 -- readers hold their row
 pub record ShowsSound (g : RingNumbers) (s : RingState) : Type 0 where
   pub sound : IsSound (schedule_shown g s)
@@ -186,7 +186,7 @@ pub record ShowsSound (g : RingNumbers) (s : RingState) : Type 0 where
 abbrev pub RuleShowsSound : Type 0
 RuleShowsSound = (g : RingNumbers) (s : RingState) → Kept g s → ShowsSound g s
 
--- the table's first state: all words 0, an empty lane in each slot
+-- the table's initial state: all words 0, an empty lane in each slot
 pub record IsFirst (g : RingNumbers) (slots : List Slot) : Type 0 where
   pub places : 0 < g.places
   pub total : g.total < left_word
@@ -195,7 +195,7 @@ pub record IsFirst (g : RingNumbers) (slots : List Slot) : Type 0 where
   pub deep : length slots ≡ g.readers * g.places
   pub empty : All (IsEmptyLane g.row_len) slots
 
--- the first state keeps the rule, and shows the core's start
+-- the initial state satisfies the rule and shows the core's initial schedule
 pub record StartsAt (g : RingNumbers) (t : RingState) : Type 0 where
   pub kept : Kept g t
   pub shows : schedule_shown g t ≡ start g.places g.readers g.total

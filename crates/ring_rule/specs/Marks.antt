@@ -8,24 +8,24 @@ use Rattle.ring_rule.specs.declared.view.HeadNoteView.{HeadNoteView}
 use Rattle.ring_rule.specs.declared.view.CursorNoteView.{CursorNoteView}
 use Rattle.ring_rule.specs.Views.{counted_writer, new_reader}
 
--- which table it is, the ring's numbers, and whether no seat was given out
+-- the table's identity, the ring's numbers, and whether no seat was given out
 pub record TableMark : Type 0 where
   pub table : TableId
   pub ring : RingNumbers
   pub fresh : Bool
 
--- which table the seat is of, and its view
+-- the identity of the seat's table, and the seat's view
 pub record WriterMark : Type 0 where
   pub table : TableId
   pub view : WriterView
 
--- the same of a reader, and whether the row at its cursor was taken and given back
+-- the same for a reader, and whether the row at its cursor was taken and given back
 pub record ReaderMark : Type 0 where
   pub table : TableId
   pub view : ReaderView
   pub closed : Bool
 
--- which table the note is of, and what it says
+-- the identity of the note's table, and the note's content
 pub record HeadNoteMark : Type 0 where
   pub table : TableId
   pub note : HeadNoteView

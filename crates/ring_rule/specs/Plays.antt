@@ -1,4 +1,4 @@
--- What each step does to the view of its seat, and what it tells.
+-- What each step does to the view of its seat, and what the seat learns from it.
 use Rattle.std.specs.Prelude.{◌≡◌, ◌≢◌, ℕ, ◌+◌, ◌<◌, ◌≤◌, ◌⊎◌, Bool, true, false, List, [], ◌∷◌, length, map}
 use Rattle.std.specs.Prelude.{Option, Some, None, slice_index, slice_index_or, slice_set}
 use Rattle.atomic_table.specs.Table.{Me, Step, rest}
@@ -57,7 +57,7 @@ abbrev pub filled_at : Option ℕ → List Bool → List Bool
 filled_at None filled = filled
 filled_at (Some r) filled = slice_set filled r true
 
--- the writer gave that lane home, filled
+-- the writer returned that lane to its slot, filled
 abbrev pub placed : WriterView → WriterView
 placed w = record w { hand = None; filled = filled_at w.hand w.filled }
 
@@ -65,7 +65,7 @@ placed w = record w { hand = None; filled = filled_at w.hand w.filled }
 abbrev pub filled_lane : ℕ → WriterView → WriterView
 filled_lane r w = record w { filled = slice_set w.filled r true }
 
--- the reader found n in the head's word
+-- the reader found n in the head word
 abbrev pub saw_head : ℕ → ReaderView → ReaderView
 saw_head n x = record x { seen = n; loads = x.loads + 1 }
 
@@ -73,11 +73,11 @@ saw_head n x = record x { seen = n; loads = x.loads + 1 }
 abbrev pub took : ReaderView → ReaderView
 took x = record x { out = true }
 
--- the reader gave that lane home
+-- the reader returned that lane to its slot
 abbrev pub gave : ReaderView → ReaderView
 gave x = record x { out = false }
 
--- the reader went on to its next row
+-- the reader advanced to its next row
 abbrev pub went_on : ReaderView → ReaderView
 went_on x = record x { taken = x.taken + 1 }
 
@@ -85,45 +85,45 @@ went_on x = record x { taken = x.taken + 1 }
 abbrev pub gone : ReaderView → ReaderView
 gone x = record x { left = true }
 
--- where the writer's lane of reader r for the row numbered head stands
+-- the index of the writer's lane of reader r for the row numbered head
 abbrev pub slot_for : WriterView → ℕ → ℕ
 slot_for w r = lane_place w.ring.places r w.head
 
--- where the reader's lane for its next row stands
+-- the index of the reader's lane for its next row
 abbrev pub slot_of : ReaderView → ℕ
 slot_of x = lane_place x.ring.places x.number x.taken
 
--- a cursor word of reader r: it left, or n lies between what the writer knew and head
+-- a cursor word of reader r: it left, or n is between the cursor that the writer knew and head
 abbrev pub IsCursorOf : WriterView → ℕ → ℕ → Type 0
 IsCursorOf w r n = (n ≡ left_word) ⊎ ((slice_index w.known r ≤ n) × (n ≤ w.head))
 
--- a cursor word of the maker of a reader's note: it left, or took at least the rows that the note tells; it
--- left if the note says so
+-- a cursor word loaded after a note of that reader: the reader left, or took at least as many rows as the
+-- note says; it left if the note says so
 pub record IsPastNote (note : CursorNoteView) (n : ℕ) : Type 0 where
   pub cursor : (n ≡ left_word) ⊎ (note.taken ≤ n)
   pub left : note.left ≡ true → n ≡ left_word
 
--- a head word once a note of the writer was met: at least the head that the note tells, and this reader
--- isn't told as left
+-- a head word loaded after a note of the writer: at least the note's head, and the note does not record this
+-- reader as left
 pub record IsPastHead (note : HeadNoteView) (number n : ℕ) : Type 0 where
   pub head : note.head ≤ n
   pub joined : slice_index note.known number ≢ left_word
 
--- the writer may publish: there is a row, and each reader that it did not see leave has its lane filled
+-- the writer may publish: a row remains, and each reader that it has not seen leave has its lane filled
 pub record MayPublish (w : WriterView) : Type 0 where
   pub row : w.head < w.ring.total
   pub filled : (r k : ℕ) → r < w.ring.readers → cursor_in (slice_index w.known r) ≡ Some k
       → slice_index_or w.filled r false ≡ true
 
--- the writer may fill the lane of reader r: there is a row, room for it as far as the writer knows, and it
--- didn't fill that lane
+-- the writer may fill the lane of reader r: a row remains, there is room for it as far as the writer knows,
+-- and that lane is not yet filled
 pub record MayFill (w : WriterView) (r : ℕ) : Type 0 where
   pub in_range : r < w.ring.readers
   pub row : w.head < w.ring.total
   pub room : (k : ℕ) × (cursor_in (slice_index w.known r) ≡ Some k) × (w.head < k + w.ring.places)
   pub unfilled : slice_index_or w.filled r false ≡ false
 
--- a reader may take its row: it is joined, knows of a row at its cursor, and has nothing out
+-- a reader may take its row: it is joined, knows of a row at its cursor, and has no lane out
 pub record MayTake (x : ReaderView) : Type 0 where
   pub joined : x.left ≡ false
   pub ahead : x.taken < x.seen
@@ -132,7 +132,7 @@ pub record MayTake (x : ReaderView) : Type 0 where
 abbrev pub Told : Type 1
 Told = Step Slot → Sat → ℕ → Sat → Type 0
 
--- what a look at reader r tells
+-- the result of a load of reader r's cursor
 pub record IsLook (before : Sat) (r n : ℕ) (after : Sat) : Type 0 where
   pub seat : after ≡ (Writer (looked_at r n (writer_in before.0)), before.1)
   pub cursor : IsCursorOf (writer_in before.0) r n
@@ -145,7 +145,7 @@ LooksAt s before n after = (r : ℕ) → s.word ≡ r + 1 → IsLook before r n 
 abbrev pub PublishesAt : Told
 PublishesAt s before n after = after ≡ (Writer (published (writer_in before.0)), before.1)
 
--- the writer has the lane of reader r out, whose buffer is as long as the row that it is to hold
+-- the writer has the lane of reader r out, whose buffer is as long as the row that it will hold
 pub record IsPick (r : ℕ) (before after : Sat) : Type 0 where
   pub lane : Lane
   pub seat : let w = writer_in before.0 in after ≡ (Writer (picked r w), (slot_for w r, Some lane) ∷ before.1)
@@ -168,7 +168,7 @@ pub record IsSight (before : Sat) (n : ℕ) (after : Sat) : Type 0 where
 abbrev pub SeesAt : Told
 SeesAt s before n after = IsSight before n after
 
--- the reader has its lane out, and the buffer is that of its next row
+-- the reader has its lane out, and the buffer holds its next row
 pub record IsTake (before after : Sat) : Type 0 where
   pub lane : Lane
   pub seat : let x = reader_in before.0 in after ≡ (Reader (took x), (slot_of x, Some lane) ∷ before.1)
@@ -187,9 +187,9 @@ AdvancesAt s before n after = after ≡ (Reader (went_on (reader_in before.0)), 
 abbrev pub LeavesAt : Told
 LeavesAt s before n after = after ≡ (Reader (gone (reader_in before.0)), before.1)
 
--- How views are cut and joined
+-- How views are split and joined
 
--- the writer's view once it has made one more reader, whose view is the second
+-- the writer's view after it makes one more reader, and then that reader's view
 abbrev pub made_more : View → View
 made_more (Writer w) = Writer record w { made = w.made + 1 }
 made_more (Reader x) = Reader x
@@ -204,14 +204,14 @@ made_reader (HeadNote n) = Spent
 made_reader (CursorNote n) = Spent
 made_reader Spent = Spent
 
--- what the writer notes, and what a reader notes
+-- the content of the writer's note, and of a reader's note
 abbrev pub head_note : WriterView → HeadNoteView
 head_note w = record { ring = w.ring; head = w.head; known = w.known }
 
 abbrev pub cursor_note : ReaderView → CursorNoteView
 cursor_note x = record { ring = x.ring; number = x.number; taken = x.taken; left = x.left }
 
--- the note of a seat
+-- the view of a note made by this seat
 abbrev pub noted : View → View
 noted (Writer w) = HeadNote (head_note w)
 noted (Reader x) = CursorNote (cursor_note x)
@@ -234,7 +234,7 @@ cursor_note_in (Reader x) = cursor_note x
 cursor_note_in (HeadNote n) = cursor_note (new_reader n.ring 0)
 cursor_note_in Spent = cursor_note (new_reader no_ring 0)
 
--- a seat keeps what the note says that is joined to it
+-- a seat keeps the content of a note joined to it
 abbrev pub writer_met : CursorNoteView → WriterView → WriterView
 writer_met n w = record w { told = Some n }
 

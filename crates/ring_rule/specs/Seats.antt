@@ -1,5 +1,5 @@
--- What holds of each seat between its calls: the token's view beside the copies of its numbers that the
--- code reads.
+-- Invariants of each seat between its calls: the token's view, and the copies of its numbers that the code
+-- reads.
 use Rattle.std.specs.Prelude.{◌≡◌, ℕ, ◌+◌, ◌<◌, ◌≤◌, Bool, true, if◌then◌else◌, List, [], ◌∷◌, None}
 use Rattle.atomic_table.specs.Seated.{TableId}
 use Rattle.ring_rule.specs.declared.view.RingNumbers.{RingNumbers}
@@ -11,7 +11,7 @@ use Rattle.ring_rule.specs.Shown.{Slot}
 use Rattle.ring_rule.specs.Kept.{OutFits}
 use Rattle.ring_rule.specs.Plays.{Sat, writer_in, reader_in, head_note_in, cursor_note_in, slot_of, MayTake}
 
--- the slots that are out with a reader's seat: while its row is out, that lane, with nothing in it
+-- the slots out with a reader's seat: while its row is out, that lane's slot, with nothing in it
 abbrev pub held_by : ReaderView → List (ℕ × Slot)
 held_by x = if x.out then (slot_of x, None) ∷ [] else []
 
@@ -23,7 +23,7 @@ seated_reader x = (Reader x, held_by x)
 
 pub record IsWriterSeat (g : RingNumbers) (shared own : TableId) (me : Sat) (places head total : ℕ)
     : Type 0 where
-  -- the seat is of the table that it steps on, which has a word for the head and one for each reader
+  -- the seat belongs to the table that it steps on, which has a word for the head and one for each reader
   pub table : own ≡ shared
   pub words : own.words ≡ g.readers + 1
   pub me_is : me ≡ seated_writer (writer_in me.0)
@@ -37,7 +37,7 @@ pub record IsWriterSeat (g : RingNumbers) (shared own : TableId) (me : Sat) (pla
 
 pub record IsReaderSeat (g : RingNumbers) (shared own : TableId) (me : Sat) (number places cursor seen : ℕ)
     (closed : Bool) : Type 0 where
-  -- the seat is of the table that it steps on, which has a word for the head and one for each reader
+  -- the seat belongs to the table that it steps on, which has a word for the head and one for each reader
   pub table : own ≡ shared
   pub words : own.words ≡ g.readers + 1
   pub me_is : me ≡ seated_reader (reader_in me.0)
@@ -53,7 +53,7 @@ pub record IsReaderSeat (g : RingNumbers) (shared own : TableId) (me : Sat) (num
   -- a row that was taken and given back is one that the reader may pass
   pub closed_fits : closed ≡ true → MayTake (reader_in me.0)
 
--- a note's seat has a word for its maker in the table
+-- a note's seat; the table has a word for the maker of a cursor note
 pub record IsHeadNoteSeat (own : TableId) (me : Sat) : Type 0 where
   pub me_is : me ≡ (HeadNote (head_note_in me.0), [])
 
@@ -62,7 +62,7 @@ pub record IsCursorNoteSeat (own : TableId) (me : Sat) (number : ℕ) : Type 0 w
   pub number_is : (cursor_note_in me.0).number ≡ number
   pub word_in : number + 1 < own.words
 
--- the seat that all others are cut from, before the first cut
+-- the seat that all others are split from, before the first split
 pub record IsFreshSeat (g : RingNumbers) (shared own : TableId) (me : Sat) : Type 0 where
   pub table : own ≡ shared
   pub me_is : me ≡ seated_writer (new_writer g)

@@ -14,11 +14,11 @@ use Rattle.ring_rule.specs.declared.view.ReaderView.{ReaderView}
 use Rattle.ring_rule.specs.declared.view.View.{View}
 use Rattle.ring_rule.specs.Views.{cursor_in, up_to, writer_of, reader_of}
 
--- what a slot holds: a buffer, or nothing while that is with a seat
+-- the content of a slot: a buffer, or nothing while a seat has that buffer
 abbrev pub Slot : Type 0
 Slot = Option Lane
 
--- for each slot what lies there, or that it is out with a seat
+-- for each slot its content, or that it is out with a seat
 abbrev pub Homes : Type 0
 Homes = List (AtHome Slot)
 
@@ -28,7 +28,7 @@ RingState = State Slot View
 abbrev pub home_at : Homes → ℕ → AtHome Slot
 home_at homes k = slice_index_or homes k none
 
--- the number of the buffer that lies at home
+-- the number of the buffer in a slot
 abbrev pub number_in : AtHome Slot → Option ℕ
 number_in none = None
 number_in (some None) = None
@@ -60,12 +60,12 @@ abbrev pub only : ℕ → Option ℕ → Option ℕ
 only head None = None
 only head (Some n) = if nat_eq n head then Some n else None
 
--- a lane's number where it counts: from the cursor on, or, of a reader that left, that of row head
+-- a lane's number if it counts: at or past the cursor; once the reader left, only row head
 abbrev pub counted : ℕ → Option ℕ → Option ℕ → Option ℕ
 counted head None number = only head number
 counted head (Some c) number = from_low c number
 
--- what lies in the lane of reader r for row n
+-- the row shown in the lane of reader r for row n
 abbrev pub row_shown : ℕ → List ℕ → Homes → ℕ → ℕ → Option ℕ
 row_shown places words homes r n =
     counted (head_shown words) (cursor_shown words r) (number_in (home_at homes (lane_place places r n)))
@@ -74,12 +74,12 @@ abbrev pub is_number : ℕ → Option ℕ → Bool
 is_number n None = false
 is_number n (Some m) = nat_eq m n
 
--- a joined reader holds its row where that is published and out of its lane
+-- a joined reader is holding if the row at its cursor is published and out of its lane
 abbrev pub stage_shown : ℕ → Option ℕ → (ℕ → Bool) → Stage
 stage_shown head None out = Idle
 stage_shown head (Some c) out = if nat_lt c head && out c then Holding else Idle
 
--- the lanes of reader r that words and slots show: the lane for row head is filled where it shows head
+-- the lanes of reader r that words and slots show: the lane for row head is filled if it shows head
 abbrev pub lanes_shown : ℕ → List ℕ → Homes → ℕ → Lanes
 lanes_shown places words homes r = record {
   filled = is_number (head_shown words) (row_shown places words homes r (head_shown words));
@@ -88,7 +88,7 @@ lanes_shown places words homes r = record {
   row = row_shown places words homes r;
 }
 
--- the same, with filled and stage as the views say
+-- the same, with filled and stage taken from the views
 abbrev pub lanes_known : ℕ → List ℕ → Homes → WriterView → (ℕ → ReaderView) → ℕ → Lanes
 lanes_known places words homes w readers r = record {
   filled = slice_index_or w.filled r false;

@@ -1,5 +1,5 @@
--- The views of a ring's seats: who acts by them, what they begin with, and the views that stand for actors
--- with no seat yet.
+-- The views of a ring's seats: their actors, their initial values, and the views of actors that have no seat
+-- yet.
 use Rattle.std.specs.Prelude.{ℕ, zero, suc, ◌+◌, false, nat_eq, if◌then◌else◌, List, [], ◌∷◌, ◌++◌, length}
 use Rattle.std.specs.Prelude.{replicate, Option, Some, None}
 use Rattle.ring_rule.specs.declared.view.RingNumbers.{RingNumbers}
@@ -35,7 +35,7 @@ abbrev pub up_to : ℕ → List ℕ
 up_to zero = []
 up_to (suc n) = up_to n ++ n ∷ []
 
--- the writer's first view, once it has made n readers
+-- the writer's initial view, once it has made n readers
 abbrev pub counted_writer : RingNumbers → ℕ → WriterView
 counted_writer g n = record {
   ring = g;
@@ -63,7 +63,7 @@ new_reader g r = record {
   told = None;
 }
 
--- who acts by a view: the writer is 0, reader r is r + 1; a note and a spent view act no more
+-- the actor of a view: the writer is 0, reader r is r + 1; a note and a spent view no longer act
 abbrev pub actor_of : View → Option ℕ
 actor_of (Writer w) = Some 0
 actor_of (Reader x) = Some (x.number + 1)
@@ -71,7 +71,7 @@ actor_of (HeadNote n) = None
 actor_of (CursorNote n) = None
 actor_of Spent = None
 
--- the view if it is the writer's, else the other
+-- the view if it is the writer's, otherwise other
 abbrev pub writer_or : View → WriterView → WriterView
 writer_or (Writer w) other = w
 writer_or (Reader x) other = other
@@ -79,7 +79,7 @@ writer_or (HeadNote n) other = other
 writer_or (CursorNote n) other = other
 writer_or Spent other = other
 
--- the view if it is that of reader r, else the other
+-- the view if it is reader r's, otherwise other
 abbrev pub reader_or : ℕ → View → ReaderView → ReaderView
 reader_or r (Writer w) other = other
 reader_or r (Reader x) other = if nat_eq x.number r then x else other
@@ -87,16 +87,16 @@ reader_or r (HeadNote n) other = other
 reader_or r (CursorNote n) other = other
 reader_or r Spent other = other
 
--- the writer's view, or the one that it begins with
+-- the writer's view, or its initial one
 abbrev pub writer_of : RingNumbers → List View → WriterView
 writer_of g [] = new_writer g
 writer_of g (v ∷ vs) = writer_or v (writer_of g vs)
 
--- the view of reader r, or the one that it begins with
+-- the view of reader r, or its initial one
 abbrev pub reader_of : RingNumbers → List View → ℕ → ReaderView
 reader_of g [] r = new_reader g r
 reader_of g (v ∷ vs) r = reader_or r v (reader_of g vs r)
 
--- the view y in the place of that of its reader
+-- the readers' views with y in the place of its reader's
 abbrev pub put_reader : ReaderView → (ℕ → ReaderView) → ℕ → ReaderView
 put_reader y readers r = if nat_eq y.number r then y else readers r

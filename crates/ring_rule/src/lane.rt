@@ -1,11 +1,11 @@
-// The buffers of a ring: in a slot of the table, and out with a reader.
+// The buffers of a ring: in a slot of the table, or out with a reader.
 ghost use Rattle.std.specs.Prelude.{◌≡◌, ◌<◌, Some, length};
 ghost use Rattle.ring_core.specs.Schedule.{lane_place};
 ghost use Rattle.ring_rule.specs.RowMark.{RowMark};
 
 use std::marker::Model;
 
-/// A buffer of one row's length, and the number of the row whose bytes it holds, none before the first.
+/// A buffer of one row's length, and the number of the row whose bytes it holds; `None` before the first row.
 #[derive(Drop)]
 pub struct Lane {
     pub number: Option<u64>,
@@ -13,7 +13,7 @@ pub struct Lane {
 }
 
 impl Lane {
-    /// The buffer with this row's bytes copied into it.
+    /// Copies this row's bytes into the buffer.
     pub(crate) fn with_row(self, number: u64, row: &[u8]) -> Lane
         requires { length self.bytes.items ≡ length row.now }
         ensures number { result.number ≡ Some number }
@@ -31,7 +31,7 @@ impl Lane {
     }
 }
 
-/// A row that a reader took out of its lane. It goes back by `ReaderSeat::give`.
+/// A row that a reader took out of its lane. `ReaderSeat::give` returns it.
 #[derive(Drop)]
 pub struct LaneRow {
     number: u64,
@@ -45,21 +45,21 @@ impl Model for LaneRow {
 }
 
 impl LaneRow {
-    /// The row of this number, in the buffer of its lane.
+    /// Makes the row of this number, in the buffer of its lane.
     pub fn new(number: u64, bytes: Vec<u8>) -> LaneRow
         ensures { result ≡ record { number = number; bytes = bytes.items } }
     {
         LaneRow { number, bytes }
     }
 
-    /// The row's buffer, which is that of its lane.
+    /// Returns the row's buffer, which is that of its lane.
     pub fn into_bytes(self) -> Vec<u8>
         ensures { result.items ≡ self.bytes }
     {
         self.bytes
     }
 
-    /// What lies in the lane once the row is given back.
+    /// Returns the lane's content for giving the row back.
     pub(crate) fn into_lane(self) -> Lane
         ensures number { result.number ≡ Some self.number }
         ensures bytes { result.bytes.items ≡ self.bytes }
@@ -70,14 +70,14 @@ impl LaneRow {
         }
     }
 
-    /// The row's number.
+    /// Returns the row's number.
     pub fn number(&self) -> u64
         ensures { result ≡ self.now.number }
     {
         self.number
     }
 
-    /// The row's bytes.
+    /// Returns the row's bytes.
     pub fn bytes(&self) -> &[u8]
         ensures { result.now ≡ self.now.bytes }
     {
@@ -85,7 +85,7 @@ impl LaneRow {
     }
 }
 
-/// The slot of a reader's lane for a row: the lanes of one reader stand side by side.
+/// Returns the slot of a reader's lane for a row. The lanes of one reader have consecutive slots.
 pub(crate) fn slot_number(reader: u32, places: u32, row: u64) -> usize
     requires { 0 < places }
     ensures { result ≡ lane_place places reader row }

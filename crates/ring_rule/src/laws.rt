@@ -1,17 +1,17 @@
-// Each kind of step keeps the rule and is an event of the schedule, each law the contract of a function
-// with nothing to do.
+// Each kind of step keeps the rule and is an event of the schedule. Each law is the contract of a function
+// with an empty body.
 ghost use Rattle.ring_rule.specs.Laws.{RuleShowsSound, FirstIsStart, LookIsEvent, PickShowsTheSame};
 ghost use Rattle.ring_rule.specs.Laws.{PlaceIsFill, PublishIsEvent, SeeIsEvent, TakeIsOpen, GiveIsClose};
 ghost use Rattle.ring_rule.specs.Laws.{AdvanceIsEvent, LeaveIsEvent};
 ghost use Rattle.ring_rule.specs.Laws.{SplitShowsTheSame, HeadNoteShowsTheSame, CursorNoteShowsTheSame};
 ghost use Rattle.ring_rule.specs.Laws.{MeetHeadShowsTheSame, MeetCursorShowsTheSame};
 
-/// Under the rule what words, slots and views show is sound, and the slots show what the views say.
+/// Under the rule, what words, slots and views show is sound, and the slots agree with the views.
 pub fn rule_shows_sound()
     ensures { RuleShowsSound }
 {}
 
-/// The table's first state keeps the rule and shows the core's start.
+/// The table's initial state satisfies the rule and shows the core's initial schedule.
 pub fn first_is_start()
     ensures { FirstIsStart }
 {}
@@ -21,12 +21,12 @@ pub fn look_is_event()
     ensures { LookIsEvent }
 {}
 
-/// The writer takes a lane, and nothing new is shown.
+/// The writer takes a lane, and the schedule shown is unchanged.
 pub fn pick_shows_the_same()
     ensures { PickShowsTheSame }
 {}
 
-/// The writer gives the lane home with its row, which is a fill.
+/// The writer returns the lane to its slot with its row, which is a fill.
 pub fn place_is_fill()
     ensures { PlaceIsFill }
 {}
@@ -36,7 +36,7 @@ pub fn publish_is_event()
     ensures { PublishIsEvent }
 {}
 
-/// A reader's load of the head is a sight of it.
+/// A reader's load of the head is a see.
 pub fn see_is_event()
     ensures { SeeIsEvent }
 {}
@@ -46,7 +46,7 @@ pub fn take_is_open()
     ensures { TakeIsOpen }
 {}
 
-/// A reader gives the lane home with its row, which is a close.
+/// A reader returns the lane to its slot with its row, which is a close.
 pub fn give_is_close()
     ensures { GiveIsClose }
 {}
@@ -56,32 +56,32 @@ pub fn advance_is_event()
     ensures { AdvanceIsEvent }
 {}
 
-/// A reader's store of the number that no cursor has is a leave.
+/// A reader's store of 2^64 - 1, which is no row number, is a leave.
 pub fn leave_is_event()
     ensures { LeaveIsEvent }
 {}
 
-/// A seat that is cut from the writer's shows nothing new.
+/// Splitting a seat from the writer's leaves the schedule shown unchanged.
 pub fn split_shows_the_same()
     ensures { SplitShowsTheSame }
 {}
 
-/// A note of the writer shows nothing new.
+/// A note made by the writer leaves the schedule shown unchanged.
 pub fn head_note_shows_the_same()
     ensures { HeadNoteShowsTheSame }
 {}
 
-/// A note of a reader shows nothing new.
+/// A note made by a reader leaves the schedule shown unchanged.
 pub fn cursor_note_shows_the_same()
     ensures { CursorNoteShowsTheSame }
 {}
 
-/// A note that a reader meets shows nothing new.
+/// A note taken in by a reader leaves the schedule shown unchanged.
 pub fn meet_head_shows_the_same()
     ensures { MeetHeadShowsTheSame }
 {}
 
-/// A note that the writer meets shows nothing new.
+/// A note taken in by the writer leaves the schedule shown unchanged.
 pub fn meet_cursor_shows_the_same()
     ensures { MeetCursorShowsTheSame }
 {}

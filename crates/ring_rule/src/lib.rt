@@ -1,7 +1,7 @@
-// A ring's head and cursors in shared words, and its lanes in slots. Word 0 is the head, word 1 + r the
-// cursor of reader r, slot r * places + p the lane of reader r at place p. Each atomic step of the writer
-// and of the readers keeps one rule: words, slots and what each seat knows show a sound schedule, and each
-// lane at home holds the bytes of its row.
+// A ring whose head and cursors are shared words and whose lanes are slots. Word 0 is the head, word 1 + r
+// the cursor of reader r, slot r * places + p the lane of reader r at place p. Each atomic step of the writer
+// and of the readers keeps one rule: words, slots and the seats' views show a sound schedule, and each lane
+// in its slot holds the bytes of its row.
 #![tactic(auto)]
 
 mod lane;

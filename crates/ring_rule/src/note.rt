@@ -10,8 +10,8 @@ use pr_base::Deal;
 use std::marker::{Model, PhantomData};
 use std::snapshot::Snapshot;
 
-/// A note of the writer: its head, and what it knew of each reader's cursor. Contracts see its table and what
-/// it says.
+/// A note of the writer: its head, and the cursors it knew of the readers. Contracts see the note's table and
+/// content.
 #[derive(Drop)]
 pub struct HeadNoteSeat<D: Deal> {
     seat: RingSeat,
@@ -37,7 +37,7 @@ impl<D: Deal> HeadNoteSeat<D> {
         }
     }
 
-    /// The note's place at the table, which is joined to a reader's.
+    /// Returns the note's seat at the table, to be joined to a reader's.
     pub(crate) fn into_seat(self) -> RingSeat
         ensures table { result.table_id ≡ self.table }
         ensures me { result.me ≡ (HeadNote self.note, []) }
@@ -47,7 +47,8 @@ impl<D: Deal> HeadNoteSeat<D> {
     }
 }
 
-/// A note of a reader: how many rows it took, and whether it left. Contracts see its table and what it says.
+/// A note of a reader: how many rows it took, and whether it left. Contracts see the note's table and
+/// content.
 #[derive(Drop)]
 pub struct CursorNoteSeat<D: Deal> {
     seat: RingSeat,
@@ -75,7 +76,7 @@ impl<D: Deal> CursorNoteSeat<D> {
         }
     }
 
-    /// The reader whose note it is.
+    /// Returns the number of the reader that made the note.
     pub fn number(&self) -> u32
         ensures number { result ≡ self.now.note.number }
         ensures word { result + 1 < self.now.table.words }
@@ -83,7 +84,7 @@ impl<D: Deal> CursorNoteSeat<D> {
         self.number
     }
 
-    /// The note's place at the table, which is joined to the writer's.
+    /// Returns the note's seat at the table, to be joined to the writer's.
     pub(crate) fn into_seat(self) -> RingSeat
         ensures table { result.table_id ≡ self.table }
         ensures me { result.me ≡ (CursorNote self.note, []) }

@@ -1,5 +1,5 @@
-// The writer takes the lane of one reader. The step is a load of word 0, which tells of no reader, so the
-// play is of a type that has the reader's number in a ghost member: the caller picks it.
+// The writer takes the lane of one reader. The step is a load of word 0, which does not identify the reader,
+// so the play's type carries that number in a ghost member: the caller chooses it.
 ghost use Rattle.std.specs.Prelude.{◌≡◌, ℕ, ◌<◌};
 ghost use Rattle.ring_rule.specs.Plays.{PicksAt, IsPick, MayFill, writer_in};
 ghost use Rattle.ring_rule.specs.Key.{key_ring};
@@ -10,7 +10,7 @@ use atomic_table::Play;
 use pr_base::Deal;
 use std::marker::{Brand, PhantomData};
 
-/// A reader's number, which clauses alone see.
+/// A reader's number, visible to clauses only.
 pub trait Chosen {
     ghost reader: { ℕ };
 }

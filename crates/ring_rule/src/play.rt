@@ -1,4 +1,4 @@
-// What each atomic step tells its caller.
+// What each atomic step's caller learns from it.
 ghost use Rattle.ring_rule.specs.Plays.{LooksAt, PublishesAt, PlacesAt, SeesAt, TakesAt, GivesAt, AdvancesAt};
 ghost use Rattle.ring_rule.specs.Plays.{LeavesAt};
 
@@ -12,14 +12,14 @@ impl Play<Option<Lane>, View> for Looks {
     ghost then = { LooksAt };
 }
 
-/// The writer gives a lane home that it filled.
+/// The writer returns a lane that it filled to its slot.
 pub struct Places;
 
 impl Play<Option<Lane>, View> for Places {
     ghost then = { PlacesAt };
 }
 
-/// The writer stores the head and one more.
+/// The writer stores head + 1.
 pub struct Publishes;
 
 impl Play<Option<Lane>, View> for Publishes {
@@ -40,21 +40,21 @@ impl Play<Option<Lane>, View> for Takes {
     ghost then = { TakesAt };
 }
 
-/// A reader gives that lane home.
+/// A reader returns that lane to its slot.
 pub struct Gives;
 
 impl Play<Option<Lane>, View> for Gives {
     ghost then = { GivesAt };
 }
 
-/// A reader stores its cursor and one more.
+/// A reader stores its cursor + 1.
 pub struct Advances;
 
 impl Play<Option<Lane>, View> for Advances {
     ghost then = { AdvancesAt };
 }
 
-/// A reader stores that it left.
+/// A reader stores that it has left.
 pub struct Leaves;
 
 impl Play<Option<Lane>, View> for Leaves {

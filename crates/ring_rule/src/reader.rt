@@ -14,7 +14,7 @@ use crate::{CursorNoteSeat, HeadNoteSeat, Lane, LaneRow, RingSeat, RingShared};
 use pr_base::Deal;
 use std::marker::Model;
 
-/// The seat by which a reader loads the head, takes rows out of its lanes and stores its cursor.
+/// The seat through which a reader loads the head, takes rows out of its lanes and stores its cursor.
 ///
 /// Contracts see its table, its view, and whether the row at its cursor was taken and given back.
 #[derive(Drop)]
@@ -40,7 +40,7 @@ impl<'t, D: Deal> Model for ReaderSeat<'t, D> {
 }
 
 impl<'t, D: Deal> ReaderSeat<'t, D> {
-    /// A seat that was not used yet.
+    /// Makes an unused seat.
     pub(crate) fn new(
         shared: &'t RingShared<D>,
         seat: RingSeat,
@@ -62,7 +62,7 @@ impl<'t, D: Deal> ReaderSeat<'t, D> {
         }
     }
 
-    /// Loads the head, and knows it from then on.
+    /// Loads the head, remembers it and returns it.
     pub fn see(&mut self) -> u64
         requires { self.old.view.left ≡ false }
         ensures view { self.new ≡ record self.old { view = saw_head result self.old.view } }
@@ -109,7 +109,7 @@ impl<'t, D: Deal> ReaderSeat<'t, D> {
         self.closed = true;
     }
 
-    /// Goes on to the next row: stores the cursor and one more.
+    /// Advances to the next row: stores the cursor + 1.
     pub fn store_cursor(&mut self)
         requires { self.old.closed ≡ true }
         ensures { self.new ≡ record self.old { view = went_on self.old.view; closed = false } }
@@ -121,7 +121,7 @@ impl<'t, D: Deal> ReaderSeat<'t, D> {
         self.closed = false;
     }
 
-    /// Leaves the ring: stores the number that stands for no cursor.
+    /// Leaves the ring: stores 2^64 - 1, which is no row number.
     pub fn store_left(&mut self)
         requires joined { self.old.view.left ≡ false }
         requires home { self.old.view.out ≡ false }
@@ -141,7 +141,7 @@ impl<'t, D: Deal> ReaderSeat<'t, D> {
         CursorNoteSeat::new(cut, self.number)
     }
 
-    /// Takes in a note of the writer and loads the head.
+    /// Takes in a note of the writer, then loads the head and returns it.
     pub fn meet(&mut self, note: HeadNoteSeat<D>) -> u64
         requires table { note.table ≡ self.old.table }
         requires joined { self.old.view.left ≡ false }

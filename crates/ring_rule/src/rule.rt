@@ -9,8 +9,8 @@ use pr_base::Deal;
 use std::marker::PhantomData;
 use std::snapshot::Snapshot;
 
-/// What the rule may read of a ring: its numbers, and the deal whose rows pass through it, which clauses
-/// alone see.
+/// What the rule may read of a ring: its numbers, and the deal whose rows pass through it, which is visible
+/// to clauses only.
 #[derive(Drop)]
 pub struct RingKey<D> {
     pub places: u64,
@@ -18,8 +18,8 @@ pub struct RingKey<D> {
     pub deal: Snapshot<D>,
 }
 
-/// The words, the lanes and the views of all seats show a sound schedule, each lane at home holds the bytes
-/// of its row, and what notes say is true.
+/// The words, the lanes and the views of all seats show a sound schedule, each lane in its slot holds the
+/// bytes of its row, and what notes say is true.
 pub struct RingRule<D>(PhantomData<D>);
 
 impl<D: Deal> TableRule<Option<Lane>, View, RingKey<D>> for RingRule<D> {
@@ -34,5 +34,5 @@ impl<D: Deal> TableRule<Option<Lane>, View, RingKey<D>> for RingRule<D> {
 /// The ring's table as threads share it.
 pub type RingShared<D> = Shared<Option<Lane>, View, RingKey<D>, RingRule<D>>;
 
-/// A seat at the ring's table, of the writer, of a reader or of a note.
+/// A seat at the ring's table: the writer's, a reader's or a note's.
 pub type RingSeat = Seat<Option<Lane>, View>;

@@ -1,4 +1,4 @@
-// What a ring's table is made of and gives out: empty lanes, and a seat for each reader, cut from the
+// What a ring's table is made from and gives out: empty lanes, and a seat for each reader, split from the
 // writer's.
 ghost use Rattle.std.specs.Prelude.{◌≡◌, ◌+◌, ◌<◌, ◌≤◌, [], length, map, IfOk, vec_len, vec_capacity};
 ghost use Rattle.std.specs.List.{All};
@@ -13,7 +13,7 @@ use crate::{Lane, ReaderSeat, RingSeat, RingShared, Seats, WriterSeat};
 use pr_base::{Deal, NoMemory};
 use std::alloc::Global;
 
-/// Buffers of this length with no row's number.
+/// Makes `count` buffers of `row_len` zero bytes, without row numbers.
 pub fn empty_lanes(
     alloc: Global,
     count: usize,
@@ -33,7 +33,7 @@ pub fn empty_lanes(
     Ok(lanes)
 }
 
-/// Cuts a seat for each reader from the writer's, and puts them into a list that has room for them.
+/// Splits a seat for each reader from the writer's, and pushes them into a list with enough capacity.
 pub fn cut_seats<'t, D: Deal>(
     mut list: Vec<ReaderSeat<'t, D>>,
     shared: &'t RingShared<D>,

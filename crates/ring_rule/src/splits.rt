@@ -1,5 +1,5 @@
-// How the views of seats are cut in two and joined: a reader's seat is cut from the writer's, and a note
-// from either.
+// How the views of seats are split and joined: a reader's seat is split from the writer's, and a note from
+// either.
 ghost use Rattle.ring_rule.specs.declared.view.View.TheVariants.{Spent};
 ghost use Rattle.ring_rule.specs.Plays.{made_more, made_reader, noted, met};
 
@@ -24,7 +24,7 @@ impl Split<View> for Noting {
     ghost right = { noted };
 }
 
-/// A seat keeps what a note says, and the note is spent.
+/// A seat keeps the content of a note, and the note is spent.
 pub struct Meeting;
 
 impl Join<View> for Meeting {

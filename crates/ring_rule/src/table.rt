@@ -1,4 +1,4 @@
-// A ring's table: its words and lanes, and the seats that are given out once.
+// A ring's table: its words and lanes, and the seats, which are given out once.
 ghost use Rattle.std.specs.Prelude.{◌≡◌, ◌+◌, ◌*◌, ◌<◌, ◌≤◌, ◌^◌, ◌-◌, true, [], length, map, IfOk, is_some};
 ghost use Rattle.std.specs.List.{All};
 ghost use Rattle.std.specs.Option.{ForSome};
@@ -16,9 +16,9 @@ use std::alloc::Global;
 use std::marker::Model;
 use std::snapshot::Snapshot;
 
-/// The shared words and lanes of a ring, with the seat that all seats are cut from.
+/// The shared words and lanes of a ring, with the seat that all others are split from.
 ///
-/// Contracts see its table, the ring's numbers, and whether the seats are still there.
+/// Contracts see its table, the ring's numbers, and whether it still has the seats.
 #[derive(Drop)]
 pub struct RingTable<'d, D: Deal> {
     table: Table<Option<Lane>, View, RingKey<D>, RingRule<D>, Global>,
@@ -44,7 +44,7 @@ impl<'d, D: Deal> Model for RingTable<'d, D> {
         × ForSome t.seat (λ s. IsFreshSeat g t.table.shared.table_id s.table_id s.me) };
 }
 
-/// The seats of a ring. The seat of reader r stands at index r.
+/// The seats of a ring. The seat of reader r is at index r.
 #[derive(Drop)]
 pub struct Seats<'t, D: Deal> {
     pub writer: WriterSeat<'t, D>,
@@ -52,7 +52,7 @@ pub struct Seats<'t, D: Deal> {
 }
 
 impl<'d, D: Deal> RingTable<'d, D> {
-    /// A ring for the rows of a deal before the first step, with all buffers that it will need.
+    /// Makes a ring for the rows of a deal, before the first step, with all the buffers that it will need.
     pub fn new(
         alloc: Global,
         deal: &'d D,
@@ -89,7 +89,7 @@ impl<'d, D: Deal> RingTable<'d, D> {
         })
     }
 
-    /// The number of places of each reader.
+    /// Returns the number of places of each reader.
     pub fn places(&self) -> u32
         ensures places { result ≡ self.now.ring.places }
         ensures some { 1 ≤ result }
@@ -97,7 +97,7 @@ impl<'d, D: Deal> RingTable<'d, D> {
         self.places
     }
 
-    /// The number of readers.
+    /// Returns the number of readers.
     pub fn readers(&self) -> u32
         ensures readers { result ≡ self.now.ring.readers }
         ensures few { result ≤ 17 }
@@ -105,7 +105,7 @@ impl<'d, D: Deal> RingTable<'d, D> {
         self.readers
     }
 
-    /// The number of rows of the deal.
+    /// Returns the number of rows of the deal.
     pub fn total(&self) -> u64
         ensures total { result ≡ self.now.ring.total }
         ensures rows { length self.now.ring.rows ≡ result }
@@ -114,7 +114,7 @@ impl<'d, D: Deal> RingTable<'d, D> {
         self.deal.total()
     }
 
-    /// The bytes of each row.
+    /// Returns the number of bytes of each row.
     pub fn row_len(&self) -> usize
         ensures row_len { result ≡ self.now.ring.row_len }
         ensures some { 1 ≤ result }
@@ -123,8 +123,8 @@ impl<'d, D: Deal> RingTable<'d, D> {
         self.deal.row_len()
     }
 
-    /// Gives out the seats, all of this table. It is the first call on the table; where there is no memory
-    /// they are still there.
+    /// Gives out all the seats of this table. This is the first call on the table. If allocation fails, the
+    /// table still has the seats.
     pub fn seats(&mut self, alloc: Global) -> Result<Seats<'_, D>, NoMemory>
         requires { self.old.fresh ≡ true }
         ensures writer { IfOk result (λ seats. seats.writer ≡ new_writer_mark self.old.table self.old.ring) }

@@ -15,7 +15,7 @@ use crate::{CursorNoteSeat, HeadNoteSeat, RingSeat, RingShared};
 use pr_base::Deal;
 use std::marker::{Brand, Model};
 
-/// The seat by which the writer looks at cursors, fills lanes and stores the head. Contracts see its table
+/// The seat through which the writer loads cursors, fills lanes and stores the head. Contracts see its table
 /// and its view.
 #[derive(Drop)]
 pub struct WriterSeat<'t, D: Deal> {
@@ -37,7 +37,7 @@ impl<'t, D: Deal> Model for WriterSeat<'t, D> {
 }
 
 impl<'t, D: Deal> WriterSeat<'t, D> {
-    /// A seat that was not used yet.
+    /// Makes an unused seat.
     pub(crate) fn new(
         shared: &'t RingShared<D>,
         seat: RingSeat,
@@ -57,7 +57,7 @@ impl<'t, D: Deal> WriterSeat<'t, D> {
         }
     }
 
-    /// Loads the cursor word of a reader, and knows it from then on.
+    /// Loads the cursor word of a reader, remembers it and returns it.
     pub fn look(&mut self, reader: u32) -> u64
         requires { reader < self.old.view.ring.readers }
         ensures view { self.new ≡ record self.old { view = looked_at reader result self.old.view } }
@@ -67,7 +67,8 @@ impl<'t, D: Deal> WriterSeat<'t, D> {
             .load::<Looks>(&mut self.seat, reader as usize + 1)
     }
 
-    /// Fills the lane of a reader with the row numbered head: takes it, copies the bytes, and gives it home.
+    /// Fills a reader's lane with the row numbered head: takes it, copies the bytes, and returns it to its
+    /// slot.
     pub fn fill(&mut self, reader: u32, row: &[u8])
         requires may { MayFill self.old.view reader }
         requires bytes { row.now ≡ row_at self.old.view.ring self.old.view.head }
@@ -92,7 +93,7 @@ impl<'t, D: Deal> WriterSeat<'t, D> {
         self.shared.load::<Places>(&mut self.seat, 0);
     }
 
-    /// Publishes the row numbered head: stores the head and one more.
+    /// Publishes the row numbered head: stores head + 1.
     pub fn store_head(&mut self)
         requires { MayPublish self.old.view }
         ensures { self.new ≡ record self.old { view = published self.old.view } }
@@ -111,7 +112,7 @@ impl<'t, D: Deal> WriterSeat<'t, D> {
         HeadNoteSeat::new(self.shared.split_seat::<Noting>(&mut self.seat))
     }
 
-    /// Takes in the note of a reader and loads that reader's cursor word.
+    /// Takes in a reader's note, then loads that reader's cursor word and returns it.
     pub fn meet(&mut self, note: CursorNoteSeat<D>) -> u64
         requires { note.table ≡ self.old.table }
         ensures view { self.new ≡ record self.old {

@@ -1,4 +1,4 @@
--- For the tests: the rows that the writer's end publishes.
+-- For the tests: the rows that the writer publishes.
 use Rattle.std.proofs.Common.{◌≡◌, ℕ, ◌<◌, [], length, ap, ◌∙◌, arith}
 use Rattle.std.specs.Prelude.{Some, slice_get}
 use Rattle.std.proofs.lemmas.Option.{slice_get-get_or}

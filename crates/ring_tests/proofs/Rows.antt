@@ -1,4 +1,4 @@
--- For the tests: the rows of two bytes, and the writer's view from a look to a publish.
+-- For the tests: the rows of two bytes, and the writer's state from a look to a publish.
 use Rattle.std.proofs.Common.{◌≡◌, ◌≢◌, ℕ, ◌+◌, ◌<◌, Bool, true, false, List, [], length, get_or, set, sym, refl, ap, ◌∙◌, subst, inl, inr, arith, get_or-set_same, get_or-set_other, length-set}
 use Rattle.std.specs.Prelude.{Some, None}
 use Rattle.std.specs.List.{All}
@@ -29,7 +29,7 @@ pub rows_at : (total n : ℕ) → n < total → get_or (numbered_rows total) n [
 unfolding numbered_rows
 rows_at total n l = get_or-map-range_with_len numbered_row 0 total n n [] l (omega arith)
 
--- a lane may be filled that was offered
+-- an offered lane may be filled
 pub offered_fill : (places readers total head r cursor : ℕ) (w : WriterView) → cursor ≢ left_word → IsOffered places readers total head r cursor w → MayFill w r
 offered_fill places readers total head r cursor w joined o =
     let at = o.at in
@@ -62,7 +62,7 @@ served_here cursor r w l known = served_parts cursor r w (λ v. IsServed v r)
 pub served_else : (cursor r q : ℕ) (w : WriterView) → q ≢ r → IsServed w q → IsServed (served cursor r w) q
 served_else cursor r q w other s = served_parts cursor r w (λ v. IsServed v q) (λ left. s) (λ joined k e. get_or-set_other w.filled r q true false other ∙ s k e)
 
--- what a fill leaves as it was
+-- what a fill leaves unchanged
 pub record IsSame (w v : WriterView) : Type 0 where
   pub ring : v.ring ≡ w.ring
   pub head : v.head ≡ w.head
@@ -72,7 +72,7 @@ pub record IsSame (w v : WriterView) : Type 0 where
 pub served_same : (cursor r : ℕ) (w : WriterView) → IsSame w (served cursor r w)
 served_same cursor r w = served_parts cursor r w (IsSame w) (λ left. record { ring = refl; head = refl; known = refl; count = refl }) (λ joined. record { ring = refl; head = refl; known = refl; count = length-set w.filled r true })
 
--- all are served, so the row may be published, and nothing is filled then
+-- all readers are served, so the row may be published, and then no lane is filled
 pub all_served : (places readers total head : ℕ) (w : WriterView) → w.ring ≡ ring_of places readers (numbered_rows total) 2 → w.head ≡ head → head < total → ((r : ℕ) → r < readers → IsServed w r) → MayPublish w
 all_served places readers total head w ring at row each = record {
   row = subst (λ (z : RingNumbers). w.head < z.total) (sym ring) (let c = rows_count total in omega arith);
@@ -91,7 +91,7 @@ idle_after places readers total head w ring at known filled = record {
 pub idle_looked : (places readers total head r n : ℕ) (w : WriterView) → IsIdleWriter places readers total head w → IsIdleWriter places readers total head (looked_at r n w)
 idle_looked places readers total head r n w i = record { ring = i.ring; at = i.at; known = length-set w.known r n ∙ i.known; filled = i.filled; empty = i.empty }
 
--- from a look to a publish: what the writer may do, and what it knows then
+-- from a look to a publish: the writer may publish, and its state afterwards
 pub record IsDone (places readers total head : ℕ) (w : WriterView) : Type 0 where
   pub may : MayPublish w
   pub idle : IsIdleWriter places readers total (head + 1) (published w)

@@ -5,7 +5,7 @@ ghost use Rattle.ring_tests.specs.Numbered.{numbered_row, numbered_rows};
 use pr_base::Deal;
 use ring_lanes::{Held, Source};
 
-/// Rows of two bytes that tell their number.
+/// Rows of two bytes that encode their number.
 #[derive(Drop)]
 pub struct Numbered {
     pub total: u64,
@@ -25,14 +25,14 @@ impl Deal for Numbered {
     }
 }
 
-/// The bytes of row `row`.
+/// Returns the bytes of row `row`.
 pub fn row_bytes(row: u64) -> [u8; 2]
     ensures { result ≡ numbered_row row }
 {
     [(row % 256) as u8, (row / 256 % 256) as u8]
 }
 
-/// Whether a row has this number and these bytes, and was taken there.
+/// Whether a row has this number, these bytes and this source.
 pub fn is_row(held: &Held, number: u64, bytes: &[u8], source: Source) -> bool {
     held.number() == number && held.bytes() == bytes && held.source() == source
 }

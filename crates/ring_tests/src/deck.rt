@@ -1,4 +1,4 @@
-// A deck of the two rows of a small job.
+// A deck with the two rows of a small job.
 ghost use Rattle.std.specs.Prelude.{◌≡◌, false};
 ghost use Rattle.ring_tests.specs.Deck.{two_rows};
 
@@ -32,7 +32,7 @@ fn hands_out_each_row_as_often_as_asked(rt: HostRuntime) {
     hand_out(&rt, &mut deck);
 }
 
-// The second row is taken twice.
+// Takes the second row twice.
 fn hand_out(rt: &impl Abort, deck: &mut Deck<'_, TwoRows>)
     requires { deck.old ≡ record { rows = two_rows; put = 0; out = false } }
 {

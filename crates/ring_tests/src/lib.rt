@@ -1,4 +1,4 @@
-// Tests of the schedule, of the ring that carries it, and of the deck. They use public names alone.
+// Tests of the schedule, of the ring that implements it, and of the deck, through public names only.
 #![tactic(auto)]
 
 #[cfg(test)]

@@ -1,4 +1,4 @@
-// Rings in one thread: who waits for whom, and that a load gives the number that was stored last.
+// Rings in one thread: which end waits for which, and that a load returns the number stored last.
 ghost use Rattle.std.specs.Prelude.{◌≡◌, ◌+◌, ◌<◌, OnErr, OnOk};
 ghost use Rattle.ring_tests.specs.Numbered.{IsDrawing, IsFeeding};
 
@@ -9,7 +9,7 @@ use std::process::Abort;
 use std::thread;
 use std::thread::Threads;
 
-/// Publishes the next row where there is room for it.
+/// Publishes the next row if there is room for it.
 pub fn publish_next(writer: &mut Writer<'_, Numbered>, total: u64, head: u64) -> Result<(), Full>
     requires feeding { IsFeeding total head writer.old }
     requires row { head < total }
@@ -22,7 +22,7 @@ pub fn publish_next(writer: &mut Writer<'_, Numbered>, total: u64, head: u64) ->
     Ok(())
 }
 
-/// Takes the next row where it is published, compares it, and gives it back.
+/// Takes the next row if it is published, compares it, and gives it back.
 pub fn draw_next(
     rt: &impl Abort,
     reader: &mut Reader<'_, Numbered>,
@@ -66,7 +66,7 @@ fn publish(rt: &impl Abort, writer: &mut Writer<'_, Numbered>, head: u64)
     };
 }
 
-// Finds no room for the next of three rows.
+// Requires that there is no room for the next of three rows.
 fn is_full(rt: &impl Abort, writer: &mut Writer<'_, Numbered>, head: u64, full: Full)
     requires feeding { IsFeeding 3 head writer.old }
     requires row { head < 3 }
@@ -90,7 +90,7 @@ fn draw(rt: &impl Abort, reader: &mut Reader<'_, Numbered>, cursor: u64)
     };
 }
 
-// Two places, of which neither reader has closed the first row.
+// Two places. The writer waits until both readers have closed the first row.
 fn wait(rt: &impl Abort, writer: &mut Writer<'_, Numbered>, first: &mut Reader<'_, Numbered>)
     requires feeding { IsFeeding 3 0 writer.old }
     requires drawing { IsDrawing 3 0 first.old }
@@ -102,7 +102,7 @@ fn wait(rt: &impl Abort, writer: &mut Writer<'_, Numbered>, first: &mut Reader<'
     is_full(rt, writer, 2, Full { site: 1, at: 0 });
 }
 
-// The ends cross threads, whatever the deal is.
+// Requires that the ends can be sent to threads, whatever the deal.
 fn ends_cross<D: Deal + Sync>(
     rt: &impl Threads,
     writer: Writer<'_, D>,
@@ -128,7 +128,7 @@ fn tells_its_rows(writer: &Writer<'_, Numbered>) -> bool {
     writer.total() == 3 && writer.row_len() == 2
 }
 
-// The first of three rows is held while the second is published, and then no place is left.
+// The first of three rows is held while the second is published; then no place is free.
 fn hold(rt: &impl Abort, writer: &mut Writer<'_, Numbered>, reader: &mut Reader<'_, Numbered>)
     requires feeding { IsFeeding 3 0 writer.old }
     requires drawing { IsDrawing 3 0 reader.old }
@@ -144,7 +144,7 @@ fn hold(rt: &impl Abort, writer: &mut Writer<'_, Numbered>, reader: &mut Reader<
     learn(rt, writer, reader);
 }
 
-// The reader closed that row, and learns that the third is published.
+// The reader closed that row, and learns that the third was published.
 fn learn(rt: &impl Abort, writer: &mut Writer<'_, Numbered>, reader: &mut Reader<'_, Numbered>)
     requires feeding { IsFeeding 3 2 writer.old }
     requires drawing { IsDrawing 3 1 reader.old }
@@ -156,7 +156,7 @@ fn learn(rt: &impl Abort, writer: &mut Writer<'_, Numbered>, reader: &mut Reader
     assert!(rt; reader.cursor() == 1);
 }
 
-// Finds no first row.
+// Requires that the first row is not yet published.
 fn none_yet(rt: &impl Abort, reader: &mut Reader<'_, Numbered>)
     requires { IsDrawing 3 0 reader.old }
     ensures drawing { IsDrawing 3 0 reader.new }
@@ -181,7 +181,7 @@ fn the_writer_passes_over_a_reader_that_left(rt: HostRuntime) {
     leave(&rt, &mut writer, &mut first, &mut second);
 }
 
-// One place. The second reader takes one row.
+// One place. The second reader takes one row and leaves.
 fn leave(
     rt: &impl Abort,
     writer: &mut Writer<'_, Numbered>,
@@ -203,7 +203,7 @@ fn leave(
     left(rt, writer, second);
 }
 
-// The writer learns that it left.
+// The writer learns that the reader left.
 fn left(rt: &impl Abort, writer: &mut Writer<'_, Numbered>, second: &mut Reader<'_, Numbered>)
     requires feeding { IsFeeding 3 2 writer.old }
     requires table { second.old.table ≡ writer.old.table }

@@ -7,7 +7,7 @@ use crate::deal::are_all;
 use ring_core::{Core, Event, Stage};
 use std::process::Abort;
 
-// Two readers and two places: the writer fills both places, and must then wait for reader 0 and for reader 1.
+// Two readers and two places: the writer fills both places, then must wait for reader 0 and for reader 1.
 const WAITS: [(Event, bool); 21] = [
     (Event::Look(0), true),
     (Event::Look(1), true),
@@ -42,7 +42,7 @@ const OTHERS: [(Event, bool); 7] = [
     (Event::Leave(2), false),
 ];
 
-// Does these events, and compares whether each was possible.
+// Applies these events, and compares whether each was possible.
 fn follow(rt: &impl Abort, core: &mut Core, turns: &[(Event, bool)])
     requires { IsSound (schedule_in core.old) }
 {
@@ -60,12 +60,12 @@ fn waits_for_the_slowest(rt: HostRuntime) {
     assert!(rt; has_lanes(&core), "lanes");
 }
 
-// The writer knows where the readers are, and they are there.
+// Whether the readers have these cursors, and the writer knows them.
 fn has_readers(core: &Core, cursors: &[Option<u64>]) -> bool {
     core.known.as_slice() == cursors && core.cursor.as_slice() == cursors
 }
 
-// What the run of two places leaves.
+// Whether the core is in the state that the run with two places ends in.
 fn has_lanes(core: &Core) -> bool {
     are_all(&[
         core.head == 2,
@@ -83,7 +83,7 @@ fn knows_no_other_reader(rt: HostRuntime) {
     assert!(rt; has_readers(&core, &[Some(0), Some(0)]), "readers");
 }
 
-// Thousands of events, possible and not, with each number of readers and one to five places.
+// Thousands of events, possible and impossible, for each number of readers and one to five places.
 #[test]
 fn keeps_its_rows_in_order(rt: HostRuntime) {
     let mut seed = 1;
@@ -99,7 +99,7 @@ fn keeps_its_rows_in_order(rt: HostRuntime) {
     assert!(rt; published > 0);
 }
 
-// Each reader took the first rows.
+// Whether each reader took the first rows in order, and none beyond the published ones.
 fn is_in_order(core: &Core) -> bool {
     for rows in core.taken.iter() {
         if rows.len() as u64 > core.head || !are_first(rows) {
@@ -118,7 +118,7 @@ fn are_first(rows: &[u64]) -> bool {
     true
 }
 
-// A hundred events of a fixed sequence.
+// Applies a hundred events of a fixed sequence.
 fn drive(rt: &impl Abort, core: &mut Core, readers: u32, seed: &mut u64)
     requires sound { IsSound (schedule_in core.old) }
     requires few { readers ≤ 17 }
@@ -128,7 +128,7 @@ fn drive(rt: &impl Abort, core: &mut Core, readers: u32, seed: &mut u64)
     }
 }
 
-// The next event of the sequence, for reader numbers up to one that is no reader's.
+// Returns the next event of the sequence. Reader numbers go up to one that no reader has.
 fn next_event(seed: &mut u64, readers: u32) -> Event
     requires { readers ≤ 17 }
 {

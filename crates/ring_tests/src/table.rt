@@ -1,4 +1,4 @@
-// The seats of a ring's table: each load gives the number that was stored last.
+// The seats of a ring's table: each load returns the number stored last.
 ghost use Rattle.std.specs.Prelude.{◌≡◌, ◌≢◌, ◌+◌, ◌<◌, IsTrue, MatchBool};
 ghost use Rattle.ring_rule.specs.Views.{left_word};
 ghost use Rattle.ring_tests.specs.Numbered.{IsIdleReader, IsIdleWriter, IsOffered, served};
@@ -13,7 +13,7 @@ fn has_room(cursor: u64, head: u64) -> bool
     cursor == u64::MAX || head.saturating_sub(cursor) < 2
 }
 
-// Fills the lane of a reader that was looked at, unless it left.
+// Fills the lane of a reader that the writer looked at, unless the reader left.
 fn serve(writer: &mut WriterSeat<'_, Numbered>, head: u64, reader: u32, cursor: u64)
     requires { IsOffered 2 2 5 head reader cursor writer.old.view }
     ensures { writer.new ≡ record writer.old { view = served cursor reader writer.old.view } }
@@ -23,7 +23,7 @@ fn serve(writer: &mut WriterSeat<'_, Numbered>, head: u64, reader: u32, cursor: 
     }
 }
 
-// Publishes the next of five rows where each of two readers left or has room in two places.
+// Publishes the next of five rows if each of two readers left or has room in its two places.
 fn write(writer: &mut WriterSeat<'_, Numbered>, head: u64) -> bool
     requires { IsIdleWriter 2 2 5 head writer.old.view }
     ensures { MatchBool result
@@ -55,7 +55,7 @@ fn publish(rt: &impl Abort, writer: &mut WriterSeat<'_, Numbered>, head: u64)
     assert!(rt; write(writer, head), "row {head}");
 }
 
-// Finds no room for the next row, or that there is none.
+// Requires that the next row cannot be published: there is no room, or there are no more rows.
 fn is_full(rt: &impl Abort, writer: &mut WriterSeat<'_, Numbered>, head: u64)
     requires { IsIdleWriter 2 2 5 head writer.old.view }
     ensures { IsIdleWriter 2 2 5 head writer.new.view }
@@ -63,7 +63,7 @@ fn is_full(rt: &impl Abort, writer: &mut WriterSeat<'_, Numbered>, head: u64)
     assert!(rt; !write(writer, head), "row {head}");
 }
 
-// Takes the next row, which is there, compares it, and gives it back.
+// Takes the next row, which is published, compares it, and gives it back.
 fn read(rt: &impl Abort, reader: &mut ReaderSeat<'_, Numbered>, taken: u64)
     requires { IsIdleReader 5 taken reader.old.view }
     ensures { IsIdleReader 5 (taken + 1) reader.new.view }
@@ -88,7 +88,7 @@ fn rows_pass_twice_round_and_a_reader_leaves(rt: HostRuntime) {
     pass(&rt, &mut writer, &mut first, &mut second);
 }
 
-// The writer waits for the slower of two readers, and passes over one that left.
+// The writer waits for the slower of two readers, and skips one that left.
 fn pass(
     rt: &impl Abort,
     writer: &mut WriterSeat<'_, Numbered>,

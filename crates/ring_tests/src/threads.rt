@@ -1,4 +1,4 @@
-// A ring whose ends are in threads.
+// A ring with its ends in several threads.
 ghost use Rattle.std.specs.Prelude.{◌+◌, ◌<◌, ◌≤◌};
 ghost use Rattle.ring_tests.specs.Numbered.{IsDrawing, IsFeeding};
 
@@ -9,7 +9,7 @@ use std::process::Abort;
 use std::thread;
 use std::thread::Threads;
 
-// Publishes the next row where there is room, and gives how many are out then.
+// Publishes the next row if there is room. Returns how many rows are then published.
 fn feed_once(writer: &mut Writer<'_, Numbered>, total: u64, head: u64) -> u64
     requires feeding { IsFeeding total head writer.old }
     requires row { head < total }
@@ -23,7 +23,7 @@ fn feed_once(writer: &mut Writer<'_, Numbered>, total: u64, head: u64) -> u64
     head
 }
 
-// Publishes rows until all are out, and gives how many are.
+// Publishes rows until all are published. Returns how many are.
 fn feed_rows(mut writer: Writer<'_, Numbered>, total: u64, turns: u64) -> u64
     requires { IsFeeding total 0 writer }
 {
@@ -37,14 +37,14 @@ fn feed_rows(mut writer: Writer<'_, Numbered>, total: u64, turns: u64) -> u64
     head
 }
 
-// Lets other threads run this often.
+// Yields to other threads this many times.
 fn pause(times: u64) {
     for _time in 0..times {
         thread::yield_now();
     }
 }
 
-// Takes the next row where it is published, and gives how many are taken then.
+// Takes the next row if it is published. Returns how many rows are then taken.
 fn draw_once(
     rt: &impl Abort,
     reader: &mut Reader<'_, Numbered>,
@@ -65,7 +65,7 @@ fn draw_once(
     cursor
 }
 
-// Takes rows until this many are taken, with a pause after each, then leaves, and gives how many were taken.
+// Takes rows until `stop` are taken, with a pause after each, then leaves. Returns how many were taken.
 fn draw_rows(
     rt: &impl Abort,
     mut reader: Reader<'_, Numbered>,
@@ -88,7 +88,7 @@ fn draw_rows(
     reader.cursor()
 }
 
-// The writer and a reader in a thread each.
+// Runs the writer and one reader, each in a thread.
 fn feed_and_draw<R: Threads + Abort + Sync>(
     rt: &R,
     writer: Writer<'_, Numbered>,
@@ -106,7 +106,7 @@ fn feed_and_draw<R: Threads + Abort + Sync>(
     )
 }
 
-// Two more readers in a thread each: a slow one, and one that leaves in the middle.
+// Runs two more readers, each in a thread: a slow one, and one that leaves halfway.
 fn draw_both<R: Threads + Abort + Sync>(
     rt: &R,
     slow: Reader<'_, Numbered>,
@@ -124,7 +124,7 @@ fn draw_both<R: Threads + Abort + Sync>(
     )
 }
 
-// The writer and three readers in a thread each, over three places. One reader leaves in the middle.
+// The writer and three readers, each in a thread, with three places. One reader leaves halfway.
 #[test]
 fn rows_pass_to_readers_at_their_own_pace(rt: HostRuntime) {
     let deal = Numbered { total: 2000 };

@@ -1,4 +1,4 @@
--- The errors and the pixels of a block of eight rows are those that are defined.
+-- The errors and pixels of a block of eight rows are the defined ones.
 use Rattle.std.proofs.Common.{All, ◌≡◌, ℕ, zero, suc, ◌+◌, ◌-◌, ◌*◌, ◌<◌, ◌≤◌, ℤ, pos, FitsSigned, to_z, of_z, List, [], ◌∷◌, ◌++◌, length, take, drop, get_or, slice_set, refl, ap, sym, subst, ◌∙◌, inl, inr, arith, add-one, add-zero, add-suc, w16}
 use Rattle.std.proofs.Math.Path.{fun_ext}
 use Rattle.std.proofs.lemmas.Bool.{cases_eq, cases_lt}
@@ -16,12 +16,12 @@ use Rattle.scr_diffuse.proofs.LaneLemmas.{kept, kept_is}
 use Rattle.scr_diffuse.proofs.StandLemmas.{lent_whole, nothing_above}
 use Rattle.scr_diffuse.proofs.StepLemmas.{left-next, unwritten, written}
 
--- above the first row stand the errors of the list
+-- above the first row are the errors of the list
 pub block-first : (errors : List ℤ) (rows : List (List ℕ)) (x : ℕ) → block_left errors rows 0 x ≡ number_at errors x
 unfolding block_left
 block-first errors rows x = refl
 
--- what a row of the block adds
+-- one more row of the block
 block-suc : (errors : List ℤ) (rows : List (List ℕ)) (k x : ℕ) → block_left errors rows (suc k) x ≡ error_left (λ y. block_left errors rows k (y + 1)) (get_or rows k []) x
 unfolding block_left
 block-suc errors rows k x = refl
@@ -29,17 +29,17 @@ block-suc errors rows k x = refl
 pub block-next : (errors : List ℤ) (rows : List (List ℕ)) (k x : ℕ) → block_left errors rows (k + 1) x ≡ error_left (λ y. block_left errors rows k (y + 1)) (get_or rows k []) x
 block-next errors rows k x = ap (λ n. block_left errors rows n x) (add-one k) ∙ block-suc errors rows k x
 
--- left of the first column no error stands
+-- the error to the left of the first column is 0
 pub block-margin : (errors : List ℤ) (rows : List (List ℕ)) (k : ℕ) → number_at errors 0 ≡ pos 0 → block_left errors rows k 0 ≡ pos 0
 block-margin errors rows zero margin = block-first errors rows 0 ∙ margin
 block-margin errors rows (suc k) margin = block-suc errors rows k 0 ∙ error-margin _ _
 
--- nor behind the last one
+-- so is the error past the last column
 pub block-behind : (errors : List ℤ) (rows : List (List ℕ)) (k x : ℕ) → length (get_or rows k []) < x → block_left errors rows (k + 1) x ≡ pos 0
 block-behind errors rows k zero behind = absurd (omega arith)
 block-behind errors rows k (suc x) behind = block-next errors rows k (suc x) ∙ error-outside _ _ x (omega arith)
 
--- what stands left of a pixel, told by the errors of the row above it
+-- the error above and to the left of a pixel, from the errors of the row above it
 pub block-corner : (errors : List ℤ) (rows : List (List ℕ)) (k x : ℕ) → number_at errors 0 ≡ pos 0 → block_left errors rows k x ≡ left_of (λ y. block_left errors rows k (y + 1)) x
 block-corner errors rows k zero margin = block-margin errors rows k margin
 block-corner errors rows k (suc x) margin = ap (block_left errors rows k) (sym (add-one x))
@@ -73,7 +73,7 @@ block_v_is page rows errors margined k x =
 
 -- ---- one row of the block, a step more
 
--- what the row's lane holds behind a step: the error of its pixel, and 0 outside its row
+-- what the row's lane holds after a step: the error of its pixel, or 0 outside the row
 pub record IsNext (errors : List ℤ) (rows : List (List ℕ)) (k step : ℕ) (now : ℤ) : Type 0 where
   pub error_is : now ≡ block_left errors rows (k + 1) (step + 1 - 2 * k)
   pub small : IsError now
@@ -103,7 +103,7 @@ next_is errors rows k step width now long margin inside before behind =
       ]
     ]
 
--- a vector whose lanes were moved on by one, behind a first one
+-- a vector whose lanes were moved up by one, with another number in lane 0
 pub moved_is : (result a : List ℤ) (first : ℤ) (f : ℕ → ℤ) → length result ≡ 8 → number_at result 0 ≡ to_z w16 (of_z w16 first) → ((k : ℕ) → k < 7 → FitsSigned w16 (number_at a k) → number_at result (k + 1) ≡ number_at a k)
     → first ≡ f 0 → ((k : ℕ) → k < 7 → number_at a k ≡ f (k + 1)) → IsError first → ((k : ℕ) → k < 7 → IsError (number_at a k)) → (k : ℕ) → k < 8 → (number_at (kept result) k ≡ f k) × IsError (f k)
 moved_is result a first f eight at_first moved first_is same small_first small zero within =
@@ -115,9 +115,9 @@ moved_is result a first f eight at_first moved first_is same small_first small (
     let small_k : IsError (f (suc k)) = subst IsError is (small k less) in
     (kept_is result (suc k) (f (suc k)) eight within (ap (number_at result) (sym (add-one k)) ∙ moved k less (fits_error _ (small k less)) ∙ is) (fits_error _ small_k), small_k)
 
--- ---- the errors of the last row, which take the place of those above the block
+-- ---- the errors of the last row, which replace those above the block
 
--- as far as the last row came
+-- as far as the last row has been made
 pub record IsMade (old : List ℤ) (rows : List (List ℕ)) (step : ℕ) (now : List ℤ) : Type 0 where
   pub small : (x : ℕ) → IsError (number_at now x)
   pub done : (x : ℕ) → x + 13 < step → number_at now x ≡ block_left old rows 8 x
@@ -126,7 +126,7 @@ pub record IsMade (old : List ℤ) (rows : List (List ℕ)) (step : ℕ) (now : 
 pub made_at_start : (old : List ℤ) (rows : List (List ℕ)) → ((x : ℕ) → IsError (number_at old x)) → IsMade old rows 0 old
 made_at_start old rows small = record { small = small; done = λ x none. absurd (omega arith); rest = λ x after. refl }
 
--- a step in which the last row hasn't begun
+-- a step before the last row begins
 pub made_before : (old : List ℤ) (rows : List (List ℕ)) (step : ℕ) (now : List ℤ) → step < 14 → number_at old 0 ≡ pos 0 → IsMade old rows step now → IsMade old rows (step + 1) now
 made_before old rows step now early margin made = record {
   small = made.small;
@@ -136,7 +136,7 @@ made_before old rows step now early margin made = record {
   rest = λ x after. made.rest x (omega arith);
 }
 
--- a step in which it makes an error
+-- a step that makes an error of the last row
 pub made_more : (old : List ℤ) (rows : List (List ℕ)) (step i : ℕ) (now : List ℤ) (e : ℤ) → i ≡ step - 14 + 1 → 14 ≤ step → i < length now → e ≡ block_left old rows 8 (step + 1 - 14) → IsError e → IsMade old rows step now → IsMade old rows (step + 1) (slice_set now i e)
 made_more old rows step i now e index late within is small made = record {
   small = λ x. elim (cases_eq x i) [
@@ -152,7 +152,7 @@ made_more old rows step i now e index late within is small made = record {
   rest = λ x after. unwritten now i x e (λ h. absurd (omega arith)) ∙ made.rest x (omega arith);
 }
 
--- behind the last step
+-- after the last step
 pub made_all : (old : List ℤ) (rows : List (List ℕ)) (step width : ℕ) (now : List ℤ) → step ≡ width + 14 → length (get_or rows 7 []) ≡ width → ((x : ℕ) → width < x → number_at old x ≡ pos 0) → IsMade old rows step now → (x : ℕ) → number_at now x ≡ block_left old rows 8 x
 made_all old rows step width now end long right made x =
     elim (cases_lt (x + 13) step) [
@@ -160,7 +160,7 @@ made_all old rows step width now end long right made x =
       | inr rest ↦ made.rest x rest ∙ right x (omega arith) ∙ sym (block-behind old rows 7 x (omega arith))
     ]
 
--- ---- what is held below a block
+-- ---- what is kept after a block
 
 -- before the first row
 pub below_at_start : (rows : List (List ℕ)) (width : ℕ) (errors : List ℤ) → rows ≡ [] → length errors ≡ width + 16 → ((x : ℕ) → number_at errors x ≡ pos 0) → HoldsBelow rows width errors
@@ -195,18 +195,18 @@ block_at_start rows held width errors dots columns none eight wide room long ful
   dots_are = λ k x within inside handed. (let empty : length rows ≡ 0 = ap length none in absurd (omega arith));
 }
 
--- behind a restart: the errors were lent whole and come back as 0
+-- after a restart: the errors were lent whole, and come back as 0
 pub block_restarted : (steps : List (List (List ℕ))) (page held : List (List ℕ)) (n : ℕ) (new old : List ℤ) (dots columns : List ℕ) → HoldsBlock page held old dots columns → steps ≡ [] → n ≡ length new → length new ≡ length old
     → ((x : ℕ) → number_at new x ≡ pos 0) → HoldsBlock (joined steps) held (take n (new ++ drop (length new) old)) dots columns
 block_restarted steps page held n new old dots columns holds none whole same zeros =
     subst (λ (errors : List ℤ). HoldsBlock (joined steps) held errors dots columns) (sym (lent_whole n new old whole))
     (block_at_start (joined steps) held holds.width new dots columns (ap joined none) holds.eight holds.wide (same ∙ holds.errors_are.room) holds.long holds.room zeros)
 
--- a row of the eight that are taken next has its width
+-- each of the eight rows to take next has the page's width
 pub held_long : (page held : List (List ℕ)) (errors : List ℤ) (dots columns : List ℕ) → (holds : HoldsBlock page held errors dots columns) → (k : ℕ) → k < 8 → length (get_or held k []) ≡ holds.width
 held_long page held errors dots columns holds k within = All-get_or (λ row. length row ≡ holds.width) held k [] (omega (arith, holds.eight)) holds.wide
 
--- behind the eight rows that were held
+-- after the eight buffered rows were taken
 pub block_held : (page rows : List (List ℕ)) (errors new : List ℤ) (before dots filled columns : List ℕ) → (holds : HoldsBlock page rows errors before filled) → length new ≡ length errors → length dots ≡ length before → length columns ≡ length filled
     → ((x : ℕ) → number_at new x ≡ block_left errors rows 8 x) → ((x : ℕ) → IsError (number_at new x)) → ((k x : ℕ) → k < 8 → x < holds.width → bit_of (get_or dots (x + 2 * k) 0) k ≡ prints (block_v errors rows k x)) → HoldsBlock (page ++ rows) rows new dots columns
 block_held page rows errors new before dots filled columns holds same whole full made small set = record {
@@ -221,7 +221,7 @@ block_held page rows errors new before dots filled columns holds same whole full
       set k x within inside ∙ ap prints (block_v_is page rows errors holds.errors_are.below.margined k x) ∙ ap (diffused_bit (page ++ rows) x) place);
 }
 
--- lists that were lent whole and come back
+-- lists that were lent whole, and come back
 pub block_lent : (rows held : List (List ℕ)) (n m l : ℕ) (new old : List ℤ) (dots before columns filled : List ℕ) → n ≡ length new → m ≡ length dots → l ≡ length columns → HoldsBlock rows held new dots columns
     → HoldsBlock rows held (take n (new ++ drop (length new) old)) (take m (dots ++ drop (length dots) before)) (take l (columns ++ drop (length columns) filled))
 block_lent rows held n m l new old dots before columns filled whole_new whole_dots whole_columns holds =

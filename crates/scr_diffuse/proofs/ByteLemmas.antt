@@ -1,4 +1,4 @@
--- Eight compares in one byte, of which the first is the highest bit.
+-- Eight comparisons in one byte, the first in the highest bit.
 use Rattle.std.proofs.Common.{◌≡◌, ℕ, ◌-◌, ◌/◌, ◌%◌, ◌^◌, ◌<◌, Bool, true, false, cond, ℤ, pos, FitsSigned, to_z, of_z, List, ◌++◌, length, take, map, eqb, get_or, refl, ap, sym, subst, ◌∙◌, arith, w16}
 use Rattle.std.specs.Int.Signed.{le_z}
 use Rattle.std.specs.List.{range_with_len}
@@ -14,11 +14,11 @@ use Rattle.scr_diffuse.specs.Passes.{number_at}
 abbrev pub lane : List ℤ → ℕ → ℕ
 lane numbers x = get_or (map (of_z w16) (take 8 numbers) ++ map (of_z w16) (take 8 numbers)) x 0
 
--- what the compare of that lane reads
+-- the result of the comparison in that lane
 abbrev pub lane_test : List ℤ → ℕ → Bool
 lane_test numbers x = top 15 (cond (le_z (pos 128) (to_z w16 (lane numbers x))) 65535 0)
 
--- the lanes of the compare of a reversed vector
+-- the lanes of the comparison of a reversed vector
 abbrev pub lane_tests : List ℤ → List Bool
 lane_tests numbers = map (λ i. lane_test numbers (7 - i)) (range_with_len 0 8)
 
@@ -30,7 +30,7 @@ one_if : (b : Bool) → eqb (cond b 1 0) 1 ≡ b
 one_if true = refl
 one_if false = refl
 
--- a lane of a vector that was loaded whole, and joined to itself
+-- a lane of a vector that was loaded whole and appended to itself
 loaded : (numbers : List ℤ) (x : ℕ) → length numbers ≡ 8 → x < 8 → lane numbers x ≡ of_z w16 (number_at numbers x)
 loaded numbers x whole within =
     let count : length (take 8 numbers) ≡ 8 = omega (arith, length-take 8 numbers) in

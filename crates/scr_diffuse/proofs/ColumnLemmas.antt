@@ -1,4 +1,4 @@
--- One column of eight pages, lane by lane, is what is defined.
+-- One column of eight pages, lane by lane, is the defined one.
 use Rattle.std.proofs.Common.{◌≡◌, ℕ, zero, suc, ◌+◌, ◌<◌, ◌≤◌, Bool, ℤ, pos, ◌≤ℤ◌, ◌+ℤ◌, ◌*ℤ◌, FitsSigned, to_z, of_z, List, [], length, map, get_or, ap, sym, subst, ◌∙◌, inl, inr, arith, add-one, w16}
 use Rattle.std.proofs.lemmas.Bool.{cases_eq, cases_lt}
 use Rattle.std.proofs.lemmas.Int.{ints}
@@ -10,7 +10,7 @@ use Rattle.scr_diffuse.proofs.DiffusionLemmas.{corrected-small, error-inside, er
 use Rattle.scr_diffuse.proofs.LaneLemmas.{kept, kept_is}
 use Rattle.scr_diffuse.proofs.RowLemmas.{margined}
 
--- what a lane holds, told by its list
+-- the number in a lane, as an item of the lane's list
 pub lane_is : (places : List (List ℤ)) (k p : ℕ) → number_at (lane_of places k) p ≡ lane_at places p k
 lane_is places k p =
     elim (cases_lt p (length places)) [
@@ -23,14 +23,14 @@ lane_is places k p =
 pub fits_error : (e : ℤ) → IsError e → FitsSigned w16 e
 fits_error e small = omega (arith, ints)
 
--- lanes that were put in and taken out again
+-- numbers that were put into lanes and taken out again
 pub kept_length : (a : List ℤ) → length a ≡ 8 → length (kept a) ≡ 8
 kept_length a eight = length-map (map (of_z w16) a) (to_z w16) ∙ length-map a (of_z w16) ∙ eight
 
 pub bits_length : (bits : List ℕ) → length bits ≡ 8 → length (map (to_z w16) bits) ≡ 8
 bits_length bits eight = length-map bits (to_z w16) ∙ eight
 
--- errors that are loaded
+-- errors that were loaded
 pub loaded : (numbers : List ℤ) (f : ℕ → ℤ) → length numbers ≡ 8 → ((k : ℕ) → k < 8 → FitsSigned w16 (f k) → number_at numbers k ≡ f k) → ((k : ℕ) → k < 8 → IsError (f k)) → (k : ℕ) → k < 8 → number_at (kept numbers) k ≡ f k
 loaded numbers f eight same small k within =
     let fits : FitsSigned w16 (f k) = fits_error (f k) (small k within) in
@@ -65,7 +65,7 @@ whole v l r a b = (pos 16 *ℤ v) +ℤ (pos 7 *ℤ l) +ℤ (pos 3 *ℤ r) +ℤ (
 whole_fits : (n : ℕ) (l r a b : ℤ) → n ≤ 255 → IsError l → IsError r → IsError a → IsError b → FitsSigned w16 (whole (pos n) l r a b)
 whole_fits n l r a b byte small_l small_r small_a small_b = omega (arith, ints)
 
--- v of a pixel by its whole sum
+-- v of a pixel, from its whole sum
 pub column_is : (above : ℕ → ℤ) (row : List ℕ) (x : ℕ) (l r a b : ℤ) → l ≡ error_left above row x → r ≡ above (x + 1) → a ≡ above x → b ≡ left_of above x
     → floor_16 (whole (pos (get_or row x 0)) l r a b) ≡ v_below above row x
 column_is above row x l r a b left right here corner =
@@ -74,7 +74,7 @@ column_is above row x l r a b left right here corner =
     ap (λ z. floor_16 (whole (pos n) z r a b)) left ∙ ap (λ z. floor_16 (whole (pos n) e z a b)) right
     ∙ ap (λ z. floor_16 (whole (pos n) e (above (x + 1)) z b)) here ∙ ap (λ z. floor_16 (whole (pos n) e (above (x + 1)) (above x) z)) corner
 
--- the error and the dot of a pixel, of one lane of vectors that are passed on
+-- the error and the dot of a pixel, in one lane of a vector that was passed on
 pub record IsPixel (above : ℕ → ℤ) (row : List ℕ) (x k : ℕ) (left : List ℤ) (dots : ℕ → Bool) : Type 0 where
   pub error_is : number_at (kept left) k ≡ error_left above row (x + 1)
   pub small : IsError (error_left above row (x + 1))
@@ -112,7 +112,7 @@ pixel_is over row k x values before right above corner sums left dots lanes with
       dot_is = dots_are (rw kept_sum sum_fits) ∙ ap prints same;
     }
 
--- what a lane holds, told by the errors above a pixel
+-- the number in a lane, from the errors above a pixel
 pub above_right_is : (places : List (List ℤ)) (k x : ℕ) (e : ℤ) → e ≡ lane_at places (x + 1 + 1) k → e ≡ errors_in (lane_of places k) (x + 1)
 above_right_is places k x e is = is ∙ sym (lane_is places k (x + 1 + 1))
 
@@ -122,7 +122,7 @@ above_is places k x e is = is ∙ sym (lane_is places k (x + 1))
 pub above_left_is : (places : List (List ℤ)) (k x : ℕ) (e : ℤ) → lane_at places 0 k ≡ pos 0 → e ≡ lane_at places x k → e ≡ left_of (errors_in (lane_of places k)) x
 above_left_is places k x e margin is = is ∙ sym (lane_is places k x) ∙ margined (lane_of places k) x (lane_is places k 0 ∙ margin)
 
--- behind the last column, and past it, no error stands
+-- past the last column the errors are 0
 pub behind : (places : List (List ℤ)) (above : ℕ → ℤ) (row : List ℕ) (k p : ℕ) → length places ≡ length row + 2 → lane_at places (length row + 1) k ≡ pos 0 → length row < p → lane_at places p k ≡ error_left above row p
 behind places above row k zero long right after = absurd (omega arith)
 behind places above row k (suc y) long right after =

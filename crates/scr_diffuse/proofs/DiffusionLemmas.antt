@@ -1,4 +1,4 @@
--- What holds of the errors of a page as they are defined.
+-- Properties of the errors of a page, from their definition.
 use Rattle.std.proofs.Common.{◌≡◌, ℕ, zero, suc, ◌+◌, ◌*◌, ◌<◌, ◌≤◌, ℤ, pos, negsuc, ◌+ℤ◌, ◌*ℤ◌, ◌≤ℤ◌, neg_ℤ, cond, List, [], ◌∷◌, ◌++◌, length, get_or, refl, ap, sym, ◌∙◌, inl, inr, arith, add-one}
 use Rattle.std.specs.Int.{int_div_euclid}
 use Rattle.std.proofs.lemmas.Bool.{cases_lt, lt-ltb}
@@ -9,7 +9,7 @@ use Rattle.std.proofs.Math.Seq.{get_or-append_seam}
 use Rattle.std.proofs.lemmas.List.{get_or_append_left}
 use Rattle.scr_diffuse.specs.Diffusion.{corrected, error_of, error_left, error_above, left_of, v_below, v_at, IsError}
 
--- the error right of a pixel's left edge is that of the pixel
+-- inside the row, the error to the left of column x + 1 is that of pixel x
 pub error-inside : (above : ℕ → ℤ) (row : List ℕ) (x : ℕ) → x < length row → error_left above row (suc x) ≡ error_of (v_below above row x)
 unfolding error_left
 error-inside above row x within = ap (λ b. cond b (error_of (v_below above row x)) (pos 0)) (lt-ltb x (length row) within)
@@ -22,7 +22,7 @@ pub error-margin : (above : ℕ → ℤ) (row : List ℕ) → error_left above r
 unfolding error_left
 error-margin above row = refl
 
--- the error to the left, told by the error of a pixel
+-- the error to the left, from the error of a pixel
 pub left-again : (above : ℕ → ℤ) (row : List ℕ) (x : ℕ) → left_of (λ k. error_left above row (k + 1)) x ≡ error_left above row x
 left-again above row zero = sym (error-margin above row)
 left-again above row (suc x) = rw add-one refl
@@ -39,9 +39,9 @@ v_at-is rows x y =
     ap (λ e. corrected (get_or row x 0) e (above (x + 1)) (above x) (left_of above x))
     (ap (λ (f : ℕ → ℤ). left_of f x) (fun_ext (λ k. error_above-more rows k y)) ∙ left-again above row x)
 
--- ---- what a row waits for
+-- ---- what a row depends on
 
--- the errors above row y wait for the rows above it alone
+-- the errors above row y depend on the rows above it alone
 pub error_above-same : (rows other : List (List ℕ)) (y : ℕ) → ((j : ℕ) → j < y → get_or rows j [] ≡ get_or other j []) → (x : ℕ) → error_above rows x y ≡ error_above other x y
 unfolding error_above
 error_above-same rows other zero same x = refl
@@ -49,19 +49,19 @@ error_above-same rows other (suc y) same x =
     ap (λ (f : ℕ → ℤ). error_left f (get_or rows y []) (x + 1)) (fun_ext (error_above-same rows other y (λ j below. same j (omega arith))))
     ∙ ap (λ row. error_left (λ k. error_above other k y) row (x + 1)) (same y (omega arith))
 
--- the pixels of row y wait for it and the rows above it alone
+-- the pixels of row y depend on it and on the rows above it alone
 pub v_at-same : (rows other : List (List ℕ)) (x y : ℕ) → ((j : ℕ) → j < y + 1 → get_or rows j [] ≡ get_or other j []) → v_at rows x y ≡ v_at other x y
 v_at-same rows other x y same =
     v_at-is rows x y
     ∙ ap (λ (f : ℕ → ℤ). v_below f (get_or rows y []) x) (fun_ext (error_above-same rows other y (λ j below. same j (omega arith))))
     ∙ ap (λ row. v_below (λ k. error_above other k y) row x) (same y (omega arith)) ∙ sym (v_at-is other x y)
 
--- ---- a row more
+-- ---- one more row
 
 before-same : (rows : List (List ℕ)) (values : List ℕ) (j : ℕ) → j < length rows → get_or (rows ++ values ∷ []) j [] ≡ get_or rows j []
 before-same rows values j below = get_or_append_left rows (values ∷ []) [] j below
 
--- the errors above the row that is put behind others are those that stood above it before
+-- the errors above an appended row are those of the rows before it
 above-put : (rows : List (List ℕ)) (values : List ℕ) (x : ℕ) → error_above (rows ++ values ∷ []) x (length rows) ≡ error_above rows x (length rows)
 above-put rows values x = error_above-same (rows ++ values ∷ []) rows (length rows) (before-same rows values) x
 
@@ -77,7 +77,7 @@ error_above-put rows values x =
     ∙ ap (λ (f : ℕ → ℤ). error_left f (get_or (rows ++ values ∷ []) (length rows) []) (x + 1)) (fun_ext (above-put rows values))
     ∙ ap (λ row. error_left (λ k. error_above rows k (length rows)) row (x + 1)) (get_or-append_seam rows values [] [])
 
--- ---- how far errors go
+-- ---- the range of errors
 
 sixteenth-small : (z : ℤ) → neg_ℤ (pos 2032) ≤ℤ z → z ≤ℤ pos 6112 → IsError (error_of (int_div_euclid z (pos 16)))
 sixteenth-small (pos a) low high = record { low = grind (arith, ints); high = grind (arith, ints) }

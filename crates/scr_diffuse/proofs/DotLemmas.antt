@@ -1,4 +1,4 @@
--- The bits of one page in eight columns as one byte, of which the first is the highest bit.
+-- The bits of one page in eight columns as one byte, the first in the highest bit.
 use Rattle.std.proofs.Common.{◌≡◌, ℕ, zero, suc, ◌-◌, ◌*◌, ◌/◌, ◌%◌, ◌^◌, ◌<◌, Bool, true, false, cond, List, ◌++◌, length, take, eqb, bit_and, get_or, refl, ap, sym, subst, ◌∙◌, arith, map}
 use Rattle.std.specs.List.{range_with_len}
 use Rattle.std.proofs.lemmas.Bool.Decides.{nat_tests}
@@ -11,19 +11,19 @@ use lib.Lanes.{mask_l, top}
 use Rattle.pr_base.specs.Bits.{byte_bit}
 use Rattle.scr_diffuse.specs.Diffusers.{bit_of}
 
--- what lane x of eight columns holds, before they are reversed
+-- lane x of eight columns, before they are reversed
 abbrev pub lane : List ℕ → ℕ → ℕ
 lane columns x = get_or (take 8 columns ++ take 8 columns) x 0
 
--- the bit of a page, alone
+-- the mask of the bit of a page
 abbrev pub alone : ℕ → ℕ
 alone page = 1 * 2 ^ page % 256
 
--- what the compare of that lane reads
+-- the result of the comparison in that lane
 abbrev pub lane_test : ℕ → List ℕ → ℕ → Bool
 lane_test page columns x = top 7 (cond (eqb (bit_and (lane columns x) (alone page)) (alone page)) 255 0)
 
--- the lanes of the compare of a reversed vector
+-- the lanes of the comparison of a reversed vector
 abbrev pub lane_tests : ℕ → List ℕ → List Bool
 lane_tests page columns = map (λ i. lane_test page columns (7 - i)) (range_with_len 0 8)
 
@@ -35,7 +35,7 @@ one_if : (b : Bool) → eqb (cond b 1 0) 1 ≡ b
 one_if true = refl
 one_if false = refl
 
--- the bits of eight pages are those of a byte
+-- the masks of eight pages are the powers of two
 alone_is : (page : ℕ) → page < 8 → alone page ≡ 2 ^ page
 alone_is zero within = refl
 alone_is (suc zero) within = refl

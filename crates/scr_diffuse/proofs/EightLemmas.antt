@@ -1,4 +1,4 @@
--- The errors and the pixels that eight diffusers hold: at the start, and after a row of each page.
+-- The errors and pixels that eight diffusers keep: at the start, and after a row of each page.
 use Rattle.std.proofs.Common.{◌≡◌, ℕ, ◌+◌, ◌-◌, ◌<◌, ℤ, pos, List, [], ◌∷◌, ◌++◌, length, take, drop, get_or, replicate, ap, sym, subst, ◌∙◌, inl, inr, arith}
 use Rattle.std.proofs.lemmas.Bool.{cases_lt}
 use Rattle.std.proofs.lemmas.List.{get_or-replicate, get_or_past, length-append, length-map, map_push}
@@ -11,7 +11,7 @@ use Rattle.scr_diffuse.proofs.StandLemmas.{lent_whole, stand_after, stand_at_sta
 length-lane : (places : List (List ℤ)) (k : ℕ) → length (lane_of places k) ≡ length places
 length-lane places k = length-map places (λ place. number_at place k)
 
--- eight zeros, and none past them
+-- eight zeros at each place, and 0 past the end
 pub zeros_at : (n p k : ℕ) → k < 8 → lane_at (replicate n (replicate 8 (pos 0))) p k ≡ pos 0
 zeros_at n p k within =
     elim (cases_lt p n) [
@@ -26,7 +26,7 @@ stand_all_at_start rows errors dots none room zeros = record {
   dots_are = λ k x within below some. (let empty : length rows ≡ 0 = ap length none in absurd (omega arith));
 }
 
--- a row more of a page
+-- one more row of a page
 page_more : (rows : List (List (List ℕ))) (values : List (List ℕ)) (k : ℕ) → page_in (rows ++ values ∷ []) k ≡ page_in rows k ++ get_or values k [] ∷ []
 page_more rows values k = map_push (λ row. get_or row k []) rows values
 
@@ -53,7 +53,7 @@ stand_all_next rows all values errors new before dots stand more same whole wide
       ∙ ap (diffused_bit (page_in all k) x) (sym last));
 }
 
--- lists that were lent whole and come back
+-- lists that were lent whole, and come back
 pub stand_lent : (rows : List (List (List ℕ))) (n m : ℕ) (new old : List (List ℤ)) (dots before : List ℕ) → n ≡ length new → m ≡ length dots → StandBelowAll rows new dots
     → StandBelowAll rows (take n (new ++ drop (length new) old)) (take m (dots ++ drop (length dots) before))
 stand_lent rows n m new old dots before whole_new whole_dots stand =

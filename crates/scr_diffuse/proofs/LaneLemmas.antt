@@ -12,7 +12,7 @@ use Rattle.scr_diffuse.specs.Diffusion.{error_of, prints}
 use Rattle.scr_diffuse.specs.Passes.{IsNumber, floor_16, number_at}
 use Rattle.scr_diffuse.proofs.NumberLemmas.{dot_is, number_small, shifted}
 
--- numbers that are made from pairs of bits
+-- numbers computed from pairs of bit patterns
 pub made_length : (op : ℕ → ℕ → ℕ) (xs ys : List ℕ) → length xs ≡ 8 → length ys ≡ 8 → length (map (to_z w16) (zip2 op xs ys)) ≡ 8
 made_length op xs ys a b = length-map (zip2 op xs ys) (to_z w16) ∙ length-zip2 op xs ys (a ∙ sym b) ∙ a
 
@@ -21,7 +21,7 @@ made_at op xs ys k a b within =
     get_or-map (to_z w16) (zip2 op xs ys) k 0 (pos 0) (omega (arith, length-zip2 op xs ys (a ∙ sym b)))
     ∙ ap (to_z w16) (get_or-zip2 op xs ys k 0 0 0 (omega arith) (omega arith))
 
--- the bits of a list of numbers
+-- the bit patterns of a list of numbers
 pub bits_length : (a : List ℤ) → length a ≡ 8 → length (map (of_z w16) a) ≡ 8
 bits_length a eight = length-map a (of_z w16) ∙ eight
 
@@ -56,7 +56,7 @@ lessened : (x : ℤ) (on : Bool) → IsNumber x → to_z w16 ((of_z w16 x + (2 ^
 lessened x true number = subtracted x (pos 255) (omega (arith, ints)) (omega (arith, ints)) (omega (arith, ints))
 lessened x false number = subtracted x (pos 0) (omega (arith, ints)) (omega (arith, ints)) (omega (arith, ints)) ∙ omega (arith, ints)
 
--- what a compare leaves in a lane's highest bit
+-- the highest bit of a lane after a comparison
 top_of_mask : (b : Bool) → top 15 (cond b 65535 0) ≡ b
 top_of_mask true = refl
 top_of_mask false = refl
@@ -68,7 +68,7 @@ one_if false = refl
 abbrev compared : ℕ → ℕ → ℕ
 compared m n = cond (le_z (to_z w16 m) (to_z w16 n)) 65535 0
 
--- the tests whether the pixel of a whole sum in a lane prints
+-- whether the pixel of each lane's whole sum prints
 abbrev pub tests : List ℤ → List Bool
 tests a = map (top 15) (zip2 compared (replicate 8 2048) (map (of_z w16) a))
 
@@ -96,7 +96,7 @@ chosen_at a k eight within fits =
     ∙ ap (λ n. cond (prints (floor_16 (number_at a k))) n (get_or (replicate 8 0) k 0)) (get_or-replicate 8 k 255 0 within)
     ∙ ap (λ n. cond (prints (floor_16 (number_at a k))) 255 n) (get_or-replicate 8 k 0 0 within)
 
--- the sixteenths
+-- the sixteenths of the lanes
 abbrev pub shares : List ℤ → List ℕ
 shares a = zip2 (λ m n. of_z w16 (shr_z (to_z w16 m) (2 ^ n))) (map (of_z w16) a) (replicate 8 4)
 
@@ -120,7 +120,7 @@ lessened_at a k eight within fits =
     ∙ ap (λ n. to_z w16 ((of_z w16 (floor_16 (number_at a k)) + (2 ^ 16 - n)) % 2 ^ 16)) (chosen_at a k eight within fits)
     ∙ lessened (floor_16 (number_at a k)) (prints (floor_16 (number_at a k))) (floor_small (number_at a k) fits)
 
--- ---- the larger one of a number and a bound that is below it
+-- ---- the maximum of a number and a bound that is below it
 
 abbrev below : ℕ → ℕ → ℕ
 below m n = cond (lt_z (to_z w16 m) (to_z w16 n)) 65535 0
@@ -176,7 +176,7 @@ byte_bits a k eight within fits =
     ap (λ m. eqb (m / 2 ^ k % 2) 1) (mask_l-mod (tests a) 64 (omega (arith, tests_length a eight)))
     ∙ ap (λ b. eqb b 1) (bit_mask_l (tests a) k) ∙ one_if _ ∙ tests_at a k eight within fits
 
--- what holds of each number below 8
+-- a property of each number below 8
 pub each_of_eight : (P : ℕ → Type 0) → P 0 → P 1 → P 2 → P 3 → P 4 → P 5 → P 6 → P 7 → (k : ℕ) → k < 8 → P k
 each_of_eight P a b c d e f g h zero within = a
 each_of_eight P a b c d e f g h (suc zero) within = b

@@ -1,4 +1,4 @@
--- A row's numbers and errors, as the passes make them, are those that are defined.
+-- A row's numbers and errors, as the passes compute them, are the defined ones.
 use Rattle.std.proofs.Common.{◌≡◌, ℕ, zero, suc, ◌+◌, ◌-◌, ◌<◌, ◌≤◌, ℤ, pos, inl, inr, List, ◌++◌, length, take, drop, get_or, refl, ap, sym, ◌∙◌, arith, add-one}
 use Rattle.std.specs.Int.{int_div_euclid}
 use Rattle.std.proofs.lemmas.Bool.{cases_eq, cases_lt}
@@ -8,12 +8,12 @@ use Rattle.scr_diffuse.specs.Diffusion.{corrected, error_of, error_left, left_of
 use Rattle.scr_diffuse.specs.Passes.{number_at, errors_in, weighted, sum_above, v_of, v_from}
 use Rattle.scr_diffuse.proofs.DiffusionLemmas.{error-inside, error-outside, error-margin}
 
--- a list with a margin shows at each place the error one column to the left
+-- a list with a margin holds at each place the error one column to the left
 pub margined : (errors : List ℤ) (x : ℕ) → number_at errors 0 ≡ pos 0 → number_at errors x ≡ left_of (errors_in errors) x
 margined errors zero margin = margin
 margined errors (suc x) margin = rw add-one refl
 
--- the weights of the row above and of the left, put together
+-- the weights of the row above and of the left, added up
 corrected-is : (value : ℕ) (left above_right above above_left : ℤ) → v_of (weighted value above_right above above_left) left ≡ corrected value left above_right above above_left
 corrected-is value left above_right above above_left = ap (λ z. int_div_euclid z (pos 16)) (omega (arith, ints))
 
@@ -37,7 +37,7 @@ module _ (values : List ℕ) (errors sums numbers : List ℤ) (margin : number_a
   pub numbers_are : (x : ℕ) → x < length values → number_at numbers x ≡ v_below (errors_in errors) values x
   numbers_are x within = number_is x within (left_is x (omega arith))
 
--- the errors that are kept of a row's numbers
+-- the errors computed from a row's numbers
 pub kept_are : (above : ℕ → ℤ) (values : List ℕ) (old new : List ℤ) → length old ≡ length values + 2 → length new ≡ length old
     → ((x : ℕ) → x < length values → number_at old x ≡ v_below above values x) → number_at old (length values + 1) ≡ pos 0
     → number_at new 0 ≡ pos 0 → ((x : ℕ) → x + 2 < length old → number_at new (x + 1) ≡ error_of (number_at old x))
@@ -57,7 +57,8 @@ kept_are above values old new size same numbered right margin kept last (suc x) 
       ]
     ]
 
--- what add_left leaves before the margin, where what add_above left is lent to it without the margin
+-- the numbers that add_left computes before the margin, where the sums of add_above were lent to it without
+-- the margin
 pub row_numbers : (values : List ℕ) (errors sums numbers : List ℤ) → number_at errors 0 ≡ pos 0 → length numbers ≡ length values → length sums ≡ length values + 2
     → ((x : ℕ) → x < length values → number_at sums x ≡ sum_above values errors x)
     → ((x : ℕ) → x < length (take (length values) sums) → number_at numbers x ≡ v_from (take (length values) sums) numbers x)

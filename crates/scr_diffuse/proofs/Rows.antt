@@ -1,4 +1,4 @@
--- The definition at a small page: 4 by 2 values of 128.
+-- The definition, computed on a small page of 4 by 2 values of 128.
 use Rattle.std.proofs.Common.{◌≡◌, ℕ, pos, List, [], ◌∷◌, map, refl}
 use Rattle.std.specs.List.{range_with_len}
 use Rattle.scr_diffuse.specs.Diffusion.{v_at, error_at, error_above, error_left}

@@ -1,4 +1,4 @@
--- A row is set in three spans: up to a whole byte, whole bytes, and the rest.
+-- A row is written in three spans: the pixels before a byte boundary, whole bytes, and the rest.
 use Rattle.std.proofs.Common.{◌≡◌, ℕ, ◌+◌, ◌-◌, ◌*◌, ◌/◌, ◌%◌, ◌<◌, ◌≤◌, Bool, ℤ, pos, List, length, take, slice_range, get_or, refl, ap, inl, inr, arith}
 use Rattle.std.proofs.lemmas.Bool.{cases_eq}
 use Rattle.std.proofs.lemmas.List.{get_or-take, length-take}
@@ -15,7 +15,7 @@ AreWords-between numbers i j within words x below =
     let room : i + x < j = omega arith in
     rw (get_or-between numbers i j x (pos 0) room) (words (i + x) (omega arith))
 
--- of any list of which a test reads one item a pixel
+-- for a list of any type, when a test reads one item a pixel
 pub spans_of : {A : Type 0} (reads : A → Bool) (d : A) (items : List A) (old one two new : List ℕ) (from ragged done : ℕ) → ragged ≤ done → done ≤ length items → (ragged < done → (from + ragged) % 8 ≡ 0)
     → SetsBits (λ x. reads (get_or (take ragged items) x d)) from (length (take ragged items)) old one
     → SetsBits (λ x. reads (get_or (slice_range items ragged done) x d)) (8 * ((from + ragged) / 8)) (length (slice_range items ragged done)) one two

@@ -1,4 +1,4 @@
--- The errors that a diffuser holds: at the start, and after a row.
+-- The errors that a diffuser keeps: at the start, and after a row.
 use Rattle.std.proofs.Common.{◌≡◌, ℕ, zero, suc, ◌+◌, ◌-◌, ◌≤◌, ℤ, pos, List, [], ◌∷◌, ◌++◌, length, take, drop, get_or, refl, ap, sym, ◌∙◌, arith, add-one}
 use Rattle.std.proofs.lemmas.List.{append-nil, length-append}
 use Rattle.std.proofs.lemmas.List.Concat.{flat_map-append}
@@ -10,11 +10,11 @@ use Rattle.scr_diffuse.specs.Passes.{errors_in, number_at}
 use Rattle.scr_diffuse.proofs.DiffusionLemmas.{error-margin, error-outside, error_above-put, error_left-small, none-small, v_at-put}
 use Rattle.scr_diffuse.proofs.StepLemmas.{left-next}
 
--- one step more
+-- one more step
 pub joined_more : (steps all : List (List (List ℕ))) (rows : List (List ℕ)) → all ≡ steps ++ rows ∷ [] → joined all ≡ joined steps ++ rows
 joined_more steps all rows more = ap joined more ∙ flat_map-append (λ r. r) steps (rows ∷ []) ∙ ap (λ last. joined steps ++ last) (append-nil rows)
 
--- above the first row no error stands
+-- above the first row all errors are 0
 pub nothing_above : (k : ℕ) → left_of (λ x. error_above [] x 0) k ≡ pos 0
 unfolding error_above
 nothing_above zero = refl
@@ -41,7 +41,7 @@ next_margined rows values errors new stand made (suc x) =
     ∙ ap (error_left (λ k. error_above rows k (length rows)) values) (sym (add-one x))
     ∙ sym (error_above-put rows values x) ∙ ap (error_above (rows ++ values ∷ []) x) (sym count)
 
--- where the errors are known to be small
+-- after a row whose errors are known to be small
 pub stand_after : (rows all : List (List ℕ)) (values : List ℕ) (errors new : List ℤ) → StandBelow rows errors → all ≡ rows ++ values ∷ [] → length errors ≡ length values + 2 → length new ≡ length errors
     → ((k : ℕ) → IsError (number_at new k)) → ((k : ℕ) → number_at new k ≡ error_left (errors_in errors) values k) → StandBelow all new
 stand_after rows all values errors new stand more size same small made =
@@ -62,6 +62,6 @@ stand_next rows all values errors new stand more size same bytes made =
 pub v_next : (rows : List (List ℕ)) (values : List ℕ) (errors : List ℤ) (x : ℕ) → StandBelow rows errors → v_below (errors_in errors) values x ≡ v_at (rows ++ values ∷ []) x (length rows)
 v_next rows values errors x stand = ap (λ (f : ℕ → ℤ). v_below f values x) (above_is rows errors stand) ∙ sym (v_at-put rows values x)
 
--- a list that was lent whole and comes back
+-- a list that was lent whole, and comes back
 pub lent_whole : {A : Type 0} (n : ℕ) (new old : List A) → n ≡ length new → take n (new ++ drop (length new) old) ≡ new
 lent_whole n new old whole = rw whole (take-append_seam new (drop (length new) old))

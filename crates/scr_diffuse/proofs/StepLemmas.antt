@@ -1,4 +1,4 @@
--- One number of a list more.
+-- One more number of a list.
 use Rattle.std.proofs.Common.{◌≡◌, ◌≢◌, ℕ, zero, suc, ◌+◌, ◌<◌, ◌≤◌, ℤ, pos, List, length, slice_set, refl, ap, sym, ◌∙◌, arith, add-one, below_more, get_or-set_same, get_or-set_other}
 use Rattle.scr_diffuse.specs.Diffusion.{left_of, error_of}
 use Rattle.scr_diffuse.specs.Passes.{number_at, v_of, v_from}
@@ -10,14 +10,14 @@ left-same f g (suc n) same = same n (omega arith)
 pub left-next : (f : ℕ → ℤ) (n : ℕ) → left_of f (n + 1) ≡ f n
 left-next f n = rw add-one refl
 
--- a number that was written, and another
+-- a number that was written, and another one
 pub written : (numbers : List ℤ) (i : ℕ) (v : ℤ) → i < length numbers → number_at (slice_set numbers i v) i ≡ v
 written numbers i v within = get_or-set_same numbers i v (pos 0) within
 
 pub unwritten : (numbers : List ℤ) (i k : ℕ) (v : ℤ) → k ≢ i → number_at (slice_set numbers i v) k ≡ number_at numbers k
 unwritten numbers i k v other = get_or-set_other numbers i k v (pos 0) other
 
--- the numbers up to i don't wait for that of i
+-- the numbers v up to i don't depend on that of pixel i
 pub v_from-same : (sums numbers : List ℤ) (i k : ℕ) (v : ℤ) → k ≤ i → v_from sums numbers k ≡ v_from sums (slice_set numbers i v) k
 v_from-same sums numbers i k v within =
     ap (v_of (number_at sums k)) (left-same _ _ k (λ j below. ap error_of (sym (unwritten numbers i j v (λ e. absurd (omega arith))))))

@@ -1,5 +1,4 @@
--- Eight vectors of sixteen places: two halves that are taken in turn, three times, are the columns behind one
--- another.
+-- Eight vectors of sixteen places: interleaving two halves three times gives the columns one after the other.
 use Rattle.std.proofs.Common.{◌≡◌, ℕ, ◌+◌, ◌-◌, ◌*◌, ◌/◌, ◌%◌, ◌<◌, ◌≤◌, cond, List, [], ◌∷◌, ◌++◌, length, get_or, refl, ap, sym, subst, ◌∙◌, inl, inr, arith, mul-le-mul_left}
 use Rattle.std.specs.Borrow.{Bor}
 use Rattle.std.proofs.lemmas.Bool.{cases_eq, cases_lt, le-ltb}
@@ -10,7 +9,7 @@ use Rattle.scr_diffuse.specs.Diffusers.{row_in}
 use Rattle.scr_diffuse.specs.Weave.{AreVectors, HasColumns, value_behind, woven_at}
 use Rattle.scr_diffuse.proofs.LaneLemmas.{each_of_eight}
 
--- what holds of each number below 16
+-- a property of each number below 16
 each_of_sixteen : (P : ℕ → Type 0) → P 0 → P 1 → P 2 → P 3 → P 4 → P 5 → P 6 → P 7 → P 8 → P 9 → P 10 → P 11 → P 12 → P 13 → P 14 → P 15 → (k : ℕ) → k < 16 → P k
 each_of_sixteen P a b c d e f g h i j k l m n o p x within =
     elim (cases_lt x 8) [
@@ -18,7 +17,7 @@ each_of_sixteen P a b c d e f g h i j k l m n o p x within =
       | inr high ↦ (let place : 8 + (x - 8) ≡ x = omega arith in subst P place (each_of_eight (λ y. P (8 + y)) i j k l m n o p (x - 8) (omega arith)))
     ]
 
--- the first halves of two vectors in turn, and the second ones
+-- the first halves of two vectors, interleaved, and the second halves
 abbrev pub low : List ℕ → List ℕ → List ℕ
 low a b =
     get_or (a ++ b) 0 0 ∷ get_or (a ++ b) 16 0 ∷ get_or (a ++ b) 1 0 ∷ get_or (a ++ b) 17 0 ∷ get_or (a ++ b) 2 0 ∷ get_or (a ++ b) 18 0 ∷ get_or (a ++ b) 3 0 ∷ get_or (a ++ b) 19 0
@@ -35,7 +34,7 @@ low_at a b = each_of_sixteen (λ i. get_or (low a b) i 0 ≡ get_or (a ++ b) (16
 high_at : (a b : List ℕ) (i : ℕ) → i < 16 → get_or (high a b) i 0 ≡ get_or (a ++ b) (16 * (i % 2) + (8 + i / 2)) 0
 high_at a b = each_of_sixteen (λ i. get_or (high a b) i 0 ≡ get_or (a ++ b) (16 * (i % 2) + (8 + i / 2)) 0) refl refl refl refl refl refl refl refl refl refl refl refl refl refl refl refl
 
--- a place of two vectors behind one another
+-- a place of two vectors joined end to end
 half : (v : List (List ℕ)) (t s m : ℕ) → t < 4 → s < 2 → m < 16 → AreVectors v → get_or (get_or v t [] ++ get_or v (t + 4) []) (16 * s + m) 0 ≡ get_or (get_or v (t + 4 * s) []) m 0
 half v t s m few two within long =
     elim (cases_eq s 0) [
@@ -51,7 +50,7 @@ half v t s m few two within long =
           ∙ ap (λ n. get_or (get_or v n []) m 0) (sym vector))
     ]
 
--- eight vectors whose places are taken in turn from both halves of them
+-- eight vectors, the first half interleaved with the second
 abbrev pub weave_of : List (List ℕ) → List (List ℕ)
 weave_of v =
     low (get_or v 0 []) (get_or v 4 []) ∷ high (get_or v 0 []) (get_or v 4 []) ∷ low (get_or v 1 []) (get_or v 5 []) ∷ high (get_or v 1 []) (get_or v 5 [])
@@ -81,7 +80,7 @@ pub weave_at : (v : List (List ℕ)) (n : ℕ) → n < 128 → AreVectors v → 
 weave_at v n within long =
     weave_vector v (n % 16) ((64 * (n % 2) + n / 2) / 16) ((64 * (n % 2) + n / 2) % 16) (n / 16) (omega arith) (omega arith) long (omega arith) (omega arith)
 
--- the places of the vectors of eight rows, of which the last ones are woven three times
+-- the places of the vectors of eight rows after interleaving three times
 pub thrice_at : (v one two three : List (List ℕ)) (k x : ℕ) → k < 8 → x < 16
     → ((n : ℕ) → n < 128 → woven_at one n ≡ woven_at v (64 * (n % 2) + n / 2)) → ((n : ℕ) → n < 128 → woven_at two n ≡ woven_at one (64 * (n % 2) + n / 2)) → ((n : ℕ) → n < 128 → woven_at three n ≡ woven_at two (64 * (n % 2) + n / 2))
     → woven_at three (8 * x + k) ≡ woven_at v (16 * k + x)
@@ -94,13 +93,13 @@ thrice_at v one two three k x few within first second third =
     let cd : 64 * (c % 2) + c / 2 ≡ 16 * k + x = omega arith in
     third a (omega arith) ∙ ap (woven_at two) ab ∙ second b (omega arith) ∙ ap (woven_at one) bc ∙ first c (omega arith) ∙ ap (woven_at v) cd
 
--- ---- the columns of a list, of which a part was written
+-- ---- the columns of a list of which a part was written
 
--- from its first column on a row's own value stands there
+-- from its first column on, the value is the row's own
 pub value-within : (row : List ℕ) (x behind : ℕ) → behind ≤ x → value_behind row x behind ≡ get_or row (x - behind) 0
 value-within row x behind from = ap (λ b. cond b 0 (get_or row (x - behind) 0)) (le-ltb x behind from)
 
--- a vector more of a block
+-- one more vector of a block
 pub block_more : (rows : List (Bor (List ℕ))) (first k at cut : ℕ) (columns part : List ℕ) (woven : List (List ℕ)) → at ≡ 8 * first + 16 * k → cut ≡ 16 → at + cut ≤ length columns
     → length part ≡ cut → part ≡ get_or woven k [] → (m : ℕ) → m < 16 * (k + 1) → ((m : ℕ) → m < 16 * k → get_or columns (8 * first + m) 0 ≡ woven_at woven m)
     → get_or (put_mid at cut columns part) (8 * first + m) 0 ≡ woven_at woven m
@@ -114,13 +113,13 @@ block_more rows first k at cut columns part woven at_is cut_is room long part_is
           ∙ ap (λ n. get_or part n 0) place ∙ ap (λ list. get_or list (m % 16) 0) part_is ∙ ap (λ n. get_or (get_or woven n []) (m % 16) 0) vector)
     ]
 
--- what stood before a part
+-- the columns before a part that was written
 pub columns_before : (rows : List (Bor (List ℕ))) (lag first at cut : ℕ) (columns part : List ℕ) → HasColumns rows lag first columns → 8 * first ≤ at → at + cut ≤ length columns → HasColumns rows lag first (put_mid at cut columns part)
 columns_before rows lag first at cut columns part has behind room = record {
   each = λ k x few within. part_below at cut columns part (8 * x + k) room (omega arith) ∙ has.each k x few within;
 }
 
--- a block behind the columns before it
+-- a block after the columns before it
 pub block_done : (rows : List (Bor (List ℕ))) (lag first : ℕ) (columns : List ℕ) (v woven : List (List ℕ)) → 7 * lag ≤ first → HasColumns rows lag first columns → ((m : ℕ) → m < 128 → get_or columns (8 * first + m) 0 ≡ woven_at woven m)
     → ((k x : ℕ) → k < 8 → x < 16 → woven_at woven (8 * x + k) ≡ woven_at v (16 * k + x)) → ((k x : ℕ) → k < 8 → x < 16 → woven_at v (16 * k + x) ≡ get_or (row_in rows k) (first - lag * k + x) 0)
     → HasColumns rows lag (first + 16) columns

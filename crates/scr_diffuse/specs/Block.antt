@@ -7,17 +7,17 @@ use Rattle.scr_diffuse.specs.Diffusers.{bit_of}
 use Rattle.scr_diffuse.specs.Diffusion.{diffused_bit, error_left, v_below}
 use Rattle.scr_diffuse.specs.Passes.{number_at}
 
--- the rows that are taken next, and the front of the page that the rows taken before them make
+-- the rows to take next, and the front of the page that the rows taken before them make
 pub record BlockFront : Type 0 where
   pub held : List (List ℕ)
   pub front : PageFront
 
--- behind the rows that it holds
+-- after the buffered rows have been taken
 abbrev pub behind_held : BlockFront → BlockFront
 behind_held block = record block { front = record block.front { rows = block.front.rows ++ block.held } }
 
--- the error left of column x in the row above row k of a block; a list holds those above the block, with a
--- margin of one place
+-- the error to the left of column x in the row above row k of a block. `errors` holds those of the row above
+-- the block, with a margin of one place
 unfoldable pub block_left : List ℤ → List (List ℕ) → ℕ → ℕ → ℤ
 block_left errors rows zero x = number_at errors x
 block_left errors rows (suc k) x =
@@ -27,14 +27,14 @@ block_left errors rows (suc k) x =
 abbrev pub block_v : List ℤ → List (List ℕ) → ℕ → ℕ → ℤ
 block_v errors rows k x = v_below (λ y. block_left errors rows k (y + 1)) (slice_index_or rows k []) x
 
--- a list holds the errors below these rows, and behind those of a row 0 alone
+-- a list holds the errors of the last of these rows, as `AreBelow` says, and only 0 past the row's width
 pub record HoldsBelow (rows : List (List ℕ)) (width : ℕ) (errors : List ℤ) : Type 0 where
   pub room : length errors ≡ width + 16
   pub below : AreBelow rows errors
   pub right : (k : ℕ) → width < k → number_at errors k ≡ pos 0
 
--- what a diffuser of blocks holds: the eight rows that are taken next, the errors below all rows that were
--- taken, and the pixels of the last eight of them, of which row k stands in bit k, 2k columns behind
+-- what a `BlockDiffuser` keeps: the eight rows to take next, the errors of the last row taken, and the pixels
+-- of the last eight rows taken; row k is in bit k, 2k columns behind
 pub record HoldsBlock (rows held : List (List ℕ)) (errors : List ℤ) (dots columns : List ℕ) : Type 0 where
   pub width : ℕ
   pub eight : length held ≡ 8

@@ -1,19 +1,19 @@
--- What a diffuser shows, and what it keeps.
+-- What contracts see of a diffuser, and what it keeps.
 use Rattle.std.specs.Prelude.{◌≡◌, ℕ, ◌+◌, ◌-◌, ℤ, pos, List, flat_map, length}
 use Rattle.scr_diffuse.specs.Diffusion.{error_above, left_of, IsError}
 use Rattle.scr_diffuse.specs.Passes.{number_at}
 
--- the front of a page: its width, and its first rows of values
+-- the front of a page: its width in pixels, and its first rows of values
 pub record PageFront : Type 0 where
   pub width : ℕ
   pub rows : List (List ℕ)
 
--- the rows that were handed in, some at a time
+-- the rows of some steps, in order
 abbrev pub joined : List (List (List ℕ)) → List (List ℕ)
 joined steps = flat_map (λ rows. rows) steps
 
--- a list holds the errors of the last of these rows, which are 0 before the first row, behind a place that
--- holds 0; each is small enough for the sums that are made of it
+-- a list holds the errors of the last of these rows, after a place that holds 0; without rows all errors are
+-- 0. Each is small enough for the sums made from it
 pub record AreBelow (rows : List (List ℕ)) (errors : List ℤ) : Type 0 where
   pub margined : (k : ℕ) → number_at errors k ≡ left_of (λ x. error_above rows x (length rows)) k
   pub small : (k : ℕ) → IsError (number_at errors k)

@@ -9,41 +9,42 @@ abbrev pub ArePixels : List (List ℕ) → Type 0
 ArePixels rows = (x y : ℕ) → slice_index (slice_index_or rows y []) x ≤ 255
 
 -- v of a pixel, from its value and the errors of four neighbours: a sixteenth of a weighted sum, rounded down
+-- (Floyd and Steinberg 1976)
 abbrev pub corrected : ℕ → ℤ → ℤ → ℤ → ℤ → ℤ
 corrected value left above_right above above_left =
     int_div_euclid
     ((pos (16 * value)) +ℤ (pos 7 *ℤ left) +ℤ (pos 3 *ℤ above_right) +ℤ (pos 5 *ℤ above) +ℤ above_left)
     (pos 16)
 
--- a pixel prints from the middle of the scale on
+-- a pixel prints where v is 128, the middle of the scale, or more
 abbrev pub prints : ℤ → Bool
 prints v = le_z (pos 128) v
 
--- the error of a pixel: v without the 255 of a dot
+-- the error of a pixel: v, less 255 where it prints
 abbrev pub error_of : ℤ → ℤ
 error_of v = (if prints v then (v -ℤ pos 255) else v)
 
--- the errors that are met lie between these two
+-- the bounds of an error
 pub record IsError (e : ℤ) : Type 0 where
   pub low : (neg_ℤ (pos 127)) ≤ℤ e
   pub high : e ≤ℤ pos 127
 
--- what stands one column to the left, 0 left of the page
+-- the error one column to the left; 0 left of the page
 abbrev pub left_of : (ℕ → ℤ) → ℕ → ℤ
 left_of errors zero = pos 0
 left_of errors (suc x) = errors x
 
--- v in column x of a row of values, below a row with these errors and right of that one
+-- v in column x of a row of values, from the errors of the row above and the error to the left
 abbrev pub v_in : (ℕ → ℤ) → List ℕ → ℤ → ℕ → ℤ
 v_in above row left x = corrected (slice_index row x) left (above (x + 1)) (above x) (left_of above x)
 
--- the error left of column x in a row of values, below a row with these errors; 0 outside the page
+-- the error to the left of column x in a row of values, from the errors of the row above; 0 outside the page
 unfoldable pub error_left : (ℕ → ℤ) → List ℕ → ℕ → ℤ
 error_left above row zero = pos 0
 error_left above row (suc x) =
     (if nat_lt x (length row) then error_of (v_in above row (error_left above row x) x) else pos 0)
 
--- v in column x of a row of values, below a row with these errors
+-- v in column x of a row of values, from the errors of the row above
 abbrev pub v_below : (ℕ → ℤ) → List ℕ → ℕ → ℤ
 v_below above row x = v_in above row (error_left above row x) x
 

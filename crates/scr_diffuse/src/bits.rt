@@ -1,4 +1,5 @@
-// Packed pixels from the numbers v of a row: whole bytes by eight compares at a time, the ragged ends apart.
+// Packed pixels from the numbers v of a row: whole bytes with eight comparisons each, the pixels at both ends
+// one by one.
 ghost use Rattle.std.specs.Prelude.{◌≡◌, ℕ, ◌+◌, ◌*◌, ◌^◌, ◌<◌, ◌≤◌, ◌%◌, length};
 ghost use Rattle.pr_base.specs.Bits.{byte_bit, SetsBits};
 ghost use Rattle.scr_diffuse.specs.Diffusion.{prints};
@@ -8,8 +9,8 @@ use crate::passes::MIDDLE;
 use pr_base::set_bit;
 use std::simd::prelude::*;
 
-/// Sets the pixels from `from` on, each where its number prints: first those up to a whole byte, then whole
-/// bytes, then the rest.
+/// Writes the pixels from `from` on; each is set where its number prints. The pixels before a byte boundary
+/// come first, then whole bytes, then the rest.
 pub(crate) fn set_row(numbers: &[i16], bits: &mut [u8], from: u32)
     requires room { from + length numbers.now ≤ 8 * length bits.old }
     requires range { AreWords numbers.now }
@@ -23,7 +24,7 @@ pub(crate) fn set_row(numbers: &[i16], bits: &mut [u8], from: u32)
     set_bits(&numbers[done..], bits, from + done);
 }
 
-/// Sets the pixels from `from` on one by one.
+/// Writes the pixels from `from` on, one by one.
 fn set_bits(numbers: &[i16], bits: &mut [u8], from: usize)
     requires room { from + length numbers.now ≤ 8 * length bits.old }
     requires fits { from + length numbers.now < 2 ^ 64 }
@@ -34,7 +35,7 @@ fn set_bits(numbers: &[i16], bits: &mut [u8], from: usize)
     }
 }
 
-/// Sets the pixels of whole bytes, from byte `first` on.
+/// Writes the pixels of whole bytes, from byte `first` on.
 fn set_bytes(numbers: &[i16], bits: &mut [u8], first: usize)
     requires whole { length numbers.now % 8 ≡ 0 }
     requires room { 8 * first + length numbers.now ≤ 8 * length bits.old }
@@ -47,7 +48,7 @@ fn set_bytes(numbers: &[i16], bits: &mut [u8], first: usize)
     }
 }
 
-/// Eight pixels, the first as the highest bit.
+/// Packs eight pixels into a byte; the first is the highest bit.
 fn byte_of(numbers: &[i16]) -> u8
     requires whole { length numbers.now ≡ 8 }
     requires range { AreWords numbers.now }

@@ -1,5 +1,5 @@
-// Eight rows of one page at once: at each step row k stands two columns behind the row above it, so that what
-// it takes from there is made.
+// Diffuses eight rows of one page at once. At each step row k is two columns behind the row above it, so the
+// errors that it needs from that row have been made.
 ghost use Rattle.std.specs.Prelude.{◌≡◌, ℕ, ◌+◌, ◌*◌, ◌^◌, ◌<◌, ◌≤◌, length, pos, slice_index, FitsSigned};
 ghost use Rattle.std.specs.Int.{w16};
 ghost use Rattle.scr_diffuse.specs.Block.{block_left, block_v};
@@ -12,16 +12,17 @@ use crate::lanes::{column_at, dots_of, errors_of, last_of, moved_on};
 use crate::weave::set_columns;
 use std::simd::prelude::*;
 
-/// How many columns a row stands behind the one above it. An error goes to the pixel below it, and to those
-/// beside that one, so with one column less the right one of them were missing.
+/// How many columns each row is behind the one above it. A pixel takes errors from the pixel above it and
+/// from both neighbours of that one; with a lag of one column, the error from above right would not be made
+/// yet.
 const LAG: usize = 2;
 
-/// How many columns the last row stands behind the first one.
+/// How many columns the last row is behind the first.
 pub(crate) const LAST_LAG: usize = 7 * LAG;
 
-/// Makes of eight rows of a page the pixels: that in column x of row k is bit k of byte x + 2k. `errors` are
-/// those of the row above, with a margin of one place, and become those of the last row. `columns` is room
-/// for the values.
+/// Diffuses eight rows of a page. Bit k of `dots[x + 2k]` becomes whether the pixel in column x of row k
+/// prints. `errors` holds the errors of the row above, that of column x at x + 1, and afterwards those of the
+/// last row. `columns` is scratch space for the values.
 pub(crate) fn diffuse_block(
     values: &[&[u8]; 8],
     errors: &mut [i16],
@@ -65,8 +66,9 @@ pub(crate) fn diffuse_block(
     }
 }
 
-/// The errors above to the right of the pixels of a step: for the first row that above the block, and for
-/// each other row that which the row above it made in the step before, of which these are all.
+/// Returns the error above and to the right of each row's pixel in a step. For the first row it comes from
+/// the row above the block; for each other row, from the row above it, which made it in the step before.
+/// `made` holds all errors of that step.
 #[inline(always)]
 fn errors_above(errors: &[i16], step: usize, made: i16x8) -> i16x8
     requires room { step + 2 < length errors.now }
@@ -80,8 +82,8 @@ fn errors_above(errors: &[i16], step: usize, made: i16x8) -> i16x8
     moved_on(errors[step + 2], made)
 }
 
-/// The errors that were made in a step, and 0 for each row that stands before its first column or behind its
-/// last one.
+/// Returns the errors that a step made, with 0 for each row that has not reached its first column or is past
+/// its last.
 #[inline(always)]
 fn within(errors: i16x8, step: usize, width: usize) -> i16x8
     requires eight { length errors ≡ 8 }
@@ -102,7 +104,7 @@ fn within(errors: i16x8, step: usize, width: usize) -> i16x8
     i16x8::from_array(numbers)
 }
 
-/// The error of one row.
+/// Returns the error of one row, or 0 outside the row's columns.
 fn error_within(error: i16, k: usize, step: usize, width: usize) -> i16
     requires row { k < 8 }
     requires fits { width + 14 < 2 ^ 64 }

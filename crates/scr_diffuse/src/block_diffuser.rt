@@ -1,4 +1,4 @@
-// Error diffusion of one page, eight rows at a time, and room for the next eight.
+// Error diffusion of one page, eight rows at a time, with a buffer for the next eight rows.
 ghost use Rattle.std.specs.Prelude.{◌≡◌, ◌+◌, ◌-◌, ◌*◌, ◌<◌, ◌≤◌, IfOk, [], length, slice_set};
 ghost use Rattle.pr_base.specs.Bits.{SetsBits};
 ghost use Rattle.scr_diffuse.specs.Block.{behind_held};
@@ -13,19 +13,19 @@ use pr_base::NoMemory;
 use std::alloc::Global;
 use std::marker::Model;
 
-/// Stands at a row of a page, and holds the errors of the row above, the pixels of the last eight rows, and
-/// the values of the eight rows that are taken next. One page alone goes faster so than by `Diffusers`, where
-/// it has one of eight lanes. Contracts see the rows that it holds, and the front of the page: its width in
-/// pixels, and the rows of values that were taken since the start or `restart`.
+/// Diffuses one page, eight rows a step. It keeps the errors of the last row taken, the pixels of the last
+/// eight rows, and a buffer of the next eight rows of values. For a single page it is faster than
+/// `Diffusers`, which would use one of its eight lanes. Contracts see the buffered rows and the front of the
+/// page: its width in pixels, and the rows of values taken since the start or `restart`.
 #[derive(Debug, Drop)]
 pub struct BlockDiffuser {
-    /// The eight rows that are taken next, of a value for each pixel.
+    /// The eight rows to take next, a value for each pixel.
     held: Vec<HeldRow>,
-    /// The error of pixel x of the row above stands at x + 1, between places that hold 0.
+    /// The error of pixel x of the row above is at x + 1; the places around the errors hold 0.
     errors: Vec<i16>,
-    /// Whether pixel x of row k prints is bit k of byte x + 2k.
+    /// Bit k of byte x + 2k: whether pixel x of row k prints.
     dots: Vec<u8>,
-    /// Room for the values of the rows that are taken, side by side.
+    /// Scratch space for the values of the rows of a step, interleaved.
     columns: Vec<u8>,
     rows: History,
 }
@@ -47,7 +47,8 @@ impl Model for BlockDiffuser {
 }
 
 impl BlockDiffuser {
-    /// Stands before row 0 of a page of `width` pixels a row. The eight rows that it holds are any.
+    /// Makes a diffuser before row 0 of a page of `width` pixels a row. The contents of its eight buffered
+    /// rows are unspecified.
     pub fn new(alloc: Global, width: u32) -> Result<BlockDiffuser, NoMemory>
         ensures front { IfOk result (λ diffuser. diffuser.front ≡ record { width = width; rows = [] }) }
         ensures eight { IfOk result (λ diffuser. length diffuser.held ≡ 8) }
@@ -62,7 +63,7 @@ impl BlockDiffuser {
         })
     }
 
-    /// Goes back before row 0, of the same page or of another one of this width.
+    /// Restarts before row 0, of the same page or of another one of this width.
     #[tactic(auto, using(crate::proofs::BlockLemmas::block_restarted))]
     pub fn restart(&mut self)
         ensures { self.new ≡ record self.old { front = record self.old.front { rows = [] } } }
@@ -71,8 +72,8 @@ impl BlockDiffuser {
         self.rows = History::new();
     }
 
-    /// Holds the values of row `k` of the eight that are taken next: one for each pixel of the width, from 0,
-    /// no ink, to 255. The other rows stay.
+    /// Buffers the values of row `k` of the next eight: one for each pixel, from 0, no ink, to 255. The other
+    /// rows are unchanged.
     pub fn put(&mut self, k: usize, values: &[u8])
         requires k { k < 8 }
         requires width { length values.now ≡ self.old.front.width }
@@ -81,8 +82,8 @@ impl BlockDiffuser {
         self.held[k].set(values);
     }
 
-    /// Takes the eight rows that it holds, and goes on to hold them. Behind the last row of a page any may
-    /// stand.
+    /// Diffuses the eight buffered rows, which stay in the buffer. Rows past the last one of a page may hold
+    /// anything.
     pub fn advance(&mut self)
         ensures { self.new ≡ behind_held self.old }
     {
@@ -96,8 +97,8 @@ impl BlockDiffuser {
         self.rows = self.rows.then(&Rows { values: &values });
     }
 
-    /// Sets the pixels of one of the last eight rows: pixel `from + x` of `bits` is set where the diffusion
-    /// prints value `x` of it.
+    /// Writes the pixels of one of the last eight rows: sets pixel `from + x` of `bits` where the diffusion
+    /// prints value `x` of that row, and clears it elsewhere.
     pub fn draw(&self, row: usize, bits: &mut [u8], from: u32)
         requires row { row < 8 }
         requires taken { 8 ≤ length self.now.front.rows }

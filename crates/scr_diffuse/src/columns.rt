@@ -1,4 +1,5 @@
-// One row of eight pages, column by column, from the errors of the rows above to the pixels and the errors.
+// One row of each of eight pages, column by column: from the errors of the rows above to the pixels and
+// errors of these rows.
 ghost use Rattle.std.specs.Prelude.{◌≡◌, ℕ, ◌+◌, ◌*◌, ◌<◌, ◌≤◌, ◌+ℤ◌, ◌*ℤ◌, length, pos, slice_index};
 ghost use Rattle.scr_diffuse.specs.Diffusers.{AreErrors, AreValues, bit_of, lane_at, lane_of, row_in};
 ghost use Rattle.scr_diffuse.specs.Diffusion.{IsError, error_left, prints, v_below};
@@ -8,9 +9,9 @@ use crate::lanes::{column_at, dots_of, errors_of, load, plus, settled, store, ti
 use crate::weave::set_columns;
 use std::simd::prelude::*;
 
-/// Makes of eight rows of values the pixels, bit k of a byte for row k. `errors` are those of the rows above,
-/// in lane k those of row k, with a margin of one place on both sides, and become those of these rows.
-/// `columns` is room for the values.
+/// Diffuses a row of each of eight pages. Bit k of `dots[x]` becomes whether pixel x of page k prints. Lane k
+/// of `errors` holds the errors of the row above in page k, with a margin of one place on both sides, and
+/// afterwards those of this row. `columns` is scratch space for the values.
 pub(crate) fn diffuse_rows(
     values: &[&[u8]; 8],
     errors: &mut [[i16; 8]],
@@ -46,7 +47,8 @@ pub(crate) fn diffuse_rows(
     }
 }
 
-/// The whole sums of a column. What comes from the left waits for the column before, so it is added last.
+/// Returns the whole sums of a column. The error from the left depends on the column before, so it is added
+/// last.
 #[inline(always)]
 pub(crate) fn whole_sums(
     values: i16x8,

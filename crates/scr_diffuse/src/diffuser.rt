@@ -1,4 +1,4 @@
-// Error diffusion from one row of a page to the next.
+// Error diffusion of one page, row by row.
 ghost use Rattle.std.specs.Prelude.{◌≡◌, ℕ, ◌+◌, ◌*◌, ◌<◌, ◌≤◌, IfOk, [], ◌∷◌, ◌++◌, length};
 ghost use Rattle.pr_base.specs.Bits.{bit_at};
 ghost use Rattle.scr_diffuse.specs.Diffusion.{diffused_bit};
@@ -9,11 +9,11 @@ use pr_base::NoMemory;
 use std::alloc::Global;
 use std::marker::Model;
 
-/// Stands at a row of a page, and holds the errors of the row above. Contracts see the front of the page: its
-/// width in pixels, and the rows of values that were handed in since the start or `restart`.
+/// Diffuses one page, and keeps the errors of the row above. Contracts see the front of the page: its width
+/// in pixels, and the rows of values diffused since the start or `restart`.
 #[derive(Debug, Drop)]
 pub struct Diffuser {
-    /// The error of pixel x of the row above stands at x + 1, between two places that hold 0.
+    /// The error of pixel x of the row above is at x + 1, between two places that hold 0.
     errors: Vec<i16>,
     rows: History,
 }
@@ -30,7 +30,7 @@ impl Model for Diffuser {
 }
 
 impl Diffuser {
-    /// Stands before row 0 of a page of `width` pixels a row.
+    /// Makes a diffuser before row 0 of a page of `width` pixels a row.
     pub fn new(alloc: Global, width: u32) -> Result<Diffuser, NoMemory>
         ensures { IfOk result (λ diffuser. diffuser ≡ record { width = width; rows = [] }) }
     {
@@ -40,7 +40,7 @@ impl Diffuser {
         })
     }
 
-    /// Goes back before row 0, of the same page or of another one of this width.
+    /// Restarts before row 0, of the same page or of another one of this width.
     pub fn restart(&mut self)
         ensures { self.new ≡ record self.old { rows = [] } }
     {
@@ -48,7 +48,8 @@ impl Diffuser {
         self.rows = History::new();
     }
 
-    /// Writes the next row: pixel `from + x` of `bits` is set where the diffusion prints value `x`.
+    /// Diffuses the next row: sets pixel `from + x` of `bits` where the diffusion prints value `x`, and
+    /// clears it elsewhere.
     pub fn row(&mut self, values: &[u8], bits: &mut [u8], from: u32)
         requires width { length values.now ≡ self.old.width }
         requires room { from + self.old.width ≤ 8 * length bits.old }

@@ -1,4 +1,4 @@
-// Error diffusion of eight pages at once: none waits for another, so each step is made for all of them.
+// Error diffusion of eight pages at once. The pages are independent, so each step is made for all of them.
 ghost use Rattle.std.specs.Prelude.{◌≡◌, ℕ, ◌+◌, ◌-◌, ◌*◌, ◌<◌, ◌≤◌, IfOk, [], ◌∷◌, ◌++◌, length, pos};
 ghost use Rattle.pr_base.specs.Bits.{SetsBits};
 ghost use Rattle.scr_diffuse.specs.Diffusers.{lane_at, page_in, row_in, rows_in};
@@ -11,17 +11,17 @@ use pr_base::NoMemory;
 use std::alloc::Global;
 use std::marker::Model;
 
-/// Stands at a row of eight pages of one width, and holds the errors of the rows above and the pixels of the
-/// rows handed in last. Contracts see the fronts of the pages: their width in pixels, and the rows of values
-/// that were handed in since the start or `restart`, eight at a time.
+/// Diffuses eight pages of one width, a row of each a step. It keeps the errors of the rows above and the
+/// pixels of the last rows. Contracts see the fronts of the pages: their width in pixels, and the rows of
+/// values taken since the start or `restart`, eight at a time.
 #[derive(Debug, Drop)]
 pub struct Diffusers {
-    /// The error of pixel x of page k's row above stands in lane k at x + 1, between two places that hold 0.
-    /// The lanes are not parted from row to row: what a step reads and writes then stands side by side.
+    /// The error of pixel x of page k's row above is in lane k at x + 1, between two places that hold 0. The
+    /// lanes stay interleaved from row to row, so what a step reads and writes is contiguous.
     errors: Vec<[i16; 8]>,
-    /// Whether pixel x of page k's last row prints is bit k of byte x.
+    /// Bit k of byte x: whether pixel x of page k's last row prints.
     dots: Vec<u8>,
-    /// Room for the values of the rows that are handed in, side by side.
+    /// Scratch space for the values of the rows of a step, interleaved.
     columns: Vec<u8>,
     rows: History,
 }
@@ -38,7 +38,7 @@ impl Model for Diffusers {
 }
 
 impl Diffusers {
-    /// Stands before row 0 of eight pages of `width` pixels a row.
+    /// Makes a diffuser before row 0 of eight pages of `width` pixels a row.
     pub fn new(alloc: Global, width: u32) -> Result<Diffusers, NoMemory>
         ensures { IfOk result (λ diffusers. diffusers ≡ record { width = width; rows = [] }) }
     {
@@ -50,7 +50,7 @@ impl Diffusers {
         })
     }
 
-    /// Goes back before row 0, of the same pages or of others of this width.
+    /// Restarts before row 0, of the same pages or of others of this width.
     pub fn restart(&mut self)
         ensures { self.new ≡ record self.old { rows = [] } }
     {
@@ -58,7 +58,7 @@ impl Diffusers {
         self.rows = History::new();
     }
 
-    /// Takes the next row of each page.
+    /// Diffuses the next row of each page.
     pub fn advance(&mut self, values: [&[u8]; 8])
         requires width { (k : ℕ) → k < 8 → length (row_in values k) ≡ self.old.width }
         ensures { self.new ≡ record self.old { rows = self.old.rows ++ rows_in values.entry ∷ [] } }
@@ -72,8 +72,8 @@ impl Diffusers {
         self.rows = self.rows.then(&Rows { values: &values });
     }
 
-    /// Sets the pixels of a page's last row: pixel `from + x` of `bits` is set where the diffusion prints
-    /// value `x` of it.
+    /// Writes the pixels of a page's last row: sets pixel `from + x` of `bits` where the diffusion prints
+    /// value `x` of that row, and clears it elsewhere.
     pub fn draw(&self, page: usize, bits: &mut [u8], from: u32)
         requires page { page < 8 }
         requires handed { 0 < length self.now.rows }
@@ -85,7 +85,7 @@ impl Diffusers {
     }
 }
 
-/// Makes the errors those above the first rows: all are 0.
+/// Sets all errors to 0, as above the first rows.
 fn clear(errors: &mut [[i16; 8]])
     ensures { (p k : ℕ) → lane_at errors.new p k ≡ pos 0 }
 {

@@ -1,5 +1,5 @@
-// Packed pixels from the bits of columns. A column holds a pixel of each of eight pages, or of each of eight
-// rows of one page, bit k for lane k.
+// Packed pixels from the bits of columns. A column holds one pixel of each of eight pages, or of each of
+// eight rows of one page; bit k belongs to lane k.
 ghost use Rattle.std.specs.Prelude.{◌≡◌, ℕ, ◌+◌, ◌*◌, ◌^◌, ◌<◌, ◌≤◌, ◌%◌, length, slice_index};
 ghost use Rattle.pr_base.specs.Bits.{byte_bit, SetsBits};
 ghost use Rattle.scr_diffuse.specs.Diffusers.{bit_of};
@@ -7,8 +7,8 @@ ghost use Rattle.scr_diffuse.specs.Diffusers.{bit_of};
 use pr_base::set_bit;
 use std::simd::prelude::*;
 
-/// Sets the pixels from `from` on, each where bit `lane` of its column is set: first those up to a whole
-/// byte, then whole bytes, then the rest.
+/// Writes the pixels from `from` on; each is set where bit `lane` of its column is set. The pixels before a
+/// byte boundary come first, then whole bytes, then the rest.
 pub(crate) fn set_dots(columns: &[u8], lane: usize, bits: &mut [u8], from: u32)
     requires lane { lane < 8 }
     requires room { from + length columns.now ≤ 8 * length bits.old }
@@ -23,7 +23,7 @@ pub(crate) fn set_dots(columns: &[u8], lane: usize, bits: &mut [u8], from: u32)
     set_bits(&columns[done..], lane, bits, from + done);
 }
 
-/// Sets the pixels from `from` on one by one.
+/// Writes the pixels from `from` on, one by one.
 fn set_bits(columns: &[u8], lane: usize, bits: &mut [u8], from: usize)
     requires lane { lane < 8 }
     requires room { from + length columns.now ≤ 8 * length bits.old }
@@ -36,7 +36,7 @@ fn set_bits(columns: &[u8], lane: usize, bits: &mut [u8], from: usize)
     }
 }
 
-/// Sets the pixels of whole bytes, from byte `first` on.
+/// Writes the pixels of whole bytes, from byte `first` on.
 fn set_bytes(columns: &[u8], lane: usize, bits: &mut [u8], first: usize)
     requires lane { lane < 8 }
     requires whole { length columns.now % 8 ≡ 0 }
@@ -49,7 +49,7 @@ fn set_bytes(columns: &[u8], lane: usize, bits: &mut [u8], first: usize)
     }
 }
 
-/// Eight pixels, the first as the highest bit.
+/// Packs eight pixels into a byte; the first is the highest bit.
 fn byte_of(columns: &[u8], lane: usize) -> u8
     requires lane { lane < 8 }
     requires whole { length columns.now ≡ 8 }

@@ -1,4 +1,4 @@
-// Room for the values of the rows that are diffused next.
+// Buffers for the values of the rows to diffuse next.
 ghost use Rattle.std.specs.Prelude.{◌≡◌, IfOk, length};
 ghost use Rattle.std.specs.List.{All};
 ghost use Rattle.scr_diffuse.specs.Diffusers.{rows_in};
@@ -7,7 +7,7 @@ use pr_base::NoMemory;
 use std::alloc::Global;
 use std::marker::Model;
 
-/// The values of one row, which contracts see.
+/// The values of one row. Contracts see the list of them.
 #[derive(Debug, Drop)]
 pub(crate) struct HeldRow {
     values: Vec<u8>,
@@ -22,14 +22,14 @@ impl Model for HeldRow {
 }
 
 impl HeldRow {
-    /// Its values.
+    /// Returns the values.
     fn values(&self) -> &[u8]
         ensures { result.now ≡ self.now }
     {
         &self.values
     }
 
-    /// Becomes these values.
+    /// Replaces the values.
     pub(crate) fn set(&mut self, values: &[u8])
         requires { length values.now ≡ length self.old }
         ensures { self.new ≡ values.now }
@@ -38,7 +38,7 @@ impl HeldRow {
     }
 }
 
-/// Eight rows of so many values.
+/// Allocates eight rows of `width` values.
 pub(crate) fn held_rows(alloc: Global, width: usize) -> Result<Vec<HeldRow>, NoMemory>
     ensures eight { IfOk result (λ rows. length rows.items ≡ 8) }
     ensures wide { IfOk result (λ rows. All (λ row. length row ≡ width) rows.items) }
@@ -52,7 +52,7 @@ pub(crate) fn held_rows(alloc: Global, width: usize) -> Result<Vec<HeldRow>, NoM
     Ok(rows)
 }
 
-/// The values of eight rows.
+/// Returns the values of eight rows.
 pub(crate) fn values_of(rows: &[HeldRow]) -> [&[u8]; 8]
     requires { length rows.now ≡ 8 }
     ensures { rows_in result ≡ rows.now }

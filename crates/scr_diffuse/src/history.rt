@@ -1,5 +1,5 @@
-// The rows that a diffuser was handed, step by step. They exist only in proofs: no memory holds them, and no
-// step is taken.
+// The rows that a diffuser took, step by step. They exist only in proofs: at run time they take no memory and
+// no time.
 ghost use Rattle.std.specs.Prelude.{◌≡◌, List, ℕ, [], ◌∷◌, ◌++◌};
 ghost use Rattle.std.specs.Borrow.{ftrue};
 ghost use Rattle.std.specs.Coded.{coded_list, coded_ℕ};
@@ -16,10 +16,10 @@ impl Model for History {
     ghost also_owns = { λ _. ftrue };
 }
 
-// It owns nothing.
+// SAFETY: a history owns nothing.
 unsafe impl Send for History {}
 
-/// The rows that are handed in at once.
+/// The rows of one step.
 #[derive(Drop)]
 pub(crate) struct Rows<'a> {
     pub values: &'a [&'a [u8]],

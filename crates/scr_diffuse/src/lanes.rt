@@ -1,4 +1,4 @@
-// Eight numbers side by side, a lane for each of eight pages, or of eight rows of one page.
+// Eight numbers in a vector: a lane for each of eight pages, or for each of eight rows of one page.
 ghost use Rattle.std.specs.Prelude.{◌≡◌, ◌≢◌, ℕ, ◌+◌, ◌*◌, ◌<◌, ◌≤◌, ◌+ℤ◌, ◌*ℤ◌, ◌≤ℤ◌, neg_ℤ, length, pos};
 ghost use Rattle.std.specs.Prelude.{FitsSigned, slice_index};
 ghost use Rattle.std.specs.Int.{w16};
@@ -9,7 +9,7 @@ ghost use Rattle.scr_diffuse.specs.Passes.{floor_16, number_at};
 use crate::passes::{DOT, MIDDLE};
 use std::simd::prelude::*;
 
-/// The sum of two numbers in each lane.
+/// Adds two numbers in each lane.
 #[inline(always)]
 pub(crate) fn plus(a: i16x8, b: i16x8) -> i16x8
     requires a { length a ≡ 8 }
@@ -22,7 +22,7 @@ pub(crate) fn plus(a: i16x8, b: i16x8) -> i16x8
     a + b
 }
 
-/// The product with one factor in each lane.
+/// Multiplies each lane by a factor.
 #[inline(always)]
 pub(crate) fn times(factor: i16, a: i16x8) -> i16x8
     requires { length a ≡ 8 }
@@ -34,8 +34,8 @@ pub(crate) fn times(factor: i16, a: i16x8) -> i16x8
     a * i16x8::splat(factor)
 }
 
-/// The same numbers. The compare, which changes none of them, keeps a compiler from adding to them in an
-/// order of its own: what waits longest is then added last.
+/// Returns the same numbers. The comparison changes none of them; it keeps the compiler from reordering the
+/// additions, so that the addend that is ready last is added last.
 #[inline(always)]
 pub(crate) fn settled(a: i16x8) -> i16x8
     requires { length a ≡ 8 }
@@ -46,8 +46,8 @@ pub(crate) fn settled(a: i16x8) -> i16x8
     a.simd_max(i16x8::splat(-2000))
 }
 
-/// The errors of pixels, from their whole sums: a sixteenth, rounded down, and without the dot where one
-/// stands.
+/// Returns the errors of pixels from their whole sums: a sixteenth, rounded down, less 255 where the pixel
+/// prints.
 #[inline(always)]
 pub(crate) fn errors_of(sums: i16x8) -> i16x8
     requires { length sums ≡ 8 }
@@ -61,7 +61,7 @@ pub(crate) fn errors_of(sums: i16x8) -> i16x8
             .select(i16x8::splat(DOT), i16x8::splat(0))
 }
 
-/// Which of the pixels print, from their whole sums, bit k for lane k.
+/// Returns which pixels print, from their whole sums; bit k belongs to lane k.
 #[inline(always)]
 pub(crate) fn dots_of(sums: i16x8) -> u8
     requires { length sums ≡ 8 }
@@ -71,7 +71,7 @@ pub(crate) fn dots_of(sums: i16x8) -> u8
     sums.simd_ge(i16x8::splat(16 * MIDDLE)).to_bitmask() as u8
 }
 
-/// The numbers one lane further on, behind a first one.
+/// Moves the numbers up by one lane, and puts `first` into lane 0.
 #[inline(always)]
 pub(crate) fn moved_on(first: i16, a: i16x8) -> i16x8
     requires { length a ≡ 8 }
@@ -83,7 +83,7 @@ pub(crate) fn moved_on(first: i16, a: i16x8) -> i16x8
     i16x8::splat(first).shuffle(a, [0, 8, 9, 10, 11, 12, 13, 14])
 }
 
-/// The number in the last lane.
+/// Returns the number in the last lane.
 #[inline(always)]
 pub(crate) fn last_of(a: i16x8) -> i16
     requires { length a ≡ 8 }
@@ -93,7 +93,7 @@ pub(crate) fn last_of(a: i16x8) -> i16
     numbers[7]
 }
 
-/// The numbers that stand at a place.
+/// Loads the eight numbers at a place.
 #[inline(always)]
 pub(crate) fn load(places: &[[i16; 8]], place: usize) -> i16x8
     requires { place < length places.now }
@@ -104,7 +104,7 @@ pub(crate) fn load(places: &[[i16; 8]], place: usize) -> i16x8
     i16x8::from_array(places[place])
 }
 
-/// Puts numbers to a place.
+/// Stores eight numbers at a place.
 #[inline(always)]
 pub(crate) fn store(places: &mut [[i16; 8]], place: usize, numbers: i16x8)
     requires place { place < length places.old }
@@ -116,7 +116,7 @@ pub(crate) fn store(places: &mut [[i16; 8]], place: usize, numbers: i16x8)
     places[place] = numbers.to_array();
 }
 
-/// The values that stand in a column of eight rows that lie side by side.
+/// Returns the values in column `x` of eight interleaved rows.
 #[inline(always)]
 pub(crate) fn column_at(columns: &[u8], x: usize) -> i16x8
     requires { 8 * x + 8 ≤ length columns.now }

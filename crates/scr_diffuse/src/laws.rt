@@ -1,10 +1,11 @@
-// What holds of the diffusion as it is defined.
+// Laws of error diffusion, proved from its definition.
 ghost use Rattle.std.specs.Prelude.{◌≡◌, ℕ, ◌+◌, ◌<◌, ◌≤◌, List, [], ◌∷◌, ◌++◌, length, pos, take};
 ghost use Rattle.std.specs.Prelude.{slice_index_or};
 ghost use Rattle.scr_diffuse.specs.Diffusers.{page_in};
 ghost use Rattle.scr_diffuse.specs.Diffusion.{ArePixels, IsError, diffused_bit, error_at, error_of, v_at};
 
-/// The errors of a page: inside it each is what its number v leaves, outside it is 0, and none passes 127.
+/// The errors of a page: inside the page each is the error of its number v, outside it is 0, and for values
+/// up to 255 each is from -127 to 127.
 pub fn error_law()
     ensures inside { (rows : List (List ℕ)) (x y : ℕ) → x < length (slice_index_or rows y []) →
         error_at rows x y ≡ error_of (v_at rows x y) }
@@ -19,9 +20,9 @@ pub fn row_law()
         diffused_bit rows x y ≡ diffused_bit other x y }
 {}
 
-/// Chains at once are the chains one by one. A step of `Diffusers` adds to each page its row of the eight,
-/// and row `k` of a block of `BlockDiffuser` has the pixels that it has where the rows behind it don't stand
-/// yet.
+/// Diffusing in lanes or in blocks agrees with diffusing row by row. A step of `Diffusers` appends to each
+/// page its row of the eight. Row `k` of a block of `BlockDiffuser` has the same pixels with and without the
+/// rows after it.
 pub fn lanes_law()
     ensures lanes { (rows : List (List (List ℕ))) (step : List (List ℕ)) (k : ℕ) →
         page_in (rows ++ step ∷ []) k ≡ (page_in rows k ++ slice_index_or step k [] ∷ []) }

@@ -1,5 +1,5 @@
-// Error diffusion: rows of ink values become rows of packed bits, each pixel's error going to the right and
-// to the row below.
+// Error diffusion (Floyd and Steinberg 1976): rows of ink values become rows of packed bits, and the error of
+// each pixel is carried to the right and to the row below.
 #![tactic(auto)]
 
 mod bits;

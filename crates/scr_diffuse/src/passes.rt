@@ -1,4 +1,5 @@
-// The passes over a row's numbers: what comes from the row above, what comes from the left, and the errors.
+// The passes over a row's numbers: adding the errors from the row above, adding those from the left, and
+// turning numbers into errors.
 ghost use Rattle.std.specs.Prelude.{◌≡◌, ℕ, ◌+◌, ◌-◌, ◌<◌, ◌≤◌, ◌≤ℤ◌, ◌+ℤ◌, ◌-ℤ◌, ◌*ℤ◌, length, pos};
 ghost use Rattle.std.specs.Prelude.{FitsSigned};
 ghost use Rattle.std.specs.Int.{w16};
@@ -6,15 +7,15 @@ ghost use Rattle.scr_diffuse.specs.Diffusion.{error_of, IsError};
 ghost use Rattle.scr_diffuse.specs.Passes.{AreWords, IsNumber, IsSum, number_at, sum_above, floor_16, v_from};
 ghost use Rattle.scr_diffuse.specs.Passes.{weighted};
 
-/// What a dot takes from the number of its pixel.
+/// The ink value of a dot, which is subtracted from the number v of a pixel that prints.
 pub(crate) const DOT: i16 = 255;
 
-/// The least number that prints.
+/// The least number v that prints.
 pub(crate) const MIDDLE: i16 = 128;
 
-/// Makes of the errors of the row above, with a margin of one place, what each pixel of a row begins with:
-/// sixteen times its value and the weighted errors above it. No sum waits for another,
-/// so many are made at a time.
+/// Replaces the errors of the row above, which have a margin of one place, by the partial sums of a row:
+/// sixteen times each value plus the weighted errors above it. The sums are independent, so many are computed
+/// at a time.
 pub(crate) fn add_above(values: &[u8], errors: &mut [i16])
     requires room { length errors.old ≡ length values.now + 2 }
     requires errors { (k : ℕ) → IsError (number_at errors.old k) }
@@ -27,7 +28,7 @@ pub(crate) fn add_above(values: &[u8], errors: &mut [i16])
     }
 }
 
-/// What a pixel begins with, from its value and the errors above it.
+/// Returns the partial sum of a pixel, from its value and the errors above it.
 fn sum_of(value: u8, above_right: i16, above: i16, above_left: i16) -> i16
     requires right { IsError above_right }
     requires here { IsError above }
@@ -37,8 +38,8 @@ fn sum_of(value: u8, above_right: i16, above: i16, above_left: i16) -> i16
     16 * i16::from(value) + 3 * above_right + 5 * above + above_left
 }
 
-/// Makes of what each pixel begins with its number v, from left to right:
-/// each sum waits for the one before it.
+/// Replaces the partial sums of a row by its numbers v, from left to right. Each sum depends on the one
+/// before it.
 pub(crate) fn add_left(sums: &mut [i16])
     ensures numbers { (x : ℕ) → x < length sums.old → number_at sums.new x ≡ v_from sums.old sums.new x }
     ensures range { AreWords sums.new }
@@ -50,8 +51,8 @@ pub(crate) fn add_left(sums: &mut [i16])
     }
 }
 
-/// The whole sum of a pixel, from what it begins with and the whole sum of the pixel before it. What waits
-/// for that sum is kept short: its dot is taken away while its sixteenth is multiplied.
+/// Returns the whole sum of a pixel, from its partial sum and the whole sum of the pixel before it. The chain
+/// of dependent operations is kept short: the dot is subtracted while the sixteenth is multiplied.
 fn sum_after(sum: i32, before: i32) -> i32
     requires word { FitsSigned w16 sum }
     requires before { IsSum before }
@@ -61,7 +62,7 @@ fn sum_after(sum: i32, before: i32) -> i32
     less_dot(sum, before) + 7 * sixteenth(before)
 }
 
-/// What a pixel begins with, less what the dot before it takes away.
+/// Returns the partial sum of a pixel, less seven times the dot of the pixel before it where that one prints.
 fn less_dot(sum: i32, before: i32) -> i32
     requires { FitsSigned w16 sum }
     ensures dot { (result +ℤ (pos 7 *ℤ floor_16 before)) ≡ (sum +ℤ (pos 7 *ℤ error_of (floor_16 before))) }
@@ -75,7 +76,7 @@ fn less_dot(sum: i32, before: i32) -> i32
     }
 }
 
-/// The number v of a pixel: a sixteenth of its whole sum, rounded down.
+/// Returns the number v of a pixel: a sixteenth of its whole sum, rounded down.
 fn sixteenth(whole: i32) -> i32
     requires { IsSum whole }
     ensures number { result ≡ floor_16 whole }
@@ -84,7 +85,8 @@ fn sixteenth(whole: i32) -> i32
     whole >> 4
 }
 
-/// Makes of the numbers v of a row, behind which two places stand, its errors with a margin of one place.
+/// Replaces the numbers v of a row, which two further places follow, by its errors with a margin of one
+/// place.
 pub(crate) fn keep_errors(numbers: &mut [i16])
     requires { 2 ≤ length numbers.old }
     ensures margin { number_at numbers.new 0 ≡ pos 0 }
@@ -101,7 +103,7 @@ pub(crate) fn keep_errors(numbers: &mut [i16])
     }
 }
 
-/// The error of a pixel whose number is v. Both ways write, so that no branch is taken.
+/// Returns the error of a pixel whose number is v. Both arms give a value, so that no branch is needed.
 fn error_from(v: i16) -> i16
     ensures { result ≡ error_of v }
 {

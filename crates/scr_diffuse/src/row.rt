@@ -1,4 +1,4 @@
-// One row, from the errors of the row above to its pixels and its own errors.
+// One row: from the errors of the row above to its pixels and its own errors.
 ghost use Rattle.std.specs.Prelude.{◌≡◌, ℕ, ◌+◌, ◌*◌, ◌<◌, ◌≤◌, length, pos};
 ghost use Rattle.pr_base.specs.Bits.{SetsBits};
 ghost use Rattle.scr_diffuse.specs.Diffusion.{IsError, error_left, prints, v_below};
@@ -7,8 +7,8 @@ ghost use Rattle.scr_diffuse.specs.Passes.{errors_in, number_at};
 use crate::bits::set_row;
 use crate::passes::{add_above, add_left, keep_errors};
 
-/// Sets the pixels of a row of values from `from` on. `errors` are those of the row above with a margin of
-/// one place on both sides, and become those of this row.
+/// Diffuses a row of values into the pixels from `from` on. `errors` holds the errors of the row above, with
+/// a margin of one place on both sides, and afterwards those of this row.
 pub(crate) fn diffuse_row(values: &[u8], errors: &mut [i16], bits: &mut [u8], from: u32)
     requires room { length errors.old ≡ length values.now + 2 }
     requires errors { (k : ℕ) → IsError (number_at errors.old k) }
@@ -26,7 +26,7 @@ pub(crate) fn diffuse_row(values: &[u8], errors: &mut [i16], bits: &mut [u8], fr
     keep_errors(errors);
 }
 
-/// Makes the errors those above the first row: all are 0.
+/// Sets all errors to 0, as above the first row.
 pub(crate) fn clear(errors: &mut [i16])
     ensures { (k : ℕ) → number_at errors.new k ≡ pos 0 }
 {

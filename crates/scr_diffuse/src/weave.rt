@@ -1,16 +1,16 @@
-// Eight rows side by side: what stands in a column of each stands in eight places behind one another. Each
-// row may lag behind the one before it.
+// Interleaves eight rows: the eight values of a column become contiguous. Each row may lag behind the one
+// before it.
 ghost use Rattle.std.specs.Prelude.{◌≡◌, ℕ, ◌+◌, ◌-◌, ◌*◌, ◌/◌, ◌%◌, ◌^◌, ◌<◌, ◌≤◌, length, slice_index};
 ghost use Rattle.scr_diffuse.specs.Diffusers.{row_in};
 ghost use Rattle.scr_diffuse.specs.Weave.{AreVectors, HasColumns, value_behind, woven_at};
 
 use std::simd::prelude::*;
 
-/// How many columns are woven at once.
+/// How many columns are interleaved at once.
 const BLOCK: usize = 16;
 
-/// Puts eight rows side by side, each `lag` columns behind the one before it: whole blocks of columns where
-/// each row has some, and those at the ends one by one.
+/// Interleaves eight rows, each `lag` columns behind the one before it: in whole blocks of columns where
+/// every row has values, and column by column at both ends.
 #[inline(always)]
 pub(crate) fn set_columns(rows: &[&[u8]; 8], width: usize, lag: usize, columns: &mut [u8])
     requires rows { (k : ℕ) → k < 8 → length (row_in rows.now k) ≡ width }
@@ -31,7 +31,7 @@ pub(crate) fn set_columns(rows: &[&[u8]; 8], width: usize, lag: usize, columns: 
     }
 }
 
-/// Puts the columns of a block, of which this is the first one, behind those before them.
+/// Writes the columns of a block from column `first` on, after the columns before it.
 #[inline(always)]
 fn set_block(rows: &[&[u8]; 8], first: usize, lag: usize, columns: &mut [u8])
     requires lag { 7 * lag ≤ first }
@@ -47,7 +47,7 @@ fn set_block(rows: &[&[u8]; 8], first: usize, lag: usize, columns: &mut [u8])
     }
 }
 
-/// The values of a block of columns, a vector for each row.
+/// Returns the values of a block of columns, a vector for each row.
 #[inline(always)]
 fn block_of(rows: &[&[u8]; 8], first: usize, lag: usize) -> [u8x16; 8]
     requires fits { first + 16 < 2 ^ 64 }
@@ -69,7 +69,7 @@ fn block_of(rows: &[&[u8]; 8], first: usize, lag: usize) -> [u8x16; 8]
     ]
 }
 
-/// Sixteen values of one of eight rows.
+/// Returns sixteen values of one of eight rows.
 #[inline(always)]
 fn values_from(rows: &[&[u8]; 8], k: usize, first: usize) -> u8x16
     requires fits { first + 16 < 2 ^ 64 }
@@ -81,7 +81,7 @@ fn values_from(rows: &[&[u8]; 8], k: usize, first: usize) -> u8x16
     u8x16::from_slice(&rows[k][first..first + 16])
 }
 
-/// Takes the places of eight vectors in turn from both halves of them.
+/// Interleaves the first half of eight vectors with the second half: places are taken from both in turn.
 #[inline(always)]
 fn weave(v: [u8x16; 8]) -> [u8x16; 8]
     requires { AreVectors v }
@@ -95,7 +95,7 @@ fn weave(v: [u8x16; 8]) -> [u8x16; 8]
     [a, b, c, d, e, f, g, h]
 }
 
-/// Puts the values of a column behind those before it.
+/// Writes the values of column `x`, after the columns before it.
 fn set_column(rows: &[&[u8]; 8], x: usize, lag: usize, columns: &mut [u8])
     requires lag { lag ≤ 2 }
     requires room { 8 * x + 8 ≤ length columns.old }
@@ -107,7 +107,8 @@ fn set_column(rows: &[&[u8]; 8], x: usize, lag: usize, columns: &mut [u8])
     }
 }
 
-/// The value of one of eight rows that so far behind stands in a column; 0 where it has none there.
+/// Returns the value of row `k` in column `x` when the row is `behind` columns behind, or 0 where it has none
+/// there.
 fn value_at(rows: &[&[u8]; 8], k: usize, x: usize, behind: usize) -> u8
     requires row { k < 8 }
     ensures { result ≡ value_behind (row_in rows.now k) x behind }

@@ -1,4 +1,5 @@
--- Sixty-four compares in one number, whose eight bytes show them in their order, and a row with these bytes.
+-- Sixty-four comparisons as one 64-bit mask: its eight bytes hold the pixels in order, and are written to a
+-- packed row.
 use Rattle.std.proofs.Common.{◌≡◌, ℕ, zero, suc, ◌+◌, ◌-◌, ◌*◌, ◌/◌, ◌%◌, ◌^◌, ◌<◌, ◌≤◌, Bool, true, false, cond, List, ◌++◌, length, take, map, nat_lt, eqb, get_or, refl, ap, sym, ◌∙◌, arith, w64}
 use Rattle.std.specs.Int.{byte_at, bytes_high_first, bytes_low_first, to_be_bytes, to_le_bytes}
 use Rattle.std.specs.List.{range_with_len}
@@ -11,12 +12,12 @@ use Rattle.pr_base.proofs.Words.{byte_bit-number}
 use Rattle.pr_base.proofs.Parts.{loaded, part_above, part_below, part_here}
 use Rattle.scr_tile.specs.Tile.{tile_bit}
 
--- what lane x of the compare of two vectors reads, before their eights are reversed
+-- the result of lane x of the comparison of two vectors, before the lanes of each byte are reversed
 abbrev pub lane_test : List ℕ → List ℕ → ℕ → Bool
 lane_test values thresholds x =
     top 7 (cond (nat_lt (get_or (take 64 thresholds ++ take 64 thresholds) x 0) (get_or (take 64 values ++ take 64 values) x 0)) 255 0)
 
--- the lanes of the compare of two vectors whose eights are reversed
+-- the lanes of the comparison of two vectors, with the lanes of each byte reversed
 abbrev pub lane_tests : List ℕ → List ℕ → List Bool
 lane_tests values thresholds = map (λ i. lane_test values thresholds (8 * (i / 8) + 7 - i % 8)) (range_with_len 0 64)
 
@@ -33,7 +34,7 @@ lane_test_is values thresholds x whole_values whole_thresholds within =
     top_of_mask _ ∙ ap (λ t. nat_lt t (get_or (take 64 values ++ take 64 values) x 0)) (loaded 64 thresholds x whole_thresholds within)
     ∙ ap (λ v. nat_lt (get_or thresholds x 0) v) (loaded 64 values x whole_values within)
 
--- a byte of a number, the lowest first, is one of its bytes with the highest first
+-- a byte of a number in little-endian order is one of its bytes in big-endian order
 low_first : (i k n j : ℕ) → j < k → get_or (bytes_low_first i k n) j 0 ≡ byte_at (i + j) n
 low_first i zero n j within = absurd (omega arith)
 low_first i (suc k) n zero within = ap (λ m. byte_at m n) (omega arith)
@@ -49,7 +50,7 @@ low_is_high n j within =
     let place : 8 - 1 - (7 - j) ≡ 0 + j = omega arith in
     low_first 0 8 n j within ∙ sym (high_first 8 n (7 - j) (omega arith) ∙ ap (λ i. byte_at i n) place)
 
--- the eight bytes of the mask, the lowest first, show the pixels in their order
+-- the eight bytes of the mask, in little-endian order, hold the pixels in order
 pub mask_shows : (values thresholds : List ℕ) (x : ℕ) → length values ≡ 64 → length thresholds ≡ 64 → x < 64 → bit_at (to_le_bytes w64 (mask_l (lane_tests values thresholds) % 2 ^ 64)) x ≡ tile_bit (get_or values x 0) (get_or thresholds x 0)
 mask_shows values thresholds x whole_values whole_thresholds within =
     let test = λ (i : ℕ). lane_test values thresholds (8 * (i / 8) + 7 - i % 8) in
@@ -64,14 +65,14 @@ mask_shows values thresholds x whole_values whole_thresholds within =
     ∙ ap (λ y. lane_test values thresholds y) back
     ∙ lane_test_is values thresholds x whole_values whole_thresholds within
 
--- a pixel by its byte
+-- a pixel of a packed row, as a bit of its byte
 pub bit_at-place : (bytes : List ℕ) (j y : ℕ) → y < 8 → byte_bit (get_or bytes j 0) y ≡ bit_at bytes (8 * j + y)
 bit_at-place bytes j y within =
     let byte : j ≡ (8 * j + y) / 8 = omega arith in
     let column : y ≡ (8 * j + y) % 8 = omega arith in
     ap (λ k. byte_bit (get_or bytes k 0) y) byte ∙ ap (λ k. byte_bit (get_or bytes ((8 * j + y) / 8) 0) k) column
 
--- the pixels of eight bytes that were written
+-- the pixels of eight bytes that were written to a packed row
 pub SetsBits_block : (test : ℕ → Bool) (bits bytes : List ℕ) (first count : ℕ) → count ≡ 8 → first + 8 ≤ length bits → length bytes ≡ 8 → ((j y : ℕ) → j < 8 → y < 8 → byte_bit (get_or bytes j 0) y ≡ test (8 * j + y)) → SetsBits test (8 * first) 64 bits (put_mid first count bits bytes)
 SetsBits_block test bits bytes first count eight room whole shows = record {
   inside = λ x below.

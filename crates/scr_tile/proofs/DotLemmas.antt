@@ -1,4 +1,4 @@
--- Counting over a matrix: each index below the square of the side is met once.
+-- Counting over a matrix: each index below the square of the side occurs once.
 use Rattle.std.proofs.Common.{◌≡◌, ℕ, zero, suc, ◌+◌, ◌*◌, ◌/◌, ◌%◌, ◌^◌, ◌<◌, ◌≤◌, Bool, true, false, cond, nat_le, eqb, map, nat_lt, add-zero, zero-add, List, [], ◌∷◌, refl, ap, sym, ◌∙◌, arith, inl, inr, subst}
 use Rattle.std.proofs.lemmas.Bool.{cases_eq, eq-eqb, ne_eqb}
 use Rattle.std.proofs.lemmas.Bool.Decides.{nat_tests}
@@ -43,7 +43,7 @@ total-four f (suc n) =
 abbrev pub over_matrix : ℕ → (ℕ → ℕ) → ℕ
 over_matrix e f = total (λ y. total (λ x. f (index_in e x y)) (2 ^ e)) (2 ^ e)
 
--- a column of the left or of the right half, in the matrix of half the side
+-- a column of the left or the right half, reduced to the matrix of half the side
 half_column : (n x : ℕ) (far : Bool) → x < n → (cond far n 0 + x) % n ≡ x
 half_column n x true within = add-mod_left n x ∙ mod-eq_of_lt within
 half_column n x false within = ap (λ k. k % n) (zero-add x) ∙ mod-eq_of_lt within
@@ -63,7 +63,7 @@ over_quarter : (e : ℕ) (f : ℕ → ℕ) (right bottom : Bool) → total (λ y
 over_quarter e f right bottom =
     total-same _ _ (2 ^ e) (λ y row. total-same _ _ (2 ^ e) (λ x column. ap f (in_quarter e x y right bottom column row)))
 
--- the sum over a row of two halves
+-- the sum over a row, as the sum over its two halves
 over_halves : (f : ℕ → ℕ) (n : ℕ) → total f (n + n) ≡ total (λ k. f (0 + k)) n + total (λ k. f (n + k)) n
 over_halves f n = total-add f n n ∙ ap (λ t. t + total (λ k. f (n + k)) n) (total-same f (λ k. f (0 + k)) n (λ k h. ap f (sym (zero-add k))))
 
@@ -94,7 +94,7 @@ over_matrix_is (suc e) f =
     let all : total f (4 ^ suc e) ≡ total f (4 * 4 ^ e) = ap (λ m. total f m) (pow-succ' 4 e) in
     rows ∙ halves ∙ split ∙ omega (arith, top, bottom, each 0, each 1, each 2, each 3, first, all, total-four f (4 ^ e))
 
--- a sum and a count of std over the first numbers
+-- sums and counts of std over the first n numbers, as totals
 fold-from : (f : ℕ → ℕ) (sum a n : ℕ) → fold (λ s k. s + f k) sum (range_with_len a n) ≡ sum + total (λ k. f (a + k)) n
 fold-from f sum a zero = sym (add-zero sum)
 fold-from f sum a (suc n) =
@@ -111,7 +111,7 @@ sum_by-range f n = fold-from f 0 0 n ∙ zero-add (total (λ k. f (0 + k)) n) �
 pub count_by-range : (p : ℕ → Bool) (n : ℕ) → count_by p (range_with_len 0 n) ≡ total (λ k. one_if (p k)) n
 count_by-range p n = sum_by-range (λ k. one_if (p k)) n
 
--- no number is met past the last, and i is met once among those below n
+-- no number past the last one occurs, and i occurs once among the numbers below n
 never : (n i : ℕ) → n ≤ i → total (λ k. one_if (eqb k i)) n ≡ 0
 never zero i past = refl
 never (suc n) i past =
@@ -131,7 +131,7 @@ total-once (suc n) i within =
           omega (arith, total-once n i (omega arith))
     ]
 
--- the pixels of a matrix whose index passes a test are as many as the indexes that pass it
+-- as many pixels of a matrix have an index that passes a test as there are indexes that pass it
 pub pixel_count-index : (e : ℕ) (test : ℕ → Bool) → pixel_count (2 ^ e) (λ x y. test (index_in e x y)) ≡ count_by test (range_with_len 0 (4 ^ e))
 pixel_count-index e test =
     sum_by-range (λ y. count_by (λ x. test (index_in e x y)) (range_with_len 0 (2 ^ e))) (2 ^ e)
@@ -155,13 +155,13 @@ fold-map f p sum (x ∷ xs) = fold-map f p (sum + one_if (p (f x))) xs
 pub count_by-map : (f : ℕ → ℕ) (p : ℕ → Bool) (xs : List ℕ) → count_by p (map f xs) ≡ count_by (λ i. p (f i)) xs
 count_by-map f p xs = fold-map f p 0 xs
 
--- a side, its exponent, and its square
+-- a side, its exponent and its square
 pub record IsDoubled (n e : ℕ) : Type 0 where
   pub side : n ≡ 2 ^ e
   pub exponent : doublings n ≡ e
   pub square : n ^ 2 ≡ 4 ^ e
 
--- the pixels whose index passes a test, at a side
+-- how many pixels of the matrix of side n have an index that passes a test
 pub pixel_count-bayer : (n e : ℕ) (test : ℕ → Bool) → IsDoubled n e → pixel_count n (λ x y. test (bayer_index n x y)) ≡ count_by test (range_with_len 0 (n ^ 2))
 pixel_count-bayer n e test d =
     ap (λ k. pixel_count n (λ x y. test (index_in k x y))) d.exponent
@@ -181,7 +181,7 @@ prints_below n e d =
     ∙ pixel_count-bayer n e test d
     ∙ sym (count_by-map (λ i. i * 255 / n ^ 2) (λ t. nat_lt t value) (range_with_len 0 (n ^ 2)))
 
--- the sides that are built
+-- the four sides for which tiles are built
 doubled_2 : IsDoubled 2 1
 doubled_2 = record { side = refl; exponent = refl; square = refl }
 

@@ -1,4 +1,4 @@
--- A row is screened in three spans: up to a whole byte, whole blocks, and the rest.
+-- A row is screened in three spans: the pixels before the first byte boundary, whole blocks, and the rest.
 use Rattle.std.proofs.Common.{◌≡◌, ℕ, ◌+◌, ◌-◌, ◌*◌, ◌/◌, ◌%◌, ◌<◌, ◌≤◌, Bool, List, length, take, get_or, slice_range, refl, ap, ◌∙◌, inl, inr, arith}
 use Rattle.std.proofs.lemmas.Bool.{cases_eq}
 use Rattle.std.proofs.lemmas.Nat.{mod_below}
@@ -9,7 +9,7 @@ use Rattle.pr_base.specs.Bits.{SetsBits}
 use Rattle.scr_tile.specs.Tile.{tile_bit, Repeats}
 use Rattle.pr_base.proofs.BitLemmas.{SetsBits_same, SetsBits_join, SetsBits_nowhere}
 
--- what pixel x of a row is told by
+-- whether pixel x of a row prints
 abbrev pub row_test : List ℕ → List ℕ → ℕ → Bool
 row_test row values x = tile_bit (get_or values x 0) (get_or row (x % length row) 0)
 

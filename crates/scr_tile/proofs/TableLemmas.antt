@@ -1,4 +1,4 @@
--- The table of thresholds is what the recursion over quarters gives, for each side that is built.
+-- The table of thresholds equals the recursion over quarters, for each side that is built.
 use Rattle.std.proofs.Common.{◌≡◌, ℕ, ◌<◌, ◌≤◌, List, [], take, map, get_or, refl, ap, sym, ◌∙◌, arith, subst, inl, inr}
 use Rattle.std.specs.List.{range_with_len}
 use Rattle.std.proofs.lemmas.List.{get_or-take, get_or-map, length-take}
@@ -10,7 +10,7 @@ use Rattle.scr_tile.specs.declared.bayer_table.TheConstants.{THRESHOLDS}
 abbrev pub corner : ℕ → List (List ℕ)
 corner n = map (λ row. take n row) (take n THRESHOLDS)
 
--- the thresholds of one tile, computed by the recursion
+-- the thresholds of the tile of side n, computed by the recursion
 abbrev pub computed : ℕ → List (List ℕ)
 computed n = map (λ y. map (λ x. threshold_at n x y) (range_with_len 0 n)) (range_with_len 0 n)
 
@@ -30,7 +30,7 @@ pub corner_2 : corner 2 ≡ computed 2
 unfolding index_in
 corner_2 = refl
 
--- a number of a corner that is equal to what was computed
+-- a number of a corner that equals the computed one
 corner_at : (n x y : ℕ) → corner n ≡ computed n → n ≤ 16 → x < n → y < n → get_or (take n (get_or THRESHOLDS y [])) x 0 ≡ threshold_at n x y
 corner_at n x y same small column row =
     ap (λ r. get_or (take n r) x 0) (sym (get_or-take n THRESHOLDS y [] row))

@@ -1,10 +1,10 @@
--- What a tile of either kind shows: its sides, and the threshold of each pixel.
+-- A Bayer tile or a custom tile, as contracts see it: its sides, and the threshold of each pixel.
 use Rattle.std.specs.Prelude.{ℕ, ◌+◌, ◌*◌, ◌%◌, slice_index}
 use Rattle.scr_tile.specs.Tile.{number_at}
 use Rattle.scr_tile.specs.declared.any_tile.AnyTile.{AnyTile}
 use Rattle.scr_tile.specs.declared.any_tile.AnyTile.TheVariants.{B2, B4, B8, B16, Own}
 
--- the columns of a tile
+-- the width of a tile in pixels
 abbrev pub tile_width : AnyTile → ℕ
 tile_width (B2 rows) = 2
 tile_width (B4 rows) = 4
@@ -12,7 +12,7 @@ tile_width (B8 rows) = 8
 tile_width (B16 rows) = 16
 tile_width (Own numbers) = numbers.width
 
--- the rows of a tile
+-- the height of a tile in pixels
 abbrev pub tile_height : AnyTile → ℕ
 tile_height (B2 rows) = 2
 tile_height (B4 rows) = 4
@@ -20,7 +20,7 @@ tile_height (B8 rows) = 8
 tile_height (B16 rows) = 16
 tile_height (Own numbers) = numbers.height
 
--- the threshold of the pixel in column x and row y, under copies of the tile laid edge to edge
+-- the threshold of the pixel in column x and row y, with the tile repeated edge to edge
 abbrev pub threshold_of : AnyTile → ℕ → ℕ → ℕ
 threshold_of (B2 rows) x y = number_at rows (x % 2) (y % 2)
 threshold_of (B4 rows) x y = number_at rows (x % 4) (y % 4)

@@ -1,10 +1,10 @@
-// A tile of any size that a screen may name.
+// A threshold tile of any size that a screen may use.
 ghost use Rattle.std.specs.Prelude.{◌≡◌, ℕ, ◌*◌, ◌↔◌, length, IsSome, IfSome};
 ghost use Rattle.scr_tile.specs.Tile.{IsSide, IsBayerSide, threshold_at};
 
 use crate::{OwnTile, Tile, bayer};
 
-/// A Bayer tile, or one of a plan's own numbers.
+/// A Bayer tile, or a custom tile with the plan's own thresholds.
 #[derive(Debug, Drop)]
 pub enum AnyTile {
     B2(Tile<2, 2>),
@@ -17,7 +17,7 @@ pub enum AnyTile {
 impl AnyTile {
     ghost use Rattle.scr_tile.specs.AnyTile.{tile_height, tile_width, threshold_of};
 
-    /// The Bayer tile of side `n`, where one is built.
+    /// Returns the Bayer tile of side `n`, or `None` where `n` is not 2, 4, 8 or 16.
     pub fn bayer(n: u8) -> Option<AnyTile>
         ensures built { IsSome result ↔ IsBayerSide n }
         ensures width { IfSome result (λ tile. tile_width tile ≡ n) }
@@ -33,7 +33,7 @@ impl AnyTile {
         }
     }
 
-    /// The tile of `height` rows of `width` numbers, which stand row after row in `at`.
+    /// Makes a custom tile of `height` rows of `width` thresholds, which `at` holds row by row.
     pub fn own(width: u32, height: u32, at: Vec<u8>) -> AnyTile
         requires width { IsSide width }
         requires height { IsSide height }

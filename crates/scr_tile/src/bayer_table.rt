@@ -1,15 +1,15 @@
-// The thresholds of Bayer's ordered dither.
+// The thresholds of ordered dither (Bayer 1973).
 ghost use Rattle.std.specs.Prelude.{◌≡◌, ℕ, ◌<◌};
 ghost use Rattle.scr_tile.specs.Tile.{IsBayerSide, number_at, threshold_at};
 
 use crate::Tile;
 
-/// The largest side that is built.
+/// The largest side for which a tile is built, in pixels.
 const SIDE: usize = 16;
 
-/// The thresholds of side 16. Since a matrix stands, four times as large, in the top left quarter of the
-/// next, and thresholds are taken in proportion to the largest index, the tile of each smaller side is the
-/// corner of this one.
+/// The thresholds of side 16. The tile of each smaller side N is the top left corner of this table: the top
+/// left quarter of an index matrix is the matrix of half its side times four, and the threshold of an index
+/// of side n is index * 255 / n^2, rounded down.
 const THRESHOLDS: [[u8; SIDE]; SIDE] = [
     [
         0, 127, 31, 159, 7, 135, 39, 167, 1, 129, 33, 161, 9, 137, 41, 169,
@@ -61,7 +61,7 @@ const THRESHOLDS: [[u8; SIDE]; SIDE] = [
     ],
 ];
 
-/// The tile of side `N`.
+/// Returns the Bayer tile of side `N`.
 pub fn bayer<const N: usize>() -> Tile<N, N>
     requires { IsBayerSide N }
     ensures { (x y : ℕ) → x < N → y < N → number_at result x y ≡ threshold_at N x y }

@@ -1,11 +1,11 @@
-// Pixels of a packed row, one by one.
+// Screening pixel by pixel, for the pixels of a packed row that don't fill a block.
 ghost use Rattle.std.specs.Prelude.{◌+◌, ◌*◌, ◌^◌, ◌<◌, ◌≤◌, length, slice_index};
 ghost use Rattle.pr_base.specs.Bits.{SetsBits};
 ghost use Rattle.scr_tile.specs.Tile.{tile_bit};
 
 use pr_base::set_bit;
 
-/// Sets the pixels from `from` on, each where its value is above its threshold.
+/// Writes the pixels from `from` on: each is set where its value is above its threshold.
 pub(crate) fn set_bits(thresholds: &[u8], values: &[u8], bits: &mut [u8], from: usize)
     requires thresholds { length values.now ≤ length thresholds.now }
     requires room { from + length values.now ≤ 8 * length bits.old }

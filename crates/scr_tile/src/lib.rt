@@ -1,5 +1,5 @@
-// Screening by threshold tiles: Bayer's ordered dither in four sizes, tiles of a plan's own numbers, and the
-// loop that turns a row of ink values into packed bits.
+// Screening by threshold tiles: Bayer's ordered dither in four sizes, custom tiles from a plan, and the loop
+// that turns a row of ink values into packed bits.
 #![tactic(auto)]
 
 mod any_tile;

@@ -1,10 +1,10 @@
-// A threshold tile whose sides are known when the program runs.
+// A custom threshold tile, whose sides are known only at run time.
 ghost use Rattle.std.specs.Prelude.{◌≡◌, ◌+◌, ◌*◌, ◌%◌, length, slice_index, slice_range};
 ghost use Rattle.scr_tile.specs.Tile.{IsSide};
 
 use std::marker::Model;
 
-/// A tile of a plan's own numbers, row after row. Contracts see its width, height and numbers.
+/// A tile of a plan's own thresholds, row by row. Contracts see its width, height and thresholds.
 #[derive(Debug, Drop)]
 pub struct OwnTile {
     width: usize,
@@ -24,7 +24,7 @@ impl Model for OwnTile {
 }
 
 impl OwnTile {
-    /// The tile of these numbers.
+    /// Makes the tile of these thresholds.
     pub(crate) fn of(width: u32, height: u32, at: Vec<u8>) -> OwnTile
         requires width { IsSide width }
         requires height { IsSide height }
@@ -38,7 +38,7 @@ impl OwnTile {
         }
     }
 
-    /// The thresholds of the pixels of row `y`, one for each column of the tile.
+    /// Returns the thresholds of the pixels of row `y`, one for each column of the tile.
     pub(crate) fn row(&self, y: u32) -> &[u8]
         ensures row { result.now ≡ slice_range self.now.at
             (y % self.now.height * self.now.width)

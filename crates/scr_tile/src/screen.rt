@@ -1,4 +1,4 @@
-// From a row of ink values to a row of packed pixels.
+// Screening: a row of ink values becomes a row of packed pixels.
 ghost use Rattle.std.specs.Prelude.{◌≡◌, ℕ, ◌+◌, ◌*◌, ◌-◌, ◌/◌, ◌%◌, ◌^◌, ◌<◌, ◌≤◌, ◌==◌, length};
 ghost use Rattle.std.specs.Prelude.{slice_index};
 ghost use Rattle.scr_tile.specs.AnyTile.{threshold_of};
@@ -9,22 +9,23 @@ use crate::AnyTile;
 use crate::bits::set_bits;
 use std::simd::prelude::*;
 
-/// How many pixels are screened in one step: the lanes of the widest vector, and eight whole bytes.
+/// The number of pixels screened in one step: the lanes of the widest vector, and eight whole bytes.
 const BLOCK: usize = 64;
 
-/// The lanes of a block, those of each byte reversed: a mask has lane 0 as its lowest bit, a byte of pixels
-/// has the first of them as its highest.
+/// The lanes of a block, reversed within each byte: lane 0 is the lowest bit of a mask, but the first pixel
+/// is the highest bit of a packed byte.
 const EIGHTS: [usize; BLOCK] = [
     7, 6, 5, 4, 3, 2, 1, 0, 15, 14, 13, 12, 11, 10, 9, 8, 23, 22, 21, 20, 19, 18, 17, 16, 31, 30,
     29, 28, 27, 26, 25, 24, 39, 38, 37, 36, 35, 34, 33, 32, 47, 46, 45, 44, 43, 42, 41, 40, 55, 54,
     53, 52, 51, 50, 49, 48, 63, 62, 61, 60, 59, 58, 57, 56,
 ];
 
-/// Room for a tile's widest row and the thresholds of a block more, so that those of any block stand side by
-/// side.
+/// The length of the repeated row of thresholds: the widest row of a tile and one block, so that the
+/// thresholds of a block are contiguous at every column.
 const ROOM: usize = 128;
 
-/// Screens row `y` of a page: pixel `from + x` of `bits` is set where value `x` is above its threshold.
+/// Screens row `y` of a page: sets pixel `from + x` of `bits` where value `x` is above its threshold, and
+/// clears it elsewhere.
 pub fn screen_row(tile: &AnyTile, y: u32, values: &[u8], bits: &mut [u8], from: u32)
     requires { from + length values.now ≤ 8 * length bits.old }
     ensures screened { (x : ℕ) → x < length values.now →
@@ -41,7 +42,7 @@ pub fn screen_row(tile: &AnyTile, y: u32, values: &[u8], bits: &mut [u8], from: 
     }
 }
 
-/// Screens by one row of a tile: first the pixels up to a whole byte, then whole blocks, then the rest.
+/// Screens with one row of a tile: first the pixels before a byte boundary, then whole blocks, then the rest.
 fn screen(row: &[u8], values: &[u8], bits: &mut [u8], from: u32)
     requires side { IsSide (length row.now) }
     requires room { from + length values.now ≤ 8 * length bits.old }
@@ -71,7 +72,7 @@ fn screen(row: &[u8], values: &[u8], bits: &mut [u8], from: u32)
     );
 }
 
-/// A row of thresholds, written out again and again.
+/// Returns a row of thresholds, repeated to fill the array.
 fn repeat(row: &[u8]) -> [u8; ROOM]
     requires { IsSide (length row.now) }
     ensures { Repeats row.now ROOM result }
@@ -88,8 +89,8 @@ fn repeat(row: &[u8]) -> [u8; ROOM]
     repeated
 }
 
-/// Screens whole blocks from byte `first` on, under copies of a row of which the first pixel meets column
-/// `start`.
+/// Screens whole blocks of values into the bytes from `first` on. The first pixel has the threshold of column
+/// `start` of the repeated row.
 fn set_blocks(
     row: &[u8],
     repeated: &[u8; ROOM],
@@ -122,7 +123,7 @@ fn set_blocks(
     }
 }
 
-/// The pixels of a block as a row has them: each is set where its value is above its threshold.
+/// Returns the packed pixels of a block: each is set where its value is above its threshold.
 #[tactic(auto, using(crate::proofs::BlockLemmas::mask_shows))]
 fn block_of(values: &[u8], thresholds: &[u8]) -> [u8; 8]
     requires values { length values.now ≡ BLOCK }

@@ -1,4 +1,4 @@
-// A threshold tile whose sides are part of its type.
+// A threshold tile whose sides are const parameters.
 ghost use Rattle.std.specs.Prelude.{◌≡◌, ◌%◌, length, [], slice_index_or};
 ghost use Rattle.scr_tile.specs.Tile.{IsSide, number_at};
 
@@ -24,7 +24,7 @@ impl<const W: usize, const H: usize> Model for Tile<W, H> {
 }
 
 impl<const W: usize, const H: usize> Tile<W, H> {
-    /// The tile with these rows.
+    /// Makes the tile of these rows.
     pub fn of(at: [[u8; W]; H]) -> Tile<W, H>
         requires width { IsSide W }
         requires height { IsSide H }
@@ -33,14 +33,14 @@ impl<const W: usize, const H: usize> Tile<W, H> {
         Tile { at }
     }
 
-    /// The threshold of the pixel in column `x` and row `y`, under copies of the tile laid edge to edge.
+    /// Returns the threshold of the pixel in column `x` and row `y`, with the tile repeated edge to edge.
     pub fn threshold(&self, x: u32, y: u32) -> u8
         ensures { result ≡ number_at self.now (x % W) (y % H) }
     {
         self.row(y)[x as usize % W]
     }
 
-    /// The thresholds of the pixels of row `y`, one for each column of the tile.
+    /// Returns the thresholds of the pixels of row `y`, one for each column of the tile.
     pub(crate) fn row(&self, y: u32) -> &[u8]
         ensures row { result.now ≡ slice_index_or self.now (y % H) [] }
         ensures width { length result.now ≡ W }

@@ -1,4 +1,4 @@
--- What an answer says, told by what it is.
+-- What a result says, by its variant.
 use Rattle.std.proofs.Common.{◌≡◌, ◌≢◌, ℕ, ◌+◌, ◌≤◌, ◌<◌, List, ◌++◌, length, map, Option, Some, None, Result, Ok, Err, OnOk, IfSome, refl, sym, ap, subst, ◌∙◌, ⊎_elim, arith}
 use Rattle.std.specs.Prelude.{◌==◌, is_some, slice_get, slice_set, slice_index_or, nat_lt}
 use Rattle.std.specs.Option.{option_map}
@@ -23,12 +23,12 @@ pub no_ok : {T E : Type 0} (r : Result T E) (e : E) (P : Type 0) → r ≡ Err e
 no_ok (Ok x) e P is = absurd (cc)
 no_ok (Err f) e P is = tt
 
--- the fact of an answer that is Ok
+-- the fact of a result that is Ok
 pub of_ok : {T E : Type 0} (r : Result T E) (x : T) (P : Type 0) → r ≡ Ok x → OnOk r P → P
 of_ok (Ok y) x P is p = p
 of_ok (Err f) x P is p = absurd (cc)
 
--- a plate whose end this is is finished, where this was its last row
+-- a plate with this tail is finished if this was its last row
 pub finishes-at : (shape : Shape) (y place : ℕ) (plate : SitePlate) (counts tail : List ℕ) (old new : Tells) → y + 1 ≡ shape.height
     → tail ≡ tail_bytes shape.width shape.height shape.dpi counts → place ≡ tail_place counts
     → new ≡ with_closed plate.slot tail place old → new ≡ finished_at shape y plate counts old
@@ -42,7 +42,7 @@ pub stays-open : (shape : Shape) (y : ℕ) (plate : SitePlate) (counts : List �
 stays-open shape y plate counts old more =
     sym (cond-false (y + 1 == shape.height) (with_finish shape plate.slot counts old) old (ne_eqb (y + 1) shape.height (omega arith)))
 
--- ---- what stands in the slot of a plate
+-- ---- the content of a plate's slot
 
 -- the plate is begun, and as long as its front
 front-stands : (plate : SitePlate) (slots : Slots) → plate.slot < length slots → IsAsLong plate 8 (slice_set slots plate.slot (Some (plate.path, front_bytes)))
@@ -67,7 +67,7 @@ stands-begun y len plate old now is begun told stands first =
           subst Q (sym (first none))
           (front-stands plate slots (omega (arith, slice_get_within old.begun plate.slot (nat_lt 0 y) begun, ap length told', length-map slots (is_some {T = Plate}))))
 
--- with a row it is longer by the row's packed bytes
+-- a row makes it longer by the row's packed bytes
 more-stands : (plate : SitePlate) (len : ℕ) (more : List ℕ) (slots : Slots) (held : Option Plate) → slice_index_or slots plate.slot None ≡ held → option_map path_and_length held ≡ Some (plate.path, len)
     → IsAsLong plate (len + length more) (slice_set slots plate.slot (option_map (λ p. (p.0, p.1 ++ more)) held))
 more-stands plate len more slots None is stands = absurd (cc)

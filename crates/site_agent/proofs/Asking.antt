@@ -1,4 +1,4 @@
--- What a site asks of its rack for a row stands again for the row behind it.
+-- What a site requires of its rack for a row holds again for the next row.
 use Rattle.std.proofs.Common.{◌≡◌, ◌≢◌, ℕ, ◌+◌, ◌/◌, ◌<◌, ◌≤◌, if◌then◌else◌, Bool, true, false, List, [], length, map, set, sum, Option, Some, None, nat_lt, refl, sym, ap, subst, ◌∙◌, ⊎_elim, arith}
 use Rattle.std.specs.Prelude.{◌==◌, is_some, slice_get, slice_index_or, IfSome}
 use Rattle.std.specs.Option.{option_map}
@@ -24,14 +24,14 @@ use Rattle.site_agent.proofs.Steps.{fresh-before, last-after, open-after, open-b
 
 -- ---- one slot
 
--- the path and the length of what stands in a slot
+-- the path and the length of the plate in a slot
 abbrev Length : Type 0
 Length = Option (List ℕ × ℕ)
 
 abbrev length_at : Slots → ℕ → Length
 length_at slots s = option_map path_and_length (slice_index_or slots s None)
 
--- a slot is begun or not, and so long a plate stands in it where told
+-- whether a slot is begun, and the length of its plate where known
 record Shows (s : ℕ) (is : Bool) (long : Length) (t : Tells) : Type 0 where
   begun : slice_get t.begun s ≡ Some is
   working : IfSome t.working (λ slots. length_at slots s ≡ long)
@@ -120,7 +120,7 @@ own-closed shape plate y n frame source counts old last was =
 
 -- ---- all slots
 
--- the path of the plate that is open in a slot, and its length by the counts
+-- the path of the open plate in a slot, and its length by the counts
 abbrev counted_at : SiteJob → ℕ → List (List ℕ) → ℕ → Length
 counted_at job n counts s = option_map (λ plate. (plate.path, 8 + sum (slice_index_or counts s []))) (open_in job n s)
 
@@ -132,12 +132,12 @@ each-at : (job : SiteJob) (n : ℕ) (counts : List (List ℕ)) (working : Option
 each-at job n counts None at = tt
 each-at job n counts (Some slots) at = record { each = at }
 
--- a site asks of its rack what the rack tells
+-- what a site requires of its rack, in terms of what contracts see of it
 pub record Asks (job : SiteJob) (n : ℕ) (counts : List (List ℕ)) (t : Tells) : Type 0 where
   pub begun : AreBegun job n t.begun
   pub working : IfSome t.working (AreAsLong job n counts)
 
--- so behind a row that it didn't keep
+-- it holds after a row that the site did not keep
 pub asks-passed : (job : SiteJob) (n : ℕ) (counts : List (List ℕ)) (t : Tells) → IsNoRow job n → Asks job n counts t → Asks job (n + 1) counts t
 asks-passed job n counts t row asks = record {
   begun = record { each = λ s less. asks.begun.each s less ∙ ap (λ p. Some (is_some p)) (sym (open-none job n s row)) };
@@ -146,7 +146,7 @@ asks-passed job n counts t row asks = record {
       subst P (sym (open-none job n s row)) (at-each job n counts t.working s less asks.working));
 }
 
--- and behind one that it kept, which stands in this slot
+-- and after a row that it kept, whose plate is in this slot
 pub asks-kept : (job : SiteJob) (source : Source) (n k y slot : ℕ) (old now : Tells) (counts after : List (List ℕ)) (d : SitePlate) (frame : List ℕ) → IsJob job → IsRowOf job n k y
     → (plate_at job k d).slot ≡ slot → Asks job n counts old → IfSome old.working (λ slots. old.begun ≡ map is_some slots)
     → length (slice_index_or counts slot []) ≡ strip_count job.width job.height

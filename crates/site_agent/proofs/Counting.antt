@@ -1,4 +1,4 @@
--- What a site that counts knows of a row of its own, and how it counts it.
+-- What the counts of a site say about one of its rows, and how the site counts the row.
 use Rattle.std.proofs.Common.{◌≡◌, ◌≢◌, ℕ, ◌+◌, ◌-◌, ◌*◌, ◌/◌, ◌^◌, ◌<◌, ◌≤◌, Bool, false, if◌then◌else◌, List, [], length, sum, get_or, set, replicate, Option, Some, None, nat_lt, refl, sym, ap, subst, ◌∙◌, ⊎_elim, arith}
 use Rattle.std.specs.Prelude.{◌==◌, is_some, slice_get, slice_index, slice_index_or, IfSome}
 use Rattle.std.specs.Option.{option_map, option_map_or}
@@ -37,7 +37,7 @@ packed-few width frame wide framed size =
     let same : length (packed_in frame) ≡ length (packing (framed_row frame)) = ap length (packed_in-frame frame framed) in
     omega arith
 
--- the counts with a row, which belongs to a strip that is there
+-- the counts including a row, whose strip is one of the plate's
 pub sum-counted : (y strip bytes : ℕ) (counts : List ℕ) → strip < length counts → sum (counted y strip bytes counts) ≡ (if y == 0 then 0 else sum counts) + bytes
 sum-counted y strip bytes counts within =
     ⊎_elim
@@ -67,7 +67,7 @@ length-counted y strip bytes counts =
     ∙ length-set counts strip (slice_index counts strip + bytes))
     (cases_eq y 0)
 
--- ---- a row of a plate, which comes next
+-- ---- the next row, which is one of a plate
 
 pub record Turn (job : SiteJob) (n finished : ℕ) (slots : List Slot) (place : Place) (frame : List ℕ) (slot' : Slot) : Type 0 where
   pub counting : IsCounting job n finished slots
@@ -109,7 +109,7 @@ rows-there job n finished slots place frame slot d turn some =
     ∙ ap (λ p. option_map_or (λ q. given job.height q n) p 0) here
     ∙ row-given job n place.plate place.y d turn.counting.is row
 
--- what the plate's rows before it have together
+-- the bytes of the plate's earlier rows
 pub before-most : (job : SiteJob) (n finished : ℕ) (slots : List Slot) (place : Place) (frame : List ℕ) (slot : Slot) (d : SitePlate) → Turn job n finished slots place frame slot
     → (if place.y == 0 then 0 else sum slot.counts.items) ≤ place.y * 8256
 before-most job n finished slots place frame slot d turn =
@@ -122,7 +122,7 @@ before-most job n finished slots place frame slot d turn =
     omega arith)
     (cases_eq place.y 0)
 
--- the counts with the row
+-- the counts including the row
 abbrev pub with_row : SiteJob → Place → List ℕ → Slot → List ℕ
 with_row job place frame slot = counted place.y (strip_of job place) (length (packed_in frame)) slot.counts.items
 
@@ -145,7 +145,7 @@ placeable job n finished slots place frame slot d turn =
     let high : job.height ≤ 65535 = turn.counting.is.height.1 in
     omega (arith, most)
 
--- no count passes 32 bits
+-- no count exceeds 32 bits
 pub count-fits : (job : SiteJob) (n finished : ℕ) (slots : List Slot) (place : Place) (frame : List ℕ) (slot : Slot) (d : SitePlate) → Turn job n finished slots place frame slot
     → (if place.y == 0 then 0 else slice_index slot.counts.items (strip_of job place)) + length (packed_in frame) < 2 ^ 32
 count-fits job n finished slots place frame slot d turn =
@@ -168,7 +168,7 @@ pub first-alone : (job : SiteJob) (n finished : ℕ) (slots : List Slot) (place 
 first-alone job n finished slots place frame slot d turn none =
     sum-with job n finished slots place frame slot d turn ∙ ap (λ m. m + length (packed_in frame)) (cond-true (place.y == 0) 0 (sum slot.counts.items) (eq-eqb place.y 0 none)) ∙ omega arith
 
--- ---- what its rack shows
+-- ---- what contracts see of its rack
 
 pub begun-there : (job : SiteJob) (n : ℕ) (place : Place) (begun : List Bool) (d : SitePlate) → IsJob job → IsPlaceOf job n place → AreBegun job n begun → place.slot < 5
     → slice_get begun place.slot ≡ Some (nat_lt 0 place.y)
@@ -201,7 +201,7 @@ stands-there job n finished slots place frame slot d (Some held) turn are some =
     ∙ ap (λ list. Some (plate.path, 8 + sum list)) counts
     ∙ ap (λ m. Some (plate.path, m)) len
 
--- ---- the site counts on
+-- ---- the site's counts after the row
 
 rows-same : (job : SiteJob) (n m slot : ℕ) → open_in job m slot ≡ open_in job n slot → ((plate : SitePlate) → open_in job n slot ≡ Some plate → given job.height plate m ≡ given job.height plate n)
     → open_rows job n slot ≡ open_rows job m slot
@@ -278,7 +278,7 @@ counts-on job n finished slots place frame slot next d turn within rows counts =
         sum = before.sum;
       }
 
--- a row that is of no plate
+-- a row that belongs to no plate
 pub counts-past : (job : SiteJob) (n finished : ℕ) (slots : List Slot) → IsCounting job n finished slots → IsNoRow job n → n < job.total → IsCounting job (n + 1) finished slots
 counts-past job n finished slots counting row within = record {
   is = counting.is;
@@ -299,7 +299,7 @@ counts-past job n finished slots counting row within = record {
       let P : SitePlate → Type 0 = λ q. given job.height q (n + 1) ≡ given job.height q n in
       subst P there.is (given-stays job.height n (plate_at job there.index p) (λ y below. row.none there.index y p there.within below))
 
--- ---- the counts that contracts see
+-- ---- the counts as contracts see them
 
 pub counts-own : (slots : List Slot) (s : ℕ) (next : Slot) → s < length slots → slice_index_or (counts_of (set slots s next)) s [] ≡ next.counts.items
 counts-own slots s next within =
@@ -316,7 +316,7 @@ counts-at slots s slot within is = get_or-map (λ x. x.counts.items) slots s slo
 
 -- ---- the site as its contract sees it
 
--- where a list of plates is read, there is one
+-- the default entry for reads of a list of plates
 abbrev pub any : SitePlate
 any = record { path = []; first = 0; step = 0; slot = 0 }
 
@@ -337,7 +337,7 @@ pub placing : (job : SiteJob) (next : ℕ) (counts : List (List ℕ)) (ended : B
     → ◌≡◌ {A = SiteData} (record { job = job; next = next; counts = counts; ended = ended }) old → IsPlaceOf old.job old.next place → IsPlaceOf job next place
 placing job next counts ended old place view there = let P : SiteData → Type 0 = λ s. IsPlaceOf s.job s.next place in subst P (sym view) there
 
--- the plates that are finished are fewer than all, where one has its row n
+-- if one of the plates has row n, not all plates are finished
 pub finished-less : (job : SiteJob) (n finished : ℕ) (slots : List Slot) (place : Place) → IsCounting job n finished slots → IsPlaceOf job n place → finished < length job.plates
 finished-less job n finished slots place counting there =
     let is : finished ≡ finished_count job n = counting.finished in

@@ -1,4 +1,4 @@
--- A row that a site takes from its reader, and gives back.
+-- A row that a site takes from its reader and gives back.
 use Rattle.std.proofs.Common.{◌≡◌, ◌≢◌, ℕ, ◌+◌, ◌≤◌, Bool, true, false, List, length, map, Option, Some, Ok, IfSome, refl, sym, ap, subst, ◌∙◌, arith}
 use Rattle.std.specs.Prelude.{slice_get}
 use Rattle.std.specs.Option.{option_map}
@@ -44,9 +44,9 @@ side-taken job ring n bytes are there =
     ap length (sym (get_or_from_slice_get (map framed_row ring.rows) n (framed_row bytes) (framed_row bytes) here))
     ∙ are.frames.each n (framed_row bytes) (slice_get_within (map framed_row ring.rows) n (framed_row bytes) here)
 
--- ---- what keeping it makes of the site and its rack
+-- ---- the effect of keeping it on the site and its rack
 
--- the clauses of Site::keep
+-- the clauses of `Site::keep`
 pub record Keeps (site site' : SiteData) (held : HeldRow) (old new : RackTells) (kept : Kept) : Type 0 where
   pub keeps : OnDone kept (KeepsRow site site' held old.tells new.tells)
   pub goes_on : OnDone kept (GoesOn site site')
@@ -103,7 +103,7 @@ stopping site reader source old new before kept from next finished taken going =
           (subst (λ (s : Source). TakenOnce site.next s old.taken new.taken) from taken));
     }
 
--- a row that isn't the site's is Done
+-- for a row that is not the site's the result is Done
 kept-there : (test : Bool) (kept : Kept) → (test ≡ false → kept ≡ Done) → kept ≢ Done → test ≡ true
 kept-there true kept passes other = refl
 kept-there false kept passes other = absurd (other (passes refl))

@@ -1,4 +1,4 @@
--- Which plate's row a row is, found among the plates that aren't finished.
+-- Finding the plate of a row among the unfinished plates.
 use Rattle.std.proofs.Common.{◌≡◌, ◌≢◌, ℕ, ◌-◌, ◌<◌, ◌≤◌, ◌⊎◌, length, refl, sym, ap, ◌∙◌, ⊎_elim, arith}
 use Rattle.std.specs.Option.{option_map_or}
 use Rattle.std.proofs.lemmas.Bool.{cases_eq, cases_lt, cases_order}
@@ -9,11 +9,11 @@ use Rattle.site_agent.proofs.Givens.{number-less, number-within, given-none, giv
 use Rattle.site_agent.proofs.Opens.{plate_at, opened, finished-below, finished-above}
 use Rattle.site_agent.proofs.Steps.{fresh-before, same-plate}
 
--- row n is no row of plate j
+-- row n is not a row of plate j
 abbrev pub IsNoRowOf : SiteJob → ℕ → ℕ → Type 0
 IsNoRowOf job n j = (z : ℕ) (d : SitePlate) → z < job.height → number_in (plate_at job j d) z ≢ n
 
--- what the slot of a begun plate that isn't finished counts is the plate's
+-- the count in the slot of a begun, unfinished plate is that plate's
 pub rows-known : (job : SiteJob) (n i : ℕ) (d : SitePlate) → IsJob job → finished_count job n ≤ i → i < length job.plates → (plate_at job i d).first ≤ n
     → open_rows job n (plate_at job i d).slot ≡ given job.height (plate_at job i d) n
 rows-known job n i d is from within begun =
@@ -45,7 +45,7 @@ row-found job n i y d is from within begun rows here =
       number = λ e. ap (λ p. number_in p y) (same-plate job i e d within) ∙ here;
     }
 
--- the next row of a plate stands below the end of all rows
+-- the number of a plate's next row is below the number of all rows
 pub next-within : (job : SiteJob) (n i y : ℕ) (d : SitePlate) → IsJob job → finished_count job n ≤ i → i < length job.plates → (plate_at job i d).first ≤ n
     → y ≡ open_rows job n (plate_at job i d).slot → number_in (plate_at job i d) y < job.total
 next-within job n i y d is from within begun rows =
@@ -56,7 +56,7 @@ next-within job n i y d is from within begun rows =
     let inside : last_in job.height (plate_at job i d) < job.total = is.within i d within in
     omega arith
 
--- or no row of the plate
+-- or it is not a row of the plate
 pub no-row_next : (job : SiteJob) (n i y : ℕ) (d : SitePlate) → IsJob job → finished_count job n ≤ i → i < length job.plates → (plate_at job i d).first ≤ n
     → y ≡ open_rows job n (plate_at job i d).slot → number_in (plate_at job i d) y ≢ n → IsNoRowOf job n i
 no-row_next job n i y d is from within begun rows other z e below same =
@@ -74,7 +74,7 @@ no-row_next job n i y d is from within begun rows other z e below same =
     (cases_eq z y))
     (cases_lt z (given job.height (plate_at job i d) n))
 
--- a plate that is finished, or not begun
+-- a plate that is finished or not begun
 pub no-row_finished : (job : SiteJob) (n j : ℕ) → IsJob job → j < finished_count job n → IsNoRowOf job n j
 no-row_finished job n j is first z d below same =
     let ended : last_in job.height (plate_at job j d) < n = finished-below job n j d is first in
@@ -95,6 +95,6 @@ no-row_later job n i j d is to within before z e below same =
     sides)
     (cases_order i j)
 
--- a row that is of no plate is of none
+-- a row that belongs to none of the plates is not one of the site's
 pub no-row_all : (job : SiteJob) (n : ℕ) → ((j : ℕ) → j < length job.plates → IsNoRowOf job n j) → IsNoRow job n
 no-row_all job n each = record { none = λ k y d within below. each k within y d below }

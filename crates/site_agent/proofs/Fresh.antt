@@ -39,7 +39,7 @@ numbered-in plan height from [] all = All-nil (In plan)
 numbered-in plan height from (group ∷ groups) all =
     All-cons (In plan) (record group { first = from }) (numbered height (from + row_count height group) groups) (All-head (In plan) group groups all) (numbered-in plan height (from + row_count height group) groups (All-tail (In plan) group groups all))
 
--- each group is of a section of the plan
+-- each group belongs to a section of the plan
 pub groups-in : (plan : PlanData) → All (λ group. group.section < length plan.sections) (groups_of plan)
 unfolding groups_of
 groups-in plan = numbered-in plan (plate_height plan) 0 (flat_map (section_groups plan) (range_with_len 0 (length plan.sections))) (all_pieces (In plan) (section_groups plan) 0 (length plan.sections) (λ section low high. section-in plan section (omega arith)))

@@ -1,4 +1,4 @@
--- How many rows of a plate stand below row n.
+-- The number of a plate's rows below row n.
 use Rattle.std.proofs.Common.{◌≡◌, ◌≢◌, ℕ, ◌+◌, ◌-◌, ◌*◌, ◌<◌, ◌≤◌, Bool, get_or, sym, ap, ◌∙◌, ⊎_elim, arith}
 use Rattle.std.specs.Prelude.{nat_lt}
 use Rattle.std.specs.List.{range_with_len}
@@ -11,7 +11,7 @@ use Rattle.site_agent.specs.Job.{number_in, last_in}
 use Rattle.site_agent.specs.Given.{given}
 use Rattle.site_agent.proofs.Fronts.{count_by-front, IsFront, front-pass, front-fail}
 
--- the rows of a plate rise
+-- the row numbers of a plate increase
 pub number-less : (plate : SitePlate) (y z : ℕ) → 0 < plate.step → y < z → number_in plate y < number_in plate z
 number-less plate y z some less =
     let next : (y + 1) * plate.step ≡ y * plate.step + plate.step = add-mul y 1 plate.step ∙ ap (λ m. y * plate.step + m) (one-mul plate.step) in
@@ -23,14 +23,14 @@ number-within plate y z less =
     let most : y * plate.step ≤ z * plate.step = mul-le-mul_right plate.step less in
     omega arith
 
--- row y of the plate stands below row n
+-- row y of the plate is below row n
 abbrev below : SitePlate → ℕ → ℕ → Bool
 below plate n y = nat_lt (number_in plate y) n
 
 at : (height y d : ℕ) → y < height → get_or (range_with_len 0 height) y d ≡ y
 at height y d less = get_or-range_with_len 0 height y d less ∙ omega arith
 
--- the first k rows stand below row n, and no other
+-- the first k rows are below row n, and no others
 pub given-is : (height k n : ℕ) (plate : SitePlate) → k ≤ height → ((y : ℕ) → y < k → number_in plate y < n) → ((y : ℕ) → k ≤ y → y < height → n ≤ number_in plate y)
     → given height plate n ≡ k
 unfolding given
@@ -52,7 +52,7 @@ pub given-within : (height n : ℕ) (plate : SitePlate) → given height plate n
 unfolding given
 given-within height n plate = omega (arith, count_by-le-length (below plate n) (range_with_len 0 height), length-range_with_len 0 height)
 
--- the rows so far are those that stand below row n
+-- the rows given so far are those below row n
 pub given-below : (height n : ℕ) (plate : SitePlate) (y : ℕ) → y < given height plate n → number_in plate y < n
 unfolding given
 given-below height n plate y first =
@@ -65,7 +65,7 @@ given-above height n plate y from in_plate =
     ltb-false (number_in plate y) n
     (sym (ap (below plate n) (at height y 0 in_plate)) ∙ front-fail (below plate n) (range_with_len 0 height) y 0 (front height n plate) from (omega (arith, length-range_with_len 0 height)))
 
--- before and behind the plate's own row n
+-- before and after the plate's own row n
 pub given-at : (height n y : ℕ) (plate : SitePlate) → 0 < plate.step → y < height → number_in plate y ≡ n → given height plate n ≡ y
 given-at height n y plate some inside is =
     given-is height y n plate (omega arith)
@@ -117,7 +117,7 @@ given-not_all height n plate high open' =
     (λ (all : height ≤ given height plate n). absurd (let h : number_in plate (height - 1) < n = given-below height n plate (height - 1) (omega arith) in omega arith))
     (cases_lt (given height plate n) height)
 
--- the other way round
+-- the converse
 pub given-begun : (height n : ℕ) (plate : SitePlate) → 0 < given height plate n → plate.first < n
 given-begun height n plate some = let h : number_in plate 0 < n = given-below height n plate 0 some in omega arith
 

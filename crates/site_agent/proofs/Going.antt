@@ -1,5 +1,5 @@
--- A run of a site over all rows: it starts, each row takes it one further, and what Site::keep asks holds at each. A run
--- over any carrier of rows keeps `IsGoing`, and cites these.
+-- A run of a site over all rows: it starts, each row takes it one further, and what `Site::keep` requires
+-- holds at each. A run over any carrier of rows maintains `IsGoing` and cites these lemmas.
 use Rattle.std.proofs.Common.{◌≡◌, ℕ, zero, suc, ◌+◌, ◌<◌, true, false, List, length, map, Option, Some, None, refl, sym, ap, subst, ◌∙◌, arith}
 use Rattle.std.specs.Prelude.{All, IfSome, is_some, slice_get}
 use Rattle.std.specs.Option.{option_map}
@@ -55,7 +55,7 @@ going_at_start plan rows out site source tells is idle total sides = record {
   stands = stands_at_start (job_of plan out site) rows source tells (fresh_site plan out site).counts (job_is plan out site is) idle;
 }
 
--- a row more, by what Site::keep ensures where it is Done
+-- one more row, by what `Site::keep` ensures when the result is Done
 pub going_further : (rows : List (List ℕ)) (source : Source) (before old now : Tells) (site next : SiteData) → IsGoing rows source before old site → GoesOn site next
     → (StandsAfter site.job rows source site.next before old site.counts → StandsAfter site.job rows source (site.next + 1) before now next.counts)
     → IsGoing rows source before now next
@@ -70,7 +70,7 @@ going_further rows source before old now site next going goes keeps =
       stands = subst (λ (n : ℕ). R next.job n) (sym goes.next) (subst (λ (job : SiteJob). R job (site.next + 1)) (sym goes.job) (keeps going.stands));
     }
 
--- ---- what Site::keep asks, where the next of these rows is handed to it
+-- ---- what `Site::keep` requires when the next of these rows is given to it
 
 pub going_within : (rows : List (List ℕ)) (source : Source) (before now : Tells) (site : SiteData) (row : List ℕ) → IsGoing rows source before now site → slice_get rows site.next ≡ Some row
     → site.next < site.job.total
@@ -87,7 +87,7 @@ going_begun rows source before now site going = asks_begun site.job rows source 
 pub going_working : (rows : List (List ℕ)) (source : Source) (before now : Tells) (site : SiteData) → IsGoing rows source before now site → IfSome now.working (AreAsLong site.job site.next site.counts)
 going_working rows source before now site going = asks_working site.job rows source site.next before now site.counts going.stands
 
--- ---- behind the last row
+-- ---- after the last row
 
 -- the rack's finished plates grew by exactly the site's files
 pub going_at_end : (plan : PlanData) (rows : List (List ℕ)) (out : List ℕ) (index : ℕ) (source : Source) (before now : Tells) (site : SiteData) → IsPlan plan → site.job ≡ job_of plan out index

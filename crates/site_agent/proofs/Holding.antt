@@ -1,4 +1,4 @@
--- What a call of the rack makes of what it holds.
+-- The effect of a rack's calls on its contents.
 use Rattle.std.proofs.Common.{◌≡◌, ◌≢◌, ℕ, ◌<◌, Bool, true, false, if◌then◌else◌, List, [], ◌∷◌, ◌++◌, length, Option, Some, None, refl, sym, ap, subst, ◌∙◌, ⊎_elim, arith}
 use Rattle.std.specs.Prelude.{◌==◌, is_some, slice_get, slice_set, IfSome, option_to_list}
 use Rattle.std.specs.Option.{option_map}
@@ -24,7 +24,7 @@ get-set_other xs i j x y apart there =
     ∙ ap Some (get_or-set_other xs i j x x apart)
     ∙ ap Some (get_or_from_slice_get xs j y x there)
 
--- what stands in the slots, but for one
+-- the contents of the slots, with one of them replaced
 abbrev pub put : ℕ → Option Plate → (ℕ → Option Plate) → ℕ → Option Plate
 put slot plate open' s = if s == slot then plate else open' s
 
@@ -34,7 +34,7 @@ put-same slot plate open' s same = cond-true (s == slot) plate (open' s) (eq-eqb
 pub put-other : (slot : ℕ) (plate : Option Plate) (open' : ℕ → Option Plate) (s : ℕ) → s ≢ slot → put slot plate open' s ≡ open' s
 put-other slot plate open' s apart = cond-false (s == slot) plate (open' s) (ne_eqb s slot apart)
 
--- a list that shows something of each slot, with one of them set
+-- a list derived from each slot, with one of them set
 pub put-shown : {X : Type 0} (f : Option Plate → X) (xs : List X) (slot : ℕ) (plate : Option Plate) (open' : ℕ → Option Plate) (s : ℕ)
     → slice_get xs s ≡ Some (f (open' s)) → slice_get (slice_set xs slot (f plate)) s ≡ Some (f (put slot plate open' s))
 put-shown f xs slot plate open' s there =
@@ -48,7 +48,7 @@ put-shown f xs slot plate open' s there =
     ∙ ap (λ p. Some (f p)) (sym (put-other slot plate open' s apart)))
     (cases_eq s slot)
 
--- where told, this stands in each slot
+-- the content of each slot, where known
 abbrev Work : (ℕ → Option Plate) → Option Slots → Type 0
 Work open' working = IfSome working (λ slots. (slot : ℕ) → slot < 5 → slice_get slots slot ≡ Some (open' slot))
 
@@ -56,7 +56,7 @@ put-work : (slot : ℕ) (plate : Option Plate) (open' : ℕ → Option Plate) (w
 put-work slot plate open' None work = tt
 put-work slot plate open' (Some slots) work = λ s less. put-shown (λ p. p) slots slot plate open' s (work s less)
 
--- the plate that stands in a slot
+-- the plate in a slot
 work-plate : (slot : ℕ) (open' : ℕ → Option Plate) (slots : Slots) → slot < 5 → Work open' (Some slots) → plate_in (Some slots) slot ≡ open' slot
 work-plate slot open' slots less work = get_or_from_slice_get slots slot (open' slot) None (work slot less)
 
@@ -74,7 +74,7 @@ begins files rows open' before old now slot plate holds is =
       working = put-work slot (Some plate) open' old.working holds.working;
     })
 
--- more behind a plate
+-- more bytes appended to a plate
 more-work : (slot : ℕ) (path bytes more : List ℕ) (open' : ℕ → Option Plate) (working : Option Slots) → slot < 5 → open' slot ≡ Some (path, bytes) → Work open' working
     → Work (put slot (Some (path, bytes ++ more)) open') (with_more slot more working)
 more-work slot path bytes more open' None less there work = tt
@@ -82,7 +82,7 @@ more-work slot path bytes more open' (Some slots) less there work =
     let P : Option Plate → Type 0 = λ plate. Work (put slot (Some (path, bytes ++ more)) open') (Some (slice_set slots slot (option_map (λ p. (p.0, p.1 ++ more)) plate))) in
     subst P (sym (work-plate slot open' slots less work ∙ there)) (put-work slot (Some (path, bytes ++ more)) open' (Some slots) work)
 
--- a slot that stays begun
+-- a slot that is still begun
 same-begun : (xs : List Bool) (slot s : ℕ) (plate : Plate) (open' : ℕ → Option Plate) → is_some (open' slot) ≡ true → slice_get xs s ≡ Some (is_some (open' s)) → slice_get xs s ≡ Some (is_some (put slot (Some plate) open' s))
 same-begun xs slot s plate open' begun there =
     ⊎_elim
@@ -107,7 +107,7 @@ takes files rows open' before old now slot number source path bytes more holds l
       working = more-work slot path bytes more open' old.working less there holds.working;
     })
 
--- where the plates in the slots aren't told, the finished ones aren't
+-- where the contents of the slots are unknown, the finished plates are too
 abbrev pub FinishedTold : Tells → Type 0
 FinishedTold now = now.working ≡ None → now.finished ≡ None
 
@@ -135,7 +135,7 @@ finishes files rows open' before old now slot place tail plate holds told less t
       working = put-work slot None open' old.working holds.working;
     })
 
--- another way to say what it holds
+-- the same contents in other terms
 pub alike : (files files' : List Plate) (rows rows' : List (ℕ × Source)) (open' other : ℕ → Option Plate) (before now : Tells) → Holds files rows open' before now
     → files ≡ files' → rows ≡ rows' → ((slot : ℕ) → slot < 5 → open' slot ≡ other slot) → Holds files' rows' other before now
 alike files files' rows rows' open' other before now holds same_files same_rows same = record {

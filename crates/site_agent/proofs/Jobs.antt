@@ -1,4 +1,4 @@
--- The plates of a site, as a plan gives them, stand in order.
+-- The plates of a site, derived from a plan, are in order.
 use Rattle.std.proofs.Common.{◌≡◌, ◌≢◌, ℕ, zero, suc, ◌+◌, ◌-◌, ◌*◌, ◌^◌, ◌<◌, ◌≤◌, Bool, List, [], ◌∷◌, ◌++◌, length, map, get_or, refl, sym, ap, subst, ◌∙◌, ⊎_elim, arith, lit<}
 use Rattle.std.specs.Prelude.{All, AllPairs, count_by, filter, nat_lt, sum_by}
 use Rattle.std.specs.List.{flat_map, range_with_len}
@@ -51,7 +51,7 @@ All-both P Q xs weaker all k d less = weaker (get_or xs k d) (all k d less)
 
 -- ---- two plates
 
--- all rows of one stand before all of the other
+-- all rows of one precede all of the other
 before-apart : (height : ℕ) (plate next : SitePlate) → 0 < height → last_in height plate < next.first → IsBefore height plate next
 before-apart height plate next high less =
     let from : number_in plate 0 ≤ last_in height plate = number-within plate 0 (height - 1) (omega arith) in
@@ -65,7 +65,7 @@ before-apart height plate next high less =
           let least : number_in next 0 ≤ number_in next z = number-within next 0 z (omega arith) in omega arith;
     }
 
--- rows that go round in turn have different numbers
+-- interleaved rows have different numbers
 turns-apart : (base i j y z count : ℕ) → i < j → j < count → (base + i) + y * count ≢ (base + j) + z * count
 turns-apart base i j y z count less within same =
     ⊎_elim
@@ -87,7 +87,7 @@ slot-five Y = lit< tt
 slot-five K = lit< tt
 slot-five S = lit< tt
 
--- where the plates of a group lie
+-- the range of row numbers of a group's plates
 pub record IsInside (height from to : ℕ) (plate : SitePlate) : Type 0 where
   pub least : from ≤ plate.first
   pub most : last_in height plate < to
@@ -131,7 +131,7 @@ inside-wider height from to low high plate least most inside =
     let b : last_in height plate < to = inside.most in
     record { least = omega arith; most = omega arith; is = inside.is }
 
--- those of one more group
+-- the plates of one more group
 list-with : (plan : PlanData) (out : List ℕ) (site : ℕ) (group : Group) (groups : List Group)
     → map (plate_of plan out site) (flat_map group_plates (group ∷ groups)) ≡ map (λ i. plate_of plan out site (group, i)) (inks_of group) ++ map (plate_of plan out site) (flat_map group_plates groups)
 list-with plan out site group groups =

@@ -1,4 +1,4 @@
--- What a site's answer says, and how it stands where it kept a row.
+-- What a site's result means, and the site's state after it kept a row.
 use Rattle.std.proofs.Common.{◌≡◌, ◌≢◌, ℕ, ◌+◌, ◌/◌, ◌<◌, inl, inr, List, [], ◌∷◌, length, arith, Option, Some, sym, ap, subst, ◌∙◌, refl}
 use Rattle.std.specs.Prelude.{slice_get, slice_index_or}
 use Rattle.std.proofs.lemmas.List.{get_or-map}
@@ -25,7 +25,7 @@ use Rattle.site_agent.proofs.Holding.{FinishedTold}
 use Rattle.site_agent.proofs.Opens.{plate_at}
 use Rattle.site_agent.proofs.Standing.{row_kept}
 
--- ---- the answer where the rack refused a call
+-- ---- the result if the rack refused a call
 
 pub done-refused : (kept : Kept) (fault : RackFault) (cause : LeftCause) (P : Type 0) → kept ≡ kept_of fault cause → OnDone kept P
 done-refused kept Failed cause P is = subst (λ (k : Kept). OnDone k P) (sym is) tt
@@ -47,7 +47,7 @@ pub memory-only : (kept : Kept) (fault : RackFault) (cause : LeftCause) (P : Typ
 memory-only kept Failed cause P is holds = subst (λ (k : Kept). OnMemory k P) (sym is) tt
 memory-only kept Memory cause P is holds = subst (λ (k : Kept). OnMemory k P) (sym is) (holds refl)
 
--- the row was taken once or not
+-- the row was taken once or not at all
 pub taken-once : (call : RackCall) (number : ℕ) (source : Source) (old new : Option (List (ℕ × Source))) → new ≡ taken_at call number source old → TakenOnce number source old new
 taken-once Begin number source old new is = inl is
 taken-once Row number source old new is = inl is
@@ -59,7 +59,7 @@ pub strips-of : (job : SiteJob) (n finished : ℕ) (slots : List Slot) (s : ℕ)
 strips-of job n finished [] s counting less within = absurd (omega arith)
 strips-of job n finished (d ∷ slots) s counting less within = ap length (get_or-map (λ slot. slot.counts.items) (d ∷ slots) s d [] within) ∙ (counting.each s d less).strips
 
--- one row of a plate, which stands in this slot
+-- one row of a plate, which is in this slot
 pub row_kept-slot : (job : SiteJob) (rows : List (List ℕ)) (source : Source) (n k y slot : ℕ) (before old now : Tells) (counts after : List (List ℕ)) (d : SitePlate) (frame : List ℕ) → IsJob job → IsRowOf job n k y
     → (plate_at job k d).slot ≡ slot → StandsAfter job rows source n before old counts → FinishedTold old → IsFrame frame → slice_get rows n ≡ Some (framed_row frame)
     → length (slice_index_or counts slot []) ≡ strip_count job.width job.height

@@ -1,4 +1,4 @@
--- Which rows a site keeps, in the words of the plan.
+-- The rows that a site keeps, in terms of the plan.
 use Rattle.std.proofs.Common.{◌≡◌, ℕ, zero, suc, ◌+◌, ◌-◌, ◌<◌, ◌≤◌, Bool, true, false, cond, ◌⊎◌, inl, inr, List, [], ◌∷◌, ◌++◌, length, map, take, filter, get_or, Some, refl, sym, ap, subst, ◌∙◌, ⊎_elim, arith}
 use Rattle.std.specs.Prelude.{Contains, count_by, nat_lt, slice_get}
 use Rattle.std.specs.List.{flat_map, range_with_len}
@@ -66,7 +66,7 @@ contains-filter {X} test (z ∷ xs) x passes (suc k, within, is) =
 contains-map : {X Y : Type 0} (f : X → Y) (xs : List X) (x : X) → Contains xs x → Contains (map f xs) (f x)
 contains-map f xs x (k, within, is) = (k, omega (arith, length-map xs f), get_or-map f xs k x (f x) within ∙ ap f is)
 
--- the other way round
+-- the converse
 from-flat : {X Y : Type 0} (f : X → List Y) (xs : List X) (y : Y) → Contains (flat_map f xs) y → (x : X) × Contains xs x × Contains (f x) y
 from-flat f [] y (k, within, is) = absurd (omega arith)
 from-flat {X} {Y} f (x ∷ xs) y there = ⊎_elim
@@ -127,7 +127,7 @@ row-of plan out site n y plate (k, within, is) below number = record {
   number = λ d. ap (λ p. number_in p y) (get_or-map (plate_of plan out site) (site_plates plan site) k plate d within ∙ ap (plate_of plan out site) is) ∙ number-is plan out site y plate ∙ sym number;
 }
 
--- the row of another site's group
+-- a row of a group that the site does not print
 no-row : (plan : PlanData) (out : List ℕ) (site n index y : ℕ) (group : Group) (ink : Ink) → IsPlan plan → IsRowAt plan n index group y ink → has_site group site ≡ false → IsNoRow (job_of plan out site) n
 no-row plan out site n index y group ink is at other = record {
   none = λ k z d within below same.
@@ -142,7 +142,7 @@ no-row plan out site n index y group ink is at other = record {
       both_ways (has_site group site) other (ap (λ g. has_site g site) equal ∙ there.printed);
 }
 
--- a site's job has the rows that the site keeps of the plan
+-- a site's job has exactly the rows that the site keeps of the plan
 pub kept_is : (plan : PlanData) (out : List ℕ) (site n : ℕ) → IsPlan plan → n < length (row_places plan) → is_kept (job_of plan out site) n ≡ keeps_row plan site n
 kept_is plan out site n is within = by_place (get_or (row_places plan) n any) (slice_get-get_or (row_places plan) n any within) where
   any : RowPlace
@@ -173,7 +173,7 @@ filter-alike p q (x ∷ xs) alike =
     ap (λ b. cond b (x ∷ filter p xs) (filter p xs)) (alike 0 x (omega arith))
     ∙ ap (λ list. cond (q x) (x ∷ list) list) (filter-alike p q xs (λ k d less. alike (suc k) d (omega arith)))
 
--- the rows that a site took below row m are those of them that it keeps of the plan
+-- the rows taken below row m are those that the site keeps of the plan
 pub drawn_below : (plan : PlanData) (out : List ℕ) (site : ℕ) (source : Source) (m : ℕ) → IsPlan plan → m ≤ length (row_places plan)
     → taken_below (job_of plan out site) source m ≡ map (λ n. (n, source)) (filter (keeps_row plan site) (range_with_len 0 m))
 unfolding kept_below
@@ -184,11 +184,11 @@ drawn_below plan out site source m is most =
     let there : get_or (range_with_len 0 m) k d ≡ k = get_or-range_with_len 0 m k d within ∙ omega arith in
     ap (is_kept (job_of plan out site)) there ∙ kept_is plan out site k is (omega arith) ∙ ap (keeps_row plan site) (sym there)))
 
--- after the last row those rows were taken that the site draws
+-- after the last row, all rows that the site keeps have been taken
 pub drawn_at_end : (plan : PlanData) (out : List ℕ) (site : ℕ) (source : Source) → IsPlan plan → taken_below (job_of plan out site) source (length (row_places plan)) ≡ drawn_rows plan site source
 drawn_at_end plan out site source is = drawn_below plan out site source (length (row_places plan)) is (omega arith)
 
--- ---- a site that left
+-- ---- a site that dropped out
 
 count_by-map : {X Y : Type 0} (p : Y → Bool) (q : X → Bool) (f : X → Y) (xs : List X) → ((x : X) → p (f x) ≡ q x) → count_by p (map f xs) ≡ count_by q xs
 count_by-map p q f [] same = refl
@@ -204,7 +204,7 @@ finished_is plan out site n =
     count_by-map (λ p. nat_lt (last_in (plate_height plan) p) n) (λ plate. nat_lt (last_row plan plate) n) (plate_of plan out site) (site_plates plan site)
     (λ plate. ap (λ m. nat_lt m n) (number-is plan out site (plate_height plan - 1) plate))
 
--- its cause and what its rack has grown by fit the plan
+-- its cause, and the plates that its rack gained, fit the plan
 pub fits_left : (plan : PlanData) (rows : List (List ℕ)) (out : List ℕ) (site n : ℕ) (cause : LeftCause) → IsPlan plan → n < length (row_places plan) → IsCauseAt (job_of plan out site) n cause
     → FitsLeft plan rows out site cause (files_below (job_of plan out site) rows n)
 fits_left plan rows out site n cause is within at =

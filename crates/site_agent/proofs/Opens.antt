@@ -1,4 +1,4 @@
--- Which plates are open and which are finished, before and behind row n.
+-- Which plates are open and which are finished, before and after row n.
 use Rattle.std.proofs.Common.{◌≡◌, ◌≢◌, ℕ, ◌+◌, ◌-◌, ◌<◌, ◌≤◌, ◌⊎◌, inl, inr, Bool, true, false, length, get_or, Some, None, refl, sym, ap, ◌∙◌, ⊎_elim, arith}
 use Rattle.std.specs.Prelude.{nat_lt, ◌==◌, ◌&&◌}
 use Rattle.std.proofs.lemmas.Bool.{lt-ltb, le-ltb, ltb-true, ltb-false, cases_lt, cases_eq, cases_order, eq-eqb, ne_eqb, eqb-true, and_from, and_parts, and_left, and_right}
@@ -27,7 +27,7 @@ open-all : (height n : ℕ) (plate : SitePlate) → given height plate n ≡ hei
 open-all height n plate all =
     and_right (nat_lt 0 (given height plate n)) (nat_lt (given height plate n) height) (le-ltb (given height plate n) height (omega arith))
 
--- the plate stands in this slot and is open
+-- the plate belongs in this slot and is open
 abbrev stands : SiteJob → ℕ → ℕ → SitePlate → Bool
 stands job n slot plate = plate.slot == slot && is_open job.height n plate
 
@@ -47,7 +47,7 @@ stands-alike job n m slot plate same =
     ∙ sym (and_left (plate.slot == slot) (is_open job.height m plate) (ne_eqb plate.slot slot there)))
     (cases_eq plate.slot slot)
 
--- a plate with some rows below row n, and some not, is the one in its slot
+-- a plate with some rows below row n, and some not, is the open one of its slot
 pub opened : (job : SiteJob) (n k : ℕ) (d : SitePlate) → IsJob job → k < length job.plates → 0 < given job.height (plate_at job k d) n → given job.height (plate_at job k d) n < job.height
     → open_in job n (plate_at job k d).slot ≡ Some (plate_at job k d)
 unfolding open_in
@@ -67,14 +67,14 @@ pub closed : (job : SiteJob) (n slot : ℕ) → ((j : ℕ) (d : SitePlate) → j
 unfolding open_in
 closed job n slot each = find-fails (stands job n slot) job.plates (λ j d less. stands-not job n slot (plate_at job j d) (each j d less))
 
--- the plates of the slot have as many rows below the one row as below the other
+-- the plates of the slot have as many rows below one row as below the other
 pub open_in-alike : (job : SiteJob) (n m slot : ℕ)
     → ((j : ℕ) (d : SitePlate) → j < length job.plates → (plate_at job j d).slot ≡ slot → given job.height (plate_at job j d) n ≡ given job.height (plate_at job j d) m)
     → open_in job n slot ≡ open_in job m slot
 unfolding open_in
 open_in-alike job n m slot each = find-alike (stands job n slot) (stands job m slot) job.plates (λ j d less. stands-alike job n m slot (plate_at job j d) (each j d less))
 
--- the plate that stands in a slot is one of the site's
+-- the open plate of a slot is one of the site's
 pub record StandsAs (job : SiteJob) (slot' : ℕ) (plate : SitePlate) : Type 0 where
   pub index : ℕ
   pub within : index < length job.plates
@@ -94,7 +94,7 @@ open_in-plate job n slot plate open' =
 
 -- ---- row n is row y of plate k
 
--- it is no row of another
+-- it is not a row of another plate
 pub no_other : (job : SiteJob) (n k y j z : ℕ) (d : SitePlate) → IsJob job → IsRowOf job n k y → j < length job.plates → j ≢ k → z < job.height → number_in (plate_at job j d) z ≢ n
 no_other job n k y j z d is row within other below =
     let here : number_in (plate_at job k d) y ≡ n = row.number d in
@@ -107,13 +107,13 @@ no_other job n k y j z d is row within other below =
     sides)
     (cases_order j k)
 
--- so no other gets a row more
+-- so no other plate gains a row
 pub other-stays : (job : SiteJob) (n k y j : ℕ) (d : SitePlate) → IsJob job → IsRowOf job n k y → j < length job.plates → j ≢ k
     → given job.height (plate_at job j d) (n + 1) ≡ given job.height (plate_at job j d) n
 other-stays job n k y j d is row within other =
     given-stays job.height n (plate_at job j d) (λ z below. no_other job n k y j z d is row within other below)
 
--- a row stands between the first of its plate and the last
+-- a row lies between the first of its plate and the last
 pub row-first : (job : SiteJob) (n k y : ℕ) (d : SitePlate) → IsRowOf job n k y → (plate_at job k d).first ≤ n
 row-first job n k y d row =
     let here : number_in (plate_at job k d) y ≡ n = row.number d in

@@ -1,4 +1,5 @@
--- A site of some of its plates: they stand in order too, and their files are the picked ones of the site's.
+-- A site of some of its plates: they are in order too, and their files are the picked ones of the site's
+-- files.
 use Rattle.std.proofs.Common.{◌≡◌, ℕ, suc, ◌+◌, ◌<◌, ◌≤◌, Bool, true, false, cond, if◌then◌else◌, List, [], ◌∷◌, ◌++◌, length, map, take, get_or, refl, sym, ap, subst, ◌∙◌, ⊎_elim, arith}
 use Rattle.std.specs.Prelude.{All, AllPairs, count_by}
 use Rattle.std.proofs.lemmas.Bool.{cases_lt}
@@ -32,7 +33,7 @@ pub kept-nil : {X : Type 0} (bits : List Bool) → kept_where {X = X} bits [] �
 kept-nil [] = refl
 kept-nil (bit ∷ bits) = refl
 
--- one entry more at the end
+-- one more entry at the end
 pub kept-more : {X : Type 0} (bits : List Bool) (xs : List X) (x : X) → length xs < length bits
     → kept_where bits (xs ++ x ∷ []) ≡ kept_where bits xs ++ (if get_or bits (length xs) false then x ∷ [] else [])
 kept-more [] xs x less = absurd (omega (arith, less))
@@ -56,7 +57,7 @@ map-kept {X} {Y} f (bit ∷ bits) (x ∷ xs) = by bit (map-kept f bits xs) where
   by true next = ap (λ list. f x ∷ list) next
   by false next = next
 
--- as many are kept as there are bits that are true
+-- as many entries are kept as there are true bits
 pub length-kept : {X : Type 0} (bits : List Bool) (xs : List X) → length bits ≡ length xs → length (kept_where bits xs) ≡ count_by (λ bit. bit) bits
 length-kept [] xs same = refl
 length-kept (bit ∷ bits) [] same = absurd (omega (arith, same))
@@ -74,7 +75,7 @@ kept-most {X} (bit ∷ bits) (x ∷ xs) = by bit (kept-most bits xs) where
   by true next = omega (arith, next)
   by false next = omega (arith, next)
 
--- what holds of each holds of each that is kept
+-- what holds of every entry holds of every kept one
 All-kept : {X : Type 0} (P : X → Type 0) (bits : List Bool) (xs : List X) → All P xs → All P (kept_where bits xs)
 All-kept P [] xs all = All-nil P
 All-kept P (bit ∷ bits) [] all = All-nil P
@@ -83,7 +84,7 @@ All-kept {X} P (bit ∷ bits) (x ∷ xs) all = by bit (All-kept P bits xs (All-t
   by true next = All-cons P x (kept_where bits xs) (All-head P x xs all) next
   by false next = next
 
--- and those that are kept stand in the same order
+-- and the kept ones are in the same order
 AllPairs-kept : {X : Type 0} (R : X → X → Type 0) (bits : List Bool) (xs : List X) → AllPairs R xs → AllPairs R (kept_where bits xs)
 AllPairs-kept R [] xs all = λ i j d less within. absurd (omega (arith, within))
 AllPairs-kept R (bit ∷ bits) [] all = λ i j d less within. absurd (omega (arith, within))
@@ -96,7 +97,7 @@ AllPairs-kept {X} R (bit ∷ bits) (x ∷ xs) all =
 
 -- ---- jobs
 
--- some of a job's plates are a job
+-- a selection of a job's plates is a job
 pub part_is : (job : SiteJob) (bits : List Bool) → IsJob job → IsJob (part_of job bits)
 part_is job bits is = record {
   width = is.width;
@@ -130,7 +131,7 @@ picked_at_start plan rows out site bits source tells is idle total sides = recor
   stands = stands_at_start (picked_job plan out site bits) rows source tells (picked_site plan out site bits).counts (picked_is plan out site bits is) idle;
 }
 
--- below a row the rack's finished plates grew by the first of the picked files
+-- below a row, the rack's finished plates grew by the first of the picked files
 pub picked_below : (plan : PlanData) (rows : List (List ℕ)) (out : List ℕ) (site n : ℕ) (bits : List Bool)
     → files_below (picked_job plan out site bits) rows n ≡ take (finished_count (picked_job plan out site bits) n) (picked_files plan rows out site bits)
 picked_below plan rows out site n bits = ap (take (finished_count (picked_job plan out site bits) n)) (picked_files_are plan rows out site bits)
@@ -146,9 +147,9 @@ picked_at_end plan rows out site n bits source before now counts all stands =
     ∙ ap (λ files. grown files before.finished)
     (take_all (length job.plates) (files_of job rows) (omega (arith, length-map job.plates (file_of job rows))) ∙ picked_files_are plan rows out site bits)
 
--- ---- a site that left
+-- ---- a site that dropped out
 
--- at its row no more plates are finished than stand before the row's plate
+-- at a row, no more plates are finished than precede the row's plate
 pub finished_before : (job : SiteJob) (n k y : ℕ) (d : SitePlate) → IsJob job → IsRowOf job n k y → finished_count job n ≤ k
 finished_before job n k y d is row =
     ⊎_elim
@@ -156,7 +157,7 @@ finished_before job n k y d is row =
     (λ (most : finished_count job n ≤ k). most)
     (cases_lt k (finished_count job n))
 
--- its plate is one of those that weren't finished
+-- its plate is one of the unfinished ones
 pub record IsLeftAt (files : List Plate) (made : ℕ) (path : List ℕ) : Type 0 where
   pub index : ℕ
   pub from : made ≤ index

@@ -1,4 +1,4 @@
--- What a site that counts finds of the row that comes next.
+-- How a site finds the place of the next row from its counts.
 use Rattle.std.proofs.Common.{◌≡◌, ◌≢◌, ℕ, ◌^◌, ◌<◌, ◌≤◌, List, length, get_or, sym, ap, subst, ◌∙◌, ⊎_elim, arith}
 use Rattle.std.proofs.lemmas.Bool.{cases_lt}
 use Rattle.site_agent.specs.declared.plate.SitePlate.{SitePlate}
@@ -10,7 +10,7 @@ use Rattle.site_agent.proofs.Opens.{plate_at}
 use Rattle.site_agent.proofs.Steps.{same-plate}
 use Rattle.site_agent.proofs.Finding.{IsNoRowOf, row-found, next-within, no-row_next, no-row_finished, no-row_later, no-row_all}
 
--- a plate that is looked at, with its slot
+-- a plate under examination, with its slot
 pub record Looked (job : SiteJob) (n finished : ℕ) (slots : List Slot) (i : ℕ) (plate' : SitePlate) (slot' : Slot) : Type 0 where
   pub counting : IsCounting job n finished slots
   pub from : finished ≤ i
@@ -19,7 +19,7 @@ pub record Looked (job : SiteJob) (n finished : ℕ) (slots : List Slot) (i : �
   pub slot : slot' ≡ get_or slots plate'.slot slot'
   pub begun : plate'.first ≤ n
 
--- its slot's number of rows is that of the plate
+-- the slot's number of rows is the plate's
 rows-are : (job : SiteJob) (n finished : ℕ) (slots : List Slot) (i : ℕ) (plate : SitePlate) (slot : Slot) → Looked job n finished slots i plate slot
     → slot.rows ≡ open_rows job n (plate_at job i plate).slot
 rows-are job n finished slots i plate slot looked =

@@ -1,4 +1,4 @@
--- Lists of what racks tell: what holds of each, and racks with others behind them.
+-- Lists of racks as contracts see them: facts about each rack, and racks followed by others.
 use Rattle.std.proofs.Common.{◌≡◌, ◌≢◌, ℕ, zero, suc, ◌-◌, ◌<◌, ◌≤◌, true, false, List, [], ◌∷◌, ◌++◌, length, map, set, Option, Some, None, IfSome, refl, sym, ap, subst, ◌∙◌, ⊎_elim, inl, inr, arith}
 use Rattle.std.specs.Prelude.{is_some, slice_get}
 use Rattle.std.specs.Option.{option_map}
@@ -23,7 +23,7 @@ slice_get-behind [] ys i more = ap (slice_get ys) (let e : i ≡ i - 0 = omega a
 slice_get-behind (x ∷ xs) ys zero more = absurd (omega (arith, more))
 slice_get-behind (x ∷ xs) ys (suc i) more = slice_get-behind xs ys i (omega (arith, more)) ∙ ap (slice_get ys) (let e : i - length xs ≡ suc i - suc (length xs) = omega arith in e)
 
--- what is read of a list after a write
+-- the entry read from a list after a write
 pub set-here : {X : Type 0} (xs : List X) (i : ℕ) (x y : X) → slice_get (set xs i x) i ≡ Some y → x ≡ y
 set-here xs i x y there =
     let within : i < length xs = omega (arith, slice_get_within (set xs i x) i y there, length-set xs i x) in
@@ -36,7 +36,7 @@ set-aside xs i j x y other there =
 
 -- ---- the start
 
--- what every rack tells, each of a list of racks does
+-- what holds of every rack holds of each in a list of racks
 pub all_tell : {X : Type 0} (tell : X → RackTells) (P : RackTells → Type 0) (racks : List X) (site : ℕ) (told : RackTells) → ((rack : X) → P (tell rack)) → slice_get (map tell racks) site ≡ Some told → P told
 all_tell tell P [] site told each there = absurd (none there) where
   none : None ≡ Some told → ⊥
@@ -61,7 +61,7 @@ empty-slot (Some (Some plate)) is = absurd (one (same_Some true false is)) where
   one : true ≡ false → ⊥
   one e = cc
 
--- a rack that tells of its slots what it tells of the begun ones is idle where none is begun
+-- a rack whose known slots agree with the begun ones is idle if none is begun
 pub idle_is : (told : RackTells) → TellsSlots told → told.tells.begun ≡ none_begun → IsIdle told.tells
 idle_is told slots idle = record {
   begun = λ slot less. ap (λ begun. slice_get begun slot) idle ∙ no-slot slot less;
@@ -79,17 +79,17 @@ counts_stay before = record {
   each = λ site old new b r. subst (λ (now : RackTells). old.faults ≤ now.faults) (same_Some old new (sym b ∙ r)) (let e : old.faults ≤ old.faults = omega arith in e);
 }
 
--- a count that rose since then rose since before
+-- a count that rose since then rose since an earlier time
 pub rose_since : (before old now : ℕ) → before ≤ old → Rose old now → Rose before now
 rose_since before old now from rose = ⊎_elim (λ more. inl (omega (arith, from, more))) (λ last. inr last) rose
 
--- ---- racks and others behind them
+-- ---- racks followed by others
 
--- what those racks tell, and those behind them
+-- what contracts see of those racks, and of the ones after them
 pub wide : {X : Type 0} (tell : X → RackTells) (racks front rest : List X) → racks ≡ front ++ rest → map tell racks ≡ map tell front ++ map tell rest
 wide tell racks front rest is = ap (map tell) is ∙ map-append tell front rest
 
--- what holds of the racks in front holds where others stand behind them
+-- what holds of the first racks holds when others follow them
 pub over_wide : {X : Type 0} (tell : X → RackTells) (P : List RackTells → List RackTells → Type 0) (racks racks' front front' rest : List X) → racks ≡ front ++ rest → racks' ≡ front' ++ rest
     → P (map tell front ++ map tell rest) (map tell front' ++ map tell rest) → P (map tell racks) (map tell racks')
 over_wide tell P racks racks' front front' rest is is' p =
@@ -113,13 +113,13 @@ idle_front count front rest long idle = record {
   each = λ site told less there. idle.each site told less (slice_get-front front rest site (omega (arith, less, long)) ∙ there);
 }
 
--- so the counts of all racks are kept where those of the ones in front are
+-- so the counts of all racks never decrease if those of the first racks do not
 pub all_keep : {X : Type 0} (tell : X → RackTells) (racks racks' front front' rest : List X) → racks ≡ front ++ rest → racks' ≡ front' ++ rest → length front' ≡ length front → KeepCounts (map tell front) (map tell front')
     → KeepCounts (map tell racks) (map tell racks')
 all_keep tell racks racks' front front' rest is is' same keep =
     over_wide tell KeepCounts racks racks' front front' rest is is' (counts_wide (map tell front) (map tell front') (map tell rest) (length-map front' tell ∙ same ∙ sym (length-map front tell)) keep)
 
--- and the ones in front are idle where all racks of the sites are
+-- and the first racks are idle if all racks of the sites are
 pub front_idle : {X : Type 0} (tell : X → RackTells) (count : ℕ) (racks front rest : List X) → racks ≡ front ++ rest → length front ≡ count → AreIdle count (map tell racks) → AreIdle count (map tell front)
 front_idle tell count racks front rest is long idle =
     idle_front count (map tell front) (map tell rest) (length-map front tell ∙ long) (subst (λ (list : List RackTells). AreIdle count list) (wide tell racks front rest is) idle)

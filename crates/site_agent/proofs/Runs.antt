@@ -1,5 +1,5 @@
--- A run of a site over all rows of a plan: its start, its end, and what stands where it left. A run over any carrier of rows
--- cites these, and `row_passed` and the clause `keeps` of Site::keep between them.
+-- A run of a site over all rows of a plan: its start, its end, and its state where it dropped out. A run over
+-- any carrier of rows cites these, and `row_passed` and the clause `keeps` of `Site::keep` in between.
 use Rattle.std.proofs.Common.{◌≡◌, ℕ, ◌+◌, ◌<◌, ◌≤◌, false, List, [], ◌∷◌, length, map, sum, take, Option, Some, None, refl, sym, ap, subst, ◌∙◌, arith}
 use Rattle.std.specs.Prelude.{is_some, slice_get, slice_index_or, IfSome}
 use Rattle.std.specs.List.{flat_map, range_with_len}
@@ -42,7 +42,7 @@ kept-start : (job : SiteJob) → kept_below job 0 ≡ []
 unfolding kept_below
 kept-start job = refl
 
--- no slot of the rack is begun, and none holds a plate where told
+-- no slot of the rack is begun, and where the contents are known, none holds a plate
 pub record IsIdle (tells : Tells) : Type 0 where
   pub begun : (slot : ℕ) → slot < 5 → slice_get tells.begun slot ≡ Some false
   pub working : IfSome tells.working (λ slots. (slot : ℕ) → slot < 5 → slice_get slots slot ≡ Some None)
@@ -64,7 +64,7 @@ stands_at_start job rows source tells counts is idle = record {
   slots None idle' = tt
   slots (Some held) idle' = λ slot less. idle' slot less ∙ ap (λ p. Some (option_map (begun_plate job rows 0) p)) (sym (open-start job slot))
 
--- ---- what the site asks of its rack for the next row
+-- ---- what the site requires of its rack for the next row
 
 shown : (f : SitePlate → Plate) (plate : Option SitePlate) → is_some (option_map f plate) ≡ is_some plate
 shown f None = refl
@@ -106,7 +106,7 @@ finished_at_end job rows source before now counts is stands =
     ∙ ap (λ k. grown (take k (files_of job rows)) before.finished) (finished-end job is)
     ∙ ap (λ files. grown files before.finished) (take_all (length job.plates) (files_of job rows) (omega (arith, length-map job.plates (file_of job rows))))
 
--- ---- in the words of the plan
+-- ---- in terms of the plan
 
 pub number-is : (plan : PlanData) (out : List ℕ) (site y : ℕ) (plate : PlateOf) → number_in (plate_of plan out site plate) y ≡ row_number plate.0 y plate.1
 number-is plan out site y plate = omega arith
@@ -128,7 +128,7 @@ files_are plan rows out site =
     ∙ map-alike (λ plate. file_of (job_of plan out site) rows (plate_of plan out site plate)) (plan_file_of plan rows out site) (site_plates plan site)
     (λ plate. ap (λ list. ((plate_of plan out site plate).path, plate_file (plate_width plan) plan.dpi list)) (rows-are plan rows out site plate))
 
--- after the last row the rack's finished plates grew by exactly the site's files
+-- after the last row, the rack's finished plates grew by exactly the site's files
 pub site_at_end : (plan : PlanData) (rows : List (List ℕ)) (out : List ℕ) (site : ℕ) (source : Source) (before now : Tells) (counts : List (List ℕ)) → IsPlan plan
     → StandsAfter (job_of plan out site) rows source (length (row_places plan)) before now counts → now.finished ≡ grown (site_files plan rows out site) before.finished
 site_at_end plan rows out site source before now counts is stands =

@@ -1,4 +1,4 @@
--- How a site and its rack stand after one row more.
+-- The state of a site and its rack after one more row.
 use Rattle.std.proofs.Common.{◌≡◌, ◌≢◌, ℕ, ◌+◌, ◌/◌, ◌<◌, ◌≤◌, if◌then◌else◌, List, [], ◌∷◌, ◌++◌, length, map, take, get_or, set, replicate, Option, Some, None, refl, sym, ap, subst, ◌∙◌, ⊎_elim, arith}
 use Rattle.std.specs.Prelude.{◌==◌, slice_get, slice_index_or, IfSome}
 use Rattle.std.specs.List.{flat_map}
@@ -27,7 +27,7 @@ use Rattle.site_agent.proofs.Opens.{plate_at, StandsAs, open_in-plate}
 use Rattle.site_agent.proofs.Steps.{row-given, row-next, open-before, open-after, last-after, open-other, given-other, finished-last, finished-open, open-none, finished-none, kept-row, kept-none, rows-more, rows-none, length-rows_of}
 use Rattle.site_agent.proofs.Holding.{put, put-same, put-other, begins, takes, finishes, alike, FinishedTold}
 
--- ---- a slot whose plate gets no row
+-- ---- a slot whose plate gains no row
 
 plate-same : (job : SiteJob) (rows : List (List ℕ)) (n m slot : ℕ) → open_in job m slot ≡ open_in job n slot → ((plate : SitePlate) → open_in job n slot ≡ Some plate → given job.height plate m ≡ given job.height plate n)
     → plate_below job rows n slot ≡ plate_below job rows m slot
@@ -54,7 +54,7 @@ counts-same job rows n m slot counts after open' same kept are = by_plate (open_
       let P : Option SitePlate → Type 0 = λ plate. IfSome plate (λ p. slice_index_or after slot [] ≡ counts_so_far job.width job.height (rows_below job rows m p)) in
       subst P (sym (open' ∙ there)) (kept ∙ are' ∙ ap (λ g. counts_so_far job.width job.height (rows_of rows plate g)) (sym (same plate there)))
 
--- ---- a row that is of no plate
+-- ---- a row that belongs to no plate
 
 stays-none : (job : SiteJob) (n slot : ℕ) (plate : SitePlate) → IsNoRow job n → open_in job n slot ≡ Some plate → given job.height plate (n + 1) ≡ given job.height plate n
 stays-none job n slot plate row open' =
@@ -62,7 +62,7 @@ stays-none job n slot plate row open' =
     let P : SitePlate → Type 0 = λ p. given job.height p (n + 1) ≡ given job.height p n in
     subst P there.is (given-stays job.height n (plate_at job there.index plate) (λ y below. row.none there.index y plate there.within below))
 
--- nothing changes by a row that isn't kept
+-- a row that is not kept changes nothing
 pub row_passed : (job : SiteJob) (rows : List (List ℕ)) (source : Source) (n : ℕ) (before now : Tells) (counts : List (List ℕ)) → IsJob job → IsNoRow job n
     → StandsAfter job rows source n before now counts → StandsAfter job rows source (n + 1) before now counts
 row_passed job rows source n before now counts is row stands = record {
@@ -75,7 +75,7 @@ row_passed job rows source n before now counts is row stands = record {
 
 -- ---- a row of a plate
 
--- the strips' counts with the row
+-- the strips' counts including the row
 pub counts-row : (job : SiteJob) (rows : List (List ℕ)) (source : Source) (n k y : ℕ) (before now : Tells) (counts : List (List ℕ)) (d : SitePlate) (frame : List ℕ) → IsJob job → IsRowOf job n k y
     → StandsAfter job rows source n before now counts → IsFrame frame → slice_get rows n ≡ Some (framed_row frame)
     → length (slice_index_or counts (plate_at job k d).slot []) ≡ strip_count job.width job.height
@@ -119,7 +119,7 @@ counts-row job rows source n k y before now counts d frame is row stands framed 
           ∙ ap (λ g. counts_so_far job.width job.height (rows_of rows plate g)) (row-given job n k y d is row))
           (cases_eq y 0)
 
--- what stands in the row's slot, once its plate is begun
+-- the content of the row's slot once its plate is begun
 row-begun : (job : SiteJob) (rows : List (List ℕ)) (source : Source) (n k y : ℕ) (before old : Tells) (counts : List (List ℕ)) (d : SitePlate) → IsJob job → IsRowOf job n k y
     → StandsAfter job rows source n before old counts
     → Holds (files_below job rows n) (taken_below job source n)
@@ -167,7 +167,7 @@ row-begun job rows source n k y before old counts d is row stands =
       bytes : List ℕ
       bytes = front_bytes ++ flat_map packing (rows_of rows plate y)
 
--- the packed rows with the row
+-- the packed rows including the row
 packed-more : (rows : List (List ℕ)) (plate : SitePlate) (y n : ℕ) (frame : List ℕ) → number_in plate y ≡ n → IsFrame frame → slice_get rows n ≡ Some (framed_row frame)
     → (front_bytes ++ flat_map packing (rows_of rows plate y)) ++ packed_in frame ≡ front_bytes ++ flat_map packing (rows_of rows plate (y + 1))
 packed-more rows plate y n frame is framed here =
@@ -194,7 +194,7 @@ closed-is job rows plate last counts all are =
       whole : counts_so_far job.width job.height every ≡ strip_counts job.width every
       whole = counts_so_far-all job.width job.height every len
 
--- the files with that of the plate
+-- the files including that of the plate
 files-last : (job : SiteJob) (rows : List (List ℕ)) (n k y : ℕ) (d : SitePlate) → IsJob job → IsRowOf job n k y → y + 1 ≡ job.height
     → files_below job rows n ++ file_of job rows (plate_at job k d) ∷ [] ≡ files_below job rows (n + 1)
 files-last job rows n k y d is row last =
@@ -209,7 +209,7 @@ taken-row : (job : SiteJob) (source : Source) (n k y : ℕ) (d : SitePlate) → 
 taken-row job source n k y d row =
     sym (map-append (λ k. (k, source)) (kept_below job n) (n ∷ [])) ∙ ap (map (λ k. (k, source))) (sym (kept-row job n k y d row))
 
--- ---- whether the finished plates are told
+-- ---- whether the finished plates are known
 
 told-plate : (slot : ℕ) (plate : Option Plate) (working : Option Slots) → with_plate slot plate working ≡ None → working ≡ None
 told-plate slot plate None none = refl

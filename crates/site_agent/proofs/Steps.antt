@@ -1,4 +1,4 @@
--- What one row changes of the plates that are open and finished.
+-- How one row changes which plates are open and finished.
 use Rattle.std.proofs.Common.{◌≡◌, ◌≢◌, ℕ, ◌+◌, ◌-◌, ◌<◌, ◌≤◌, ◌⊎◌, true, false, cond, List, [], ◌∷◌, ◌++◌, length, map, filter, get_or, Some, None, inl, inr, subst, refl, sym, ap, ◌∙◌, ⊎_elim, arith}
 use Rattle.std.specs.Prelude.{◌==◌}
 use Rattle.std.specs.List.{list_any, range_with_len}
@@ -12,7 +12,7 @@ use Rattle.site_agent.specs.Given.{given, rows_of, open_in, finished_count, is_k
 use Rattle.site_agent.proofs.Givens.{number-less, given-at, given-next, given-stays}
 use Rattle.site_agent.proofs.Opens.{plate_at, opened, closed, open_in-alike, StandsAs, open_in-plate, no_other, other-stays, others-closed, closed-cases, finished-is, finished-stays}
 
--- the plate of a row has so many rows below it, and one more behind it
+-- the plate of a row has `y` rows below it, and one more after it
 pub row-given : (job : SiteJob) (n k y : ℕ) (d : SitePlate) → IsJob job → IsRowOf job n k y → given job.height (plate_at job k d) n ≡ y
 row-given job n k y d is row = given-at job.height n y (plate_at job k d) (is.each k d row.within).step row.below (row.number d)
 
@@ -27,7 +27,7 @@ open-before job n k y d is row some =
     let below : y < job.height = row.below in
     opened job n k d is row.within (omega arith) (omega arith)
 
--- the plates of the slot, but for the row's own, have no row there or all
+-- the other plates of the slot have none of their rows there, or all
 closed-there : (job : SiteJob) (n k y j : ℕ) (d : SitePlate) → IsJob job → IsRowOf job n k y → j < length job.plates → (plate_at job j d).slot ≡ (plate_at job k d).slot
     → (given job.height (plate_at job k d) n ≡ 0) ⊎ (given job.height (plate_at job k d) n ≡ job.height)
     → (given job.height (plate_at job j d) n ≡ 0) ⊎ (given job.height (plate_at job j d) n ≡ job.height)
@@ -37,7 +37,7 @@ closed-there job n k y j d is row less same own =
     (λ (other : j ≢ k). others-closed job n k y j d is row less other same)
     (cases_eq j k)
 
--- a list is read alike whatever stands for none, where there is one
+-- reading an entry that exists does not depend on the default
 pub same-plate : (job : SiteJob) (k : ℕ) (d e : SitePlate) → k < length job.plates → plate_at job k d ≡ plate_at job k e
 same-plate job k d e within = get_or_default job.plates k d e within
 
@@ -72,7 +72,7 @@ open-other job n k y slot d is row apart =
     (λ j e less same. other-stays job n k y j e is row less
     (λ here. apart (sym same ∙ ap (λ i. (plate_at job i e).slot) here ∙ ap (λ plate. plate.slot) (same-plate job k e d row.within))))
 
--- what stands there has as many rows as before
+-- the plate there has as many rows as before
 pub given-other : (job : SiteJob) (n k y slot : ℕ) (d plate : SitePlate) → IsJob job → IsRowOf job n k y → slot ≢ (plate_at job k d).slot → open_in job n slot ≡ Some plate
     → given job.height plate (n + 1) ≡ given job.height plate n
 given-other job n k y slot d plate is row apart open' =
@@ -124,7 +124,7 @@ finished-open job n k y is row more =
     (λ (other : j ≢ k). no_other job n k y j (job.height - 1) d is row less other (omega arith))
     (cases_eq j k))
 
--- ---- a row that is of no plate
+-- ---- a row that belongs to no plate
 
 pub open-none : (job : SiteJob) (n slot : ℕ) → IsNoRow job n → open_in job (n + 1) slot ≡ open_in job n slot
 open-none job n slot row = open_in-alike job (n + 1) n slot (λ j d less same. given-stays job.height n (plate_at job j d) (λ y below. row.none j y d less below))
@@ -167,7 +167,7 @@ kept-row job n k y d row = kept-more job n ∙ ap (λ b. kept_below job n ++ con
 pub kept-none : (job : SiteJob) (n : ℕ) → IsNoRow job n → kept_below job (n + 1) ≡ kept_below job n
 kept-none job n row = kept-more job n ∙ ap (λ b. kept_below job n ++ cond b (n ∷ []) []) (is_kept-none job n row) ∙ append-nil (kept_below job n)
 
--- one row more of a plate
+-- one more row of a plate
 pub rows-more : (rows : List (List ℕ)) (plate : SitePlate) (y n : ℕ) → number_in plate y ≡ n → rows_of rows plate (y + 1) ≡ rows_of rows plate y ++ get_or rows n [] ∷ []
 unfolding rows_of
 rows-more rows plate y n is =

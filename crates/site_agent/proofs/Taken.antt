@@ -1,4 +1,4 @@
--- Which rows a site has taken where it goes no further, in the words of the plan.
+-- The rows that a site has taken when it stops, in terms of the plan.
 use Rattle.std.proofs.Common.{◌≡◌, ℕ, zero, suc, ◌+◌, ◌-◌, ◌<◌, ◌≤◌, Bool, true, false, cond, List, [], ◌∷◌, ◌++◌, length, map, take, filter, Option, Some, None, refl, sym, ap, ◌∙◌, ⊎_elim, arith}
 use Rattle.std.specs.Prelude.{◌==◌, ◌&&◌, ◌||◌, nat_lt}
 use Rattle.std.specs.List.{range_with_len}
@@ -68,7 +68,7 @@ below keeps source n call (suc m) less =
     ∙ sym (listed-more keeps source m)
     ∙ ap (listed keeps source) (sym next)
 
--- row n itself only where its plate was to be finished
+-- row n itself only if the call was to finish its plate
 with_it : (source : Source) (n : ℕ) (call : RackCall) → filter (is_up_to n call) ((n, source) ∷ []) ≡ cond (is_finish call) ((n, source) ∷ []) []
 with_it source n call =
     ap (λ b. cond (b || n == n && is_finish call) ((n, source) ∷ []) []) (le-ltb n n (omega arith))
@@ -95,7 +95,7 @@ behind keeps source n call (suc j) kept =
     ∙ append-nil (rows_up_to n call (listed keeps source m))
     ∙ behind keeps source n call j kept
 
--- a list up to a row begins the list
+-- a list up to a row is a prefix of the list
 begins_with : (keeps : ℕ → Bool) (source : Source) (n j : ℕ) → (rest : List (ℕ × Source)) × (listed keeps source (n + j) ≡ listed keeps source n ++ rest)
 begins_with keeps source n zero = ([], ap (listed keeps source) (let e : n + 0 ≡ n = omega arith in e) ∙ sym (append-nil (listed keeps source n)))
 begins_with keeps source n (suc j) =
@@ -106,7 +106,7 @@ begins_with keeps source n (suc j) =
       ap (listed keeps source) next ∙ listed-more keeps source (n + j) ∙ ap (λ list. list ++ last) rest.1 ∙ append_assoc (listed keeps source n) rest.0 last,
     )
 
--- ---- a site that left at row n
+-- ---- a site that dropped out at row n
 
 taken-then : (call : RackCall) (n : ℕ) (source : Source) (list : List (ℕ × Source)) (before : Option (List (ℕ × Source)))
     → taken_at call n source (grown list before) ≡ grown (list ++ cond (is_finish call) ((n, source) ∷ []) []) before
@@ -115,7 +115,7 @@ taken-then Row n source list before = ap (λ l. grown l before) (sym (append-nil
 taken-then Finish n source list None = refl
 taken-then Finish n source list (Some rows) = ap Some (append_assoc rows list ((n, source) ∷ []))
 
--- took its rows up to that row
+-- the site took its rows up to that row
 pub taken_up_to : (plan : PlanData) (out : List ℕ) (site : ℕ) (source : Source) (n : ℕ) (cause : LeftCause) (before old new : Option (List (ℕ × Source))) → IsPlan plan → n < length (row_places plan)
     → IsCauseAt (job_of plan out site) n cause → old ≡ grown (taken_below (job_of plan out site) source n) before → new ≡ taken_at cause.call n source old
     → new ≡ grown (rows_up_to cause.row cause.call (drawn_rows plan site source)) before
@@ -132,9 +132,9 @@ taken_up_to plan out site source n cause before old new is within at stood took 
     ∙ ap (λ k. rows_up_to n cause.call (listed keeps source k)) (sym all)
     ∙ ap (λ k. rows_up_to k cause.call (drawn_rows plan site source)) (sym at.row))
 
--- ---- a site whose rack wanted memory
+-- ---- a site whose rack ran out of memory
 
--- the rows taken below a row are the first of those that the site draws
+-- the rows taken below a row are the first of those that the site keeps
 pub taken_first : (plan : PlanData) (out : List ℕ) (site : ℕ) (source : Source) (n : ℕ) → IsPlan plan → n ≤ length (row_places plan)
     → taken_below (job_of plan out site) source n ≡ take (length (taken_below (job_of plan out site) source n)) (drawn_rows plan site source)
 taken_first plan out site source n is within =
@@ -151,7 +151,7 @@ with_row-grown : (n : ℕ) (source : Source) (list : List (ℕ × Source)) (befo
 with_row-grown n source list None = refl
 with_row-grown n source list (Some rows) = ap Some (append_assoc rows list ((n, source) ∷ []))
 
--- a site whose rack wanted memory at row n took the first of those rows
+-- a site whose rack ran out of memory at row n took the first of those rows
 pub taken_in_part : (plan : PlanData) (out : List ℕ) (site : ℕ) (source : Source) (n : ℕ) (before old new : Option (List (ℕ × Source))) → IsPlan plan → n < length (row_places plan)
     → is_kept (job_of plan out site) n ≡ true → old ≡ grown (taken_below (job_of plan out site) source n) before → TakenOnce n source old new
     → (k : ℕ) × (new ≡ grown (take k (drawn_rows plan site source)) before)

@@ -1,4 +1,4 @@
--- A turn of a site, row by row.
+-- A site's turn, row by row.
 use Rattle.std.proofs.Common.{◌≡◌, ℕ, ◌+◌, ◌<◌, ◌≤◌, false, map, IfSome, sym, ap, subst, ◌∙◌, arith}
 use Rattle.ring_lanes.specs.declared.answer.NotYet.{NotYet}
 use Rattle.ring_lanes.specs.Reader.{ReaderState, source_of}
@@ -16,7 +16,7 @@ going-there : (first now : Stage) (waits : ℕ) (before : Tells) → Goes first 
 going-there first now waits before goes going =
     subst (λ (r : ReaderState). IsGoingBy r before now.told.tells now.site) (sym goes.over.reader) (goes.stands before going)
 
--- a row more was kept
+-- one more row was kept
 pub goes-on : (first now next : Stage) (waits : ℕ) → now.reader.cursor < now.reader.ring.total → Goes first now waits → DrawsOn now next → Goes first next waits
 goes-on first now next waits less goes draws =
     let stay : first.told.faults ≤ now.told.faults = goes.faults in
@@ -31,7 +31,7 @@ goes-on first now next waits less goes draws =
       faults = omega arith;
     }
 
--- the row was awaited once more
+-- one more wait for the row
 pub goes-awaiting : (first now next : Stage) (waits : ℕ) (answer : NotYet) → Goes first now waits → Awaits now next answer → Goes first next (waits + 1)
 goes-awaiting first now next waits answer goes awaits =
     let same : next.reader ≡ record now.reader { seen = answer.head; loads = now.reader.loads + 1 } = awaits.not_yet.stays in
@@ -73,7 +73,7 @@ goes-leaves first now next waits cause before goes draws going =
     (subst (λ (r : ReaderState). LeavesAt now.site.job (map framed_row r.ring.rows) (source_of r) before next.told.tells cause) goes.over.reader
     (draws.stands before (going-there first now waits before goes going)))
 
--- a call of the rack wanted memory
+-- a call of the rack ran out of memory
 pub goes-stops : (first now next : Stage) (waits n : ℕ) (before : Tells) → n + 1 ≡ next.reader.cursor → Goes first now waits → DrawsNone now next → IsGoingBy first.reader before first.told.tells first.site
     → StopsAt first.site.job (map framed_row first.reader.ring.rows) (source_of first.reader) n before next.told.tells
 goes-stops first now next waits n before last goes draws going =

@@ -1,5 +1,5 @@
--- What one row at a reader's cursor makes of a site, the reader and the rack. This is the contract of a
--- private call.
+-- The effect of one row at a reader's cursor on a site, its reader and its rack: the contract of a private
+-- call.
 use Rattle.std.specs.Prelude.{◌≡◌, ℕ, ◌≤◌, true, false, Some, IfSome, Result, Ok, Err}
 use Rattle.pr_base.specs.Count.{Rose}
 use Rattle.ring_lanes.specs.declared.answer.NotYet.{NotYet}
@@ -13,7 +13,7 @@ use Rattle.site_agent.specs.Site.{SiteData}
 use Rattle.site_agent.specs.Stands.{AreAsLong, AreBegun}
 use Rattle.site_agent.specs.Turn.{AreRowsFor, GoesOnBy, LeavesBy, StopsBy}
 
--- a site, its reader, and what its rack tells
+-- a site, its reader, and what contracts see of its rack
 pub record Stage : Type 0 where
   pub site : SiteData
   pub reader : ReaderState
@@ -51,7 +51,7 @@ pub record DrawsLast (old new : Stage) (cause : LeftCause) : Type 0 where
   pub faults : old.told.faults ≤ new.told.faults
   pub ended : new.site.ended ≡ true
 
--- a call of the rack wanted memory
+-- a call of the rack ran out of memory
 pub record DrawsNone (old new : Stage) : Type 0 where
   pub closes : Closes old.reader new.reader
   pub stands : StopsBy old.reader old.site old.told new.told old.reader.cursor
@@ -59,14 +59,14 @@ pub record DrawsNone (old new : Stage) : Type 0 where
   pub faults : old.told.faults ≤ new.told.faults
   pub ended : new.site.ended ≡ true
 
--- the row wasn't published yet
+-- the row was not yet published
 pub record Awaits (old new : Stage) (answer : NotYet) : Type 0 where
   pub not_yet : IsNotYet old.reader new.reader answer
   pub behind : old.reader.seen ≤ old.reader.cursor
   pub site : new.site ≡ old.site
   pub told : new.told ≡ old.told
 
--- one of these, by the answer
+-- one of these, by the result
 abbrev pub Draws : Stage → Stage → Result Kept NotYet → Type 0
 Draws old new (Ok Done) = DrawsOn old new
 Draws old new (Ok (Left cause)) = DrawsLast old new cause
@@ -75,7 +75,7 @@ Draws old new (Err answer) = Awaits old new answer
 
 -- ---- a run of rows
 
--- the rows from the first cursor up to this one were kept, and so many were awaited between them
+-- the rows from the first cursor up to this one were kept, with `waits` waits between them
 pub record Goes (first now : Stage) (waits : ℕ) : Type 0 where
   pub ready : IsReady now
   pub over : GoesOver first.reader now.reader waits

@@ -1,4 +1,4 @@
--- A site that goes on, in a run over all rows.
+-- A site partway through a run over all rows.
 use Rattle.std.specs.Prelude.{◌≡◌, ℕ, false, List, All, length}
 use Rattle.ring_lanes.specs.declared.source.Source.{Source}
 use Rattle.pr_base.specs.Row.{row_size}
@@ -6,8 +6,8 @@ use Rattle.pr_rack.specs.Told.{Tells}
 use Rattle.site_agent.specs.Site.{SiteData}
 use Rattle.site_agent.specs.Stands.{StandsAfter}
 
--- of a run over these rows, taken from this source, the site has dealt with those below its next one, and
--- its rack, which told one thing before, tells another now
+-- in a run over these rows, taken from this source, the site has processed the rows below its next one; its
+-- rack showed `before` at the start and shows `now`
 pub record IsGoing (rows : List (List ℕ)) (source : Source) (before now : Tells) (site : SiteData)
     : Type 0 where
   pub on : site.ended ≡ false

@@ -1,4 +1,4 @@
--- What a site has to make: its plates, and which of all rows are theirs.
+-- A site's job: its plates, and which of all rows belong to them.
 use Rattle.std.specs.Prelude.{◌≡◌, ◌≢◌, ℕ, ◌+◌, ◌-◌, ◌*◌, ◌^◌, ◌<◌, List, length, All, AllPairs}
 use Rattle.tif_plate.specs.Plate.{IsSide, IsDpi}
 use Rattle.site_agent.specs.declared.plate.SitePlate.{SitePlate}
@@ -17,7 +17,7 @@ pub record Shape : Type 0 where
   pub height : ℕ
   pub dpi : ℕ
 
--- what makes the ends of plates of one shape, in a room
+-- the writer of plate tails of one shape, and its buffer
 pub record TailsData : Type 0 where
   pub shape : Shape
   pub room : List ℕ
@@ -34,13 +34,13 @@ pub record SiteJob : Type 0 where
 abbrev pub shape_of : SiteJob → Shape
 shape_of job = record { width = job.width; height = job.height; dpi = job.dpi }
 
--- a plate of this height stands before another in the order of their rows
+-- a plate of this height precedes another in the order of their rows
 pub record IsBefore (height : ℕ) (plate next : SitePlate) : Type 0 where
   pub starts : plate.first < next.first
   pub ends : last_in height plate < last_in height next
-  -- in one slot they don't meet
+  -- in one slot they do not overlap
   pub apart : plate.slot ≡ next.slot → last_in height plate < next.first
-  -- no row is of both
+  -- no row belongs to both
   pub other : (y z : ℕ) → y < height → z < height → number_in plate y ≢ number_in next z
 
 -- one of the five slots, and rows with different numbers
@@ -55,6 +55,6 @@ pub record IsJob (job : SiteJob) : Type 0 where
   pub each : All IsSitePlate job.plates
   pub order : AllPairs (IsBefore job.height) job.plates
   pub within : All (λ plate. last_in job.height plate < job.total) job.plates
-  -- the number of a row fits 64 bits, and that of a plate 32
+  -- row numbers fit in 64 bits, and the number of plates in 32
   pub rows : job.total < 2 ^ 64
   pub few : length job.plates < 2 ^ 32

@@ -1,4 +1,4 @@
--- A site of some of its plates: those that are picked, a bit for each in the order of its files.
+-- A site of some of its plates: the picked ones, one bit per plate in the order of its files.
 use Rattle.std.specs.Prelude.{ℕ, Bool, false, if◌then◌else◌, List, [], ◌∷◌, length, replicate}
 use Rattle.tif_plate.specs.Plate.{strip_count}
 use Rattle.pr_rack.specs.Rack.{Plate}
@@ -10,31 +10,31 @@ use Rattle.site_agent.specs.Job.{SiteJob}
 use Rattle.site_agent.specs.Plan.{fresh_site, job_of}
 use Rattle.site_agent.specs.Site.{SiteData}
 
--- the entries of a list at which the bits are true
+-- the entries of a list whose bits are true
 abbrev pub kept_where : {X : Type 0} → List Bool → List X → List X
 kept_where [] xs = []
 kept_where (bit ∷ bits) [] = []
 kept_where (bit ∷ bits) (x ∷ xs) = if bit then x ∷ kept_where bits xs else kept_where bits xs
 
--- a job of some of its plates
+-- a job restricted to some of its plates
 abbrev pub part_of : SiteJob → List Bool → SiteJob
 part_of job bits = record job { plates = kept_where bits job.plates }
 
--- what a site has to make of a plan, of the plates that are picked
+-- the job of a site of a plan, restricted to the picked plates
 abbrev pub picked_job : PlanData → List ℕ → ℕ → List Bool → SiteJob
 picked_job plan out site bits = part_of (job_of plan out site) bits
 
--- a site of these plates before the first row
+-- the site of these plates before the first row
 abbrev pub picked_site : PlanData → List ℕ → ℕ → List Bool → SiteData
 picked_site plan out site bits = record (fresh_site plan out site) { job = picked_job plan out site bits }
 
--- the files of the plates that are picked
+-- the files of the picked plates
 abbrev pub picked_files : PlanData → List (List ℕ) → List ℕ → ℕ → List Bool → List Plate
 picked_files plan rows out site bits = kept_where bits (site_files plan rows out site)
 
 -- ---- any plates
 
--- a job of these plates of a plan
+-- the job of these plates of a plan
 abbrev pub job_over : PlanData → List SitePlate → SiteJob
 job_over plan plates = record {
   plates = plates;
@@ -44,7 +44,7 @@ job_over plan plates = record {
   total = length (row_places plan);
 }
 
--- a site of them before the first row
+-- the site of these plates before the first row
 abbrev pub site_over : PlanData → List SitePlate → SiteData
 site_over plan plates = record {
   job = job_over plan plates;

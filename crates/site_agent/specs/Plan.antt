@@ -1,4 +1,4 @@
--- What a plan gives a site to make, and what its rack shows where the site is done or has left.
+-- The job that a plan gives a site, and what its rack shows when the site has finished or dropped out.
 use Rattle.std.specs.Prelude.{◌≡◌, ℕ, ◌+◌, ◌<◌, Bool, true, false, nat_lt, ◌==◌, ◌&&◌, ◌||◌, List, length}
 use Rattle.std.specs.Prelude.{map, filter, take, replicate, Contains}
 use Rattle.std.specs.List.{range_with_len}
@@ -27,7 +27,7 @@ plate_of plan out site plate = record {
   slot = slot_of plate.1;
 }
 
--- what a site has to make of a plan, with paths below the folder `out`
+-- the job of a site of a plan, with paths below the folder `out`
 abbrev pub job_of : PlanData → List ℕ → ℕ → SiteJob
 job_of plan out site = record {
   plates = map (plate_of plan out site) (site_plates plan site);
@@ -57,11 +57,11 @@ is_finish Begin = false
 is_finish Row = false
 is_finish Finish = true
 
--- of such rows those below a row, and that row where its plate was to be finished
+-- those of such rows below a row, with that row itself only if the call was to finish its plate
 abbrev pub rows_up_to : ℕ → RackCall → List (ℕ × Source) → List (ℕ × Source)
 rows_up_to row call rows = filter (λ taken. nat_lt taken.0 row || taken.0 == row && is_finish call) rows
 
--- a site that left for this cause, where its rack's finished plates grew by these
+-- a site dropped out for this cause, and its rack's finished plates grew by these
 pub record FitsLeft (plan : PlanData) (rows : List (List ℕ)) (out : List ℕ) (site : ℕ) (cause : LeftCause)
     (grown : List Plate) : Type 0 where
   pub keeps : keeps_row plan site cause.row ≡ true

@@ -1,4 +1,4 @@
--- What a site knows where its rack refused a call.
+-- What a site knows when its rack refused a call.
 use Rattle.std.specs.Prelude.{◌≡◌, ℕ, ◌+◌, List, Option, Some, IfSome, slice_index_or}
 use Rattle.ring_lanes.specs.Held.{HeldRow}
 use Rattle.ring_lanes.specs.declared.source.Source.{Source}
@@ -24,14 +24,14 @@ pub record IsRefused (call' : RackCall) (path : List ℕ) (old new : RackTells) 
   -- no call failed
   pub unmissed : refusal.fault ≡ Memory → new.missed ≡ old.missed
 
--- the rows that were taken, where this call for the row with this number was refused: with the row only
--- where its plate was to be finished
+-- the rows taken after this call for the row with this number was refused: with the row only if the call was
+-- to finish its plate
 abbrev pub taken_at : RackCall → ℕ → Source → Option (List (ℕ × Source)) → Option (List (ℕ × Source))
 taken_at Begin number source taken = taken
 taken_at Row number source taken = taken
 taken_at Finish number source taken = with_row number source taken
 
--- row y of a plate, with this number, wasn't dealt with
+-- row y of a plate, with this number, was not completed
 pub record IsStopped (height y number : ℕ) (source : Source) (path : List ℕ) (old new : RackTells)
     (refusal : Refusal) : Type 0 where
   pub begins : refusal.call ≡ Begin → y ≡ 0
@@ -42,7 +42,7 @@ pub record IsStopped (height y number : ℕ) (source : Source) (path : List ℕ)
   pub missed : refusal.fault ≡ Failed → IfSome new.missed (λ last. last ≡ Some (refusal.call, path))
   pub unmissed : refusal.fault ≡ Memory → new.missed ≡ old.missed
 
--- so it is of this row, at its place of a job
+-- the same for this row, at its place in a job
 abbrev pub IsStoppedAt : SiteJob → Place → HeldRow → RackTells → RackTells → Refusal → Type 0
 IsStoppedAt job place held old new refusal = (d : SitePlate) → IsStopped job.height place.y held.number
     held.source (slice_index_or job.plates place.plate d).path old new refusal

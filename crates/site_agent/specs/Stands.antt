@@ -1,4 +1,4 @@
--- How a site and its rack stand after the rows below row n.
+-- The state of a site and its rack after the rows below row n.
 use Rattle.std.specs.Prelude.{◌≡◌, ℕ, ◌+◌, ◌<◌, Bool, List, ◌++◌, length, map, sum, take, Option, [], Some}
 use Rattle.std.specs.Prelude.{None, IfSome, is_some, slice_get, slice_index_or}
 use Rattle.std.specs.List.{flat_map}
@@ -13,38 +13,38 @@ use Rattle.site_agent.specs.declared.plate.SitePlate.{SitePlate}
 use Rattle.site_agent.specs.Job.{SiteJob}
 use Rattle.site_agent.specs.Given.{given, rows_of, open_in, finished_count, kept_below}
 
--- a list with these behind it, where told
+-- a list with these appended, where known
 abbrev pub grown : {X : Type 0} → List X → Option (List X) → Option (List X)
 grown more list = option_map (λ old. old ++ more) list
 
--- the file of a plate, out of all rows
+-- the file of a plate, made from all rows
 abbrev pub file_of : SiteJob → List (List ℕ) → SitePlate → Plate
 file_of job rows plate = (plate.path, plate_file job.width job.dpi (rows_of rows plate job.height))
 
 abbrev pub files_of : SiteJob → List (List ℕ) → List Plate
 files_of job rows = map (file_of job rows) job.plates
 
--- those whose last rows stand below row n
+-- the files of the plates whose last row is below row n
 abbrev pub files_below : SiteJob → List (List ℕ) → ℕ → List Plate
 files_below job rows n = take (finished_count job n) (files_of job rows)
 
--- the rows of a plate that stand below row n
+-- the rows of a plate below row n
 abbrev pub rows_below : SiteJob → List (List ℕ) → ℕ → SitePlate → List (List ℕ)
 rows_below job rows n plate = rows_of rows plate (given job.height plate n)
 
--- a begun plate: the front, and its rows below row n, packed
+-- a begun plate: the front, and its packed rows below row n
 abbrev pub begun_plate : SiteJob → List (List ℕ) → ℕ → SitePlate → Plate
 begun_plate job rows n plate = (plate.path, front_bytes ++ flat_map packing (rows_below job rows n plate))
 
--- what stands in a slot
+-- the content of a slot
 abbrev pub plate_below : SiteJob → List (List ℕ) → ℕ → ℕ → Option Plate
 plate_below job rows n slot = option_map (begun_plate job rows n) (open_in job n slot)
 
--- the numbers of the site's rows below row n, and where they were taken
+-- the numbers of the site's rows below row n, and their source
 abbrev pub taken_below : SiteJob → Source → ℕ → List (ℕ × Source)
 taken_below job source n = map (λ k. (k, source)) (kept_below job n)
 
--- a rack that told this before has these files and rows more since then, and what stands in its slots is this
+-- a rack that showed `before` has since gained these files and rows, and its slots have these contents
 pub record Holds (files : List Plate) (rows : List (ℕ × Source)) (open' : ℕ → Option Plate)
     (before now : Tells) : Type 0 where
   pub finished : now.finished ≡ grown files before.finished
@@ -58,17 +58,17 @@ AreCounts job rows n counts slot =
     IfSome (open_in job n slot) (λ plate.
     slice_index_or counts slot [] ≡ counts_so_far job.width job.height (rows_below job rows n plate))
 
--- all rows below row n are dealt with: of a rack that told one thing before and tells another now, the
--- plates whose last row is below row n are finished, the begun plates hold their rows so far, and the
--- site's rows were taken from this source
+-- all rows below row n have been processed: since the rack showed `before`, the plates whose last row is
+-- below row n were finished and the site's rows were taken from this source, and the begun plates contain
+-- their rows so far
 pub record StandsAfter (job : SiteJob) (rows : List (List ℕ)) (source : Source) (n : ℕ) (before now : Tells)
     (counts : List (List ℕ)) : Type 0 where
   pub rack : Holds (files_below job rows n) (taken_below job source n) (plate_below job rows n) before now
   pub strips : (slot : ℕ) → slot < 5 → AreCounts job rows n counts slot
 
--- ---- what a site asks of its rack
+-- ---- what a site requires of its rack
 
--- the slots of the open plates are begun, and no other
+-- the slots of the open plates are begun, and no others
 pub record AreBegun (job : SiteJob) (n : ℕ) (begun : List Bool) : Type 0 where
   pub each : (slot : ℕ) → slot < 5 → slice_get begun slot ≡ Some (is_some (open_in job n slot))
 
@@ -76,12 +76,12 @@ pub record AreBegun (job : SiteJob) (n : ℕ) (begun : List Bool) : Type 0 where
 abbrev pub path_and_length : Plate → List ℕ × ℕ
 path_and_length plate = (plate.0, length plate.1)
 
--- a plate stands in its slot under its path, and is so long
+-- a plate is in its slot under its path, with this length
 abbrev pub IsAsLong : SitePlate → ℕ → Slots → Type 0
 IsAsLong plate len slots =
     option_map path_and_length (slice_index_or slots plate.slot None) ≡ Some (plate.path, len)
 
--- each open plate stands under its path, as long as the front and the rows that the site counted
+-- each open plate is in its slot under its path, as long as the front and the rows that the site counted
 pub record AreAsLong (job : SiteJob) (n : ℕ) (counts : List (List ℕ)) (slots : Slots) : Type 0 where
   pub each : (slot : ℕ) → slot < 5 → option_map path_and_length (slice_index_or slots slot None)
       ≡ option_map (λ plate. (plate.path, 8 + sum (slice_index_or counts slot []))) (open_in job n slot)

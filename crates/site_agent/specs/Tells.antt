@@ -1,4 +1,4 @@
--- What the calls for one row make of what a rack tells of its plates.
+-- The effect of the calls for one row on what contracts see of a rack.
 use Rattle.std.specs.Prelude.{◌≡◌, ℕ, ◌+◌, ◌/◌, ◌==◌, true, false, if◌then◌else◌, List, [], Some, None}
 use Rattle.std.specs.Prelude.{length, replicate, slice_index, slice_index_or, slice_set}
 use Rattle.ring_lanes.specs.Held.{HeldRow}
@@ -12,17 +12,17 @@ use Rattle.site_agent.specs.declared.place.Place.{Place}
 use Rattle.site_agent.specs.declared.plate.SitePlate.{SitePlate}
 use Rattle.site_agent.specs.Job.{Shape, SiteJob, shape_of}
 
--- the byte counts of a plate's strips once its row y has gone to a strip: a plate begins with zeros
+-- the byte counts of a plate's strips after its row y was added to a strip; a plate begins with zeros
 abbrev pub counted : ℕ → ℕ → ℕ → List ℕ → List ℕ
 counted y strip bytes counts =
     let old = if y == 0 then replicate (length counts) 0 else counts in
     slice_set old strip (slice_index old strip + bytes)
 
--- how many rows a slot counts after row y: none where the plate is finished
+-- the number of rows that a slot counts after row y: none if the plate is finished
 abbrev pub rows_after : ℕ → ℕ → ℕ
 rows_after height y = if y + 1 == height then 0 else y + 1
 
--- how many plates are finished after row y of one
+-- the number of finished plates after row y of one
 abbrev pub finished_after : ℕ → ℕ → ℕ → ℕ
 finished_after height y finished = if y + 1 == height then finished + 1 else finished
 
@@ -40,7 +40,7 @@ with_taken slot number frame source old = record old {
   taken = with_row number source old.taken;
 }
 
--- the plate in a slot is finished by this tail and this place of its directory
+-- the plate in a slot is finished with this tail and this offset of its directory
 abbrev pub with_closed : ℕ → List ℕ → ℕ → Tells → Tells
 with_closed slot tail place old = record old {
   finished = finished_with old.working slot tail place old.finished;
@@ -57,25 +57,25 @@ with_finish shape slot counts old =
 abbrev pub begun_at : ℕ → SitePlate → Tells → Tells
 begun_at y plate old = if y == 0 then with_begin plate old else old
 
--- a plate with its row y is finished where this was its last
+-- a plate with its row y is finished if this is its last row
 abbrev pub finished_at : Shape → ℕ → SitePlate → List ℕ → Tells → Tells
 finished_at shape y plate counts old =
     if y + 1 == shape.height then with_finish shape plate.slot counts old else old
 
--- row y of a plate, with this number and frame, is dealt with; `counts` has this row too
+-- row y of a plate, with this number and frame, was processed; `counts` includes this row
 abbrev pub after_row : Shape → SitePlate → ℕ → ℕ → List ℕ → Source → List ℕ → Tells → Tells
 after_row shape plate y number frame source counts old =
     finished_at shape y plate counts (with_taken plate.slot number frame source (begun_at y plate old))
 
 -- ---- the row at a place of a job
 
--- a rack tells what it told before with this row, where the strips have these byte counts
+-- the rack shows what it showed before and this row, where the strips have these byte counts
 abbrev pub TellsRow : SiteJob → Place → HeldRow → List (List ℕ) → Tells → Tells → Type 0
 TellsRow job place held counts old new = (d : SitePlate) → new ≡ after_row (shape_of job)
     (slice_index_or job.plates place.plate d) place.y held.number held.bytes held.source
     (slice_index_or counts place.slot []) old
 
--- the byte counts of its slot are those from before with this row
+-- the byte counts of its slot are those from before plus this row
 abbrev pub CountsRow : SiteJob → Place → HeldRow → List (List ℕ) → List (List ℕ) → Type 0
 CountsRow job place held old new = slice_index_or new place.slot [] ≡ counted place.y
     (place.y / rows_each job.width) (length (packed_in held.bytes)) (slice_index_or old place.slot [])

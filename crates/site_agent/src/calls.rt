@@ -1,4 +1,4 @@
-// The calls by which a row of a plate comes to the rack.
+// The calls of the rack for one row of a plate.
 ghost use Rattle.std.specs.Prelude.{◌≡◌, ◌+◌, ◌-◌, ◌<◌, ◌≤◌, None, Some, IfErr, IfSome, OnOk, length, nat_lt};
 ghost use Rattle.std.specs.Prelude.{slice_get, slice_index_or, sum, true};
 ghost use Rattle.std.specs.Option.{option_map};
@@ -17,14 +17,14 @@ use pr_rack::{Rack, RackCall, RackFault};
 use ring_lanes::Held;
 use tif_plate::plate_front;
 
-/// A call that the rack refused, and its answer.
+/// A call that the rack refused, and the fault it returned.
 #[derive(Clone, Copy, Debug)]
 pub(crate) struct Refusal {
     pub(crate) call: RackCall,
     pub(crate) fault: RackFault,
 }
 
-/// Begins a plate where this is its first row.
+/// Begins a plate if `y` is its first row.
 fn begin<R: Rack>(plate: &SitePlate, y: u32, rack: &mut R) -> Result<(), Refusal>
     requires { slice_get (R.begun rack.old) plate.now.slot ≡ Some (nat_lt 0 y) }
     ensures ok { OnOk result (
@@ -50,7 +50,7 @@ fn begin<R: Rack>(plate: &SitePlate, y: u32, rack: &mut R) -> Result<(), Refusal
     }
 }
 
-/// Gives a row to the begun plate.
+/// Appends a row to the begun plate.
 fn take<R: Rack>(plate: &SitePlate, held: &Held, rack: &mut R) -> Result<(), Refusal>
     requires begun { slice_get (R.begun rack.old) plate.now.slot ≡ Some true }
     requires frame { IsFrame held.now.bytes }
@@ -75,7 +75,7 @@ fn take<R: Rack>(plate: &SitePlate, held: &Held, rack: &mut R) -> Result<(), Ref
     }
 }
 
-/// Finishes the begun plate by this tail and this place of its directory.
+/// Finishes the begun plate with this tail and this offset of its directory.
 fn finish<R: Rack>(plate: &SitePlate, tail: &[u8], at: u32, rack: &mut R) -> Result<(), Refusal>
     requires begun { slice_get (R.begun rack.old) plate.now.slot ≡ Some true }
     requires path { IfSome (R.working rack.old) (λ slots.
@@ -101,7 +101,7 @@ fn finish<R: Rack>(plate: &SitePlate, tail: &[u8], at: u32, rack: &mut R) -> Res
     }
 }
 
-/// Finishes the begun plate, whose strips have these byte counts, where `y` is its last row.
+/// Finishes the begun plate, whose strips have these byte counts, if `y` is its last row.
 fn end<R: Rack>(
     plate: &SitePlate,
     y: u32,
@@ -133,8 +133,8 @@ fn end<R: Rack>(
     finish(plate, tails.bytes(tail.len), tail.at, rack)
 }
 
-/// Deals with row `y` of a plate: begins the plate where this is its first row, gives the row to it, and
-/// finishes it where this was its last. `counts` are the byte counts of its strips with this row.
+/// Processes row `y` of a plate: begins the plate if this is its first row, appends the row, and finishes the
+/// plate if this is its last. `counts` are the byte counts of its strips including this row.
 pub(crate) fn deliver<R: Rack>(
     plate: &SitePlate,
     y: u32,

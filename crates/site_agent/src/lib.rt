@@ -1,5 +1,4 @@
-// The turn of a print site: which of all rows of an edition are its own, and how it builds its plates of
-// them on its rack.
+// A print site: which of the rows of an edition it keeps, and how it builds its plates from them on its rack.
 #![tactic(auto)]
 
 mod calls;

@@ -1,4 +1,4 @@
-// A new site: of all its plates, or of some of them.
+// Constructors of a site, for all its plates or for some of them.
 ghost use Rattle.std.specs.Prelude.{◌≡◌, ◌<◌, IfOk, length};
 ghost use Rattle.plan_rows.specs.Plates.{site_plates};
 ghost use Rattle.plan_rows.specs.Rows.{rows_of};
@@ -13,8 +13,8 @@ use pr_base::NoMemory;
 use std::alloc::Global;
 
 impl Site {
-    /// The site with this index of a plan, before its first row. Its plates have paths below the folder
-    /// `out`.
+    /// Returns the site with this index in the plan, before its first row. The paths of its plates are below
+    /// the folder `out`.
     pub fn new(
         alloc: Global,
         job_plan: &Plan,
@@ -32,7 +32,8 @@ impl Site {
         Site::with_plates(alloc, job_plan, rows, plates)
     }
 
-    /// The same with those of its plates alone that are wanted, one for each in the order of its files.
+    /// The same for the wanted plates only; `wanted` has one entry per plate, in the order of the site's
+    /// files.
     pub fn of_picked(
         alloc: Global,
         job_plan: &Plan,

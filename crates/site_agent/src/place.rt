@@ -1,4 +1,4 @@
-// Which row of which plate a row is.
+// The plate and the y of a row.
 
 /// A row of one of a site's plates: the index of the plate, its slot, and the row's y from the top.
 #[derive(Clone, Copy, Debug)]

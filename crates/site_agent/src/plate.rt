@@ -1,10 +1,10 @@
-// One of the plates that a site is to make.
+// One of the plates that a site makes.
 ghost use Rattle.std.specs.Prelude.{◌≡◌};
 
 use pr_base::PathText;
 
-/// A plate of a site: where it is kept, the number of its first row among all rows, how far each next row
-/// of it is from the one before, and the slot that it is built in, 0 to 4 for C, M, Y, K, S.
+/// A plate of a site: its path, the number of its first row among all rows of the edition, the distance
+/// between the numbers of consecutive rows, and the slot it is built in: 0 to 4 for C, M, Y, K, S.
 #[derive(Debug, Drop)]
 pub(crate) struct SitePlate {
     pub(crate) path: PathText,

@@ -1,4 +1,4 @@
-// The plates of a site, as a plan gives them.
+// The plates of a site, derived from a plan.
 ghost use Rattle.std.specs.Prelude.{◌≡◌, ◌+◌, ◌++◌, ◌∷◌, ◌<◌, ◌≤◌, ◌^◌, [], if◌then◌else◌, IfOk, OnOk};
 ghost use Rattle.std.specs.Prelude.{length, map, replicate};
 ghost use Rattle.plan_json.specs.Plan.{IsPlan};
@@ -19,7 +19,7 @@ use std::alloc::Global;
 /// The number of slots.
 const SLOTS: u32 = 5;
 
-/// The plates of a site, group by group and ink by ink.
+/// Returns the plates of a site, group by group and ink by ink.
 #[tactic(auto, unfolding(plan_rows::specs::Plates::site_plates))]
 pub(crate) fn plates_of(
     alloc: Global,
@@ -42,7 +42,7 @@ pub(crate) fn plates_of(
     Ok(plates)
 }
 
-/// Adds the plates of a group where the site prints it.
+/// Appends the plates of a group if the site prints it.
 fn add_printed(
     alloc: Global,
     plan: &Plan,
@@ -67,7 +67,7 @@ fn add_printed(
     add_plates(alloc, plan, out, site, group, plates)
 }
 
-/// Adds the plates of a group.
+/// Appends the plates of a group.
 fn add_plates(
     alloc: Global,
     plan: &Plan,
@@ -92,7 +92,7 @@ fn add_plates(
     Ok(())
 }
 
-/// The plate of a group in the ink at this place among the group's.
+/// Returns the plate of a group in the ink at this index among the group's inks.
 fn plate(
     alloc: Global,
     plan: &Plan,
@@ -118,7 +118,7 @@ fn plate(
     })
 }
 
-/// Those of these plates that are wanted.
+/// Returns the wanted ones of these plates.
 pub(crate) fn picked_of(
     alloc: Global,
     plates: Vec<SitePlate>,
@@ -136,7 +136,7 @@ pub(crate) fn picked_of(
     Ok(picked)
 }
 
-/// Adds a plate if it is wanted.
+/// Appends a plate if it is wanted.
 fn add_wanted(plates: &mut Vec<SitePlate>, plate: SitePlate, wanted: bool) -> Result<(), NoMemory>
     ensures { OnOk result (
         plates.new.items ≡ plates.old.items ++ (if wanted then plate ∷ [] else [])) }
@@ -147,7 +147,7 @@ fn add_wanted(plates: &mut Vec<SitePlate>, plate: SitePlate, wanted: bool) -> Re
     Ok(())
 }
 
-/// Empty slots, each with counts for so many strips.
+/// Returns empty slots, each with this many strip counts.
 pub(crate) fn empty_slots(alloc: Global, strips: usize) -> Result<Vec<Slot>, NoMemory>
     ensures { IfOk result (λ slots. AreFresh strips slots.items) }
 {

@@ -1,4 +1,4 @@
-// A print site and its turn for a row.
+// A print site and how it keeps rows.
 ghost use Rattle.std.specs.Prelude.{◌≡◌, ◌≢◌, ◌==◌, ◌<◌, ◌≤◌, ℕ, [], Some, false, true, IfErr, IfNone, IfOk};
 ghost use Rattle.std.specs.Prelude.{IfSome, OnErr, OnOk, length, slice_index_or};
 ghost use Rattle.pr_base.specs.Row.{row_size};
@@ -36,8 +36,8 @@ use std::marker::Model;
 use tif_packbits::framed;
 use tif_plate::strips;
 
-/// A print site, which builds its plates row by row on its rack. It takes all memory when it is made: the
-/// paths of its plates, the counts of strips for each slot, and room for the end of a plate.
+/// A print site, which builds its plates row by row on its rack. All memory is allocated when the site is
+/// made: the paths of its plates, the strip counts of each slot, and a buffer for the tail of a plate.
 #[derive(Debug, Drop)]
 pub struct Site {
     plates: Vec<SitePlate>,
@@ -67,7 +67,7 @@ impl Model for Site {
 }
 
 impl Site {
-    /// A site with these plates of a plan, before its first row.
+    /// Returns a site with these plates of a plan, before its first row.
     pub(crate) fn with_plates(
         alloc: Global,
         job_plan: &Plan,
@@ -93,7 +93,7 @@ impl Site {
         })
     }
 
-    /// Whether all its plates are finished.
+    /// Whether all plates of the site are finished.
     pub fn is_finished(&self) -> bool
         requires { self.now.ended ≡ false }
         ensures { result ≡ (finished_count self.now.job self.now.next == length self.now.job.plates) }
@@ -101,7 +101,7 @@ impl Site {
         self.finished as usize == self.plates.len()
     }
 
-    /// The place of the row that comes next, if it is one of the site's.
+    /// Returns the place of the next row, if the row is one of the site's.
     fn place(&self) -> Option<Place>
         requires { self.now.ended ≡ false }
         ensures found { IfSome result (IsPlaceOf self.now.job self.now.next) }
@@ -124,7 +124,7 @@ impl Site {
         None
     }
 
-    /// Deals with the row that comes next, which is this one of a plate.
+    /// Processes the next row, which is the row at `place`.
     fn give<R: Rack>(&mut self, place: Place, held: &Held, rack: &mut R) -> Result<(), Refusal>
         requires going { self.old.ended ≡ false }
         requires next { held.now.number ≡ self.old.next }
@@ -148,7 +148,7 @@ impl Site {
         ensures job { self.new.job ≡ self.old.job }
         ensures faults_stay { R.faults rack.old ≤ R.faults rack.new }
     {
-        // Ended, unless all calls succeed.
+        // The site has ended unless all calls succeed.
         self.ended = true;
         let height = self.tails.height();
         let packed = framed(held.bytes()).len() as u32;
@@ -169,7 +169,7 @@ impl Site {
         Ok(())
     }
 
-    /// What the site answers where the rack refused a call for this row, with so many plates finished.
+    /// Returns the result for a row at which the rack refused a call, with `plates` plates finished.
     fn refused(&mut self, place: Place, plates: u32, row: u64, refusal: Refusal) -> Kept
         requires ended { self.old.ended ≡ true }
         requires plate { place.plate < length self.old.job.plates }
@@ -195,9 +195,9 @@ impl Site {
         }
     }
 
-    /// Keeps the row that comes next if it is one of the site's: begins its plate where it is the first,
-    /// gives it to the plate, and finishes the plate where it is the last. Takes no memory of its own.
-    /// After `Left` and `Memory` the site has ended, and keeps no more rows.
+    /// Keeps the next row if it is one of the site's: begins its plate if it is the first row, appends it,
+    /// and finishes the plate if it is the last. Allocates no memory of its own. After `Left` or `Memory` the
+    /// site has ended and keeps no more rows.
     pub fn keep<R: Rack>(&mut self, held: &Held, rack: &mut R) -> Kept
         requires going { self.old.ended ≡ false }
         requires next { held.now.number ≡ self.old.next }
@@ -208,7 +208,7 @@ impl Site {
         requires working { IfSome (R.working rack.old)
             (AreAsLong self.old.job self.old.next self.old.counts) }
 
-        // Done: the rows up to this one are dealt with.
+        // Done: all rows up to this one have been processed.
         ensures keeps { OnDone result (KeepsRow self.old self.new held.now
             (told R.Rack rack.old).tells (told R.Rack rack.new).tells) }
         ensures goes_on { OnDone result (GoesOn self.old self.new) }
@@ -216,7 +216,7 @@ impl Site {
         ensures working_on { OnDone result (IfSome (R.working rack.new)
             (AreAsLong self.new.job self.new.next self.new.counts)) }
         ensures done_missed { OnDone result (R.missed rack.new ≡ R.missed rack.old) }
-        // A row that isn't the site's.
+        // A row that is not the site's.
         ensures passes { is_kept self.old.job self.old.next ≡ false → result ≡ Kept.Done }
         ensures leaves_alone { is_kept self.old.job self.old.next ≡ false → rack.new ≡ rack.old }
 
@@ -227,12 +227,12 @@ impl Site {
             IfSome (R.missed rack.new) (λ last. last ≡ Some (cause.call, cause.path))) }
         ensures left_taken { IfLeft result (λ cause.
             R.taken rack.new ≡ taken_at cause.call self.old.next held.now.source (R.taken rack.old)) }
-        // Memory: a call of the rack wanted it, and none failed.
+        // Memory: a call of the rack ran out of memory, and none failed.
         ensures memory_missed { OnMemory result (R.missed rack.new ≡ R.missed rack.old) }
         ensures memory_taken { OnMemory result
             (TakenOnce self.old.next held.now.source (R.taken rack.old) (R.taken rack.new)) }
 
-        // Both: no plate was finished, and the site has ended.
+        // Left or Memory: no plate was finished, and the site has ended.
         ensures finished_stay { OnEnd result (R.finished rack.new ≡ R.finished rack.old) }
         ensures ended { OnEnd result (self.new.ended ≡ true) }
         ensures faults_stay { R.faults rack.old ≤ R.faults rack.new }

@@ -1,9 +1,9 @@
-// What a site counts of the plate that stands in a slot.
+// The counts that a site keeps for the plate in a slot.
 ghost use Rattle.std.specs.Prelude.{◌≡◌, ◌+◌, ◌==◌, ◌<◌, ◌^◌, if◌then◌else◌, length, slice_index};
 ghost use Rattle.site_agent.specs.Tells.{counted, finished_after, rows_after};
 
-/// The plate that stands in a slot: how many of its rows were given, 0 where no plate is begun, and the
-/// bytes of its packed rows, strip by strip.
+/// The plate in a slot: the number of its rows so far, 0 if no plate is begun, and the byte counts of its
+/// packed rows by strip.
 #[derive(Debug, Drop)]
 pub(crate) struct Slot {
     pub(crate) rows: u32,
@@ -11,8 +11,8 @@ pub(crate) struct Slot {
 }
 
 impl Slot {
-    /// Counts row `y` of a plate of this height, whose packed bytes go to this strip. Row 0 begins another
-    /// plate.
+    /// Counts row `y` of a plate of this height, whose `bytes` packed bytes belong to this strip. Row 0
+    /// begins a new plate.
     pub(crate) fn count(&mut self, y: u32, height: u32, strip: usize, bytes: u32)
         requires y { y < height }
         requires strip { strip < length self.old.counts.items }
@@ -28,7 +28,7 @@ impl Slot {
     }
 }
 
-/// How many plates are finished after row `y` of one.
+/// Returns the number of finished plates after row `y` of one.
 pub(crate) fn finished_with(finished: u32, y: u32, height: u32) -> u32
     requires y { y < height }
     requires fits { finished + 1 < 2 ^ 32 }

@@ -1,4 +1,4 @@
-// The ends of plates: the bytes behind their rows.
+// The tails of plates: the bytes after their rows.
 ghost use Rattle.std.specs.Prelude.{◌≡◌, ◌/◌, ◌<◌, ◌≤◌, IfOk, length, take};
 ghost use Rattle.tif_plate.specs.Plate.{IsSide, IsDpi, rows_each, strip_count};
 ghost use Rattle.tif_plate.specs.Tail.{IsPlaceable, tail_bytes, tail_place};
@@ -8,8 +8,8 @@ use std::alloc::Global;
 use std::marker::Model;
 use tif_plate::{Tail, plate_tail, rows_per_strip, strips};
 
-/// Makes the ends of plates of one shape, in a room of its own. Contracts see the shape, the sides in pixels
-/// and the resolution, and what stands in the room.
+/// Writes the tails of plates of one shape to a buffer of its own. Contracts see the shape (the sides in
+/// pixels and the resolution) and the contents of the buffer.
 #[derive(Debug, Drop)]
 pub(crate) struct Tails {
     width: u32,
@@ -36,7 +36,7 @@ impl Model for Tails {
 }
 
 impl Tails {
-    /// Takes the room.
+    /// Allocates the buffer.
     pub(crate) fn of(alloc: Global, width: u32, height: u32, dpi: u32) -> Result<Tails, NoMemory>
         requires width { IsSide width }
         requires height { IsSide height }
@@ -52,7 +52,7 @@ impl Tails {
         })
     }
 
-    /// The rows of a plate.
+    /// The number of rows of a plate.
     pub(crate) fn height(&self) -> u32
         ensures height { result ≡ self.now.shape.height }
         ensures side { IsSide result }
@@ -69,8 +69,8 @@ impl Tails {
         (y / rows_per_strip(self.width)) as usize
     }
 
-    /// Writes the end of a plate whose strips have these byte counts to the room, and gives its length and
-    /// the place of its directory.
+    /// Writes the tail of a plate whose strips have these byte counts to the buffer. Returns its length and
+    /// the offset of its directory.
     pub(crate) fn write(&mut self, counts: &[u32]) -> Tail
         requires counts { length counts.now ≡ strip_count self.old.shape.width self.old.shape.height }
         requires sum { IsPlaceable counts.now }
@@ -89,7 +89,7 @@ impl Tails {
         )
     }
 
-    /// The first bytes of the room.
+    /// Lends the first `len` bytes of the buffer.
     pub(crate) fn bytes(&self, len: usize) -> &[u8]
         requires { len ≤ length self.now.room }
         ensures { result.now ≡ take len self.now.room }

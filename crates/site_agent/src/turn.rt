@@ -1,4 +1,4 @@
-// The turn of a site at a ring: it takes rows until it would wait too often.
+// A site's turn at a ring: it takes rows until its patience is used up.
 ghost use Rattle.std.specs.Prelude.{◌≡◌, ◌+◌, ◌<◌, ◌≤◌, ℕ, Some, false, true, IfSome};
 ghost use Rattle.pr_base.specs.Count.{Rose};
 ghost use Rattle.ring_lanes.specs.Reader.{Waits};
@@ -15,9 +15,9 @@ use pr_rack::Rack;
 use ring_lanes::{NotYet, Reader};
 
 impl Site {
-    /// Takes the rows at the reader's cursor, keeps each and gives it back, until all are dealt with, or a
-    /// row was found unpublished `patience` times, or the rack refuses a call. Then the row was given back
-    /// and the reader has left.
+    /// Takes the rows at the reader's cursor, keeps each and gives it back. Ends when all rows are processed,
+    /// when a row was found unpublished `patience` times, or when the rack refuses a call; in the last case
+    /// the row was given back and the reader has left the ring.
     pub fn turn<D: Deal, R: Rack>(
         &mut self,
         reader: &mut Reader<'_, D>,
@@ -35,7 +35,7 @@ impl Site {
         requires working { IfSome (R.working rack.old)
             (AreAsLong self.old.job self.old.next self.old.counts) }
 
-        // The reader takes rows and gives them back, and leaves where the site ends.
+        // The reader takes rows and gives them back, and leaves if the site ends.
         ensures reader { reader.new ≡ record reader.old {
           cursor = reader.new.cursor;
           left = reader.new.left;
@@ -52,7 +52,7 @@ impl Site {
         ensures gets_on { reader.old.cursor < reader.old.seen → reader.old.cursor < reader.new.cursor }
         ensures waits { WaitsNoMore patience reader.old reader.new result }
 
-        // Waiting and Finished: the rows below the cursor are dealt with.
+        // Waiting or Finished: all rows below the cursor have been processed.
         ensures stands { OnGoing result (GoesOnBy reader.old self.old self.new
             (told R.Rack rack.old) (told R.Rack rack.new)) }
         ensures goes_on { OnGoing result (GoesOnTo self.old self.new reader.new.cursor) }
@@ -63,7 +63,7 @@ impl Site {
         ensures waiting { IfWaiting result (Waits reader.old reader.new patience) }
         ensures finished { OnFinished result (reader.new.cursor ≡ reader.old.ring.total) }
 
-        // Left: a call of the rack failed, for the row below the cursor.
+        // Left: a call of the rack failed for the row just below the cursor.
         ensures left { IfLeft result (λ cause. IsCauseAt self.old.job cause.row cause) }
         ensures left_row { IfLeft result (λ cause. cause.row + 1 ≡ reader.new.cursor) }
         ensures left_counted { IfLeft result (λ _. Rose (R.faults rack.old) (R.faults rack.new)) }
@@ -72,7 +72,7 @@ impl Site {
         ensures left_stands { IfLeft result (LeavesBy reader.old self.old
             (told R.Rack rack.old) (told R.Rack rack.new)) }
 
-        // Memory: a call of the rack wanted it, for that row, and none failed.
+        // Memory: a call of the rack ran out of memory for that row, and none failed.
         ensures memory_missed { OnMemory result (R.missed rack.new ≡ R.missed rack.old) }
         ensures memory_stands { OnMemory result ((n : ℕ) → n + 1 ≡ reader.new.cursor →
             StopsBy reader.old self.old (told R.Rack rack.old) (told R.Rack rack.new) n) }

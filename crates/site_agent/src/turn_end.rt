@@ -1,17 +1,17 @@
-// How a turn of a site ended.
+// How a site's turn ended.
 
 use crate::LeftCause;
 
-/// How a turn of a site ended.
+/// How a site's turn ended.
 #[derive(Debug, PartialEq, Eq, Drop)]
 pub enum TurnEnd {
-    /// The row at the reader's cursor, which is this many rows from the first, was awaited as often as the
-    /// caller's patience allowed.
+    /// The row at the reader's cursor, number `head` counted from 0, was found unpublished as often as the
+    /// caller's patience allows.
     Waiting { head: u64 },
-    /// All rows were dealt with.
+    /// All rows were processed.
     Finished,
-    /// A call of the rack failed. The reader has left.
+    /// A call of the rack failed. The reader has left the ring.
     Left(LeftCause),
-    /// The rack wanted memory. The reader has left.
+    /// The rack ran out of memory. The reader has left the ring.
     Memory,
 }

@@ -1,9 +1,9 @@
--- The definitions at a small file: a directory of one entry, most significant byte first.
+-- The definitions evaluated on a small file: a directory of one entry, most significant byte first.
 use Rattle.std.proofs.Common.{◌≡◌, ℕ, List, [], ◌∷◌, Some, Ok, Err, refl}
 use Rattle.pr_base.specs.declared.fault.FaultKind.TheVariants.{Header, Directory, Missing, FieldCount}
 use Rattle.tif_dir.specs.Directory.{dir_fault, directory_of, fault_at, field_of, number_at}
 
--- 256 SHORT 1: 4
+-- tag 256, type SHORT, count 1, value 4
 abbrev file : List ℕ
 file = 77 ∷ 77 ∷ 0 ∷ 42 ∷ 0 ∷ 0 ∷ 0 ∷ 8 ∷ 0 ∷ 1 ∷ 1 ∷ 0 ∷ 0 ∷ 3 ∷ 0 ∷ 0 ∷ 0 ∷ 1 ∷ 0 ∷ 4 ∷ 0 ∷ 0 ∷ []
 

@@ -1,12 +1,12 @@
--- The table of the fields that plateroom reads: which there are, their defaults and their least counts. The
--- names and most defaults are those of TIFF 6.0, Section 8; the least counts are plateroom's own.
+-- The table of the fields that plateroom reads, with their defaults and minimum counts. Names and most
+-- defaults are those of TIFF 6.0, Section 8; the minimum counts are plateroom's own.
 use Rattle.std.specs.Prelude.{ℕ, Bool, Option, Some, None, ◌==◌, ◌%◌, ◌||◌, if◌then◌else◌}
 use Rattle.tif_dir.specs.Names.{image_width, image_length, bits_per_sample, compression}
 use Rattle.tif_dir.specs.Names.{photometric_interpretation, fill_order, strip_offsets, orientation}
 use Rattle.tif_dir.specs.Names.{samples_per_pixel, rows_per_strip, strip_byte_counts, planar_configuration}
 use Rattle.tif_dir.specs.Names.{ink_set, dot_range}
 
--- the tag stands in the table
+-- whether the tag is in the table
 abbrev pub is_listed : ℕ → Bool
 is_listed tag =
     tag == image_width || tag == image_length || tag == bits_per_sample || tag == compression
@@ -14,7 +14,7 @@ is_listed tag =
     || tag == samples_per_pixel || tag == rows_per_strip || tag == strip_byte_counts
     || tag == planar_configuration || tag == ink_set || tag == dot_range
 
--- value i of a field that a file leaves out; none where the file must have it
+-- the default for value i of an absent field; none if the field is required
 abbrev pub default_of : ℕ → ℕ → Option ℕ
 default_of tag i =
     if tag == bits_per_sample then Some 1
@@ -28,7 +28,7 @@ default_of tag i =
     else if tag == dot_range then Some (if i % 2 == 0 then 0 else 255)
     else None
 
--- how many values a field has at least, for an image of so many samples a pixel and so many strips
+-- the minimum number of values of a field, given the numbers of samples per pixel and of strips
 abbrev pub least_of : ℕ → ℕ → ℕ → ℕ
 least_of tag samples strips =
     if tag == bits_per_sample then samples

@@ -1,8 +1,8 @@
 // The first directory of a TIFF file (TIFF 6.0, Section 2).
 //
-// A file begins with II or MM, the number 42 in two bytes, and the place of the directory in four. The
-// directory is the number of its entries in two bytes, and then the entries: a tag in two bytes, a type in
-// two, a count in four, and four bytes with the values or their place.
+// A file begins with II or MM, the number 42 in two bytes, and the offset of the directory in four. The
+// directory is the number of its entries in two bytes, then the entries: a tag in two bytes, a type in two,
+// a count in four, and four bytes with the values or their offset.
 ghost use Rattle.std.specs.Prelude.{◌≡◌, ◌<◌, ◌≤◌, ◌^◌, ◌==◌, length, IfOk, IsTrue};
 ghost use Rattle.std.specs.List.{find};
 ghost use Rattle.std.specs.Option.{option_copied};
@@ -16,7 +16,7 @@ use crate::value_type::ValueType;
 use pr_base::{FaultKind, TagFault};
 use std::marker::Model;
 
-/// The first directory of a file. Contracts see the file's bytes; its header and directory are right.
+/// The first directory of a file whose header and directory are valid. Contracts see the file's bytes.
 #[derive(Debug, Drop)]
 pub struct Dir<'a> {
     bytes: &'a [u8],
@@ -36,7 +36,7 @@ impl<'a> Model for Dir<'a> {
         ≡ Ok (record { order = d.order; entries = d.entries.now }) };
 }
 
-/// Finds the first directory of a file. The fault's tag is 0.
+/// Finds the first directory of a file. A fault has tag 0.
 #[tactic(auto, unfolding(crate::specs::Directory::directory_of))]
 pub fn read_dir(bytes: &[u8]) -> Result<Dir<'_>, TagFault>
     ensures file { IfOk result (λ dir. dir ≡ bytes.now) }
@@ -56,7 +56,7 @@ impl<'a> Dir<'a> {
     ghost use Rattle.tif_dir.specs.Directory.{field_of, number_at};
     ghost use Rattle.tif_dir.specs.Table.{is_listed};
 
-    /// The values of the first entry of `tag`, if the directory has one.
+    /// Returns the values of the first entry with `tag`, if the directory has one.
     pub fn field(&self, tag: u16) -> Result<Option<Field<'a>>, TagFault>
         ensures { result ≡ field_of self.now tag }
     {
@@ -73,8 +73,8 @@ impl<'a> Dir<'a> {
         Ok(Some(Field::of(order, kind, count, held)))
     }
 
-    /// Value `i` of the field of `tag`, or the value that stands for it where the file leaves the field out.
-    /// A field that is there must have `least` values.
+    /// Returns value `i` of the field of `tag`, or its default if the file has no such field. A field that
+    /// is present must have at least `least` values.
     #[tactic(auto, unfolding(crate::specs::Directory::number_at))]
     pub fn number(&self, tag: u16, i: u32, least: u32) -> Result<u32, TagFault>
         requires listed { IsTrue (is_listed tag) }
@@ -91,7 +91,7 @@ impl<'a> Dir<'a> {
     }
 }
 
-// The byte order of a file whose header is right.
+// Returns the byte order of a file with a valid header.
 fn header_order(bytes: &[u8]) -> Option<Order>
     ensures { result ≡ header_of bytes.now }
 {
@@ -102,7 +102,7 @@ fn header_order(bytes: &[u8]) -> Option<Order>
     Some(order)
 }
 
-// The entries of the first directory. No sum here passes 2^33.
+// Returns the entries of the first directory. No sum here exceeds 2^33, so none overflows.
 fn directory_entries(order: Order, bytes: &[u8]) -> Option<&[[u8; 12]]>
     requires { 8 ≤ length bytes.now }
     ensures { option_copied result ≡ entries_of order bytes.now }
@@ -120,14 +120,14 @@ fn directory_entries(order: Order, bytes: &[u8]) -> Option<&[[u8; 12]]>
     Some(entries)
 }
 
-// The first entry of a tag.
+// Returns the first entry with `tag`.
 fn first_entry<'a>(order: Order, entries: &'a [[u8; 12]], tag: u16) -> Option<&'a [u8; 12]>
     ensures { option_copied result ≡ find (λ entry. number_of order 2 entry == tag) entries.now }
 {
     entries.iter().find(|entry| order.read_u16(*entry) == tag)
 }
 
-// The `total` bytes of an entry's values. At most four stand in the entry itself, from the left.
+// Returns the `total` bytes of an entry's values. Up to four are in the entry itself, left-justified.
 fn value_bytes<'a>(
     order: Order,
     bytes: &'a [u8],

@@ -3,8 +3,7 @@ use crate::order::Order;
 use crate::value_type::ValueType;
 use std::marker::Model;
 
-/// A field of a directory. Contracts see the list of its values; each is read from the file's bytes
-/// when it is asked for.
+/// A field of a directory. Contracts see the list of its values; each is read from the file on demand.
 #[derive(Debug, Drop)]
 pub struct Field<'a> {
     order: Order,
@@ -28,7 +27,7 @@ impl<'a> Field<'a> {
     ghost use Rattle.std.specs.Prelude.{◌≡◌, ◌*◌, ◌<◌, length, slice_index};
     ghost use Rattle.tif_dir.specs.Directory.{size_of, values_in};
 
-    /// The field of these bytes.
+    /// Makes a field from the bytes of its values.
     pub(crate) fn of(order: Order, kind: ValueType, count: u32, bytes: &'a [u8]) -> Field<'a>
         requires { length bytes.now ≡ size_of kind * count }
         ensures { result ≡ values_in order kind count bytes.now }
@@ -41,7 +40,7 @@ impl<'a> Field<'a> {
         }
     }
 
-    /// The same field again.
+    /// Returns a copy of the field.
     pub fn copied(&self) -> Field<'a>
         ensures { result ≡ self.now }
     {
@@ -53,14 +52,14 @@ impl<'a> Field<'a> {
         }
     }
 
-    /// The number of values.
+    /// Returns the number of values.
     pub fn count(&self) -> u32
         ensures { result ≡ length self.now }
     {
         self.count
     }
 
-    /// Value `i`.
+    /// Returns value `i`.
     pub fn at(&self, i: u32) -> u32
         requires { i < length self.now }
         ensures { result ≡ slice_index self.now i }

@@ -1,10 +1,10 @@
-// What holds of the constants of `tag`.
+// Laws of the constants in `tag`.
 ghost use Rattle.std.specs.Prelude.{◌≡◌};
 ghost use Rattle.tif_dir.specs.Names as number;
 
 use crate::tag::*;
 
-/// Each constant is the number of its tag in the standard.
+/// States that each constant is the number of its tag in the standard.
 pub fn tags_law()
     ensures image_width { IMAGE_WIDTH ≡ number.image_width }
     ensures image_length { IMAGE_LENGTH ≡ number.image_length }

@@ -1,5 +1,5 @@
-// The first directory of a TIFF file in both byte orders, and the values of its fields, read one at a time
-// from the file's bytes (TIFF 6.0, Section 2). No call takes memory.
+// The first directory of a TIFF file in either byte order, and the values of its fields, each read from the
+// file's bytes on demand (TIFF 6.0, Section 2). No call allocates.
 #![tactic(auto)]
 
 mod dir;

@@ -1,20 +1,20 @@
-// The order of the bytes in a file's numbers.
+// The byte order of a file's numbers.
 ghost use Rattle.std.specs.Prelude.{◌≡◌, ◌≤◌, length};
 ghost use Rattle.tif_dir.specs.Directory.{bytes_of, mark_of, number_of, order_of};
 
 use byteorder::{BigEndian, ByteOrder, LittleEndian};
 
-/// Which byte of a number comes first (TIFF 6.0, Section 2).
+/// The byte order of numbers (TIFF 6.0, Section 2).
 #[derive(Clone, Copy, Debug, PartialEq, Eq)]
 pub enum Order {
-    /// `II`: the least significant byte.
+    /// `II`: least significant byte first.
     Little,
-    /// `MM`: the most significant byte.
+    /// `MM`: most significant byte first.
     Big,
 }
 
 impl Order {
-    /// The order that the first two bytes of a file name.
+    /// Returns the byte order given by the first two bytes of a file.
     pub fn of(bytes: &[u8]) -> Option<Order>
         ensures { result ≡ order_of bytes.now }
     {
@@ -27,7 +27,7 @@ impl Order {
         }
     }
 
-    /// The number in the first two bytes.
+    /// Returns the number in the first two bytes.
     pub fn read_u16(self, bytes: &[u8]) -> u16
         requires { 2 ≤ length bytes.now }
         ensures { result ≡ number_of self 2 bytes.now }
@@ -38,7 +38,7 @@ impl Order {
         }
     }
 
-    /// The number in the first four bytes.
+    /// Returns the number in the first four bytes.
     pub fn read_u32(self, bytes: &[u8]) -> u32
         requires { 4 ≤ length bytes.now }
         ensures { result ≡ number_of self 4 bytes.now }
@@ -49,7 +49,7 @@ impl Order {
         }
     }
 
-    /// The first two bytes of a file in this order.
+    /// Returns the first two bytes of a file in this byte order.
     pub fn mark(self) -> &'static [u8]
         ensures { result.now ≡ mark_of self }
     {
@@ -59,7 +59,7 @@ impl Order {
         }
     }
 
-    /// A number as two bytes.
+    /// Returns a number as two bytes.
     pub fn u16_bytes(self, n: u16) -> [u8; 2]
         ensures { result ≡ bytes_of self 2 n }
     {
@@ -71,7 +71,7 @@ impl Order {
         bytes
     }
 
-    /// A number as four bytes.
+    /// Returns a number as four bytes.
     pub fn u32_bytes(self, n: u32) -> [u8; 4]
         ensures { result ≡ bytes_of self 4 n }
     {

@@ -4,8 +4,8 @@ ghost use Rattle.tif_dir.specs.Table.{default_of, is_listed, least_of};
 
 use crate::tag::*;
 
-// A row for each field, in the order of the tags: its tag, the value of a field that the file leaves out, and
-// how many values a field has at least.
+// One row per field, in tag order: its tag, its default if the file has no such field, and its minimum
+// number of values.
 macro_rules! fields {
     ($cases:ident $arguments:tt) => {
         $cases! {
@@ -59,15 +59,14 @@ macro_rules! least_case {
     (strips $samples:ident $strips:ident) => { $strips };
 }
 
-/// Value `i` of a field that the file leaves out.
+/// Returns the default for value `i` of an absent field, or `None` if the field has no default.
 pub fn default_value(tag: u16, i: u32) -> Option<u32>
     ensures { result ≡ default_of tag i }
 {
     fields!(default_cases(tag, i))
 }
 
-/// How many values the field of a tag has at least, in an image with `samples` samples a pixel and
-/// `strips` strips.
+/// Returns the minimum number of values of a field, given the numbers of samples per pixel and of strips.
 pub fn least_count(tag: u16, samples: u32, strips: u32) -> u32
     requires { IsTrue (is_listed tag) }
     ensures { result ≡ least_of tag samples strips }

@@ -13,7 +13,7 @@ pub enum ValueType {
 }
 
 impl ValueType {
-    /// The type of this number, if it is one that is read.
+    /// Returns the type with this number, if it is supported.
     pub fn of(number: u16) -> Option<ValueType>
         ensures { result ≡ type_of number }
     {
@@ -25,7 +25,7 @@ impl ValueType {
         }
     }
 
-    /// The bytes of a value.
+    /// Returns the size of a value in bytes.
     pub fn size(self) -> usize
         ensures { result ≡ size_of self }
     {
@@ -36,7 +36,7 @@ impl ValueType {
         }
     }
 
-    /// The value in the first bytes.
+    /// Returns the value in the first bytes.
     pub fn read(self, order: Order, bytes: &[u8]) -> u32
         requires { size_of self ≤ length bytes.now }
         ensures { result ≡ number_of order (size_of self) bytes.now }

@@ -1,4 +1,4 @@
--- The definitions at a small file: 4 by 1 pixels in four inks, least significant byte first.
+-- The definitions evaluated on a small file: 4 by 1 pixels in four inks, least significant byte first.
 use Rattle.std.proofs.Common.{◌≡◌, ℕ, false, List, [], ◌∷◌, ◌++◌, Ok, Err, refl}
 use Rattle.pr_base.specs.declared.fault.FaultKind.TheVariants.{Samples, Tiled, Width}
 use Rattle.tif_dir.specs.Directory.{directory_of, fault_at, field_of, number_at}
@@ -6,7 +6,7 @@ use Rattle.tif_image.specs.Fields.{bits_each, full_dot_range, no_tiles, number_a
 use Rattle.tif_image.specs.declared.usage.Usage.TheVariants.{Contone}
 use Rattle.tif_image.specs.Image.{image_fields}
 
--- an entry of one value: tag, type and value in two bytes
+-- an entry with one value: tag, type, count 1, and the value in two bytes
 abbrev entry : ℕ → ℕ → ℕ → ℕ → List ℕ
 entry low kind count value = low ∷ 1 ∷ kind ∷ 0 ∷ count ∷ 0 ∷ 0 ∷ 0 ∷ value ∷ 0 ∷ 0 ∷ 0 ∷ []
 
@@ -26,7 +26,7 @@ pub five_samples : image_fields Contone (file 4 3 5) ≡ Err (fault_at 277 Sampl
 unfolding image_fields no_tiles number_within number_among bits_each full_dot_range number_at field_of directory_of
 five_samples = refl
 
--- 325 in the place of 259: a tile comes before the width
+-- 325 in place of 259: the test for tiles comes before that of the width
 pub tiled : image_fields Contone (file 0 69 4) ≡ Err (fault_at 325 Tiled)
 unfolding image_fields no_tiles number_within number_among bits_each full_dot_range number_at field_of directory_of
 tiled = refl

@@ -1,4 +1,4 @@
--- The first values of BitsPerSample, one at a time and as a list.
+-- The first values of BitsPerSample, one by one and as a list.
 use Rattle.std.proofs.Common.{◌≡◌, ◌≢◌, ℕ, suc, ◌<◌, Bool, true, List, [], ◌∷◌, length, get_or, take, Option, Some, None, Result, Ok, Err, refl, arith}
 use Rattle.std.specs.Prelude.{nat_lt, ◌==◌}
 use Rattle.std.specs.List.{list_all}
@@ -11,7 +11,7 @@ use Rattle.tif_dir.specs.Directory.{fault_at, field_of, number_at, number_in}
 use Rattle.tif_dir.specs.Names.{bits_per_sample}
 use Rattle.tif_image.specs.Fields.{bits_each, first_bits, same_bits}
 
--- what the values are that the field gives one at a time
+-- the values that the field gives one by one
 abbrev AreFirst : ℕ → Result (Option (List ℕ)) TagFault → Result (List ℕ) TagFault → Type 0
 AreFirst samples field (Err fault) = (k : ℕ) → number_in bits_per_sample k samples field ≡ Err fault
 AreFirst samples field (Ok values) =
@@ -25,7 +25,7 @@ first_bits-first samples (Ok (Some values)) =
     (λ few k. rw few refl)
     (λ enough. (length-take-le samples values (ltb-false _ _ enough), λ k lt. rw (enough, get_or-take samples values k 0 lt) refl))
 
--- each passes
+-- each value passes
 all-each : (p : ℕ → Bool) (values : List ℕ) → ((k : ℕ) → k < length values → p (get_or values k 0) ≡ true) → list_all p values ≡ true
 all-each p [] h = refl
 all-each p (value ∷ values) h = rw (h 0 (omega arith)) (all-each p values (λ k lt. h (suc k) (omega arith)))
@@ -50,21 +50,21 @@ all-first samples depth field (Err fault) first lt all = absurd (cc (first 0, al
 all-first samples depth field (Ok values) first lt all =
     rw (all-each (λ bit. bit == depth) values (λ k below. eq-eqb _ _ (cc (first.1 k (omega (arith, first.0)), all k (omega (arith, first.0)))))) refl
 
--- a value that can't be had
+-- a value that is missing or unreadable
 pub bits_each-err : (bytes : List ℕ) (samples depth k : ℕ) (fault : TagFault) → k < samples → number_at bytes bits_per_sample k samples ≡ Err fault
     → bits_each bytes samples depth ≡ Err fault
 unfolding bits_each number_at
 bits_each-err bytes samples depth k fault lt e =
     err-first samples depth k (field_of bytes bits_per_sample) (first_bits samples (field_of bytes bits_per_sample)) fault (first_bits-first samples (field_of bytes bits_per_sample)) lt e
 
--- a value of another depth
+-- a value of a different depth
 pub bits_each-other : (bytes : List ℕ) (samples depth k n : ℕ) → k < samples → number_at bytes bits_per_sample k samples ≡ Ok n → n ≢ depth
     → bits_each bytes samples depth ≡ Err (fault_at bits_per_sample Bits)
 unfolding bits_each number_at
 bits_each-other bytes samples depth k n lt e ne =
     other-first samples depth k n (field_of bytes bits_per_sample) (first_bits samples (field_of bytes bits_per_sample)) (first_bits-first samples (field_of bytes bits_per_sample)) lt e ne
 
--- all values of this depth
+-- all values have this depth
 pub bits_each-all : (bytes : List ℕ) (samples depth : ℕ) → 0 < samples → ((k : ℕ) → k < samples → number_at bytes bits_per_sample k samples ≡ Ok depth)
     → bits_each bytes samples depth ≡ Ok tt
 unfolding bits_each number_at

@@ -1,4 +1,4 @@
--- The images that plateroom takes. A file is its bytes.
+-- The images that plateroom accepts. A file is a list of bytes.
 use Rattle.std.specs.Prelude.{ℕ, ◌+◌, ◌*◌, ◌==◌, ◌≡◌, Bool, not, if◌then◌else◌, List, [], ◌∷◌, Result, Ok}
 use Rattle.std.specs.Prelude.{slice_index}
 use Rattle.std.specs.Result.{result_unwrap_or}
@@ -20,12 +20,12 @@ use Rattle.tif_image.specs.Usage.{depth_of, photometrics_of, samples_of}
 
 -- ---- the tests
 
--- the fields of separated inks, which a contone image alone has (Section 16)
+-- the fields of separated inks, which are tested in a contone image only (Section 16)
 abbrev pub ink_fields : Usage → List ℕ → Result (Unit {0}) TagFault
 ink_fields Contone bytes = number_among bytes tag.ink_set (1 ∷ []) InkSet >> full_dot_range bytes
 ink_fields (Bilevel usage) bytes = Ok tt
 
--- the shape of an image of this use, or the fault of the first field that it can't have
+-- the shape of an image for this use, or the first fault of its fields
 unfoldable pub image_fields : Usage → List ℕ → Result Shape TagFault
 image_fields usage bytes = do
   no_tiles bytes
@@ -50,8 +50,7 @@ image_fields usage bytes = do
     rows_per_strip = rows;
   })
 
--- the shape of an image of this use, or the first fault of all: of the header and the directory, of a field,
--- of a strip
+-- the shape of an image for this use, or the first fault, in the order header and directory, fields, strips
 unfoldable pub shape_of : Usage → List ℕ → Result Shape TagFault
 shape_of usage bytes = do
   no_fault (dir_fault bytes)
@@ -59,33 +58,33 @@ shape_of usage bytes = do
   no_fault (strip_fault shape bytes)
   Ok shape
 
--- the same of a contone image, CMYK (Section 16)
+-- the same for a contone image, CMYK (Section 16)
 abbrev pub contone_shape : List ℕ → Result Shape TagFault
 contone_shape bytes = shape_of Contone bytes
 
--- the same of a bilevel image (Section 3)
+-- the same for a bilevel image (Section 3)
 abbrev pub bilevel_shape : BilevelUse → List ℕ → Result Shape TagFault
 bilevel_shape usage bytes = shape_of (Bilevel usage) bytes
 
--- ---- the images that pass
+-- ---- accepted images
 
--- what the shape of an image of this use is
+-- a valid shape of an image for this use
 pub record IsShapeFor (usage : Usage) (shape : Shape) : Type 0 where
   pub striped : IsStriped shape
   pub samples : shape.samples ≡ samples_of usage
   pub bits : shape.bits ≡ depth_of usage
 
--- what the shape of a contone image is: four samples of eight bits
+-- a valid shape of a contone image: four samples of eight bits
 abbrev pub IsContone : Shape → Type 0
 IsContone shape = IsShapeFor Contone shape
 
--- what the shape of a bilevel image is, whatever its use: one sample of one bit
+-- a valid shape of a bilevel image for either use: one sample of one bit
 pub record IsBilevel (shape : Shape) : Type 0 where
   pub striped : IsStriped shape
   pub samples : shape.samples ≡ 1
   pub bits : shape.bits ≡ 1
 
--- a bilevel image: what it is used for, its shape, and the bytes of its file
+-- the model of a bilevel image: its use, its shape, and the bytes of its file
 pub record BilevelImage : Type 0 where
   pub usage : BilevelUse
   pub shape : Shape
@@ -101,11 +100,11 @@ sample_at shape bytes x y i = slice_index (image_row shape bytes y) (4 * x + i)
 abbrev pub photometric : List ℕ → ℕ
 photometric bytes = result_unwrap_or (number_at bytes tag.photometric_interpretation 0 1) 0
 
--- pixel x of a row is marked: its bit is 1 where zero is white (0) and in a mask (4), and 0 where zero is
--- black (1) (Section 8)
+-- whether pixel x of a row is marked: its bit is 1 for WhiteIsZero (0) and a mask (4), and 0 for
+-- BlackIsZero (1) (Section 8)
 abbrev pub is_marked : ℕ → List ℕ → ℕ → Bool
 is_marked interpretation row x = if interpretation == 1 then not (bit_at row x) else bit_at row x
 
--- the pixel at column x of row y is marked
+-- whether the pixel at column x of row y is marked
 abbrev pub pixel_marked : Shape → List ℕ → ℕ → ℕ → Bool
 pixel_marked shape bytes x y = is_marked (photometric bytes) (image_row shape bytes y) x

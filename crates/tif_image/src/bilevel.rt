@@ -1,4 +1,4 @@
-// Bilevel images: one sample of one bit a pixel, linework or a mask (TIFF 6.0, Sections 3 and 8).
+// Bilevel images, one sample of one bit per pixel: linework or a mask (TIFF 6.0, Sections 3 and 8).
 use crate::check::{Checked, check_image, open_image};
 use crate::usage::{BilevelUse, Usage};
 use pr_base::TagFault;
@@ -9,12 +9,12 @@ use tif_strips::{RowCursor, Shape, Strips};
 /// PhotometricInterpretation "BlackIsZero" (Section 8).
 const BLACK_IS_ZERO: u32 = 1;
 
-/// A bilevel image, all of whose tests have passed. Contracts see its use, its shape and the file's bytes.
+/// A bilevel image that has passed all tests. Contracts see its use, its shape and the file's bytes.
 #[derive(Debug, Drop)]
 pub struct Bilevel<'a> {
     usage: BilevelUse,
     shape: Shape,
-    /// A pixel is marked where its bit is 0.
+    /// Whether pixels with bit 0 are the marked ones.
     marks_zeros: bool,
     strips: Strips<'a>,
 }
@@ -38,8 +38,8 @@ impl<'a> Bilevel<'a> {
     ghost use Rattle.tif_strips.specs.Strips.{row_length};
     ghost use Rattle.tif_image.specs.Image.{IsBilevel, bilevel_shape, is_marked, photometric};
 
-    /// Tests the header and the directory of a file, its fields and its strips, in this order: the first
-    /// test that fails is the answer. InkSet and DotRange aren't read.
+    /// Tests the header and directory of a file, its fields and its strips, in this order, and returns the
+    /// first fault. InkSet and DotRange are not tested.
     pub fn check(bytes: &'a [u8], usage: BilevelUse) -> Result<Bilevel<'a>, TagFault>
         ensures image { IfOk result (λ image. (image.bytes ≡ bytes.now) × (image.usage ≡ usage)) }
         ensures passed { IfOk result (λ image. bilevel_shape usage bytes.now ≡ Ok image.shape) }
@@ -49,7 +49,7 @@ impl<'a> Bilevel<'a> {
         Ok(Bilevel::of(image, usage))
     }
 
-    /// The image in a file whose tests pass: its directory and its fields are read, and no strip.
+    /// Returns the image in a file that is known to pass all tests. Reads the directory and fields, no strip.
     pub fn of_tested(bytes: &'a [u8], usage: BilevelUse) -> Bilevel<'a>
         requires { result_err (bilevel_shape usage bytes.now) ≡ None }
         ensures image { (result.bytes ≡ bytes.now) × (result.usage ≡ usage) }
@@ -64,7 +64,7 @@ impl<'a> Bilevel<'a> {
         requires strips { image.strips ≡ record { shape = image.shape; bytes = image.dir } }
         ensures { result ≡ record { usage = usage; shape = image.entry.shape; bytes = image.entry.dir } }
     {
-        // The field was read among the tests.
+        // The tests have read this field already, so it is present.
         let photometric = image
             .dir
             .number(tag::PHOTOMETRIC_INTERPRETATION, 0, 1)
@@ -77,7 +77,7 @@ impl<'a> Bilevel<'a> {
         }
     }
 
-    /// Pixels of a row.
+    /// Returns the width in pixels.
     pub fn width(&self) -> u32
         ensures width { result ≡ self.now.shape.width }
         ensures within { (1 ≤ result) × (result ≤ 65535) }
@@ -85,7 +85,7 @@ impl<'a> Bilevel<'a> {
         self.shape.width
     }
 
-    /// Rows.
+    /// Returns the number of rows.
     pub fn length(&self) -> u32
         ensures length { result ≡ self.now.shape.length }
         ensures within { (1 ≤ result) × (result ≤ 65535) }
@@ -93,7 +93,7 @@ impl<'a> Bilevel<'a> {
         self.shape.length
     }
 
-    /// What the fields say of the image.
+    /// Returns the shape of the image, as given by its fields.
     pub fn shape(&self) -> Shape
         ensures shape { result ≡ self.now.shape }
         ensures bilevel { IsBilevel result }
@@ -102,7 +102,8 @@ impl<'a> Bilevel<'a> {
         self.shape
     }
 
-    /// The rows from the first, as they are stored: eight pixels a byte, the lower column in the higher bit.
+    /// Returns a cursor over the rows from the first. A row is as stored: eight pixels per byte, lower
+    /// columns in higher-order bits.
     pub fn rows(&self) -> RowCursor<'a>
         ensures cursor { result ≡ record { shape = self.now.shape; bytes = self.now.bytes; next = 0 } }
         ensures row_length { row_length self.now.shape ≡ row_size self.now.shape.width }
@@ -110,14 +111,15 @@ impl<'a> Bilevel<'a> {
         self.strips.rows()
     }
 
-    /// The pixels whose bit is 0 are the marked ones: PhotometricInterpretation is 1.
+    /// Returns whether the marked pixels are those with bit 0: PhotometricInterpretation is 1.
     pub fn marks_zeros(&self) -> bool
         ensures { result ≡ (photometric self.now.bytes == 1) }
     {
         self.marks_zeros
     }
 
-    /// Pixel `x` of a row of the image is marked: its bit is 1, or 0 where PhotometricInterpretation is 1.
+    /// Returns whether pixel `x` of a row of the image is marked: its bit is 1, or 0 if
+    /// PhotometricInterpretation is 1.
     pub fn marked(&self, row: &[u8], x: u32) -> bool
         requires row { length row.now ≡ row_length self.now.shape }
         requires within { x < self.now.shape.width }

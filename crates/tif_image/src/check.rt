@@ -1,4 +1,4 @@
-// The tests of an image in their order, for every use.
+// The tests of an image in order, for every use.
 ghost use Rattle.std.specs.Prelude.{◌≡◌, IfErr, IfOk, None, Ok};
 ghost use Rattle.std.specs.Result.{result_err};
 ghost use Rattle.tif_image.specs.Image.{IsShapeFor, image_fields, ink_fields, shape_of};
@@ -9,7 +9,7 @@ use pr_base::{FaultKind, TagFault};
 use tif_dir::{Dir, read_dir, tag};
 use tif_strips::{Shape, Strips};
 
-/// The longest side of an image, in pixels.
+/// The maximum width and length of an image in pixels.
 const MOST_PIXELS: u32 = 65_535;
 
 /// No compression (Section 8, "Compression").
@@ -18,7 +18,7 @@ const UNCOMPRESSED: u32 = 1;
 /// PackBits (Section 9).
 const PACK_BITS: u32 = 32_773;
 
-/// An image all of whose tests have passed.
+/// An image that has passed all tests.
 #[derive(Drop)]
 pub(crate) struct Checked<'a> {
     pub dir: Dir<'a>,
@@ -26,8 +26,7 @@ pub(crate) struct Checked<'a> {
     pub strips: Strips<'a>,
 }
 
-/// Tests the header and the directory of a file, its fields and its strips, in this order: the first
-/// test that fails is the answer.
+/// Tests a file's header and directory, fields and strips, in this order, and returns the first fault.
 #[tactic(auto, unfolding(crate::specs::Image::shape_of))]
 pub(crate) fn check_image<'a>(bytes: &'a [u8], usage: Usage) -> Result<Checked<'a>, TagFault>
     ensures dir { IfOk result (λ image. image.dir ≡ bytes.now) }
@@ -42,7 +41,7 @@ pub(crate) fn check_image<'a>(bytes: &'a [u8], usage: Usage) -> Result<Checked<'
     Ok(Checked { dir, shape, strips })
 }
 
-/// Reads the directory and the fields of a file whose tests pass. No strip is looked at.
+/// Reads the directory and the fields of a file that is known to pass all tests. Reads no strip.
 #[tactic(auto, unfolding(crate::specs::Image::shape_of))]
 pub(crate) fn open_image<'a>(bytes: &'a [u8], usage: Usage) -> Checked<'a>
     requires { result_err (shape_of usage bytes.now) ≡ None }
@@ -61,7 +60,7 @@ pub(crate) fn open_image<'a>(bytes: &'a [u8], usage: Usage) -> Checked<'a>
     Checked { dir, shape, strips }
 }
 
-// The tests of the fields, in their order.
+// Tests the fields in order and returns the shape that they give.
 #[tactic(auto, unfolding(crate::specs::Image::image_fields))]
 fn image_fields(dir: &Dir<'_>, usage: Usage) -> Result<Shape, TagFault>
     ensures fields { result ≡ image_fields usage dir.now }
@@ -113,7 +112,7 @@ fn image_fields(dir: &Dir<'_>, usage: Usage) -> Result<Shape, TagFault>
     })
 }
 
-// The fields of separated inks, which a contone image alone has. No other use reads them.
+// Tests the fields of separated inks for a contone image. No other use reads them.
 fn ink_fields(dir: &Dir<'_>, usage: Usage) -> Result<(), TagFault>
     ensures { result ≡ ink_fields usage dir.now }
 {

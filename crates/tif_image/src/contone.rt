@@ -1,11 +1,11 @@
-// Contone images: four inks with 8 bits a sample (TIFF 6.0, Section 16, "CMYK Images").
+// Contone images: four inks with 8 bits per sample (TIFF 6.0, Section 16, "CMYK Images").
 use crate::check::{Checked, check_image, open_image};
 use crate::usage::Usage;
 use pr_base::TagFault;
 use std::marker::Model;
 use tif_strips::{RowCursor, Shape, Strips};
 
-/// A contone image, all of whose tests have passed. Contracts see its shape and the file's bytes.
+/// A contone image that has passed all tests. Contracts see its shape and the file's bytes.
 #[derive(Debug, Drop)]
 pub struct Contone<'a> {
     shape: Shape,
@@ -31,8 +31,7 @@ impl<'a> Contone<'a> {
     ghost use Rattle.tif_strips.specs.Strips.{row_length};
     ghost use Rattle.tif_image.specs.Image.{contone_shape, IsContone};
 
-    /// Tests the header and the directory of a file, its fields and its strips, in this order: the first
-    /// test that fails is the answer.
+    /// Tests a file's header and directory, fields and strips, in this order, and returns the first fault.
     pub fn check(bytes: &'a [u8]) -> Result<Contone<'a>, TagFault>
         ensures passed { IfOk result
             (λ image. (image.bytes ≡ bytes.now) × (contone_shape bytes.now ≡ Ok image.shape)) }
@@ -42,7 +41,7 @@ impl<'a> Contone<'a> {
         Ok(Contone::of(image))
     }
 
-    /// The image in a file whose tests pass: its directory and its fields are read, and no strip.
+    /// Returns the image in a file that is known to pass all tests. Reads the directory and fields, no strip.
     pub fn of_tested(bytes: &'a [u8]) -> Contone<'a>
         requires { result_err (contone_shape bytes.now) ≡ None }
         ensures bytes { result.bytes ≡ bytes.now }
@@ -63,7 +62,7 @@ impl<'a> Contone<'a> {
         }
     }
 
-    /// Pixels of a row.
+    /// Returns the width in pixels.
     pub fn width(&self) -> u32
         ensures width { result ≡ self.now.shape.width }
         ensures within { (1 ≤ result) × (result ≤ 65535) }
@@ -71,7 +70,7 @@ impl<'a> Contone<'a> {
         self.shape.width
     }
 
-    /// Rows.
+    /// Returns the number of rows.
     pub fn length(&self) -> u32
         ensures length { result ≡ self.now.shape.length }
         ensures within { (1 ≤ result) × (result ≤ 65535) }
@@ -79,7 +78,7 @@ impl<'a> Contone<'a> {
         self.shape.length
     }
 
-    /// What the fields say of the image.
+    /// Returns the shape of the image, as given by its fields.
     pub fn shape(&self) -> Shape
         ensures shape { result ≡ self.now.shape }
         ensures contone { IsContone result }
@@ -88,8 +87,8 @@ impl<'a> Contone<'a> {
         self.shape
     }
 
-    /// The rows from the first. A row has four bytes a pixel: cyan, magenta, yellow and black, where 0 is
-    /// no ink and 255 is full ink.
+    /// Returns a cursor over the rows from the first. A row has four bytes per pixel: cyan, magenta, yellow
+    /// and black, 0 for no ink and 255 for full ink.
     pub fn rows(&self) -> RowCursor<'a>
         ensures cursor { result ≡ record { shape = self.now.shape; bytes = self.now.bytes; next = 0 } }
         ensures row_length { row_length self.now.shape ≡ 4 * self.now.shape.width }

@@ -1,4 +1,4 @@
-// The tests of an image's fields. Each reads its field first, and answers a fault with the field's tag.
+// Tests of an image's fields. Each reads its field first, and returns a fault with the field's tag.
 ghost use Rattle.std.specs.Prelude.{◌≡◌, ◌<◌, ◌≤◌, ◌==◌, IfOk, IsTrue};
 ghost use Rattle.std.specs.List.{enumerate_from, find, list_all, list_any};
 ghost use Rattle.std.specs.Option.{option_copied};
@@ -13,10 +13,10 @@ use tif_dir::tag::{
 };
 use tif_dir::{Dir, Field};
 
-/// The tags of the fields of tiles, in order (TIFF 6.0, Section 15).
+/// The tags of the tile fields, in order (TIFF 6.0, Section 15).
 const TILE_TAGS: [u16; 4] = [TILE_WIDTH, TILE_LENGTH, TILE_OFFSETS, TILE_BYTE_COUNTS];
 
-/// The value of a field, between two bounds.
+/// Returns the value of a field, which must be between `least` and `most`.
 #[tactic(auto, unfolding(crate::specs::Fields::number_within))]
 pub fn number_within(
     dir: &Dir<'_>,
@@ -36,7 +36,7 @@ pub fn number_within(
     Ok(number)
 }
 
-/// The value of a field, which is one of those accepted.
+/// Returns the value of a field, which must be one of `accepted`.
 #[tactic(auto, unfolding(crate::specs::Fields::number_among))]
 pub fn number_among(
     dir: &Dir<'_>,
@@ -55,7 +55,7 @@ pub fn number_among(
     Ok(number)
 }
 
-/// The image is not in tiles (Section 15).
+/// Tests that the image is not tiled (Section 15).
 #[tactic(auto, unfolding(crate::specs::Fields::no_tiles))]
 pub fn no_tiles(dir: &Dir<'_>) -> Result<(), TagFault>
     ensures { result ≡ no_tiles dir.now }
@@ -69,14 +69,14 @@ pub fn no_tiles(dir: &Dir<'_>) -> Result<(), TagFault>
     }
 }
 
-// The first of these tags that the directory has.
+// Returns the first of these tags that is in the directory.
 fn first_present<'a>(dir: &Dir<'_>, tags: &'a [u16]) -> Option<&'a u16>
     ensures { option_copied result ≡ find (λ tag. is_present (field_of dir.now tag)) tags.now }
 {
     tags.iter().find(|tag| is_present(dir, **tag))
 }
 
-// The directory has an entry of the tag.
+// Returns whether the directory has an entry with `tag`.
 fn is_present(dir: &Dir<'_>, tag: u16) -> bool
     ensures { result ≡ is_present (field_of dir.now tag) }
 {
@@ -86,7 +86,7 @@ fn is_present(dir: &Dir<'_>, tag: u16) -> bool
     }
 }
 
-/// Each sample has `depth` bits.
+/// Tests that each sample has `depth` bits.
 pub fn bits_each(dir: &Dir<'_>, samples: u32, depth: u32) -> Result<(), TagFault>
     requires { 0 < samples }
     ensures { result ≡ bits_each dir.now samples depth }
@@ -102,7 +102,7 @@ pub fn bits_each(dir: &Dir<'_>, samples: u32, depth: u32) -> Result<(), TagFault
     Ok(())
 }
 
-/// Where the file has a dot range, 0 is no ink and 255 is full ink.
+/// Tests that a dot range, if the file has one, maps 0 to no ink and 255 to full ink.
 #[tactic(auto, unfolding(crate::specs::Fields::full_dot_range))]
 pub fn full_dot_range(dir: &Dir<'_>) -> Result<(), TagFault>
     ensures { result ≡ full_dot_range dir.now }
@@ -121,7 +121,7 @@ pub fn full_dot_range(dir: &Dir<'_>) -> Result<(), TagFault>
     })
 }
 
-// The values are 0 and 255 in turn.
+// Returns whether the values alternate between 0 and 255, starting with 0.
 fn are_full_dots(field: &Field<'_>) -> bool
     ensures { result ≡ list_all is_full_dot (enumerate_from 0 field.now) }
 {
@@ -133,7 +133,7 @@ fn are_full_dots(field: &Field<'_>) -> bool
     true
 }
 
-// Value `i` of the full range.
+// Returns value `i` of the full range.
 fn full_dot(i: u32) -> u32
     ensures { result ≡ full_dot i }
 {

@@ -1,5 +1,5 @@
-// The images that plateroom takes: the tests of a file's fields in their order, and the first that fails
-// (TIFF 6.0, Sections 3, 8, 15 and 16). No call takes memory.
+// The images that plateroom accepts: the tests of a file's fields in order, and the first that fails
+// (TIFF 6.0, Sections 3, 8, 15 and 16). No call allocates.
 #![tactic(auto)]
 
 mod bilevel;

@@ -1,26 +1,26 @@
-// What an image is used for, and what each use asks of its fields (TIFF 6.0, Sections 3, 8 and 16).
+// The uses of an image, and the field values that each requires (TIFF 6.0, Sections 3, 8 and 16).
 ghost use Rattle.std.specs.Prelude.{◌≡◌};
 ghost use Rattle.tif_image.specs.Usage.{depth_of, photometrics_of, samples_of};
 
-/// What a bilevel image is used for.
+/// The use of a bilevel image.
 #[derive(Clone, Copy, Debug, PartialEq, Eq)]
 pub enum BilevelUse {
     /// Linework, whose marked pixels are painted. PhotometricInterpretation is 0 or 1.
     Line,
-    /// A mask, whose marked pixels let a layer show. PhotometricInterpretation is 0, 1 or 4.
+    /// A mask, whose marked pixels show a layer. PhotometricInterpretation is 0, 1 or 4.
     Mask,
 }
 
-/// What an image is used for.
+/// The use of an image.
 #[derive(Clone, Copy, Debug, PartialEq, Eq)]
 pub enum Usage {
-    /// A picture in four inks. PhotometricInterpretation is 5.
+    /// A contone picture in four inks. PhotometricInterpretation is 5.
     Contone,
     Bilevel(BilevelUse),
 }
 
 impl Usage {
-    /// Samples a pixel.
+    /// Returns the samples per pixel.
     pub(crate) fn samples(self) -> u8
         ensures { result ≡ samples_of self }
     {
@@ -30,7 +30,7 @@ impl Usage {
         }
     }
 
-    /// Bits a sample.
+    /// Returns the bits per sample.
     pub(crate) fn depth(self) -> u8
         ensures { result ≡ depth_of self }
     {
@@ -40,7 +40,7 @@ impl Usage {
         }
     }
 
-    /// The values of PhotometricInterpretation that are taken.
+    /// Returns the accepted values of PhotometricInterpretation.
     pub(crate) fn photometrics(self) -> &'static [u32]
         ensures { result.now ≡ photometrics_of self }
     {

@@ -1,4 +1,4 @@
--- The strips of an image have at most twice the bytes of its rows.
+-- The strips of an image have at most twice as many bytes as its rows.
 use Rattle.std.proofs.Common.{◌≡◌, ℕ, zero, suc, ◌+◌, ◌*◌, ◌<◌, ◌≤◌, List, [], ◌∷◌, ◌++◌, length, map, take, get_or, refl, ap, subst, ◌∙◌, arith}
 use Rattle.std.specs.List.{flat_map, range_with_len}
 use Rattle.std.proofs.lemmas.List.{append-nil, length-append, length-take}
@@ -25,13 +25,13 @@ take-range zero n from h = refl
 take-range (suc i) zero from h = absurd (omega arith)
 take-range (suc i) (suc n) from h = ap (λ xs. from ∷ xs) (take-range i n (from + 1) (omega arith))
 
--- so many pieces of at most so many bytes
+-- `count` pieces of at most `most` bytes each
 pub flat_map-within : (f : ℕ → List ℕ) (most from count : ℕ) → ((k : ℕ) → length (f k) ≤ most) → length (flat_map f (range_with_len from count)) ≤ count * most
 flat_map-within f most from zero each = omega arith
 flat_map-within f most from (suc count) each =
     omega (arith, length-append (f from) (flat_map f (range_with_len (from + 1) count)), each from, flat_map-within f most (from + 1) count each)
 
--- a row in one plane has the bytes of a row there
+-- a row in one plane is no longer than the row length of the plane
 plane_row-within : (kind : Kind) (planar : Planar) (width plane : ℕ) (rows : List ℕ) (y : ℕ)
     → length (plane_row_of kind planar width plane (row_at (row_bytes kind width) rows y)) ≤ plane_row_bytes kind planar width
 unfolding ink_row
@@ -40,7 +40,7 @@ plane_row-within Contone Chunky width plane rows y = omega (arith, length-take {
 plane_row-within Line planar width plane rows y = omega (arith, length-take {A = ℕ})
 plane_row-within Mask planar width plane rows y = omega (arith, length-take {A = ℕ})
 
--- and stored at most twice as many
+-- a stored row is at most twice as long as the row
 stored-within : (compression : Compression) (row : List ℕ) (n : ℕ) → length row ≤ n → length (stored_row compression row) ≤ 2 * n
 stored-within Uncompressed row n within = omega arith
 stored-within PackBits row n within = omega (arith, packing_bounded row)
@@ -57,7 +57,7 @@ plane-within form rows plane is =
     rw (plane-joined form rows plane is)
     (flat_map-within (stored_at form rows plane) (2 * plane_row_length form) 0 form.length (stored_at-within form rows plane))
 
--- all planes together have the bytes of a row of pixels
+-- the row lengths of all planes add up to the length of a row of pixels
 planes-row : (kind : Kind) (planar : Planar) (width : ℕ) → planes_of kind planar * plane_row_bytes kind planar width ≡ row_bytes kind width
 planes-row Contone Separate width = refl
 planes-row Contone Chunky width = omega arith
@@ -85,7 +85,7 @@ pub strips-twice : (form : ImageForm) (rows : List ℕ) → IsForm form → HasR
 unfolding strips
 strips-twice form rows is has = planes-twice form rows (planes form) is has (omega arith)
 
--- the strips of one plane more
+-- room for the strips of one more plane
 pub plane-room : (form : ImageForm) (rows : List ℕ) (plane stored : ℕ) → IsForm form → HasRows form rows → plane < planes form
     → stored ≡ length (joined (flat_map (plane_strips form rows) (range_with_len 0 plane)))
     → stored + length (joined (plane_strips form rows plane)) ≤ 4000000000
@@ -103,7 +103,7 @@ plane-room form rows plane stored is has below e =
       length-append (joined xs) (joined (plane_strips form rows plane)),
     )
 
--- one strip more of a plane
+-- room for one more strip of a plane
 pub strip-room : (form : ImageForm) (rows : List ℕ) (plane i start stored : ℕ) → i < strips_each form
     → stored ≡ start + length (joined (map (strip form rows plane) (range_with_len 0 i)))
     → start + length (joined (plane_strips form rows plane)) ≤ 4000000000

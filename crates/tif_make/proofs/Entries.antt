@@ -1,4 +1,4 @@
--- A directory that is written field by field.
+-- A directory written field by field.
 use Rattle.std.proofs.Common.{◌≡◌, ℕ, zero, suc, ◌+◌, ◌*◌, ◌<◌, ◌≤◌, List, [], ◌∷◌, ◌++◌, length, map, take, get_or, sym, ap, subst, ◌∙◌, arith, append_assoc, add-zero, add_assoc}
 use Rattle.std.proofs.lemmas.List.{append-nil, map-append, take-map, take_more, length-map, get_or-map, flat_map_more}
 use Rattle.std.specs.List.{flat_map}
@@ -7,16 +7,16 @@ use Rattle.tif_make.specs.declared.field.Field.{Field}
 use Rattle.tif_make.specs.declared.field.Values.TheVariants.{Short}
 use Rattle.tif_make.specs.Fields.{AreFields, FieldData, data_of, directory_end, entries, entry, outside, outside_size, outside_total}
 
--- what stands for a field past the last
+-- a placeholder for a field past the last
 abbrev pub no_field : Field
 no_field = record { tag = 0; values = Short 0 }
 
--- the entries of the first fields were written, and the values of the next stand at a place
+-- the entries of the first i fields are written, and `place` is the offset for the outside values of the next
 pub record WritesEntries (order : Order) (fields : List FieldData) (i place : ℕ) (old new : List ℕ) : Type 0 where
   pub place_is : place ≡ directory_end (length fields) + outside_total (take i fields)
   pub bytes : new ≡ old ++ entries order (directory_end (length fields)) (take i fields)
 
--- one field more
+-- one more field
 pub one_more : (fields : List Field) (i : ℕ) (d : Field) → i < length fields
     → take (i + 1) (map data_of fields) ≡ take i (map data_of fields) ++ data_of (get_or fields i d) ∷ []
 one_more fields i d below =
@@ -24,18 +24,18 @@ one_more fields i d below =
     ∙ map-append data_of (take i fields) (get_or fields i d ∷ [])
     ∙ ap (λ xs. xs ++ data_of (get_or fields i d) ∷ []) (sym (take-map data_of i fields))
 
--- the number of a field's values has 32 bits
+-- the number of a field's values fits in 32 bits
 pub values_within : (fields : List Field) (i : ℕ) (d : Field) → i < length fields → AreFields (map data_of fields)
     → length (data_of (get_or fields i d)).values ≤ 4294967295
 values_within fields i d below are =
     subst (λ f. length f.values ≤ 4294967295) (get_or-map data_of fields i d (data_of d) below) (are.values i (data_of d) (rw length-map below))
 
--- the values outside of the first fields are some of all
+-- the outside bytes of two lists of fields add up
 pub outside_total-append : (fields more : List FieldData) → outside_total (fields ++ more) ≡ outside_total fields + outside_total more
 outside_total-append [] more = omega arith
 outside_total-append (field ∷ fields) more = omega (arith, outside_total-append fields more)
 
--- the entry of one field more
+-- the entries with one more field
 pub entries-more : (order : Order) (place : ℕ) (fields : List FieldData) (field : FieldData)
     → entries order place (fields ++ field ∷ []) ≡ entries order place fields ++ entry order (place + outside_total fields) field
 unfolding entries
@@ -45,19 +45,19 @@ entries-more order place (f ∷ fields) field =
     ∙ sym (append_assoc (entry order place f) _ _)
     ∙ ap (λ n. (entry order place f ++ entries order (place + outside_size f) fields) ++ entry order n field) (add_assoc place (outside_size f) (outside_total fields))
 
--- all are some of all
+-- the first fields have at most as many outside bytes as all fields
 pub outside_total-take : (fields : List FieldData) (i : ℕ) → outside_total (take i fields) ≤ outside_total fields
 outside_total-take fields zero = omega arith
 outside_total-take [] (suc i) = omega arith
 outside_total-take (field ∷ fields) (suc i) = omega (arith, outside_total-take fields i)
 
--- no place passes 32 bits
+-- every offset fits in 32 bits
 pub place_within : (order : Order) (fields : List Field) (i place : ℕ) (old new : List ℕ) → AreFields (map data_of fields)
     → WritesEntries order (map data_of fields) i place old new → place ≤ 4294967295
 place_within order fields i place old new are written =
     omega (arith, are.places, written.place_is, outside_total-take (map data_of fields) i)
 
--- nor does the place behind the values of one field more
+-- so does the offset after the outside values of one more field
 pub place_behind_within : (order : Order) (fields : List Field) (i place : ℕ) (old new : List ℕ) (d : Field) → i < length fields
     → AreFields (map data_of fields) → WritesEntries order (map data_of fields) i place old new
     → place + outside_size (data_of (get_or fields i d)) ≤ 4294967295
@@ -77,7 +77,7 @@ written_none order fields old = record {
   bytes = sym (append-nil old);
 }
 
--- one field more was written
+-- one more entry is written
 pub written_more : (order : Order) (fields : List Field) (i place size : ℕ) (old new next : List ℕ) (d : Field) → i < length fields
     → WritesEntries order (map data_of fields) i place old new
     → next ≡ new ++ entry order place (data_of (get_or fields i d))
@@ -96,7 +96,7 @@ written_more order fields i place size old new next d below written is_next is_s
           ∙ ap (λ xs. old ++ entries order (directory_end (length (map data_of fields))) xs) (sym e);
     }
 
--- the values outside of one field more were written
+-- the outside values of one more field are written
 pub outside_more : (order : Order) (fields : List Field) (i : ℕ) (old new next : List ℕ) (d : Field) → i < length fields
     → new ≡ old ++ flat_map (outside order) (take i (map data_of fields))
     → next ≡ new ++ outside order (data_of (get_or fields i d))

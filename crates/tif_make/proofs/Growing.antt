@@ -1,4 +1,4 @@
--- Lists and strips that grow by a step.
+-- Lists and strips that grow step by step.
 use Rattle.std.proofs.Common.{◌≡◌, ℕ, ◌+◌, ◌-◌, ◌*◌, List, [], ◌∷◌, ◌++◌, length, map, slice_index, refl, sym, ap, subst, ◌∙◌, arith, append_assoc}
 use Rattle.std.specs.List.{flat_map, range_with_len}
 use Rattle.std.proofs.lemmas.List.{append-nil, length-append, map-append}
@@ -11,7 +11,7 @@ use Rattle.tif_make.proofs.Pieces.{begins-append, joined-append, range-append}
 
 -- ---- the samples of one ink
 
--- those of the first pixels
+-- the samples of the first count pixels
 pub record Gathers (ink : ℕ) (row : List ℕ) (count : ℕ) (samples : List ℕ) : Type 0 where
   pub are : samples ≡ map (λ x. slice_index row (4 * x + ink)) (range_with_len 0 count)
   pub count_is : length samples ≡ count
@@ -30,7 +30,7 @@ gathers-more ink row x old new before e = record {
 
 -- ---- rows
 
--- one row more
+-- one more row
 pub rows-more : (f : ℕ → List ℕ) (from k : ℕ) (old new next : List ℕ) → new ≡ old ++ flat_map f (range_with_len from k)
     → next ≡ new ++ f (from + k) → next ≡ old ++ flat_map f (range_with_len from (k + 1))
 rows-more f from k old new next is is_next =
@@ -66,13 +66,13 @@ grows-then first xs ys old new next one two = record {
       ∙ ap (λ zs. old.counts.items ++ zs) (sym (map-append length xs ys));
 }
 
--- one strip more of a plane
+-- one more strip of a plane
 pub grows-strip : (first : ℕ) (f : ℕ → List ℕ) (i : ℕ) (old new next : Strips) → Grows first (map f (range_with_len 0 i)) old new
     → Grows first (f i ∷ []) new next → Grows first (map f (range_with_len 0 (i + 1))) old next
 grows-strip first f i old new next one two =
     rw (map-range_with_len_more f 0 i i (omega arith)) (grows-then first (map f (range_with_len 0 i)) (f i ∷ []) old new next one two)
 
--- one strip by its parts
+-- one more strip, from its parts
 pub grows-one : (first : ℕ) (piece : List ℕ) (old new : Strips) (place size : ℕ) → new.bytes.items ≡ old.bytes.items ++ piece
     → place ≡ length old.bytes.items → new.places.items ≡ old.places.items ++ (first + place) ∷ []
     → size ≡ length new.bytes.items → new.counts.items ≡ old.counts.items ++ (size - place) ∷ []
@@ -86,7 +86,7 @@ grows-one first piece old new place size bytes is_place places is_size counts =
       counts_are = counts ∙ ap (λ n. old.counts.items ++ n ∷ []) whole;
     }
 
--- all strips of a plane more
+-- all strips of one more plane
 pub strips-plane : (first : ℕ) (f : ℕ → List (List ℕ)) (plane : ℕ) (made next : Strips) → HasStrips first (flat_map f (range_with_len 0 plane)) made
     → Grows first (f plane) made next → HasStrips first (flat_map f (range_with_len 0 (plane + 1))) next
 strips-plane first f plane made next before one =
@@ -109,17 +109,17 @@ pub strips-none : (first : ℕ) (made : Strips) → made.bytes.items ≡ [] → 
 unfolding begins
 strips-none first made bytes places counts = record { bytes_are = bytes; places_are = places; counts_are = counts }
 
--- all planes
+-- after all planes
 pub strips-end : (first : ℕ) (f : ℕ → List (List ℕ)) (count all : ℕ) (made : Strips) → count ≡ all
     → HasStrips first (flat_map f (range_with_len 0 count)) made → HasStrips first (flat_map f (range_with_len 0 all)) made
 strips-end first f count all made e has = subst (λ n. HasStrips first (flat_map f (range_with_len 0 n)) made) e has
 
--- all strips of a plane
+-- after all strips of a plane
 pub grows-end : (first : ℕ) (f : ℕ → List ℕ) (count all : ℕ) (old new : Strips) → count ≡ all
     → Grows first (map f (range_with_len 0 count)) old new → Grows first (map f (range_with_len 0 all)) old new
 grows-end first f count all old new e has = subst (λ n. Grows first (map f (range_with_len 0 n)) old new) e has
 
--- how many bytes there are
+-- the number of bytes after the new strips
 pub grown-length : (first : ℕ) (pieces : List (List ℕ)) (old new : Strips) → Grows first pieces old new
     → length new.bytes.items ≡ length old.bytes.items + length (joined pieces)
 grown-length first pieces old new grown = ap length grown.bytes_are ∙ length-append old.bytes.items (joined pieces)

@@ -1,4 +1,4 @@
--- The fields of an image, by numbers.
+-- The sizes of an image's fields.
 use Rattle.std.proofs.Common.{◌≡◌, ℕ, ◌*◌, ◌≤◌, List, ◌++◌, length, map, take, Result, OnOk, refl, sym, ap, subst, ◌∙◌, arith}
 use Rattle.pr_base.specs.declared.memory.NoMemory.{NoMemory}
 use Rattle.std.proofs.lemmas.List.{length-map, length-take, take-map}
@@ -19,7 +19,7 @@ use Rattle.tif_make.specs.Image.{all_fields, image_fields}
 use Rattle.tif_make.proofs.Entries.{outside_total-take}
 use Rattle.tif_make.proofs.Pieces.{strips_each-within}
 
--- no more bytes stand outside than all
+-- the outside bytes of a field are at most all its bytes
 pub outside-within : (field : FieldData) → outside_size field ≤ total field
 outside-within field = grind (arith, nat_tests)
 
@@ -34,7 +34,7 @@ planes-within Contone Chunky = omega arith
 planes-within Line planar = omega arith
 planes-within Mask planar = omega arith
 
--- there are ten of them
+-- the list of all fields has ten
 pub all_fields-length : (form : ImageForm) (places counts : List ℕ) → length (all_fields form places counts) ≡ 10
 unfolding all_fields
 all_fields-length form places counts = refl
@@ -46,7 +46,7 @@ strips-within form is =
     let side = is.length in
     omega arith
 
--- the number of values of each
+-- the number of values of each field
 all_fields-values : (form : ImageForm) (places counts : List ℕ) → length places ≤ 262140 → length counts ≤ 262140
     → All (λ field. length field.values ≤ 4294967295) (all_fields form places counts)
 unfolding all_fields
@@ -55,7 +55,7 @@ all_fields-values form places counts few_places few_counts =
     All-from_recursion (λ field. length field.values ≤ 4294967295) (all_fields form places counts)
     (one, (one, (omega (arith, bits-within form.kind), (one, (one, (omega arith, (one, (one, (omega arith, (one, tt))))))))))
 
--- the bytes outside of all
+-- the outside bytes of all fields
 all_fields-outside : (form : ImageForm) (places counts : List ℕ) → length places ≤ 262140 → length counts ≤ 262140
     → outside_total (all_fields form places counts) ≤ 2097200
 unfolding all_fields
@@ -68,7 +68,7 @@ all_fields-outside form places counts few_places few_counts =
       bits-within form.kind,
     )
 
--- a directory can have them, and the first of them
+-- the first n fields fit in a directory
 pub fields_are : (form : ImageForm) (places counts : List ℕ) (n : ℕ) → IsForm form → length places ≡ strip_count form
     → length counts ≡ strip_count form → n ≤ 10 → AreFields (take n (all_fields form places counts))
 fields_are form places counts n is has_places has_counts few =
@@ -81,7 +81,7 @@ fields_are form places counts n is has_places has_counts few =
       places = omega (arith, taken, outside_total-take all n, all_fields-outside form places counts (omega arith) (omega arith));
     }
 
--- the code's fields
+-- the fields built by the code
 pub code_fields : (form : ImageForm) (places counts : List ℕ) (fields : List Field) (n : ℕ) → map data_of fields ≡ all_fields form places counts
     → map data_of (take n fields) ≡ take n (all_fields form places counts)
 code_fields form places counts fields n e = sym (take-map data_of n fields) ∙ ap (take n) e
@@ -90,7 +90,7 @@ pub code_fields-length : (form : ImageForm) (places counts : List ℕ) (fields :
     → length fields ≡ 10
 code_fields-length form places counts fields e = sym (length-map fields data_of) ∙ ap length e ∙ all_fields-length form places counts
 
--- what stands before the strips, by the code's fields
+-- the front of the file, with the fields built by the code
 pub fronts_same : (form : ImageForm) (places counts : List ℕ) (fields : List Field) (n : ℕ) (result : Result (Unit {0}) NoMemory) (old new : List ℕ)
     → map data_of fields ≡ all_fields form places counts → n ≡ field_count form.planar
     → OnOk result (new ≡ old ++ front form.order (map data_of (take n fields)))

@@ -1,4 +1,4 @@
--- The strips of an image, by numbers and by pieces.
+-- The strips of an image, by count and by content.
 use Rattle.std.proofs.Common.{◌≡◌, ℕ, zero, suc, ◌+◌, ◌-◌, ◌*◌, ◌/◌, ◌<◌, ◌≤◌, min, List, [], ◌∷◌, ◌++◌, length, map, refl, sym, ap, ◌∙◌, ◌⊎◌, inl, inr, arith, add-zero, add-one, add_assoc}
 use Rattle.std.specs.Int.{div_ceil}
 use Rattle.std.specs.List.{flat_map, range_with_len}
@@ -13,13 +13,13 @@ use Rattle.tif_make.specs.declared.form.ImageForm.{ImageForm}
 use Rattle.tif_make.specs.Form.{IsForm, planes, strip_count, strips_each}
 use Rattle.tif_make.specs.Strips.{begins, joined, plane_strips, stored_at, strip, strips}
 
--- ---- numbers
+-- ---- arithmetic
 
--- x / y rounded up
+-- x / y, rounded up
 pub rounded_up : (x y : ℕ) → 0 < y → div_ceil x y ≡ (x + y - 1) / y
 rounded_up x y some = let h = div_ceil_times x y some in sym (div-eq_of_lt-le y (omega arith) (omega arith))
 
--- the strips above strip i of a plane do not fill the image
+-- the rows above strip i of a plane are fewer than the rows of the image
 pub rows_above : (form : ImageForm) (i : ℕ) → i < strips_each form → IsForm form → i * form.rows_per_strip < form.length
 rows_above form i below is =
     let all = form.length + form.rows_per_strip - 1 in
@@ -29,14 +29,14 @@ rows_above form i below is =
     let some = is.length in
     omega arith
 
--- all strips fill it
+-- the strips of a plane hold at least all rows
 pub strips_fill : (form : ImageForm) → IsForm form → form.length ≤ strips_each form * form.rows_per_strip
 strips_fill form is =
     let h = div_ceil_times form.length form.rows_per_strip is.rows_per_strip in
     let e = rounded_up form.length form.rows_per_strip is.rows_per_strip in
     rw (← e) (omega arith)
 
--- each has a row
+-- each strip has at least one row
 pub strips_each-within : (form : ImageForm) → IsForm form → strips_each form ≤ form.length
 strips_each-within form is =
     let h = div_ceil_times form.length form.rows_per_strip is.rows_per_strip in
@@ -53,7 +53,7 @@ strips_each-within form is =
 
 -- ---- ranges
 
--- a range in two parts
+-- a range split in two
 pub range-append : (a m n b : ℕ) → a + m ≡ b → range_with_len a (m + n) ≡ range_with_len a m ++ range_with_len b n
 range-append a zero n b e = let same : a ≡ b = omega arith in rw same (ap (range_with_len b) (omega arith))
 range-append a (suc m) n b e =
@@ -62,7 +62,7 @@ range-append a (suc m) n b e =
 
 -- ---- pieces
 
--- where pieces begin that stand behind others
+-- the offsets of pieces that follow others
 pub begins-append : (place : ℕ) (xs ys : List (List ℕ)) → begins place (xs ++ ys) ≡ begins place xs ++ begins (place + length (joined xs)) ys
 unfolding begins
 begins-append place [] ys = ap (λ n. begins n ys) (sym (add-zero place))
@@ -71,23 +71,23 @@ begins-append place (x ∷ xs) ys =
     (begins-append (place + length x) xs ys
     ∙ ap (λ n. begins (place + length x) xs ++ begins n ys) (add_assoc place (length x) (length (joined xs)) ∙ ap (λ n. place + n) (sym (length-append x (joined xs)))))
 
--- pieces behind others
+-- pieces appended to others
 pub joined-append : (xs ys : List (List ℕ)) → joined (xs ++ ys) ≡ joined xs ++ joined ys
 joined-append xs ys = flat_map-append (λ piece. piece) xs ys
 
--- pieces of pieces
+-- concatenated lists of pieces
 pub joined-flat_map : {X : Type 0} (f : X → List (List ℕ)) (xs : List X) → joined (flat_map f xs) ≡ flat_map (λ x. joined (f x)) xs
 joined-flat_map f [] = refl
 joined-flat_map f (x ∷ xs) = joined-append (f x) (flat_map f xs) ∙ ap (λ ys. joined (f x) ++ ys) (joined-flat_map f xs)
 
--- pieces by a function
+-- pieces given by a function
 pub joined-map : {X : Type 0} (f : X → List ℕ) (xs : List X) → joined (map f xs) ≡ flat_map f xs
 joined-map f [] = refl
 joined-map f (x ∷ xs) = ap (λ ys. f x ++ ys) (joined-map f xs)
 
 -- ---- rows in strips
 
--- rows up to a place, and so many from there on, as far as there are any
+-- the rows before index `place`, then the next `each` rows, as far as there are rows
 rows-two : (f : ℕ → List ℕ) (rows each place : ℕ) → (place < rows) ⊎ (rows ≤ place)
     → flat_map f (range_with_len 0 (min place rows)) ++ flat_map f (range_with_len place (min each (rows - place)))
     ≡ flat_map f (range_with_len 0 (min place rows + min each (rows - place)))
@@ -98,7 +98,7 @@ rows-two f rows each place (inr past) =
     let none : min each (rows - place) ≡ 0 = omega arith in
     rw none (append-nil _ ∙ ap (λ n. flat_map f (range_with_len 0 n)) (omega arith))
 
--- the rows of the first strips of so many rows each
+-- the first k strips of `each` rows hold the first rows
 pub rows-joined : (f : ℕ → List ℕ) (each rows k : ℕ)
     → flat_map (λ i. flat_map f (range_with_len (i * each) (min each (rows - i * each)))) (range_with_len 0 k)
     ≡ flat_map f (range_with_len 0 (min (k * each) rows))
@@ -131,7 +131,7 @@ unfolding begins
 length-begins place [] = refl
 length-begins place (piece ∷ pieces) = ap (λ n. suc n) (length-begins (place + length piece) pieces)
 
--- so many pieces of so many
+-- `count` lists of `each` pieces
 length-pieces : (f : ℕ → List (List ℕ)) (each from count : ℕ) → ((k : ℕ) → length (f k) ≡ each) → length (flat_map f (range_with_len from count)) ≡ count * each
 length-pieces f each from zero h = omega arith
 length-pieces f each from (suc count) h =

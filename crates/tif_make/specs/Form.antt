@@ -1,4 +1,4 @@
--- The form of an image in its file, by numbers (TIFF 6.0, Sections 3, 8, 9 and 16).
+-- The sizes and field values of an image in its file (TIFF 6.0, Sections 3, 8, 9 and 16).
 use Rattle.std.specs.Prelude.{ℕ, ◌+◌, ◌-◌, ◌*◌, ◌/◌, ◌≤◌, List, [], ◌∷◌}
 use Rattle.pr_base.specs.Row.{row_size}
 use Rattle.tif_make.specs.declared.form.ImageForm.{ImageForm}
@@ -9,13 +9,13 @@ use Rattle.tif_make.specs.declared.form.Planar.TheVariants.{Chunky, Separate}
 use Rattle.tif_make.specs.declared.form.Compression.{Compression}
 use Rattle.tif_make.specs.declared.form.Compression.TheVariants.{Uncompressed, PackBits}
 
--- the sides of an image, and at least one row a strip
+-- valid width and length, and at least one row per strip
 pub record IsForm (form : ImageForm) : Type 0 where
   pub width : (1 ≤ form.width) × (form.width ≤ 65535)
   pub length : (1 ≤ form.length) × (form.length ≤ 65535)
   pub rows_per_strip : 1 ≤ form.rows_per_strip
 
--- the bytes of a row of pixels: four samples a pixel, or one bit
+-- the bytes in a row of pixels: four samples per pixel, or one bit
 abbrev pub row_bytes : Kind → ℕ → ℕ
 row_bytes Contone width = 4 * width
 row_bytes Line width = row_size width
@@ -24,7 +24,7 @@ row_bytes Mask width = row_size width
 abbrev pub row_length : ImageForm → ℕ
 row_length form = row_bytes form.kind form.width
 
--- a plane for each ink where their samples are apart ("PlanarConfiguration" 2), and otherwise one
+-- the number of planes: one per ink if the samples are separate ("PlanarConfiguration" 2), otherwise one
 abbrev pub planes_of : Kind → Planar → ℕ
 planes_of Contone Separate = 4
 planes_of Contone Chunky = 1
@@ -44,17 +44,17 @@ plane_row_bytes Mask planar width = row_size width
 abbrev pub plane_row_length : ImageForm → ℕ
 plane_row_length form = plane_row_bytes form.kind form.planar form.width
 
--- the strips of one plane ("RowsPerStrip": StripsPerImage)
+-- the number of strips per plane ("RowsPerStrip": StripsPerImage)
 abbrev pub strips_each : ImageForm → ℕ
 strips_each form = (form.length + form.rows_per_strip - 1) / form.rows_per_strip
 
--- the strips of all planes
+-- the number of strips in all planes
 abbrev pub strip_count : ImageForm → ℕ
 strip_count form = planes form * strips_each form
 
 -- ---- values of fields
 
--- "BitsPerSample", a value for each sample
+-- "BitsPerSample", one value per sample
 abbrev pub bits_of : Kind → List ℕ
 bits_of Contone = 8 ∷ 8 ∷ 8 ∷ 8 ∷ []
 bits_of Line = 1 ∷ []
@@ -66,7 +66,7 @@ samples_of Contone = 4
 samples_of Line = 1
 samples_of Mask = 1
 
--- "PhotometricInterpretation": separated inks, zero is white, a mask
+-- "PhotometricInterpretation": separated inks, WhiteIsZero, transparency mask
 abbrev pub photometric_of : Kind → ℕ
 photometric_of Contone = 5
 photometric_of Line = 0
@@ -77,7 +77,7 @@ abbrev pub compression_of : Compression → ℕ
 compression_of Uncompressed = 1
 compression_of PackBits = 32773
 
--- how many fields an image has: all but "PlanarConfiguration", or all
+-- the number of fields of an image: all ten, or nine without "PlanarConfiguration"
 abbrev pub field_count : Planar → ℕ
 field_count Chunky = 9
 field_count Separate = 10

@@ -1,4 +1,4 @@
--- The strips of an image of which all rows are given, one behind the other from the top.
+-- The strips of an image, from all its rows concatenated from top to bottom.
 use Rattle.std.specs.Prelude.{ℕ, ◌+◌, ◌-◌, ◌*◌, min, List, [], ◌∷◌, length, map, take, drop, slice_index}
 use Rattle.std.specs.List.{flat_map, range_with_len}
 use Rattle.tif_packbits.specs.Packbits.{packing}
@@ -11,7 +11,7 @@ use Rattle.tif_make.specs.declared.form.Compression.{Compression}
 use Rattle.tif_make.specs.declared.form.Compression.TheVariants.{Uncompressed, PackBits}
 use Rattle.tif_make.specs.Form.{planes, row_length, strips_each}
 
--- row y of the image, of so many bytes
+-- row y of the image, size bytes long
 abbrev pub row_at : ℕ → List ℕ → ℕ → List ℕ
 row_at size rows y = take size (drop (y * size) rows)
 
@@ -19,7 +19,7 @@ row_at size rows y = take size (drop (y * size) rows)
 unfoldable pub ink_row : ℕ → ℕ → List ℕ → List ℕ
 ink_row width ink row = map (λ x. slice_index row (4 * x + ink)) (range_with_len 0 width)
 
--- what a row has in one plane ("PlanarConfiguration")
+-- the part of a row that belongs to one plane ("PlanarConfiguration")
 abbrev pub plane_row_of : Kind → Planar → ℕ → ℕ → List ℕ → List ℕ
 plane_row_of Contone Separate width plane row = ink_row width plane row
 plane_row_of Contone Chunky width plane row = row
@@ -30,7 +30,7 @@ abbrev pub plane_row : ImageForm → List ℕ → ℕ → ℕ → List ℕ
 plane_row form rows plane y =
     plane_row_of form.kind form.planar form.width plane (row_at (row_length form) rows y)
 
--- a row as it is stored: each is packed by itself (Section 9)
+-- a row as it is stored; with PackBits each row is packed by itself (Section 9)
 abbrev pub stored_row : Compression → List ℕ → List ℕ
 stored_row Uncompressed row = row
 stored_row PackBits row = packing row
@@ -39,7 +39,7 @@ stored_row PackBits row = packing row
 unfoldable pub stored_at : ImageForm → List ℕ → ℕ → ℕ → List ℕ
 stored_at form rows plane y = stored_row form.compression (plane_row form rows plane y)
 
--- strip i of a plane: its rows, of which the last strip may have fewer ("RowsPerStrip")
+-- strip i of a plane: its rows; the last strip may have fewer ("RowsPerStrip")
 unfoldable pub strip : ImageForm → List ℕ → ℕ → ℕ → List ℕ
 strip form rows plane i =
     flat_map
@@ -47,7 +47,7 @@ strip form rows plane i =
     (range_with_len (i * form.rows_per_strip)
     (min form.rows_per_strip (form.length - i * form.rows_per_strip)))
 
--- the strips of a plane from the top
+-- the strips of a plane, from top to bottom
 unfoldable pub plane_strips : ImageForm → List ℕ → ℕ → List (List ℕ)
 plane_strips form rows plane = map (strip form rows plane) (range_with_len 0 (strips_each form))
 
@@ -55,15 +55,15 @@ plane_strips form rows plane = map (strip form rows plane) (range_with_len 0 (st
 unfoldable pub strips : ImageForm → List ℕ → List (List ℕ)
 strips form rows = flat_map (plane_strips form rows) (range_with_len 0 (planes form))
 
--- pieces, one behind the other
+-- pieces concatenated
 abbrev pub joined : List (List ℕ) → List ℕ
 joined pieces = flat_map (λ piece. piece) pieces
 
--- where each of them begins, the first at a place
+-- the offset of each piece; place is that of the first
 unfoldable pub begins : ℕ → List (List ℕ) → List ℕ
 begins place [] = []
 begins place (piece ∷ pieces) = place ∷ begins (place + length piece) pieces
 
--- the byte count of each
+-- the length of each piece in bytes
 abbrev pub sizes : List (List ℕ) → List ℕ
 sizes pieces = map length pieces

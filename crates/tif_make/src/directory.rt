@@ -1,6 +1,6 @@
 // The bytes of a file up to its strips.
-//   0   II or MM, 42, and 8 as the place of the directory
-//   8   how many fields there are, an entry of twelve bytes for each, and that no directory follows
+//   0   II or MM, 42, and 8 as the offset of the directory
+//   8   the number of fields, an entry of twelve bytes for each, and 0 for no next directory
 //       the values that do not fit in their entries, in the order of the entries
 ghost use Rattle.std.specs.Prelude.{◌≡◌, ◌≤◌, ◌+◌, ◌++◌, OnOk, length, map};
 ghost use Rattle.std.specs.List.{flat_map};
@@ -10,16 +10,16 @@ use crate::field::Field;
 use pr_base::NoMemory;
 use tif_dir::Order;
 
-/// The place of the directory, behind the header.
+/// The offset of the directory, after the header.
 const DIRECTORY: u32 = 8;
 
-/// The bytes of a directory besides its entries, behind the header: its count, and that no directory follows.
+/// The bytes of a directory besides its entries: the number of entries, and 0 for no next directory.
 const COUNT_AND_NEXT: usize = 6;
 
 /// The bytes of an entry.
 const ENTRY: usize = 12;
 
-/// Appends all that stands before the strips of a file with these fields.
+/// Appends everything before the strips of a file with these fields.
 #[tactic(auto, unfolding(crate::specs::Fields::front))]
 pub(crate) fn put_front(order: Order, fields: &[Field], file: &mut Vec<u8>) -> Result<(), NoMemory>
     requires { AreFields (map data_of fields.now) }

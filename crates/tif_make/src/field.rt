@@ -9,15 +9,15 @@ ghost use Rattle.tif_make.specs.Fields.{value_or_place};
 use pr_base::NoMemory;
 use tif_dir::Order;
 
-/// The types of a field (TIFF 6.0, Section 2).
+/// The field types (TIFF 6.0, Section 2).
 const SHORT: u16 = 3;
 
 const LONG: u16 = 4;
 
-/// The most bytes of values that an entry holds.
+/// The maximum bytes of values in an entry.
 const HELD: usize = 4;
 
-/// The values of a field, of 16 or of 32 bits.
+/// The values of a field, 16 or 32 bits each.
 #[derive(Clone, Copy)]
 pub(crate) enum Values<'a> {
     Short(u16),
@@ -34,7 +34,7 @@ pub(crate) struct Field<'a> {
 }
 
 impl Field<'_> {
-    /// The number of the values' type.
+    /// Returns the number of the values' type.
     fn kind(&self) -> u16
         ensures { result ≡ (data_of self.now).kind }
     {
@@ -44,7 +44,7 @@ impl Field<'_> {
         }
     }
 
-    /// How many values there are.
+    /// Returns the number of values.
     fn count(&self) -> usize
         ensures { result ≡ length (data_of self.now).values }
     {
@@ -55,7 +55,7 @@ impl Field<'_> {
         }
     }
 
-    /// The bytes of all values.
+    /// Returns the size of all values in bytes.
     fn total(&self) -> usize
         requires { length (data_of self.now).values ≤ 4294967295 }
         ensures { result ≡ total (data_of self.now) }
@@ -81,7 +81,7 @@ impl Field<'_> {
         Ok(())
     }
 
-    /// The bytes of the values that do not fit in the entry.
+    /// Returns the size in bytes of values that do not fit in the entry, 0 if they fit.
     pub(crate) fn outside_size(&self) -> usize
         requires { length (data_of self.now).values ≤ 4294967295 }
         ensures { result ≡ outside_size (data_of self.now) }
@@ -90,7 +90,7 @@ impl Field<'_> {
         if total <= HELD { 0 } else { total }
     }
 
-    /// Appends the values that do not fit in the entry.
+    /// Appends the values if they do not fit in the entry.
     pub(crate) fn put_outside(&self, order: Order, file: &mut Vec<u8>) -> Result<(), NoMemory>
         requires { length (data_of self.now).values ≤ 4294967295 }
         ensures { OnOk result (file.new.items ≡ file.old.items ++ outside order (data_of self.now)) }
@@ -101,7 +101,7 @@ impl Field<'_> {
         self.put_values(order, file)
     }
 
-    /// Appends the entry of the field, whose values stand at `place` if they do not fit in it.
+    /// Appends the entry of the field; `place` is the offset of its values if they do not fit in it.
     #[tactic(auto, unfolding(crate::specs::Fields::entry))]
     pub(crate) fn put_entry(
         &self,
@@ -118,7 +118,7 @@ impl Field<'_> {
         self.put_value_or_place(order, place, file)
     }
 
-    /// Appends the last four bytes of the entry.
+    /// Appends the last four bytes of the entry: the values, padded with zeros, or their offset.
     fn put_value_or_place(
         &self,
         order: Order,
@@ -140,7 +140,7 @@ impl Field<'_> {
     }
 }
 
-/// Appends numbers of 16 bits.
+/// Appends 16-bit numbers.
 fn put_shorts(numbers: &[u16], order: Order, file: &mut Vec<u8>) -> Result<(), NoMemory>
     ensures { OnOk result (file.new.items ≡ file.old.items ++ flat_map (bytes_of order 2) numbers.now) }
 {
@@ -150,7 +150,7 @@ fn put_shorts(numbers: &[u16], order: Order, file: &mut Vec<u8>) -> Result<(), N
     Ok(())
 }
 
-/// Appends numbers of 32 bits.
+/// Appends 32-bit numbers.
 fn put_longs(numbers: &[u32], order: Order, file: &mut Vec<u8>) -> Result<(), NoMemory>
     ensures { OnOk result (file.new.items ≡ file.old.items ++ flat_map (bytes_of order 4) numbers.now) }
 {

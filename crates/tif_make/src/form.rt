@@ -1,4 +1,4 @@
-// The form of an image in its file.
+// How an image is stored in its file.
 ghost use Rattle.std.specs.Prelude.{◌≡◌, ◌≤◌};
 ghost use Rattle.tif_make.specs.Form.{IsForm, bits_of, compression_of, field_count, photometric_of};
 ghost use Rattle.tif_make.specs.Form.{plane_row_length, planes, row_length, samples_of, strip_count};
@@ -7,36 +7,36 @@ ghost use Rattle.tif_make.specs.Form.{strips_each};
 use pr_base::row_bytes;
 use tif_dir::Order;
 
-/// What an image holds.
+/// The kind of an image.
 #[derive(Clone, Copy, Debug, PartialEq, Eq)]
 pub enum Kind {
-    /// Four samples of eight bits a pixel: cyan, magenta, yellow, black (TIFF 6.0, Section 16).
+    /// Four 8-bit samples per pixel: cyan, magenta, yellow, black (TIFF 6.0, Section 16).
     Contone,
-    /// One bit a pixel, whose ones are marked: PhotometricInterpretation is 0, zero is white.
+    /// One bit per pixel, 1 for a marked pixel; PhotometricInterpretation is 0 (WhiteIsZero).
     Line,
-    /// One bit a pixel, whose ones are marked: PhotometricInterpretation is 4.
+    /// One bit per pixel, 1 for a marked pixel; PhotometricInterpretation is 4 (transparency mask).
     Mask,
 }
 
-/// Where the samples of a pixel stand (PlanarConfiguration, 284).
+/// The layout of a pixel's samples (PlanarConfiguration, 284).
 #[derive(Clone, Copy, Debug, PartialEq, Eq)]
 pub enum Planar {
-    /// Side by side: 1, which is left out of the file.
+    /// Side by side: 1, the default, which is omitted from the file.
     Chunky,
-    /// In a plane for each ink: 2.
+    /// In a separate plane per ink: 2.
     Separate,
 }
 
 /// How rows are stored (Compression, 259).
 #[derive(Clone, Copy, Debug, PartialEq, Eq)]
 pub enum Compression {
-    /// As they are: 1.
+    /// Uncompressed: 1.
     Uncompressed,
-    /// Each packed by itself: 32773 (TIFF 6.0, Section 9).
+    /// Each row packed by itself: 32773 (TIFF 6.0, Section 9).
     PackBits,
 }
 
-/// How an image is laid into its file. Width and length are in pixels.
+/// How an image is stored in its file. Width and length are in pixels.
 #[derive(Clone, Copy, Debug, PartialEq, Eq)]
 pub struct ImageForm {
     pub kind: Kind,
@@ -52,7 +52,7 @@ pub struct ImageForm {
 }
 
 impl ImageForm {
-    /// The bytes of a row of the image.
+    /// Returns the bytes in a row of the image.
     pub(crate) fn row_len(&self) -> usize
         requires { IsForm self.now }
         ensures len { result ≡ row_length self.now }
@@ -64,7 +64,7 @@ impl ImageForm {
         }
     }
 
-    /// The planes of the image.
+    /// Returns the number of planes.
     pub(crate) fn planes(&self) -> u32
         ensures count { result ≡ planes self.now }
         ensures within { result ≤ 4 }
@@ -75,7 +75,7 @@ impl ImageForm {
         }
     }
 
-    /// The strips of one plane.
+    /// Returns the number of strips per plane.
     #[tactic(auto, using(crate::proofs::Pieces::rounded_up))]
     pub(crate) fn strips_each(&self) -> u32
         requires { IsForm self.now }
@@ -85,7 +85,7 @@ impl ImageForm {
         self.length.div_ceil(self.rows_per_strip)
     }
 
-    /// BitsPerSample.
+    /// Returns BitsPerSample.
     pub(crate) fn bits(&self) -> &'static [u16]
         ensures { result.now ≡ bits_of self.now.kind }
     {
@@ -95,7 +95,7 @@ impl ImageForm {
         }
     }
 
-    /// SamplesPerPixel.
+    /// Returns SamplesPerPixel.
     pub(crate) fn samples(&self) -> u16
         ensures { result ≡ samples_of self.now.kind }
     {
@@ -105,7 +105,7 @@ impl ImageForm {
         }
     }
 
-    /// PhotometricInterpretation.
+    /// Returns PhotometricInterpretation.
     pub(crate) fn photometric(&self) -> u16
         ensures { result ≡ photometric_of self.now.kind }
     {
@@ -116,7 +116,7 @@ impl ImageForm {
         }
     }
 
-    /// Compression.
+    /// Returns Compression.
     pub(crate) fn compression_number(&self) -> u16
         ensures { result ≡ compression_of self.now.compression }
     {
@@ -126,7 +126,7 @@ impl ImageForm {
         }
     }
 
-    /// How many fields the file has.
+    /// Returns the number of fields in the file.
     pub(crate) fn field_count(&self) -> usize
         ensures count { result ≡ field_count self.now.planar }
         ensures within { result ≤ 10 }

@@ -1,4 +1,4 @@
-// The file of an image: its directory, and its strips behind it.
+// The file of an image: its directory, then its strips.
 ghost use Rattle.std.specs.Prelude.{◌≡◌, ◌≤◌, ◌++◌, IfOk, OnOk, length, map};
 ghost use Rattle.tif_make.specs.Fields.{data_of, front};
 ghost use Rattle.tif_make.specs.Form.{IsForm, strip_count};
@@ -17,14 +17,14 @@ use tif_dir::tag::{
     PLANAR_CONFIGURATION, ROWS_PER_STRIP, SAMPLES_PER_PIXEL, STRIP_BYTE_COUNTS, STRIP_OFFSETS,
 };
 
-/// The bytes before the entries of a directory and behind them, and those of an entry.
+/// The bytes of the header and the directory without its entries, and the bytes of an entry.
 const DIRECTORY_ENDS: u32 = 14;
 
 const ENTRY: u32 = 12;
 
-/// The file of an image, from its rows, which stand one behind the other from the top. A row of a contone
-/// image has four bytes a pixel, 0 for no ink and 255 for full ink; a row of the other kinds has eight pixels
-/// a byte, the lower column in the higher bit.
+/// Returns the file of an image, given its rows concatenated from top to bottom. A row of a contone image
+/// has four bytes per pixel, 0 for no ink and 255 for full ink; a row of the other kinds has eight pixels
+/// per byte, lower columns in higher-order bits.
 #[tactic(auto, unfolding(crate::specs::Image::image_file))]
 pub fn make_image(alloc: Global, form: &ImageForm, rows: &[u8]) -> Result<Vec<u8>, NoMemory>
     requires form { IsForm form.now }
@@ -43,7 +43,7 @@ pub fn make_image(alloc: Global, form: &ImageForm, rows: &[u8]) -> Result<Vec<u8
     Ok(file)
 }
 
-/// Appends all that stands before the strips of an image, which have these places and byte counts.
+/// Appends everything before the strips of an image that have these offsets and byte counts.
 fn put_fields(
     form: &ImageForm,
     places: &[u32],
@@ -60,7 +60,7 @@ fn put_fields(
     put_front(form.order, &fields[..form.field_count()], file)
 }
 
-/// The fields of an image, by their tags. PlanarConfiguration, the last, is left out where it is 1.
+/// Returns the fields of an image in tag order. The caller omits PlanarConfiguration, the last, if it is 1.
 #[tactic(auto, unfolding(crate::specs::Image::all_fields))]
 #[rattlefmt::skip]
 fn all_fields<'a>(form: &ImageForm, places: &'a [u32], counts: &'a [u32]) -> [Field<'a>; 10]
@@ -80,7 +80,7 @@ fn all_fields<'a>(form: &ImageForm, places: &'a [u32], counts: &'a [u32]) -> [Fi
     ]
 }
 
-/// Where the first strip of an image stands.
+/// Returns the offset of the first strip.
 #[tactic(auto, unfolding(crate::specs::Image::first_strip))]
 fn first_strip(form: &ImageForm) -> u32
     requires { IsForm form.now }
@@ -95,7 +95,7 @@ fn first_strip(form: &ImageForm) -> u32
     DIRECTORY_ENDS + ENTRY * form.field_count() as u32 + bits + 2 * table
 }
 
-/// The bytes outside of its entry of a field that has a value of 32 bits for each strip.
+/// Returns the outside bytes of a field with one 32-bit value per strip.
 fn table_outside(strips: u32) -> u32
     requires { strips ≤ 262140 }
     ensures bytes { result ≡ table_outside_of strips }

@@ -1,6 +1,6 @@
-// Makes TIFF 6.0 files in memory: a contone image, linework or a mask, of given sides, byte order, planar
-// form, compression and rows a strip, from its rows. The bytes of a file are a definition: header, directory,
-// values, strips.
+// Builds TIFF 6.0 files in memory from an image's rows: contone images, linework or masks of a given size,
+// byte order, planar configuration, compression and rows per strip. A definition gives every byte of a
+// file: header, directory, values, strips.
 #![tactic(auto)]
 
 mod directory;

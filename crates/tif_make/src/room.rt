@@ -1,10 +1,10 @@
-// Room for bytes.
+// Zeroed buffers.
 ghost use Rattle.std.specs.Prelude.{◌≡◌, IfOk, replicate};
 
 use pr_base::NoMemory;
 use std::alloc::Global;
 
-/// `len` bytes, each 0.
+/// Allocates `len` zero bytes.
 pub(crate) fn room(alloc: Global, len: usize) -> Result<Vec<u8>, NoMemory>
     ensures { IfOk result (λ bytes. bytes.items ≡ replicate len 0) }
 {

@@ -1,4 +1,4 @@
-// The strips of an image, made from its rows.
+// The strips of an image, built from its rows.
 ghost use Rattle.std.specs.Prelude.{◌≡◌, ◌<◌, ◌≤◌, ◌+◌, ◌*◌, ◌++◌, [], ◌∷◌, IfOk, OnOk, length};
 ghost use Rattle.std.specs.List.{flat_map, range_with_len};
 ghost use Rattle.tif_packbits.specs.Packbits.{packing};
@@ -13,7 +13,7 @@ use pr_base::NoMemory;
 use std::alloc::Global;
 use tif_packbits::pack_row;
 
-/// Strips, one behind the other, with the place in the file and the byte count of each.
+/// Concatenated strips, with the offset in the file and the byte count of each.
 #[derive(Drop)]
 pub(crate) struct Strips {
     pub(crate) bytes: Vec<u8>,
@@ -22,7 +22,7 @@ pub(crate) struct Strips {
 }
 
 impl Strips {
-    /// The strips of an image, of which the first is to stand at `first`.
+    /// Builds the strips of an image; `first` is the offset of the first strip in the file.
     pub(crate) fn of(
         alloc: Global,
         form: &ImageForm,
@@ -45,7 +45,7 @@ impl Strips {
         Ok(made)
     }
 
-    /// Adds the strips of a plane.
+    /// Appends the strips of a plane.
     fn add_plane(
         &mut self,
         alloc: Global,
@@ -68,7 +68,7 @@ impl Strips {
         Ok(())
     }
 
-    /// Adds strip `i` of a plane.
+    /// Appends strip `i` of a plane, with its offset and byte count.
     fn add_strip(
         &mut self,
         alloc: Global,
@@ -94,7 +94,7 @@ impl Strips {
     }
 }
 
-/// Appends strip `i` of a plane.
+/// Appends the bytes of strip `i` of a plane.
 #[tactic(auto, using(crate::proofs::Pieces::rows_above), unfolding(crate::specs::Strips::strip))]
 fn put_strip(
     alloc: Global,
@@ -115,7 +115,7 @@ fn put_strip(
     put_rows(alloc, form, rows, plane, above, count, stored)
 }
 
-/// Appends so many rows of a plane as they are stored, from row `from` on.
+/// Appends `count` stored rows of a plane, from row `from` on.
 fn put_rows(
     alloc: Global,
     form: &ImageForm,
@@ -164,7 +164,7 @@ fn put_row(
     }
 }
 
-/// Row `y` of the image.
+/// Returns row `y` of the image.
 fn lend_row<'a>(form: &ImageForm, rows: &'a [u8], y: u32) -> &'a [u8]
     requires form { IsForm form.now }
     requires rows { HasRows form.now rows.now }
@@ -177,7 +177,7 @@ fn lend_row<'a>(form: &ImageForm, rows: &'a [u8], y: u32) -> &'a [u8]
     &rows[at..at + size]
 }
 
-/// The samples of one ink in a row of pixels.
+/// Returns the samples of one ink in a row of pixels.
 #[tactic(auto, unfolding(crate::specs::Strips::ink_row))]
 fn ink_row(alloc: Global, width: u32, ink: u32, row: &[u8]) -> Result<Vec<u8>, NoMemory>
     requires row { length row.now ≡ 4 * width }
@@ -215,7 +215,7 @@ fn put_packed(alloc: Global, row: &[u8], stored: &mut Vec<u8>) -> Result<(), NoM
     requires { length row.now ≤ 262140 }
     ensures { OnOk result (stored.new.items ≡ stored.old.items ++ packing row.now) }
 {
-    // A packing has at most a byte more for each 128 of the row.
+    // A packing is longer than the row by at most one byte per 128, rounded up.
     let mut packed = room(alloc, row.len() + row.len().div_ceil(128))?;
     let len = pack_row(row, packed.as_mut_slice());
     stored.extend_from_slice(&packed[..len])?;

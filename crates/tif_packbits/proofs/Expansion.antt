@@ -4,7 +4,7 @@ use Rattle.std.proofs.lemmas.Bool.{lt-ltb, le-ltb, le-leb, lt-leb, ne_eqb}
 use Rattle.std.proofs.lemmas.List.{take_at, drop_at, drop_all, length-append}
 use Rattle.tif_packbits.specs.Packbits.{data_len, packet_expansion, packets_expansion, expansion}
 
--- with as many packets as bytes allowed, more make no difference
+-- a larger packet limit changes nothing once it is at least the number of bytes
 packets_expansion-enough : (m n : ℕ) (bytes : List ℕ) → length bytes ≤ m → length bytes ≤ n → packets_expansion m bytes ≡ packets_expansion n bytes
 packets_expansion-enough zero zero [] a b = refl
 packets_expansion-enough zero (suc n) [] a b = refl
@@ -22,12 +22,12 @@ pub expansion-nil : expansion [] ≡ []
 unfolding expansion
 expansion-nil = refl
 
--- the same, of a list that is empty by its length
+-- the expansion of an empty list, given by its length
 pub expansion-none : (bytes : List ℕ) → length bytes ≡ 0 → expansion bytes ≡ []
 expansion-none [] none = expansion-nil
 expansion-none (header ∷ bytes) none = cc
 
--- a packet, and the packets behind it
+-- the first packet, then the remaining packets
 pub expansion-cons : (header : ℕ) (bytes : List ℕ) → expansion (header ∷ bytes) ≡ packet_expansion header bytes ++ expansion (drop (data_len header) bytes)
 unfolding expansion
 expansion-cons header bytes =
@@ -35,14 +35,14 @@ expansion-cons header bytes =
     (packets_expansion-enough (length bytes) (length (drop (data_len header) bytes)) (drop (data_len header) bytes)
     (omega (arith, length-drop (data_len header) bytes)) (omega arith))
 
--- a whole literal
+-- a complete literal
 pub expansion-literal : (header : ℕ) (bytes : List ℕ) → header < 128 → header + 1 ≤ length bytes → expansion (header ∷ bytes) ≡ take (header + 1) bytes ++ expansion (drop (header + 1) bytes)
 expansion-literal header bytes small whole =
     let is_literal : _ = lt-ltb header 128 small in
     let is_whole : _ = le-leb (header + 1) (length bytes) whole in
     rw (expansion-cons header bytes) (simp (is_literal, is_whole))
 
--- a literal that is cut
+-- a truncated literal
 pub expansion-cut : (header : ℕ) (bytes : List ℕ) → header < 128 → length bytes < header + 1 → expansion (header ∷ bytes) ≡ []
 expansion-cut header bytes small cut =
     let is_literal : _ = lt-ltb header 128 small in
@@ -54,21 +54,21 @@ expansion-cut header bytes small cut =
 pub expansion-nothing : (bytes : List ℕ) → expansion (128 ∷ bytes) ≡ expansion bytes
 expansion-nothing bytes = expansion-cons 128 bytes
 
--- a repeat whose byte is cut
+-- a repeat without its byte
 pub expansion-headless : (header : ℕ) → 128 < header → expansion (header ∷ []) ≡ []
 expansion-headless header large =
     let no_literal : _ = le-ltb header 128 (omega arith) in
     let gives : _ = ne_eqb header 128 (omega arith) in
     rw (expansion-cons header []) (simp (no_literal, gives, expansion-nil))
 
--- a whole repeat
+-- a complete repeat
 pub expansion-repeat : (header byte : ℕ) (bytes : List ℕ) → 128 < header → expansion (header ∷ byte ∷ bytes) ≡ replicate (257 - header) byte ++ expansion bytes
 expansion-repeat header byte bytes large =
     let no_literal : _ = le-ltb header 128 (omega arith) in
     let gives : _ = ne_eqb header 128 (omega arith) in
     rw (expansion-cons header (byte ∷ bytes)) (simp (no_literal, gives))
 
--- a literal of these bytes
+-- a literal made of these bytes
 pub expansion-literal_of : (front bytes : List ℕ) → 0 < length front → length front ≤ 128 → expansion ((length front - 1) ∷ (front ++ bytes)) ≡ front ++ expansion bytes
 expansion-literal_of front bytes some short =
     let len : length front - 1 + 1 ≡ length front = omega arith in

@@ -1,4 +1,4 @@
--- The front of a list, written by lanes.
+-- The first elements of a list, written through a vector select.
 use Rattle.std.proofs.Common.{◌≡◌, ℕ, ◌-◌, ◌<◌, ◌≤◌, ⊎_elim, Bool, true, false, nat_lt, cond, List, ◌++◌, length, take, drop, map, get_or, sym, ap, ◌∙◌, arith, zero-add}
 use Rattle.std.specs.List.{range_with_len}
 use Rattle.std.proofs.lemmas.Bool.{cases_lt}

@@ -1,4 +1,4 @@
--- Headers that give nothing, at the front of packed bytes.
+-- No-op headers (-128) at the start of packed bytes.
 use Rattle.std.proofs.Common.{◌≡◌, ◌==◌, ◌≤◌, ℕ, zero, suc, ◌+◌, Bool, true, false, List, [], ◌∷◌, ◌++◌, length, drop, take, replicate, get_or, Option, Some, None, MatchOption, unwrap_or, Bor, nat_eq, refl, sym, ap, ◌∙◌, arith}
 use Rattle.std.proofs.lemmas.Bool.{eqb-true}
 use Rattle.std.proofs.lemmas.Bool.Decides.{Decides-eqb}
@@ -8,26 +8,26 @@ use Rattle.std.specs.Cmp.Lexicographic.{pointwise}
 use Rattle.tif_packbits.specs.Packbits.{expansion}
 use Rattle.tif_packbits.proofs.Expansion.{expansion-nothing}
 
--- packed bytes behind all headers at their front that give nothing
+-- the packed bytes after all leading no-op headers
 abbrev pub past : List ℕ → List ℕ
 past bytes = drop (prefix_len (λ header. header == 128) bytes) bytes
 
--- one of them makes no difference
+-- one no-op header changes nothing
 past-nothing : (bytes : List ℕ) → past (128 ∷ bytes) ≡ past bytes
 past-nothing bytes =
     let more : 1 + prefix_len (λ header. header == 128) bytes ≡ suc (prefix_len (λ header. header == 128) bytes) = omega arith in
     rw more refl
 
--- nor do many
+-- nor do several
 past-nothings : (n : ℕ) (bytes : List ℕ) → past (replicate n 128 ++ bytes) ≡ past bytes
 past-nothings zero bytes = refl
 past-nothings (suc n) bytes = past-nothing (replicate n 128 ++ bytes) ∙ past-nothings n bytes
 
--- so many of them as the code compares at once
+-- as many no-op headers as the code compares at once
 abbrev chunk_of : List ℕ
 chunk_of = replicate 64 128
 
--- a chunk of them where one stands at the front, and else the first alone
+-- a step skips a whole chunk of no-op headers if one is there, else one header
 pub past-step : (bytes : List ℕ) (chunk : Option (Bor (List ℕ))) (behind next : Bor (List ℕ)) → 1 ≤ length bytes → get_or bytes 0 0 ≡ 128 → behind.now ≡ drop 1 bytes
     → MatchOption chunk (pointwise nat_eq (take 64 bytes) chunk_of ≡ false) (λ x. (pointwise nat_eq (take 64 bytes) chunk_of ≡ true) × (x.now ≡ drop 64 bytes) × (length x.now + 64 ≡ length bytes))
     → next ≡ unwrap_or chunk behind
@@ -39,7 +39,7 @@ past-step [] None behind next some first rest cases is = absurd (omega arith)
 past-step (header ∷ bytes) None behind next some first rest cases is =
     ap (λ h. past (h ∷ bytes)) first ∙ (past-nothing bytes ∙ (ap past (sym rest) ∙ ap (λ r. past r.now) (sym is)))
 
--- they make no difference to the expansion
+-- leading no-op headers do not change the expansion
 pub expansion-past : (bytes : List ℕ) → expansion bytes ≡ expansion (past bytes)
 expansion-past [] = refl
 expansion-past (header ∷ bytes) = by_test (header == 128) refl (expansion-past bytes) where

@@ -8,7 +8,7 @@ use Rattle.std.proofs.lemmas.List.Sums.{prefix_len-le-length}
 use Rattle.tif_packbits.proofs.Expansion.{expansion-nil, expansion-repeat, expansion-literal_of}
 use Rattle.tif_packbits.specs.Packbits.{run_len, begins_run, mixed_len, literal_len, first_len, first_packet, packets_packing, packing, packed_bound, expansion, ExpandsToItsRow, StaysWithinBound}
 
--- as many bytes as begin with the same one are its repeats
+-- a prefix of bytes equal to byte is that byte repeated
 take-prefix : (byte n : ℕ) (row : List ℕ) → n ≤ prefix_len (λ x. eqb x byte) row → take n row ≡ replicate n byte
 take-prefix byte zero row within = refl
 take-prefix byte (suc n) [] within = absurd (omega arith)
@@ -24,7 +24,7 @@ take-prefix byte (suc n) (x ∷ row) within =
     absurd (omega arith))
     (cases_Bool (eqb x byte))
 
--- a run is the repeats of the first byte
+-- a run is its first byte repeated
 pub take-run_len : (byte : ℕ) (row : List ℕ) → take (run_len (byte ∷ row)) (byte ∷ row) ≡ replicate (run_len (byte ∷ row)) byte
 take-run_len byte row = take-prefix byte (run_len (byte ∷ row)) (byte ∷ row) (omega arith)
 
@@ -32,7 +32,7 @@ pub run_len-le-length : (row : List ℕ) → run_len row ≤ length row
 run_len-le-length [] = omega arith
 run_len-le-length (byte ∷ row) = omega (arith, prefix_len-le-length (λ x. eqb x byte) (byte ∷ row))
 
--- where three equal bytes begin there is a run
+-- three equal bytes at the start make a run of at least three
 pub run_len-begins : (row : List ℕ) → begins_run row ≡ true → 3 ≤ run_len row
 run_len-begins [] h = cc
 run_len-begins (a ∷ []) h = cc
@@ -50,7 +50,7 @@ pub mixed_len-le-length : (row : List ℕ) → mixed_len row ≤ length row
 mixed_len-le-length [] = omega arith
 mixed_len-le-length (byte ∷ row) = let less : _ = mixed_len-le-length row in grind (arith, nat_tests)
 
--- the front ends where three equal bytes begin, or with the row
+-- the literal ends where three equal bytes begin, or at the end of the row
 pub begins_run-mixed_len : (row : List ℕ) → mixed_len row < length row → begins_run (drop (mixed_len row) row) ≡ true
 begins_run-mixed_len [] h = absurd (omega arith)
 begins_run-mixed_len (byte ∷ row) h =
@@ -61,7 +61,7 @@ begins_run-mixed_len (byte ∷ row) h =
     rw (later, add-one) (begins_run-mixed_len row (omega arith)))
     (cases_Bool (begins_run (byte ∷ row)))
 
--- a row that doesn't begin with a run has a literal of a byte or more
+-- a row that doesn't begin with a run begins with a literal of at least one byte
 mixed_len-pos : (byte : ℕ) (row : List ℕ) → run_len (byte ∷ row) < 3 → 0 < mixed_len (byte ∷ row)
 mixed_len-pos byte row short =
     let later : begins_run (byte ∷ row) ≡ false =
@@ -82,7 +82,7 @@ pub first_packet-literal : (row : List ℕ) → run_len row < 3 → first_packet
 first_packet-literal row short =
     cond-false (leb 3 (run_len row)) ((257 - run_len row) ∷ take 1 row) ((literal_len row - 1) ∷ take (literal_len row) row) (lt-leb 3 (run_len row) short)
 
--- a packet's length, of a row that isn't empty
+-- the length of the first packet of a non-empty row
 pub length-first_packet_run : (row : List ℕ) → 3 ≤ run_len row → length (first_packet row) ≡ 2
 length-first_packet_run [] long = absurd (omega arith)
 length-first_packet_run (byte ∷ row) long = rw (first_packet-run (byte ∷ row) long) refl
@@ -106,7 +106,7 @@ first_len-le-length row =
     (λ (long : 3 ≤ run_len row). rw (first_len-run row long) (run_len-le-length row))
     (cases_lt (run_len row) 3)
 
--- a packet stands for a byte or more
+-- a packet covers at least one byte
 pub first_len-pos : (byte : ℕ) (row : List ℕ) → 0 < first_len (byte ∷ row)
 first_len-pos byte row =
     ⊎_elim
@@ -118,7 +118,7 @@ pub first_len-some : (row : List ℕ) → 0 < length row → 0 < first_len row
 first_len-some [] some = absurd (omega arith)
 first_len-some (byte ∷ row) some = first_len-pos byte row
 
--- with as many packets as bytes allowed, more make no difference
+-- a larger packet limit changes nothing once it is at least the number of bytes
 packets_packing-enough : (m n : ℕ) (row : List ℕ) → length row ≤ m → length row ≤ n → packets_packing m row ≡ packets_packing n row
 packets_packing-enough zero zero [] a b = refl
 packets_packing-enough zero (suc n) [] a b = refl
@@ -136,12 +136,12 @@ pub packing-nil : packing [] ≡ []
 unfolding packing
 packing-nil = refl
 
--- the same, of a row that is empty by its length
+-- the packing of an empty row, given by its length
 pub packing-none : (row : List ℕ) → length row ≡ 0 → packing row ≡ []
 packing-none [] none = packing-nil
 packing-none (byte ∷ row) none = cc
 
--- a packet, and the packets behind it
+-- the first packet, then the remaining packets
 pub packing-cons : (byte : ℕ) (row : List ℕ) → packing (byte ∷ row) ≡ first_packet (byte ∷ row) ++ packing (drop (first_len (byte ∷ row)) (byte ∷ row))
 unfolding packing
 packing-cons byte row =
@@ -151,12 +151,12 @@ packing-cons byte row =
     (packets_packing-enough (length row) (length (drop (first_len (byte ∷ row)) (byte ∷ row))) (drop (first_len (byte ∷ row)) (byte ∷ row))
     rest (omega arith))
 
--- the same, of a row that isn't empty
+-- the same for a row that is not empty by its length
 pub packing_more : (row : List ℕ) → 0 < length row → packing row ≡ first_packet row ++ packing (drop (first_len row) row)
 packing_more [] some = absurd (omega arith)
 packing_more (byte ∷ row) some = packing-cons byte row
 
--- a packet expands to the bytes that it stands for
+-- the first packet expands to the bytes that it covers
 pub expansion-first_packet : (byte : ℕ) (row more : List ℕ) → expansion (first_packet (byte ∷ row) ++ more) ≡ take (first_len (byte ∷ row)) (byte ∷ row) ++ expansion more
 expansion-first_packet byte row more =
     ⊎_elim
@@ -188,11 +188,11 @@ expands_before (suc most) (byte ∷ row) more within =
     ∙ sym (append_assoc (take (first_len (byte ∷ row)) (byte ∷ row)) left (expansion more))
     ∙ joined
 
--- expanding a packing and bytes behind it gives the row, and what these bytes expand to
+-- a packing followed by more bytes expands to the row, then the expansion of those bytes
 pub expansion-packing : (row more : List ℕ) → expansion (packing row ++ more) ≡ row ++ expansion more
 expansion-packing row more = expands_before (length row) row more (omega arith)
 
--- expanding what was packed gives the row again
+-- expanding a packing gives back the row
 pub packing_expands : ExpandsToItsRow
 packing_expands row =
     ap expansion (sym (append-nil (packing row))) ∙ expansion-packing row [] ∙ ap (λ more. row ++ more) expansion-nil ∙ append-nil row
@@ -209,13 +209,13 @@ length-packing_literal byte row short =
     rw (packing-cons byte row, first_packet-literal (byte ∷ row) short, first_len-literal (byte ∷ row) short)
     (omega (arith, len, length-append (take (literal_len (byte ∷ row)) (byte ∷ row)) (packing (drop (literal_len (byte ∷ row)) (byte ∷ row)))))
 
--- The bound, and that a row which begins with a run stays one below it: the byte that such a run saves
--- pays for the header of a literal that ended early.
+-- The bound, and that a row which begins with three equal bytes packs to at least one byte less: the byte
+-- saved by the run pays for the header of a literal that ended early.
 record IsBounded (row : List ℕ) : Type 0 where
   within : length (packing row) ≤ packed_bound (length row)
   saves : begins_run row ≡ true → length (packing row) + 1 ≤ packed_bound (length row)
 
--- a literal ends early, or it is as long as a literal can be or as the row
+-- a literal ends early, or it has maximum length or reaches the end of the row
 cases_ends : (m n : ℕ) → (m < 128 × m < n) ⊎ ((128 ≤ m) ⊎ (n ≤ m))
 cases_ends m n =
     ⊎_elim
@@ -255,6 +255,6 @@ is_bounded (suc most) (byte ∷ row) within =
     record { within = omega (arith, rest.within); saves = λ here. omega (arith, rest.within) })
     (cases_lt (run_len (byte ∷ row)) 3)
 
--- no packing is longer than the bound
+-- no packing exceeds the bound
 pub packing_bounded : StaysWithinBound
 packing_bounded row = (is_bounded (length row) row (omega arith)).within

@@ -1,4 +1,4 @@
--- What pairs of equal bytes tell of the front of a row.
+-- Runs and literals at the start of a row, from a word of pairs: bit k is set if byte k equals byte k + 1.
 use Rattle.std.proofs.Common.{◌≡◌, ℕ, zero, suc, ◌+◌, ◌-◌, ◌/◌, ◌%◌, ◌^◌, ◌<◌, ◌≤◌, ⊎_elim, Bool, true, false, eqb, cond, List, [], ◌∷◌, length, take, drop, map, get_or, min, bit_and, refl, sym, ap, ◌∙◌, arith, w8, w64}
 use Rattle.std.specs.Int.{bit_at, trailing_zeros, trailing_ones}
 use Rattle.std.proofs.lemmas.Bool.{eq-eqb, eqb-true, cond-true, cond-false, cases_lt, cases_Bool}
@@ -13,7 +13,7 @@ use Rattle.tif_packbits.specs.Packbits.{run_len, begins_run, literal_len}
 use Rattle.tif_packbits.proofs.Packing.{take-run_len, run_len-begins}
 use Rattle.tif_packbits.proofs.Fronts.{run_len_stops, literal_len_stops, begins_run-here, begins_run-first, begins_run-second}
 
--- the mask of the compare of the first block with the bytes behind each
+-- the mask from comparing the first block with the block one byte later
 pub pairs_of_mask : (row : List ℕ) → 32 < length row → HasPairs row 32 (mask_l (map (top 7) (zip2 (λ a b. cond (eqb a b) 255 0) (take 32 row) (take 32 (drop 1 row)))) % 2 ^ 64)
 pairs_of_mask row long =
     let here : length (take 32 row) ≡ 32 = length-take-le 32 row (omega arith) in
@@ -31,7 +31,7 @@ pairs_of_mask row long =
           ∙ ap (eqb (get_or row k 0)) (get_or-take 32 (drop 1 row) k 0 below ∙ get_or-drop 1 row k 0 ∙ ap (λ i. get_or row i 0) (omega arith)));
     }
 
--- a bit that is set stands for a pair, and one that isn't for bytes that differ
+-- a set bit means an equal pair, a clear bit different bytes
 set_is_pair : (a b bit : ℕ) → bit ≡ cond (eqb a b) 1 0 → bit ≡ 1 → a ≡ b
 set_is_pair a b bit is set =
     ⊎_elim
@@ -49,13 +49,13 @@ pub no_pair_at : (row : List ℕ) (count pairs k : ℕ) → HasPairs row count p
 no_pair_at row count pairs k has below none same =
     let set : bit_at pairs k ≡ 1 = pair_is_set (get_or row k 0) (get_or row (k + 1) 0) (bit_at pairs k) (has.bits k below) same in omega arith
 
--- bytes of which each is the one before it are all the first
+-- if each byte equals the next, all equal the first
 all_first : (row : List ℕ) (n k : ℕ) → ((i : ℕ) → i < n → get_or row i 0 ≡ get_or row (i + 1) 0) → k ≤ n → get_or row k 0 ≡ get_or row 0 0
 all_first row n zero each within = refl
 all_first row n (suc k) each within =
     ap (λ i. get_or row i 0) (omega arith) ∙ sym (each k (omega arith)) ∙ all_first row n k each (omega arith)
 
--- the pairs at the front, of which one is missing, are a run
+-- the leading pairs, up to the first unequal one, are a run
 pub run_by_pairs : (row : List ℕ) (pairs count equal : ℕ) → count ≤ 32 → count < length row → HasPairs row count pairs → equal ≡ trailing_ones w64 pairs → equal < count → equal + 1 ≡ run_len row
 run_by_pairs row pairs count equal most long has is few =
     let word : pairs < 2 ^ 32 = (let wider : 2 ^ count ≤ 2 ^ 32 = pow-le-pow_right (omega arith) most in omega (arith, has.word)) in
@@ -67,7 +67,7 @@ run_by_pairs row pairs count equal most long has is few =
     (λ k below. all_first row equal k each (omega arith))
     (λ same. no_pair_at row count pairs equal has few stops (all_first row equal equal each (omega arith) ∙ sym same))
 
--- the pairs behind the first few
+-- the word of pairs from index n on
 pub pairs_behind : (row : List ℕ) (pairs n : ℕ) → n ≤ 32 → HasPairs row 32 pairs → HasPairs (take (length row - n) (drop n row)) (32 - n) (pairs / 2 ^ n)
 pairs_behind row pairs n few has =
     let whole : 32 - n + n ≡ 32 = omega arith in
@@ -80,11 +80,11 @@ pairs_behind row pairs n few has =
           ∙ ap (λ y. cond (eqb (get_or (drop n row) k 0) y) 1 0) (ap (λ i. get_or row i 0) (omega arith) ∙ sym (get_or-drop n row (k + 1) 0));
     })
 
--- a bit of the word of pairs that a pair follows
+-- a bit of the word of runs: a pair followed by a pair
 run_bit : (pairs k : ℕ) → bit_at (bit_and pairs (pairs / 2)) k ≡ min (bit_at pairs k) (bit_at pairs (k + 1))
 run_bit pairs k = bit_at_and pairs (pairs / 2) k ∙ ap (min (bit_at pairs k)) (sym (bit_at-suc pairs k) ∙ ap (bit_at pairs) (omega arith))
 
--- where it isn't set no run begins, and where it is one does
+-- where the bit is clear no run begins, where it is set one does
 none_at : (row : List ℕ) (pairs k : ℕ) → 32 < length row → HasPairs row 32 pairs → k < 31 → bit_at (bit_and pairs (pairs / 2)) k ≡ 0 → begins_run (drop k row) ≡ false
 none_at row pairs k long has below clear =
     let none : min (bit_at pairs k) (bit_at pairs (k + 1)) ≡ 0 = sym (run_bit pairs k) ∙ clear in
@@ -109,7 +109,7 @@ run_at row pairs k long has set =
           (pair_at row 32 pairs (k + 1) has (omega arith) (omega arith) ∙ ap (λ i. get_or row i 0) (omega arith)),
     )
 
--- what the lowest bit of a word of runs tells
+-- the meaning of the lowest set bit of the word of runs
 record LowestRun (row : List ℕ) (n : ℕ) : Type 0 where
   below : n < 31
   before : (k : ℕ) → k < n → begins_run (drop k row) ≡ false
@@ -127,7 +127,7 @@ lowest_run row pairs long has some =
       here = at.1;
     }
 
--- the first pair that another follows ends a literal, and begins a run
+-- the first pair followed by a pair ends a literal and begins a run
 pub literal_by_pairs : (row : List ℕ) (pairs : ℕ) → 32 < length row → HasPairs row 32 pairs → (bit_and pairs (pairs / 2) ≡ 0 → ⊥)
     → (trailing_zeros w64 (bit_and pairs (pairs / 2)) < 32) × (trailing_zeros w64 (bit_and pairs (pairs / 2)) ≡ literal_len row) × (3 ≤ run_len (drop (trailing_zeros w64 (bit_and pairs (pairs / 2))) row))
 literal_by_pairs row pairs long has some =
@@ -137,7 +137,7 @@ literal_by_pairs row pairs long has some =
       run_len-begins (drop (trailing_zeros w64 (bit_and pairs (pairs / 2))) row) lowest.here,
     )
 
--- The same from a place on, before which no run begins.
+-- The same from an index on, before which no run begins.
 behind : (row : List ℕ) (at n : ℕ) → ((k : ℕ) → k < at → begins_run (drop k row) ≡ false) → ((k : ℕ) → k < n → begins_run (drop k (drop at row)) ≡ false) → (k : ℕ) → k < at + n → begins_run (drop k row) ≡ false
 behind row at n before more k less =
     ⊎_elim
@@ -161,7 +161,7 @@ literal_ends row pairs at long has some before =
     let lowest : _ = lowest_run (drop at row) pairs (omega arith) part some in
     (lowest.below, behind row at (trailing_zeros w64 (bit_and pairs (pairs / 2))) before lowest.before)
 
--- equal bytes from a place on, the first of which is the row's first
+-- a run extended by the equal bytes of the next block
 pub run_goes_on : (row : List ℕ) (pairs n : ℕ) → 1 ≤ n → n + 32 ≤ length row → HasPairs (take (length row - (n - 1)) (drop (n - 1) row)) 32 pairs → ((k : ℕ) → k < n → get_or row k 0 ≡ get_or row 0 0)
     → (trailing_ones w64 pairs ≤ 32) × ((k : ℕ) → k < n + trailing_ones w64 pairs → get_or row k 0 ≡ get_or row 0 0)
 run_goes_on row pairs n some long has before =
@@ -210,13 +210,13 @@ low_bits_set n a b =
     let next_is : _ = bit_at_lowest (bit_and n 3 / 2) in
     omega arith
 
--- a run begins where the first two bits are set, and only there
+-- if the first two bits are set, the row begins with a run; otherwise it does not
 pub run_from_pairs : (row : List ℕ) (pairs : ℕ) → 32 < length row → HasPairs row 32 pairs → bit_and pairs 3 ≡ 3 → 3 ≤ run_len row
 run_from_pairs row pairs long has both =
     let set : _ = low_bits pairs both in
     run_len-begins row (begins_run-here row 0 (omega arith) (pair_at row 32 pairs 0 has (omega arith) set.0) (pair_at row 32 pairs 1 has (omega arith) set.1))
 
--- the bytes of a run
+-- every byte of a run equals the first
 in_run : (row : List ℕ) (k : ℕ) → k < run_len row → get_or row k 0 ≡ get_or row 0 0
 in_run [] k less = absurd (omega arith)
 in_run (byte ∷ row) k less =

@@ -1,10 +1,10 @@
--- A list that is given piece by piece into a buffer, or passed over.
+-- A list copied to a buffer piece by piece, or skipped.
 use Rattle.std.proofs.Common.{◌≡◌, ℕ, ◌+◌, ◌-◌, ◌<◌, ◌≤◌, List, [], ◌++◌, length, take, drop, min, refl, sym, ap, ◌∙◌, arith}
 use Rattle.std.proofs.Math.Seq.{take-add}
 use Rattle.std.proofs.lemmas.List.{append-nil, append_assoc, length-append, length-drop, length-take-le, take-append-le, drop-append-le, drop-drop, drop_all, drop_at, take_all, take_at, take_rest}
 use borrow.Rule.Slice.PartMut.{put_mid}
 
--- of the bytes ahead the first have gone to the front of what was in the buffer at the start, and these are left
+-- the first `at` bytes of `ahead` are in the buffer, whose other bytes are unchanged, and `left` remains
 pub record HasGiven (ahead start into left : List ℕ) (at : ℕ) : Type 0 where
   pub in_room : at ≤ length start
   pub in_ahead : at ≤ length ahead
@@ -14,13 +14,13 @@ pub record HasGiven (ahead start into left : List ℕ) (at : ℕ) : Type 0 where
 pub HasGiven-none : (ahead start : List ℕ) → HasGiven ahead start start ahead 0
 HasGiven-none ahead start = record { in_room = omega arith; in_ahead = omega arith; written = refl; rest = refl }
 
--- the buffer keeps its length
+-- the length of the buffer is unchanged
 pub HasGiven-length : (ahead start into left : List ℕ) (at : ℕ) → HasGiven ahead start into left at → length into ≡ length start
 HasGiven-length ahead start into left at given =
     let front : length (take at ahead) ≡ at = length-take-le at ahead given.in_ahead in
     ap length given.written ∙ omega (arith, given.in_room, front, length-append (take at ahead) (drop at start), length-drop at start)
 
--- n bytes of a piece, written behind those that were given before
+-- n bytes of a piece are written after those given before
 pub HasGiven-piece : (ahead start into piece behind part : List ℕ) (at n : ℕ) → HasGiven ahead start into (piece ++ behind) at
     → n ≡ min (length piece) (length (take (length into - at) (drop at into)))
     → part ≡ take n piece ++ drop n (take (length into - at) (drop at into))
@@ -51,7 +51,7 @@ HasGiven-piece ahead start into piece behind part at n given count is =
       rest = sym (drop-append-le n piece behind (omega arith)) ∙ (ap (drop n) given.rest ∙ drop-drop n at ahead);
     }
 
--- a piece that doesn't fill the buffer is given whole
+-- a piece that doesn't fill the buffer is consumed whole
 pub HasGiven-whole : (ahead start into piece behind written : List ℕ) (at n : ℕ) → HasGiven ahead start into (piece ++ behind) at → HasGiven ahead start written (drop n piece ++ behind) (at + n)
     → n ≡ min (length piece) (length (take (length into - at) (drop at into)))
     → (at + n ≡ length written → ⊥)
@@ -63,7 +63,7 @@ HasGiven-whole ahead start into piece behind written at n before after count not
     let counted : n ≡ min (length piece) (length (drop at into)) = rw (← take_rest into at) count in
     drop_all n piece (omega (arith, before.in_room))
 
--- the next piece stands before those behind it
+-- the next piece comes before those after it
 pub HasGiven-next : (ahead start into gone behind next more : List ℕ) (at : ℕ) → HasGiven ahead start into (gone ++ behind) at → gone ≡ [] → behind ≡ next ++ more → HasGiven ahead start into (next ++ more) at
 HasGiven-next ahead start into gone behind next more at given none is =
     let same : gone ++ behind ≡ next ++ more = rw none is in
@@ -78,7 +78,7 @@ HasGiven-full ahead start into left at given full =
     let none : drop at start ≡ [] = drop_all at start (omega arith) in
     (omega (arith, given.in_ahead), given.written ∙ (rw (none, append-nil, at_end) refl), given.rest ∙ rw at_end refl)
 
--- nothing is left, and the buffer isn't full
+-- nothing is left and the buffer is not full
 pub HasGiven-all : (ahead start into : List ℕ) (at : ℕ) → HasGiven ahead start into [] at → (at ≡ length into → ⊥)
     → (length ahead < length start) × (into ≡ ahead ++ drop (length ahead) start) × ([] ≡ drop (length start) ahead)
 HasGiven-all ahead start into at given not_full =
@@ -90,7 +90,7 @@ HasGiven-all ahead start into at given not_full =
     let whole : take (length ahead) ahead ≡ ahead = take_all (length ahead) ahead (omega arith) in
     (short, given.written ∙ (rw (at_end, whole) refl), sym (drop_all (length start) ahead (omega arith)))
 
--- of n bytes that are to be passed over so many are still to come, and these are left
+-- of `n` bytes to skip, `most` are still to be skipped, and `left` remains
 pub record HasPassed (ahead left : List ℕ) (n most : ℕ) : Type 0 where
   pub of_n : most ≤ n
   pub in_ahead : n ≤ length ahead + most
@@ -101,7 +101,7 @@ HasPassed-none ahead n =
     let none : n - n ≡ 0 = omega arith in
     record { of_n = omega arith; in_ahead = omega arith; rest = rw none refl }
 
--- k bytes of a piece
+-- k bytes of a piece are skipped
 pub HasPassed-piece : (ahead piece behind : List ℕ) (n most k : ℕ) → HasPassed ahead (piece ++ behind) n most → k ≡ min (length piece) most → HasPassed ahead (drop k piece ++ behind) n (most - k)
 HasPassed-piece ahead piece behind n most k passed count =
     let piece_len : _ = length-append piece behind in
@@ -114,23 +114,23 @@ HasPassed-piece ahead piece behind n most k passed count =
       rest = sym (drop-append-le k piece behind (omega arith)) ∙ (ap (drop k) passed.rest ∙ (drop-drop k (n - most) ahead ∙ ap (λ m. drop m ahead) there));
     }
 
--- a piece after which some are still to come is passed over whole
+-- a piece is skipped whole if bytes are still to be skipped after it
 pub HasPassed-whole : (piece : List ℕ) (most k : ℕ) → k ≡ min (length piece) most → (most - k ≡ 0 → ⊥) → drop k piece ≡ []
 HasPassed-whole piece most k count more = drop_all k piece (omega arith)
 
--- the next piece stands before those behind it
+-- the next piece comes before those after it
 pub HasPassed-next : (ahead gone behind next more : List ℕ) (n most : ℕ) → HasPassed ahead (gone ++ behind) n most → gone ≡ [] → behind ≡ next ++ more → HasPassed ahead (next ++ more) n most
 HasPassed-next ahead gone behind next more n most passed none is =
     let same : gone ++ behind ≡ next ++ more = rw none is in
     record { of_n = passed.of_n; in_ahead = passed.in_ahead; rest = sym same ∙ passed.rest }
 
--- none is still to come
+-- no more bytes are to be skipped
 pub HasPassed-full : (ahead left : List ℕ) (n most : ℕ) → HasPassed ahead left n most → most ≡ 0 → (n ≤ length ahead) × (left ≡ drop n ahead)
 HasPassed-full ahead left n most passed none =
     let there : n - most ≡ n = omega arith in
     (omega (arith, passed.in_ahead), passed.rest ∙ ap (λ m. drop m ahead) there)
 
--- nothing is left, and some are still to come
+-- nothing is left, and bytes are still to be skipped
 pub HasPassed-all : (ahead : List ℕ) (n most : ℕ) → HasPassed ahead [] n most → (most ≡ 0 → ⊥) → (length ahead < n) × ([] ≡ drop n ahead)
 HasPassed-all ahead n most passed more =
     let none_len : _ = ap length passed.rest in

@@ -1,4 +1,4 @@
--- A row that is packed packet by packet into a buffer.
+-- A row packed into a buffer packet by packet.
 use Rattle.std.proofs.Common.{◌≡◌, ℕ, ◌+◌, ◌-◌, ◌<◌, ◌≤◌, List, [], ◌∷◌, ◌++◌, length, take, drop, refl, sym, ap, ◌∙◌, arith}
 use Rattle.std.proofs.lemmas.List.{append-nil, append_assoc, length-append, length-drop, length-take-le, drop-drop, drop_all, drop_at, take_all, take_at, take_rest}
 use borrow.Rule.Slice.PartMut.{put_mid}
@@ -7,7 +7,7 @@ use Rattle.tif_packbits.specs.Packbits.{packing, run_len, literal_len, first_len
 use Rattle.tif_packbits.proofs.Packing.{packing_more, packing-none, packing_bounded, first_len-le-length, first_len-some, first_len-run, first_len-literal, first_packet-run, first_packet-literal, literal_len-le-length, run_len-le-length}
 use Rattle.tif_packbits.proofs.Pieces.{HasGiven, HasGiven-none, HasGiven-piece, HasGiven-next, HasGiven-length}
 
--- the packing of a row is written up to `at`, and that of its bytes from `from` on is left
+-- the packing of the row is written up to `at`; that of its bytes from index `from` on is still to come
 pub record IsPacked (row start into : List ℕ) (from at : ℕ) : Type 0 where
   pub in_row : from ≤ length row
   pub given : HasGiven (packing row) start into (packing (drop from row)) at
@@ -15,7 +15,7 @@ pub record IsPacked (row start into : List ℕ) (from at : ℕ) : Type 0 where
 pub IsPacked-none : (row start : List ℕ) → IsPacked row start start 0 0
 IsPacked-none row start = record { in_row = omega arith; given = HasGiven-none (packing row) start }
 
--- there is room for the packing of the bytes that are left
+-- the buffer has room for the packing of the remaining bytes
 pub IsPacked-room : (row start into : List ℕ) (from at : ℕ) → IsPacked row start into from at → packed_bound (length row) ≤ length start
     → length (packing (take (length row - from) (drop from row))) ≤ length (take (length into - at) (drop at into))
 IsPacked-room row start into from at packed room =
@@ -48,11 +48,11 @@ IsPacked-more row start into part from at taken count packed room new =
       given = HasGiven-next _ _ _ (drop count new.bytes) (packing (drop taken (drop from row))) [] (packing (drop (from + taken) row)) _ after none (ap packing rest);
     }
 
--- less of the row is left
+-- less of the row remains
 pub IsPacked-smaller : (row old part : List ℕ) (from taken count : ℕ) → from < length row → IsWritten (take (length row - from) (drop from row)) old part taken count → length row - (from + taken) < length row - from
 IsPacked-smaller row old part from taken count more new = omega (arith, new.stand.some)
 
--- the packet that a row begins with
+-- the first packet of a row
 stands_first : (row : List ℕ) → 0 < length row → StandFor (first_packet row) row (first_len row)
 stands_first row some = record { some = first_len-some row some; within = first_len-le-length row; whole = packing_more row some }
 
@@ -70,7 +70,7 @@ literal_stands row n some short is =
     let len : first_len row ≡ n = first_len-literal row short ∙ sym is in
     rw (packet, len) at (stands_first row some)
 
--- packets, and those behind them
+-- one or more packets followed by further ones
 both_stand : (a b row : List ℕ) (n m : ℕ) → StandFor a row n → StandFor b (drop n row) m → StandFor (a ++ b) row (n + m)
 both_stand a b row n m first second =
     let left : _ = length-drop n row in
@@ -81,7 +81,7 @@ both_stand a b row n m first second =
           ∙ ap (λ rest. (a ++ b) ++ packing rest) (drop-drop m n row);
     }
 
--- what a packet's bytes are, and how many there are of them in the packing
+-- the bytes of a first packet, and the space it takes in the packing
 pub run_room : (row : List ℕ) (n : ℕ) → 3 ≤ n → n ≡ run_len row → 2 ≤ length (packing row)
 run_room row n long is =
     let stand : _ = run_stands row n long is in
@@ -102,12 +102,12 @@ pub literal_written : (row old new : List ℕ) (n : ℕ) → 0 < length row → 
 literal_written row old new n some short is new_is =
     record { bytes = (n - 1) ∷ take n row; stand = literal_stands row n some short is; size = omega (arith, length-take-le n row (omega (arith, literal_len-le-length row))); is = new_is }
 
--- no run has more bytes than a packet can stand for
+-- no run is longer than one packet can represent
 pub run_len-most : (row : List ℕ) → run_len row ≤ 128
 run_len-most [] = omega arith
 run_len-most (byte ∷ row) = omega arith
 
--- a buffer is as long as before
+-- the length of the buffer is unchanged
 pub length-written : (row old new : List ℕ) (header n : ℕ) → n ≤ length row → n + 1 ≤ length old → new ≡ (header ∷ take n row) ++ drop (n + 1) old → length new ≡ length old
 length-written row old new header n within room is =
     omega (arith, ap length is, length-append (header ∷ take n row) (drop (n + 1) old), length-take-le n row within, length-drop (n + 1) old)

@@ -1,16 +1,16 @@
-// Copies and fills of few bytes. A call of the C library's takes longer than most packets, so up to
-// 32 bytes are written in place: a front and a back of a fixed length, which may overlap.
+// Copies and fills of few bytes. A call of the C library's functions takes longer than most packets, so up
+// to 32 bytes are written in place: a head and a tail of fixed length, which may overlap.
 ghost use Rattle.std.specs.Prelude.{◌≡◌, ◌+◌, ◌≤◌, ◌++◌, length, take, drop, replicate};
 
 use std::simd::prelude::*;
 
-/// How many bytes go at once where they are few.
+/// The number of bytes, and of vector lanes, in a short copy.
 const FEW: usize = 16;
 
-/// The places of that many.
+/// The indices of the lanes.
 const PLACES: [u8; FEW] = [0, 1, 2, 3, 4, 5, 6, 7, 8, 9, 10, 11, 12, 13, 14, 15];
 
-/// Copies `from` over `into`.
+/// Copies `from` to `into`, which is of equal length.
 pub fn copy(from: &[u8], into: &mut [u8])
     requires { length from.now ≡ length into.old }
     ensures { into.new ≡ from.now }
@@ -26,7 +26,7 @@ pub fn copy(from: &[u8], into: &mut [u8])
     }
 }
 
-/// Copies the first `n` bytes of `from` to the front of `into`.
+/// Copies the first `n` bytes of `from` to the start of `into`.
 pub fn copy_front(from: &[u8], n: usize, into: &mut [u8])
     requires from { n ≤ length from.now }
     requires into { n ≤ length into.old }
@@ -39,8 +39,8 @@ pub fn copy_front(from: &[u8], n: usize, into: &mut [u8])
     }
 }
 
-/// The same of few bytes. Which of them stay is chosen by lanes, since a branch on `n` would often be
-/// guessed wrong.
+/// Copies the first `n` bytes, at most `FEW`. A vector select chooses which bytes change, since a branch on
+/// `n` would often be mispredicted.
 fn copy_few(from: &[u8], n: usize, into: &mut [u8])
     requires few { n ≤ FEW }
     requires from { FEW ≤ length from.now }
@@ -53,7 +53,7 @@ fn copy_few(from: &[u8], n: usize, into: &mut [u8])
         .copy_to_slice(into);
 }
 
-/// Writes `byte` over all of `into`.
+/// Fills `into` with `byte`.
 pub fn fill(byte: u8, into: &mut [u8])
     ensures { into.new ≡ replicate (length into.old) byte }
 {
@@ -68,7 +68,7 @@ pub fn fill(byte: u8, into: &mut [u8])
     }
 }
 
-/// Copies the first and the last `N` bytes, which are all.
+/// Copies the first and the last `N` bytes, which together are all.
 fn copy_ends<const N: usize>(from: &[u8], into: &mut [u8])
     requires same { length from.now ≡ length into.old }
     requires fits { N ≤ length from.now }
@@ -80,7 +80,7 @@ fn copy_ends<const N: usize>(from: &[u8], into: &mut [u8])
     into[back..].copy_from_slice(&from[back..]);
 }
 
-/// Writes `byte` over the first and the last `N` bytes, which are all.
+/// Fills the first and the last `N` bytes, which together are all.
 fn fill_ends<const N: usize>(byte: u8, into: &mut [u8])
     requires fits { N ≤ length into.old }
     requires all { length into.old ≤ N + N }

@@ -1,6 +1,6 @@
-// Frames, which hold the packing of a row in a space of fixed length.
+// Frames, which hold the packing of a row padded to a fixed length.
 //   0  the length of the packing, least significant byte first
-//   2  the packing, and zeros behind it
+//   2  the packing, then zeros
 ghost use Rattle.std.specs.Prelude.{◌≡◌, ◌≤◌, length};
 ghost use Rattle.tif_packbits.specs.Frame.{frame_size, frame_of, packed_in, framed_row, IsFrame};
 ghost use Rattle.tif_packbits.specs.Packbits.{packing};
@@ -12,7 +12,7 @@ use byteorder::{ByteOrder, LittleEndian};
 /// The bytes before the packing.
 const HEADER: usize = 2;
 
-/// The bytes of the frame of a row of `n` bytes.
+/// Returns the bytes in the frame of a row of `n` bytes.
 pub fn frame_len(n: usize) -> usize
     requires { n ≤ 8192 }
     ensures { result ≡ frame_size n }
@@ -20,7 +20,7 @@ pub fn frame_len(n: usize) -> usize
     HEADER + pack_bound(n)
 }
 
-/// Writes the frame of `row` over all of `into`. Packs straight into it.
+/// Writes the frame of `row` over all of `into`, packing directly into it.
 pub fn frame_row(row: &[u8], into: &mut [u8])
     requires row { length row.now ≤ 8192 }
     requires into { length into.old ≡ frame_size (length row.now) }
@@ -31,7 +31,7 @@ pub fn frame_row(row: &[u8], into: &mut [u8])
     bytes::fill(0, &mut into[HEADER + len..]);
 }
 
-/// The packed bytes of a frame: the packing of its row.
+/// Returns the packed bytes of a frame, which are the packing of its row.
 pub fn framed(bytes: &[u8]) -> &[u8]
     requires { IsFrame bytes.now }
     ensures held { result.now ≡ packed_in bytes.now }

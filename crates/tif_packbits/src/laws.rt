@@ -1,18 +1,18 @@
-// The laws that tie packings and frames to the rows that they stand for.
+// Laws that relate packings and frames to their rows.
 ghost use Rattle.tif_packbits.specs.Frame.{TellsItsRow};
 ghost use Rattle.tif_packbits.specs.Packbits.{ExpandsToItsRow, StaysWithinBound};
 
-/// Expanding what was packed gives the row again.
+/// States that expanding a packing gives back the row.
 pub fn packing_expands_to_its_row()
     ensures { ExpandsToItsRow }
 {}
 
-/// The packing of a row is never longer than its bound.
+/// States that the packing of a row never exceeds its bound.
 pub fn packing_stays_within_bound()
     ensures { StaysWithinBound }
 {}
 
-/// Rows of equal length with equal frames are equal.
+/// States that rows of equal length with equal frames are equal.
 pub fn frame_tells_its_row()
     ensures { TellsItsRow }
 {}

@@ -1,6 +1,6 @@
-// PackBits, the byte-wise packing of TIFF 6.0, Section 9, both ways: an unpacker that gives the
-// expansion of packed bytes piece by piece, the packing of a row, and frames, in which packed rows of any
-// length have one. Nothing here takes memory.
+// PackBits, the byte-wise compression of TIFF 6.0, Section 9, in both directions: an unpacker that produces
+// the expansion of packed bytes piece by piece, the packing of a row, and frames, whose length depends only
+// on the row's length. Nothing here allocates.
 #![tactic(auto)]
 
 mod bytes;

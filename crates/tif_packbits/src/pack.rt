@@ -1,4 +1,4 @@
-// The packing of a row: runs of three equal bytes and more as repeats, all else as literals.
+// The packing of a row: runs of three or more equal bytes as repeats, everything else as literals.
 ghost use Rattle.std.specs.Prelude.{◌≡◌, ◌+◌, ◌-◌, ◌<◌, ◌≤◌, ◌∷◌, ◌++◌, length, take, drop};
 ghost use Rattle.tif_packbits.specs.Front.{IsWritten};
 ghost use Rattle.tif_packbits.specs.Packbits.{packing, packed_bound};
@@ -6,10 +6,10 @@ ghost use Rattle.tif_packbits.specs.Packbits.{packing, packed_bound};
 use crate::bytes;
 use crate::row_front::{Front, front_of};
 
-/// The most bytes that a packet stands for.
+/// The maximum number of bytes that a packet represents.
 pub(crate) const LONGEST: usize = 128;
 
-/// The most bytes that the packing of `n` bytes has.
+/// Returns the maximum length of the packing of `n` bytes.
 pub fn pack_bound(n: usize) -> usize
     requires { n ≤ 65535 }
     ensures { result ≡ packed_bound n }
@@ -17,7 +17,7 @@ pub fn pack_bound(n: usize) -> usize
     n + n.div_ceil(LONGEST)
 }
 
-/// Writes the packing of `row` to the front of `into`, and gives its length.
+/// Writes the packing of `row` to the start of `into` and returns its length.
 pub fn pack_row(row: &[u8], into: &mut [u8]) -> usize
     requires { packed_bound (length row.now) ≤ length into.old }
     ensures len { result ≡ length (packing row.now) }
@@ -33,8 +33,8 @@ pub fn pack_row(row: &[u8], into: &mut [u8]) -> usize
     at
 }
 
-/// Writes the first packet of `row`, or the first two, to the front of `into`. Gives how many bytes of the
-/// row they stand for, and how many they have.
+/// Writes the first packet of `row`, or the first two, to the start of `into`. Returns the number of bytes
+/// of the row that they represent, and the number of bytes written.
 fn write_front(row: &[u8], into: &mut [u8]) -> (usize, usize)
     requires some { 0 < length row.now }
     requires room { length (packing row.now) ≤ length into.old }
@@ -57,7 +57,7 @@ fn write_front(row: &[u8], into: &mut [u8]) -> (usize, usize)
     }
 }
 
-/// Writes the first `n` bytes of `row`, which are equal, as one packet.
+/// Writes the first `n` bytes of `row`, which are equal, as one repeat packet.
 fn write_run(row: &[u8], n: usize, into: &mut [u8])
     requires row { 0 < length row.now }
     requires run { (3 ≤ n) × (n ≤ 128) }
@@ -68,7 +68,7 @@ fn write_run(row: &[u8], n: usize, into: &mut [u8])
     into[1] = row[0];
 }
 
-/// Writes the first `n` bytes of `row` as they are, as one packet.
+/// Writes the first `n` bytes of `row` as one literal packet.
 fn write_literal(row: &[u8], n: usize, into: &mut [u8])
     requires row { n ≤ length row.now }
     requires literal { (1 ≤ n) × (n ≤ 128) }

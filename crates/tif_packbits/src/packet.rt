@@ -1,4 +1,4 @@
-// One packet: a header byte, and behind it a literal's bytes or the byte that is repeated.
+// One packet: a header byte, then a literal's bytes or the byte to repeat.
 ghost use Rattle.std.specs.Prelude.{◌≡◌, ◌<◌, ◌++◌, ◌==◌, length, min, take, drop};
 ghost use Rattle.std.specs.List.{prefix_len};
 ghost use Rattle.tif_packbits.specs.Packbits.{expansion};
@@ -6,23 +6,23 @@ ghost use Rattle.tif_packbits.specs.Packet.{left_of};
 
 use crate::bytes;
 
-/// The header -128, as a byte: its packet gives nothing.
+/// The header -128, a no-op, as an unsigned byte.
 const NOTHING: u8 = 128;
 
-/// As many of them as are compared at once.
+/// As many no-op headers as are compared at once.
 const NOTHINGS: [u8; 64] = [NOTHING; 64];
 
-/// What is left of a packet.
+/// The rest of a packet.
 #[derive(Clone, Copy, Debug)]
 pub enum Packet<'a> {
-    /// The bytes that stand behind the header.
+    /// The remaining bytes of a literal.
     Literal(&'a [u8]),
-    /// A byte, and how often it is still to come.
+    /// A byte, and how many times it is still to be repeated.
     Repeat(u8, usize),
 }
 
-/// The first packet of packed bytes, and the bytes behind it and behind more headers like it where it gives
-/// nothing. A packet whose bytes are cut gives nothing.
+/// Returns the first packet of packed bytes, and the bytes after it. If the packet is a no-op, further
+/// no-op headers are skipped too. A truncated packet expands to nothing.
 pub fn first_packet(packed: &[u8]) -> (Packet<'_>, &[u8])
     requires { 0 < length packed.now }
     ensures whole { expansion packed.now ≡ left_of result.0 ++ expansion result.1.now }
@@ -47,8 +47,8 @@ pub fn first_packet(packed: &[u8]) -> (Packet<'_>, &[u8])
     }
 }
 
-/// The packed bytes behind all headers at the front that give nothing. A file may hold millions of them.
-// Cold, so that the loops over packets that give bytes stay small.
+/// Skips all no-op headers at the start of packed bytes. A file may hold millions of them.
+// Cold, so that the loops over other packets stay small.
 #[cold]
 fn past_nothings(packed: &[u8]) -> &[u8]
     ensures past { result.now ≡ drop (prefix_len (λ header. header == 128) packed.now) packed.now }
@@ -62,7 +62,7 @@ fn past_nothings(packed: &[u8]) -> &[u8]
 }
 
 impl<'a> Packet<'a> {
-    /// Gives as many of the packet's bytes as are left and as there is room for, and says how many.
+    /// Writes as many of the packet's remaining bytes as fit in `into`, and returns their number.
     pub fn give(&mut self, into: &mut [u8]) -> usize
         ensures count { result ≡ min (length (left_of self.old)) (length into.old) }
         ensures given { into.new ≡ take result (left_of self.old) ++ drop result into.old }
@@ -84,7 +84,7 @@ impl<'a> Packet<'a> {
         }
     }
 
-    /// Passes over as many of the packet's bytes as are left, up to `most`, and says how many.
+    /// Skips the packet's remaining bytes, at most `most` of them, and returns their number.
     pub fn pass(&mut self, most: u64) -> u64
         ensures count { result ≡ min (length (left_of self.old)) most }
         ensures left { left_of self.new ≡ drop result (left_of self.old) }

@@ -1,4 +1,4 @@
-// What a row begins with: a run of equal bytes, or a literal.
+// The first packet of a row: a run of equal bytes, or a literal.
 ghost use Rattle.std.specs.Prelude.{◌≡◌, ℕ, ◌<◌, ◌≤◌, IfSome, false, length, drop, slice_index};
 ghost use Rattle.tif_packbits.specs.Front.{HasPairs, IsFront};
 ghost use Rattle.tif_packbits.specs.Packbits.{begins_run, run_len, literal_len};
@@ -6,22 +6,22 @@ ghost use Rattle.tif_packbits.specs.Packbits.{begins_run, run_len, literal_len};
 use crate::pack::LONGEST;
 use std::simd::prelude::*;
 
-/// The fewest equal bytes that are packed as a repeat.
+/// The minimum number of equal bytes that are packed as a repeat.
 const SHORTEST_RUN: usize = 3;
 
-/// How many bytes are compared with their neighbours in one step.
+/// The number of bytes compared with their neighbours in one step.
 const BLOCK: usize = 32;
 
-/// What a row begins with, and how many bytes of the row that is.
+/// The first packet of a row, or the first two, each with the number of bytes of the row it represents.
 pub(crate) enum Front {
     Run(usize),
     Literal(usize),
-    /// A literal, and the run that ends it.
+    /// A literal and the run that ends it.
     Both(usize, usize),
 }
 
-/// What `row` begins with. Its first block tells nearly always, and mostly tells the run behind a literal
-/// too, which saves a second look.
+/// Returns the first packet of `row`. The first block of bytes nearly always decides it, and mostly also
+/// gives the run after a literal, which saves a second scan.
 pub(crate) fn front_of(row: &[u8]) -> Front
     requires { 0 < length row.now }
     ensures { IsFront row.now result }
@@ -36,7 +36,7 @@ pub(crate) fn front_of(row: &[u8]) -> Front
     Front::Literal(front_literal(row))
 }
 
-/// What a row with these pairs begins with.
+/// Returns the first packet of a row with these pairs.
 fn front_by(row: &[u8], pairs: u64) -> Front
     requires block { BLOCK < length row.now }
     requires pairs { HasPairs row.now BLOCK pairs }
@@ -54,8 +54,8 @@ fn front_by(row: &[u8], pairs: u64) -> Front
     }
 }
 
-/// The bytes before the first run of a row with these pairs, where it begins in the first block: where one
-/// pair follows another.
+/// Returns the number of bytes before the first run, if that begins in the first block: where a pair
+/// follows a pair.
 fn first_run(row: &[u8], pairs: u64) -> Option<usize>
     requires block { BLOCK < length row.now }
     requires pairs { HasPairs row.now BLOCK pairs }
@@ -69,8 +69,8 @@ fn first_run(row: &[u8], pairs: u64) -> Option<usize>
     Some(n)
 }
 
-/// A bit for each byte of the first block, the first as the lowest: it is set where the byte equals the
-/// next.
+/// Returns a word with a bit for each byte of the first block, the first byte in the lowest bit. A bit is set
+/// if its byte equals the next.
 #[tactic(auto, using(crate::proofs::Pairs::pairs_of_mask))]
 fn pairs(row: &[u8]) -> u64
     requires { BLOCK < length row.now }
@@ -81,7 +81,7 @@ fn pairs(row: &[u8]) -> u64
     here.simd_eq(next).to_bitmask()
 }
 
-/// The run at the front of a row of which the first `count` pairs are known.
+/// Returns the length of the run at the start of a row whose first `count` pairs are known.
 fn run_by(row: &[u8], pairs: u64, count: usize) -> usize
     requires count { count ≤ BLOCK }
     requires more { count < length row.now }
@@ -95,7 +95,7 @@ fn run_by(row: &[u8], pairs: u64, count: usize) -> usize
     front_run(row)
 }
 
-/// The equal bytes at the front of `row`, counted up to the longest packet.
+/// Returns the length of the run of equal bytes at the start of `row`, at most the longest packet.
 fn front_run(row: &[u8]) -> usize
     requires { 0 < length row.now }
     ensures { result ≡ run_len row.now }
@@ -111,8 +111,8 @@ fn front_run(row: &[u8]) -> usize
     n
 }
 
-/// Equal bytes at the front of `row`: all of them, or up to a block's length before the row's end, or as many
-/// as a packet stands for and more.
+/// Counts equal bytes at the start of `row`, block by block. Stops at a different byte, less than a block
+/// before the end of the row, or at or beyond the longest packet.
 fn run_in_blocks(row: &[u8]) -> usize
     requires { 0 < length row.now }
     ensures some { 1 ≤ result }
@@ -130,7 +130,8 @@ fn run_in_blocks(row: &[u8]) -> usize
     n
 }
 
-/// The longest front of `row`, up to the longest packet, at none of whose places three equal bytes begin.
+/// Returns the length of the longest prefix of `row`, at most the longest packet, with no index at which
+/// three equal bytes begin.
 fn front_literal(row: &[u8]) -> usize
     ensures { result ≡ literal_len row.now }
 {
@@ -138,7 +139,7 @@ fn front_literal(row: &[u8]) -> usize
     let mut at = literal_in_blocks(row);
     while at < most && at + 2 < row.len() {
         if row[at + 1] != row[at + 2] {
-            // No three equal bytes begin here or at the next place.
+            // No three equal bytes begin at this index or the next.
             at += 2;
         } else if row[at] == row[at + 1] {
             return at;
@@ -149,8 +150,8 @@ fn front_literal(row: &[u8]) -> usize
     most
 }
 
-/// A front of `row` at none of whose places three equal bytes begin: all of it, or up to a block's length
-/// before the row's end, or as many bytes as a packet stands for and more.
+/// Finds, block by block, a prefix of `row` with no index at which three equal bytes begin. Stops at such
+/// an index, at most a block before the end of the row, or at or beyond the longest packet.
 fn literal_in_blocks(row: &[u8]) -> usize
     ensures within { result ≤ length row.now }
     ensures none { (k : ℕ) → k < result → begins_run (drop k row.now) ≡ false }
@@ -162,7 +163,7 @@ fn literal_in_blocks(row: &[u8]) -> usize
         if runs != 0 {
             return at + runs.trailing_zeros() as usize;
         }
-        // Whether the last byte of a block begins a run is not told by the pairs of that block alone.
+        // Whether a run begins at the last byte of a block depends on a pair outside the block.
         at += BLOCK - 1;
     }
     at

@@ -1,4 +1,4 @@
-// The expansion of packed bytes, given piece by piece.
+// The expansion of packed bytes, produced piece by piece.
 ghost use Rattle.std.specs.Prelude.{◌≡◌, ◌<◌, ◌≤◌, ◌↔◌, List, ℕ, [], ◌∷◌, ◌++◌, length, take, drop};
 ghost use Rattle.std.specs.Prelude.{MatchOption, IfNone, IsOk, IsErr, OnOk, OnErr};
 ghost use Rattle.tif_packbits.specs.Packbits.{expansion};
@@ -7,13 +7,12 @@ use crate::packet::{Packet, first_packet};
 use std::marker::Model;
 use thiserror::Error;
 
-/// Fewer bytes are left than were asked for.
+/// Fewer bytes are left than requested.
 #[derive(Clone, Copy, Debug, PartialEq, Eq, Hash, Error)]
 #[error("too few bytes are left")]
 pub struct Short;
 
-/// Gives the expansion of packed bytes in order (TIFF 6.0, Section 9). Contracts see the bytes that
-/// are still to come.
+/// Expands packed bytes in order (TIFF 6.0, Section 9). Contracts see the bytes still to come.
 #[derive(Debug, Drop)]
 pub struct Unpacker<'a> {
     packet: Packet<'a>,
@@ -31,7 +30,7 @@ impl<'a> Model for Unpacker<'a> {
 }
 
 impl<'a> Unpacker<'a> {
-    /// Stands at the front of the expansion of `bytes`.
+    /// Starts at the beginning of the expansion of `bytes`.
     pub fn new(bytes: &'a [u8]) -> Unpacker<'a>
         ensures { result ≡ expansion bytes.now }
     {
@@ -41,7 +40,7 @@ impl<'a> Unpacker<'a> {
         }
     }
 
-    /// The next byte, or `None` at the expansion's end.
+    /// Returns the next byte, or `None` at the end of the expansion.
     pub fn byte(&mut self) -> Option<u8>
         ensures next { MatchOption result (self.old ≡ []) (λ byte. self.old ≡ byte ∷ self.new) }
         ensures end { IfNone result (self.new ≡ []) }
@@ -53,8 +52,8 @@ impl<'a> Unpacker<'a> {
         }
     }
 
-    /// Fills `into` with the next bytes. Where fewer are left, these stand at its front and the rest
-    /// of it is unchanged.
+    /// Fills `into` with the next bytes. If fewer are left, writes those to its start and leaves the rest
+    /// of it unchanged.
     pub fn fill(&mut self, into: &mut [u8]) -> Result<(), Short>
         ensures short { IsErr result ↔ (length self.old < length into.old) }
         ensures enough { OnOk result (length into.old ≤ length self.old) }
@@ -80,7 +79,7 @@ impl<'a> Unpacker<'a> {
         }
     }
 
-    /// Passes over the next `n` bytes, or over all where fewer are left. Looks at headers alone.
+    /// Skips the next `n` bytes, or all if fewer are left. Reads only packet headers.
     pub fn skip(&mut self, n: u64) -> Result<(), Short>
         ensures short { IsErr result ↔ (length self.old < n) }
         ensures enough { OnOk result (n ≤ length self.old) }

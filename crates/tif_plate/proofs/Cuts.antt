@@ -1,4 +1,4 @@
--- The strips of rows: their byte counts add up to the places where they begin.
+-- Rows cut into strips: the offset of each strip is 8 plus the byte counts of the strips before it.
 use Rattle.std.proofs.Common.{◌≡◌, ℕ, zero, suc, ◌+◌, ◌*◌, ◌<◌, ◌≤◌, List, [], ◌∷◌, length, map, sum, take, get_or, sym, ap, ◌∙◌, arith}
 use Rattle.std.specs.Int.{div_ceil}
 use Rattle.std.specs.List.{flat_map, range_with_len}
@@ -13,19 +13,19 @@ use Rattle.tif_plate.specs.Plate.{rows_each, strip_count, rows_before, rows_in, 
 use Rattle.tif_plate.specs.Tail.{begin_of, begins}
 use Rattle.tif_plate.proofs.Rounding.{rounded_up}
 
--- the sum of one number more
+-- a partial sum with one more number
 pub sum-take_more : (numbers : List ℕ) (i : ℕ) → i < length numbers → sum (take (i + 1) numbers) ≡ sum (take i numbers) + get_or numbers i 0
 sum-take_more numbers i below =
     ap sum ((take_at_read numbers i 0 below).1) ∙ sum_by-append (λ n. n) (take i numbers) (get_or numbers i 0 ∷ []) ∙ omega arith
 
--- as many rows as the strips hold, and no fewer
+-- the strips together hold at least as many rows as the plate has
 pub rows-in_strips : (width height : ℕ) → height ≤ strip_count width height * rows_each width
 rows-in_strips width height =
     let some : 0 < rows_each width = omega arith in
     let all : height ≤ div_ceil height (rows_each width) * rows_each width = (div_ceil_times height (rows_each width) some).0 in
     rw (rounded_up height (rows_each width) some) all
 
--- the rows before strip i + 1 are those before strip i and those of strip i
+-- the rows before strip i + 1 are those before strip i, then those of strip i
 length-rows_before : (width : ℕ) (rows : List (List ℕ)) (i : ℕ)
     → length (flat_map packing (rows_before width rows (i + 1))) ≡ length (flat_map packing (rows_before width rows i)) + size_of width rows i
 length-rows_before width rows i =
@@ -35,7 +35,7 @@ length-rows_before width rows i =
     ∙ ap length (flat_map-append packing (rows_before width rows i) (rows_in width rows i))
     ∙ length-append (flat_map packing (rows_before width rows i)) (flat_map packing (rows_in width rows i))
 
--- the first strips hold the rows before the next
+-- the first i strips hold exactly the rows before strip i
 pub sum-sizes : (width : ℕ) (rows : List (List ℕ)) (i : ℕ) → sum (map (size_of width rows) (range_with_len 0 i)) ≡ length (flat_map packing (rows_before width rows i))
 sum-sizes width rows zero = ap (λ n. length (flat_map packing (take n rows))) (sym (zero-mul (rows_each width)))
 sum-sizes width rows (suc i) =
@@ -46,7 +46,7 @@ sum-sizes width rows (suc i) =
     ∙ sym (length-rows_before width rows i)
     ∙ ap (λ n. length (flat_map packing (rows_before width rows n))) (sym one)
 
--- all strips hold all rows
+-- all strips together hold all rows
 pub sum-strip_counts : (width : ℕ) (rows : List (List ℕ)) → sum (strip_counts width rows) ≡ length (flat_map packing rows)
 unfolding strip_counts
 sum-strip_counts width rows =
@@ -57,7 +57,7 @@ pub length-strip_counts : (width : ℕ) (rows : List (List ℕ)) → length (str
 unfolding strip_counts
 length-strip_counts width rows = length-map-range_with_len (size_of width rows) 0 (strip_count width (length rows))
 
--- each strip begins where the counts before it add up to
+-- each strip begins where the strips before it end
 pub begins-strip_counts : (width : ℕ) (rows : List (List ℕ)) → begins (strip_counts width rows) ≡ strip_places width rows
 unfolding strip_counts strip_places
 begins-strip_counts width rows =

@@ -1,4 +1,4 @@
--- Front, packed rows and tail are the plate, once the place of its directory stands in bytes 4 to 7.
+-- Front, packed rows and tail are the plate file once the offset of the directory is in bytes 4 to 7.
 use Rattle.std.proofs.Common.{◌≡◌, ℕ, ◌+◌, List, ◌++◌, length, ap, ◌∙◌}
 use Rattle.std.specs.List.{flat_map}
 use Rattle.pr_base.specs.Place.{with_place}
@@ -7,7 +7,7 @@ use Rattle.tif_plate.specs.Plate.{directory_place, bytes_behind, rows_end, strip
 use Rattle.tif_plate.specs.Tail.{front_bytes, begins, tail_place, tail_bytes}
 use Rattle.tif_plate.proofs.Cuts.{sum-strip_counts, begins-strip_counts}
 
--- all rows stand packed behind the front, and the tail behind them
+-- all packed rows follow the front, and the tail follows them
 pub finishes : (width dpi : ℕ) (rows : List (List ℕ))
     → with_place (tail_place (strip_counts width rows)) ((front_bytes ++ flat_map packing rows) ++ tail_bytes width (length rows) dpi (strip_counts width rows)) ≡ plate_file width dpi rows
 unfolding plate_file

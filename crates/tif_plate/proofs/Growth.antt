@@ -1,4 +1,4 @@
--- How the byte counts of a plate's strips grow with its rows.
+-- How the byte counts of a plate's strips grow row by row.
 use Rattle.std.proofs.Common.{◌≡◌, ◌≢◌, ℕ, suc, ◌+◌, ◌*◌, ◌/◌, ◌<◌, ◌≤◌, ⊎_elim, List, [], ◌∷◌, ◌++◌, length, map, sum, take, drop, get_or, set, replicate, refl, sym, ap, subst, ◌∙◌, arith}
 use Rattle.std.specs.List.{All, flat_map, range_with_len}
 use Rattle.std.proofs.Math.Nat.{add-mul, one-mul, div-mul-le_self, lt-div-mul-add, mul-le-mul_right, mul-le-mul_left}
@@ -15,7 +15,7 @@ use Rattle.tif_plate.specs.Plate.{IsSide, rows_each, strip_count, rows_in, size_
 use Rattle.tif_plate.specs.Tail.{IsPlaceable, counts_so_far}
 use Rattle.tif_plate.proofs.Cuts.{rows-in_strips, sum-sizes}
 
--- a row behind the first n
+-- a row after strip i, which leaves the strip unchanged
 behind : (n i r : ℕ) (rows : List (List ℕ)) (row : List ℕ) → length rows ≡ n → 0 < r → i < n / r → take r (drop (i * r) (rows ++ row ∷ [])) ≡ take r (drop (i * r) rows)
 behind n i r rows row len some before =
     let next : (i + 1) * r ≡ i * r + r = add-mul i 1 r ∙ ap (λ m. i * r + m) (one-mul r) in
@@ -24,7 +24,7 @@ behind n i r rows row len some before =
     ap (take r) (drop-append-le (i * r) rows (row ∷ []) (omega arith))
     ∙ take-append-le r (drop (i * r) rows) (row ∷ []) (omega (arith, length-drop (i * r) rows))
 
--- the row that is row n
+-- row n in its own strip
 at : (n i r : ℕ) (rows : List (List ℕ)) (row : List ℕ) → length rows ≡ n → 0 < r → i ≡ n / r → take r (drop (i * r) (rows ++ row ∷ [])) ≡ take r (drop (i * r) rows) ++ row ∷ []
 at n i r rows row len some here =
     let within : i * r ≤ n = rw here (div-mul-le_self n r) in
@@ -34,7 +34,7 @@ at n i r rows row len some here =
     ∙ take_all r (drop (i * r) rows ++ row ∷ []) (omega (arith, length-append (drop (i * r) rows) (row ∷ [])))
     ∙ ap (λ front. front ++ row ∷ []) (sym (take_all r (drop (i * r) rows) (omega arith)))
 
--- no row is there yet
+-- a strip after the new row, which has no rows yet
 past : (n i r : ℕ) (rows : List (List ℕ)) (row : List ℕ) → length rows ≡ n → 0 < r → n / r < i → take r (drop (i * r) (rows ++ row ∷ [])) ≡ take r (drop (i * r) rows)
 past n i r rows row len some after =
     let next : (n / r + 1) * r ≡ n / r * r + r = add-mul (n / r) 1 r ∙ ap (λ m. n / r * r + m) (one-mul r) in
@@ -42,7 +42,7 @@ past n i r rows row len some after =
     let less : n < n / r * r + r = lt-div-mul-add some in
     ap (take r) (drop_all (i * r) (rows ++ row ∷ []) (omega (arith, length-append rows (row ∷ []))) ∙ sym (drop_all (i * r) rows (omega arith)))
 
--- the strip of the next row grows by the row's packing
+-- the strip of the next row grows by the row's packed length
 pub size_of-more : (width : ℕ) (rows : List (List ℕ)) (row : List ℕ) (i : ℕ) → i ≡ length rows / rows_each width
     → size_of width (rows ++ row ∷ []) i ≡ size_of width rows i + length (packing row)
 size_of-more width rows row i here =
@@ -51,7 +51,7 @@ size_of-more width rows row i here =
     ∙ length-append (flat_map packing (rows_in width rows i)) (packing row ++ [])
     ∙ ap (λ last. size_of width rows i + length last) (append-nil (packing row))
 
--- all others stay
+-- all other strips are unchanged
 pub size_of-other : (width : ℕ) (rows : List (List ℕ)) (row : List ℕ) (i : ℕ) → i ≢ length rows / rows_each width
     → size_of width (rows ++ row ∷ []) i ≡ size_of width rows i
 size_of-other width rows row i other =
@@ -61,7 +61,7 @@ size_of-other width rows row i other =
     (λ (rest : length rows / rows_each width ≤ i). past (length rows) i (rows_each width) rows row refl (omega arith) (omega arith))
     (cases_lt i (length rows / rows_each width)))
 
--- the strip of a row is one of the plate's
+-- the strip of a row is one of the plate's strips
 pub strip-in_plate : (width height y : ℕ) → y < height → y / rows_each width < strip_count width height
 strip-in_plate width height y below =
     let all : height ≤ strip_count width height * rows_each width = rows-in_strips width height in
@@ -76,7 +76,7 @@ pub length-counts_so_far : (width height : ℕ) (rows : List (List ℕ)) → len
 unfolding counts_so_far
 length-counts_so_far width height rows = length-map-range_with_len (size_of width rows) 0 (strip_count width height)
 
--- one of the counts
+-- count i
 pub get_or-counts_so_far : (width height : ℕ) (rows : List (List ℕ)) (i : ℕ) → i < strip_count width height → get_or (counts_so_far width height rows) i 0 ≡ size_of width rows i
 unfolding counts_so_far
 get_or-counts_so_far width height rows i below = get_or-map-range_with_len (size_of width rows) 0 (strip_count width height) i i 0 below (omega arith)
@@ -93,7 +93,7 @@ counts_so_far-none width height =
       none k =
           ap (λ strip. length (flat_map packing strip)) (ap (take (rows_each width)) (drop_all (k * rows_each width) [] (omega arith)) ∙ take_all (rows_each width) [] (omega arith))
 
--- with one row more the count of its strip grows by the length of its packing, and all others stay
+-- one more row adds its packed length to the count of its strip; all other counts are unchanged
 pub counts_so_far-more : (width height : ℕ) (rows : List (List ℕ)) (row : List ℕ) → length rows < height
     → counts_so_far width height (rows ++ row ∷ [])
     ≡ set (counts_so_far width height rows) (length rows / rows_each width) (get_or (counts_so_far width height rows) (length rows / rows_each width) 0 + length (packing row))
@@ -120,12 +120,12 @@ counts_so_far-more width height rows row below =
     ∙ sym (get_or-set_other counts y k (get_or counts y 0 + length (packing row)) 0 other))
     (cases_eq k y))
 
--- with all rows they are the plate's
+-- with all rows, the counts are those of the plate
 pub counts_so_far-all : (width height : ℕ) (rows : List (List ℕ)) → length rows ≡ height → counts_so_far width height rows ≡ strip_counts width rows
 unfolding counts_so_far strip_counts
 counts_so_far-all width height rows all = ap (λ n. map (size_of width rows) (range_with_len 0 (strip_count width n))) (sym all)
 
--- the packings of rows of one length
+-- the total packed length of rows of equal length is bounded
 pub length-packed : (size : ℕ) (rows : List (List ℕ)) → All (λ row. length row ≡ size) rows → length (flat_map packing rows) ≤ length rows * packed_bound size
 length-packed size [] each = omega arith
 length-packed size (row ∷ rows) each =
@@ -136,14 +136,14 @@ length-packed size (row ∷ rows) each =
     let all : length (row ∷ rows) ≡ length rows + 1 = omega arith in
     rw (all, both) (omega (arith, length-append (packing row) (flat_map packing rows)))
 
--- the counts of rows of a plate add up to their packings
+-- the counts sum to the total packed length of the rows
 pub sum-counts_so_far : (width height : ℕ) (rows : List (List ℕ)) → length rows ≤ height → sum (counts_so_far width height rows) ≡ length (flat_map packing rows)
 unfolding counts_so_far
 sum-counts_so_far width height rows within =
     sum-sizes width rows (strip_count width height)
     ∙ ap (λ all. length (flat_map packing all)) (take_all (strip_count width height * rows_each width) rows (omega (arith, rows-in_strips width height)))
 
--- no place in a plate passes 32 bits
+-- every offset in a plate fits in 32 bits
 pub IsPlaceable-so_far : (width height : ℕ) (rows : List (List ℕ)) → IsSide width → IsSide height → length rows ≤ height → All (λ row. length row ≡ row_size width) rows
     → IsPlaceable (counts_so_far width height rows)
 IsPlaceable-so_far width height rows wide high within each =
@@ -152,7 +152,7 @@ IsPlaceable-so_far width height rows wide high within each =
     let most : length rows * packed_bound (row_size width) ≤ length rows * 8256 = mul-le-mul_left (length rows) small in
     omega (arith, high.1, sum-counts_so_far width height rows within)
 
--- with one row more its strip's count still passes no 32 bits
+-- with one more row, the count of its strip still fits in 32 bits
 pub count-fits : (width height : ℕ) (rows : List (List ℕ)) (row : List ℕ) → IsSide width → IsSide height → length rows < height
     → All (λ row. length row ≡ row_size width) rows → length row ≡ row_size width
     → get_or (counts_so_far width height rows) (length rows / rows_each width) 0 + length (packing row) ≤ 4000000000

@@ -1,4 +1,4 @@
--- Bytes that are written one after the other.
+-- Bytes written one after the other.
 use Rattle.std.proofs.Common.{◌≡◌, ℕ, ◌+◌, ◌-◌, ◌*◌, ◌<◌, ◌≤◌, List, [], ◌∷◌, ◌++◌, length, take, drop, map, get_or, refl, sym, ap, ◌∙◌, zero-add, arith}
 use Rattle.std.specs.List.{flat_map, range_with_len}
 use Rattle.std.proofs.lemmas.List.{append-nil, append_assoc, length-append, length-drop, length-take-le, drop-drop, drop_all, drop_at, take_at, take_rest, take-append-drop}
@@ -16,7 +16,7 @@ Puts-nothing at old within = record {
       rw (append-nil, there) (sym (take-append-drop at old));
 }
 
--- the front of all that stands from a place on
+-- bytes written to the start of the slice that begins at an offset
 pub Puts-part : (at n : ℕ) (old bytes part : List ℕ) → n ≡ length bytes → at + n ≤ length old
     → part ≡ bytes ++ drop n (take (length old - at) (drop at old))
     → Puts at bytes old (put_mid at (length old - at) old part)
@@ -29,12 +29,12 @@ Puts-part at n old bytes part len room is =
       is = rw (none, append-nil, is, behind) (sym (append_assoc (take at old) bytes (drop (at + length bytes) old)));
     }
 
--- what was written is as long as it is
+-- the prefix up to the end of the written bytes has the expected length
 Puts-front : (at : ℕ) (bytes old new : List ℕ) → Puts at bytes old new → length (take at old ++ bytes) ≡ at + length bytes
 Puts-front at bytes old new puts =
     length-append (take at old) bytes ∙ omega (arith, puts.room, length-take-le at old (omega (arith, puts.room)))
 
--- one piece behind the other
+-- one write directly after another
 pub Puts-then : (at place : ℕ) (first second old mid new : List ℕ) → Puts at first old mid → Puts place second mid new → place ≡ at + length first
     → Puts at (first ++ second) old new
 Puts-then at place first second old mid new puts next is =
@@ -53,19 +53,19 @@ Puts-then at place first second old mid new puts next is =
       is = next.is ∙ (rw (kept, rest) refl) ∙ ap (λ front. front ++ drop (at + length (first ++ second)) old) (append_assoc (take at old) first second);
     }
 
--- one item behind those before it
+-- one more item after those before it
 pub Puts-item : {X : Type 0} (f : X → List ℕ) (at place : ℕ) (items : List X) (item : X) (old mid new : List ℕ) → Puts at (flat_map f items) old mid → Puts place (f item) mid new
     → place ≡ at + length (flat_map f items) → Puts at (flat_map f (items ++ item ∷ [])) old new
 Puts-item f at place items item old mid new puts next is =
     rw (flat_map-append f items (item ∷ []), append-nil) (Puts-then at place (flat_map f items) (f item) old mid new puts next is)
 
--- pieces of one length
+-- pieces of equal length
 pub length-pieces : {X : Type 0} (f : X → List ℕ) (k : ℕ) (items : List X) → ((x : X) → length (f x) ≡ k) → length (flat_map f items) ≡ k * length items
 length-pieces f k [] each = omega arith
 length-pieces f k (x ∷ items) each =
     length-append (f x) (flat_map f items) ∙ omega (arith, each x, length-pieces f k items each)
 
--- item i behind those before it, where each has k bytes
+-- item i after those before it, where each takes k bytes
 pub Puts-step : {X : Type 0} (f : X → List ℕ) (k at place i : ℕ) (items : List X) (item : X) (old mid new : List ℕ) → ((x : X) → length (f x) ≡ k) → i < length items
     → Puts at (flat_map f (take i items)) old mid → Puts place (f (get_or items i item)) mid new
     → place ≡ at + k * i → Puts at (flat_map f (take (i + 1) items)) old new
@@ -74,7 +74,7 @@ Puts-step f k at place i items item old mid new each below puts next is =
     let len : length (take i items) ≡ i = length-take-le i items (omega arith) in
     rw more (Puts-item f at place (take i items) (get_or items i item) old mid new puts next (is ∙ ap (λ n. at + n) (sym (length-pieces f k (take i items) each ∙ ap (λ n. k * n) len))))
 
--- number i behind those before it
+-- number i after those before it
 pub Puts-number : (f : ℕ → ℕ) (at place i : ℕ) (old mid new : List ℕ)
     → Puts at (flat_map (little_bytes 4) (map f (range_with_len 0 i))) old mid → Puts place (little_bytes 4 (f i)) mid new
     → place ≡ at + 4 * i → Puts at (flat_map (little_bytes 4) (map f (range_with_len 0 (i + 1)))) old new
@@ -83,6 +83,6 @@ Puts-number f at place i old mid new puts next is =
     rw more (Puts-item (little_bytes 4) at place (map f (range_with_len 0 i)) (f i) old mid new puts next
     (omega (arith, is, length-map-range_with_len f 0 i, length-pieces (little_bytes 4) 4 (map f (range_with_len 0 i)) (λ n. refl))))
 
--- all that stands in front and behind, where the bytes are the first
+-- bytes written at offset 0: the bytes, then the unchanged rest
 pub Puts-first : (bytes old new : List ℕ) → Puts 0 bytes old new → new ≡ bytes ++ drop (length bytes) old
 Puts-first bytes old new puts = puts.is ∙ ap (λ n. bytes ++ drop n old) (zero-add (length bytes))

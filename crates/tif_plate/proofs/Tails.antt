@@ -6,7 +6,7 @@ use Rattle.tif_plate.specs.Put.{Puts}
 use Rattle.tif_plate.proofs.Length.{length-directory}
 use Rattle.tif_plate.proofs.Puts.{Puts-then}
 
--- a zero byte where one is needed, the directory, the two resolutions and the table
+-- a zero byte if one is needed, the directory, the two resolutions and the table
 pub tail-written : (width height dpi end directory first second table : ℕ) (places counts into zeroed listed one two new : List ℕ)
     → Puts 0 (replicate (end % 2) 0) into zeroed → directory ≡ 0 + end % 2
     → Puts directory (plate_directory width height end) zeroed listed → first ≡ directory + 150

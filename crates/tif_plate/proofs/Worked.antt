@@ -3,7 +3,7 @@ use Rattle.std.proofs.Common.{◌≡◌, [], ◌∷◌, refl}
 use Rattle.tif_packbits.specs.Packbits.{packing}
 use Rattle.tif_plate.specs.Plate.{strip_places, strip_counts, plate_entries, plate_directory, strip_table, bytes_behind, plate_file}
 
--- four pixels, of which the first and the fourth print
+-- four pixels, of which the first and the fourth are printed
 four-by-one : plate_file 4 1200 ((144 ∷ []) ∷ []) ≡
     73 ∷ 73 ∷ 42 ∷ 0 ∷ 10 ∷ 0 ∷ 0 ∷ 0
     ∷ 0 ∷ 144
@@ -26,7 +26,7 @@ four-by-one : plate_file 4 1200 ((144 ∷ []) ∷ []) ≡
 unfolding packing strip_places strip_counts plate_entries plate_directory strip_table bytes_behind plate_file
 four-by-one = refl
 
--- rows of 65528 pixels, which are 8191 bytes: a strip a row
+-- rows of 65,528 pixels, 8,191 bytes each: one row per strip
 two-strips : strip_places 65528 ((1 ∷ 1 ∷ 1 ∷ []) ∷ (2 ∷ []) ∷ []) ≡ 8 ∷ 10 ∷ []
 unfolding packing strip_places
 two-strips = refl

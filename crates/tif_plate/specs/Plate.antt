@@ -1,6 +1,6 @@
--- The plate file: a TIFF 6.0 file of one bit a pixel whose rows are packed by PackBits, each by itself
--- (Section 9), least significant byte first. The directory stands behind the rows. The order of the parts,
--- the entries and the rows of a strip are plateroom's own choice among those that TIFF allows.
+-- The plate file: a TIFF 6.0 file with one bit per pixel, least significant byte first. Each row is packed
+-- by itself with PackBits (Section 9). The directory follows the rows. The order of the parts, the entries
+-- and the rows per strip are plateroom's choice among those that TIFF allows.
 use Rattle.std.specs.Prelude.{ℕ, ◌+◌, ◌-◌, ◌*◌, ◌/◌, ◌%◌, ◌≤◌, List, [], ◌∷◌, ◌++◌, length, map, max, take}
 use Rattle.std.specs.Prelude.{drop, replicate, codes, nat_lt, if◌then◌else◌}
 use Rattle.std.specs.List.{flat_map, range_with_len}
@@ -12,15 +12,15 @@ use Rattle.tif_dir.specs.Names.{strip_byte_counts, x_resolution, y_resolution, r
 use Rattle.tif_packbits.specs.Packbits.{packing}
 use Rattle.tif_plate.specs.declared.entry.Entry.{Entry}
 
--- a width or a length of an image or a plate
+-- a width or a height of an image or a plate, in pixels
 abbrev pub IsSide : ℕ → Type 0
 IsSide side = (1 ≤ side) × (side ≤ 65535)
 
--- a resolution in pixels an inch
+-- a resolution in pixels per inch
 abbrev pub IsDpi : ℕ → Type 0
 IsDpi dpi = (1 ≤ dpi) × (dpi ≤ 10000)
 
--- RowsPerStrip (Section 3): as many rows as 8192 bytes hold, and at least one
+-- RowsPerStrip (Section 3): as many unpacked rows as fit in 8,192 bytes, at least one
 abbrev pub rows_each : ℕ → ℕ
 rows_each width = max 1 (8192 / row_size width)
 
@@ -28,18 +28,18 @@ rows_each width = max 1 (8192 / row_size width)
 abbrev pub strip_count : ℕ → ℕ → ℕ
 strip_count width height = (height + (rows_each width - 1)) / rows_each width
 
--- the rows before strip i, and those of strip i
+-- the rows before strip i, then the rows of strip i
 abbrev pub rows_before : ℕ → List (List ℕ) → ℕ → List (List ℕ)
 rows_before width rows i = take (i * rows_each width) rows
 
 abbrev pub rows_in : ℕ → List (List ℕ) → ℕ → List (List ℕ)
 rows_in width rows i = take (rows_each width) (drop (i * rows_each width) rows)
 
--- the place of strip i: the packed rows before it stand behind the first eight bytes
+-- the offset of strip i: the packed rows before it follow the first eight bytes
 abbrev pub place_of : ℕ → List (List ℕ) → ℕ → ℕ
 place_of width rows i = 8 + length (flat_map packing (rows_before width rows i))
 
--- the bytes of strip i: those of its packed rows
+-- the byte count of strip i: the total length of its packed rows
 abbrev pub size_of : ℕ → List (List ℕ) → ℕ → ℕ
 size_of width rows i = length (flat_map packing (rows_in width rows i))
 
@@ -50,17 +50,17 @@ strip_places width rows = map (place_of width rows) (range_with_len 0 (strip_cou
 unfoldable pub strip_counts : ℕ → List (List ℕ) → List ℕ
 strip_counts width rows = map (size_of width rows) (range_with_len 0 (strip_count width (length rows)))
 
--- the place of the directory where the rows end at a place: the first even one (Section 2)
+-- the offset of the directory after rows that end at offset end: the first even one (Section 2)
 abbrev pub directory_place : ℕ → ℕ
 directory_place end = end + end % 2
 
--- an entry of a directory (Section 2): tag, type, count, and value or place
+-- an entry of a directory (Section 2): tag, type, count, and value or offset
 abbrev pub entry_bytes : Entry → List ℕ
 entry_bytes entry =
     ((little_bytes 2 entry.tag ++ little_bytes 2 entry.kind) ++ little_bytes 4 entry.count)
     ++ little_bytes 4 entry.value
 
--- the types of fields (Section 2)
+-- the field types (Section 2)
 abbrev pub short : ℕ
 short = 3
 
@@ -70,15 +70,15 @@ long = 4
 abbrev pub rational : ℕ
 rational = 5
 
--- the value of StripOffsets: the place of the one strip, or of the table of places behind the resolutions
+-- the value of StripOffsets: the offset of the only strip, or of the table of offsets after the resolutions
 abbrev pub places_value : ℕ → ℕ → ℕ
 places_value strips end = if nat_lt strips 2 then 8 else directory_place end + 166
 
--- the value of StripByteCounts: the bytes of the one strip, or the place of the counts behind the places
+-- the value of StripByteCounts: the byte count of the only strip, or the offset of the table of counts
 abbrev pub counts_value : ℕ → ℕ → ℕ
 counts_value strips end = if nat_lt strips 2 then end - 8 else directory_place end + 166 + 4 * strips
 
--- the twelve entries of a plate whose rows end at a place: one bit a pixel, PackBits, 0 is white, inches
+-- the twelve entries of a plate whose rows end at offset `end`: bilevel, PackBits, WhiteIsZero, inches
 unfoldable pub plate_entries : ℕ → ℕ → ℕ → List Entry
 plate_entries width height end =
     record { tag = image_width; kind = long; count = 1; value = width }
@@ -105,38 +105,38 @@ plate_entries width height end =
     ∷ record { tag = resolution_unit; kind = short; count = 1; value = 2 }
     ∷ []
 
--- the directory (Section 2): the number of entries, the entries, and 0 for no next directory
+-- the directory (Section 2): the number of entries, the entries, and 0 as the offset of the next directory
 unfoldable pub plate_directory : ℕ → ℕ → ℕ → List ℕ
 plate_directory width height end =
     (little_bytes 2 12 ++ flat_map entry_bytes (plate_entries width height end)) ++ little_bytes 4 0
 
--- a RATIONAL of a whole number
+-- a whole number as a RATIONAL
 abbrev pub whole : ℕ → List ℕ
 whole n = little_bytes 4 n ++ little_bytes 4 1
 
--- the places and the byte counts of strips, where there are two or more
+-- the offsets and the byte counts of the strips, if there are two or more
 unfoldable pub strip_table : List ℕ → List ℕ → List ℕ
 strip_table places counts =
     if nat_lt (length counts) 2 then []
     else flat_map (little_bytes 4) places ++ flat_map (little_bytes 4) counts
 
--- all bytes behind rows that end at a place: a zero byte if that place is odd, the directory, XResolution,
--- YResolution, the table of strips
+-- all bytes after rows that end at offset end: a zero byte if end is odd, the directory, XResolution,
+-- YResolution, and the table of strips
 unfoldable pub bytes_behind : ℕ → ℕ → ℕ → ℕ → List ℕ → List ℕ → List ℕ
 bytes_behind width height dpi end places counts =
     ((replicate (end % 2) 0 ++ plate_directory width height end) ++ (whole dpi ++ whole dpi))
     ++ strip_table places counts
 
--- the first eight bytes (Section 2): the order of bytes, 42, and the place of the directory
+-- the first eight bytes (Section 2): byte order, 42, and the offset of the directory
 abbrev pub header_bytes : ℕ → List ℕ
 header_bytes place = (codes "II" ++ little_bytes 2 42) ++ little_bytes 4 place
 
--- the place behind the packed rows
+-- the offset of the end of the packed rows
 abbrev pub rows_end : List (List ℕ) → ℕ
 rows_end rows = 8 + length (flat_map packing rows)
 
--- a plate of this width and resolution with these rows from the top,
--- each of row_size width bytes before it is packed
+-- a plate of this width and resolution with these rows from top to bottom, each of row_size width bytes
+-- before it is packed
 unfoldable pub plate_file : ℕ → ℕ → List (List ℕ) → List ℕ
 plate_file width dpi rows =
     (header_bytes (directory_place (rows_end rows)) ++ flat_map packing rows)

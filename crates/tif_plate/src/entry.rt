@@ -2,7 +2,7 @@
 //   0  tag     2 bytes
 //   2  type    2 bytes
 //   4  count   4 bytes
-//   8  value   4 bytes, or the place of the values
+//   8  value   4 bytes, or the offset of the values
 ghost use Rattle.std.specs.Prelude.{◌≡◌, ◌+◌, ◌-◌, ◌*◌, ◌≤◌, nat_lt, if◌then◌else◌, length};
 ghost use Rattle.std.specs.List.{flat_map};
 ghost use Rattle.tif_plate.specs.Plate.{IsSide, entry_bytes, plate_directory, plate_entries};
@@ -16,17 +16,17 @@ use tif_dir::tag::{
     X_RESOLUTION, Y_RESOLUTION,
 };
 
-/// The types of a field that a plate has (TIFF 6.0, Section 2).
+/// The types of a plate's fields (TIFF 6.0, Section 2).
 const SHORT: u16 = 3;
 
 const LONG: u16 = 4;
 
 const RATIONAL: u16 = 5;
 
-/// The place of the first strip, behind the front.
+/// The offset of the first strip, after the front.
 const FIRST_STRIP: u32 = 8;
 
-/// From the directory to XResolution, to YResolution, and to the table of strips.
+/// Offsets from the directory to XResolution, to YResolution, and to the table of strips.
 const X_PLACE: u32 = 150;
 
 const Y_PLACE: u32 = 158;
@@ -42,8 +42,8 @@ struct Entry {
     value: u32,
 }
 
-/// Writes the directory of a plate whose rows end at `end`, and gives the place behind it: its count, the
-/// twelve entries, and that no directory follows.
+/// Writes the directory of a plate whose rows end at offset `end`, and returns the offset after it: the
+/// number of entries, the twelve entries, and 0 for no next directory.
 #[tactic(auto, unfolding(crate::specs::Plate::plate_directory))]
 pub(crate) fn put_directory(into: &mut [u8], at: usize, width: u32, height: u32, end: u32) -> usize
     requires width { IsSide width }
@@ -59,7 +59,7 @@ pub(crate) fn put_directory(into: &mut [u8], at: usize, width: u32, height: u32,
     put_u32(into, at, 0)
 }
 
-/// Writes entries in order.
+/// Writes entries in order and returns the offset after them.
 fn put_entries(into: &mut [u8], at: usize, entries: &[Entry]) -> usize
     requires { at + 12 * length entries.now ≤ length into.old }
     ensures at { result ≡ at + 12 * length entries.now }
@@ -72,7 +72,7 @@ fn put_entries(into: &mut [u8], at: usize, entries: &[Entry]) -> usize
     place
 }
 
-/// Writes an entry.
+/// Writes an entry and returns the offset after it.
 fn put_entry(into: &mut [u8], at: usize, entry: Entry) -> usize
     requires { at + 12 ≤ length into.old }
     ensures at { result ≡ at + 12 }
@@ -84,7 +84,7 @@ fn put_entry(into: &mut [u8], at: usize, entry: Entry) -> usize
     put_u32(into, at, entry.value)
 }
 
-/// The twelve entries of a plate whose rows end at `end`.
+/// Returns the twelve entries of a plate whose rows end at offset `end`.
 #[tactic(auto, unfolding(crate::specs::Plate::plate_entries))]
 #[rattlefmt::skip]
 fn entries(width: u32, height: u32, end: u32) -> [Entry; 12]
@@ -112,8 +112,8 @@ fn entries(width: u32, height: u32, end: u32) -> [Entry; 12]
     ]
 }
 
-/// The value of StripOffsets: the place of the one strip,
-/// or that of the table behind the directory at `place`.
+/// Returns the value of StripOffsets: the offset of the only strip, or that of the table after the
+/// directory at offset `place`.
 fn places_value(strips: u32, place: u32) -> u32
     requires { place ≤ 4000000009 }
     ensures { result ≡ (if nat_lt strips 2 then 8 else place + 166) }
@@ -125,8 +125,8 @@ fn places_value(strips: u32, place: u32) -> u32
     }
 }
 
-/// The value of StripByteCounts: the bytes of the one strip, which ends at `end`, or the place of the counts
-/// in the table.
+/// Returns the value of StripByteCounts: the byte count of the only strip, which ends at offset `end`, or
+/// the offset of the counts in the table.
 fn counts_value(strips: u32, place: u32, end: u32) -> u32
     requires strips { strips ≤ 65535 }
     requires rows { 8 ≤ end }

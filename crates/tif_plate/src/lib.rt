@@ -1,6 +1,6 @@
-// The bytes of a plate before and behind its packed rows: a TIFF 6.0 header, and a directory of twelve
-// entries with the table of strips where there is more than one. The rows themselves are packed by
-// tif_packbits. Nothing here takes memory.
+// The bytes of a plate before and after its packed rows: a TIFF 6.0 header, and a directory of twelve
+// entries with a table of strips if there is more than one. The rows themselves are packed by tif_packbits.
+// Nothing here allocates.
 #![tactic(auto)]
 
 mod entry;

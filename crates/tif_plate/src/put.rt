@@ -1,5 +1,5 @@
-// Numbers written into a buffer one after the other, least significant byte first. Each call gives the place
-// behind what it wrote.
+// Numbers written into a buffer one after the other, least significant byte first. Each call returns the
+// offset after the bytes that it wrote.
 ghost use Rattle.std.specs.Prelude.{◌≡◌, ◌+◌, ◌*◌, ◌≤◌, ◌++◌, length, replicate};
 ghost use Rattle.std.specs.List.{flat_map};
 ghost use Rattle.byteorder.specs.Endian.{little_bytes};
@@ -18,7 +18,7 @@ pub(crate) fn put_zeros(into: &mut [u8], at: usize, n: usize) -> usize
     at + n
 }
 
-/// Writes a number of two bytes.
+/// Writes a two-byte number.
 pub(crate) fn put_u16(into: &mut [u8], at: usize, number: u16) -> usize
     requires { at + 2 ≤ length into.old }
     ensures at { result ≡ at + 2 }
@@ -28,7 +28,7 @@ pub(crate) fn put_u16(into: &mut [u8], at: usize, number: u16) -> usize
     at + 2
 }
 
-/// Writes a number of four bytes.
+/// Writes a four-byte number.
 pub(crate) fn put_u32(into: &mut [u8], at: usize, number: u32) -> usize
     requires { at + 4 ≤ length into.old }
     ensures at { result ≡ at + 4 }
@@ -38,7 +38,7 @@ pub(crate) fn put_u32(into: &mut [u8], at: usize, number: u32) -> usize
     at + 4
 }
 
-/// Writes a RATIONAL that is a whole number.
+/// Writes a whole number as a RATIONAL.
 pub(crate) fn put_whole(into: &mut [u8], at: usize, number: u32) -> usize
     requires { at + 8 ≤ length into.old }
     ensures at { result ≡ at + 8 }
@@ -48,7 +48,7 @@ pub(crate) fn put_whole(into: &mut [u8], at: usize, number: u32) -> usize
     put_u32(into, at, 1)
 }
 
-/// Writes numbers of four bytes.
+/// Writes four-byte numbers in order.
 pub(crate) fn put_all(into: &mut [u8], at: usize, numbers: &[u32]) -> usize
     requires { at + 4 * length numbers.now ≤ length into.old }
     ensures at { result ≡ at + 4 * length numbers.now }

@@ -1,15 +1,15 @@
-// How the rows of a plate are cut into strips.
+// The division of a plate's rows into strips.
 ghost use Rattle.std.specs.Prelude.{◌≡◌, ◌≤◌, ◌*◌};
 ghost use Rattle.pr_base.specs.Row.{row_size};
 ghost use Rattle.tif_plate.specs.Plate.{IsSide, rows_each, strip_count};
 
 use pr_base::row_bytes;
 
-/// The bytes that the rows of a strip have at most before they are packed, unless one row is longer
-/// (TIFF 6.0, Section 3, advises 8 kilobytes).
+/// The maximum bytes of a strip before packing, unless a single row is longer (TIFF 6.0, Section 3,
+/// recommends 8 kilobytes).
 const STRIP_BYTES: u32 = 8192;
 
-/// The rows of a strip of a plate that is `width` pixels wide, the last strip aside.
+/// Returns the number of rows per strip of a plate `width` pixels wide; the last strip may have fewer.
 pub fn rows_per_strip(width: u32) -> u32
     requires { IsSide width }
     ensures rows { result ≡ rows_each width }
@@ -18,7 +18,7 @@ pub fn rows_per_strip(width: u32) -> u32
     (STRIP_BYTES / row_bytes(width) as u32).max(1)
 }
 
-/// The number of strips of a plate.
+/// Returns the number of strips of a plate of `width` by `height` pixels.
 pub fn strips(width: u32, height: u32) -> u32
     requires width { IsSide width }
     requires height { IsSide height }

@@ -1,8 +1,8 @@
-// The tail of a plate, behind its packed rows.
-//        a zero byte where the rows end at an odd place
-//   0    the directory of twelve entries, and no next one
+// The tail of a plate, after its packed rows.
+//        a zero byte if the rows end at an odd offset
+//   0    the directory of twelve entries, and 0 for no next directory
 //   150  XResolution and YResolution
-//   166  the table of strips where there are two or more: their places, then their byte counts
+//   166  the table of strips, if there are two or more: their offsets, then their byte counts
 ghost use Rattle.std.specs.Prelude.{◌≡◌, ◌+◌, ◌*◌, ◌≤◌, ◌++◌, length, drop, map, sum, take};
 ghost use Rattle.std.specs.List.{flat_map, range_with_len};
 ghost use Rattle.byteorder.specs.Endian.{little_bytes};
@@ -14,18 +14,18 @@ ghost use Rattle.tif_plate.specs.Tail.{tail_bytes, tail_place, tail_room};
 use crate::entry::put_directory;
 use crate::put::{put_all, put_u32, put_whole, put_zeros};
 
-/// The place of the first strip, behind the front.
+/// The offset of the first strip, after the front.
 const FIRST_STRIP: u32 = 8;
 
-/// The bytes of a plate's tail, and the place of the directory in the plate.
+/// The length of a plate's tail in bytes, and the offset of the directory in the plate.
 #[derive(Clone, Copy, Debug, PartialEq, Eq)]
 pub struct Tail {
     pub len: usize,
     pub at: u32,
 }
 
-/// Writes all bytes behind the rows of a plate to the front of `into`. `counts` holds the bytes of each
-/// strip's packed rows. Says how many bytes it wrote, and what is to stand in bytes 4 to 7 of the plate.
+/// Writes all bytes after the rows of a plate to the start of `into`. `counts` holds the byte count of each
+/// strip. Returns the number of bytes written, and the offset to store in bytes 4 to 7 of the plate.
 pub fn plate_tail(width: u32, height: u32, dpi: u32, counts: &[u32], into: &mut [u8]) -> Tail
     requires width { IsSide width }
     requires height { IsSide height }
@@ -47,7 +47,7 @@ pub fn plate_tail(width: u32, height: u32, dpi: u32, counts: &[u32], into: &mut 
     Tail { len, at: end + odd }
 }
 
-/// Where the strips end.
+/// Returns the offset of the end of the strips.
 fn strips_end(counts: &[u32]) -> u32
     requires { IsPlaceable counts.now }
     ensures { result ≡ strips_end_of counts.now }
@@ -55,7 +55,7 @@ fn strips_end(counts: &[u32]) -> u32
     FIRST_STRIP + counts.iter().sum::<u32>()
 }
 
-/// Writes the table of strips, if there are two or more, and gives the place behind it.
+/// Writes the table of strips, if there are two or more, and returns the offset after it.
 fn put_table(into: &mut [u8], at: usize, counts: &[u32]) -> usize
     requires sum { IsPlaceable counts.now }
     requires room { at + 8 * length counts.now ≤ length into.old }
@@ -69,7 +69,7 @@ fn put_table(into: &mut [u8], at: usize, counts: &[u32]) -> usize
     put_all(into, at, counts)
 }
 
-/// Writes where each strip begins.
+/// Writes the offset of each strip and returns the offset after them.
 fn put_places(into: &mut [u8], at: usize, counts: &[u32]) -> usize
     requires sum { IsPlaceable counts.now }
     requires room { at + 4 * length counts.now ≤ length into.old }

@@ -1,4 +1,4 @@
--- The tests of the fields and of the strips, one after the other.
+-- The tests of the fields and of the strips, in order.
 use Rattle.std.proofs.Common.{◌≡◌, ℕ, zero, suc, ◌+◌, ◌<◌, ◌≤◌, Bool, true, false, nat_lt, if◌then◌else◌, List, [], ◌∷◌, length, map, slice_index, Option, Some, None, refl, sym, ap, ◌∙◌, arith, zero-add}
 use Rattle.std.specs.List.{range_with_len}
 use Rattle.std.specs.Result.{result_unwrap_or}
@@ -16,17 +16,17 @@ use Rattle.tif_strips.specs.Table.{HasTable, field_fault}
 
 -- ---- lists of tests
 
--- where no test of a list fails, its first does not, and the others do not
+-- if no test in a list fails, neither the first nor any other fails
 pub first_fault-none : (test : Option TagFault) (tests : List (Option TagFault)) → first_fault (test ∷ tests) ≡ None → (test ≡ None) × (first_fault tests ≡ None)
 first_fault-none None tests none = (refl, none)
 first_fault-none (Some fault) tests none = absurd (cc)
 
--- where the first test does not fail, the others decide
+-- if the first test passes, the others decide
 pub first_fault-passed : (test : Option TagFault) (tests : List (Option TagFault)) → test ≡ None → first_fault (test ∷ tests) ≡ first_fault tests
 first_fault-passed None tests none = refl
 first_fault-passed (Some fault) tests none = absurd (cc)
 
--- where no test fails, test i does not
+-- if no test fails, test i passes
 pub first_fault-each : (test : ℕ → Option TagFault) (start n i : ℕ) → first_fault (map test (range_with_len start n)) ≡ None → i < n → test (start + i) ≡ None
 first_fault-each test start zero i none below = absurd (omega arith)
 first_fault-each test start (suc n) zero none below =
@@ -36,7 +36,7 @@ first_fault-each test start (suc n) (suc i) none below =
     let there : start + suc i ≡ start + 1 + i = omega arith in
     rw there (first_fault-each test (start + 1) n i (first_fault-none (test start) (map test (range_with_len (start + 1) n)) none).1 (omega arith))
 
--- where each test passes, none fails
+-- if each test passes, none fails
 pub first_fault-all : (test : ℕ → Option TagFault) (start n : ℕ) → ((i : ℕ) → i < n → test (start + i) ≡ None) → first_fault (map test (range_with_len start n)) ≡ None
 first_fault-all test start zero each = refl
 first_fault-all test start (suc n) each =
@@ -45,7 +45,7 @@ first_fault-all test start (suc n) each =
     (λ i below. let there : start + suc i ≡ start + 1 + i = omega arith in rw there at (each (suc i) (omega arith))) in
     first_fault-passed (test start) (map test (range_with_len (start + 1) n)) (rw here at (each 0 (omega arith))) ∙ rest
 
--- the first test that fails gives the fault
+-- the first failing test gives the fault
 pub first_fault-at : (test : ℕ → Option TagFault) (start n i : ℕ) (fault : TagFault) → i < n → ((k : ℕ) → k < i → test (start + k) ≡ None) → test (start + i) ≡ Some fault
     → first_fault (map test (range_with_len start n)) ≡ Some fault
 first_fault-at test start zero i fault below before fails = absurd (omega arith)
@@ -62,30 +62,30 @@ first_fault-at test start (suc n) (suc i) fault below before fails =
 
 -- ---- the tests of the two fields
 
--- where one of two tests fails, those behind them do not matter
+-- if one of the first two tests fails, the tests after them do not matter
 first_fault-two : (one two : Option TagFault) (tests : List (Option TagFault)) (fault : TagFault) → first_fault (one ∷ two ∷ []) ≡ Some fault → first_fault (one ∷ two ∷ tests) ≡ Some fault
 first_fault-two None None tests fault fails = absurd (cc)
 first_fault-two None (Some two) tests fault fails = fails
 first_fault-two (Some one) two tests fault fails = fails
 
--- where neither fails, those behind them decide
+-- if both pass, the tests after them decide
 first_fault-behind : (one two : Option TagFault) (tests : List (Option TagFault)) → first_fault (one ∷ two ∷ []) ≡ None → first_fault (one ∷ two ∷ tests) ≡ first_fault tests
 first_fault-behind None None tests none = refl
 first_fault-behind None (Some two) tests none = absurd (cc)
 first_fault-behind (Some one) two tests none = absurd (cc)
 
--- where no test fails, neither of the first two does
+-- if no test fails, the first two pass
 first_fault-both : (one two : Option TagFault) (tests : List (Option TagFault)) → first_fault (one ∷ two ∷ tests) ≡ None → (one ≡ None) × (first_fault (one ∷ two ∷ []) ≡ None)
 first_fault-both None None tests none = (refl, refl)
 first_fault-both None (Some two) tests none = absurd (cc)
 first_fault-both (Some one) two tests none = absurd (cc)
 
--- where they fail, the first of them is the fault
+-- if the tests of the fields fail, their first fault is the image's
 pub strip_fault-fields : (shape : Shape) (bytes : List ℕ) (fault : TagFault) → field_fault shape bytes ≡ Some fault → strip_fault shape bytes ≡ Some fault
 unfolding strip_fault
 strip_fault-fields shape bytes fault fails = first_fault-two (fault_of_field shape bytes strip_offsets) (fault_of_field shape bytes strip_byte_counts) (map (fault_of_strip shape bytes) (range_with_len 0 (strip_count shape))) fault fails
 
--- where they pass, the strips decide
+-- if the tests of the fields pass, the strips decide
 pub strip_fault-strips : (shape : Shape) (bytes : List ℕ) → field_fault shape bytes ≡ None
     → strip_fault shape bytes ≡ first_fault (map (fault_of_strip shape bytes) (range_with_len 0 (strip_count shape)))
 unfolding strip_fault
@@ -98,14 +98,14 @@ unfolding strip_fault
 field_fault-passed shape bytes none =
     first_fault-both (fault_of_field shape bytes strip_offsets) (fault_of_field shape bytes strip_byte_counts) (map (fault_of_strip shape bytes) (range_with_len 0 (strip_count shape))) none
 
--- and each of its strips passes
+-- each strip of an image that passes also passes
 pub fault_of_strip-passed : (shape : Shape) (bytes : List ℕ) (strip : ℕ) → strip_fault shape bytes ≡ None → strip < strip_count shape → fault_of_strip shape bytes strip ≡ None
 fault_of_strip-passed shape bytes strip none below =
     let strips = sym (strip_fault-strips shape bytes (field_fault-passed shape bytes none).1) ∙ none in
     let zeroth : 0 + strip ≡ strip = omega arith in
     rw zeroth at (first_fault-each (fault_of_strip shape bytes) 0 (strip_count shape) strip strips below)
 
--- the first strip that fails gives the fault
+-- the first failing strip gives the fault
 pub strip_fault-found : (shape : Shape) (bytes : List ℕ) (strip : ℕ) (fault : TagFault) → field_fault shape bytes ≡ None → strip < strip_count shape
     → ((k : ℕ) → k < strip → fault_of_strip shape bytes k ≡ None) → fault_of_strip shape bytes strip ≡ Some fault → strip_fault shape bytes ≡ Some fault
 strip_fault-found shape bytes strip fault fields below before fails =
@@ -114,7 +114,7 @@ strip_fault-found shape bytes strip fault fields below before fails =
     (λ k under. ap (fault_of_strip shape bytes) (zero-add k) ∙ before k under)
     (ap (fault_of_strip shape bytes) (zero-add strip) ∙ fails)
 
--- where no strip fails, the image passes
+-- if no strip fails, the image passes
 pub strip_fault-none : (shape : Shape) (bytes : List ℕ) → field_fault shape bytes ≡ None → ((k : ℕ) → k < strip_count shape → fault_of_strip shape bytes k ≡ None) → strip_fault shape bytes ≡ None
 strip_fault-none shape bytes fields each =
     strip_fault-strips shape bytes fields
@@ -122,7 +122,7 @@ strip_fault-none shape bytes fields each =
 
 -- ---- the test of a strip
 
--- the values of the fields at a strip
+-- the values of each field for a strip
 pub strip_offset-known : (image : Image) (offsets sizes : List ℕ) (strip : ℕ) → HasTable image offsets sizes → strip < strip_count image.shape
     → strip_offset image.shape image.bytes strip ≡ slice_index offsets strip
 unfolding strip_offset
@@ -135,13 +135,13 @@ unfolding strip_size
 strip_size-known image offsets sizes strip table below =
     ap (λ value. result_unwrap_or value 0) (number_at-present image.bytes strip_byte_counts strip (strip_count image.shape) sizes table.sizes_are table.sizes_enough)
 
--- the values of both fields at a strip
+-- the values of both fields for a strip
 pub fields_known : (image : Image) (offsets sizes : List ℕ) (strip : ℕ) → HasTable image offsets sizes → strip < strip_count image.shape
     → strip_of image.shape image.bytes strip ≡ record { offset = slice_index offsets strip; size = slice_index sizes strip; needed = needed_length image.shape strip }
 fields_known image offsets sizes strip table below =
     rw (strip_offset-known image offsets sizes strip table below, strip_size-known image offsets sizes strip table below) refl
 
--- the fault of strip i is that of the strip at its place
+-- the fault of strip i, by the strip's offset, size and needed bytes
 pub fault_of_strip-is : (shape : Shape) (bytes : List ℕ) (i : ℕ) → fault_of_strip shape bytes i ≡ fault_of shape.packed bytes (strip_of shape bytes i)
 unfolding fault_of_strip stored_bytes
 fault_of_strip-is shape bytes i = cases (nat_lt (length bytes) (strip_offset shape bytes i + strip_size shape bytes i)) _ _ _
@@ -152,7 +152,7 @@ fault_of_strip-is shape bytes i = cases (nat_lt (length bytes) (strip_offset sha
     cases true packed stored needed = refl
     cases false packed stored needed = refl
 
--- a strip that passes lies in the file
+-- the bytes of a strip that passes are within the file
 pub bytes_at-passed : (shape : Shape) (bytes : List ℕ) (i : ℕ) → fault_of_strip shape bytes i ≡ None → bytes_at bytes (strip_of shape bytes i) ≡ Some (stored_bytes shape bytes i)
 unfolding fault_of_strip stored_bytes
 bytes_at-passed shape bytes i none = inside (nat_lt (length bytes) (strip_offset shape bytes i + strip_size shape bytes i)) _ _ none
@@ -161,13 +161,13 @@ bytes_at-passed shape bytes i none = inside (nat_lt (length bytes) (strip_offset
     inside true own rest none = absurd (cc)
     inside false own rest none = refl
 
--- the same of a strip that was found there
+-- the same for a strip whose bytes are known
 pub bytes_at-known : (shape : Shape) (bytes own : List ℕ) (i : ℕ) (strip : Strip) → strip_fault shape bytes ≡ None → i < strip_count shape → own ≡ bytes → strip ≡ strip_of shape bytes i
     → bytes_at own strip ≡ Some (stored_bytes shape bytes i)
 bytes_at-known shape bytes own i strip passed below own_is strip_is =
     ap (λ list. bytes_at list strip) own_is ∙ ap (bytes_at bytes) strip_is ∙ bytes_at-passed shape bytes i (fault_of_strip-passed shape bytes i passed below)
 
--- and has the samples that it needs
+-- a strip that passes has enough samples
 pub strip_enough-passed : (shape : Shape) (bytes : List ℕ) (strip : ℕ) → fault_of_strip shape bytes strip ≡ None
     → needed_length shape strip ≤ length (samples_in shape.packed (stored_bytes shape bytes strip))
 unfolding fault_of_strip

@@ -1,4 +1,4 @@
--- Pixels of four inks: laid one after the other, and in pieces of a row.
+-- Four inks interleaved into pixels, pixel by pixel and piece by piece.
 use Rattle.std.proofs.Common.{◌≡◌, ◌≢◌, ℕ, zero, suc, ◌+◌, ◌-◌, ◌*◌, ◌<◌, ◌≤◌, List, [], ◌∷◌, ◌++◌, length, take, drop, get_or, set, inl, inr, refl, sym, ap, ◌∙◌, arith}
 use Rattle.std.proofs.lemmas.Bool.{cases_eq, cases_lt}
 use Rattle.std.proofs.lemmas.List.{get_or-append_right, get_or-drop, get_or-set_other, get_or-set_same, get_or-take, get_or_append_left, length-drop, length-set, length-take-le, drop-drop, take_at}
@@ -9,11 +9,11 @@ use Rattle.tif_strips.specs.Planes.{HasPixels}
 use Rattle.tif_strips.proofs.Fours.{length-fours, part_of_fours}
 use Rattle.tif_strips.proofs.Shapes.{four_places, four_planes}
 
--- no pixel is laid yet
+-- before the first pixel
 pub HasPixels-none : (inks : List (List ℕ)) (into : List ℕ) → HasPixels inks 0 into
 HasPixels-none inks into = record { each = λ x ink below small. absurd (omega arith) }
 
--- one of four
+-- case analysis over the four inks
 four_ways : (P : ℕ → Type 0) → P 0 → P 1 → P 2 → P 3 → (ink : ℕ) → ink < 4 → P ink
 four_ways P a b c d zero small = a
 four_ways P a b c d (suc zero) small = b
@@ -21,7 +21,7 @@ four_ways P a b c d (suc (suc zero)) small = c
 four_ways P a b c d (suc (suc (suc zero))) small = d
 four_ways P a b c d (suc (suc (suc (suc ink)))) small = absurd (omega arith)
 
--- the four samples of one more pixel
+-- one more pixel of four samples
 pub HasPixels-more : (cyan magenta yellow black into : List ℕ) (x : ℕ) → 4 * x + 3 < length into → HasPixels (cyan ∷ magenta ∷ yellow ∷ black ∷ []) x into
     → HasPixels (cyan ∷ magenta ∷ yellow ∷ black ∷ []) (x + 1)
     (set (set (set (set into (4 * x) (get_or cyan x 0)) (4 * x + 1) (get_or magenta x 0)) (4 * x + 2) (get_or yellow x 0)) (4 * x + 3) (get_or black x 0))
@@ -66,7 +66,7 @@ HasPixels-more cyan magenta yellow black into x room has = record {
         (kept three (4 * x + 3) (4 * x + 2) _ (omega arith) ∙ get_or-set_same two (4 * x + 2) _ 0 (omega arith))
         (get_or-set_same three (4 * x + 3) _ 0 (omega arith))
 
--- a piece of n more pixels, laid from the samples behind those of the first
+-- a piece of n more pixels, interleaved from the samples from index `at` on
 pub HasPixels-piece : (inks pieces : List (List ℕ)) (at n size : ℕ) (into part : List ℕ) → 4 * at + size ≤ length into → size ≡ 4 * n → length part ≡ size
     → ((ink x : ℕ) → ink < 4 → x < n → get_or (get_or pieces ink []) x 0 ≡ get_or (get_or inks ink []) (at + x) 0)
     → HasPixels inks at into → HasPixels pieces n part → HasPixels inks (at + n) (put_mid (4 * at) size into part)
@@ -92,7 +92,7 @@ HasPixels-piece inks pieces at n size into part room whole long same has more = 
     front : length (take (4 * at) into) ≡ 4 * at
     front = length-take-le (4 * at) into (omega arith)
 
--- the samples that were put into a block are the next ones of their ink
+-- the samples read into a block are the next ones of their ink
 pub block-given : (count at : ℕ) (block ahead start given : List ℕ) → count ≤ length block → at + count ≤ length start → ahead ≡ drop at start
     → given ≡ take (length (take count block)) ahead → take count (given ++ drop count block) ≡ take count (drop at start)
 block-given count at block ahead start given room enough ahead_is is =
@@ -101,13 +101,13 @@ block-given count at block ahead start given room enough ahead_is is =
     let long : length given ≡ count = ap length own ∙ length-take-le count (drop at start) (omega (arith, length-drop at start)) in
     take_at given (drop count block) count long ∙ own
 
--- and those behind them are left
+-- the samples after them are left
 pub block-left : (count at : ℕ) (block ahead start left : List ℕ) → count ≤ length block → ahead ≡ drop at start → left ≡ drop (length (take count block)) ahead → left ≡ drop (at + count) start
 block-left count at block ahead start left room ahead_is is =
     let size : length (take count block) ≡ count = length-take-le count block room in
     is ∙ ap (λ n. drop n ahead) size ∙ ap (drop count) ahead_is ∙ drop-drop count at start
 
--- a block of n more pixels, laid from the next samples of each ink
+-- a block of n more pixels, interleaved from the next samples of each ink
 pub HasPixels-block : (cyan magenta yellow black c m y k : List ℕ) (at n size : ℕ) (into part : List ℕ) → 4 * at + size ≤ length into → size ≡ 4 * n → length part ≡ size → at + n ≤ length cyan
     → c ≡ take n (drop at cyan) → m ≡ take n (drop at magenta) → y ≡ take n (drop at yellow) → k ≡ take n (drop at black)
     → HasPixels (cyan ∷ magenta ∷ yellow ∷ black ∷ []) at into → HasPixels (c ∷ m ∷ y ∷ k ∷ []) (length c) part
@@ -123,14 +123,14 @@ HasPixels-block cyan magenta yellow black c m y k at n size into part room whole
     next : (piece start : List ℕ) (x : ℕ) → x < n → piece ≡ take n (drop at start) → get_or piece x 0 ≡ get_or start (at + x) 0
     next piece start x below is = ap (λ list. get_or list x 0) is ∙ get_or-take n (drop at start) x 0 below ∙ get_or-drop at start x 0
 
--- where each ink has a plane, a row has four bytes for each pixel
+-- with one plane per ink, a row has four bytes per pixel
 pub image_row-fours : (shape : Shape) (bytes : List ℕ) (y : ℕ) → planes shape ≢ 1 → length (image_row shape bytes y) ≡ row_length shape
 unfolding image_row planar_pixel
 image_row-fours shape bytes y more =
     let four = four_planes shape more in
     rw (four.0, four.1) (length-fours (planar_pixel shape bytes y) 0 shape.width (λ x. refl))
 
--- pixels with the samples of the planes' rows, from a column on, are a part of the image's row
+-- pixels made of the planes' samples from a column on are a part of the image's row
 pub image_part-inks : (shape : Shape) (bytes : List ℕ) (y row first count : ℕ) (inks : List (List ℕ)) (into : List ℕ) → planes shape ≢ 1 → row ≡ plane_row_length shape → first + count ≤ shape.width
     → length into ≡ part_length shape first count → ((ink : ℕ) → ink < 4 → take row (get_or inks ink []) ≡ plane_row shape bytes ink y)
     → ((x ink : ℕ) → x < count → ink < 4 → get_or into (4 * x + ink) 0 ≡ get_or (get_or inks ink []) (first + x) 0) → into ≡ image_part shape bytes y first count
@@ -145,7 +145,7 @@ image_part-inks shape bytes y row first count inks into more row_is within room 
     ∙ get_or-take (plane_row_length shape) _ (first + x) 0 (omega (arith, four.2)) ∙ get_or-drop (y * plane_row_length shape) (plane_data shape bytes ink) (first + x) 0
     ∙ (rw four.2 (four_ways (λ i. get_or (plane_data shape bytes i) (y * shape.width + (first + x)) 0 ≡ get_or (planar_pixel shape bytes y (first + x)) i 0) refl refl refl refl ink small))))
 
--- a row of the only plane is the image's
+-- if there is only one plane, its rows are the image's rows
 pub image_row-one : (shape : Shape) (bytes : List ℕ) (y : ℕ) → planes shape ≡ 1 → plane_row shape bytes 0 y ≡ image_row shape bytes y
 unfolding image_row
 image_row-one shape bytes y one = rw one refl

@@ -1,4 +1,4 @@
--- The rows that a cursor has still to give of a strip, from its begin to its end.
+-- The rows of a strip that a cursor has still to produce, from the strip's start to its end.
 use Rattle.std.proofs.Common.{◌≡◌, ◌≢◌, ℕ, zero, suc, ◌+◌, ◌-◌, ◌*◌, ◌/◌, ◌<◌, ◌≤◌, List, [], ◌∷◌, length, map, take, drop, get_or, None, inl, inr, refl, sym, ap, ◌∙◌, zero-add, arith}
 use Rattle.std.proofs.lemmas.Bool.{cases_eq}
 use Rattle.std.proofs.lemmas.List.{drop-drop, get_or-drop, get_or-map, length-drop, length-map, length-take-le}
@@ -34,7 +34,7 @@ HoldsRows-begin image plane i striped passed known below =
           rw (div-mul-add i shape.rows_per_strip k small, mod-mul-add i shape.rows_per_strip k small) at row;
     }
 
--- behind some of them
+-- the samples after the first count rows
 pub HoldsRows-later : (image : Image) (plane y rows count : ℕ) (samples : List ℕ) → HoldsRows image plane y rows samples → count ≤ rows
     → HoldsRows image plane (y + count) (rows - count) (drop (count * plane_row_length image.shape) samples)
 HoldsRows-later image plane y rows count samples holds fits =
@@ -67,7 +67,7 @@ begun_within image place is none left =
     let strip : place.next / rows ≡ place.begun = ap (λ y. y / rows) (sym at) ∙ div-mul-add place.begun rows 0 some in
     rw strip at (strip_of_row image.shape place.next is.striped left)
 
--- and its rows come first among its samples
+-- after a strip is started, its rows come first among its samples
 pub IsPlace-begin : (image : Image) (place : Place) (begun : Planes) (rows : ℕ) → IsPlace image place → place.rows ≡ 0 → place.next < image.shape.length
     → aheads_of begun ≡ strip_samples image.shape image.bytes place.begun → rows ≡ strip_rows image.shape place.begun
     → IsPlace image (record { next = place.next; begun = place.begun + 1; rows = rows; planes = begun }) × (0 < rows)
@@ -90,7 +90,7 @@ IsPlace-begin image place begun rows is none left samples rows_are =
       omega arith,
     )
 
--- some rows later
+-- `count` rows later
 pub IsPlace-later : (image : Image) (place : Place) (count len : ℕ) (later : Planes) → IsPlace image place → 0 < place.rows → count ≤ place.rows
     → len ≡ count * plane_row_length image.shape → aheads_of later ≡ map (drop len) (aheads_of place.planes)
     → IsPlace image (record { next = place.next + count; begun = place.begun; rows = place.rows - count; planes = later })
@@ -105,7 +105,7 @@ IsPlace-later image place count len later is some fits len_is left = record {
       rw (own, len_is) (HoldsRows-later image plane place.next place.rows count _ (is.each plane known) fits);
 }
 
--- a row of each plane is ahead
+-- each plane has a row ahead
 pub row_ahead : (image : Image) (place : Place) (plane row : ℕ) → IsPlace image place → 0 < place.rows → row ≡ plane_row_length image.shape → plane < planes image.shape
     → take row (get_or (aheads_of place.planes) plane []) ≡ plane_row image.shape image.bytes plane place.next
 row_ahead image place plane row is some row_is known =
@@ -115,7 +115,7 @@ row_ahead image place plane row is some row_is known =
     let here : place.next + 0 ≡ place.next = omega arith in
     rw row_is (rw (front, here) at first)
 
--- and no fewer bytes than it has
+-- each plane has at least a row of bytes ahead
 row_long : (image : Image) (place : Place) (plane row : ℕ) → IsPlace image place → 0 < place.rows → row ≡ plane_row_length image.shape → plane < planes image.shape
     → row ≤ length (get_or (aheads_of place.planes) plane [])
 row_long image place plane row is some row_is known = rw row_is (one_row place.rows (plane_row_length image.shape) _ some (is.each plane known).enough)
@@ -124,7 +124,7 @@ row_long image place plane row is some row_is known = rw row_is (one_row place.r
     one_row zero b n some enough = absurd (omega arith)
     one_row (suc rows) b n some enough = omega arith
 
--- the row of the image has its length
+-- a row of the image has the image's row length
 pub image_row-long : (image : Image) (place : Place) (row : ℕ) → IsPlace image place → 0 < place.rows → row ≡ plane_row_length image.shape
     → length (image_row image.shape image.bytes place.next) ≡ row_length image.shape
 image_row-long image place row is some row_is =
@@ -138,7 +138,7 @@ image_row-long image place row is some row_is =
       | inr more ↦ image_row-fours shape image.bytes place.next more
     ]
 
--- what they give is a part of the row of the image
+-- the planes' next samples are a part of the image's row
 pub image_part-place : (image : Image) (place : Place) (row from len first count : ℕ) (into : List ℕ) → IsPlace image place → 0 < place.rows → row ≡ plane_row_length image.shape
     → from ≡ plane_place image.shape first → len ≡ plane_part_length image.shape first count → first + count ≤ image.shape.width → length into ≡ part_length image.shape first count
     → (length (aheads_of place.planes) ≡ 1 → into ≡ take len (drop from (get_or (aheads_of place.planes) 0 [])))
@@ -168,7 +168,7 @@ image_part-place image place row from len first count into is some row_is from_i
           ∙ get_or-drop from (get_or aheads ink []) x 0 ∙ ap (λ n. get_or (get_or aheads ink []) (n + x) 0) (from_is ∙ same.0))
     ]
 
--- the samples of a strip of each of four planes
+-- the samples of strip i of each of four planes
 pub strip_samples-four : (shape : Shape) (bytes : List ℕ) (i strips : ℕ) (cyan magenta yellow black : List ℕ) → planes shape ≡ 4 → strips ≡ strips_per_plane shape
     → cyan ≡ samples_in shape.packed (stored_bytes shape bytes i) → magenta ≡ samples_in shape.packed (stored_bytes shape bytes (strips + i))
     → yellow ≡ samples_in shape.packed (stored_bytes shape bytes (2 * strips + i)) → black ≡ samples_in shape.packed (stored_bytes shape bytes (3 * strips + i))

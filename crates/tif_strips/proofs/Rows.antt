@@ -1,4 +1,4 @@
--- A row of strips that are joined, read in the strip that holds it.
+-- A row of the concatenated strips, read from the strip that contains it.
 use Rattle.std.proofs.Common.{◌≡◌, ℕ, zero, suc, ◌+◌, ◌*◌, ◌/◌, ◌%◌, ◌<◌, ◌≤◌, List, ◌++◌, length, take, drop, None, sym, ap, ◌∙◌, arith, length-drop, zero-add}
 use Rattle.std.specs.List.{flat_map, range_with_len}
 use Rattle.std.proofs.lemmas.List.{drop_at, drop-append-le, drop-drop, drop-take, length-take-le, take-append-le, take-take}
@@ -8,8 +8,8 @@ use Rattle.tif_strips.specs.Strips.{IsStriped, needed_length, plane_data, plane_
 use Rattle.tif_strips.proofs.Shapes.{needed_length-in_plane, row_in_needed, strip_number, strip_of_row, strip_rows-above}
 use Rattle.tif_strips.proofs.Faults.{fault_of_strip-passed, strip_enough-passed}
 
--- Pieces are joined, of which those before piece i have the same size: what stands in piece i from a place on stands
--- in the joined list behind i times the size.
+-- In concatenated pieces of which those before piece i all have the same size, bytes at an offset in piece
+-- i are at that offset plus i times the size in the whole.
 pub take-joined : (piece : ℕ → List ℕ) (size start n i at b : ℕ) → i < n → ((j : ℕ) → j < i → length (piece (start + j)) ≡ size) → at + b ≤ length (piece (start + i))
     → take b (drop (i * size + at) (flat_map piece (range_with_len start n))) ≡ take b (drop at (piece (start + i)))
 take-joined piece size start zero i at b below same fits = absurd (omega arith)
@@ -33,19 +33,19 @@ take-joined piece size start (suc n) (suc i) at b below same fits =
     (rw there at fits) in
     rw (there, place, behind) next
 
--- a piece of a front is a piece of the whole
+-- a slice of a prefix is a slice of the whole
 pub take-drop-take : (b at n : ℕ) (xs : List ℕ) → at + b ≤ n → take b (drop at (take n xs)) ≡ take b (drop at xs)
 take-drop-take b at n xs fits =
     let front : take (at + b) (take n xs) ≡ take (at + b) xs = take-take (at + b) n xs fits in
     sym (drop-take at b (take n xs)) ∙ ap (drop at) front ∙ drop-take at b xs
 
--- a strip that passes has the data that it needs
+-- a strip that passes has all the data that it needs
 pub length-strip_data : (shape : Shape) (bytes : List ℕ) (strip : ℕ) → needed_length shape strip ≤ length (samples_in shape.packed (stored_bytes shape bytes strip))
     → length (strip_data shape bytes strip) ≡ needed_length shape strip
 unfolding strip_data
 length-strip_data shape bytes strip enough = length-take-le (needed_length shape strip) _ enough
 
--- row y of a plane stands in its strip
+-- row y of a plane is in its strip
 pub plane_row-in_strip : (shape : Shape) (bytes : List ℕ) (plane y : ℕ) → IsStriped shape → strip_fault shape bytes ≡ None → plane < planes shape → y < shape.length
     → take (plane_row_length shape) (drop (y % shape.rows_per_strip * plane_row_length shape) (samples_in shape.packed (stored_bytes shape bytes (plane * strips_per_plane shape + y / shape.rows_per_strip))))
     ≡ plane_row shape bytes plane y

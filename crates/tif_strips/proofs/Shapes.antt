@@ -1,4 +1,4 @@
--- The strips of a plane and their rows, by numbers.
+-- The strips of a plane and their rows, by count.
 use Rattle.std.proofs.Common.{◌≡◌, ℕ, ◌+◌, ◌-◌, ◌*◌, ◌/◌, ◌%◌, ◌<◌, ◌≤◌, ◌≢◌, Bool, true, false, ◌&&◌, ◌==◌, if◌then◌else◌, refl, ap, arith}
 use Rattle.std.proofs.Math.Nat.{mul-le-mul_right}
 use Rattle.std.proofs.lemmas.Nat.{div-add-mod', le-div, mod_below, mod-mul-add}
@@ -7,7 +7,7 @@ use Rattle.pr_base.specs.Row.{row_size}
 use Rattle.tif_strips.specs.declared.shape.Shape.{Shape}
 use Rattle.tif_strips.specs.Strips.{IsStriped, column_place, needed_length, part_length, plane_part_length, plane_place, plane_row_length, planes, row_length, strip_count, strip_rows, strips_per_plane}
 
--- the strips above strip i of a plane do not fill the image
+-- the rows above strip i of a plane are fewer than the rows of the image
 pub rows_above : (shape : Shape) (i : ℕ) → IsStriped shape → i < strips_per_plane shape → i * shape.rows_per_strip < shape.length
 unfolding strips_per_plane
 rows_above shape i striped below =
@@ -18,7 +18,7 @@ rows_above shape i striped below =
     let some = striped.length in
     omega arith
 
--- row y stands in a strip of the plane
+-- row y is in a strip of the plane
 pub strip_of_row : (shape : Shape) (y : ℕ) → IsStriped shape → y < shape.length → y / shape.rows_per_strip < strips_per_plane shape
 unfolding strips_per_plane
 strip_of_row shape y striped below =
@@ -27,7 +27,7 @@ strip_of_row shape y striped below =
     let next = le-div (y / shape.rows_per_strip + 1) (shape.length + shape.rows_per_strip - 1) shape.rows_per_strip (omega arith) (omega arith) in
     omega arith
 
--- and among its rows
+-- row y is among the rows of that strip
 pub row_in_strip : (shape : Shape) (y : ℕ) → IsStriped shape → y < shape.length → y % shape.rows_per_strip < strip_rows shape (y / shape.rows_per_strip)
 unfolding strip_rows
 row_in_strip shape y striped below =
@@ -45,7 +45,7 @@ strip_rows-above shape y j below above =
     let scaled : (j + 1) * shape.rows_per_strip ≤ y / shape.rows_per_strip * shape.rows_per_strip = mul-le-mul_right shape.rows_per_strip next in
     omega arith
 
--- strip i of a plane is one of all strips
+-- strip i of a plane is among all strips
 pub strip_number : (shape : Shape) (plane i : ℕ) → plane < planes shape → i < strips_per_plane shape → plane * strips_per_plane shape + i < strip_count shape
 unfolding strip_count
 strip_number shape plane i known below =
@@ -53,14 +53,14 @@ strip_number shape plane i known below =
     let scaled : (plane + 1) * strips_per_plane shape ≤ planes shape * strips_per_plane shape = mul-le-mul_right (strips_per_plane shape) next in
     omega arith
 
--- what strip i of a plane needs
+-- the bytes that strip i of a plane needs
 pub needed_length-in_plane : (shape : Shape) (plane i : ℕ) → i < strips_per_plane shape
     → needed_length shape (plane * strips_per_plane shape + i) ≡ strip_rows shape i * plane_row_length shape
 unfolding needed_length
 needed_length-in_plane shape plane i below =
     ap (λ j. strip_rows shape j * plane_row_length shape) (mod-mul-add plane (strips_per_plane shape) i below)
 
--- row y lies in what its strip needs
+-- row y is within the bytes that its strip needs
 pub row_in_needed : (shape : Shape) (plane y : ℕ) → IsStriped shape → y < shape.length
     → y % shape.rows_per_strip * plane_row_length shape + plane_row_length shape ≤ needed_length shape (plane * strips_per_plane shape + y / shape.rows_per_strip)
 row_in_needed shape plane y striped below =
@@ -70,15 +70,15 @@ row_in_needed shape plane y striped below =
     mul-le-mul_right (plane_row_length shape) next in
     omega arith
 
--- there are at most four planes
+-- an image has at most four planes
 pub planes-within : (shape : Shape) → planes shape ≤ 4
 unfolding planes
 planes-within shape = grind (arith, nat_tests)
 
--- what the number of a strip is below
+-- upper bounds of a strip's number
 pub ruleset numbers = (strip_number, strip_of_row, planes-within)
 
--- a row of the image is a row of each plane
+-- the row lengths of all planes add up to that of the image
 pub row_length-planes : (shape : Shape) → row_length shape ≡ planes shape * plane_row_length shape
 unfolding planes plane_row_length
 row_length-planes shape = rows (shape.samples == 4) (shape.planar == 2) shape.width _
@@ -88,7 +88,7 @@ row_length-planes shape = rows (shape.samples == 4) (shape.planar == 2) shape.wi
     rows true false width size = omega arith
     rows false apart width size = omega arith
 
--- with more, there are four, and a row of a plane has a byte for each pixel
+-- if there is more than one plane, there are four, and a row of a plane has one byte per pixel
 pub four_planes : (shape : Shape) → planes shape ≢ 1 → (planes shape ≡ 4) × (row_length shape ≡ 4 * shape.width) × (plane_row_length shape ≡ shape.width)
 unfolding planes plane_row_length
 four_planes shape more = rows (shape.samples == 4) (shape.planar == 2) shape.width (row_size shape.width) more
@@ -101,7 +101,7 @@ four_planes shape more = rows (shape.samples == 4) (shape.planar == 2) shape.wid
 
 -- ---- parts of a row
 
--- a part of a row of the image is a part in each plane
+-- the lengths of a part in all planes add up to its length in the image's row
 pub part_length-planes : (shape : Shape) (first count : ℕ) → part_length shape first count ≡ planes shape * plane_part_length shape first count
 unfolding planes plane_part_length
 part_length-planes shape first count = parts (shape.samples == 4) (shape.planar == 2) count _
@@ -111,7 +111,7 @@ part_length-planes shape first count = parts (shape.samples == 4) (shape.planar 
     parts true false count size = omega arith
     parts false apart count size = omega arith
 
--- it lies in the row
+-- the part is within the row
 pub part_in_row : (shape : Shape) (first count : ℕ) → first + count ≤ shape.width → plane_place shape first + plane_part_length shape first count ≤ plane_row_length shape
 unfolding plane_place plane_part_length plane_row_length
 part_in_row shape first count within = parts (shape.samples == 4) (shape.planar == 2)
@@ -123,7 +123,7 @@ part_in_row shape first count within = parts (shape.samples == 4) (shape.planar 
     parts true false = omega arith
     parts false apart = omega arith
 
--- the only plane has the image's rows
+-- the only plane has the rows of the image
 pub one_plane : (shape : Shape) (first count : ℕ) → planes shape ≡ 1 → (plane_place shape first ≡ column_place shape first) × (plane_part_length shape first count ≡ part_length shape first count)
 unfolding planes plane_place plane_part_length
 one_plane shape first count one = parts (shape.samples == 4) (shape.planar == 2) (first / 8) (row_size (first % 8 + count)) one
@@ -134,7 +134,7 @@ one_plane shape first count one = parts (shape.samples == 4) (shape.planar == 2)
     parts true false place size one = (refl, refl)
     parts false apart place size one = (refl, refl)
 
--- and each of four a byte for each pixel
+-- with four planes, each has one byte per pixel
 pub four_places : (shape : Shape) (first count : ℕ) → planes shape ≢ 1
     → (plane_place shape first ≡ first) × (plane_part_length shape first count ≡ count) × (column_place shape first ≡ 4 * first) × (part_length shape first count ≡ 4 * count)
 unfolding planes plane_place plane_part_length

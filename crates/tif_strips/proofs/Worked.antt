@@ -1,4 +1,4 @@
--- The definitions at small images.
+-- The definitions evaluated on small images.
 use Rattle.std.proofs.Common.{◌≡◌, ℕ, true, false, List, [], ◌∷◌, ◌++◌, Some, None, refl}
 use Rattle.pr_base.specs.declared.fault.FaultKind.TheVariants.{Short, StripPlace}
 use Rattle.tif_dir.specs.Directory.{directory_of, fault_at, field_of, number_at}
@@ -7,21 +7,21 @@ use Rattle.tif_packbits.specs.Packbits.{expansion}
 use Rattle.tif_strips.specs.declared.shape.Shape.{Shape}
 use Rattle.tif_strips.specs.Strips.{fault_of_strip, image_part, image_row, needed_length, plane_data, plane_row, plane_row_length, planar_pixel, planes, stored_bytes, strip_count, strip_data, strip_fault, strip_offset, strip_rows, strip_size, strips_per_plane}
 
--- a directory with StripOffsets and StripByteCounts, each so many numbers of one byte: those of up to four stand in the
--- entry, more stand at the place that is given
+-- a file whose directory has StripOffsets and StripByteCounts, each with strips BYTE values: up to four are
+-- in the entry itself, more are at the given offset
 abbrev file : ℕ → List ℕ → List ℕ → List ℕ
 file strips offsets sizes =
     73 ∷ 73 ∷ 42 ∷ 0 ∷ 8 ∷ 0 ∷ 0 ∷ 0 ∷ 2 ∷ 0 ∷ 17 ∷ 1 ∷ 1 ∷ 0 ∷ strips ∷ 0 ∷ 0 ∷ 0 ∷ (offsets ++ (23 ∷ 1 ∷ 1 ∷ 0 ∷ strips ∷ 0 ∷ 0 ∷ 0 ∷ sizes))
 
--- eight pixels of one bit a row, two rows, packed
+-- eight one-bit pixels per row, two rows, packed
 abbrev bits : Shape
 bits = record { width = 8; length = 2; samples = 1; bits = 1; planar = 1; packed = true; rows_per_strip = 2 }
 
--- a strip of this packet, at 34
+-- a strip of this packet, at offset 34
 abbrev packet : ℕ → ℕ → List ℕ
 packet header byte = file 1 (34 ∷ 0 ∷ 0 ∷ 0 ∷ []) (2 ∷ 0 ∷ 0 ∷ 0 ∷ header ∷ byte ∷ [])
 
--- a packet of two bytes is two rows of one
+-- a packet of two bytes covers two rows of one byte each
 pub packet_over_rows : strip_fault bits (packet 255 170) ≡ None
 unfolding strip_fault fault_of_strip stored_bytes strip_offset strip_size needed_length strip_rows strip_count strips_per_plane planes plane_row_length number_at field_of directory_of expansion
 packet_over_rows = refl
@@ -30,12 +30,12 @@ pub second_row : image_row bits (packet 255 170) 1 ≡ 170 ∷ []
 unfolding image_row plane_row plane_data strip_data stored_bytes strip_offset strip_size needed_length strip_rows strip_count strips_per_plane planes plane_row_length number_at field_of directory_of expansion
 second_row = refl
 
--- two of its columns lie in that byte
+-- two columns of row 1, which are in that byte
 pub columns_of_row : image_part bits (packet 255 170) 1 3 2 ≡ 170 ∷ []
 unfolding image_row plane_row plane_data strip_data stored_bytes strip_offset strip_size needed_length strip_rows strip_count strips_per_plane planes plane_row_length number_at field_of directory_of expansion
 columns_of_row = refl
 
--- a row of two bytes, as it is: two columns that lie in both, and four of the second
+-- uncompressed rows of two bytes: two columns that span both bytes, and four columns of the second
 abbrev two : Shape
 two = record { width = 16; length = 1; samples = 1; bits = 1; planar = 1; packed = false; rows_per_strip = 1 }
 
@@ -47,21 +47,21 @@ pub columns_of_second : image_part two (packet 170 85) 0 9 4 ≡ 85 ∷ []
 unfolding image_row plane_row plane_data strip_data stored_bytes strip_offset strip_size needed_length strip_rows strip_count strips_per_plane planes plane_row_length number_at field_of directory_of
 columns_of_second = refl
 
--- one byte is too few
+-- one byte is too short
 pub one_byte_short : strip_fault bits (packet 0 170) ≡ Some (fault_at strip_offsets Short)
 unfolding strip_fault fault_of_strip stored_bytes strip_offset strip_size needed_length strip_rows strip_count strips_per_plane planes plane_row_length number_at field_of directory_of expansion
 one_byte_short = refl
 
--- a strip that ends behind the file
+-- a strip that ends past the end of the file
 pub outside : strip_fault bits (file 1 (35 ∷ 0 ∷ 0 ∷ 0 ∷ []) (2 ∷ 0 ∷ 0 ∷ 0 ∷ 255 ∷ 170 ∷ [])) ≡ Some (fault_at strip_offsets StripPlace)
 unfolding strip_fault fault_of_strip stored_bytes strip_offset strip_size needed_length strip_rows strip_count strips_per_plane planes plane_row_length number_at field_of directory_of expansion
 outside = refl
 
--- two pixels of four inks a row, three rows, a plane for each ink, two rows a strip: eight strips
+-- two pixels of four inks per row, three rows, one plane per ink, two rows per strip: eight strips
 abbrev inks : Shape
 inks = record { width = 2; length = 3; samples = 4; bits = 8; planar = 2; packed = false; rows_per_strip = 2 }
 
--- the strips of cyan, magenta, yellow and black, each of two rows and of one, behind the offsets and the sizes
+-- the strips of cyan, magenta, yellow and black, two rows and then one, after the offsets and the counts
 abbrev planes_file : List ℕ
 planes_file =
     file 8 (34 ∷ 0 ∷ 0 ∷ 0 ∷ []) (42 ∷ 0 ∷ 0 ∷ 0 ∷ [])

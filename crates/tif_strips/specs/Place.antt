@@ -1,19 +1,19 @@
--- Where a cursor stands in an image.
+-- The position of a cursor in an image.
 use Rattle.std.specs.Prelude.{◌≡◌, ℕ, ◌+◌, ◌*◌, ◌<◌, ◌≤◌, min, List, [], length, take, drop, slice_index_or}
 use Rattle.std.specs.Prelude.{None}
 use Rattle.tif_strips.specs.declared.place.Place.{Place}
 use Rattle.tif_strips.specs.Strips.{Image, IsStriped, plane_row, plane_row_length, planes, strip_fault}
 use Rattle.tif_strips.specs.Planes.{aheads_of}
 
--- so many rows of a plane, from row y on, come first among these samples
+-- the samples begin with this many rows of a plane, from row y on
 pub record HoldsRows (image : Image) (plane y rows : ℕ) (samples : List ℕ) : Type 0 where
   pub enough : rows * plane_row_length image.shape ≤ length samples
   pub each : (k : ℕ) → k < rows
       → take (plane_row_length image.shape) (drop (k * plane_row_length image.shape) samples)
       ≡ plane_row image.shape image.bytes plane (y + k)
 
--- the image has passed its tests; the rows up to the end of the strip that was begun last, or of the image,
--- are still to come, and in each plane they come first among the samples ahead
+-- The image has passed its tests. The rows up to the end of the strip last started, or of the image, are
+-- still to come, and in each plane they come first among the samples ahead.
 pub record IsPlace (image : Image) (place : Place) : Type 0 where
   pub striped : IsStriped image.shape
   pub passed : strip_fault image.shape image.bytes ≡ None

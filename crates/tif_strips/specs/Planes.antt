@@ -1,4 +1,4 @@
--- The planes of a strip, and pixels laid from four of them.
+-- The planes of a strip, and pixels interleaved from four of them.
 use Rattle.std.specs.Prelude.{◌≡◌, ℕ, ◌+◌, ◌*◌, ◌<◌, List, [], ◌∷◌, map, slice_index, slice_index_or}
 use Rattle.std.specs.List.{range_with_len}
 use Rattle.tif_strips.specs.declared.planes.Inks.{Inks}
@@ -9,16 +9,16 @@ use Rattle.tif_strips.specs.declared.samples.Samples.TheVariants.{Plain, Packed}
 use Rattle.tif_strips.specs.declared.shape.Shape.{Shape}
 use Rattle.tif_strips.specs.Strips.{planes, samples_in, stored_bytes, strips_per_plane}
 
--- the samples that are still to come
+-- the samples still to come
 abbrev pub ahead_of : Samples → List ℕ
 ahead_of (Plain stored) = stored.now
 ahead_of (Packed unpacker) = unpacker
 
--- the same of each ink
+-- the samples still to come of each ink
 abbrev pub inks_of : Inks → List (List ℕ)
 inks_of inks = ahead_of inks.cyan ∷ ahead_of inks.magenta ∷ ahead_of inks.yellow ∷ ahead_of inks.black ∷ []
 
--- the same of each plane
+-- the samples still to come of each plane
 abbrev pub aheads_of : Planes → List (List ℕ)
 aheads_of (One samples) = ahead_of samples ∷ []
 aheads_of (Four inks) = inks_of inks
@@ -30,7 +30,7 @@ strip_samples shape bytes i =
     (λ plane. samples_in shape.packed (stored_bytes shape bytes (plane * strips_per_plane shape + i)))
     (range_with_len 0 (planes shape))
 
--- the first pixels of a row have the samples of these inks
+-- the first count pixels of a row have the samples of these inks
 pub record HasPixels (inks : List (List ℕ)) (count : ℕ) (into : List ℕ) : Type 0 where
   pub each : (x ink : ℕ) → x < count → ink < 4
       → slice_index into (4 * x + ink) ≡ slice_index (slice_index_or inks ink []) x

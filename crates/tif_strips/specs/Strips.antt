@@ -16,7 +16,7 @@ use Rattle.tif_strips.specs.declared.shape.Shape.{Shape}
 
 -- ---- the shape of an image
 
--- what a shape has by the tests of the fields before the strips
+-- what the tests of the other fields guarantee of a shape before the strips are tested
 pub record IsStriped (shape : Shape) : Type 0 where
   pub width : (1 ≤ shape.width) × (shape.width ≤ 65535)
   pub length : (1 ≤ shape.length) × (shape.length ≤ 65535)
@@ -24,11 +24,11 @@ pub record IsStriped (shape : Shape) : Type 0 where
   pub planar : IsTrue (shape.planar == 1 || shape.planar == 2)
   pub rows_per_strip : 1 ≤ shape.rows_per_strip
 
--- the planes: one for each of four samples where they are apart, and otherwise one ("PlanarConfiguration")
+-- the number of planes: one per sample for four separate samples, otherwise one ("PlanarConfiguration")
 unfoldable pub planes : Shape → ℕ
 planes shape = if shape.samples == 4 && shape.planar == 2 then 4 else 1
 
--- the bytes of a row of the image: four for each pixel, or one for eight pixels
+-- the bytes in a row of the image: four per pixel, or one per eight pixels
 abbrev pub row_length : Shape → ℕ
 row_length shape = if shape.samples == 4 then 4 * shape.width else row_size shape.width
 
@@ -38,55 +38,54 @@ plane_row_length shape =
     if shape.samples == 4 then if shape.planar == 2 then shape.width else 4 * shape.width
     else row_size shape.width
 
--- the strips of one plane ("RowsPerStrip": StripsPerImage)
+-- the number of strips per plane ("RowsPerStrip": StripsPerImage)
 unfoldable pub strips_per_plane : Shape → ℕ
 strips_per_plane shape = (shape.length + shape.rows_per_strip - 1) / shape.rows_per_strip
 
--- the strips of all planes, those of the first plane first ("StripOffsets")
+-- the number of strips in all planes; those of the first plane come first ("StripOffsets")
 unfoldable pub strip_count : Shape → ℕ
 strip_count shape = planes shape * strips_per_plane shape
 
--- the rows of strip i of a plane: the last strip may have fewer ("RowsPerStrip")
+-- the number of rows in strip i of a plane; the last strip may have fewer ("RowsPerStrip")
 unfoldable pub strip_rows : Shape → ℕ → ℕ
 strip_rows shape i = min shape.rows_per_strip (shape.length - i * shape.rows_per_strip)
 
--- the bytes that a strip needs
+-- the bytes of samples that a strip needs
 unfoldable pub needed_length : Shape → ℕ → ℕ
 needed_length shape strip = strip_rows shape (strip % strips_per_plane shape) * plane_row_length shape
 
 -- ---- the data of a strip
 
--- where a strip begins in the file ("StripOffsets")
+-- the offset of a strip in the file ("StripOffsets")
 unfoldable pub strip_offset : Shape → List ℕ → ℕ → ℕ
 strip_offset shape bytes strip = result_unwrap_or (number_at bytes strip_offsets strip (strip_count shape)) 0
 
--- how many bytes of the file it has ("StripByteCounts")
+-- the byte count of a strip in the file ("StripByteCounts")
 unfoldable pub strip_size : Shape → List ℕ → ℕ → ℕ
 strip_size shape bytes strip =
     result_unwrap_or (number_at bytes strip_byte_counts strip (strip_count shape)) 0
 
--- the bytes that a strip has in the file
+-- the bytes of a strip as stored in the file
 unfoldable pub stored_bytes : Shape → List ℕ → ℕ → List ℕ
 stored_bytes shape bytes strip =
     take (strip_size shape bytes strip) (drop (strip_offset shape bytes strip) bytes)
 
--- the samples in stored bytes: their expansion where they are packed (Section 9),
--- one stream for the whole strip
+-- the samples in stored bytes: if packed, their expansion (Section 9) as one stream for the whole strip
 abbrev pub samples_in : Bool → List ℕ → List ℕ
 samples_in packed stored = if packed then expansion stored else stored
 
--- the data of a strip: as many samples as it needs, and none past them
+-- the data of a strip: exactly as many samples as it needs
 unfoldable pub strip_data : Shape → List ℕ → ℕ → List ℕ
 strip_data shape bytes strip =
     take (needed_length shape strip) (samples_in shape.packed (stored_bytes shape bytes strip))
 
 -- ---- the tests
 
--- the fault of a field that has a value for each strip
+-- the fault of a field with one value per strip
 abbrev pub fault_of_field : Shape → List ℕ → ℕ → Option TagFault
 fault_of_field shape bytes tag = result_err (number_at bytes tag 0 (strip_count shape))
 
--- the fault of one strip: it lies in the file, and has the samples that it needs
+-- the fault of one strip: it must be within the file and have the samples that it needs
 unfoldable pub fault_of_strip : Shape → List ℕ → ℕ → Option TagFault
 fault_of_strip shape bytes strip =
     if nat_lt (length bytes) (strip_offset shape bytes strip + strip_size shape bytes strip)
@@ -100,7 +99,7 @@ fault_of_strip shape bytes strip =
 abbrev pub first_fault : List (Option TagFault) → Option TagFault
 first_fault = first_some (λ test. test)
 
--- the first fault of StripOffsets, StripByteCounts and the strips in order
+-- the first fault of StripOffsets, StripByteCounts and the strips, in this order
 unfoldable pub strip_fault : Shape → List ℕ → Option TagFault
 strip_fault shape bytes =
     first_fault
@@ -109,7 +108,7 @@ strip_fault shape bytes =
 
 -- ---- rows
 
--- a plane: the data of its strips, one after the other
+-- the data of a plane: that of its strips, concatenated
 unfoldable pub plane_data : Shape → List ℕ → ℕ → List ℕ
 plane_data shape bytes plane =
     let strips = strips_per_plane shape in
@@ -120,12 +119,12 @@ unfoldable pub plane_row : Shape → List ℕ → ℕ → ℕ → List ℕ
 plane_row shape bytes plane y =
     take (plane_row_length shape) (drop (y * plane_row_length shape) (plane_data shape bytes plane))
 
--- the samples of a pixel where each ink has a plane: cyan, magenta, yellow, black (Section 16 "InkSet")
+-- the samples of a pixel if each ink has a plane: cyan, magenta, yellow, black (Section 16 "InkSet")
 unfoldable pub planar_pixel : Shape → List ℕ → ℕ → ℕ → List ℕ
 planar_pixel shape bytes y x =
     map (λ ink. slice_index (plane_data shape bytes ink) (y * shape.width + x)) (0 ∷ 1 ∷ 2 ∷ 3 ∷ [])
 
--- row y of the image: pixel by pixel for four samples, and as it is stored for one
+-- row y of the image: four samples per pixel, interleaved, or one sample, as stored
 unfoldable pub image_row : Shape → List ℕ → ℕ → List ℕ
 image_row shape bytes y =
     if planes shape == 4 then flat_map (planar_pixel shape bytes y) (range_with_len 0 shape.width)
@@ -133,20 +132,20 @@ image_row shape bytes y =
 
 -- ---- parts of rows
 
--- the byte of a row of the image that holds column x, or the first of its four
+-- the byte of an image row that contains column x, or the first of its four bytes
 abbrev pub column_place : Shape → ℕ → ℕ
 column_place shape x = if shape.samples == 4 then 4 * x else x / 8
 
--- how many bytes of a row hold so many columns, from `first` on
+-- the number of bytes in a row that contain count columns, from column first on
 abbrev pub part_length : Shape → ℕ → ℕ → ℕ
 part_length shape first count = if shape.samples == 4 then 4 * count else row_size (first % 8 + count)
 
--- the bytes of row y of the image that hold these columns
+-- the bytes of row y of the image that contain these columns
 abbrev pub image_part : Shape → List ℕ → ℕ → ℕ → ℕ → List ℕ
 image_part shape bytes y first count =
     take (part_length shape first count) (drop (column_place shape first) (image_row shape bytes y))
 
--- the same two numbers in a row of one plane
+-- the corresponding numbers for a row of one plane
 unfoldable pub plane_place : Shape → ℕ → ℕ
 plane_place shape x =
     if shape.samples == 4 then if shape.planar == 2 then x else 4 * x
@@ -157,9 +156,9 @@ plane_part_length shape first count =
     if shape.samples == 4 then if shape.planar == 2 then count else 4 * count
     else row_size (first % 8 + count)
 
--- ---- what contracts see
+-- ---- models
 
--- an image: its shape, and the bytes of its file
+-- an image: its shape and the bytes of its file
 pub record Image : Type 0 where
   pub shape : Shape
   pub bytes : List ℕ

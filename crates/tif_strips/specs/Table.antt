@@ -1,4 +1,4 @@
--- What a table of strips keeps: the values of StripOffsets and StripByteCounts.
+-- A table of strips: the values of StripOffsets and StripByteCounts.
 use Rattle.std.specs.Prelude.{◌≡◌, ℕ, ◌≤◌, List, [], ◌∷◌, length, Option, Some, None, Ok}
 use Rattle.pr_base.specs.declared.fault.TagFault.{TagFault}
 use Rattle.tif_dir.specs.Directory.{field_of}
@@ -11,7 +11,7 @@ abbrev pub field_fault : Shape → List ℕ → Option TagFault
 field_fault shape bytes =
     first_fault (fault_of_field shape bytes strip_offsets ∷ fault_of_field shape bytes strip_byte_counts ∷ [])
 
--- the image has strips, and these are the values of its two fields, at least one for each strip
+-- the image has a valid shape, and these are the values of its two fields, at least one per strip
 pub record HasTable (image : Image) (offsets sizes : List ℕ) : Type 0 where
   pub striped : IsStriped image.shape
   pub offsets_are : field_of image.bytes strip_offsets ≡ Ok (Some offsets)
@@ -19,7 +19,7 @@ pub record HasTable (image : Image) (offsets sizes : List ℕ) : Type 0 where
   pub offsets_enough : strip_count image.shape ≤ length offsets
   pub sizes_enough : strip_count image.shape ≤ length sizes
 
--- the image has strips, and none of their tests fails
+-- the image has a valid shape, and all its strip tests pass
 pub record HasPassed (shape : Shape) (bytes : List ℕ) : Type 0 where
   pub striped : IsStriped shape
   pub passed : strip_fault shape bytes ≡ None

@@ -1,5 +1,5 @@
-// The strips of a TIFF image: the tests of their places and lengths, and the rows of the image in order, both
-// planar forms, uncompressed and PackBits (TIFF 6.0, Sections 3, 8 and 9). No call takes memory.
+// The strips of a TIFF image: tests of their offsets and lengths, and the rows of the image in order, in
+// both planar configurations, uncompressed and PackBits (TIFF 6.0, Sections 3, 8 and 9). No call allocates.
 #![tactic(auto)]
 
 mod place;

@@ -1,4 +1,4 @@
-// Where a cursor stands in an image.
+// The position of a cursor in an image.
 ghost use Rattle.std.specs.Prelude.{◌≡◌, ◌+◌, ◌<◌, ◌≤◌, length, None};
 ghost use Rattle.tif_strips.specs.Strips.{IsStriped, image_part, image_row, part_length, row_length};
 ghost use Rattle.tif_strips.specs.Strips.{strip_fault};
@@ -7,23 +7,23 @@ use crate::planes::Planes;
 use crate::samples::Samples;
 use crate::strip_table::StripTable;
 
-/// A place before a row, in one strip of each plane. Each strip is begun once.
+/// A position before a row, in the current strip of each plane. Reading in order starts each strip once.
 #[derive(Debug, Drop)]
 pub(crate) struct Place<'a> {
     /// The number of the next row.
     pub next: u32,
-    /// How many strips of each plane were begun.
+    /// The number of strips started in each plane.
     begun: u32,
-    /// The rows of the last of them that are still to come.
+    /// The number of rows still to come in the last of them.
     rows: u32,
-    /// What is still to come of it in each plane.
+    /// The samples still to come of that strip in each plane.
     planes: Planes<'a>,
 }
 
 impl<'a> Place<'a> {
     ghost use Rattle.tif_strips.specs.Place.{IsPlace};
 
-    /// Before the first row.
+    /// Returns the position before the first row.
     pub(crate) fn top(table: &StripTable<'a>) -> Place<'a>
         requires striped { IsStriped table.now.shape }
         requires passed { strip_fault table.now.shape table.now.bytes ≡ None }
@@ -38,7 +38,7 @@ impl<'a> Place<'a> {
         }
     }
 
-    /// Gives the bytes of the next row that hold `count` columns from `first` on.
+    /// Reads the bytes of the next row that contain `count` columns from `first` on.
     pub(crate) fn read(&mut self, table: &StripTable<'a>, first: u32, count: u32, into: &mut [u8])
         requires place { IsPlace table.now self.old }
         requires left { self.old.next < table.now.shape.length }
@@ -59,7 +59,8 @@ impl<'a> Place<'a> {
         self.next += 1;
     }
 
-    /// Goes over the next `count` rows. Strips that end among them are passed over without a look at them.
+    /// Skips the next `count` rows. Strips that end among them are not read any further, except a last strip
+    /// with fewer than RowsPerStrip rows.
     pub(crate) fn skip(&mut self, table: &StripTable<'a>, count: u32)
         requires place { IsPlace table.now self.old }
         requires left { self.old.next + count ≤ table.now.shape.length }
@@ -73,7 +74,7 @@ impl<'a> Place<'a> {
         }
     }
 
-    // Stands before row `y`, in the strip that holds it.
+    // Moves to just before row `y`, in the strip that contains it.
     fn stand_before(&mut self, table: &StripTable<'a>, y: u32)
         requires place { IsPlace table.now self.old }
         requires within { y ≤ table.now.shape.length }
@@ -91,7 +92,7 @@ impl<'a> Place<'a> {
         }
     }
 
-    // Goes over the next `count` rows of the strip.
+    // Skips the next `count` rows of the current strip.
     fn pass(&mut self, table: &StripTable<'a>, count: u32)
         requires place { IsPlace table.now self.old }
         requires rows { (0 < self.old.rows) × (count ≤ self.old.rows) }
@@ -104,7 +105,7 @@ impl<'a> Place<'a> {
         self.next += count;
     }
 
-    // Begins the next strip where no row of the last one is left.
+    // Starts the next strip if no row of the current one is left.
     fn enter(&mut self, table: &StripTable<'a>)
         requires place { IsPlace table.now self.old }
         requires left { self.old.next < table.now.shape.length }

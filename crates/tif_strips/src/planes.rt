@@ -1,21 +1,21 @@
-// The planes of the strip that a cursor stands in, and pixels laid from four of them.
+// The planes of the strip at a cursor, and pixels interleaved from four of them.
 ghost use Rattle.std.specs.Prelude.{◌≡◌, ◌≢◌, ℕ, ◌+◌, ◌*◌, ◌<◌, ◌≤◌, [], ◌∷◌, length, map, take, drop};
 ghost use Rattle.std.specs.Prelude.{slice_index_or};
 ghost use Rattle.tif_strips.specs.Planes.{HasPixels};
 
 use crate::samples::Samples;
 
-/// Pixels that are laid at a time.
+/// The number of pixels interleaved at a time.
 const BLOCK: usize = 1024;
 
-/// What is still to come of a strip of each plane.
+/// The samples still to come of a strip in each plane.
 #[derive(Debug, Drop)]
 pub(crate) enum Planes<'a> {
     One(Samples<'a>),
     Four(Inks<'a>),
 }
 
-/// A plane for each ink (TIFF 6.0, Section 16).
+/// One plane per ink (TIFF 6.0, Section 16).
 #[derive(Debug, Drop)]
 pub(crate) struct Inks<'a> {
     pub cyan: Samples<'a>,
@@ -27,7 +27,7 @@ pub(crate) struct Inks<'a> {
 impl<'a> Planes<'a> {
     ghost use Rattle.tif_strips.specs.Planes.{HasPixels, aheads_of};
 
-    /// Gives `count` bytes in each plane of the next row, which has `row`, from byte `from` of it on.
+    /// Reads `count` bytes, from byte `from` on, in each plane of the next row, which is `row` bytes long.
     pub(crate) fn part(&mut self, row: usize, from: usize, count: usize, into: &mut [u8])
         requires room { length into.old ≡ length (aheads_of self.old) * count }
         requires within { from + count ≤ row }
@@ -44,7 +44,7 @@ impl<'a> Planes<'a> {
         self.skip(row - from - count);
     }
 
-    // The next `count` bytes in each plane.
+    // Reads the next `count` bytes in each plane.
     fn fill(&mut self, count: usize, into: &mut [u8])
         requires room { length into.old ≡ length (aheads_of self.old) * count }
         requires enough { (plane : ℕ) → plane < length (aheads_of self.old)
@@ -60,7 +60,7 @@ impl<'a> Planes<'a> {
         }
     }
 
-    /// Goes over the next `count` bytes in each plane.
+    /// Skips the next `count` bytes in each plane.
     pub(crate) fn skip(&mut self, count: usize)
         requires enough { (plane : ℕ) → plane < length (aheads_of self.old)
             → count ≤ length (slice_index_or (aheads_of self.old) plane []) }
@@ -76,7 +76,7 @@ impl<'a> Planes<'a> {
 impl<'a> Inks<'a> {
     ghost use Rattle.tif_strips.specs.Planes.{HasPixels, inks_of};
 
-    // The next `width` pixels, a block at a time.
+    // Reads the next `width` pixels, block by block.
     fn fill(&mut self, width: usize, into: &mut [u8])
         requires room { length into.old ≡ 4 * width }
         requires enough { (ink : ℕ) → ink < 4 → width ≤ length (slice_index_or (inks_of self.old) ink []) }
@@ -100,7 +100,7 @@ impl<'a> Inks<'a> {
         }
     }
 
-    // Goes over the next `width` pixels.
+    // Skips the next `width` pixels.
     fn skip(&mut self, width: usize)
         requires enough { (ink : ℕ) → ink < 4 → width ≤ length (slice_index_or (inks_of self.old) ink []) }
         ensures left { inks_of self.new ≡ map (drop width) (inks_of self.old) }
@@ -112,7 +112,7 @@ impl<'a> Inks<'a> {
     }
 }
 
-// Lays the samples of four inks side by side.
+// Interleaves the samples of four inks.
 fn lay_pixels(cyan: &[u8], magenta: &[u8], yellow: &[u8], black: &[u8], into: &mut [u8])
     requires magenta { length magenta.now ≡ length cyan.now }
     requires yellow { length yellow.now ≡ length cyan.now }

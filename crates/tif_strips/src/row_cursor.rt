@@ -1,11 +1,11 @@
-// The rows of an image, one after the other.
+// The rows of an image in order.
 use crate::place::Place;
 use crate::strip_table::StripTable;
 use pr_base::row_bytes;
 use std::marker::Model;
 
-/// A cursor over the rows of an image. Contracts see the image's shape, the bytes of its file and the number
-/// of the next row.
+/// A cursor over the rows of an image. Contracts see the image's shape, the bytes of its file and the
+/// number of the next row.
 #[derive(Debug, Drop)]
 pub struct RowCursor<'a> {
     table: StripTable<'a>,
@@ -30,7 +30,7 @@ impl<'a> RowCursor<'a> {
     ghost use Rattle.tif_strips.specs.Strips.{IsStriped, image_part, image_row, part_length, row_length};
     ghost use Rattle.tif_strips.specs.Strips.{strip_fault};
 
-    /// Stands before the first row.
+    /// Starts before the first row.
     pub(crate) fn new(table: StripTable<'a>) -> RowCursor<'a>
         requires striped { IsStriped table.shape }
         requires passed { strip_fault table.shape table.bytes ≡ None }
@@ -40,15 +40,15 @@ impl<'a> RowCursor<'a> {
         RowCursor { table, place }
     }
 
-    /// The number of rows that are still to come.
+    /// Returns the number of rows still to come.
     pub fn left(&self) -> u32
         ensures { result ≡ self.now.shape.length - self.now.next }
     {
         self.table.shape().length - self.place.next
     }
 
-    /// Gives the next row: for four samples pixel by pixel cyan, magenta, yellow and black,
-    /// and for one as it is stored.
+    /// Reads the next row: with four samples cyan, magenta, yellow and black for each pixel in turn, with
+    /// one sample as stored.
     pub fn next_row(&mut self, into: &mut [u8])
         requires left { self.old.next < self.old.shape.length }
         requires room { length into.old ≡ row_length self.old.shape }
@@ -59,8 +59,8 @@ impl<'a> RowCursor<'a> {
         self.place.read(&self.table, 0, width, into);
     }
 
-    /// The bytes of a row that hold `count` columns from `first` on: four for each pixel of four samples, and
-    /// otherwise each that holds a bit of them.
+    /// Returns the number of bytes in a row that contain `count` columns from `first` on: four per pixel
+    /// with four samples, otherwise every byte that holds a bit of them.
     pub fn part_len(&self, first: u32, count: u32) -> usize
         requires { first + count ≤ self.now.shape.width }
         ensures len { result ≡ part_length self.now.shape first count }
@@ -73,7 +73,7 @@ impl<'a> RowCursor<'a> {
         }
     }
 
-    /// Gives the bytes of the next row that hold `count` columns from `first` on, as `next_row` gives them.
+    /// Reads the bytes of the next row that contain `count` columns from `first` on, as in `next_row`.
     pub fn next_part(&mut self, first: u32, count: u32, into: &mut [u8])
         requires left { self.old.next < self.old.shape.length }
         requires columns { first + count ≤ self.old.shape.width }
@@ -84,7 +84,8 @@ impl<'a> RowCursor<'a> {
         self.place.read(&self.table, first, count, into);
     }
 
-    /// Goes over the next `count` rows. Strips that end among them are passed over without a look at them.
+    /// Skips the next `count` rows. Strips that end among them are not read any further, except a last strip
+    /// with fewer than RowsPerStrip rows.
     pub fn skip_rows(&mut self, count: u32)
         requires left { self.old.next + count ≤ self.old.shape.length }
         ensures next { self.new ≡ record self.old { next = self.old.next + count } }

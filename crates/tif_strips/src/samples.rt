@@ -1,10 +1,10 @@
-// The samples of a strip, given from the front.
+// The samples of a strip, in order.
 ghost use Rattle.std.specs.Prelude.{◌≡◌, ◌≤◌, ◌↔◌, IsTrue, length, take, drop};
 ghost use Rattle.tif_strips.specs.Strips.{samples_in};
 
 use tif_packbits::Unpacker;
 
-/// The samples of a strip that are still to come, expanded as they are asked for where they are packed.
+/// The samples of a strip still to come. Packed samples are expanded on demand.
 #[derive(Debug, Drop)]
 pub(crate) enum Samples<'a> {
     Plain(&'a [u8]),
@@ -14,7 +14,7 @@ pub(crate) enum Samples<'a> {
 impl<'a> Samples<'a> {
     ghost use Rattle.tif_strips.specs.Planes.{ahead_of};
 
-    /// Stands before the samples in these bytes.
+    /// Starts at the first sample in these bytes.
     pub(crate) fn new(stored: &'a [u8], packed: bool) -> Samples<'a>
         ensures { ahead_of result ≡ samples_in packed stored.now }
     {
@@ -25,7 +25,7 @@ impl<'a> Samples<'a> {
         }
     }
 
-    /// Gives the next samples.
+    /// Fills `into` with the next samples.
     pub(crate) fn fill(&mut self, into: &mut [u8])
         requires { length into.old ≤ length (ahead_of self.old) }
         ensures given { into.new ≡ take (length into.old) (ahead_of self.old) }
@@ -45,7 +45,7 @@ impl<'a> Samples<'a> {
         }
     }
 
-    /// Goes over the next samples.
+    /// Skips the next `n` bytes of samples.
     pub(crate) fn skip(&mut self, n: usize)
         requires { n ≤ length (ahead_of self.old) }
         ensures { ahead_of self.new ≡ drop n (ahead_of self.old) }
@@ -61,7 +61,7 @@ impl<'a> Samples<'a> {
     }
 }
 
-/// There are `n` samples or more in these bytes.
+/// Returns whether these bytes hold at least `n` bytes of samples.
 pub(crate) fn reach(stored: &[u8], packed: bool, n: usize) -> bool
     ensures { IsTrue result ↔ (n ≤ length (samples_in packed stored.now)) }
 {

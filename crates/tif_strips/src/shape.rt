@@ -1,4 +1,4 @@
-// The shape of an image: what the fields of its directory say of its rows and strips.
+// The shape of an image: what the fields of its directory specify about its rows and strips.
 ghost use Rattle.std.specs.Prelude.{◌≡◌, ◌≤◌, ◌<◌};
 ghost use Rattle.tif_strips.specs.Strips.{IsStriped, needed_length, plane_part_length, plane_place};
 ghost use Rattle.tif_strips.specs.Strips.{plane_row_length, planes, strip_count, strip_rows};
@@ -6,8 +6,8 @@ ghost use Rattle.tif_strips.specs.Strips.{strips_per_plane};
 
 use pr_base::row_bytes;
 
-/// The shape of an image. Width and length are in pixels. A contone image has four samples of eight bits a
-/// pixel, a bilevel one has one sample of one bit.
+/// The shape of an image. Width and length are in pixels. A contone image has four 8-bit samples per pixel,
+/// a bilevel one has a single 1-bit sample.
 #[derive(Clone, Copy, Debug, PartialEq, Eq)]
 pub struct Shape {
     /// ImageWidth (256).
@@ -18,16 +18,16 @@ pub struct Shape {
     pub samples: u8,
     /// BitsPerSample (258).
     pub bits: u8,
-    /// PlanarConfiguration (284): 1 where a pixel's samples stand side by side, 2 where each has a plane.
+    /// PlanarConfiguration (284): 1 if a pixel's samples are side by side, 2 if each has its own plane.
     pub planar: u8,
-    /// Compression (259) is PackBits.
+    /// Whether Compression (259) is PackBits.
     pub packed: bool,
     /// RowsPerStrip (278).
     pub rows_per_strip: u32,
 }
 
 impl Shape {
-    // The number of planes.
+    // Returns the number of planes.
     #[tactic(auto, unfolding(crate::specs::Strips::planes))]
     pub(crate) fn planes(&self) -> u32
         ensures count { result ≡ planes self.now }
@@ -40,7 +40,7 @@ impl Shape {
         }
     }
 
-    // The bytes of a row in one plane.
+    // Returns the bytes of a row in one plane.
     #[tactic(auto, unfolding(crate::specs::Strips::plane_row_length))]
     pub(crate) fn plane_row_len(&self) -> usize
         requires { IsStriped self.now }
@@ -57,7 +57,7 @@ impl Shape {
         }
     }
 
-    // The byte of a row in one plane that holds column `x`, or the first of its four.
+    // Returns the byte of a row in one plane that contains column `x`, or the first of its four bytes.
     #[tactic(auto, unfolding(crate::specs::Strips::plane_place))]
     pub(crate) fn plane_place(&self, x: u32) -> usize
         requires { x ≤ 65535 }
@@ -72,7 +72,7 @@ impl Shape {
         }
     }
 
-    // The bytes of a row in one plane that hold `count` columns from `first` on.
+    // Returns the number of bytes of a row in one plane that contain `count` columns from `first` on.
     #[tactic(auto, unfolding(crate::specs::Strips::plane_part_length))]
     pub(crate) fn plane_part_len(&self, first: u32, count: u32) -> usize
         requires { count ≤ 65535 }
@@ -87,7 +87,7 @@ impl Shape {
         }
     }
 
-    // The number of strips of one plane.
+    // Returns the number of strips per plane.
     #[tactic(auto, unfolding(crate::specs::Strips::strips_per_plane))]
     pub(crate) fn strips_per_plane(&self) -> u32
         requires { IsStriped self.now }
@@ -98,7 +98,7 @@ impl Shape {
         self.length.div_ceil(self.rows_per_strip)
     }
 
-    // The number of strips.
+    // Returns the number of strips in all planes.
     #[tactic(auto, unfolding(crate::specs::Strips::strip_count))]
     pub(crate) fn strip_count(&self) -> u32
         requires { IsStriped self.now }
@@ -107,7 +107,7 @@ impl Shape {
         self.planes() * self.strips_per_plane()
     }
 
-    // The rows of strip `i` of a plane.
+    // Returns the number of rows in strip `i` of a plane.
     #[tactic(auto, using(crate::proofs::Shapes::rows_above), unfolding(crate::specs::Strips::strip_rows))]
     pub(crate) fn strip_rows(&self, i: u32) -> u32
         requires rows { IsStriped self.now }
@@ -119,7 +119,7 @@ impl Shape {
         self.rows_per_strip.min(self.length - above)
     }
 
-    // The bytes that a strip needs.
+    // Returns the bytes of samples that a strip needs.
     #[tactic(auto, unfolding(crate::specs::Strips::needed_length))]
     pub(crate) fn needed_len(&self, strip: u32) -> usize
         requires { IsStriped self.now }

@@ -1,4 +1,4 @@
-// One strip in the file: its place, its size there, and what it needs.
+// One strip of a file: its offset, its stored size, and the size of its samples.
 ghost use Rattle.std.specs.Prelude.{◌≡◌};
 ghost use Rattle.std.specs.Option.{option_copied};
 ghost use Rattle.std.specs.Result.{result_err};
@@ -8,21 +8,21 @@ use crate::samples::reach;
 use pr_base::{FaultKind, TagFault};
 use tif_dir::tag::STRIP_OFFSETS;
 
-/// A strip of the file.
+/// A strip of a file.
 #[derive(Clone, Copy, Debug, PartialEq, Eq)]
 pub(crate) struct Strip {
-    /// Where it begins, in bytes from the front of the file (StripOffsets).
+    /// The offset of the strip in bytes from the start of the file (StripOffsets).
     pub offset: u32,
-    /// Its bytes in the file (StripByteCounts).
+    /// The bytes stored in the file (StripByteCounts).
     pub size: u32,
-    /// The samples that it needs, in bytes.
+    /// The bytes of samples that the strip needs.
     pub needed: usize,
 }
 
 impl Strip {
     ghost use Rattle.tif_strips.specs.Strip.{bytes_at, fault_of};
 
-    /// The bytes of the strip, where they lie in the file.
+    /// Returns the stored bytes of the strip, or `None` if they extend past the end of the file.
     pub(crate) fn stored<'a>(&self, bytes: &'a [u8]) -> Option<&'a [u8]>
         ensures { option_copied result ≡ bytes_at bytes.now self.now }
     {
@@ -34,7 +34,7 @@ impl Strip {
         Some(&bytes[offset..offset + size])
     }
 
-    /// Tests that the strip lies in the file and has the samples that it needs.
+    /// Tests that the strip is within the file and has the samples that it needs.
     pub(crate) fn check(&self, bytes: &[u8], packed: bool) -> Result<(), TagFault>
         ensures { result_err result ≡ fault_of packed bytes.now self.now }
     {

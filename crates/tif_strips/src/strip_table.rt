@@ -1,4 +1,4 @@
-// Where the strips of an image stand in its file.
+// The locations of an image's strips in its file.
 ghost use Rattle.std.specs.Prelude.{◌≡◌, ◌<◌, ◌≤◌, IfOk, length, Ok, Some, None};
 ghost use Rattle.std.specs.Result.{result_err};
 ghost use Rattle.tif_dir.specs.Directory.{fault_at, field_of, number_at};
@@ -13,7 +13,7 @@ use std::marker::Model;
 use tif_dir::tag::{STRIP_BYTE_COUNTS, STRIP_OFFSETS};
 use tif_dir::{Dir, Field};
 
-/// The places of an image's strips. Contracts see the image; each strip has an offset and a size.
+/// The offsets and sizes of an image's strips, at least one of each per strip. Contracts see the image.
 #[derive(Debug, Drop)]
 pub(crate) struct StripTable<'a> {
     bytes: &'a [u8],
@@ -40,7 +40,7 @@ impl<'a> StripTable<'a> {
     ghost use Rattle.tif_strips.specs.Strip.{strip_of};
     ghost use Rattle.tif_strips.specs.Planes.{ahead_of, aheads_of, strip_samples};
 
-    /// Reads the two fields that say where the strips are.
+    /// Reads the two fields that locate the strips.
     pub(crate) fn read(
         bytes: &'a [u8],
         dir: &Dir<'a>,
@@ -62,7 +62,7 @@ impl<'a> StripTable<'a> {
         })
     }
 
-    /// The same table again, over the same bytes.
+    /// Returns a copy of the table, over the same bytes.
     pub(crate) fn copied(&self) -> StripTable<'a>
         ensures { result ≡ self.now }
     {
@@ -74,7 +74,7 @@ impl<'a> StripTable<'a> {
         }
     }
 
-    /// The shape of the image.
+    /// Returns the shape of the image.
     pub(crate) fn shape(&self) -> Shape
         ensures shape { result ≡ self.now.shape }
         ensures striped { IsStriped self.now.shape }
@@ -82,7 +82,7 @@ impl<'a> StripTable<'a> {
         self.shape
     }
 
-    /// Strip `i` of the image.
+    /// Returns strip `i` of the image.
     #[tactic(auto, using(crate::proofs::Faults::fields_known))]
     pub(crate) fn strip(&self, i: u32) -> Strip
         requires { i < strip_count self.now.shape }
@@ -95,7 +95,7 @@ impl<'a> StripTable<'a> {
         }
     }
 
-    /// Stands before the samples of strip `i` of each plane.
+    /// Starts at the first sample of strip `i` of each plane.
     pub(crate) fn begin(&self, i: u32) -> Planes<'a>
         requires passed { strip_fault self.now.shape self.now.bytes ≡ None }
         requires within { i < strips_per_plane self.now.shape }
@@ -113,7 +113,7 @@ impl<'a> StripTable<'a> {
         })
     }
 
-    // Stands before the samples of strip `i` of the image.
+    // Starts at the first sample of strip `i` of the image.
     fn samples(&self, i: u32) -> Samples<'a>
         requires passed { strip_fault self.now.shape self.now.bytes ≡ None }
         requires within { i < strip_count self.now.shape }
@@ -127,7 +127,7 @@ impl<'a> StripTable<'a> {
     }
 }
 
-// The values of a field that must be there, at least so many.
+// Returns the values of a required field, which must be at least `least` in number.
 #[tactic(auto, unfolding(tif_dir::specs::Directory::number_at))]
 fn values_of<'a>(dir: &Dir<'a>, tag: u16, least: u32) -> Result<Field<'a>, TagFault>
     requires { default_of tag 0 ≡ None }

@@ -1,4 +1,4 @@
-// The strips of an image, tested.
+// The tested strips of an image.
 ghost use Rattle.std.specs.Prelude.{◌≡◌, ◌↔◌, IsTrue, IfOk, None};
 ghost use Rattle.std.specs.Result.{result_err};
 ghost use Rattle.tif_strips.specs.Strips.{IsStriped, strip_fault};
@@ -10,8 +10,8 @@ use pr_base::TagFault;
 use std::marker::Model;
 use tif_dir::Dir;
 
-/// The strips of an image, all of which lie in the file and have the samples that they need. Contracts see
-/// the image's shape and the bytes of its file.
+/// The strips of an image, all of which are within the file and have the samples that they need. Contracts
+/// see the image's shape and the bytes of its file.
 #[derive(Debug, Drop)]
 pub struct Strips<'a> {
     table: StripTable<'a>,
@@ -29,8 +29,8 @@ impl<'a> Model for Strips<'a> {
 }
 
 impl<'a> Strips<'a> {
-    /// Tests StripOffsets, StripByteCounts and each strip in order. `dir` is the directory of `bytes`, and
-    /// `shape` has passed the tests of the other fields.
+    /// Tests StripOffsets, StripByteCounts and each strip, in this order. `dir` is the directory of
+    /// `bytes`, and `shape` has passed the tests of the other fields.
     pub fn check(bytes: &'a [u8], dir: &Dir<'a>, shape: Shape) -> Result<Strips<'a>, TagFault>
         requires dir { dir.now ≡ bytes.now }
         requires shape { IsStriped shape }
@@ -38,7 +38,7 @@ impl<'a> Strips<'a> {
         ensures fault { result_err result ≡ strip_fault shape bytes.now }
     {
         let table = StripTable::read(bytes, dir, shape)?;
-        // Strips that lie at one place and need as much, one after the other, are tested once.
+        // Consecutive strips with the same offset, size and needed bytes are tested once.
         let mut passed = None;
         for i in 0..shape.strip_count() {
             let strip = table.strip(i);
@@ -50,8 +50,8 @@ impl<'a> Strips<'a> {
         Ok(Strips { table })
     }
 
-    /// The strips of an image whose tests pass. None of them is looked at. `dir` is the directory of `bytes`,
-    /// and `shape` has passed the tests of the other fields.
+    /// Returns the strips of an image whose tests are known to pass, without reading any strip. `dir` is
+    /// the directory of `bytes`, and `shape` has passed the tests of the other fields.
     pub fn of_tested(bytes: &'a [u8], dir: &Dir<'a>, shape: Shape) -> Strips<'a>
         requires dir { dir.now ≡ bytes.now }
         requires shape { IsStriped shape }
@@ -64,7 +64,7 @@ impl<'a> Strips<'a> {
         Strips { table }
     }
 
-    /// The rows of the image, from the top.
+    /// Returns a cursor over the rows of the image, from top to bottom.
     pub fn rows(&self) -> RowCursor<'a>
         ensures { result ≡ record { shape = self.now.shape; bytes = self.now.bytes; next = 0 } }
     {
@@ -72,7 +72,7 @@ impl<'a> Strips<'a> {
     }
 }
 
-// The strip is that one again.
+// Returns whether the strip equals the last one that passed.
 fn is_again(passed: Option<Strip>, strip: Strip) -> bool
     ensures { IsTrue result ↔ (passed ≡ Some strip) }
 {

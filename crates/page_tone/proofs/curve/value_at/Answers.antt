@@ -1,4 +1,4 @@
--- The first point that isn't before the value ends the first pair that has the value between.
+-- The first point that is not below the value ends the first pair with the value between.
 use Rattle.std.proofs.Common.{◌∙◌, sym, arith}
 use Rattle.page_tone.proofs.CurveLemmas.{found_before}
 use Rattle.page_tone.proofs.curve.value_at.Goals as goal

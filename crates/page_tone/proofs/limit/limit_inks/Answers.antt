@@ -1,4 +1,4 @@
--- Each colour's part is its share; together they are no more than black leaves.
+-- Each colour's part is its share; together they are at most what black leaves.
 use Rattle.std.proofs.Common.{◌+◌, ◌∙◌, refl, slice_index_or, arith}
 use Rattle.page_tone.proofs.LimitLemmas.{limited-is, sum-shares}
 use Rattle.page_tone.proofs.limit.limit_inks.Goals as goal

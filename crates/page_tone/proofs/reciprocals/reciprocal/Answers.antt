@@ -1,4 +1,4 @@
--- The entry of a sum.
+-- The table holds the reciprocal of each sum.
 use Rattle.std.proofs.Common.{ap, ◌∙◌, get_or}
 use Rattle.page_tone.proofs.ReciprocalLemmas.{entry, table, table_at}
 use Rattle.page_tone.proofs.reciprocals.reciprocal.Goals as goal

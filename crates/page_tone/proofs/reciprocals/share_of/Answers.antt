@@ -1,4 +1,4 @@
--- The product is small, and a colour's part is the quotient.
+-- The product does not overflow, and a colour's part is the quotient.
 use Rattle.std.proofs.Common.{arith}
 use Rattle.page_tone.proofs.ReciprocalLemmas.{part-is, product-bound}
 use Rattle.page_tone.proofs.reciprocals.share_of.Goals as goal

@@ -1,4 +1,4 @@
--- One pixel more.
+-- Each iteration limits one more pixel.
 use Rattle.std.proofs.Common.{arith}
 use Rattle.page_tone.proofs.RowLemmas.{limited-more}
 use Rattle.page_tone.proofs.row.limit_pixels.Goals as goal

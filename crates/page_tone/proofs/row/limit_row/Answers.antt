@@ -1,4 +1,4 @@
--- One block more.
+-- Each iteration limits one more block.
 use Rattle.std.proofs.Common.{length, arith}
 use Rattle.page_tone.proofs.RowLemmas.{limited-block}
 use Rattle.page_tone.proofs.row.limit_row.Goals as goal

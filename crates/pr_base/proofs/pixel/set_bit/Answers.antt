@@ -1,4 +1,4 @@
--- A byte is written with one of its pixels changed.
+-- One byte is written, with one of its pixels changed.
 use Rattle.std.proofs.Common.{◌∙◌, ◌/◌, ◌%◌, sym, arith}
 use Rattle.pr_base.proofs.BitLemmas.{bit_at-set_here, bit_at-set_others, byte_bit-set_same, byte_bit-set_other, byte_bit-clear_same, byte_bit-clear_other}
 use Rattle.std.proofs.Common.{refl}

@@ -4,11 +4,11 @@ use Rattle.pr_ports.proofs.host_shelf.read_whole.Given as goal
 
 abbrev pub invariant-pieces : goal.invariant-pieces
 invariant-pieces g l = record {
-  -- what was read is within the limit
+  -- the bytes read are within the limit
   short : length l.bytes.items ≤ l.limit;
-  -- it is what the reader has given
+  -- they are what the reader has delivered
   came : Consumes (g.F.Read.remaining l.initial.file.stream) (g.F.Read.remaining l.file.stream) l.bytes.items;
-  -- no read failed
+  -- no read has failed
   count : l.file.faults ≡ l.initial.file.faults;
 }
 

@@ -1,4 +1,4 @@
--- Each turn draws one row more, if the pages have it.
+-- Each iteration draws one more row, if the pages have it.
 use Rattle.std.proofs.Common.{◌≡◌, ◌∙◌, ℕ, ◌+◌, ◌*◌, List, ap, sym, subst, arith}
 use Rattle.pr_base.specs.Ink.{slot_of}
 use Rattle.pr_base.specs.Row.{row_size}

@@ -3,7 +3,7 @@ use Rattle.pr_base.specs.declared.ink.Ink.{Ink}
 use Rattle.press_feed.specs.Blocks.{AreDiffused, IsSheet, sheet_at}
 use Rattle.press_feed.proofs.block_rows.diffuse_rows.Given as goal
 
--- the first rows are drawn, and those in other inks stand
+-- the first rows are drawn, and those in other inks are unchanged
 abbrev pub invariant-loop-k : goal.invariant-loop-k
 invariant-loop-k l = record {
   drawn : AreDiffused l.job l.group l.lone l.first l.k l.sheet;

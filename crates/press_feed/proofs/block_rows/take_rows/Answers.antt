@@ -1,4 +1,4 @@
--- Each turn takes and draws one row more, if the pages have it.
+-- Each iteration takes and draws one more row, if the pages have it.
 use Rattle.std.proofs.Common.{◌≡◌, ◌∙◌, ℕ, ◌+◌, List, ap, sym, subst, arith}
 use Rattle.press_feed.specs.Blocks.{AreTiled, AreWide, HoldRows, IsSheet}
 use Rattle.press_feed.specs.Pair.{AreApart}

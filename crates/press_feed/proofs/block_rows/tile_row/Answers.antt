@@ -1,4 +1,4 @@
--- Each turn draws it in one ink more.
+-- Each iteration draws the row in one more ink.
 use Rattle.std.proofs.Common.{◌∙◌, ◌+◌, ◌*◌, arith}
 use Rattle.pr_base.specs.Ink.{slot_of}
 use Rattle.pr_base.proofs.Inks.{slot_below}

@@ -1,4 +1,4 @@
--- Each turn looks at one ink more.
+-- Each iteration examines one more ink.
 use Rattle.std.proofs.Common.{◌∙◌, ◌+◌, sym, subst, arith}
 use Rattle.std.specs.Prelude.{Option}
 use Rattle.pr_base.specs.declared.ink.Ink.{Ink}

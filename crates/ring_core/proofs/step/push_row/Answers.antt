@@ -10,7 +10,7 @@ on_err (Err e) P p = p
 abbrev lists : List (Vec ℕ Global) → List (List ℕ)
 lists vs = map (λ v. v.items) vs
 
--- one list is exchanged for another
+-- one list is replaced by another
 put : (vs : List (Vec ℕ Global)) (i : ℕ) (v old : Vec ℕ Global) (xs : List ℕ) → i < length vs → old ≡ get_or vs i old → v.items ≡ old.items ++ xs → lists (set vs i v) ≡ set (lists vs) i (get_or (lists vs) i [] ++ xs)
 put vs i v old xs h at e =
     let there : get_or (lists vs) i [] ≡ old.items = get_or-map (λ (w : Vec ℕ Global). w.items) vs i old [] h ∙ ap (λ (w : Vec ℕ Global). w.items) (sym at) in

@@ -1,4 +1,4 @@
--- The mask of the compare is a byte that has a bit for each pixel.
+-- The mask of the comparison is a byte with a bit for each pixel.
 use Rattle.std.proofs.Common.{arith}
 use Rattle.scr_diffuse.proofs.ByteLemmas.{mask-fits, bit-mask}
 use Rattle.scr_diffuse.proofs.bits.byte_of.Goals as goal

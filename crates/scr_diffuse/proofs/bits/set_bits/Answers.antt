@@ -1,4 +1,4 @@
--- Each turn sets one pixel more.
+-- Each iteration sets one more pixel.
 use Rattle.std.proofs.Common.{◌∙◌, ap, pos, w16, FitsSigned, rules}
 use Rattle.std.specs.Int.Signed.{le_z}
 use Rattle.std.proofs.lemmas.Int.{to_z-of_z}

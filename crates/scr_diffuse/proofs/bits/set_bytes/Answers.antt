@@ -1,4 +1,4 @@
--- The pixels of one byte more.
+-- Each iteration sets the pixels of one more byte.
 use Rattle.std.proofs.Common.{◌≡◌, ℕ, ◌+◌, ◌*◌, ◌∙◌, length, ap, subst, arith, pos}
 use Rattle.std.proofs.lemmas.List.Edits.{get_or-between}
 use Rattle.pr_base.specs.Bits.{SetsBits}

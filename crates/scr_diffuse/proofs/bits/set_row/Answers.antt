@@ -1,4 +1,4 @@
--- The three spans join.
+-- The three spans together cover the row.
 use Rattle.std.proofs.Common.{◌+◌, ◌-◌, ◌*◌, ◌/◌, length, arith}
 use Rattle.scr_diffuse.proofs.SpanLemmas.{AreWords-between, spans}
 use Rattle.scr_diffuse.proofs.bits.set_row.Goals as goal

@@ -1,4 +1,4 @@
--- Each step does one column more of each row.
+-- Each step makes one more column of each row.
 use Rattle.std.proofs.Common.{◌≡◌, ◌∙◌, ℕ, ◌+◌, ◌-◌, ◌*◌, ◌<◌, ◌≤◌, ℤ, pos, List, [], ◌∷◌, length, map, get_or, to_z, of_z, FitsSigned, w16, slice_set, refl, ap, sym, subst, inl, inr, arith, get_or-set_same, get_or-set_other}
 use Rattle.std.proofs.lemmas.Bool.{cases_eq}
 use Rattle.std.proofs.lemmas.Int.{to_z-of_z}
@@ -57,7 +57,7 @@ whole_sums-sums-requires-clause-values c =
 pub whole_sums-sums-requires-clause-left : goal.whole_sums-sums-requires-clause-left
 whole_sums-sums-requires-clause-left c = record { eight = bits_length c.loop-step.left c.loop-step.invariant.left_long; each = c.loop-step.invariant.left_small }
 
--- the errors above to the right: those of the row above, one step ago
+-- the errors above and to the right: those that the row above made one step ago
 right_is : (old now left right : List ℤ) (rows : List (List ℕ)) (step : ℕ) → length right ≡ 8 → (FitsSigned w16 (number_at now (step + 2)) → number_at right 0 ≡ number_at now (step + 2)) → ((k : ℕ) → k < 7 → FitsSigned w16 (number_at left k) → number_at right (k + 1) ≡ number_at left k)
     → number_at now (step + 2) ≡ number_at old (step + 2) → ((k : ℕ) → k < 8 → number_at left k ≡ block_left old rows (k + 1) (step - 2 * k)) → IsError (number_at now (step + 2)) → ((k : ℕ) → k < 8 → IsError (number_at left k))
     → (k : ℕ) → k < 8 → (number_at (kept right) k ≡ block_left old rows k (step + 1 + 1 - 2 * k)) × IsError (block_left old rows k (step + 1 + 1 - 2 * k))

@@ -7,8 +7,8 @@ use Rattle.scr_diffuse.specs.Passes.{number_at}
 use Rattle.scr_diffuse.proofs.BlockLemmas.{IsMade}
 use Rattle.scr_diffuse.proofs.block.diffuse_block.Given as goal
 
--- each lane holds the errors beside and above the pixel that its row comes to, and the list those of the last
--- row, as far as it came
+-- each lane holds the errors beside and above the next pixel of its row, and the list holds those of the last
+-- row as far as it has been made
 abbrev pub invariant-loop-step : goal.invariant-loop-step
 invariant-loop-step l = record {
   left_long : length l.left ≡ 8;

@@ -1,4 +1,4 @@
--- The lanes are moved on by one.
+-- The lanes move up by one.
 use Rattle.std.proofs.Common.{◌≡◌, ◌∙◌, ◌+◌, arith}
 use Rattle.scr_diffuse.specs.Passes.{number_at}
 use Rattle.scr_diffuse.proofs.LaneLemmas.{kept, kept_at, kept_is}

@@ -1,4 +1,4 @@
--- Where each row has the column of the step, the errors are kept; else each is looked at.
+-- Where every row has the column of the step, all errors are kept; otherwise each is tested.
 use Rattle.std.proofs.Common.{◌≡◌, ◌∙◌, ℤ, pos, FitsSigned, slice_set, to_z, of_z, w16, refl, ap, sym, inl, inr, arith}
 use Rattle.std.proofs.lemmas.Bool.{cases_eq}
 use Rattle.std.proofs.lemmas.Int.{ints, to_z-of_z}

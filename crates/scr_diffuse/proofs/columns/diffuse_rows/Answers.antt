@@ -1,4 +1,4 @@
--- Each turn does one column more.
+-- Each iteration makes one more column.
 use Rattle.std.proofs.Common.{◌≡◌, ◌∙◌, ℕ, ◌+◌, ◌-◌, ◌*◌, ◌<◌, ◌≤◌, pos, List, length, map, get_or, to_z, w16, refl, ap, sym, subst, inl, inr, arith, get_or-set_same, get_or-set_other}
 use Rattle.std.proofs.lemmas.Bool.{cases_eq, cases_lt}
 use Rattle.scr_diffuse.specs.Diffusers.{bit_of, lane_at, lane_of, row_in}

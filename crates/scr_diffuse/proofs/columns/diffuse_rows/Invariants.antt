@@ -5,7 +5,7 @@ use Rattle.scr_diffuse.specs.Diffusion.{IsError, error_left, prints, v_below}
 use Rattle.scr_diffuse.specs.Passes.{errors_in, number_at}
 use Rattle.scr_diffuse.proofs.columns.diffuse_rows.Given as goal
 
--- the columns so far are done, and those from here on stand as they were
+-- the columns so far are made, and the others are unchanged
 abbrev pub invariant-loop-x : goal.invariant-loop-x
 invariant-loop-x l = record {
   left_long : length l.left ≡ 8;

@@ -1,4 +1,4 @@
--- The sum of all parts.
+-- The parts add up to the whole sum.
 use Rattle.std.proofs.Common.{◌≡◌, ◌∙◌, ◌+ℤ◌, ◌*ℤ◌, ◌≤ℤ◌, ℤ, refl, arith, pos}
 use Rattle.std.proofs.lemmas.Int.{ints}
 use Rattle.scr_diffuse.specs.Diffusion.{IsError}

@@ -1,4 +1,4 @@
--- Past the end stands no number, which reads as 0.
+-- Reading past the end gives 0.
 use Rattle.std.proofs.Common.{[], length, ap, inl, inr, arith}
 use Rattle.std.proofs.lemmas.Bool.{cases_lt}
 use Rattle.std.proofs.lemmas.List.{get_or_past}

@@ -1,4 +1,4 @@
--- The mask of the compare is a byte that has a bit for each pixel.
+-- The mask of the comparison is a byte with a bit for each pixel.
 use Rattle.scr_diffuse.proofs.DotLemmas.{dot_bit, dots-fit}
 use Rattle.scr_diffuse.proofs.dots.byte_of.Goals as goal
 

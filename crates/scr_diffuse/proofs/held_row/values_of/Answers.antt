@@ -1,4 +1,4 @@
--- The rows one by one.
+-- The eight rows, one by one.
 use Rattle.std.proofs.Common.{◌≡◌, ◌∙◌, ℕ, List, [], length, arith}
 use Rattle.std.proofs.lemmas.List.{get_or_default}
 use Rattle.scr_diffuse.proofs.BlockLemmas.{eight_are}

@@ -1,4 +1,4 @@
--- The values are loaded as they stand, and made wider.
+-- The values are loaded unchanged, and widened.
 use Rattle.std.proofs.Common.{◌≡◌, ◌∙◌, ◌+◌, ◌-◌, ◌*◌, ◌≤◌, ◌<◌, ℕ, List, pos, to_z, w16, w8, get_or, length, map, take, drop, ap, arith}
 use Rattle.std.proofs.lemmas.Int.{ints}
 use Rattle.std.proofs.lemmas.List.{get_or-drop, get_or-map, get_or-take, length-map}

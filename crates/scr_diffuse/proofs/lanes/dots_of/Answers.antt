@@ -1,4 +1,4 @@
--- The mask of the compare is a byte that has a bit for each lane.
+-- The mask of the comparison is a byte with a bit for each lane.
 use Rattle.scr_diffuse.proofs.LaneLemmas.{byte_bits, byte_fits}
 use Rattle.scr_diffuse.proofs.lanes.dots_of.Goals as goal
 

@@ -1,4 +1,4 @@
--- Each lane is shifted, and where a pixel prints 255 is taken away.
+-- Each lane is shifted, and where its pixel prints 255 is subtracted.
 use Rattle.std.proofs.Common.{◌∙◌}
 use Rattle.scr_diffuse.proofs.LaneLemmas.{chosen_length, lessened_at, made_at, made_length, shares_length}
 use Rattle.scr_diffuse.proofs.lanes.errors_of.Goals as goal

@@ -1,4 +1,4 @@
--- Numbers are kept as they are put into lanes.
+-- Putting numbers into lanes keeps them.
 use Rattle.std.proofs.Common.{get_or, []}
 use Rattle.scr_diffuse.proofs.LaneLemmas.{kept_at}
 use Rattle.scr_diffuse.proofs.lanes.load.Goals as goal

@@ -1,11 +1,11 @@
--- Each lane holds what the one before it held.
+-- Each lane holds the number of the lane before it.
 use Rattle.std.proofs.Common.{◌≡◌, ◌∙◌, ℕ, ◌+◌, ◌<◌, ℤ, FitsSigned, List, [], ◌∷◌, map, get_or, refl, ap, to_z, of_z, w16, arith}
 use Rattle.std.proofs.lemmas.Int.{to_z-of_z}
 use Rattle.scr_diffuse.specs.Passes.{number_at}
 use Rattle.scr_diffuse.proofs.LaneLemmas.{bits_at, each_of_eight}
 use Rattle.scr_diffuse.proofs.lanes.moved_on.Goals as goal
 
--- lane j of a vector, as it is taken out of it
+-- lane j of a vector, as it is taken out
 abbrev lane : List ℤ → ℕ → ℤ
 lane a j = to_z w16 (get_or (map (of_z w16) a) j 0)
 

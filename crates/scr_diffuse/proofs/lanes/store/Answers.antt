@@ -1,4 +1,4 @@
--- Numbers are kept as they are taken out of lanes.
+-- Taking numbers out of lanes keeps them.
 use Rattle.std.proofs.Common.{◌∙◌, ap, [], to_z, of_z, w16, map, get_or-set_same}
 use Rattle.scr_diffuse.specs.Passes.{number_at}
 use Rattle.scr_diffuse.proofs.LaneLemmas.{kept_at}

@@ -1,4 +1,4 @@
--- A step adds a row to each page; a row waits for the rows up to it alone.
+-- A step appends a row to each page; a row depends only on the rows up to it.
 use Rattle.std.proofs.Common.{ℕ, ◌+◌, ◌≡◌, List, [], ◌∷◌, ◌++◌, length, take, get_or, ap, sym, ◌∙◌, arith}
 use Rattle.std.proofs.lemmas.List.{get_or-take, map-append}
 use Rattle.std.proofs.Math.Seq.{take-append-add}

@@ -1,4 +1,4 @@
--- The rows that are waited for are the same.
+-- The rows that the pixels depend on are the same.
 use Rattle.std.proofs.Common.{◌+◌, [], get_or, ap, sym, ◌∙◌}
 use Rattle.std.proofs.lemmas.List.{get_or-take}
 use Rattle.scr_diffuse.specs.Diffusion.{prints}

@@ -1,4 +1,4 @@
--- One sum more; the errors that it reads stand as they were.
+-- Each iteration makes one more sum; the errors that it reads are unchanged.
 use Rattle.std.proofs.Common.{◌≡◌, ◌+◌, ◌∙◌, to_z, of_z, w16, arith, below_more}
 use Rattle.std.proofs.lemmas.Int.{ints}
 use Rattle.scr_diffuse.specs.Diffusion.{IsError}

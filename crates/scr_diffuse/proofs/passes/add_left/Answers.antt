@@ -1,4 +1,4 @@
--- One number more, and its error.
+-- Each iteration makes one more number, from the error of the one before.
 use Rattle.std.proofs.Common.{◌≡◌, ◌∙◌, ℤ, pos, ◌+ℤ◌, ◌*ℤ◌, to_z, of_z, w16, w32, FitsSigned, slice_set, ap, sym, arith, rules, below_more}
 use Rattle.std.proofs.lemmas.Int.{ints, to_z-of_z}
 use Rattle.scr_diffuse.specs.Diffusion.{error_of}

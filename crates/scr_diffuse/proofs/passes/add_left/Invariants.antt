@@ -3,7 +3,8 @@ use Rattle.scr_diffuse.specs.Diffusion.{error_of, left_of}
 use Rattle.scr_diffuse.specs.Passes.{IsSum, floor_16, number_at, v_from}
 use Rattle.scr_diffuse.proofs.passes.add_left.Given as goal
 
--- the numbers so far stand, and behind them the sums as they were; the error of the last is that of the whole sum
+-- the list holds the numbers made so far, followed by the unchanged sums; the error of the last number is
+-- that of the whole sum
 abbrev pub invariant-loop-sum : goal.invariant-loop-sum
 invariant-loop-sum l =
     ((k : ℕ) → k < l.sum-index → number_at l.sums k ≡ v_from l.initial.sums l.sums k)

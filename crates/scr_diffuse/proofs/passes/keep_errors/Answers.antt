@@ -1,4 +1,4 @@
--- One error more.
+-- Each iteration makes one more error.
 use Rattle.std.proofs.Common.{◌≡◌, ◌∙◌, ℤ, to_z, of_z, w16, FitsSigned, ap, arith, rules}
 use Rattle.std.proofs.lemmas.Int.{ints, to_z-of_z}
 use Rattle.scr_diffuse.specs.Diffusion.{error_of}

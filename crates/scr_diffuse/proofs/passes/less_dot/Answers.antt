@@ -1,4 +1,4 @@
--- The error of the pixel before, told by its whole sum.
+-- The error of the pixel before follows from its whole sum.
 use Rattle.std.proofs.Common.{◌≡◌, ◌∙◌, ℤ, pos, ◌+ℤ◌, ◌*ℤ◌, to_z, of_z, w32, true, false, ap, sym, arith}
 use Rattle.std.specs.Int.Signed.{le_z}
 use Rattle.std.proofs.lemmas.Int.{ints, to_z-of_z}

@@ -1,4 +1,4 @@
--- The dot is taken away.
+-- The dot is subtracted.
 use Rattle.std.proofs.Common.{◌≡◌, ◌∙◌, ℤ, pos, ◌+ℤ◌, ◌*ℤ◌, to_z, of_z, w32, ap, arith}
 use Rattle.std.proofs.lemmas.Int.{ints, to_z-of_z}
 use Rattle.scr_diffuse.specs.Diffusion.{error_of}

@@ -1,4 +1,4 @@
--- The row's numbers and errors are those that are defined.
+-- The row's numbers and errors are the defined ones.
 use Rattle.std.proofs.Common.{◌≡◌, ℕ, ◌+◌, ◌<◌, ℤ, pos, List, ◌++◌, length, take, drop, ap, subst, ◌∙◌, arith}
 use Rattle.std.proofs.lemmas.List.{get_or-take, length-append, length-drop, length-take}
 use Rattle.pr_base.specs.Bits.{SetsBits}

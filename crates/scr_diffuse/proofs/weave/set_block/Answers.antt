@@ -1,4 +1,4 @@
--- Each turn stores one vector more.
+-- Each iteration stores one more vector.
 use Rattle.std.proofs.Common.{◌≡◌, ◌∙◌, ◌+◌, ◌-◌, ◌*◌, ◌≤◌, length, take, drop, get_or, [], ap, sym, arith}
 use Rattle.std.proofs.lemmas.List.{length-drop, length-take}
 use Rattle.std.proofs.lemmas.Simd.{put_chunk_whole}

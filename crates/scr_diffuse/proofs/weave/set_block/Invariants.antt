@@ -3,7 +3,7 @@ use Rattle.std.specs.Prelude.{slice_index}
 use Rattle.scr_diffuse.specs.Weave.{HasColumns, woven_at}
 use Rattle.scr_diffuse.proofs.weave.set_block.Given as goal
 
--- the columns before the block stand, and what the first vectors hold
+-- the columns before the block are written, and so are the first vectors of the block
 abbrev pub invariant-loop-k : goal.invariant-loop-k
 invariant-loop-k l = record {
   before : HasColumns l.rows l.lag l.first l.columns;

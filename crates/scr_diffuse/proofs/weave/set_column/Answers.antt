@@ -1,4 +1,4 @@
--- Each turn puts one value more.
+-- Each iteration writes one more value.
 use Rattle.std.proofs.Common.{◌≡◌, ◌∙◌, ◌+◌, ◌*◌, get_or, slice_set, get_or-set_same, get_or-set_other, inl, inr, arith}
 use Rattle.std.proofs.lemmas.Bool.{cases_eq}
 use Rattle.scr_diffuse.specs.Diffusers.{row_in}

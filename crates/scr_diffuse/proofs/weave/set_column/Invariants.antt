@@ -4,7 +4,7 @@ use Rattle.scr_diffuse.specs.Diffusers.{row_in}
 use Rattle.scr_diffuse.specs.Weave.{HasColumns, value_behind}
 use Rattle.scr_diffuse.proofs.weave.set_column.Given as goal
 
--- the columns before this one stand, and the first values of this one
+-- the columns before this one are written, and so are the first values of this one
 abbrev pub invariant-loop-k : goal.invariant-loop-k
 invariant-loop-k l = record {
   before : HasColumns l.rows l.lag l.x l.columns;

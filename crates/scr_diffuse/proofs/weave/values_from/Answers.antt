@@ -1,4 +1,4 @@
--- Values are loaded as they stand.
+-- The values are loaded unchanged.
 use Rattle.std.proofs.Common.{◌≡◌, ◌∙◌, ◌+◌, ◌-◌, List, ℕ, [], get_or, take, drop, ap, sym, arith}
 use Rattle.std.proofs.lemmas.List.{get_or-drop, get_or-map, get_or-take}
 use Rattle.std.proofs.lemmas.Simd.{get_or-chunk}

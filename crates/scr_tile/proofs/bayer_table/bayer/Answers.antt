@@ -1,4 +1,4 @@
--- Each turn copies one row of the table, and the table is what the recursion gives.
+-- Each iteration copies one row of the table, and the table equals the recursion.
 use Rattle.std.proofs.Common.{◌∙◌, arith, below_more, get_or, get_or-set_other, get_or-set_same, length-set, [], ap}
 use Rattle.scr_tile.proofs.TableLemmas.{table_at}
 use Rattle.scr_tile.proofs.bayer_table.bayer.Goals as goal

@@ -2,7 +2,7 @@ use Rattle.std.proofs.Common.{◌≡◌, ℕ, ◌<◌, [], length, take, slice_i
 use Rattle.scr_tile.specs.declared.bayer_table.TheConstants.{THRESHOLDS}
 use Rattle.scr_tile.proofs.bayer_table.bayer.Given as goal
 
--- the rows so far are the beginnings of the rows of the table
+-- the rows copied so far are the first N numbers of the table's rows
 abbrev pub invariant-loop-y : goal.invariant-loop-y
 invariant-loop-y g l =
     (length l.row-items ≡ g.row.N)

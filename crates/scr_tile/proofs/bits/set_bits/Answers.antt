@@ -1,4 +1,4 @@
--- Each turn sets one pixel more.
+-- Each iteration sets one more pixel.
 use Rattle.pr_base.proofs.BitLemmas.{SetsBits_none, SetsBits_more}
 use Rattle.scr_tile.proofs.bits.set_bits.Goals as goal
 

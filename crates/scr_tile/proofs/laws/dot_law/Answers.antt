@@ -1,4 +1,4 @@
--- Both laws hold for every power of two, of which the sides that are built are four.
+-- Both laws hold for every power of two, so for the four sides that are built.
 use Rattle.scr_tile.proofs.DotLemmas.{doubled, indexes_once, prints_below}
 use Rattle.scr_tile.proofs.laws.dot_law.Goals as goal
 

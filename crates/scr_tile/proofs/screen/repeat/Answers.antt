@@ -1,4 +1,4 @@
--- The next column, and one threshold more.
+-- Each iteration writes one more threshold and moves to the next column.
 use Rattle.std.proofs.Common.{◌≡◌, ◌+◌, ◌%◌, ◌<◌, ◌∙◌, length, ap, sym, arith, get_or, below_more, get_or-set_other, get_or-set_same}
 use Rattle.std.proofs.lemmas.Nat.{mod_below}
 use Rattle.scr_tile.proofs.RowLemmas.{column_wraps, column_next}

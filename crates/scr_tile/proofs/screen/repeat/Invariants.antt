@@ -1,7 +1,7 @@
 use Rattle.std.proofs.Common.{◌≡◌, ℕ, ◌<◌, ◌%◌, length, slice_index}
 use Rattle.scr_tile.proofs.screen.repeat.Given as goal
 
--- the row has been written out as far as the index
+-- the thresholds before the index are the repeated row
 abbrev pub invariant-loop-threshold : goal.invariant-loop-threshold
 invariant-loop-threshold l =
     (l.column ≡ l.threshold-index % length l.row)

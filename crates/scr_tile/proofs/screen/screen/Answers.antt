@@ -1,4 +1,4 @@
--- The three spans join.
+-- The three spans together cover the row.
 use Rattle.std.proofs.Common.{◌+◌, ◌-◌, ◌*◌, ◌/◌, length, arith}
 use Rattle.scr_tile.proofs.SpanLemmas.{screened}
 use Rattle.scr_tile.proofs.screen.screen.Goals as goal

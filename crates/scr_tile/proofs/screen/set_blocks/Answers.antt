@@ -1,4 +1,4 @@
--- The column of the next block, and the pixels of one block more.
+-- Each iteration writes the pixels of one more block and moves to the column of the next.
 use Rattle.std.proofs.Common.{◌≡◌, ℕ, ◌+◌, ◌*◌, ◌%◌, ◌<◌, ◌∙◌, length, ap, arith, get_or}
 use Rattle.std.proofs.lemmas.Nat.{mod_below}
 use Rattle.pr_base.specs.Bits.{byte_bit}

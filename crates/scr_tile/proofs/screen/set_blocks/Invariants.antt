@@ -3,7 +3,7 @@ use Rattle.pr_base.specs.Bits.{SetsBits}
 use Rattle.scr_tile.specs.Tile.{tile_bit}
 use Rattle.scr_tile.proofs.screen.set_blocks.Given as goal
 
--- the pixels of the blocks so far are set, and the column is that of the next
+-- the pixels of the blocks so far are set, and `column` is the tile column of the next block
 abbrev pub invariant-loop-k : goal.invariant-loop-k
 invariant-loop-k l =
     (l.column ≡ (l.start + 64 * l.k) % length l.row)

@@ -3,7 +3,7 @@ use Rattle.std.proofs.lemmas.List.{append-nil, drop_all, length-set, length-drop
 use borrow.Rule.Slice.PartMut.{put_mid}
 use Rattle.tif_packbits.proofs.pack.write_literal.Goals as goal
 
--- a header, and the bytes behind it
+-- a header followed by the bytes
 behind : (byte header m n : ℕ) (into from part : List ℕ) → m ≡ length into → part ≡ from ++ drop n (take m into)
     → put_mid 1 m (header ∷ into) part ≡ (header ∷ from) ++ drop (suc n) (byte ∷ into)
 behind byte header m n into from part whole is =

@@ -1,4 +1,4 @@
--- What each kind of packet gives, where it stands at the front of the packed bytes.
+-- The expansion of each kind of packet at the start of the packed bytes.
 use Rattle.std.proofs.Common.{◌≡◌, ◌<◌, ◌++◌, length, take, drop, ℕ, ◌+◌, ◌-◌, ◌≤◌, List, [], ◌∷◌, get_or, replicate, arith, refl, sym, ap, ◌∙◌}
 use Rattle.std.proofs.lemmas.List.{take_rest}
 use Rattle.tif_packbits.specs.Packbits.{expansion}

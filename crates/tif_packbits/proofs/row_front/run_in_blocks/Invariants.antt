@@ -1,7 +1,7 @@
 use Rattle.std.proofs.Common.{◌-◌, ◌≡◌, ◌<◌, ◌≤◌, ℕ, get_or, length}
 use Rattle.tif_packbits.proofs.row_front.run_in_blocks.Given as goal
 
--- the bytes so far are those of a run
+-- the bytes so far belong to a run
 abbrev pub invariant-loop-n : goal.invariant-loop-n
 invariant-loop-n l = (1 ≤ l.n) × (l.n ≤ length l.row) × ((k : ℕ) → k < l.n → get_or l.row k 0 ≡ get_or l.row 0 0)
 

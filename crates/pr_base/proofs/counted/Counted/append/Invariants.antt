@@ -4,9 +4,9 @@ use Rattle.pr_base.proofs.counted.Counted.append.Given as goal
 
 abbrev pub invariant-loop-rest : goal.invariant-loop-rest
 invariant-loop-rest g l = record {
-  -- the file took all but the rest
+  -- the writer has accepted everything but the rest
   passed : HasPassed (g.W.Write.contents l.initial.self.stream) (g.W.Write.contents l.self.stream) l.bytes l.rest;
-  -- no write failed
+  -- no write has failed
   count : l.self.faults ≡ l.initial.self.faults;
 }
 

@@ -5,7 +5,7 @@ use Rattle.pr_rack.proofs.OneSlot.{begun_set, others_begun, others_stand}
 use Rattle.pr_rack.proofs.mem_rack.MemRackRack.finish.Goals as goal
 use Rattle.pr_rack.proofs.mem_rack.MemRackRack.finish.Goals.{After-take-path}
 
--- the slot is empty since its plate was taken out
+-- the slot is empty after its plate was taken out
 emptied : (c : After-take-path) → ◌≡◌ {A = Slots} c.take-path.new.self (slice_set c.args.self.now.slots c.args.slot None)
 emptied c =
     let same : ◌≡◌ {A = Slots} c.self.inside.slots c.args.self.now.slots =

@@ -12,7 +12,7 @@ use Rattle.pr_rack.proofs.mem_rack.MemRackRack.row.Goals.{After-take-path, After
 same_slots : (c : After-take-path) → ◌≡◌ {A = Slots} c.self.inside.slots c.args.self.now.slots
 same_slots c = ap {A = MemState} {B = Slots} (λ r. r.slots) (c.self.view_is ∙ c.fails.ensures.counted)
 
--- the slot is empty since its plate was taken out
+-- the slot is empty after its plate was taken out
 emptied : (c : After-take-path) → ◌≡◌ {A = Slots} c.take-path.new.self (slice_set c.args.self.now.slots c.args.slot None)
 emptied c = c.take-path.ensures.after ∙ ap {A = Slots} {B = Slots} (λ slots. slice_set slots c.args.slot None) (same_slots c)
 
@@ -28,11 +28,11 @@ returns-then-is_err-2-clause-others_begun c = others_begun _ _ c.args.slot None 
 pub returns-then-is_err-2-clause-others_stand : goal.returns-then-is_err-2-clause-others_stand
 returns-then-is_err-2-clause-others_stand c = others_stand _ _ c.args.slot None (emptied (goal.at.returns-then-is_err-2-clause-others_stand c).After-take-path)
 
--- the row's packed bytes stand behind the plate
+-- the row's packed bytes follow those of the plate
 more_bytes : (c : After-put) → c.extend_from_slice.new.self.items ≡ c.take-path.result.1.items ++ packed_in c.args.held.now.bytes
 more_bytes c = grind (arith, common_steps)
 
--- the plate that stood in the slot
+-- the plate that was in the slot
 stood : (c : After-take-path) → ◌≡◌ {A = Option Plate} (slice_index_or c.args.self.now.slots c.args.slot None) (Some (plate_of c.take-path.result))
 stood c = ap {A = Slots} {B = Option Plate} (λ slots. slice_index_or slots c.args.slot None) (sym (same_slots c)) ∙ c.take-path.ensures.plate
 

@@ -1,4 +1,4 @@
--- The rows that were taken stand below the block, and its rows in the sheet.
+-- The rows taken are those before the block's end, and the block's rows are in the sheet.
 use Rattle.std.proofs.Common.{◌∙◌, ◌+◌, ◌*◌, ap, subst}
 use Rattle.press_job.specs.Job.{JobData}
 use Rattle.press_feed.specs.Ahead.{BlocksData}

@@ -1,4 +1,4 @@
--- The block that stands in the sheet has the row.
+-- The block in the sheet has the row.
 use Rattle.std.proofs.Common.{◌∙◌, ◌<◌, List, ℕ, ap, sym, subst}
 use Rattle.press_feed.specs.Ahead.{BlocksData}
 use Rattle.press_feed.specs.Plates.{DrawsPages}

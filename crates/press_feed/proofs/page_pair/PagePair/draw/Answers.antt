@@ -1,4 +1,4 @@
--- Each side draws the row that was shown and diffused.
+-- Each side draws the current row, which was diffused.
 use Rattle.std.proofs.Common.{◌≡◌, ◌+◌, ◌<◌, ℕ, ap, sym, subst, ◌∙◌, arith}
 use Rattle.press_feed.specs.Pair.{PairData}
 use Rattle.press_feed.specs.Plates.{ShowsPages, page_row}

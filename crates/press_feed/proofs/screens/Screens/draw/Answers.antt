@@ -1,4 +1,4 @@
--- The screener of the ink decides.
+-- The screener of the ink determines the bits.
 use Rattle.std.proofs.Common.{◌∙◌, ap, sym, subst, length}
 use Rattle.pr_base.specs.Bits.{SetsBits}
 use Rattle.pr_base.specs.Ink.{slot_of}

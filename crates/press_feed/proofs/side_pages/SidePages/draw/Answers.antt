@@ -1,4 +1,4 @@
--- The screener and the diffusers of the ink draw the row that was shown last.
+-- The screener and the diffusers of the ink draw the row made last.
 use Rattle.std.proofs.Common.{◌≡◌, ◌≢◌, ◌∙◌, true, ◌+◌, ◌*◌, ◌<◌, ◌≤◌, length, ap, sym, subst, arith}
 use Rattle.std.specs.Prelude.{None}
 use Rattle.std.specs.Option.{ForSome}

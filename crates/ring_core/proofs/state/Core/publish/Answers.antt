@@ -32,7 +32,7 @@ returns-then-not-index c =
     let no : p c.loop-reader.reader ≡ false = not_ready s.known s.filled c.loop-reader.reader c.index.result.now c.index-then-is_some.result.now known filled c.index.ensures c.index-then-is_some.ensures some c.if-not-index.true in
     (and_right (nat_lt s.head s.total) (each_below (readers s) p) (each_below_no (readers s) p c.loop-reader.reader below no), refl)
 
--- the flags of a Vec, once all were made false
+-- the flags of a Vec after all were set to false
 cleared : (v : Vec Bool Global) (ws old : List Bool) → length old ≡ vec_len v → old ≡ v.items → ws ≡ map (λ (b : Bool). false) old → (with_items v ws).items ≡ map (λ (b : Bool). false) v.items
 cleared v ws old n is e = with_items_is v ws (ap length e ∙ (length-map old (λ (b : Bool). false) ∙ n)) ∙ (e ∙ ap (λ xs. map (λ (b : Bool). false) xs) is)
 

@@ -1,4 +1,4 @@
--- The errors of the last row stand below it, and the pixels are those that are defined.
+-- The list holds the errors of the last row, and the pixels are the defined ones.
 use Rattle.std.proofs.Common.{◌≡◌, ◌∙◌, ℕ, ◌+◌, ℤ, List, [], ◌++◌, length, get_or, ap, subst, sym, arith}
 use Rattle.scr_diffuse.specs.Block.{HoldsBlock, block_left, block_v}
 use Rattle.scr_diffuse.specs.Diffuser.{joined}

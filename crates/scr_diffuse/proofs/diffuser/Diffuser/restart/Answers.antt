@@ -1,4 +1,4 @@
--- The errors are 0, and no row was handed in.
+-- The errors are 0, and no row was taken.
 use Rattle.std.proofs.Common.{◌≡◌, ℤ, List, length, arith, ap, subst, sym, ◌∙◌}
 use Rattle.scr_diffuse.specs.Diffuser.{StandBelow, joined}
 use Rattle.scr_diffuse.proofs.StandLemmas.{stand_at_start, lent_whole}

@@ -1,4 +1,4 @@
--- The errors of the next row stand below it, and its pixels are those that are defined.
+-- The list holds the errors of the row, and its pixels are the defined ones.
 use Rattle.std.proofs.Common.{◌≡◌, ℕ, ℤ, List, ◌+◌, ◌-◌, ◌<◌, ◌∷◌, ◌++◌, [], length, arith, subst, ap, sym, ◌∙◌}
 use Rattle.pr_base.specs.Bits.{bit_at}
 use Rattle.scr_diffuse.specs.Diffuser.{StandBelow, PageFront, joined}

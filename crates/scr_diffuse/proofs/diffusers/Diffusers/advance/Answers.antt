@@ -1,4 +1,4 @@
--- The errors of the next rows stand below them, and their pixels are those that are defined.
+-- The lanes hold the errors of the rows, and their pixels are the defined ones.
 use Rattle.std.proofs.Common.{◌≡◌, ◌∙◌, ℕ, ◌+◌, ◌-◌, ◌*◌, ◌<◌, ℤ, List, ◌++◌, length, take, drop, ap, subst, sym, arith}
 use Rattle.std.proofs.lemmas.List.{length-map}
 use Rattle.scr_diffuse.specs.Diffusers.{EightFronts, StandBelowAll, lane_at, lane_of, row_in, rows_in}

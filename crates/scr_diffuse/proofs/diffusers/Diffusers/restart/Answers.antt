@@ -1,4 +1,4 @@
--- The errors are 0, and no row was handed in.
+-- The errors are 0, and no row was taken.
 use Rattle.std.proofs.Common.{◌≡◌, ◌∙◌, ℤ, List, length, ap, subst, sym, arith}
 use Rattle.std.proofs.lemmas.List.{take_at}
 use Rattle.scr_diffuse.specs.Diffusers.{StandBelowAll}

@@ -1,4 +1,4 @@
--- `new` picks no events. Assumes `Logic`.
+-- `new` chooses an empty list of steps. Assumes `Logic`.
 use Rattle.std.proofs.Common.{[], ◌∷◌, refl}
 use seplogic.Ra.Ura.{Ura}
 use mir.Syntax.{Fn}

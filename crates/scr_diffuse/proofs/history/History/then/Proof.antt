@@ -1,4 +1,4 @@
--- `then` picks the events of the new log. Assumes `Logic`.
+-- `then` chooses the steps of the new history. Assumes `Logic`.
 use Rattle.std.proofs.Common.{List, [], ◌∷◌, ◌++◌, refl}
 use seplogic.Ra.Ura.{Ura}
 use mir.Syntax.{Fn}
