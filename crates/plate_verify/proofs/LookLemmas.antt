@@ -31,8 +31,8 @@ missed-told path None new e = subst {A = Option (Option (List ℕ))} (λ o. IfSo
 missed-told path (Some last) new e = subst {A = Option (Option (List ℕ))} (λ o. IfSome o (λ l. l ≡ Some path)) (sym e) refl
 
 -- the effect on a shelf of a load with a result other than Failed
-pub quiet : (old new : ShelfTold) (path : List ℕ) → new.missed ≡ missed_after false path old.missed → new.held ≡ old.held → old.faults ≤ new.faults → old.longs ≤ new.longs → IsQuiet old new
-quiet old new path missed held faults longs = record { stays = record { held = held; faults = faults; longs = longs }; missed = missed ∙ missed-same path old.missed }
+pub quiet : (old new : ShelfTold) (path : List ℕ) → new.missed ≡ missed_after false path old.missed → new.held ≡ old.held → new.faults ≡ old.faults → old.faults ≤ new.faults → old.longs ≤ new.longs → IsQuiet old new
+quiet old new path missed held same faults longs = record { stays = record { held = held; faults = faults; longs = longs }; missed = missed ∙ missed-same path old.missed; faults = same }
 
 -- the difference of the held bytes from the plate that was made
 wrong_is : (plan : PlanData) (rows : List (List ℕ)) (out : List ℕ) (files : List (List ℕ × List ℕ)) (at : SitePlate) (made : PlateState) (bytes : List ℕ) → IsMade plan rows at.1 made
@@ -135,7 +135,7 @@ stays-then : (a b c : ShelfTold) → Stays a b → Stays b c → Stays a c
 stays-then a b c p q = record { held = q.held ∙ p.held; faults = (let f = p.faults in let g = q.faults in omega arith); longs = (let f = p.longs in let g = q.longs in omega arith) }
 
 quiet-then : (a b c : ShelfTold) → IsQuiet a b → IsQuiet b c → IsQuiet a c
-quiet-then a b c p q = record { stays = stays-then a b c p.stays q.stays; missed = q.missed ∙ p.missed }
+quiet-then a b c p q = record { stays = stays-then a b c p.stays q.stays; missed = q.missed ∙ p.missed; faults = q.faults ∙ p.faults }
 
 rose-later : (a b c : ℕ) → a ≤ b → Rose b c → Rose a c
 rose-later a b c le (inl less) = inl (omega arith)
@@ -224,7 +224,7 @@ looked_before plan rows out xs ys a b (Err Memory) p s = p
 -- ---- a loop over parts that have plates
 
 pub none_looked : (plan : PlanData) (rows : List (List ℕ)) (out : List ℕ) (told' : ShelfTold) → AreRight plan rows out [] told' told'
-none_looked plan rows out s = record { quiet = record { stays = record { held = refl; faults = omega arith; longs = omega arith }; missed = refl }; right = nothing s.held }
+none_looked plan rows out s = record { quiet = record { stays = record { held = refl; faults = omega arith; longs = omega arith }; missed = refl; faults = refl }; right = nothing s.held }
   where
     nothing : (held : Option (List (List ℕ × List ℕ))) → NoneWrong plan rows out held []
     nothing None = tt

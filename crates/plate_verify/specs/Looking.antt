@@ -50,6 +50,7 @@ pub record Stays (old new : ShelfTold) : Type 0 where
 pub record IsQuiet (old new : ShelfTold) : Type 0 where
   pub stays : Stays old new
   pub missed : new.missed ≡ old.missed
+  pub faults : new.faults ≡ old.faults
 
 -- all of these plates match, where the contents of the shelf are known
 abbrev pub NoneWrong : PlanData → List (List ℕ) → List ℕ → Option (List (List ℕ × List ℕ))

@@ -186,6 +186,8 @@ pub fn verify<F: RowFeed, H: Shelf>(
         (plates_in_order plan.now) (shelf_told H.Shelf shelf.old) (shelf_told H.Shelf shelf.new)) }
     ensures ok_missed { OnOk result (H.missed shelf.new ≡ H.missed shelf.old) }
     ensures memory_missed { IsErrOf result VerifyFault.Memory → H.missed shelf.new ≡ H.missed shelf.old }
+    ensures ok_faults { OnOk result (H.faults shelf.new ≡ H.faults shelf.old) }
+    ensures memory_faults { IsErrOf result VerifyFault.Memory → H.faults shelf.new ≡ H.faults shelf.old }
     ensures held { H.held shelf.new ≡ H.held shelf.old }
     ensures faults_stay { H.faults shelf.old ≤ H.faults shelf.new }
     ensures longs_stay { H.longs shelf.old ≤ H.longs shelf.new }

@@ -13,7 +13,7 @@ returns-in-Ok-load g c = λ rows made.
     c.in-Ok.ensures
     (subst {A = List ℕ} (λ p. IsHeldAt (g.H.Shelf.held c.args.shelf.now) p c.in-Ok-load.bytes.items) c.as_str.ensures ends.bytes)
     ends.within
-    (quiet (shelf_told g.H.Shelf c.args.shelf.now) (shelf_told g.H.Shelf c.load.new.self) c.as_str.result.now ends.missed ends.held ends.faults_stay ends.longs_stay)
+    (quiet (shelf_told g.H.Shelf c.args.shelf.now) (shelf_told g.H.Shelf c.load.new.self) c.as_str.result.now ends.missed ends.held (ends.uncounted refl) ends.faults_stay ends.longs_stay)
     made
     (rw c.deref.ensures.value at (c.compare.ensures (plate_rows c.args.plan.now rows (c.args.group.now, c.args.ink)) (made_ends c.args.plan.now rows (c.args.group.now, c.args.ink) c.args.made.now made)))
 
@@ -35,4 +35,4 @@ returns-in-Err-TooLong g c = λ rows made.
     c.in-Ok.ensures
     (subst {A = List ℕ} (λ p. IsLongerAt (g.H.Shelf.held c.args.shelf.now) p 600000000) c.as_str.ensures ends.longer)
     ends.long_counted
-    (quiet (shelf_told g.H.Shelf c.args.shelf.now) (shelf_told g.H.Shelf c.load.new.self) c.as_str.result.now ends.missed ends.held ends.faults_stay ends.longs_stay)
+    (quiet (shelf_told g.H.Shelf c.args.shelf.now) (shelf_told g.H.Shelf c.load.new.self) c.as_str.result.now ends.missed ends.held (ends.uncounted refl) ends.faults_stay ends.longs_stay)
