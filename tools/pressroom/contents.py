@@ -1,0 +1,126 @@
+"""What a PDF's objects and contents may show, so that a page without it needs no test of its pixels.
+
+Both answers may be yes for nothing, and are never no where the page has it.
+"""
+import dataclasses
+import os
+import re
+
+from pressroom.limits import Passed
+
+# Streams of such keys hold no operators.
+DATA = {
+    "/FontFile", "/FontFile2", "/FontFile3", "/ToUnicode", "/Metadata", "/CIDToGIDMap", "/CIDSet",
+    "/DestOutputProfile", "/ICCBased",
+}  # fmt: skip
+DECODED = {"/FlateDecode", "/LZWDecode", "/ASCII85Decode", "/ASCIIHexDecode", "/RunLengthDecode", "/Crypt"}
+# So many streams, and megabytes of each and of all, are read.
+MOST_STREAMS, MOST_BYTES = 400, 16
+STRING = re.compile(rb"\((?:[^()\\]|\\.)*\)", re.DOTALL)
+# The operators of RGB, RGB by name, and what a reader of tokens would have to know: a string within one, a
+# comment and a picture in the line.
+OPEN = re.compile(rb"rg|RG|[()%]|BI|(?<!MC)ID")
+
+
+def walk(value, key=""):
+    """All values within a value, each with the key of the dictionary that it's in. Lists of a profile have
+    the key /ICCBased.
+    """
+    yield key, value
+    if isinstance(value, dict):
+        for name, inner in value.items():
+            yield from walk(inner, name)
+    elif isinstance(value, list):
+        for inner in value:
+            yield from walk(inner, "/ICCBased" if value[:1] == ["/ICCBased"] else key)
+
+
+def may_blend(objects):
+    """Whether something may be transparent."""
+    plain = {"/SMask": ("/None",), "/BM": ("/Normal", "/Compatible"), "/ca": (1,), "/CA": (1,), "/SMaskInData": (0,)}
+    return any(
+        key == "/Group" or (key in plain and value not in plain[key])
+        for holder in objects.values()
+        for key, value in walk(holder)
+    )
+
+
+def may_overprint(objects):
+    """Whether something may overprint."""
+    return any(
+        key in ("/OP", "/op") and value is not False for holder in objects.values() for key, value in walk(holder)
+    )
+
+
+def is_plain(objects):
+    """Whether no colours are those of separations, of profiles or of shadings."""
+    others = {"/Separation", "/DeviceN", "/ICCBased", "/Shading", "/ShadingType", "/Lab", "/CalGray"}
+    return not any(
+        key in others or (isinstance(value, str) and value in others)
+        for holder in objects.values()
+        for key, value in walk(holder)
+    )
+
+
+def paints(objects, rgb):
+    """How the page can be painted strip by strip with the pixels that Ghostscript's `psdcmyk` makes: in all
+    its `separations`, in the four inks alone (`cmyk`), or not at all (None).
+
+    In separations the library doesn't overprint, in the four inks colours that are converted come out one
+    step off, and where something is transparent it ends or the edges of letters are others.
+    """
+    if may_blend(objects):
+        return None
+    if not may_overprint(objects):
+        return "separations"
+    return "cmyk" if not rgb and is_plain(objects) else None
+
+
+def may_have_rgb(limits, name, folder, objects):
+    """Whether the PDF in the folder may have RGB."""
+    uses = {}
+    for holder in objects.values():
+        for key, value in walk(holder):
+            if key in ("/Annots", "/DefaultRGB") or value in ("/DeviceRGB", "/CalRGB", "/JPXDecode"):
+                return True
+            if key == "/N" and value == 3:
+                return True
+            if isinstance(value, str) and value.endswith(" R"):
+                uses.setdefault(value, set()).add(key)
+    wanted = []
+    for reference, keys in uses.items():
+        holder = objects.get(f"obj:{reference}", {})
+        if "stream" not in holder or keys <= DATA:
+            continue
+        head = holder["stream"]["dict"]
+        if head.get("/Subtype") == "/Image" and "/Contents" not in keys:
+            continue
+        filters = head.get("/Filter", [])
+        if not set(filters if isinstance(filters, list) else [filters]) <= DECODED:
+            return True
+        wanted.append(reference.split())
+    return len(wanted) > MOST_STREAMS or not all(map(has_no_rgb, texts(limits, name, folder, wanted)))
+
+
+def texts(limits, name, folder, wanted):
+    """The data of these streams; one that can't be read is None."""
+    words = ["qpdf", "--json=2", "--json-key=qpdf", "--decode-level=generalized", "--json-stream-data=file"]
+    words += ["--json-stream-prefix=content", *(f"--json-object={number},{age}" for number, age, _ in wanted)]
+    try:
+        status, *_ = dataclasses.replace(limits, output=MOST_BYTES).run([*words, name], folder)
+    except Passed:
+        status = 2
+    paths = [entry.path for entry in os.scandir(folder) if entry.name.startswith("content-")]
+    if status not in (0, 3) or len(paths) != len(wanted) or sum(map(os.path.getsize, paths)) > MOST_BYTES << 20:
+        yield None
+    else:
+        for path in paths:
+            with open(path, "rb") as file:
+                yield file.read()
+    for path in paths:
+        os.remove(path)
+
+
+def has_no_rgb(text):
+    """Whether a stream of operators surely has no RGB: it has none of its operators but in strings."""
+    return text is not None and not OPEN.search(STRING.sub(b"", text))
