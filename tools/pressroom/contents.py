@@ -52,28 +52,23 @@ def may_overprint(objects):
     )
 
 
-def is_plain(objects):
-    """Whether no colours are those of separations, of profiles or of shadings."""
-    others = {"/Separation", "/DeviceN", "/ICCBased", "/Shading", "/ShadingType", "/Lab", "/CalGray"}
-    return not any(
-        key in others or (isinstance(value, str) and value in others)
-        for holder in objects.values()
-        for key, value in walk(holder)
-    )
+def spots(objects):
+    """The names of separations that aren't of the four inks."""
+    found = set()
+    for holder in objects.values():
+        for _, value in walk(holder):
+            if isinstance(value, list) and value[:1] in (["/Separation"], ["/DeviceN"]):
+                for _, name in walk(value[1:2]):
+                    found |= {name} if isinstance(name, str) else set()
+    return found - {"/Cyan", "/Magenta", "/Yellow", "/Black", "/All", "/None"}
 
 
-def paints(objects, rgb):
-    """How the page can be painted strip by strip with the pixels that Ghostscript's `psdcmyk` makes: in all
-    its `separations`, in the four inks alone (`cmyk`), or not at all (None).
+def may_be_painted(objects):
+    """Whether Ghostscript's library paints this page in strips with the pixels that `psdcmyk` makes.
 
-    In separations the library doesn't overprint, in the four inks colours that are converted come out one
-    step off, and where something is transparent it ends or the edges of letters are others.
+    In strips it can't blend and doesn't overprint, and it gives several spots in another order.
     """
-    if may_blend(objects):
-        return None
-    if not may_overprint(objects):
-        return "separations"
-    return "cmyk" if not rgb and is_plain(objects) else None
+    return not may_blend(objects) and not may_overprint(objects) and len(spots(objects)) < 2
 
 
 def may_have_rgb(limits, name, folder, objects):

@@ -1,10 +1,11 @@
 """Renders a page into the memory of this process by Ghostscript's library, strip by strip, and makes its files.
 
 It's a program of its own, started under limits in the page's folder with one word, a JSON object: `words` for
-Ghostscript, `pdf`, `size` in pixels, `dpi`, `inks`, which is `separations` or `cmyk`, and `house`, the name of
-the house's spot or null. It writes `seen.npy` and `answer.json`, and ends with 0 where all of that is made.
+Ghostscript, `pdf`, `size` in pixels, `dpi`, `house`, the name of the house's spot or null, and `version`, which
+`gs --version` prints and the library has to have. It writes `seen.npy` and `answer.json`, and ends with 0 where
+all of that is made.
 
-The device is `display` in planes (Ghostscript's gdevdsp.h): it asks for one rectangle after
+The device is `display` in separations and planes (Ghostscript's gdevdsp.h): it asks for one rectangle after
 another and calls back when that is painted. Its bytes are ink: 0 is bare.
 """
 import ctypes
@@ -12,16 +13,16 @@ import ctypes.util
 import json
 import os
 import sys
-from ctypes import CFUNCTYPE, POINTER, c_char_p, c_int, c_size_t, c_uint, c_ushort, c_void_p
+from ctypes import CFUNCTYPE, POINTER, c_char_p, c_int, c_long, c_size_t, c_uint, c_ushort, c_void_p
 
 sys.path.insert(0, os.path.dirname(os.path.dirname(os.path.abspath(__file__))))
 from pressroom.separations import Separations, Spot
 from pressroom.strips import STRIP
 
-# DISPLAY_DEPTH_8 and DISPLAY_PLANAR, with DISPLAY_COLORS_SEPARATION or DISPLAY_COLORS_CMYK; all else is 0.
-FORMATS = {"separations": 1 << 11 | 1 << 23 | 1 << 19, "cmyk": 1 << 11 | 1 << 23 | 1 << 3}
-# So many planes the device paints, whether the page has spots or not.
-PLANES = {"separations": 8, "cmyk": 4}
+# DISPLAY_COLORS_SEPARATION, DISPLAY_DEPTH_8 and DISPLAY_PLANAR; all else is 0.
+FORMAT = 1 << 19 | 1 << 11 | 1 << 23
+# So many planes the device may paint, whether the page has spots or not.
+PLANES = 8
 VERSION = 3, 0
 UTF8, QUIT = 1, -101
 # Ghostscript's fractions: this is 1.
@@ -63,6 +64,20 @@ class Callback(ctypes.Structure):
     ]
 
 
+class Revision(ctypes.Structure):
+    """Ghostscript's gsapi_revision_t."""
+
+    _fields_ = [("product", c_char_p), ("copyright", c_char_p), ("revision", c_long), ("date", c_long)]
+
+
+def is_version(library, text):
+    """Whether the library is of this version: of 10.02.1 it says 10021."""
+    found = Revision()
+    library.gsapi_revision(ctypes.byref(found), ctypes.sizeof(found))
+    major, minor, patch = (*map(int, text.split(".")), 0)[:3]
+    return found.revision == major * 1000 + minor * 10 + patch
+
+
 def mixture(inks):
     """What a PSD file has of these inks, as parts of 1: its colours are rounded down once more."""
     fractions = [round(ink * FRACTION / 65535) for ink in inks]
@@ -74,7 +89,7 @@ class Painter:
 
     def __init__(self, folder, asked):
         self.folder, self.size, self.dpi = folder, tuple(asked["size"]), asked["dpi"]
-        self.planes, self.house = PLANES[asked["inks"]], asked["house"]
+        self.house = asked["house"]
         self.names, self.made, self.memory, self.wrong = {}, None, None, None
         # The rows of a band, those that are painted, and those of them that stand in strips that are made.
         self.rows, self.painted, self.taken = STRIP, 0, 0
@@ -127,11 +142,10 @@ class Painter:
         import numpy as np
 
         spots = [self.names[number] for number in sorted(self.names) if number >= 4]
-        # What has no plane isn't named here.
-        if len(spots) > max(0, self.planes - 5):
-            raise ValueError("too many spots")
+        if len(spots) > 1:
+            raise ValueError("the order of spots isn't that of planes in a file")
         self.made = Separations(self.folder, self.size, self.dpi, spots, self.house)
-        self.memory = np.zeros((self.planes, STRIP + self.rows, self.size[0]), np.uint8)
+        self.memory = np.zeros((PLANES, STRIP + self.rows, self.size[0]), np.uint8)
 
     def take(self):
         """Makes the strips that are painted, and moves the rows behind them to the front."""
@@ -146,9 +160,11 @@ class Painter:
             planes[:, :rest] = planes[:, self.taken - first : self.taken - first + rest].copy()
 
 
-def rendered(words, painter):
+def rendered(words, version, painter):
     """Renders by Ghostscript; its status, which is 0 where it's well."""
     library = ctypes.CDLL(ctypes.util.find_library("gs"))
+    if not is_version(library, version):
+        return 1
     instance, callback = c_void_p(), painter.callback()
     if library.gsapi_new_instance(ctypes.byref(instance), None) < 0:
         return 1
@@ -164,8 +180,8 @@ def main():
     import numpy as np
 
     asked = json.loads(sys.argv[1])
-    painter, form = Painter(".", asked), f"-dDisplayFormat={FORMATS[asked['inks']]}"
-    status = rendered([*asked["words"], "-sDEVICE=display", form, asked["pdf"]], painter)
+    painter, form = Painter(".", asked), f"-dDisplayFormat={FORMAT}"
+    status = rendered([*asked["words"], "-sDEVICE=display", form, asked["pdf"]], asked["version"], painter)
     if painter.wrong:
         raise painter.wrong
     if status or painter.taken != asked["size"][1]:

@@ -13,14 +13,17 @@ from pressroom.separations import Separations
 
 # The lines of what Ghostscript repaired; that these are errors or warnings it says on standard error.
 REPAIRED = re.compile(rb"^\t(.+)$", re.MULTILINE)
+# A page of so many pixels has bands: 10 MB are painted without them.
+SMALL = 8 << 20
 
 
 @dataclass(frozen=True)
 class Ghostscript:
     """Renders one page: a PDF in a folder, where write_profiles' files are too. `box` is the box that is
-    taken.
+    taken, `version` what `gs --version` says.
     """
 
+    version: str
     limits: Limits
     pdf: str
     box: str
@@ -61,14 +64,15 @@ class Ghostscript:
             raise Refused("damaged", f"damaged: {printable(said) or 'Ghostscript had to repair it'}")
         return Planes(path, size)
 
-    def separate(self, dpi, size, house, paints):
+    def separate(self, dpi, size, house, strips):
         """Makes the files of the page; what Separations.end says of it, and the page at a low resolution.
 
-        The library paints strips into memory, which takes less than half of the time that planes in a file
-        take, with the same pixels. Pages that it can't paint so go through a file, and so do those where it
-        fails: then what is wrong is what `gs` says.
+        With `strips` the library paints it strip by strip into memory. That takes less than half of the time
+        that planes in a file take, and makes the same pixels, but on pages so small that `gs` makes them
+        without bands. Other pages go through a file, and so do those where the library fails: then what is
+        wrong is what `gs` says.
         """
-        painted = self.painted(dpi, size, house, paints) if paints else None
+        painted = self.painted(dpi, size, house) if strips and size[0] * size[1] > SMALL else None
         if painted:
             return painted
         planes = self.render(dpi, size, "page.psd")
@@ -78,12 +82,12 @@ class Ghostscript:
         os.remove(planes.path)
         return made.end(), made.seen
 
-    def painted(self, dpi, size, house, inks):
+    def painted(self, dpi, size, house):
         """What `separate` returns, by the library; None where that doesn't succeed."""
         import numpy as np
 
         asked = {"words": self.words(dpi, size), "pdf": self.pdf, "size": size, "dpi": dpi}
-        asked |= {"house": house, "inks": inks}
+        asked |= {"house": house, "version": self.version}
         words = [sys.executable, "-B", os.path.abspath(display.__file__), json.dumps(asked)]
         try:
             status, out, note = self.limits.run(words, self.folder, "gs")

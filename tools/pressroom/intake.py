@@ -55,6 +55,7 @@ class Intake:
         self.profiles = tempfile.TemporaryDirectory(prefix="pressroom-")
         profiles.write_profiles(self.profiles.name, house.profile)
         _, version, _ = limits.run(["gs", "--version"], self.profiles.name)
+        self.version = version.decode().strip()
         self.settings = state.settings(house, version.decode())
 
     def outcome(self, source):
@@ -96,7 +97,7 @@ class Intake:
         self.see_size(inspected.millimetres())
         for profile in os.listdir(self.profiles.name):
             shutil.copyfile(os.path.join(self.profiles.name, profile), os.path.join(folder, profile))
-        gs = Ghostscript(self.limits, name, inspected.box, folder)
+        gs = Ghostscript(self.version, self.limits, name, inspected.box, folder)
         notes = [(kind, text, None) for kind, text in inspected.notes]
         rgb = rgb_of(gs, inspected.millimetres()) if inspected.rgb else None
         if rgb and self.house.rgb == "refuse":
@@ -104,7 +105,7 @@ class Intake:
         if rgb:
             notes.append(("rgb", "RGB is converted", rgb))
         rendering = Rendering(self.house, gs)
-        made, seen = rendering.made(inspected.paints), rendering.seen
+        made, seen = rendering.made(inspected.strips), rendering.seen
         notes += made.notes
         for press in self.house.presses.values():
             heavy = above(seen, press.limit)

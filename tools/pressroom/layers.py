@@ -66,10 +66,10 @@ class Rendering:
     def __init__(self, house, gs):
         self.house, self.gs, self.size, self.notes, self.seen = house, gs, house.page_pixels(), [], None
 
-    def made(self, paints):
-        """The page's layers. `paints` says how it can be painted in strips."""
+    def made(self, strips):
+        """The page's layers. `strips` says that it may be painted in strips."""
         house = self.house.spot.separation if self.house.spot else None
-        page, self.seen = self.gs.separate(self.house.dpi, self.size, house, paints)
+        page, self.seen = self.gs.separate(self.house.dpi, self.size, house, strips)
         tints = []
         for spot in page["spots"]:
             if spot["house"]:

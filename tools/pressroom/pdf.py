@@ -7,7 +7,7 @@ import os
 import re
 from dataclasses import dataclass
 
-from pressroom.contents import may_have_rgb, paints
+from pressroom.contents import may_be_painted, may_have_rgb
 
 # A PDF ends with this within so many bytes.
 END_MARK, TAIL = b"%%EOF", 1024
@@ -26,7 +26,7 @@ class Refused(Exception):
 @dataclass(frozen=True)
 class Inspected:
     """A page that can be rendered: its trim in points of the unturned page, its turn, which box it is,
-    whether it may have RGB, and how it can be painted in strips.
+    whether it may have RGB, and whether it may be painted in strips.
     """
 
     trim: tuple
@@ -35,7 +35,7 @@ class Inspected:
     box: str
     notes: tuple
     rgb: bool
-    paints: str | None
+    strips: bool
 
     def millimetres(self):
         """Width and height of the trimmed page, turned as it is shown."""
@@ -237,7 +237,7 @@ def inspect(limits, name, folder):
         name = edited(limits, name, folder, edit)
     box = "Trim" if "/TrimBox" in page else "Crop"
     rgb = may_have_rgb(limits, name, folder, objects)
-    return name, Inspected(trim, crop, turn, box, tuple(notes), rgb, paints(objects, rgb))
+    return name, Inspected(trim, crop, turn, box, tuple(notes), rgb, may_be_painted(objects))
 
 
 def edited(limits, name, folder, edit):

@@ -83,9 +83,17 @@ class Planes:
         return np.stack(inks, axis=2)
 
     def strips(self):
-        """The strips of ink from the top: their numbers, and arrays of planes, rows and columns."""
+        """The strips of ink from the top: their numbers, and arrays of planes, rows and columns, in the same
+        memory each time.
+        """
         import numpy as np
 
-        stored = self.mapped()
-        for number, top in enumerate(range(0, self.height, STRIP)):
-            yield number, np.invert(stored[:, top : top + STRIP])
+        memory, page = np.empty((self.count, STRIP, self.width), np.uint8), self.width * self.height
+        with open(self.path, "rb", buffering=0) as file:
+            for number, top in enumerate(range(0, self.height, STRIP)):
+                strip = memory[:, : min(STRIP, self.height - top)]
+                for plane, rows in enumerate(strip):
+                    if os.preadv(file.fileno(), [rows], self.start + plane * page + top * self.width) != rows.size:
+                        raise Refused("damaged", "can't be rendered: its planes are cut off")
+                    np.invert(rows, out=rows)
+                yield number, strip
