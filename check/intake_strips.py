@@ -1,5 +1,5 @@
-"""Tries that pages which are painted in strips have the pixels that `gs` makes in a file, and that a page which
-may have RGB is tested for it.
+"""Tries that pages which are painted in strips have the pixels that `gs` makes in a file, and that a page
+which may have RGB is tested for it.
 """
 import os
 import shutil

@@ -16,6 +16,14 @@ DATA = {
 DECODED = {"/FlateDecode", "/LZWDecode", "/ASCII85Decode", "/ASCIIHexDecode", "/RunLengthDecode", "/Crypt"}
 # So many streams, and megabytes of each and of all, are read.
 MOST_STREAMS, MOST_BYTES = 400, 16
+# Keys of transparency, and their values where nothing is.
+OPAQUE = {
+    "/SMask": ("/None",),
+    "/BM": ("/Normal", "/Compatible"),
+    "/ca": (1,),
+    "/CA": (1,),
+    "/SMaskInData": (0,),
+}
 STRING = re.compile(rb"\((?:[^()\\]|\\.)*\)", re.DOTALL)
 # The operators of RGB, RGB by name, and what a reader of tokens would have to know: a string within one, a
 # comment and a picture in the line.
@@ -37,9 +45,8 @@ def walk(value, key=""):
 
 def may_blend(objects):
     """Whether something may be transparent."""
-    plain = {"/SMask": ("/None",), "/BM": ("/Normal", "/Compatible"), "/ca": (1,), "/CA": (1,), "/SMaskInData": (0,)}
     return any(
-        key == "/Group" or (key in plain and value not in plain[key])
+        key == "/Group" or (key in OPAQUE and value not in OPAQUE[key])
         for holder in objects.values()
         for key, value in walk(holder)
     )
@@ -48,7 +55,9 @@ def may_blend(objects):
 def may_overprint(objects):
     """Whether something may overprint."""
     return any(
-        key in ("/OP", "/op") and value is not False for holder in objects.values() for key, value in walk(holder)
+        key in ("/OP", "/op") and value is not False
+        for holder in objects.values()
+        for key, value in walk(holder)
     )
 
 
@@ -106,7 +115,8 @@ def texts(limits, name, folder, wanted):
     except Passed:
         status = 2
     paths = [entry.path for entry in os.scandir(folder) if entry.name.startswith("content-")]
-    if status not in (0, 3) or len(paths) != len(wanted) or sum(map(os.path.getsize, paths)) > MOST_BYTES << 20:
+    size = sum(map(os.path.getsize, paths))
+    if status not in (0, 3) or len(paths) != len(wanted) or size > MOST_BYTES << 20:
         yield None
     else:
         for path in paths:

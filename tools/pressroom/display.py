@@ -1,9 +1,9 @@
-"""Renders a page into the memory of this process by Ghostscript's library, strip by strip, and makes its files.
+"""Renders a page into memory by Ghostscript's library, strip by strip, and makes its files.
 
-It's a program of its own, started under limits in the page's folder with one word, a JSON object: `words` for
-Ghostscript, `pdf`, `size` in pixels, `dpi`, `house`, the name of the house's spot or null, and `version`, which
-`gs --version` prints and the library has to have. It writes `seen.npy` and `answer.json`, and ends with 0 where
-all of that is made.
+It's a program of its own, started under limits in the page's folder with one word, a JSON object: `words`
+for Ghostscript, `pdf`, `size` in pixels, `dpi`, `house`, the name of the house's spot or null, and `version`,
+which `gs --version` prints and the library has to have. It writes `seen.npy` and `answer.json`, and ends with
+0 where all of that is made.
 
 The device is `display` in separations and planes (Ghostscript's gdevdsp.h): it asks for one rectangle after
 another and calls back when that is painted. Its bytes are ink: 0 is bare.
@@ -112,21 +112,21 @@ class Painter:
         return 0
 
     def band(self, handle, device, rows):
-        """Learns how many rows a band has. Curves differ by single pixels where bands are of other heights, and
-        these are those of `psdcmyk`.
+        """Learns how many rows a band has. Curves differ by single pixels where bands have other heights,
+        and these are those of `psdcmyk`.
         """
         self.rows = max(1, rows)
         return 0
 
     def rectangle(self, handle, device, memory, left, top, raster, plane, *rectangle):
-        """Takes the band that was painted, and asks for the next one, behind the rows that no strip has yet."""
+        """Takes the band that was painted, and asks for the next one."""
         try:
             if self.made is None:
                 self.begin()
             else:
                 self.take()
             rows = max(0, min(self.rows, self.memory.shape[1] - STRIP, self.size[1] - self.painted))
-            # The block begins with the band itself: of the corner of one that begins above it 10.00 makes nothing.
+            # The block begins with the band: 10.00 paints at its first row, whatever the corner.
             memory[0] = self.memory.ctypes.data + (self.painted - self.taken) * self.size[0]
             left[0], top[0], raster[0], plane[0] = 0, self.painted, *self.memory.strides[1::-1]
             for place, value in zip(rectangle, (0, self.painted, self.size[0] if rows else 0, rows)):
@@ -150,14 +150,15 @@ class Painter:
     def take(self):
         """Makes the strips that are painted, and moves the rows behind them to the front."""
         planes, first = self.memory[: 4 + len(self.made.spots)], self.taken
-        while self.taken < self.painted and (self.painted - self.taken >= STRIP or self.painted == self.size[1]):
+        least = 1 if self.painted == self.size[1] else STRIP
+        while self.painted - self.taken >= least:
             rows = min(STRIP, self.painted - self.taken)
             at = self.taken - first
             self.made.add(self.taken // STRIP, planes[:, at : at + rows])
             self.taken += rows
         rest = self.painted - self.taken
         if rest and self.taken > first:
-            planes[:, :rest] = planes[:, self.taken - first : self.taken - first + rest].copy()
+            planes[:, :rest] = planes[:, self.taken - first : self.taken - first + rest]
 
 
 def rendered(words, version, painter):

@@ -93,7 +93,8 @@ class Planes:
             for number, top in enumerate(range(0, self.height, STRIP)):
                 strip = memory[:, : min(STRIP, self.height - top)]
                 for plane, rows in enumerate(strip):
-                    if os.preadv(file.fileno(), [rows], self.start + plane * page + top * self.width) != rows.size:
+                    place = self.start + plane * page + top * self.width
+                    if os.preadv(file.fileno(), [rows], place) != rows.size:
                         raise Refused("damaged", "can't be rendered: its planes are cut off")
                     np.invert(rows, out=rows)
                 yield number, strip

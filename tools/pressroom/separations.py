@@ -122,7 +122,7 @@ class Separations:
             if spot.mixture[ink]:
                 below = planes[ink][part]
                 below += np.minimum(table[planes[spot.plane][part]], 255 - below)
-                inked[ink] = inked[ink] or bool(below.view(bool).any() if below.flags.contiguous else below.any())
+                inked[ink] = inked[ink] or bool(below.any())
 
     def keep(self, shown, strip, ink):
         """Keeps a strip of the house's spot until all its tints are known, in a file without what is bare."""
@@ -137,7 +137,8 @@ class Separations:
         strips.append(strip)
 
     def end(self):
-        """Ends the files; what the page has, as JSON may hold it: the letters of its inks, and its spots that show.
+        """Ends the files; what the page has, as JSON may hold it: the letters of its inks, and its spots
+        that show.
         """
         self.cmyk.close()
         colours = "".join(letter for letter in "CMYK" if letter in self.colours)

@@ -22,7 +22,8 @@ TEXT = re.compile(
 
 
 def rgb_of(gs, trim_size):
-    """Where RGB shows: the page is rendered twice, by profiles that differ for RGB alone. None where it doesn't.
+    """Where RGB shows: the page is rendered twice, by profiles that differ for RGB alone. None where it
+    doesn't.
     """
     size = tuple(max(1, math.ceil(side / ONE)) for side in trim_size)
     inks = gs.render(DPI, size, "survey.psd").mixed()
