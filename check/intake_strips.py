@@ -7,14 +7,15 @@ import subprocess
 import sys
 
 from intake_pages import PROFILE
-from newspaper import TOP
+from newspaper import NEWSPAPER, TOP
 
-sys.path.insert(0, os.path.join(TOP, "tools"))
+sys.path[:0] = [NEWSPAPER, os.path.join(TOP, "tools")]
+from pdf import Pdf
 from pressroom import profiles
 from pressroom.contents import has_no_rgb
 from pressroom.ghostscript import Ghostscript
 from pressroom.limits import Limits
-from pressroom.pdf import inspect
+from pressroom.pdf import Refused, inspect
 from pressroom.tiff import Tiff
 
 # 60.96 by 81.28 mm: 14 million pixels.
@@ -98,5 +99,30 @@ def see_strips(results, folder):
             results.see(painted[0] == wanted, f"{kind}: in strips it's {painted[0]}, in a file {wanted}")
             results.see((painted[1] == wanted_seen).all(), f"{kind}: the look at it differs")
             results.see(files(places[0]) == files(places[1]), f"{kind}: pixels differ")
+        if kind == "black":
+            other = Ghostscript("9.55.0", Limits(), name, inspected.box, places[0])
+            results.see(other.painted(DPI, SIZE, "HOUSE") is None, "a library of another version is taken")
         for place in places:
             shutil.rmtree(place)
+    see_damaged(results, given, version)
+
+
+def see_damaged(results, folder, version):
+    """A picture of too few samples, which Ghostscript repairs: the library's page isn't taken, and `gs` names
+    it.
+    """
+    pdf = Pdf()
+    head = "/Type /XObject /Subtype /Image /Width 100 /Height 100 /ColorSpace /DeviceGray /BitsPerComponent 8"
+    image, text = pdf.add(head, bytes(1000)), pdf.add("", b"q 99 0 0 99 0 0 cm /I Do Q")
+    keys = f"/Contents {text} 0 R /Resources << /XObject << /I {image} 0 R >> >>"
+    page = pdf.add(f"<< /Type /Page /Parent {text + 2} 0 R /MediaBox [0 0 172.8 230.4] {keys} >>")
+    pages = pdf.add(f"<< /Type /Pages /Kids [{page} 0 R] /Count 1 >>")
+    pdf.write(os.path.join(folder, "page.pdf"), pdf.add(f"<< /Type /Catalog /Pages {pages} 0 R >>"))
+    call = Ghostscript(version, Limits(), "page.pdf", "Crop", folder)
+    results.see(call.painted(DPI, SIZE, None) is None, "a picture of too few samples is taken")
+    try:
+        call.separate(DPI, SIZE, None, True)
+        said = "nothing"
+    except Refused as error:
+        said = str(error)
+    results.see(said == "damaged: recoverable image error", f"a picture of too few samples: {said}")

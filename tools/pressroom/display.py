@@ -15,6 +15,8 @@ import os
 import sys
 from ctypes import CFUNCTYPE, POINTER, c_char_p, c_int, c_long, c_size_t, c_uint, c_ushort, c_void_p
 
+# A thread for each processor, which nothing here needs, would take much of the limit of memory.
+os.environ["OPENBLAS_NUM_THREADS"] = "1"
 sys.path.insert(0, os.path.dirname(os.path.dirname(os.path.abspath(__file__))))
 from pressroom.separations import Separations, Spot
 from pressroom.strips import STRIP
