@@ -10,7 +10,6 @@ failed`, and the status is 1 where one failed.
 """
 import json
 import os
-import random
 import re
 import shutil
 import subprocess
@@ -323,14 +322,9 @@ def see_hostile(results, folder):
     results.see(not left, f"folders of pages are left: {left}")
     for number in (1, 2, 3):
         os.remove(pages.path(f"A{number}"))
-    # Packed it takes more room than the page has pixels.
-    noise = "/Type /XObject /Subtype /Image /Width 720 /Height 960 /ColorSpace /DeviceCMYK /BitsPerComponent 8"
-    picture = noise, random.Random(5).randbytes(720 * 960 * 4)
-    by_hand(pages.path("A5"), b"q 172.8 0 0 230.4 0 0 cm /I Do Q", "/XObject << /I {} 0 R >>", add=[picture])
     found, status = intake(pages, pages.house(colour="refuse"), "--output", "1")
     texts = {item["file"]: item["text"] for item in found if item["event"] == "fault"}
     results.see("wrote a file of more than 1 MB" in texts.get("A5.pdf", ""), f"--output 1: {texts.get('A5.pdf')}")
-    results.see("A6.pdf" not in texts, f"--output 1: {texts.get('A6.pdf')}")
 
 
 def snapshot(folder, pages):

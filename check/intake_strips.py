@@ -104,21 +104,35 @@ def see_strips(results, folder):
             results.see(other.painted(DPI, SIZE, "HOUSE") is None, "a library of another version is taken")
         for place in places:
             shutil.rmtree(place)
-    see_damaged(results, given, version)
+    see_by_hand(results, given, version)
 
 
-def see_damaged(results, folder, version):
-    """A picture of too few samples, which Ghostscript repairs: the library's page isn't taken, and `gs` names
-    it.
-    """
+def by_hand(folder, content, head=None, samples=b"", keys=""):
+    """A page by hand, with a picture where it has one."""
     pdf = Pdf()
-    head = "/Type /XObject /Subtype /Image /Width 100 /Height 100 /ColorSpace /DeviceGray /BitsPerComponent 8"
-    image, text = pdf.add(head, bytes(1000)), pdf.add("", b"q 99 0 0 99 0 0 cm /I Do Q")
-    keys = f"/Contents {text} 0 R /Resources << /XObject << /I {image} 0 R >> >>"
+    image = pdf.add(f"/Type /XObject /Subtype /Image {head}", samples) if head else 0
+    text = pdf.add("", content)
+    keys += f" /Contents {text} 0 R /Resources << " + (f"/XObject << /I {image} 0 R >> >>" if image else ">>")
     page = pdf.add(f"<< /Type /Page /Parent {text + 2} 0 R /MediaBox [0 0 172.8 230.4] {keys} >>")
     pages = pdf.add(f"<< /Type /Pages /Kids [{page} 0 R] /Count 1 >>")
     pdf.write(os.path.join(folder, "page.pdf"), pdf.add(f"<< /Type /Catalog /Pages {pages} 0 R >>"))
+
+
+def see_by_hand(results, folder, version):
+    """A page that is a group, and a picture of too few samples: Ghostscript repairs it, so the library's page
+    isn't taken, and `gs` names what is wrong.
+    """
     call = Ghostscript(version, Limits(), "page.pdf", "Crop", folder)
+    curve = b"0.3 0 0 1 k 0 0 1 0.2 K 2 w 10 10 m 160 20 10 90 150 110 c b 20 120 60 60 re f"
+    by_hand(folder, curve, keys="/Group << /S /Transparency /CS /DeviceCMYK >>")
+    results.see(inspect(Limits(), "page.pdf", folder)[1].strips, "a page that is a group may not be painted")
+    painted = call.painted(DPI, SIZE, None)
+    found = files(folder)
+    wanted, seen = call.separate(DPI, SIZE, None, False)
+    results.see(painted and painted[0] == wanted and (painted[1] == seen).all(), f"a group: {painted}, not {wanted}")
+    results.see(found == files(folder), "a group: pixels differ")
+    head = "/Width 100 /Height 100 /ColorSpace /DeviceGray /BitsPerComponent 8"
+    by_hand(folder, b"q 99 0 0 99 0 0 cm /I Do Q", head, bytes(1000))
     results.see(call.painted(DPI, SIZE, None) is None, "a picture of too few samples is taken")
     try:
         call.separate(DPI, SIZE, None, True)

@@ -44,12 +44,18 @@ def walk(value, key=""):
 
 
 def may_blend(objects):
-    """Whether something may be transparent."""
+    """Whether something may be transparent. A page may be a group: what is opaque within it stays so."""
     return any(
-        key == "/Group" or (key in OPAQUE and value not in OPAQUE[key])
+        (key == "/Group" and value is not group_of(holder)) or (key in OPAQUE and value not in OPAQUE[key])
         for holder in objects.values()
         for key, value in walk(holder)
     )
+
+
+def group_of(holder):
+    """The group of an object that is a page, or None."""
+    page = holder.get("value")
+    return page.get("/Group") if isinstance(page, dict) and page.get("/Type") == "/Page" else None
 
 
 def may_overprint(objects):
