@@ -21,6 +21,7 @@ import time
 sys.dont_write_bytecode = True
 from intake_corpus import see_corpus
 from intake_pages import HOUSE, Pages, fields, intake, missing_program, plates_of
+from intake_strips import see_strips
 from newspaper import NEWSPAPER, TOP, Results, missing
 
 sys.path.insert(0, NEWSPAPER)
@@ -571,6 +572,7 @@ def main():
         for part, words in (
             (see_houses, (results, folder)),
             (see_pixels, (results, program, folder)),
+            (see_strips, (results, folder)),
             (see_colours, (results, program, folder)),
             (see_told, (results, folder)),
             (see_tiffs, (results, program, folder)),

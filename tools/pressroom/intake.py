@@ -29,7 +29,7 @@ from pressroom.house import HouseFault, read_house
 from pressroom.layers import Made, Rendering
 from pressroom.limits import Limits, Passed
 from pressroom.pdf import Refused, inspect
-from pressroom.survey import above, survey, thin_white
+from pressroom.survey import above, rgb_of, thin_white
 
 PROGRAMS = ("gs", "qpdf", "pdfinfo", "pdffonts", "pdftohtml", "tiffcp", "tiffinfo", "prlimit")
 
@@ -55,6 +55,7 @@ class Intake:
         self.profiles = tempfile.TemporaryDirectory(prefix="pressroom-")
         profiles.write_profiles(self.profiles.name, house.profile)
         _, version, _ = limits.run(["gs", "--version"], self.profiles.name)
+        self.version = version.decode().strip()
         self.settings = state.settings(house, version.decode())
 
     def outcome(self, source):
@@ -96,14 +97,15 @@ class Intake:
         self.see_size(inspected.millimetres())
         for profile in os.listdir(self.profiles.name):
             shutil.copyfile(os.path.join(self.profiles.name, profile), os.path.join(folder, profile))
-        gs = Ghostscript(self.limits, name, inspected.box, folder)
-        seen = survey(gs, inspected.millimetres())
+        gs = Ghostscript(self.version, self.limits, name, inspected.box, folder)
         notes = [(kind, text, None) for kind, text in inspected.notes]
-        if seen.rgb and self.house.rgb == "refuse":
-            raise Refused("rgb", "it has RGB, which the house refuses", seen.rgb)
-        if seen.rgb:
-            notes.append(("rgb", "RGB is converted", seen.rgb))
-        made = Rendering(self.house, gs).made(seen)
+        rgb = rgb_of(gs, inspected.millimetres()) if inspected.rgb else None
+        if rgb and self.house.rgb == "refuse":
+            raise Refused("rgb", "it has RGB, which the house refuses", rgb)
+        if rgb:
+            notes.append(("rgb", "RGB is converted", rgb))
+        rendering = Rendering(self.house, gs)
+        made, seen = rendering.made(inspected.strips), rendering.seen
         notes += made.notes
         for press in self.house.presses.values():
             heavy = above(seen, press.limit)

@@ -3,15 +3,12 @@
 The four inks are one planar contone file. Of the spot each tint is a line image, painted in S over it.
 """
 import os
-import struct
 from dataclasses import dataclass
 
 from pressroom.pdf import Refused, first_line, printable
-from pressroom.planes import STRIP, write_fields
+from pressroom.separations import MOST_TINTS
+from pressroom.strips import STRIP
 from pressroom.tiff import Tiff
-
-# How many tints of the spot are told apart; a page has at most 32 layers.
-MOST_TINTS = 24
 
 
 @dataclass(frozen=True)
@@ -67,70 +64,35 @@ class Rendering:
     """Makes the layers of one page by Ghostscript."""
 
     def __init__(self, house, gs):
-        self.house, self.gs, self.size, self.notes = house, gs, house.page_pixels(), []
+        self.house, self.gs, self.size, self.notes, self.seen = house, gs, house.page_pixels(), [], None
 
-    def made(self, seen):
-        """The page's layers. `seen` is its survey, which says where its spots are."""
-        planes = self.gs.render(self.house.dpi, self.size, "page.psd")
-        tints, added = [], [[], [], [], []]
-        for spot in planes.spots:
-            counts = planes.counts(spot.plane)
-            if not any(counts[1:]):
-                continue
-            place = seen.places.get(spot.name)
-            if self.house.spot and spot.is_named(self.house.spot.separation):
-                tints += self.tints(planes, spot, counts, place)
+    def made(self, strips):
+        """The page's layers. `strips` says that it may be painted in strips."""
+        house = self.house.spot.separation if self.house.spot else None
+        page, self.seen = self.gs.separate(self.house.dpi, self.size, house, strips)
+        tints = []
+        for spot in page["spots"]:
+            if spot["house"]:
+                tints += self.tints(spot)
             else:
-                self.mix(spot, place, added)
-        colours = planes.to_tiff(added)
-        packed(self.gs.limits, self.gs.folder, "page.psd", "cmyk.tif")
-        os.remove(planes.path)
-        bottom = [Layer("cmyk.tif", "cmyk", {"kind": "contone"})] if colours or not tints else []
-        return Made(letters(colours, tints), (*bottom, *tints), tuple(self.notes))
+                self.mixed(spot)
+        bottom = [Layer("cmyk.tif", "cmyk", {"kind": "contone"})] if page["colours"] or not tints else []
+        return Made(letters(page["colours"], tints), (*bottom, *tints), tuple(self.notes))
 
-    def mix(self, spot, place, added):
-        """Adds a spot that isn't the house's to the four inks, or refuses it."""
-        import numpy as np
-
-        name = printable(spot.shown())
+    def mixed(self, spot):
+        """Notes a spot that isn't the house's and was mixed into the four inks, or refuses it."""
+        name, place = printable(spot["name"]), tuple(spot["place"])
         if self.house.spots == "refuse":
             raise Refused("spot", f"the spot {name} isn't the house's", place)
         self.notes.append(("spot", f"the spot {name} is mixed into CMYK", place))
-        for ink, part in enumerate(spot.mixture):
-            if part:
-                added[ink].append(((np.arange(256) * part + 0.5).astype(np.uint8), spot.plane))
 
-    def tints(self, planes, spot, counts, place):
-        """A line image for each tint of the spot; where there are too many, tints are rounded to even
-        steps.
-        """
-        import numpy as np
-
-        values, steps = [value for value in range(1, 256) if counts[value]], np.arange(256)
-        if len(values) > MOST_TINTS:
-            steps = np.rint(np.rint(steps * MOST_TINTS / 255) * 255 / MOST_TINTS).astype(int)
-            text = f"the spot has {len(values)} tints; {MOST_TINTS} even steps are made of them"
-            self.notes.append(("tints", text, place))
+    def tints(self, spot):
+        """The layers of the house's spot, one for each tint."""
+        if spot["had"] > MOST_TINTS:
+            text = f"the spot has {spot['had']} tints; {MOST_TINTS} even steps are made of them"
+            self.notes.append(("tints", text, tuple(spot["place"])))
         layers = []
-        for value in sorted({int(steps[value]) for value in values} - {0}):
-            self.bitmap(planes, spot, steps == value)
-            packed(self.gs.limits, self.gs.folder, "bits.tif", f"spot-{value}.tif")
-            keys = {"kind": "line", "ink": [0, 0, 0, 0, value], "paint": "overprint"}
-            layers.append(Layer(f"spot-{value}.tif", f"s{value}", keys))
+        for tint in spot["tints"]:
+            keys = {"kind": "line", "ink": [0, 0, 0, 0, tint], "paint": "overprint"}
+            layers.append(Layer(f"spot-{tint}.tif", f"s{tint}", keys))
         return layers
-
-    def bitmap(self, planes, spot, black):
-        """Writes an uncompressed line image that is black where the table says so of a spot's ink."""
-        import numpy as np
-
-        width, height = self.size
-        stored, row = planes.mapped()[spot.plane], (width + 7) // 8
-        sizes = [row * min(STRIP, height - top) for top in range(0, height, STRIP)]
-        places = [8 + top * row for top in range(0, height, STRIP)]
-        with open(os.path.join(self.gs.folder, "bits.tif"), "wb") as file:
-            end = 8 + row * height + row * height % 2
-            file.write(struct.pack("<2sHI", b"II", 42, end))
-            for rows in planes.blocks():
-                file.write(np.packbits(black[255 - stored[rows]], axis=1).tobytes())
-            file.write(bytes(row * height % 2))
-            write_fields(file, end, width, height, 1, places, sizes)

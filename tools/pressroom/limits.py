@@ -16,6 +16,10 @@ class Passed(Exception):
     """A program passed a limit; the text says which."""
 
 
+class PassedTime(Passed):
+    """It passed the limit of time."""
+
+
 @dataclass(frozen=True)
 class Limits:
     """The limits of one call: seconds of time, megabytes of memory, megabytes of each file that it writes."""
@@ -24,12 +28,13 @@ class Limits:
     memory: int = 2000
     output: int = 4000
 
-    def run(self, words, folder):
+    def run(self, words, folder, name=None):
         """Runs the program in this folder and returns its status, standard output and standard error as
-        bytes.
+        bytes. It's called by `name`, or else by its own.
 
         Raises Passed where it passes a limit. Nothing of what the program started runs on.
         """
+        name = name or words[0]
         prefix = [
             "prlimit",
             f"--as={self.memory << 20}",
@@ -48,19 +53,19 @@ class Limits:
             try:
                 status = process.wait(self.seconds)
             except subprocess.TimeoutExpired:
-                raise Passed(f"{words[0]} took more than {self.seconds} s") from None
+                raise PassedTime(f"{name} took more than {self.seconds} s") from None
             finally:
                 stop(process)
         if any(os.path.getsize(path) > MOST_TEXT for path in paths):
-            raise Passed(f"{words[0]} printed more than {MOST_TEXT >> 20} MB")
+            raise Passed(f"{name} printed more than {MOST_TEXT >> 20} MB")
         texts = [read(path) for path in paths]
-        self.see(words[0], status, b"".join(texts), folder)
+        self.see(name, status, b"".join(texts), folder)
         return status, *texts
 
     def see(self, name, status, said, folder):
         """Raises Passed where a status says that a limit was passed."""
         if status == -signal.SIGXCPU:
-            raise Passed(f"{name} took more than {self.seconds} s of processor time")
+            raise PassedTime(f"{name} took more than {self.seconds} s of processor time")
         if status == -signal.SIGXFSZ or (status and self.is_full(folder)):
             raise Passed(f"{name} wrote a file of more than {self.output} MB")
         if status and (b"VMerror" in said or b"emory" in said or b"bad_alloc" in said):

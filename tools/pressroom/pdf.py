@@ -7,6 +7,8 @@ import os
 import re
 from dataclasses import dataclass
 
+from pressroom.contents import may_be_painted, may_have_rgb
+
 # A PDF ends with this within so many bytes.
 END_MARK, TAIL = b"%%EOF", 1024
 FONT = re.compile(r"\s(yes|no)\s+(?:yes|no)\s+(?:yes|no)\s+(?:\d+\s+\d+|\[none\])$")
@@ -23,13 +25,17 @@ class Refused(Exception):
 
 @dataclass(frozen=True)
 class Inspected:
-    """A page that can be rendered: its trim in points of the unturned page, its turn, and which box it is."""
+    """A page that can be rendered: its trim in points of the unturned page, its turn, which box it is,
+    whether it may have RGB, and whether it may be painted in strips.
+    """
 
     trim: tuple
     crop: tuple
     turn: int
     box: str
     notes: tuple
+    rgb: bool
+    strips: bool
 
     def millimetres(self):
         """Width and height of the trimmed page, turned as it is shown."""
@@ -213,7 +219,8 @@ def inspect(limits, name, folder):
     if status or not trim or not crop or not count:
         raise Refused("damaged", f"damaged: {first_line(note)}")
     turn = int(re.search(r"^Page\s+1 rot:\s+(-?\d+)", text, re.MULTILINE)[1]) % 360
-    page, edit, blends = structure(*read_objects(limits, name, folder))
+    head, objects = read_objects(limits, name, folder)
+    page, edit, blends = structure(head, objects)
     if "/UserUnit" in page:
         raise Refused("unit", "its unit isn't a point (UserUnit)")
     see_fonts(limits, name, folder)
@@ -229,7 +236,8 @@ def inspect(limits, name, folder):
     if edit:
         name = edited(limits, name, folder, edit)
     box = "Trim" if "/TrimBox" in page else "Crop"
-    return name, Inspected(trim, crop, turn, box, tuple(notes))
+    rgb = may_have_rgb(limits, name, folder, objects)
+    return name, Inspected(trim, crop, turn, box, tuple(notes), rgb, may_be_painted(objects))
 
 
 def edited(limits, name, folder, edit):

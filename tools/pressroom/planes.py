@@ -6,42 +6,16 @@ planes; all numbers begin with the high byte. Names of spots stand in it, so non
 """
 import os
 import struct
-from dataclasses import dataclass
 
 from pressroom.pdf import Refused
+from pressroom.separations import Spot
+from pressroom.strips import STRIP
 
 HEAD, RESOURCE = ">4sH6xHIIHH", b"8BIM"
 # Resources: the names of the planes behind the four, and their colours.
 NAMES, COLOURS = 1006, 1007
 # More spots than this no page has; each is a plane of the page's size.
 MOST_SPOTS = 12
-# So many rows are read at once.
-ROWS = 256
-STRIP = 64
-
-
-@dataclass(frozen=True)
-class Spot:
-    """A separation beside the four: its name as bytes, its plane, and its mixture of the four, 0 to 1 each.
-    """
-
-    name: bytes
-    plane: int
-    mixture: tuple
-
-    def is_named(self, text):
-        """Whether this is the separation that the house calls so, in either encoding that PDFs have."""
-        return text in (decoded(self.name, "utf-8"), decoded(self.name, "latin-1"))
-
-    def shown(self):
-        return decoded(self.name, "utf-8") or self.name.decode("latin-1")
-
-
-def decoded(name, encoding):
-    try:
-        return name.decode(encoding)
-    except UnicodeDecodeError:
-        return None
 
 
 class Planes:
@@ -88,16 +62,12 @@ class Planes:
             inks = struct.unpack_from(">4H", colours, 14 * number + 2)
             self.spots.append(Spot(name, 4 + number, tuple(1 - ink / 65535 for ink in inks)))
 
-    def mapped(self, mode="r"):
+    def mapped(self):
         """All planes as they stand in the file, as an array."""
         import numpy as np
 
         shape = self.count, self.height, self.width
-        return np.memmap(self.path, dtype=np.uint8, mode=mode, offset=self.start, shape=shape)
-
-    def plane(self, number):
-        """The ink of a plane, as an array."""
-        return 255 - self.mapped()[number]
+        return np.memmap(self.path, dtype=np.uint8, mode="r", offset=self.start, shape=shape)
 
     def mixed(self):
         """The four inks with all spots mixed in, as an array of rows, columns and inks."""
@@ -112,78 +82,19 @@ class Planes:
             inks.append(np.minimum(total, 255).astype(np.uint8))
         return np.stack(inks, axis=2)
 
-    def blocks(self):
-        """Slices of rows that together are the page."""
-        return [slice(top, min(top + ROWS, self.height)) for top in range(0, self.height, ROWS)]
-
-    def counts(self, number):
-        """How often each value of ink stands in a plane."""
-        import numpy as np
-
-        stored = self.mapped()[number]
-        return sum(np.bincount(stored[rows].ravel(), minlength=256) for rows in self.blocks())[::-1]
-
-    def to_tiff(self, added):
-        """Makes the file itself an uncompressed planar TIFF file of the four inks; tells which of them it
-        holds.
-
-        Of each ink `added` has pairs of what a spot adds to it for each value, and the spot's plane.
+    def strips(self):
+        """The strips of ink from the top: their numbers, and arrays of planes, rows and columns, in the same
+        memory each time.
         """
         import numpy as np
 
-        stored, found = self.mapped("r+"), ""
-        for ink, letter in enumerate("CMYK"):
-            held = False
-            for rows in self.blocks():
-                samples = np.invert(stored[ink, rows])
-                if added[ink]:
-                    total = samples.astype(np.uint16)
-                    for shares, plane in added[ink]:
-                        total += shares[255 - stored[plane, rows]]
-                    samples = np.minimum(total, 255).astype(np.uint8)
-                held = held or bool(samples.any())
-                stored[ink, rows] = samples
-            found += letter if held else ""
-        del stored
-        self.write_directory()
-        return found
-
-    def write_directory(self):
-        """Writes a TIFF file's head over the first bytes, and its directory behind the planes."""
-        strips = -(-self.height // STRIP)
-        sizes = [self.width * min(STRIP, self.height - strip * STRIP) for strip in range(strips)] * 4
-        places, place = [], self.start
-        for size in sizes:
-            places.append(place)
-            place += size
-        with open(self.path, "r+b") as file:
-            end = file.seek(0, os.SEEK_END)
-            end += file.write(bytes(end % 2))
-            write_fields(file, end, self.width, self.height, 4, places, sizes)
-            file.seek(0)
-            file.write(struct.pack("<2sHI", b"II", 42, end))
-
-
-def write_fields(file, at, width, height, samples, places, sizes):
-    """Writes the directory of an uncompressed TIFF file here: planes of 8 bits of 4 inks, or one of 1 bit."""
-    one = len(sizes) == 1
-    beside = at + 2 + 12 * 11 + 4
-    lists = beside + 8, beside + 8 + 4 * len(sizes)
-    fields = [
-        (256, 4, 1, width),
-        (257, 4, 1, height),
-        (258, 3, samples, beside if samples == 4 else 1),
-        (259, 3, 1, 1),
-        (262, 3, 1, 5 if samples == 4 else 0),
-        (273, 4, len(sizes), places[0] if one else lists[0]),
-        (277, 3, 1, samples),
-        (278, 4, 1, STRIP),
-        (279, 4, len(sizes), sizes[0] if one else lists[1]),
-        (284, 3, 1, 2 if samples == 4 else 1),
-        (332, 3, 1, 1),
-    ]
-    file.write(struct.pack("<H", len(fields)))
-    for field in fields:
-        file.write(struct.pack("<HHII", *field))
-    file.write(struct.pack("<I4H", 0, 8, 8, 8, 8))
-    file.write(struct.pack(f"<{2 * len(sizes)}I", *places, *sizes))
+        memory, page = np.empty((self.count, STRIP, self.width), np.uint8), self.width * self.height
+        with open(self.path, "rb", buffering=0) as file:
+            for number, top in enumerate(range(0, self.height, STRIP)):
+                strip = memory[:, : min(STRIP, self.height - top)]
+                for plane, rows in enumerate(strip):
+                    place = self.start + plane * page + top * self.width
+                    if os.preadv(file.fileno(), [rows], place) != rows.size:
+                        raise Refused("damaged", "can't be rendered: its planes are cut off")
+                    np.invert(rows, out=rows)
+                yield number, strip

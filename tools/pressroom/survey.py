@@ -1,15 +1,15 @@
-"""A look at a page at a low resolution, before it's rendered at the plate's: which spots, RGB and too much
-ink it has.
+"""Looks at a page at a low resolution: which RGB it has, where ink is above the limit, and white text over
+four inks.
 
 Places are boxes in millimetres from the upper left corner of the trimmed page: left, top, width and height.
 """
 import math
 import re
-from dataclasses import dataclass
 
 from pressroom.pdf import MILLIMETRE
+from pressroom.separations import DPI
 
-DPI = 72
+ONE = 25.4 / DPI
 # A cell of so many millimetres has too much ink where half of it has; so many square millimetres are a
 # large area.
 CELL, LARGE = 5, 400
@@ -21,24 +21,14 @@ TEXT = re.compile(
 )
 
 
-@dataclass
-class Survey:
-    """What the look found: the places of spots that show by name, of RGB, and the four inks as an array."""
-
-    places: dict
-    inks: object
-    rgb: tuple | None
-    millimetres: float
-
-
-def survey(gs, trim_size):
-    """Renders the page twice at a low resolution and returns what shows."""
-    size = tuple(max(1, math.ceil(side / 25.4 * DPI)) for side in trim_size)
-    planes = gs.render(DPI, size, "survey.psd")
-    inks, one = planes.mixed(), 25.4 / DPI
+def rgb_of(gs, trim_size):
+    """Where RGB shows: the page is rendered twice, by profiles that differ for RGB alone. None where it
+    doesn't.
+    """
+    size = tuple(max(1, math.ceil(side / ONE)) for side in trim_size)
+    inks = gs.render(DPI, size, "survey.psd").mixed()
     other = gs.render(DPI, size, "marked.psd", "marked").mixed()
-    places = {spot.name: box_of(planes.plane(spot.plane) > 0, one) for spot in planes.spots}
-    return Survey(places, inks, box_of((inks != other).any(axis=2), one), one)
+    return box_of((inks != other).any(axis=2), ONE)
 
 
 def box_of(marked, one):
@@ -52,18 +42,18 @@ def box_of(marked, one):
 
 def above(seen, limit):
     """The area above an ink limit in percent, in square millimetres, and its place; None where it isn't
-    large.
+    large. `seen` is the ink of the page at the low resolution, as an array of rows, columns and inks.
     """
     import numpy as np
 
-    heavy = seen.inks.astype(np.uint16).sum(axis=2) > limit * 2.55 + 2
-    side = max(1, round(CELL / seen.millimetres))
+    heavy = seen.astype(np.uint16).sum(axis=2) > limit * 2.55 + 2
+    side = round(CELL / ONE)
     rows, columns = (-(-n // side) for n in heavy.shape)
     padded = np.zeros((rows * side, columns * side), dtype=bool)
     padded[: heavy.shape[0], : heavy.shape[1]] = heavy
     cells = padded.reshape(rows, side, columns, side).mean(axis=(1, 3)) >= 0.5
-    area = float(cells.sum()) * (side * seen.millimetres) ** 2
-    return (area, box_of(cells, side * seen.millimetres)) if area >= LARGE else None
+    area = float(cells.sum()) * (side * ONE) ** 2
+    return (area, box_of(cells, side * ONE)) if area >= LARGE else None
 
 
 def thin_white(limits, name, inspected, seen, folder):
@@ -101,7 +91,7 @@ def corner(inspected):
 
 def lies_on_four(box, seen):
     """Whether half of what isn't white in this box has all four inks."""
-    x, y, width, height = (round(value / seen.millimetres) for value in box)
-    part = seen.inks[max(0, y) : y + max(1, height), max(0, x) : x + max(1, width)]
+    x, y, width, height = (round(value / ONE) for value in box)
+    part = seen[max(0, y) : y + max(1, height), max(0, x) : x + max(1, width)]
     inked = part[part.any(axis=2)] if part.size else part
     return bool(len(inked)) and float((inked.min(axis=-1) >= INKED).mean()) >= 0.5
