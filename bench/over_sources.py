@@ -4,8 +4,9 @@
 usage: bench/over_sources.py CRATE FUNCTION ..        such as bench/over_sources.py ink_keys key_reader::KeyReader::turn
 
 On a machine without a cache, `rt check` proves all crates below first, which takes half an hour for a high
-crate. This takes a minute or two on one processor: it says early whether a function meets its contract. It is
-no verdict: only `rt ci` is. Libraries that this clone has built are used as they are. It reaches into the
+crate. This takes a minute or two on one processor for a low crate, and up to a quarter of an hour for a high
+one, since the functions of the crates below that the named ones reach are proved too. It says early whether a
+function meets its contract. It is no verdict: only `rt ci` is. Libraries that this clone has built are used as they are. It reaches into the
 kit, whose command `rt` has to be in PATH, and may not fit another kit.
 
 status: that of the check
