@@ -1,4 +1,4 @@
-// Two sites of a run and its writer side by side, seen by racks that tell each other how many row calls each
+// Tests that two sites of a run and its writer run side by side: their racks share how many row calls each
 // has begun.
 ghost use Rattle.std.specs.Prelude.{refl, ◌≡◌, Some, ◌≤◌, is_some, length, map};
 ghost use Rattle.pr_rack.specs.Rack.{none_begun};
@@ -17,17 +17,17 @@ use std::time::Clock;
 /// What a rack does in one of its row calls.
 #[derive(Clone, Copy)]
 enum Stop {
-    /// In the call for this row it waits until the other rack has begun so many row calls, or 2^26 turns are
-    /// over.
+    /// Waits in the call for this row until the other rack has begun `calls` row calls, or for 2^26 turns of
+    /// a loop.
     Meets { row: u64, calls: u64 },
-    /// In the call for row 0 it waits 2^20 turns.
+    /// Waits in the call for row 0, for 2^20 turns of a loop.
     Pauses,
-    /// It goes on in each.
+    /// Never waits.
     Goes,
 }
 
-/// What the racks of a run share: the row calls that each of two has begun, how often one waited in vain or
-/// had a row for which the other's calls leave no room, and the places of the ring.
+/// What the racks of a run share: the number of row calls that each of two has begun, how often one waited in
+/// vain or had a row that is too far ahead of the other's calls, and the places of the ring.
 #[derive(Drop)]
 struct Counts {
     first: AtomicU64,
@@ -36,7 +36,7 @@ struct Counts {
     places: u64,
 }
 
-/// A rack in memory that counts its row calls, and looks at those of another rack.
+/// A rack in memory that counts its row calls, and compares them with those of another rack.
 #[derive(Drop)]
 struct Watched<'c> {
     rack: MemRack,
@@ -47,8 +47,8 @@ struct Watched<'c> {
 }
 
 impl Watched<'_> {
-    /// Waits until the other rack has begun so many row calls, or so many turns are over. Answers whether
-    /// it has.
+    /// Waits until the other rack has begun `calls` row calls, or for `turns` turns of a loop. Returns
+    /// whether it has begun them.
     fn wait(&self, calls: u64, turns: u64) -> bool {
         for _turn in 0..turns {
             if self.other.load(Ordering::SeqCst) >= calls {
@@ -59,8 +59,8 @@ impl Watched<'_> {
         false
     }
 
-    /// Waits in the call for row `n` where it is to, and answers whether the other rack came as far as is
-    /// awaited.
+    /// Waits in the call for row `n` if this rack waits there, and returns whether the other rack came as far
+    /// as expected.
     fn meets(&self, n: u64) -> bool {
         match self.stop {
             Stop::Meets { row, calls } if n == row => self.wait(calls, 1 << 26),
@@ -120,7 +120,7 @@ impl Rack for Watched<'_> {
     }
 }
 
-/// The idle rack of a site. Those of the first two look at each other.
+/// Returns the idle rack of a site. The racks of the first two sites watch each other.
 fn rack_of<'c>(alloc: Global, site: usize, stops: [Stop; 2], counts: &'c Counts) -> Watched<'c>
     ensures { map is_some result.rack.slots ≡ none_begun }
 {
@@ -144,7 +144,7 @@ fn rack_of<'c>(alloc: Global, site: usize, stops: [Stop; 2], counts: &'c Counts)
     }
 }
 
-/// Sixteen racks, of which the first two look at each other.
+/// Returns sixteen racks, of which the first two watch each other.
 fn watched_racks<'c, R: Abort + AllocGlobal>(
     rt: &R,
     stops: [Stop; 2],
@@ -161,12 +161,12 @@ fn watched_racks<'c, R: Abort + AllocGlobal>(
     racks
 }
 
-// Two pairs of empty pages for two sites: 1024 rows, which both keep.
+// A plan of two pairs of empty pages for two sites: 1,024 rows, which both sites keep.
 const LONG: &str = r#"{"plan":1,"edition":"E1","dpi":1200,"page":[8,512],
 "pages":[{"name":"w","inks":"K","layers":[]}],
 "sections":[{"name":"A","pages":["w","w","w","w"]}],"sites":[{"name":"OSLO"},{"name":"BERGEN"}]}"#;
 
-/// A command over a plan of so many rows and a ring of so many readers and places, and what it reports.
+/// A command over a plan of `rows` rows with a ring of this many readers and places, and what it reports.
 #[derive(Clone, Copy)]
 struct Order<'a> {
     words: &'a [&'a str],
@@ -225,7 +225,7 @@ const KEYS_AT_2: Order<'static> = Order {
     places: 2,
 };
 
-/// Whether the racks of both sites took all rows from the one ring of the order.
+/// Returns whether the racks of both sites took all rows, in order, from one ring.
 fn took_all(racks: &[Watched<'_>], order: Order<'_>) -> bool {
     for (site, rack) in racks.iter().enumerate().take(2) {
         let source = Source::Ring {
@@ -241,7 +241,7 @@ fn took_all(racks: &[Watched<'_>], order: Order<'_>) -> bool {
     true
 }
 
-/// Whether the command over these racks ends well and reports.
+/// Returns whether the command over these racks is done and prints its report.
 fn reports<'c, R: Abort + AllocGlobal + Threads + Clock + Sync>(
     rt: &R,
     order: Order<'_>,
@@ -257,7 +257,7 @@ fn reports<'c, R: Abort + AllocGlobal + Threads + Clock + Sync>(
     status == 0 && out.bytes() == order.report.as_bytes()
 }
 
-/// Does the command over racks that wait so for each other.
+/// Runs the command over racks that wait for each other in this way.
 fn run_watched<R: Abort + AllocGlobal + Threads + Clock + Sync>(
     rt: &R,
     order: Order<'_>,
@@ -268,7 +268,7 @@ fn run_watched<R: Abort + AllocGlobal + Threads + Clock + Sync>(
     reports(rt, order, racks.as_mut_slice()) && took_all(racks.as_slice(), order)
 }
 
-/// Does the command, and gives how often a rack was alone.
+/// Runs the command, and returns how often a rack was alone.
 fn times_alone<R: Abort + AllocGlobal + Threads + Clock + Sync>(
     rt: &R,
     order: Order<'_>,
@@ -284,7 +284,7 @@ fn times_alone<R: Abort + AllocGlobal + Threads + Clock + Sync>(
     counts.alone.load(Ordering::SeqCst)
 }
 
-/// In one of four runs no rack is alone.
+/// Asserts that in one of four runs no rack is alone.
 fn assert_meet<R: Abort + AllocGlobal + Threads + Clock + Sync>(
     rt: &R,
     order: Order<'_>,
@@ -298,7 +298,7 @@ fn assert_meet<R: Abort + AllocGlobal + Threads + Clock + Sync>(
     panic!(rt; "each run went on alone");
 }
 
-// Each rack waits in its first row call for the other to begin one, which on one thread it never does.
+// Each rack waits in its first row call until the other begins one, which never happens on one thread.
 #[test]
 fn sites_run_side_by_side(rt: HostRuntime) {
     let stop = Stop::Meets { row: 0, calls: 1 };
@@ -311,7 +311,7 @@ fn sites_run_side_by_side_of_key_counts(rt: HostRuntime) {
     assert_meet(&rt, KEYS_AT_64, [stop, stop]);
 }
 
-// At two places no rack gets a row that is two further than what the other has begun, though it pauses.
+// With two places no rack receives a row that is two ahead of the other's calls, although that one pauses.
 #[test]
 fn sites_share_one_ring(rt: HostRuntime) {
     assert_eq!(rt; times_alone(&rt, RUN_AT_2, [Stop::Goes, Stop::Pauses]), 0);
@@ -322,9 +322,9 @@ fn sites_and_key_counts_share_one_ring(rt: HostRuntime) {
     assert_eq!(rt; times_alone(&rt, KEYS_AT_2, [Stop::Goes, Stop::Pauses]), 0);
 }
 
-// The first rack waits in the call for row 10 until the other has begun that for row 70, which a writer whose
-// turn ends before those of the sites begin doesn't give it: rows 64 to 70 take the places of rows 0 to 6,
-// and before that turn of the sites none of these was taken.
+// The first rack waits in the call for row 10 until the other has begun the call for row 70. A writer whose
+// turn ends before the sites' turns begin can't publish that row: rows 64 to 70 take the places of rows 0 to
+// 6, none of which was taken before.
 #[test]
 fn writer_runs_beside_the_sites(rt: HostRuntime) {
     let stop = Stop::Meets { row: 10, calls: 71 };
