@@ -18,7 +18,7 @@ use Rattle.room_base.specs.Seen.{Files, ShelfSeen, LoadFailed}
 pub of_told : (held : Option Files) (files : Files) (P : Files → Type 0) → held ≡ Some files → IfSome held P → P files
 of_told held files P told h = let Q : Option Files → Type 0 = λ o. IfSome o P in subst Q told h
 
--- the same for `OfFiles`
+-- the same for `OfFiles`, which is about the shelf's own files where they are known
 of_files : (held : Option Files) (files : Files) (P : Files → Type 0) → held ≡ Some files → OfFiles held P → P files
 of_files held files P told h = let Q : Option Files → Type 0 = λ o. OfFiles o P in subst Q told h
 
@@ -52,7 +52,7 @@ module _ (whose : Whose) (path folder : List ℕ) (files : Files) where
   planned_is held plan told planned =
       loaded_plan held planned.bytes told planned.loaded ∙ ap (verdict_on_plan whose folder files) planned.read
 
-  -- a job that was prepared passes
+  -- the verdict on a prepared job is no refusal
   pub prepared_is : (held : Option Files) (job : JobData) → held ≡ Some files → IsPrepared held path folder job
       → verdict_on_job whose path folder files ≡ None
   prepared_is held job told prepared =

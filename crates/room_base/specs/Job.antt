@@ -63,7 +63,8 @@ pub record IsPlanned (held : Option Files) (path : List ℕ) (plan : PlanData) :
   pub loaded : IsLoaded held plan_limit path bytes
   pub read : plan_of bytes ≡ Ok plan
 
--- the plan and its files, free of faults; where the shelf's contents are unknown, some files fit
+-- the plan and its files, free of faults: read from the shelf's files where they are known, otherwise from
+-- some files
 pub record IsPrepared (held : Option Files) (path folder : List ℕ) (job : JobData) : Type 0 where
   pub planned : IsPlanned held path job.plan
   pub sound : OfFiles held (AreSound job.plan folder job.files)
@@ -75,8 +76,9 @@ pub record HasMissed (shelf : ShelfSeen) (path : List ℕ) : Type 0 where
   pub counted : Rose shelf.faults shelf.faults'
   pub last : IfSome shelf.missed' (λ missed. missed ≡ Some path)
 
--- the plan at a path names a file with this fault, the first fault among its files; where the shelf's
--- contents are unknown, some files fit; a file is reported as too long only where the shelf counted that
+-- the plan at a path names a file with this fault, the first fault found among the shelf's files where its
+-- contents are known, otherwise among some files; a file is reported as too long only where the shelf
+-- counted that
 pub record HasBadFile (shelf : ShelfSeen) (path folder : List ℕ) (fault : FileFault) : Type 0 where
   pub plan : PlanData
   pub planned : IsPlanned shelf.held path plan

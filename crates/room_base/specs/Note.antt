@@ -20,7 +20,7 @@ TellsRefusal refusal note status =
     ⊎ ((status ≡ 7) × PutFailed note × GrewByPrefix note.given note.given' (line_of refusal))
     ⊎ ((status ≡ 6) × GrewByTwo note.given note.given' (line_of refusal) memory_line)
 
--- how the reason that a command did not complete is written
+-- what is written about why a command did not complete
 abbrev pub TellsStop : Stop → SinkSeen → ℕ → Type 0
 TellsStop (Refused refusal) note status = TellsRefusal refusal note status
 TellsStop Memory note status = (status ≡ 6) × GrewByPrefix note.given note.given' memory_line

@@ -26,6 +26,6 @@ IsRefusal status = (status ≡ 2) ⊎ (status ≡ 3) ⊎ (status ≡ 4) ⊎ (sta
 abbrev pub IsCutShort : ℕ → Type 0
 IsCutShort status = (status ≡ 6) ⊎ (status ≡ 7)
 
--- a status of a command
+-- an exit status of a command
 abbrev pub IsStatus : ℕ → Type 0
 IsStatus status = IsDoneStatus status ⊎ IsRefusal status ⊎ IsCutShort status
