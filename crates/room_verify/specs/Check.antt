@@ -45,7 +45,7 @@ row_line path at row =
 abbrev pub byte_line : List ℕ → ℕ → List ℕ
 byte_line path at = codes "differs " ++ path ++ codes " byte " ++ decimal at ++ codes "\n"
 
--- a plate is longer than any plate can be
+-- a stored plate is longer than the most bytes loaded of a plate
 abbrev pub long_line : List ℕ → List ℕ
 long_line path = codes "differs " ++ path ++ codes " long\n"
 
