@@ -73,7 +73,7 @@ not_all_done ends status is one = by (list_all is_done ends) is where
   by false h = refl
 
 module _ {R : Type 0} (g : Ghosts R) where
-  -- the rack of a site that left counted a failure
+  -- the rack of a site that dropped out counted a failure
   picked_failed : (change : Change) (job : JobData) (picks : PicksData) (racks racks' : List R) (ends : List RemadeEnd) (site made : ℕ) (path : List ℕ)
       → DeliversPicked g change job picks racks racks' ends → slice_get ends site ≡ Some (remade.Left made path) → RackFailed g racks racks'
   picked_failed change job picks racks racks' ends site made path delivers at =
