@@ -1,4 +1,4 @@
--- What racks tell of which no slot is begun.
+-- State of racks that have no begun slot.
 use Rattle.std.proofs.Common.{◌≡◌, ◌≤◌, ◌<◌, ◌⊎◌, ℕ, List, length, Some, None, option_map, sym, ap, ◌∙◌, inl, inr}
 use Rattle.std.specs.Prelude.{slice_get, slice_index_or}
 use Rattle.std.proofs.lemmas.Option.{same_Some, slice_get-map, slice_get_cases}
@@ -7,7 +7,7 @@ use Rattle.pr_rack.specs.declared.rack.Rack.{Ghosts}
 use Rattle.pr_rack.specs.Told.{RackTells, all_told, told}
 use Rattle.room_base.specs.Seen.{AreIdle}
 
--- a rack of which no slot is begun, as each is, tells so
+-- where no rack has a begun slot, the state read from any rack shows none
 pub idle_at : {R : Type 0} (g : Ghosts R) (racks : List R) (site : ℕ) (tells : RackTells) → AreIdle g racks
     → slice_get (all_told g racks) site ≡ Some tells → tells.tells.begun ≡ none_begun
 idle_at {R} g racks site tells idle at = by (slice_get_cases racks site).1 where

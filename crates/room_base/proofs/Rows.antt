@@ -1,4 +1,4 @@
--- The rows of a job, and those of its feed.
+-- The rows of a job and those of its feed.
 use Rattle.std.proofs.Common.{◌≡◌, ℕ, List, length, map, sym, ap, subst, ◌∙◌}
 use Rattle.pr_base.specs.Row.{row_size}
 use Rattle.tif_packbits.specs.Frame.{AreFrames, framed_row}
@@ -23,7 +23,7 @@ module _ (own : PlanData) (job : JobData) (left : List (List ℕ)) (same : own �
       (subst (λ (l : List (List ℕ)). AreFrames (row_size (plate_width job.plan)) of_job l) (sym feeds)
       (are_frames job.plan job.files is)))
 
-  -- what holds of the plan and the rows that the feed tells holds of the job's
+  -- a property of `own` and the rows left in the feed holds of the job's plan and rows
   pub over_job : (P : PlanData → List (List ℕ) → Type 0) → P own (map framed_row left) → P job.plan (plate_rows job.plan job.files)
   over_job P p = subst (λ (rows : List (List ℕ)). P job.plan rows) rows_in (subst (λ (q : PlanData). P q (map framed_row left)) same p)
 

@@ -1,11 +1,11 @@
--- What a command leaves where its text was put.
+-- Outcomes of a command after its text was written.
 use Rattle.std.proofs.Common.{ℕ, List, Result, Ok, Err, subst, sym, inl, inr, refl}
 use Rattle.room_base.specs.declared.refusal.Stop.{Stop}
 use Rattle.room_base.specs.declared.refusal.Stop.TheVariants as stop
 use Rattle.room_base.specs.Seen.{ShelfSeen, SinkSeen}
 use Rattle.room_base.specs.Task.{Answers, Makes, Puts, Rules, Told, telling}
 
--- what a command leaves that leaves the racks alone
+-- the outcome of a command that leaves the racks unchanged
 pub told_answers : {R : Type 0} (rules : Rules) (Tells : ShelfSeen → List ℕ → ℕ → Type 0) (shelf : ShelfSeen)
     (racks : List R) (out : SinkSeen) (result : Result ℕ Stop) → Told rules Tells shelf out result
     → Answers rules (telling Tells) shelf racks racks out result
@@ -18,7 +18,7 @@ told_answers rules Tells shelf racks out (Err stop.Memory) (inr front) =
 told_answers rules Tells shelf racks out (Err stop.Printing) (front, rose) =
     (record { text = front.text; status = front.status; prints = (front.tells, refl); grew = front.grew }, rose)
 
--- what is left where its text was put
+-- the outcome after its text was written
 pub put_tells : (rules : Rules) (Tells : ShelfSeen → List ℕ → ℕ → Type 0) (shelf : ShelfSeen) (out : SinkSeen)
     (text : List ℕ) (own : ℕ) (result : Result ℕ Stop) → Tells shelf text own → Puts text own out result
     → Told rules Tells shelf out result
@@ -30,7 +30,7 @@ put_tells rules Tells shelf out text own (Err stop.Memory) tells front =
 put_tells rules Tells shelf out text own (Err stop.Printing) tells (front, rose) =
     (record { text = text; status = own; tells = tells; grew = front }, rose)
 
--- what is left of a command over racks where its text was put
+-- the outcome of a command over racks after its text was written
 pub put_makes : {R : Type 0} (rules : Rules) (makes : Makes R) (shelf : ShelfSeen) (racks racks' : List R) (out : SinkSeen)
     (text : List ℕ) (own : ℕ) (result : Result ℕ Stop) → makes.Prints shelf racks racks' text own → Puts text own out result
     → Answers rules makes shelf racks racks' out result

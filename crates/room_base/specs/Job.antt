@@ -1,5 +1,5 @@
--- Loading a job: its plan, and then the files that the plan names. What is wrong with it, and the refusals
--- that it may meet, each with its cause.
+-- Loading a job: its plan, and then the files that the plan names. The verdict on a job, and the refusals
+-- that loading may return, each with its cause.
 use Rattle.std.specs.Prelude.{◌≡◌, ◌≤◌, ◌⊎◌, ℕ, if◌then◌else◌, nat_lt, List, length, Contains, Option, Some}
 use Rattle.std.specs.Prelude.{None, IfSome, Result, Ok, Err, option_and_then}
 use Rattle.pr_base.specs.declared.fault.FileFault.{FileFault}
@@ -22,23 +22,23 @@ use Rattle.room_base.specs.declared.refusal.Stop.TheVariants.{Refused, Memory, P
 
 -- ---- the verdict, from the files that a shelf holds
 
--- the bytes of a plan that are read at most
+-- the largest plan that is read, in bytes
 abbrev pub plan_limit : ℕ
 plan_limit = 16777216
 
--- the refusal of a plan's files; want of memory is none
+-- the refusal for a plan's files; running out of memory is not a refusal
 abbrev pub files_refusal : Whose → filed.Refusal → Option Refusal
 files_refusal whose (filed_as.File fault) = Some (File whose fault)
 files_refusal whose (filed_as.Shelf path) = Some (Shelf path)
 files_refusal whose filed_as.Memory = None
 
--- the verdict on what the bytes of a plan are read to: a plan, and then on its files
+-- the verdict on the result of parsing a plan: on the plan, and then on its files
 abbrev pub verdict_on_plan : Whose → List ℕ → Files → Result PlanData PlanFault → Option Refusal
 verdict_on_plan whose folder files (Err fault) = Some (Plan whose fault)
 verdict_on_plan whose folder files (Ok plan) =
     option_and_then (files_refusal whose) (verdict_on_files plan folder files)
 
--- the verdict on the bytes at the path of a plan: held, not too long, and a plan whose files pass
+-- the verdict on the bytes at the plan's path: present, not too long, and a plan whose files pass
 abbrev pub verdict_with : Whose → List ℕ → List ℕ → Files → Option (List ℕ) → Option Refusal
 verdict_with whose path folder files None = Some (Shelf path)
 verdict_with whose path folder files (Some bytes) =
@@ -51,31 +51,34 @@ verdict_on_job whose path folder files = verdict_with whose path folder files (h
 
 -- ---- what was loaded
 
--- the shelf gave these bytes, at most so many, which are what it holds at the path, where told
+-- the shelf returned these bytes, at most `limit` of them; they are what it holds at the path, where its
+-- contents are known
 pub record IsLoaded (held : Option Files) (limit : ℕ) (path bytes : List ℕ) : Type 0 where
   pub within : length bytes ≤ limit
   pub bytes_held : IsHeldAt held path bytes
 
--- the plan at a path was loaded and read
+-- the plan at a path was loaded and parsed
 pub record IsPlanned (held : Option Files) (path : List ℕ) (plan : PlanData) : Type 0 where
   pub bytes : List ℕ
   pub loaded : IsLoaded held plan_limit path bytes
   pub read : plan_of bytes ≡ Ok plan
 
--- the plan and its files, with nothing wrong with them; where the shelf tells none, there are such files
+-- the plan and its files, free of faults: read from the shelf's files where they are known, otherwise from
+-- some files
 pub record IsPrepared (held : Option Files) (path folder : List ℕ) (job : JobData) : Type 0 where
   pub planned : IsPlanned held path job.plan
   pub sound : OfFiles held (AreSound job.plan folder job.files)
 
 -- ---- refusals with their causes
 
--- the shelf counted a failure in this call, and this path is the last that it missed, where told
+-- the shelf counted a failure in this call; this path is that of its last failed load, where that is known
 pub record HasMissed (shelf : ShelfSeen) (path : List ℕ) : Type 0 where
   pub counted : Rose shelf.faults shelf.faults'
   pub last : IfSome shelf.missed' (λ missed. missed ≡ Some path)
 
--- the plan at a path has a file with this fault, which is the first thing that is wrong with its files; where
--- the shelf tells none, there are such files; a file is too long only where the shelf counted that
+-- the plan at a path names a file with this fault, the first fault found among the shelf's files where its
+-- contents are known, otherwise among some files; a file is reported as too long only where the shelf
+-- counted that
 pub record HasBadFile (shelf : ShelfSeen) (path folder : List ℕ) (fault : FileFault) : Type 0 where
   pub plan : PlanData
   pub planned : IsPlanned shelf.held path plan
@@ -83,13 +86,14 @@ pub record HasBadFile (shelf : ShelfSeen) (path folder : List ℕ) (fault : File
   pub faulty : OfFiles shelf.held (IsFirstFault plan folder fault)
   pub long : fault.kind ≡ TooLong → Rose shelf.longs shelf.longs'
 
--- what wasn't loaded is the plan, or one of its files, with nothing wrong before it, where told
+-- the failed load was that of the plan, or of one of its files with no fault before it, where the contents
+-- are known
 abbrev pub IsPathOf : Option Files → List ℕ → List ℕ → List ℕ → Type 0
 IsPathOf held path folder missed =
     (missed ≡ path)
     ⊎ ((plan : PlanData) × IsPlanned held path plan × IsMissing plan folder held missed)
 
--- loading a job meets this refusal
+-- loading a job returns this refusal
 abbrev pub JobMeets : Whose → List ℕ → List ℕ → ShelfSeen → Refusal → Type 0
 JobMeets whose path folder shelf Words = ⊥
 JobMeets whose path folder shelf (LongPlan whose') =

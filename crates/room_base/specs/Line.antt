@@ -1,4 +1,4 @@
--- The lines that tell of a refusal.
+-- Lines that report a refusal.
 use Rattle.std.specs.Prelude.{ℕ, List, [], ◌++◌, codes}
 use Rattle.std.specs.Fmt.{decimal}
 use Rattle.pr_base.specs.declared.fault.FileFault.{FileFault}
@@ -12,12 +12,12 @@ use Rattle.room_base.specs.declared.refusal.Whose.TheVariants.{New, Old}
 abbrev pub words_line : List ℕ
 words_line = codes "plateroom: words\n"
 
--- what begins a line on a job
+-- the start of a line about a job
 abbrev pub job_word : Whose → List ℕ
 job_word New = codes "plateroom: "
 job_word Old = codes "plateroom: old "
 
--- a plan with more bytes than are read
+-- a plan longer than the limit for plans
 abbrev pub long_plan_line : Whose → List ℕ
 long_plan_line whose = job_word whose ++ codes "plan: too long\n"
 
@@ -25,7 +25,7 @@ long_plan_line whose = job_word whose ++ codes "plan: too long\n"
 abbrev pub plan_line_at : Whose → List ℕ → List ℕ → List ℕ
 plan_line_at whose path kind = job_word whose ++ codes "plan " ++ path ++ codes ": " ++ kind ++ codes "\n"
 
--- a plan with a fault; want of memory is none
+-- a plan with a fault; running out of memory is not one
 abbrev pub plan_line : Whose → PlanFault → List ℕ
 plan_line whose NotJson = job_word whose ++ codes "plan: not JSON\n"
 plan_line whose (Missing path) = plan_line_at whose path (codes "missing")

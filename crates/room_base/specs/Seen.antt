@@ -1,4 +1,4 @@
--- What a call of `plate_main` saw of its shelf, its racks and its sinks, by what they tell before and after.
+-- What a call of `plate_main` observed of its shelf, its racks and its sinks: their state before and after.
 use Rattle.std.specs.Prelude.{ℕ, ◌≡◌, List, All, Option, Some, slice_get}
 use Rattle.pr_base.specs.Count.{Rose}
 use Rattle.pr_ports.specs.declared.shelf.Shelf as shelf
@@ -31,7 +31,7 @@ shelf_seen g old new = record {
   longs' = g.longs new;
 }
 
--- a sink: what it was given, and its count
+-- a sink: the bytes it took, and its count of failures
 pub record SinkSeen : Type 0 where
   pub given : Option (List ℕ)
   pub given' : Option (List ℕ)
@@ -46,7 +46,7 @@ sink_seen g old new = record {
   faults' = g.faults new;
 }
 
--- what a command saw: its words, the shelf, the racks before and after, and the output
+-- what a command observed: its arguments, the shelf, the racks before and after, and the output
 pub record Seen (R : Type 0) : Type 0 where
   pub words : List (List ℕ)
   pub shelf : ShelfSeen
@@ -82,6 +82,6 @@ pub record RackFailed {R : Type 0} (g : rack.Ghosts R) (racks racks' : List R) :
   pub after : slice_get racks' site ≡ Some new
   pub rose : Rose (g.faults old) (g.faults new)
 
--- no slot of a rack is begun
+-- no rack has a begun slot
 abbrev pub AreIdle : {R : Type 0} → rack.Ghosts R → List R → Type 0
 AreIdle g racks = All (λ rack. g.begun rack ≡ none_begun) racks

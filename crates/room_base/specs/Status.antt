@@ -1,4 +1,4 @@
--- The exit statuses, and their numbers.
+-- Exit statuses and their numbers.
 use Rattle.std.specs.Prelude.{◌≡◌, ℕ, ◌⊎◌}
 use Rattle.room_base.specs.declared.status.Status.{Status}
 use Rattle.room_base.specs.declared.status.Status.TheVariants as is
@@ -14,18 +14,18 @@ number_of is.Memory = 6
 number_of is.Printing = 7
 number_of is.Differs = 8
 
--- the command is done; 1 where a site left, and 8 where a plate that is held isn't right
+-- the command completed; 1 where a site dropped out, and 8 where a stored plate does not match
 abbrev pub IsDoneStatus : ℕ → Type 0
 IsDoneStatus status = (status ≡ 0) ⊎ (status ≡ 1) ⊎ (status ≡ 8)
 
--- the status tells of a refusal: of the words, the plan, a file or the shelf
+-- the status of a refusal: of the arguments, the plan, a file or the shelf
 abbrev pub IsRefusal : ℕ → Type 0
 IsRefusal status = (status ≡ 2) ⊎ (status ≡ 3) ⊎ (status ≡ 4) ⊎ (status ≡ 5)
 
--- the command was cut short: memory was wanted, or a sink failed
+-- the command was cut short: memory ran out, or a sink failed
 abbrev pub IsCutShort : ℕ → Type 0
 IsCutShort status = (status ≡ 6) ⊎ (status ≡ 7)
 
--- a status of a command
+-- an exit status of a command
 abbrev pub IsStatus : ℕ → Type 0
 IsStatus status = IsDoneStatus status ⊎ IsRefusal status ⊎ IsCutShort status

@@ -1,4 +1,5 @@
--- What `plate_main` says of any command, over what the call saw of its shelf, its racks and its output.
+-- The contract of any command of `plate_main`, over what the call observed of its shelf, its racks and its
+-- output.
 use Rattle.std.specs.Prelude.{◌≡◌, ℕ, ◌⊎◌, List, Option, Result, Ok, Err}
 use Rattle.pr_ports.specs.Sink.{Grew, GrewByPrefix}
 use Rattle.room_base.specs.declared.refusal.Refusal.{Refusal}
@@ -6,23 +7,23 @@ use Rattle.room_base.specs.declared.refusal.Stop.{Stop}
 use Rattle.room_base.specs.declared.refusal.Stop.TheVariants.{Refused, Memory, Printing}
 use Rattle.room_base.specs.Seen.{Files, ShelfSeen, SinkSeen, IsSilent, PutFailed}
 
--- what a command asks of the files of a shelf
+-- what a command requires of the files of a shelf
 pub record Rules : Type 1 where
-  -- what is wrong with the files that a shelf holds
+  -- the refusal, if any, of the files that a shelf holds
   pub verdict : Files → Option Refusal
-  -- a refusal that the command may meet, with its cause
+  -- a refusal that the command may return, with its cause
   pub Meets : ShelfSeen → Refusal → Type 0
-  -- the status that it ends with where a shelf holds these files and nothing fails
+  -- the exit status where a shelf holds these files and nothing fails
   pub Ends : Files → ℕ → Type 0
 
--- what a command makes, over racks of a type
+-- what a command produces, over racks of a type
 pub record Makes (R : Type 0) : Type 1 where
-  -- shelf and racks are so that it prints this text and ends with this status
+  -- for this shelf and these racks, it prints this text and ends with this status
   pub Prints : ShelfSeen → List R → List R → List ℕ → ℕ → Type 0
   -- how it may leave the racks before it prints anything
   pub Begins : ShelfSeen → List R → List R → Type 0
 
--- a command that prints texts of this kind and leaves the racks alone
+-- a command that prints texts of this kind and leaves the racks unchanged
 abbrev pub telling : {R : Type 0} → (ShelfSeen → List ℕ → ℕ → Type 0) → Makes R
 telling Tells = record {
   Prints = λ shelf racks racks' text status. Tells shelf text status × (racks' ≡ racks);
@@ -36,7 +37,7 @@ pub record PrintsWhole {R : Type 0} (makes : Makes R) (shelf : ShelfSeen) (racks
   pub prints : makes.Prints shelf racks racks' text status
   pub grew : Grew out.given out.given' text
 
--- the output took a front of the text of a command
+-- the output took a prefix of the text of a command
 pub record PrintsFront {R : Type 0} (makes : Makes R) (shelf : ShelfSeen) (racks racks' : List R)
     (out : SinkSeen) : Type 0 where
   pub text : List ℕ
@@ -44,17 +45,17 @@ pub record PrintsFront {R : Type 0} (makes : Makes R) (shelf : ShelfSeen) (racks
   pub prints : makes.Prints shelf racks racks' text status
   pub grew : GrewByPrefix out.given out.given' text
 
--- a command was cut short: the output took a front of its text, or nothing of it yet
+-- a command was cut short: the output took a prefix of its text, or nothing yet
 abbrev pub IsPart : {R : Type 0} → Makes R → ShelfSeen → List R → List R → SinkSeen → Type 0
 IsPart makes shelf racks racks' out =
     PrintsFront makes shelf racks racks' out
     ⊎ (makes.Begins shelf racks racks' × (out.given' ≡ out.given))
 
--- nothing was made
+-- racks and output are unchanged
 abbrev pub IsNothing : {R : Type 0} → List R → List R → SinkSeen → Type 0
 IsNothing racks racks' out = (racks' ≡ racks) × (out.given' ≡ out.given)
 
--- what a command leaves; where the output fails it was made whole, since printing comes last
+-- the outcome of a command; where the output failed, all else was done, since printing comes last
 abbrev pub Answers : {R : Type 0} → Rules → Makes R → ShelfSeen → List R → List R → SinkSeen
     → Result ℕ Stop → Type 0
 Answers rules makes shelf racks racks' out (Ok status) = PrintsWhole makes shelf racks racks' out status
@@ -65,16 +66,16 @@ Answers rules makes shelf racks racks' out (Err Memory) =
 Answers rules makes shelf racks racks' out (Err Printing) =
     PrintsFront makes shelf racks racks' out × PutFailed out
 
--- ---- a command that leaves the racks alone
+-- ---- a command that leaves the racks unchanged
 
--- the output took the whole of such a text
+-- the output took the whole text of such a command
 pub record TellsWhole (Tells : ShelfSeen → List ℕ → ℕ → Type 0) (shelf : ShelfSeen) (out : SinkSeen)
     (status : ℕ) : Type 0 where
   pub text : List ℕ
   pub tells : Tells shelf text status
   pub grew : Grew out.given out.given' text
 
--- the output took a front of it
+-- the output took a prefix of it
 pub record TellsFront (Tells : ShelfSeen → List ℕ → ℕ → Type 0) (shelf : ShelfSeen) (out : SinkSeen)
     : Type 0 where
   pub text : List ℕ
@@ -82,14 +83,14 @@ pub record TellsFront (Tells : ShelfSeen → List ℕ → ℕ → Type 0) (shelf
   pub tells : Tells shelf text status
   pub grew : GrewByPrefix out.given out.given' text
 
--- what it leaves of shelf and output
+-- the outcome of such a command, for shelf and output
 abbrev pub Told : Rules → (ShelfSeen → List ℕ → ℕ → Type 0) → ShelfSeen → SinkSeen → Result ℕ Stop → Type 0
 Told rules Tells shelf out (Ok status) = TellsWhole Tells shelf out status
 Told rules Tells shelf out (Err (Refused refusal)) = rules.Meets shelf refusal × IsSilent out
 Told rules Tells shelf out (Err Memory) = (out.given' ≡ out.given) ⊎ TellsFront Tells shelf out
 Told rules Tells shelf out (Err Printing) = TellsFront Tells shelf out × PutFailed out
 
--- what putting a whole text leaves of the output, where its command ends with a status
+-- the outcome of writing a whole text to the output, for a command that ends with status `own`
 abbrev pub Puts : List ℕ → ℕ → SinkSeen → Result ℕ Stop → Type 0
 Puts text own out (Ok status) = (status ≡ own) × Grew out.given out.given' text
 Puts text own out (Err (Refused refusal)) = ⊥

@@ -1,6 +1,6 @@
-// What all commands of the room share: what a call saw, what is said of any command, refusals with their
-// statuses and lines, the loading of a job, and printing a text. Each command stands in a crate above, and
-// plate_room reads the words.
+// Parts shared by all commands: what a call observed, the contract of any command, refusals with their
+// statuses and lines, loading a job, and printing a text. Each command has its own crate above this one;
+// plate_room parses the arguments.
 #![tactic(auto)]
 
 mod loading;

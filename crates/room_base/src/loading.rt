@@ -11,10 +11,10 @@ use press_job::{Job, prepare};
 use std::alloc::Global;
 use std::thread::Threads;
 
-/// The bytes of a plan that are read at most.
+/// Largest plan that is read, in bytes.
 const PLAN_LIMIT: u64 = 16_777_216;
 
-/// Loads the plan at a path and its files in a folder, and tests them all.
+/// Loads the plan at `path` and its files in `folder`, and checks them all.
 pub fn load_job<T: Threads + Sync, H: Shelf>(
     rt: &T,
     alloc: Global,
@@ -43,7 +43,7 @@ pub fn load_job<T: Threads + Sync, H: Shelf>(
     }
 }
 
-/// Loads the plan at a path and reads it.
+/// Loads the plan at `path` and parses it.
 fn load_plan<H: Shelf>(alloc: Global, whose: Whose, path: &str, shelf: &mut H) -> Result<Plan, Stop>
     ensures planned { IfOk result (IsPlanned (H.held shelf.old) path.now) }
     ensures refused { IfErr result (λ stop. (folder : List ℕ) →

@@ -1,4 +1,4 @@
-// The lines that tell why a command wasn't done.
+// Lines that report why a command did not complete.
 ghost use Rattle.std.specs.Prelude.{◌≡◌, ◌++◌, IfOk, string_bytes};
 ghost use Rattle.pr_ports.specs.Sink.{GrewByPrefix};
 ghost use Rattle.room_base.specs.Line.{file_line as file_line_lem, job_word as job_word_lem, memory_line};
@@ -14,10 +14,10 @@ use pr_base::{FileFault, PathText};
 use pr_ports::{Sink, SinkFault};
 use std::alloc::{AllocError, Global};
 
-/// The line of want of memory, which takes none itself.
+/// The out-of-memory line, a constant: it needs no allocation itself.
 const MEMORY_LINE: &[u8] = b"plateroom: memory\n";
 
-/// What begins a line on a job.
+/// Returns the start of a line about a job.
 fn job_word(whose: Whose) -> &'static str
     ensures { result.now ≡ job_word_lem whose }
 {
@@ -27,7 +27,7 @@ fn job_word(whose: Whose) -> &'static str
     }
 }
 
-/// The line of a refusal.
+/// Formats the line of a refusal.
 fn line(alloc: Global, refusal: &Refusal) -> Result<String, AllocError>
     ensures { IfOk result (λ line. string_bytes line ≡ line_of refusal.now) }
 {
@@ -40,7 +40,7 @@ fn line(alloc: Global, refusal: &Refusal) -> Result<String, AllocError>
     }
 }
 
-/// A line on a job that ends so.
+/// Formats a line about a job with this ending.
 fn job_line(alloc: Global, whose: Whose, end: &str) -> Result<String, AllocError>
     ensures { IfOk result (λ line. string_bytes line ≡ job_word_lem whose ++ end.now) }
 {
@@ -48,7 +48,7 @@ fn job_line(alloc: Global, whose: Whose, end: &str) -> Result<String, AllocError
     format!(in alloc; "{word}{end}")
 }
 
-/// The line of a fault of a file.
+/// Formats the line of a file's fault.
 fn file_line(alloc: Global, whose: Whose, fault: &FileFault) -> Result<String, AllocError>
     ensures { IfOk result (λ line. string_bytes line ≡ file_line_lem whose fault.now) }
 {
@@ -59,7 +59,7 @@ fn file_line(alloc: Global, whose: Whose, fault: &FileFault) -> Result<String, A
     format!(in alloc; "{word}file {file}: tag {tag}: {kind}\n")
 }
 
-/// The line of a fault of a plan; empty at want of memory, which is none.
+/// Formats the line of a plan's fault; empty for `Memory`, which is no fault of the plan.
 fn plan_line(alloc: Global, whose: Whose, fault: &PlanFault) -> Result<String, AllocError>
     ensures { IfOk result (λ line. string_bytes line ≡ plan_line_lem whose fault.now) }
 {
@@ -74,7 +74,7 @@ fn plan_line(alloc: Global, whose: Whose, fault: &PlanFault) -> Result<String, A
     }
 }
 
-/// The line of a fault of this kind at a path of a plan.
+/// Formats the line of a fault of this kind at a path in a plan.
 fn plan_line_at(
     alloc: Global,
     whose: Whose,
@@ -87,7 +87,7 @@ fn plan_line_at(
     format!(in alloc; "{word}plan {path}: {kind}\n")
 }
 
-/// Tells of want of memory, as far as that can be told.
+/// Writes the out-of-memory line, as far as the note accepts it, and returns status 6.
 fn tell_memory<E: Sink>(note: &mut E) -> u8
     ensures status { result ≡ 6 }
     ensures note { GrewByPrefix (E.given note.old) (E.given note.new) memory_line }
@@ -96,7 +96,8 @@ fn tell_memory<E: Sink>(note: &mut E) -> u8
     Status::Memory.number()
 }
 
-/// Tells of a refusal by its line, and answers the status: that of the refusal, or why the line wasn't told.
+/// Writes the line of a refusal and returns the exit status: the refusal's own, or that of the failure to
+/// write the line.
 fn tell_refusal<E: Sink>(alloc: Global, refusal: &Refusal, note: &mut E) -> u8
     ensures { TellsRefusal refusal.now (sink_seen E.Sink note.old note.new) result }
 {
@@ -110,7 +111,7 @@ fn tell_refusal<E: Sink>(alloc: Global, refusal: &Refusal, note: &mut E) -> u8
     }
 }
 
-/// Tells why a command wasn't done, and answers the status.
+/// Reports why a command did not complete, and returns the exit status.
 pub fn tell<E: Sink>(alloc: Global, stop: &Stop, note: &mut E) -> u8
     ensures { TellsStop stop.now (sink_seen E.Sink note.old note.new) result }
 {

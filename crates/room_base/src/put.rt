@@ -7,7 +7,7 @@ use crate::refusal::Stop;
 use crate::status::Status;
 use pr_ports::{Sink, SinkFault};
 
-/// Prints the whole text of a command, and answers the status that it ends with.
+/// Prints the whole text of a command and returns the command's exit status.
 pub fn put_text<S: Sink>(text: &[u8], status: Status, out: &mut S) -> Result<u8, Stop>
     ensures { Puts text.now (number_of status) (sink_seen S.Sink out.old out.new) result }
 {

@@ -1,4 +1,4 @@
-// Why a command isn't done.
+// Reasons why a command does not complete.
 ghost use Rattle.std.specs.Prelude.{◌≡◌};
 ghost use Rattle.room_base.specs.Refusal.{status_of as status_of_lem};
 
@@ -6,7 +6,7 @@ use crate::status::Status;
 use plan_json::PlanFault;
 use pr_base::{FileFault, PathText};
 
-/// Which of two jobs a line speaks of: the one that is made, or the one that was made before it.
+/// Which of two jobs a line is about: the current one, or the one made before it.
 #[derive(Clone, Copy, Debug, PartialEq, Eq)]
 pub enum Whose {
     New,
@@ -16,20 +16,20 @@ pub enum Whose {
 /// Why a command is refused.
 #[derive(Debug, Drop)]
 pub enum Refusal {
-    /// The words are no command.
+    /// The arguments are not a command.
     Words,
-    /// The plan has more bytes than are read.
+    /// The plan is longer than the limit for plans.
     LongPlan(Whose),
     /// The plan is refused.
     Plan(Whose, PlanFault),
-    /// A file is refused; it is named as the words or the plan name it.
+    /// A file is refused; its name is as given in the arguments or the plan.
     File(Whose, FileFault),
     /// The shelf failed at this path.
     Shelf(PathText),
 }
 
 impl Refusal {
-    /// The status that tells of it.
+    /// Returns the exit status of this refusal.
     pub(crate) fn status(&self) -> u8
         ensures { result ≡ status_of_lem self.now }
     {
@@ -42,11 +42,11 @@ impl Refusal {
     }
 }
 
-/// Why a command wasn't done.
+/// Why a command did not complete.
 #[derive(Debug, Drop)]
 pub enum Stop {
     Refused(Refusal),
-    /// Memory was wanted.
+    /// Out of memory.
     Memory,
     /// The output failed.
     Printing,

@@ -1,4 +1,4 @@
-// The exit statuses.
+// Exit statuses.
 ghost use Rattle.std.specs.Prelude.{◌≡◌};
 ghost use Rattle.room_base.specs.Status.{number_of};
 
@@ -6,9 +6,9 @@ ghost use Rattle.room_base.specs.Status.{number_of};
 #[derive(Clone, Copy)]
 pub enum Status {
     Done,
-    /// Done, and a site left since its rack failed.
+    /// Completed, but a site dropped out because its rack failed.
     Left,
-    /// The words are no command.
+    /// The arguments are not a command.
     Words,
     /// The plan is refused.
     Plan,
@@ -16,16 +16,16 @@ pub enum Status {
     File,
     /// The shelf failed.
     Shelf,
-    /// Memory was wanted.
+    /// Out of memory.
     Memory,
     /// The output or the note failed.
     Printing,
-    /// Done, and a plate that is held isn't right.
+    /// Completed, but a stored plate does not match.
     Differs,
 }
 
 impl Status {
-    /// The number that a shell sees.
+    /// Returns the number that a shell sees.
     pub fn number(self) -> u8
         ensures { result ≡ number_of self }
     {

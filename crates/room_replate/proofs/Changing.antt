@@ -1,4 +1,4 @@
--- What making the plates that changed leaves, from what its steps leave.
+-- The outcome of making the changed plates, from the outcomes of its steps.
 use Rattle.std.proofs.Common.{◌≡◌, ◌≤◌, ◌<◌, ◌&&◌, ℕ, Bool, true, eqb, List, length, map, drop, get_or, IfOk, OnErr, Result, refl, sym, ap, subst, ◌∙◌, arith}
 use Rattle.std.specs.Prelude.{All, ◌↔◌, IsTrue}
 use Rattle.std.specs.Global.{Vec}
@@ -26,7 +26,7 @@ use Rattle.room_replate.specs.Change.{ArePicks, DeliversPicked, DeliversPickedPa
 use Rattle.room_replate.specs.Remade.{dropped_lines, remade_text, text_with}
 use Rattle.room_base.proofs.Rows.{frames_in, over_job}
 
--- ---- plates that are dropped
+-- ---- dropped plates
 
 -- a plan has the site and the group of each of its plates
 placed : (plan : PlanData) → All (IsPlaced plan) (all_plates plan)
@@ -48,7 +48,7 @@ dropped_placed before after = All-filter (is_dropped before after) (IsPlaced bef
 
 -- ---- picks
 
--- the picks of jobs as they are compared are those of the jobs
+-- the picks of two jobs as the comparison takes them are the picks of the jobs
 pub picks_are : (before job : JobData) (olds news : replate.JobData) (picks : PicksData) → olds ≡ compared before → news ≡ compared job
     → ((new : PlateAt) → IsPlateOf news.plan new → IsTrue (is_made picks new.site new.group new.ink) ↔ MustMake olds news new)
     → ArePicks before job picks

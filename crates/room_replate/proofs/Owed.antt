@@ -1,4 +1,4 @@
--- What the command `replate` owes.
+-- Obligations of the command `replate`.
 use Rattle.std.proofs.Common.{◌≡◌, ◌⊎◌, ℕ, ◌<◌, ◌≤◌, List, length, [], ◌∷◌, Bool, Option, Some, None, suc, option_map, true, false, if◌then◌else◌, refl, ap, ◌∙◌, inl, inr, arith}
 use Rattle.std.specs.Prelude.{slice_get}
 use Rattle.std.specs.List.{list_all}
@@ -21,7 +21,7 @@ use Rattle.room_base.specs.Seen.{Files, ShelfSeen, LoadFailed, RackFailed}
 use Rattle.room_base.proofs.Jobs.{job_known, job_met, prepared_is}
 use Rattle.room_base.proofs.Owed.{zero_or_one, there, Owes}
 
--- a refusal of the old job is the verdict; where it has none, that of the new one is
+-- a refusal of the old job is the verdict; where there is none, a refusal of the new job is
 change_met : (change : Change) (files : Files) (shelf : ShelfSeen) (refusal : Refusal) → shelf.held ≡ Some files
     → ChangeMeets change shelf refusal
     → (verdict_on_change change files ≡ Some refusal) ⊎ ((status_of refusal ≡ 5) × LoadFailed shelf)
@@ -50,7 +50,7 @@ change_passes change files shelf before job picks told are =
     (prepared_is Old change.old_plan change.old_files files shelf.held before told are.old_prepared)
     ∙ prepared_is New change.plan change.files files shelf.held job told are.prepared
 
--- where not all are done a site left
+-- where not all sites are done, one dropped out
 some_left_picked : (ends : List RemadeEnd) → list_all is_done ends ≡ false
     → (site : ℕ) × (made : ℕ) × (path : List ℕ) × (slice_get ends site ≡ Some (remade.Left made path))
 some_left_picked [] h = cc
@@ -73,7 +73,7 @@ not_all_done ends status is one = by (list_all is_done ends) is where
   by false h = refl
 
 module _ {R : Type 0} (g : Ghosts R) where
-  -- the rack of a site that left counted a failure
+  -- the rack of a site that dropped out counted a failure
   picked_failed : (change : Change) (job : JobData) (picks : PicksData) (racks racks' : List R) (ends : List RemadeEnd) (site made : ℕ) (path : List ℕ)
       → DeliversPicked g change job picks racks racks' ends → slice_get ends site ≡ Some (remade.Left made path) → RackFailed g racks racks'
   picked_failed change job picks racks racks' ends site made path delivers at =

@@ -1,4 +1,4 @@
--- The command `replate`: the plates of an edition that changed, and these alone.
+-- The command `replate`: makes the plates of an edition that changed, and only these.
 use Rattle.std.specs.Prelude.{◌≡◌, ◌≤◌, ◌<◌, ◌↔◌, ℕ, ◌⊎◌, IsTrue, List, length, drop, Option, Result}
 use Rattle.std.specs.Prelude.{string_bytes}
 use Rattle.std.specs.Option.{option_or}
@@ -24,8 +24,8 @@ use Rattle.room_base.specs.Seen.{Files, ShelfSeen, SinkSeen}
 use Rattle.room_base.specs.Task.{Answers, Makes, Rules}
 use Rattle.room_replate.specs.declared.change.Change as coded
 
--- an edition of which the plates that changed are made: the plan that was made before it, the folder of that
--- plan's files, its own plan, the folder of its files, and the folder of its plates
+-- an edition whose changed plates are made: the plan made before it, the folder of that plan's files, its
+-- own plan, the folder of its files, and the folder of its plates
 pub record Change : Type 0 where
   pub old_plan : List ℕ
   pub old_files : List ℕ
@@ -33,7 +33,7 @@ pub record Change : Type 0 where
   pub files : List ℕ
   pub out : List ℕ
 
--- the texts of an edition of which the plates that changed are made
+-- the texts of an edition whose changed plates are made
 abbrev pub change_told : coded.Change → Change
 change_told change = record {
   old_plan = change.old_plan.now;
@@ -43,18 +43,18 @@ change_told change = record {
   out = change.out.now;
 }
 
--- ---- what is to be made
+-- ---- plates to make
 
--- a job as it is compared
+-- a job as the comparison takes it
 abbrev pub compared : JobData → replate.JobData
 compared job = record { plan = job.plan; files = job.files }
 
--- the picks of an old and a new job: they tell exactly the plates that must be made
+-- the picks of an old and a new job: they mark exactly the plates that must be made
 abbrev pub ArePicks : JobData → JobData → PicksData → Type 0
 ArePicks before after picks = (new : PlateAt) → IsPlateOf after.plan new
     → IsTrue (is_made picks new.site new.group new.ink) ↔ MustMake (compared before) (compared after) new
 
--- what is to be made of a job
+-- the plates of a job to make
 abbrev pub making_of : Change → JobData → PicksData → Making
 making_of change job picks = by_picks job.plan (plate_rows job.plan job.files) change.out picks
 
@@ -67,12 +67,12 @@ pub record AreCompared (change : Change) (held : Option Files) (before job : Job
 
 -- ---- refusals
 
--- the verdict on the old job, and then that on the new one
+-- the verdict on the old job or, where it passes, that on the new one
 abbrev pub verdict_on_change : Change → Files → Option Refusal
 verdict_on_change change files = option_or (verdict_on_job Old change.old_plan change.old_files files)
     (verdict_on_job New change.plan change.files files)
 
--- the old job meets a refusal, or it was prepared and the new one does
+-- the old job is refused, or it was prepared and the new one is refused
 abbrev pub ChangeMeets : Change → ShelfSeen → Refusal → Type 0
 ChangeMeets change shelf refusal =
     JobMeets Old change.old_plan change.old_files shelf refusal
@@ -89,7 +89,7 @@ change_rules change = record {
 -- ---- the racks and the text
 
 module _ {R : Type 0} (g : Ghosts R) where
-  -- each site's end fits what its rack has more, and the racks past the last site are as they were
+  -- each site's end fits what its rack gained, and the racks past the last site are unchanged
   pub record DeliversPicked (change : Change) (job : JobData) (picks : PicksData) (racks racks' : List R)
       (ends : List RemadeEnd) : Type 0 where
     pub enough : length job.plan.sites ≤ length racks
@@ -97,15 +97,15 @@ module _ {R : Type 0} (g : Ghosts R) where
     pub fits : RemadeFits (making_of change job picks) (all_told g racks) (all_told g racks') ends
     pub others : drop (length job.plan.sites) racks' ≡ drop (length job.plan.sites) racks
 
-  -- memory was wanted: each rack has the first of the files that its site was to make more, and the others
-  -- are as they were
+  -- memory ran out: each rack gained the first of the files that its site was to make, and the racks past
+  -- the last site are unchanged
   pub record DeliversPickedPart (change : Change) (job : JobData) (picks : PicksData) (racks racks' : List R)
       : Type 0 where
     pub part : RemadePart (making_of change job picks) (all_told g racks) (all_told g racks')
     pub others : drop (length job.plan.sites) racks' ≡ drop (length job.plan.sites) racks
 
-  -- both jobs were prepared, the racks took what the sites' ends say, and the text tells of them and of the
-  -- plates that are dropped
+  -- both jobs were prepared, the racks took what the sites' ends report, and the text lists the ends and
+  -- the dropped plates
   pub record PrintsRemade (change : Change) (shelf : ShelfSeen) (racks racks' : List R) (text : List ℕ)
       (status : ℕ) : Type 0 where
     pub before : JobData
@@ -117,7 +117,7 @@ module _ {R : Type 0} (g : Ghosts R) where
     pub text_is : text ≡ remade_text before.plan job.plan change.out ends
     pub status_is : status ≡ status_of_remade ends
 
-  -- both jobs were prepared, and memory was wanted where the plates were made
+  -- both jobs were prepared, and memory ran out while plates were made
   pub record BeginsRemade (change : Change) (shelf : ShelfSeen) (racks racks' : List R) : Type 0 where
     pub before : JobData
     pub job : JobData
@@ -131,34 +131,34 @@ module _ {R : Type 0} (g : Ghosts R) where
     Begins = BeginsRemade change;
   }
 
-  -- what a call of the command leaves
+  -- the outcome of a call of the command
   abbrev pub AnswersChange : Change → ShelfSeen → List R → List R → SinkSeen → Result ℕ Stop → Type 0
   AnswersChange change shelf racks racks' out answer =
       Answers (change_rules change) (change_makes change) shelf racks racks' out answer
 
 -- ---- private calls
 
--- a plan has the site and the group of a plate
+-- the plan has the plate's site and group
 pub record IsPlaced (plan : PlanData) (plate : PlateAt) : Type 0 where
   pub site : plate.site < length plan.sites
   pub group : plate.group < length (groups_of plan)
 
--- what is kept of two jobs that were compared: the picks are of the new one, and the lines are those of the
--- plates that are dropped
+-- the data kept of two compared jobs: the picks are those of the new one, and the lines are those of the
+-- dropped plates
 pub record IsLate (before : JobData) (out : List ℕ) (late : Late) : Type 0 where
   pub are_picks : ArePicks before late.job late.picks
   pub groups : length late.picks.kept ≡ length (groups_of late.job.plan)
   pub dropped : string_bytes late.dropped
       ≡ dropped_lines before.plan out (dropped_of before.plan late.job.plan)
 
--- both jobs were loaded before
+-- both jobs were loaded, and then compared
 pub record IsLoadedLate (change : Change) (held : Option Files) (late : Late) : Type 0 where
   pub before : JobData
   pub old_prepared : IsPrepared held change.old_plan change.old_files before
   pub prepared : IsPrepared held change.plan change.files late.job
   pub is : IsLate before change.out late
 
--- why they weren't
+-- why they were not
 abbrev pub ChangeRefused : Change → ShelfSeen → Stop → Type 0
 ChangeRefused change shelf (Refused refusal) = ChangeMeets change shelf refusal
 ChangeRefused change shelf Memory = Unit {0}

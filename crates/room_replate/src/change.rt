@@ -1,4 +1,4 @@
-// The command `replate`: the plates of an edition that changed, and these alone.
+// The command `replate`: makes the plates of an edition that changed, and only these.
 ghost use Rattle.std.specs.Prelude.{◌≡◌, ◌≤◌, IfErr, IfOk, OnErr, OnOk, length};
 ghost use Rattle.plan_json.specs.Plan.{IsPlan};
 ghost use Rattle.plan_rows.specs.Groups.{groups_of};
@@ -17,10 +17,10 @@ use room_base::{Stop, Whose, load_job, put_text};
 use std::alloc::Global;
 use std::thread::Threads;
 
-/// An edition of which the plates that changed are made.
+/// An edition whose changed plates are made.
 #[derive(Clone, Copy)]
 pub struct Change<'a> {
-    /// The path of the plan that was made before it.
+    /// The path of the plan made before this edition.
     pub old_plan: &'a str,
     /// The folder of that plan's files.
     pub old_files: &'a str,
@@ -32,7 +32,8 @@ pub struct Change<'a> {
     pub out: &'a str,
 }
 
-/// A new job, what must be made of it beside an old one, and the lines of the old plates that are dropped.
+/// A new job, the picks of its plates that must be made given an old job, and the lines of dropped old
+/// plates.
 #[derive(Drop)]
 pub(crate) struct Late {
     job: Job,
@@ -40,8 +41,7 @@ pub(crate) struct Late {
     dropped: String,
 }
 
-/// Makes the plates of an edition that changed, prints how its sites ended, and answers the status of what
-/// was done.
+/// Makes the changed plates of an edition, prints how its sites ended, and returns the exit status.
 pub fn print_change<T: Threads + Sync, H: Shelf, R: Rack, S: Sink>(
     rt: &T,
     alloc: Global,
@@ -71,7 +71,7 @@ pub fn print_change<T: Threads + Sync, H: Shelf, R: Rack, S: Sink>(
     put_text(text.as_bytes(), status_of(ends), out)
 }
 
-/// Loads the old job and then the new one, and compares them. The old job is let go here.
+/// Loads the old job and then the new one, and compares them. The old job is freed on return.
 fn load_late<T: Threads + Sync, H: Shelf>(
     rt: &T,
     alloc: Global,
@@ -116,7 +116,7 @@ fn compare(alloc: Global, before: &Job, job: Job, out: &str) -> Result<Late, NoM
     })
 }
 
-/// A job as it is compared.
+/// Returns a job as the comparison takes it.
 fn inputs_of(job: &Job) -> Inputs<'_>
     ensures job { result ≡ compared job.now }
     ensures plan { IsPlan job.now.plan }
@@ -143,7 +143,7 @@ fn make_late<R: Rack>(
     make_fed(alloc, change, late, &mut feed, racks)
 }
 
-/// The same with a feed that has all rows of the new job to come.
+/// Does the same with a feed from which no row has been taken yet.
 fn make_fed<F: RowFeed, R: Rack>(
     alloc: Global,
     change: Change<'_>,

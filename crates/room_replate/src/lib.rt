@@ -1,6 +1,6 @@
-// The command `replate`: the plates of an edition that changed, and these alone. An old and a new job are
-// loaded and compared (replate), what must be made is made, and a text tells of it and of the plates that are
-// dropped. What is said of any command stands in room_base.
+// The command `replate`: makes the plates of an edition that changed, and only these. An old and a new job
+// are loaded and compared (crate replate), the plates that must be made are made, and a text reports them
+// and the dropped plates. The contract of any command is in room_base.
 #![tactic(auto)]
 
 mod change;

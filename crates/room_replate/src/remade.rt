@@ -1,4 +1,4 @@
-// What `replate` prints: a line for each site, one for each dropped plate, and one of all.
+// Output of `replate`: a line for each site, one for each dropped plate, and a total.
 ghost use Rattle.std.specs.Prelude.{◌≡◌, ◌≤◌, ◌++◌, All, IfOk, length, string_bytes};
 ghost use Rattle.room_replate.specs.Change.{IsPlaced};
 ghost use Rattle.room_replate.specs.Remade.{dropped_line as dropped_line_lem};
@@ -15,7 +15,7 @@ use replate::{OldPlate, RemadeEnd};
 use room_base::Status;
 use std::alloc::{AllocError, Global};
 
-/// The text of a delivery whose sites ended so, with the lines of the plates that are dropped.
+/// Formats the text of a delivery with these ends of its sites, including the lines of dropped plates.
 pub(crate) fn remade_text(
     alloc: Global,
     plan: &Plan,
@@ -35,7 +35,7 @@ pub(crate) fn remade_text(
     Ok(text)
 }
 
-/// The line of a site.
+/// Formats the line of a site.
 fn site_line(alloc: Global, site: &PlanSite, end: &RemadeEnd) -> Result<String, AllocError>
     ensures { IfOk result (λ line. string_bytes line ≡ remade_line site.now end.now) }
 {
@@ -50,7 +50,7 @@ fn site_line(alloc: Global, site: &PlanSite, end: &RemadeEnd) -> Result<String, 
     }
 }
 
-/// How many plates all sites finished.
+/// Returns the number of plates that all sites finished.
 fn total_made(ends: &[RemadeEnd]) -> u64
     requires { length ends.now ≤ 16 }
     ensures { result ≡ total_made_lem ends.now }
@@ -62,7 +62,7 @@ fn total_made(ends: &[RemadeEnd]) -> u64
     total
 }
 
-/// How many plates a site finished.
+/// Returns the number of plates that a site finished.
 fn made_of(end: &RemadeEnd) -> u32
     ensures { result ≡ made_of_lem end.now }
 {
@@ -71,14 +71,14 @@ fn made_of(end: &RemadeEnd) -> u32
     }
 }
 
-/// The last line.
+/// Formats the last line.
 fn made_line(alloc: Global, made: u64) -> Result<String, AllocError>
     ensures { IfOk result (λ line. string_bytes line ≡ made_line_lem made) }
 {
     format!(in alloc; "total made {made}\n")
 }
 
-/// The lines of plates of an old job that are dropped, with paths below the folder `out`.
+/// Formats the lines of dropped plates of an old job, with paths below the folder `out`.
 pub(crate) fn dropped_lines(
     alloc: Global,
     before: &Job,
@@ -96,7 +96,7 @@ pub(crate) fn dropped_lines(
     Ok(text)
 }
 
-/// The line of one of them.
+/// Formats the line of one dropped plate.
 fn dropped_line(alloc: Global, before: &Job, out: &str, plate: OldPlate) -> Result<String, NoMemory>
     requires { IsPlaced before.now.plan plate }
     ensures { IfOk result (λ line. string_bytes line ≡ dropped_line_lem before.now.plan out.now plate) }
@@ -109,7 +109,7 @@ fn dropped_line(alloc: Global, before: &Job, out: &str, plate: OldPlate) -> Resu
     Ok(format!(in alloc; "dropped {path}\n")?)
 }
 
-/// The status of a delivery whose sites ended so.
+/// Returns the exit status of a delivery with these ends of its sites.
 #[tactic(auto, unfolding(crate::specs::Remade::status_of_remade))]
 pub(crate) fn status_of(ends: &[RemadeEnd]) -> Status
     ensures { number_of result ≡ status_of_remade ends.now }
@@ -122,7 +122,7 @@ pub(crate) fn status_of(ends: &[RemadeEnd]) -> Status
     Status::Done
 }
 
-/// Whether a site made all that it was to make.
+/// Returns whether a site made all plates that it was to make.
 fn is_done(end: &RemadeEnd) -> bool
     ensures { result ≡ is_done_lem end.now }
 {

@@ -1,4 +1,4 @@
--- What a look at the plates of a job leaves, from what `verify` leaves.
+-- The outcome of verifying the plates of a job, from the contract of `plate_verify`'s `verify`.
 use Rattle.std.proofs.Common.{◌≡◌, ◌≤◌, ℕ, List, map, Option, IfSome, Result, Ok, Err, refl, subst, arith}
 use Rattle.pr_base.specs.Count.{Rose}
 use Rattle.pr_ports.specs.declared.shelf.Shelf.{Ghosts}
@@ -19,7 +19,7 @@ use Rattle.room_verify.specs.Check.{IsFound, IsLost, Looks, wrong_of}
 use Rattle.room_base.specs.Seen.{Files, shelf_seen}
 use Rattle.room_base.proofs.Rows.{over_job}
 
--- ---- a look
+-- ---- verifying a job
 
 module _ {H : Type 0} (g : Ghosts H) (a b : H) (own : PlanData) (job : JobData) (left : List (List ℕ)) (out : List ℕ) where
   pub looks_found : (checked : Checked) → own ≡ job.plan → IsPlan job.plan → left ≡ plate_frames job.plan job.files
@@ -51,9 +51,9 @@ module _ {H : Type 0} (g : Ghosts H) (a b : H) (own : PlanData) (job : JobData) 
         },
       )
 
--- ---- a look behind the loading of its job
+-- ---- verifying after the job is loaded
 
--- a count that rose behind one that didn't fall rose in all
+-- a count that did not fall and then rose has risen overall
 pub rose_behind : (a b c : ℕ) → a ≤ b → Rose b c → Rose a c
 rose_behind a b c less rose = grind arith
 
@@ -84,7 +84,7 @@ module _ {H : Type 0} (g : Ghosts H) (a b c : H) (held : g.held b ≡ g.held a) 
     };
   }
 
-  -- what a look leaves, over all that the shelf saw
+  -- the outcome of verifying, over the whole time since before the job was loaded
   pub looks_behind : (result : Result Checked Stop) → Looks job out (shelf_seen g b c) result
       → Looks job out (shelf_seen g a c) result
   looks_behind (Ok checked) found = found_behind checked found

@@ -1,4 +1,4 @@
--- What the command `verify` owes.
+-- Obligations of the command `verify`.
 use Rattle.std.proofs.Common.{◌≡◌, ◌⊎◌, ℕ, List, Option, Some, refl, sym, ap, subst, ◌∙◌, inl, inr, arith}
 use Rattle.pr_rack.specs.declared.rack.Rack.{Ghosts}
 use Rattle.plate_verify.specs.declared.checked.Checked.{Checked}
@@ -26,7 +26,7 @@ check_known asked shelf refusal (inl met) is = job_known New asked.plan asked.fi
 check_known asked shelf refusal (inr loses) is =
     let five : status_of refusal ≡ 5 = ap status_of loses.is in absurd (omega arith)
 
--- the status of what was found is 0 or 8
+-- the status of a result is 0 or 8
 found_done : (checked : Checked) → (found_status (looking.told checked) ≡ 0) ⊎ (found_status (looking.told checked) ≡ 8)
 found_done (Same plates) = inl refl
 found_done (Differs path at row) = inr refl

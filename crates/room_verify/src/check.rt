@@ -1,4 +1,4 @@
-// The command `verify`: whether the plates that a shelf holds are those of an edition.
+// The command `verify`: checks whether the plates on a shelf are those of an edition.
 ghost use Rattle.std.specs.Prelude.{◌≡◌, IfOk, OnOk, length, string_bytes};
 ghost use Rattle.press_job.specs.Rows.{plate_frames};
 ghost use Rattle.plate_verify.specs.Looking.{told as found_of};
@@ -17,7 +17,7 @@ use room_base::{Refusal, Status, Stop, Whose, load_job, put_text};
 use std::alloc::{AllocError, Global};
 use std::thread::Threads;
 
-/// An edition whose plates are looked at.
+/// An edition whose plates are verified.
 #[derive(Clone, Copy)]
 pub struct Asked<'a> {
     /// The path of the plan.
@@ -28,7 +28,7 @@ pub struct Asked<'a> {
     pub out: &'a str,
 }
 
-/// Looks at the plates of an edition that a shelf holds, prints what was found, and answers its status.
+/// Verifies the plates of an edition on a shelf, prints the result and returns its exit status.
 pub fn print_check<T: Threads + Sync, H: Shelf, S: Sink>(
     rt: &T,
     alloc: Global,
@@ -49,7 +49,7 @@ pub fn print_check<T: Threads + Sync, H: Shelf, S: Sink>(
     put_text(line.as_bytes(), status_of(&checked), out)
 }
 
-/// How many sites a job has.
+/// Returns the number of sites of a job.
 fn site_count(job: &Job) -> usize
     ensures { result ≡ length job.now.plan.sites }
 {
@@ -57,7 +57,7 @@ fn site_count(job: &Job) -> usize
     plan.sites.len()
 }
 
-/// Looks at the plates of a job below a folder.
+/// Verifies the plates of a job below the folder `out`.
 fn check_plates<H: Shelf>(
     alloc: Global,
     job: &Job,
@@ -74,7 +74,7 @@ fn check_plates<H: Shelf>(
     check_fed(alloc, job, &mut feed, out, shelf)
 }
 
-/// The same with a feed that has all rows of the job to come.
+/// Does the same with a feed from which no row has been taken yet.
 fn check_fed<F: RowFeed, H: Shelf>(
     alloc: Global,
     job: &Job,
@@ -94,7 +94,7 @@ fn check_fed<F: RowFeed, H: Shelf>(
     }
 }
 
-/// The line of what was found.
+/// Formats the line of a result.
 fn line_of(alloc: Global, sites: usize, checked: &Checked) -> Result<String, AllocError>
     ensures { IfOk result (λ line. string_bytes line ≡ found_line sites (found_of checked.now)) }
 {
@@ -114,28 +114,28 @@ fn line_of(alloc: Global, sites: usize, checked: &Checked) -> Result<String, All
     }
 }
 
-/// The line that says that all plates are right.
+/// Formats the line that reports that all plates match.
 fn same_line(alloc: Global, plates: u32, sites: usize) -> Result<String, AllocError>
     ensures { IfOk result (λ line. string_bytes line ≡ same_line_lem plates sites) }
 {
     format!(in alloc; "same plates {plates} sites {sites}\n")
 }
 
-/// The line of a plate that differs in a packed row.
+/// Formats the line of a plate that differs in a packed row.
 fn row_line(alloc: Global, path: &PathText, at: u64, row: u32) -> Result<String, AllocError>
     ensures { IfOk result (λ line. string_bytes line ≡ row_line_lem path.now at row) }
 {
     format!(in alloc; "differs {path} byte {at} row {row}\n")
 }
 
-/// The line of a plate that differs outside its rows.
+/// Formats the line of a plate that differs outside its rows.
 fn byte_line(alloc: Global, path: &PathText, at: u64) -> Result<String, AllocError>
     ensures { IfOk result (λ line. string_bytes line ≡ byte_line_lem path.now at) }
 {
     format!(in alloc; "differs {path} byte {at}\n")
 }
 
-/// The status of what was found.
+/// Returns the exit status of a result.
 fn status_of(checked: &Checked) -> Status
     ensures { number_of result ≡ found_status (found_of checked.now) }
 {

@@ -1,6 +1,6 @@
-// The command `verify`: whether the plates that a shelf holds are those of an edition. The job is loaded as
-// a run loads it, plate_verify looks at the plates, and a line tells what was found. What is said of any
-// command stands in room_base.
+// The command `verify`: checks whether the plates on a shelf are those of an edition. The job is loaded as
+// for a run, plate_verify compares the plates, and one line reports the result. The contract of any command
+// is in room_base.
 #![tactic(auto)]
 
 mod check;
