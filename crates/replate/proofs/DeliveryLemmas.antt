@@ -253,7 +253,7 @@ remade_fits making n before now makers ends served none are = record {
       (end_fits making site n old new maker.0.site maker.0.end over (served.each site old new maker.0 b r maker.1));
 }
 
--- ---- the racks of the sites, and those behind them
+-- ---- the racks of the sites, and those after them
 
 pub fits_wide : {X : Type 0} (tell : X → RackTells) (making : Making) (racks racks' front front' rest : List X) (ends : List RemadeEnd) → racks ≡ front ++ rest → racks' ≡ front' ++ rest → length front ≡ length making.plan.sites
     → length front' ≡ length front → RemadeFits making (map tell front) (map tell front') ends → RemadeFits making (map tell racks) (map tell racks') ends

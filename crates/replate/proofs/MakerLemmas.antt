@@ -39,7 +39,7 @@ frame_at making frames n bytes carries there =
     subst IsFrame (get_or_from_slice_get frames n bytes bytes there)
     (AreFrames-frame (row_size (plate_width making.plan)) (map framed_row frames) frames n bytes carries.rows_are.are (omega (arith, slice_get_within frames n bytes there, length-map frames framed_row)))
 
--- ---- a site that goes on
+-- ---- a site that continues
 
 -- the state of the site
 pub stands_at : (making : Making) (site n : ℕ) (before now : RackTells) (going : SiteData) (made kept' : ℕ) → GoesOnAt making site n before now going made kept'
@@ -72,7 +72,7 @@ served_part making site n before now going (Left made path) left = record {
   faults = left.faults;
 }
 
--- ---- what Site::keep asks
+-- ---- the requirements of Site::keep
 
 -- the site of a maker that continues
 pub going_of : (making : Making) (site n : ℕ) (before now : RackTells) (going : SiteData) (end : RemadeEnd) (made kept' : ℕ) → end ≡ Done made kept' → ServedBy making site n before now going end
@@ -105,7 +105,7 @@ asks frames n now maker held made kept' some is number there =
       working = going_working making.rows Deck some.before.tells now.tells maker.site at.is;
     }
 
--- ---- what keeping the row makes of it
+-- ---- the effect of keeping the row
 
 -- a row of the deck
 pub record IsPutRow (frames : List (List ℕ)) (n : ℕ) (held : HeldRow) : Type 0 where
