@@ -99,7 +99,7 @@ impl Run<'_> {
         ends_of(self.alloc, self.plan, self.rows, seats)
     }
 
-    /// Does the same over a ring whose ends are still present.
+    /// Does the same over a ring whose ends haven't been handed out yet.
     fn run_on<T: Threads + Clock + Sync, D: Deal + Sync, F: BandFeed + Send, R: Rack + Send>(
         &self,
         rt: &T,
