@@ -58,7 +58,7 @@ pub(crate) fn ends_of<D: Deal>(
     Ok(Outcome { sites: ends })
 }
 
-/// Returns how a site ended, unless it ran out of memory.
+/// Returns how a site ended, or `None` if it ran out of memory.
 fn end_at(plan: &Plan, rows: &RowPlan, index: usize, site: RunSite) -> Option<SiteEnd>
     requires plan { IsPlan plan.now }
     requires rows { rows.now ≡ rows_of plan.now }
