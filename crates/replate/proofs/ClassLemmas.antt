@@ -1,4 +1,4 @@
--- The class of a file: where the first file with its bytes stands.
+-- The class of a file: the index of the first file with its bytes.
 use Rattle.std.proofs.Common.{◌≡◌, ℕ, ◌+◌, ◌<◌, ◌≤◌, Bool, true, false, cond, eqb, ltb, List, [], ◌∷◌, ◌++◌, length, map, get_or, take, drop, not, Some, None, ap, sym, ◌∙◌, inl, inr, add-zero, length-append, arith}
 use Rattle.std.specs.Prelude.{position, unwrap_or}
 use Rattle.std.specs.List.{position_or_len}
@@ -15,7 +15,7 @@ use Rattle.std.specs.Global.{Vec}
 use Rattle.replate.specs.Inputs.{bytes_of}
 use Rattle.replate.specs.Classes.{class_of}
 
--- files that the order finds equal have the same bytes
+-- files that compare equal in the order have the same bytes
 pub tied : (a b : List ℕ) → is_eq (ordering_then (nat_cmp (length a) (length b)) (slice_cmp nat_cmp a b)) ≡ bytes_eq a b
 tied a b =
     elim (cases_order (length a) (length b)) [
@@ -94,7 +94,7 @@ known_not p files x end fails =
     let place : position_or_len p (files ++ x ∷ []) ≡ length files + 1 = at_last p files x end ∙ ap (λ b. length files + cond b 0 1) fails in
     at_end p (files ++ x ∷ []) (omega (arith, length-append files (x ∷ [])))
 
--- a file whose bytes are known makes no difference
+-- appending a file whose bytes are known doesn't change where a file is found
 pub stays : (files : List (List ℕ)) (x q : List ℕ) (k : ℕ) → position (bytes_eq x) files ≡ Some k
     → position (bytes_eq q) (files ++ x ∷ []) ≡ position (bytes_eq q) files
 stays files x q k found =
@@ -110,7 +110,7 @@ stays files x q k found =
           known_not (bytes_eq q) files x end other ∙ sym (at_end (bytes_eq q) files end)
     ]
 
--- a new file is found behind the others, and they as before
+-- a new file is found after the others, and the others are found as before
 pub comes : (files : List (List ℕ)) (x q : List ℕ) → position (bytes_eq x) files ≡ None
     → position (bytes_eq q) (files ++ x ∷ []) ≡ cond (bytes_eq x q) (Some (length files)) (position (bytes_eq q) files)
 comes files x q new =
@@ -143,7 +143,7 @@ pub class_new : (files : List (List ℕ)) (x : List ℕ) → position (bytes_eq 
 class_new files x new =
     sym (at_last (bytes_eq x) files x (place_none (bytes_eq x) files new) ∙ ap (λ b. length files + cond b 0 1) (nat_list_eq_equiv.refl x) ∙ add-zero (length files))
 
--- files that stand behind make no difference to the class of one that stands in front
+-- later files don't change the class of an earlier one
 front_class : (front back : List (List ℕ)) (x : List ℕ) → class_of (front ++ x ∷ []) x ≡ class_of ((front ++ x ∷ []) ++ back) x
 front_class front back x =
     let p : List ℕ → Bool = bytes_eq x in
@@ -159,7 +159,7 @@ front_class front back x =
     ] in
     sym (prefix_len-append (λ b. not (p b)) all back ∙ cond-false (eqb (position_or_len p all) (length all)) _ _ (ne_eqb _ _ (λ same. absurd (omega arith))))
 
--- the class of a file of a list, by the files up to it
+-- the class of a file of a list is determined by the files up to it
 pub class_so_far : (files : List (List ℕ)) (i : ℕ) → i < length files
     → class_of (take i files ++ get_or files i [] ∷ []) (get_or files i []) ≡ class_of files (get_or files i [])
 class_so_far files i within =
@@ -167,7 +167,7 @@ class_so_far files i within =
     let parts : (take i files ++ x ∷ []) ++ drop (i + 1) files ≡ files = ap (λ l. l ++ drop (i + 1) files) (sym (take_more files i [] within)) ∙ take-append-drop (i + 1) files in
     front_class (take i files) (drop (i + 1) files) x ∙ ap (λ l. class_of l x) parts
 
--- a file's class where others are known
+-- the class of a file where others are known
 pub class_sought : (files : List (List ℕ)) (x : List ℕ) → unwrap_or (position (bytes_eq x) files) (length files) ≡ class_of files x
 class_sought files x =
     let at = position_or_len (bytes_eq x) files in
@@ -180,7 +180,7 @@ class_sought files x =
           ap (λ o. unwrap_or o (length files)) (cond-false (ltb at (length files)) (Some at) None past) ∙ end)
     ]
 
--- files of which the first is an old one have one class exactly where they have the same bytes
+-- where the first file is an old one, two files have the same class exactly where they have the same bytes
 pub class_tells : (olds : List (List ℕ)) (x y : List ℕ) (i : ℕ) → i < length olds → x ≡ get_or olds i [] → class_of olds x ≡ class_of olds y → x ≡ y
 class_tells olds x y i within is same =
     let p : List ℕ → Bool = bytes_eq x in

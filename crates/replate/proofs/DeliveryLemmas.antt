@@ -39,7 +39,7 @@ use Rattle.replate.proofs.WantedLemmas.{length-picked_bits}
 
 -- ---- racks
 
--- the rack that tells this
+-- the rack that reports this
 rack_at : {R : Type 0} (tell : R → RackTells) (racks : List R) (i : ℕ) (told : RackTells) → slice_get (map tell racks) i ≡ Some told → (rack : R) × (slice_get racks i ≡ Some rack) × (tell rack ≡ told)
 rack_at tell [] i told there = absurd (none there) where
   none : None ≡ Some told → ⊥
@@ -96,7 +96,7 @@ up_of : (making : Making) (site n : ℕ) (before now : RackTells) (going : SiteD
 up_of making site n before now going (Done made kept) at = at.is.on
 up_of making site n before now going (Left made path) left = tt
 
--- a site with its rack
+-- a site and its rack
 served_at : (making : Making) (n : ℕ) (before now : List RackTells) (makers : List Maker) (i : ℕ) (d : Maker) → length before ≡ length makers → length now ≡ length makers → AreServed making n before now makers → i < length makers
     → (old : RackTells) × ((new : RackTells) × IsServed making i n old new (get_or makers i d))
 served_at making n before now makers i d olds news served less =
@@ -109,7 +109,7 @@ all_up making n before now makers olds news served i d less =
     let at = served_at making n before now makers i d olds news served less in
     up_of making i n at.0 at.1.0 (get_or makers i d).site (get_or makers i d).end at.1.1
 
--- behind the last row none is
+-- after the last row no site has plates left to make
 none_left : (making : Making) (site n : ℕ) (before now : RackTells) (going : SiteData) (end : RemadeEnd) → IsPlan making.plan → n ≡ length (row_places making.plan) → ServedBy making site n before now going end → making_by end going ≡ false
 none_left making site n before now going (Done made kept) is last at =
     let job : SiteJob = picked_job making.plan making.out site (making.bits site) in
@@ -118,7 +118,7 @@ none_left making site n before now going (Done made kept) is last at =
     ap not (eq-eqb (finished_count going.job going.next) (length going.job.plates) all')
 none_left making site n before now going (Left made path) is last left = refl
 
--- so a row is left where one is
+-- so a row is left while some site has plates left to make
 row_is_left : (making : Making) (frames : List (List ℕ)) (n : ℕ) (before now : List RackTells) (makers : List Maker) (i : ℕ) (d : Maker) → Carries making frames → length before ≡ length makers → length now ≡ length makers
     → AreServed making n before now makers → n ≤ length frames → i < length makers → is_making (get_or makers i d) ≡ true → n < length frames
 row_is_left making frames n before now makers i d carries olds news served most less some =
@@ -140,7 +140,7 @@ row_left making frames n before now makers list same carries olds news served mo
 
 -- ---- the feed
 
--- the next of the rows that are left
+-- the next of the remaining rows
 pub next_is : (rows : List (List ℕ)) (n : ℕ) (row : List ℕ) (rest : List (List ℕ)) → drop n rows ≡ row ∷ rest → (slice_get rows n ≡ Some row) × (rest ≡ drop (n + 1) rows)
 next_is [] zero row rest is = absurd (none is) where
   none : [] ≡ row ∷ rest → ⊥
@@ -213,7 +213,7 @@ grown-nothing : {X : Type 0} (list : Option (List X)) → list ≡ grown [] list
 grown-nothing None = refl
 grown-nothing (Some list) = ap Some (sym (append-nil list))
 
--- nothing is a part
+-- no file at all is a part
 pub none_part : (making : Making) (before : List RackTells) → RemadePart making before before
 none_part making before = record {
   each = λ site old new less b r.
@@ -253,7 +253,7 @@ remade_fits making n before now makers ends served none are = record {
       (end_fits making site n old new maker.0.site maker.0.end over (served.each site old new maker.0 b r maker.1));
 }
 
--- ---- the racks of the sites, and those behind them
+-- ---- the racks of the sites, and those after them
 
 pub fits_wide : {X : Type 0} (tell : X → RackTells) (making : Making) (racks racks' front front' rest : List X) (ends : List RemadeEnd) → racks ≡ front ++ rest → racks' ≡ front' ++ rest → length front ≡ length making.plan.sites
     → length front' ≡ length front → RemadeFits making (map tell front) (map tell front') ends → RemadeFits making (map tell racks) (map tell racks') ends

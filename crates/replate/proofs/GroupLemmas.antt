@@ -52,7 +52,7 @@ inks_alike plan a b is left right same =
     ∙ ap (λ r. page_spot plan (group_at plan b).left || page_spot plan r) same.right ∙ sym second.spot in
     inks_by (group_at plan a) (group_at plan b) colour spot
 
--- two groups that stand for one group at one site have the same pages
+-- two groups that correspond to one group at one site have the same pages
 pub stand_alike : (plan : PlanData) (site : ℕ) (group : Group) (other : PlanData) (its its' index index' : ℕ) → IsPlan other
     → StandsFor plan site group other its index → StandsFor plan site group other its' index' → SamePages (group_at other index) (group_at other index')
 stand_alike plan site group other its its' index index' is one two =

@@ -1,4 +1,4 @@
--- Lists that are compared element by element.
+-- Lists compared element by element.
 use Rattle.std.proofs.Common.{◌≡◌, ℕ, ◌+◌, ◌<◌, Bool, true, false, List, [], ◌∷◌, ◌++◌, length, map, get_or, take, append_assoc, append-nil, refl, ap, sym, ◌∙◌, arith}
 use Rattle.std.specs.Prelude.{filter}
 use Rattle.std.specs.List.{flat_map}
@@ -7,7 +7,7 @@ use Rattle.std.proofs.lemmas.List.{take_more, get_or-map, length-map, map-append
 use Rattle.std.proofs.lemmas.List.Concat.{flat_map-append}
 use Rattle.std.proofs.lemmas.List.Elements.{filter-append}
 
--- where two elements differ the lists do
+-- where two elements differ, the lists differ
 pub maps_differ : {X Y : Type 0} (f g : X → Y) (xs ys : List X) (i : ℕ) (d : X) → i < length xs → i < length ys
     → (f (get_or xs i d) ≡ g (get_or ys i d) → ⊥) → map f xs ≡ map g ys → ⊥
 maps_differ f g xs ys i d left right differs same =

@@ -1,4 +1,4 @@
--- A site of a delivery and a row: it goes on, it leaves, or its rack wants memory.
+-- A site of a delivery and a row: the site continues, it leaves, or its rack runs out of memory.
 use Rattle.std.proofs.Common.{◌≡◌, ℕ, ◌+◌, ◌<◌, true, false, List, length, map, take, Some, IfSome, refl, sym, ap, subst, ◌∙◌, arith}
 use Rattle.std.specs.Prelude.{slice_get}
 use Rattle.std.proofs.lemmas.List.{length-map}
@@ -39,16 +39,16 @@ frame_at making frames n bytes carries there =
     subst IsFrame (get_or_from_slice_get frames n bytes bytes there)
     (AreFrames-frame (row_size (plate_width making.plan)) (map framed_row frames) frames n bytes carries.rows_are.are (omega (arith, slice_get_within frames n bytes there, length-map frames framed_row)))
 
--- ---- a site that goes on
+-- ---- a site that continues
 
--- how it stands
+-- the state of the site
 pub stands_at : (making : Making) (site n : ℕ) (before now : RackTells) (going : SiteData) (made kept' : ℕ) → GoesOnAt making site n before now going made kept'
     → StandsAfter (picked_job making.plan making.out site (making.bits site)) making.rows Deck n before.tells now.tells going.counts
 stands_at making site n before now going made kept' at =
     subst (λ (m : ℕ). StandsAfter (picked_job making.plan making.out site (making.bits site)) making.rows Deck m before.tells now.tells going.counts) at.next_is
     (subst (λ (job : SiteJob). StandsAfter job making.rows Deck going.next before.tells now.tells going.counts) at.job_is at.is.stands)
 
--- what its rack has more
+-- the files that its rack has in addition
 pub files_at : (making : Making) (site n : ℕ) (before now : RackTells) (going : SiteData) (made kept' : ℕ) → GoesOnAt making site n before now going made kept'
     → now.tells.finished ≡ grown (take (finished_count (picked_job making.plan making.out site (making.bits site)) n) (files_for making site)) before.tells.finished
 files_at making site n before now going made kept' at =
@@ -72,9 +72,9 @@ served_part making site n before now going (Left made path) left = record {
   faults = left.faults;
 }
 
--- ---- what Site::keep asks
+-- ---- the requirements of Site::keep
 
--- the site of a maker that goes on
+-- the site of a maker that continues
 pub going_of : (making : Making) (site n : ℕ) (before now : RackTells) (going : SiteData) (end : RemadeEnd) (made kept' : ℕ) → end ≡ Done made kept' → ServedBy making site n before now going end
     → GoesOnAt making site n before now going made kept'
 going_of making site n before now going end made kept' is served = subst (λ (e : RemadeEnd). ServedBy making site n before now going e) is served
@@ -105,7 +105,7 @@ asks frames n now maker held made kept' some is number there =
       working = going_working making.rows Deck some.before.tells now.tells maker.site at.is;
     }
 
--- ---- what keeping the row makes of it
+-- ---- the effect of keeping the row
 
 -- a row of the deck
 pub record IsPutRow (frames : List (List ℕ)) (n : ℕ) (held : HeldRow) : Type 0 where
@@ -113,7 +113,7 @@ pub record IsPutRow (frames : List (List ℕ)) (n : ℕ) (held : HeldRow) : Type
   pub bytes_are : slice_get frames held.number ≡ Some held.bytes
   pub source_is : held.source ≡ Deck
 
--- it was kept
+-- the row was kept
 goes_further : (making : Making) (frames : List (List ℕ)) (site n : ℕ) (before old new : RackTells) (held : HeldRow) (going next : SiteData) (made kept' : ℕ) → Carries making frames → IsPutRow frames n held
     → Keeps going next held old new kept.Done → GoesOnAt making site n before old going made kept' → GoesOnAt making site (n + 1) before new next made kept'
 goes_further making frames site n before old new held going next made kept' carries row keeps at =
@@ -169,7 +169,7 @@ made_left frames n old new held maker next made kept' cause is keeps = record {
       leaves_at making frames site n before old new held maker.site next made kept' cause carries keeps (going_of making site n before old maker.site maker.end made kept' is served);
 }
 
--- its rack wanted memory
+-- the rack ran out of memory
 pub made_stopped : (frames : List (List ℕ)) (n : ℕ) (old new : RackTells) (held : HeldRow) (maker : Maker) (next : SiteData) (made kept' : ℕ) → maker.end ≡ Done made kept'
     → Keeps maker.site next held old new kept.Memory → Stopped frames n old new maker
 made_stopped frames n old new held maker next made kept' is keeps = record {
@@ -184,14 +184,14 @@ made_stopped frames n old new held maker next made kept' is keeps = record {
       };
 }
 
--- a site that has left stays so
+-- a site that has left remains so
 pub left_stays : (frames : List (List ℕ)) (n : ℕ) (told : RackTells) (maker : Maker) → has_left maker.end ≡ true → Made frames n told told maker maker
 left_stays frames n told maker out = record { each = λ making site before carries served. by making site before maker.end out served } where
   by : (making : Making) (site : ℕ) (before : RackTells) (end : RemadeEnd) → has_left end ≡ true → ServedBy making site n before told maker.site end → ServedBy making site (n + 1) before told maker.site end
   by making site before (Done made kept') out' at = absurd (let e : false ≡ true = out' in cc)
   by making site before (Left made path) out' left = left
 
--- one that hasn't is done with so many plates unless it leaves
+-- a site that hasn't left is done with some number of plates unless it leaves
 pub is_done : (end : RemadeEnd) → has_left end ≡ false → (made : ℕ) × ((kept' : ℕ) × (end ≡ Done made kept'))
 is_done (Done made kept') on = (made, (kept', refl))
 is_done (Left made path) on = absurd (let e : true ≡ false = on in cc)

@@ -1,4 +1,4 @@
--- Pages whose files are told by their classes are the same exactly where their recipes are.
+-- Pages whose files are given by their classes are the same exactly where their recipes are.
 use Rattle.std.proofs.Common.{◌≡◌, ℕ, zero, suc, ◌<◌, List, [], ◌∷◌, length, map, get_or, Option, Some, None, option_map, slice_get, refl, ap, sym, ◌∙◌, arith}
 use Rattle.std.specs.Prelude.{All, IfSome, slice_index}
 use Rattle.std.specs.Option.{option_map_or}
@@ -19,7 +19,7 @@ found f [] i x y within is = absurd (omega arith)
 found f (z ∷ xs) zero x y within is = ap f (sym is)
 found f (z ∷ xs) (suc i) x y within is = found f xs i x y (omega arith) is
 
--- what a page of the plan prints
+-- the recipe of a page of the plan
 abbrev pub page_told : List (List ℕ) → PageData → PageRecipe
 page_told files page = record { colour = page.colour; spot = page.spot; layers = map (layer_recipe files) page.layers }
 

@@ -1,4 +1,4 @@
--- What the picks tell is what must be made.
+-- The plates that the picks report are those that must be made.
 use Rattle.std.proofs.Common.{◌≡◌, ℕ, ◌<◌, true, false, eqb, [], length, ap, sym, ◌∙◌, inl, inr, refl}
 use Rattle.std.specs.Prelude.{◌↔◌, ◌&&◌, ◌||◌, IsTrue, slice_index_or}
 use Rattle.std.specs.List.{list_any}

@@ -68,7 +68,7 @@ some_of_group test site index group is =
       | inr other ↦ absurd (false≢true (sym (ap (λ b. list_any test (cond b (ink_plates site index (inks_of group)) [])) other) ∙ is))
     ]
 
--- a group beside its index
+-- a group together with its index
 pub pair_at : (plan : PlanData) (index : ℕ) → index < length (groups_of plan)
     → get_or (enumerate_from 0 (groups_of plan)) index (0, group_in [] 0) ≡ (index, group_at plan index)
 pair_at plan index within =
@@ -85,7 +85,7 @@ any_of_site plan test plate is passes =
     (ap (λ p. list_any test (plates_in plate.site p)) (pair_at plan plate.group is.group)
     ∙ of_group test plate.site plate.group (group_at plan plate.group) plate.ink is.of_site is.of_ink passes)
 
--- and one of those that passes is a plate of the site
+-- where the test passes for some entry of a site's list, it passes for a plate of the site
 pub some_of_site : (plan : PlanData) (site : ℕ) (test : PlateAt → Bool) → site < length plan.sites → list_any test (plates_of plan site) ≡ true
     → (plate : PlateAt) × IsPlateOf plan plate × (plate.site ≡ site) × (test plate ≡ true)
 unfolding plates_of
@@ -96,7 +96,7 @@ some_of_site plan site test low is =
     let one = some_of_group test site at.0 (group_at plan at.0) (sym (ap (λ p. list_any test (plates_in site p)) (pair_at plan at.0 within)) ∙ at.2) in
     (record { site = site; group = at.0; ink = one.0 }, record { site = low; group = within; of_site = one.1; of_ink = one.2 }, refl, one.3)
 
--- the same of all plates
+-- the same for all plates
 pub any_plate : (plan : PlanData) (test : PlateAt → Bool) (plate : PlateAt) → IsPlateOf plan plate → test plate ≡ true → list_any test (all_plates plan) ≡ true
 unfolding all_plates
 any_plate plan test plate is passes =
@@ -124,7 +124,7 @@ can_tell plan site index is low within =
     record { plan_is = is; of_site = low; of_section = of.section; digits = (let few = of.pair in omega arith) }
 
 module _ (before after : PlanData) (old : PlateAt) (before_is : IsPlan before) (after_is : IsPlan after) (site : old.site < length before.sites) (group : old.group < length (groups_of before)) where
-  -- a new plate of the old one's path stands for it
+  -- a new plate with the old plate's path corresponds to it
   stands : (new : PlateAt) → IsPlateOf after new → path_below after new ≡ path_below before old
       → (before.edition ≡ after.edition) × (old.ink ≡ new.ink) × StandsFor before old.site (group_at before old.group) after new.site new.group
   stands new is same =
@@ -149,15 +149,15 @@ module _ (before after : PlanData) (old : PlateAt) (before_is : IsPlan before) (
       let found = some_plate after (λ plate. bytes_eq (path_below after plate) (path_below before old)) is in
       (found.0, found.1, (bytes_decides (path_below after found.0) (path_below before old)).0 found.2)
 
-  -- an old plate whose path no plate of another edition has
+  -- an old plate of another edition: no plate has its path
   pub absent_edition : before.edition ≢ after.edition → has_path after (path_below before old) ≡ false
   absent_edition other = false_from_ne_true (has_path after (path_below before old)) (λ is. let new = has is in other (stands new.0 new.1 new.2).0)
 
-  -- one for which no group stands
+  -- an old plate without a corresponding group
   pub absent_place : ((its index : ℕ) → StandsFor before old.site (group_at before old.group) after its index → ⊥) → has_path after (path_below before old) ≡ false
   absent_place none = false_from_ne_true (has_path after (path_below before old)) (λ is. let new = has is in none new.0.site new.0.group (stands new.0 new.1 new.2).2)
 
-  -- one for which a group stands that has the ink, or not
+  -- an old plate with a corresponding group, which has the ink or doesn't
   pub present : (its index : ℕ) → before.edition ≡ after.edition → StandsFor before old.site (group_at before old.group) after its index
       → has_path after (path_below before old) ≡ has_ink (group_at after index) old.ink
   unfolding has_path

@@ -1,4 +1,4 @@
--- A row that is handed to each site in turn.
+-- A row handed to each site in turn.
 use Rattle.std.proofs.Common.{◌≡◌, ℕ, zero, suc, ◌+◌, ◌<◌, ◌≤◌, List, [], ◌∷◌, length, set, get_or, Some, refl, sym, ap, subst, ◌∙◌, ⊎_elim, arith}
 use Rattle.std.specs.Prelude.{slice_get}
 use Rattle.std.proofs.lemmas.Bool.{cases_lt}
@@ -19,13 +19,13 @@ there_is (x ∷ xs) (suc i) less = there_is xs i (omega (arith, less))
 
 -- ---- a row that is handed on
 
--- the first n pairs took their turns, and the others didn't yet
+-- the first n pairs took their turns, and the others haven't yet
 pub record HandedUpTo {X Y : Type 0} (handed : X → Y → X → Y → Type 0) (xs : List X) (ys : List Y) (ps : List X) (qs : List Y) (n : ℕ) : Type 0 where
   pub done : (j : ℕ) (x p : X) (y q : Y) → j < n → slice_get xs j ≡ Some x → slice_get ys j ≡ Some y → slice_get ps j ≡ Some p → slice_get qs j ≡ Some q → handed x y p q
   pub rest : (j : ℕ) (x : X) → n ≤ j → slice_get xs j ≡ Some x → slice_get ps j ≡ Some x
   pub others : (j : ℕ) (y : Y) → n ≤ j → slice_get ys j ≡ Some y → slice_get qs j ≡ Some y
 
--- a pair more
+-- one more pair
 pub handed_more : {X Y : Type 0} (handed : X → Y → X → Y → Type 0) (xs : List X) (ys : List Y) (ps : List X) (qs : List Y) (i : ℕ) (d p' : X) (e q' : Y) → HandedUpTo handed xs ys ps qs i
     → handed (get_or ps i d) (get_or qs i e) p' q' → HandedUpTo handed xs ys (set ps i p') (set qs i q') (i + 1)
 handed_more {X} {Y} handed xs ys ps qs i d p' e q' upto here = record {
@@ -44,11 +44,11 @@ handed_more {X} {Y} handed xs ys ps qs i d p' e q' upto here = record {
   others = λ j y from at. get-set_other qs i j q' y (λ e. omega (arith, e, from)) (upto.others j y (omega (arith, from)) at);
 }
 
--- a row of a deck that is handed to a site, whose rack is read by `tell`
+-- a row of a deck handed to a site, whose rack is read by `tell`
 abbrev pub MadeBy : {R : Type 0} → (R → RackTells) → List (List ℕ) → ℕ → Maker → R → Maker → R → Type 0
 MadeBy {R} tell frames n maker rack maker' rack' = Made frames n (tell rack) (tell rack') maker maker'
 
--- the next site may take it
+-- the next site may take the row
 pub next_served : {R : Type 0} (tell : R → RackTells) (frames : List (List ℕ)) (n : ℕ) (makers : List Maker) (racks : List R) (makers' : List Maker) (racks' : List R) (i : ℕ) (d : Maker) (e : R) → i < length makers → i < length racks
     → HandedUpTo (MadeBy tell frames n) makers racks makers' racks' i → AllSomeServed tell frames n makers racks → SomeServed frames n (tell (get_or racks' i e)) (get_or makers' i d)
 next_served {R} tell frames n makers racks makers' racks' i d e some-maker some-rack upto some =
@@ -60,13 +60,13 @@ next_served {R} tell frames n makers racks makers' racks' i d e some-maker some-
     subst (λ (a : Maker). SomeServed frames n (tell (get_or racks' i e)) a) (sym maker-is)
     (subst (λ (b : R). SomeServed frames n (tell b) maker.0) (sym rack-is) (some i maker.0 rack.0 maker.1 rack.1))
 
--- it was handed to all
+-- the row was handed to all sites
 pub all_handed : {R : Type 0} (tell : R → RackTells) (frames : List (List ℕ)) (n : ℕ) (makers : List Maker) (racks : List R) (makers' : List Maker) (racks' : List R) (count : ℕ) → length makers ≤ count
     → HandedUpTo (MadeBy tell frames n) makers racks makers' racks' count → AllMade tell frames n makers racks makers' racks'
 all_handed tell frames n makers racks makers' racks' count all upto i maker maker' rack rack' m r m' r' =
     upto.done i maker maker' rack rack' (omega (arith, all, slice_get_within makers i maker m)) m r m' r'
 
--- one of the racks wanted memory
+-- one of the racks ran out of memory
 pub all_ended : {R : Type 0} (tell : R → RackTells) (frames : List (List ℕ)) (n : ℕ) (makers : List Maker) (racks : List R) (makers' : List Maker) (racks' : List R) (i : ℕ) (d : Maker) (e rack'' : R)
     → length makers' ≡ length makers → HandedUpTo (MadeBy tell frames n) makers racks makers' racks' i → Stopped frames n (tell (get_or racks' i e)) (tell rack'') (get_or makers' i d)
     → AllStopped tell frames n makers racks (set racks' i rack'')

@@ -1,5 +1,5 @@
--- The definitions at small plans: a section of two pages with one layer each, at one site, and what changes when
--- one thing is changed.
+-- The definitions at small plans: a section of two pages with one layer each, at one site, and what changes
+-- when one thing is changed.
 use Rattle.std.proofs.Common.{◌≡◌, ℕ, false, List, [], ◌∷◌, None, refl}
 use Rattle.std.specs.Prelude.{codes}
 use Rattle.pr_base.specs.declared.ink.Ink.TheVariants.{K}
@@ -74,7 +74,7 @@ told byte = record {
 abbrev page_of : ℕ → PageRecipe
 page_of byte = record { colour = false; spot = false; layers = told byte ∷ [] }
 
--- the recipe of the plate of the second page beside the first
+-- the recipe of the plate of the second page next to the first
 recipe : Recipe
 recipe = record {
   settings = record {
@@ -96,13 +96,13 @@ recipe_is : recipe_of first ((65 ∷ []) ∷ (66 ∷ []) ∷ []) 1 0 K ≡ recip
 unfolding recipe recipe_of page_recipe
 recipe_is = refl
 
--- the same with the tile, the pages, the site and the section of other names
+-- the same with other names for the tile, the pages, the site and the section
 renamed : recipe_of (plan (codes "E1") (codes "BERGEN") (tile (codes "own") (9 ∷ 200 ∷ [])) (page (codes "r") 0 ∷ page (codes "s") 1 ∷ []) (codes "B"))
     ((65 ∷ []) ∷ (66 ∷ []) ∷ []) 1 0 K ≡ recipe
 unfolding recipe recipe_of page_recipe
 renamed = refl
 
--- and with two files in the place of each other, in the plan and in the folder
+-- the same with two files exchanged, in the plan and in the folder
 exchanged : recipe_of (plan (codes "E1") (codes "OSLO") (tile (codes "dots") (9 ∷ 200 ∷ [])) (page (codes "p") 1 ∷ page (codes "q") 0 ∷ []) (codes "A"))
     ((66 ∷ []) ∷ (65 ∷ []) ∷ []) 1 0 K ≡ recipe
 unfolding recipe recipe_of page_recipe

@@ -1,4 +1,4 @@
--- Which plates of a site are wanted: bits that are gathered group by group, as many as the site has plates.
+-- Which plates of a site must be made: flags collected group by group, one for each plate of the site.
 use Rattle.std.proofs.Common.{◌≡◌, ℕ, ◌+◌, ◌<◌, Bool, true, false, cond, if◌then◌else◌, List, [], ◌∷◌, ◌++◌, length, map, get_or, take, append_assoc, append-nil, refl, ap, sym, ◌∙◌}
 use Rattle.std.specs.Prelude.{filter}
 use Rattle.std.specs.List.{enumerate_from, flat_map}
@@ -38,7 +38,7 @@ groups-count site k (group ∷ groups) = by (has_site group site) (groups-count 
       ∙ sym (length-append (group_plates group) (flat_map group_plates (filter (λ g. has_site g site) groups)))
   by false next = next
 
--- there is a bit for each plate of the site
+-- there is a flag for each plate of the site
 pub length-picked_bits : (picks : PicksData) (plan : PlanData) (site : ℕ) → length (picked_bits picks plan site) ≡ length (site_plates plan site)
 unfolding plates_of site_plates
 length-picked_bits picks plan site = length-map (plates_of plan site) (is_picked picks) ∙ groups-count site 0 (groups_of plan)

@@ -1,4 +1,4 @@
--- Files of two jobs told apart by numbers.
+-- Classes of the files of two jobs, as numbers.
 use Rattle.std.specs.Prelude.{◌≡◌, ◌<◌, ℕ, List, [], IfSome, length, map, position, slice_index, option_map}
 use Rattle.std.specs.Borrow.{Bor}
 use Rattle.std.specs.declared.cmp.Ordering.{Ordering}
@@ -37,15 +37,15 @@ pub record HasClasses (classes : List ℕ) (layer : LayerData) : Type 0 where
 
 -- ---- files that are known
 
--- a file as it is sought: its length and its bytes
+-- a file as a search key: its length and its bytes
 abbrev pub WholeFile : Type 0
 WholeFile = ℕ × Bor (List ℕ)
 
--- the order of files: by their lengths, then by their bytes
+-- the order of files: by length, then by bytes
 abbrev pub whole_cmp : WholeFile → WholeFile → Ordering
 whole_cmp a b = ordering_then (nat_cmp a.0 b.0) (slice_cmp nat_cmp a.1.now b.1.now)
 
--- of the files so far the map has, for each, the index of the first with the same bytes, and nothing else
+-- the map holds, for each of the files so far, the index of the first with the same bytes, and nothing else
 pub record Knows (known : BTreeMap WholeFile ℕ) (files : List (List ℕ)) : Type 0 where
   pub each : (whole : WholeFile) → whole.0 ≡ length whole.1.now
       → get whole_cmp known whole ≡ position (bytes_eq whole.1.now) files

@@ -1,4 +1,4 @@
--- How far the sites of a delivery are. This is the contract of private calls.
+-- The progress of a delivery's sites. This is the contract of private calls.
 use Rattle.std.specs.Prelude.{◌≡◌, ℕ, ◌+◌, ◌-◌, ◌<◌, ◌≤◌, ◌==◌, Bool, true, false, not, List, length, map}
 use Rattle.std.specs.Prelude.{count_by, Some, slice_get}
 use Rattle.std.specs.List.{range_with_len}
@@ -17,7 +17,7 @@ use Rattle.replate.specs.declared.remade.RemadeEnd.TheVariants.{Done, Left}
 use Rattle.replate.specs.Picks.{PicksData}
 use Rattle.replate.specs.Remade.{AreRowsOf, FitsLeft, FitsPart, Making, all_files, files_for, picked_bits}
 
--- these are the frames of the rows that a delivery makes its plates of
+-- these are the frames of the rows from which a delivery makes its plates
 pub record Carries (making : Making) (frames : List (List ℕ)) : Type 0 where
   pub plan_is : IsPlan making.plan
   pub rows_are : AreRowsOf making.plan frames
@@ -30,7 +30,7 @@ abbrev pub has_left : RemadeEnd → Bool
 has_left (Done made kept) = false
 has_left (Left made path) = true
 
--- a site goes on, and has dealt with the rows below row n
+-- a site continues, and has handled the rows below row n
 pub record GoesOnAt (making : Making) (site n : ℕ) (before now : RackTells) (going : SiteData)
     (made kept : ℕ) : Type 0 where
   pub job_is : going.job ≡ picked_job making.plan making.out site (making.bits site)
@@ -46,12 +46,12 @@ pub record HasLeft (making : Making) (site : ℕ) (before now : RackTells) (made
   pub fits : FitsLeft making site before now made path
   pub faults : before.faults ≤ now.faults
 
--- the rack of a site has a part of its files at least
+-- the rack of a site has at least a part of its files
 pub record HasPart (making : Making) (site : ℕ) (before now : RackTells) : Type 0 where
   pub part : FitsPart making site before now
   pub faults : before.faults ≤ now.faults
 
--- a site has dealt with the rows below row n, or has left
+-- a site has handled the rows below row n, or has left
 abbrev pub ServedBy : Making → ℕ → ℕ → RackTells → RackTells → SiteData → RemadeEnd → Type 0
 ServedBy making site n before now going (Done made kept) =
     GoesOnAt making site n before now going made kept
@@ -60,7 +60,7 @@ ServedBy making site n before now going (Left made path) = HasLeft making site b
 abbrev pub IsServed : Making → ℕ → ℕ → RackTells → RackTells → Maker → Type 0
 IsServed making site n before now maker = ServedBy making site n before now maker.site maker.end
 
--- of some delivery, a site has
+-- in some delivery, a site has handled the rows below row n, or has left
 pub record SomeServed (frames : List (List ℕ)) (n : ℕ) (now : RackTells) (maker : Maker) : Type 0 where
   pub making : Making
   pub site' : ℕ
@@ -70,19 +70,19 @@ pub record SomeServed (frames : List (List ℕ)) (n : ℕ) (now : RackTells) (ma
 
 -- ---- a row
 
--- a site dealt with row n: so it is in each delivery
+-- a site handled row n: this holds in every delivery
 pub record Made (frames : List (List ℕ)) (n : ℕ) (old new : RackTells) (was is : Maker) : Type 0 where
   pub each : (making : Making) (site : ℕ) (before : RackTells) → Carries making frames
       → IsServed making site n before old was → IsServed making site (n + 1) before new is
 
--- the delivery ended with row n: of each one the site's rack has a part
+-- the delivery ended with row n: in every delivery the site's rack has a part
 pub record Stopped (frames : List (List ℕ)) (n : ℕ) (old new : RackTells) (was : Maker) : Type 0 where
   pub each : (making : Making) (site : ℕ) (before : RackTells) → Carries making frames
       → IsServed making site n before old was → HasPart making site before new
 
 -- ---- plates that are left to make
 
--- a site that goes on has not ended
+-- a site that continues has not ended
 abbrev pub UpBy : RemadeEnd → SiteData → Type 0
 UpBy (Done made kept) site = site.ended ≡ false
 UpBy (Left made path) site = Unit {0}
@@ -94,18 +94,18 @@ abbrev pub making_by : RemadeEnd → SiteData → Bool
 making_by (Done made kept) site = not (finished_count site.job site.next == length site.job.plates)
 making_by (Left made path) site = false
 
--- whether a site goes on and has plates left to make
+-- whether a site continues and has plates left to make
 abbrev pub is_making : Maker → Bool
 is_making maker = making_by maker.end maker.site
 
 -- ---- all sites
 
--- of some delivery each site with its rack has dealt with the rows below row n, or has left
+-- in some delivery, each site with its rack has handled the rows below row n, or has left
 abbrev pub AllSomeServed : {R : Type 0} → (R → RackTells) → List (List ℕ) → ℕ → List Maker → List R → Type 0
 AllSomeServed {R} tell frames n makers racks = (i : ℕ) (maker : Maker) (rack : R)
     → slice_get makers i ≡ Some maker → slice_get racks i ≡ Some rack → SomeServed frames n (tell rack) maker
 
--- each dealt with row n
+-- each site handled row n
 abbrev pub AllMade : {R : Type 0} → (R → RackTells) → List (List ℕ) → ℕ → List Maker → List R → List Maker
     → List R → Type 0
 AllMade {R} tell frames n makers racks makers' racks' = (i : ℕ) (maker maker' : Maker) (rack rack' : R)
@@ -119,7 +119,7 @@ AllStopped {R} tell frames n makers racks racks' = (i : ℕ) (maker : Maker) (ra
     → slice_get makers i ≡ Some maker → slice_get racks i ≡ Some rack → slice_get racks' i ≡ Some rack'
     → Stopped frames n (tell rack) (tell rack') maker
 
--- each site has dealt with the rows below row n, or has left
+-- each site has handled the rows below row n, or has left
 pub record AreServed (making : Making) (n : ℕ) (before now : List RackTells) (makers : List Maker)
     : Type 0 where
   pub count : length makers ≡ length making.plan.sites
@@ -127,7 +127,7 @@ pub record AreServed (making : Making) (n : ℕ) (before now : List RackTells) (
       → slice_get now site ≡ Some new → slice_get makers site ≡ Some maker
       → IsServed making site n old new maker
 
--- each rack has a part of its files at least
+-- each rack has at least a part of its files
 pub record HaveParts (making : Making) (before now : List RackTells) : Type 0 where
   pub each : (site : ℕ) (old new : RackTells) → site < length making.plan.sites
       → slice_get before site ≡ Some old → slice_get now site ≡ Some new → HasPart making site old new
@@ -141,6 +141,6 @@ fresh_maker plan out picks site =
     let made = count_by (λ bit. bit) bits in
     record { site = picked_site plan out site bits; end = Done made (length bits - made) }
 
--- all of them
+-- all sites of a delivery before the first row
 abbrev pub fresh_makers : PlanData → List ℕ → PicksData → List Maker
 fresh_makers plan out picks = map (fresh_maker plan out picks) (range_with_len 0 (length plan.sites))

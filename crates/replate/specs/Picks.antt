@@ -1,4 +1,4 @@
--- Which plates a new job has to make, beside those of an old one, and which old ones it drops.
+-- Which plates a new job must make, compared with an old job, and which old plates it drops.
 use Rattle.std.specs.Prelude.{◌≡◌, ℕ, Bool, false, not, ◌&&◌, List, [], filter, slice_index_or}
 use Rattle.pr_base.specs.declared.ink.Ink.{Ink}
 use Rattle.plan_json.specs.Data.{PlanData}
@@ -29,15 +29,15 @@ dropped_of before after = filter (is_dropped before after) (all_plates before)
 
 -- ---- picks
 
--- what contracts see of picks
+-- the contents of picks in contracts
 pub record PicksData : Type 0 where
-  -- ink by ink, whether both plans have one edition and the same settings, and screen the ink alike
+  -- for each ink, whether both plans have the same edition and settings, and screen the ink alike
   pub alike : List Bool
-  -- group by group of the new plan and site by site, whether an old plate's place has the same two pages
+  -- for each group of the new plan and each site, whether the old job has the same two pages at its place
   pub kept : List (List Bool)
   pub dropped : List PlateAt
 
--- whether the picks tell a plate to be made
+-- whether the picks report that a plate must be made
 abbrev pub is_made : PicksData → ℕ → ℕ → Ink → Bool
 is_made picks site group ink =
     let stays = slice_index_or (slice_index_or picks.kept group []) site false in

@@ -1,4 +1,5 @@
--- The plates of a plan, told by site, index of the group and ink, and their paths below any folder.
+-- The plates of a plan, each identified by site, index of the group and ink, and their paths below any
+-- folder.
 use Rattle.std.specs.Prelude.{◌<◌, ℕ, Bool, false, IsTrue, if◌then◌else◌, List, [], map, length}
 use Rattle.std.specs.Prelude.{slice_index_or}
 use Rattle.std.specs.List.{enumerate_from, flat_map, list_any, range_with_len}
@@ -15,7 +16,7 @@ use Rattle.replate.specs.declared.old_plate.OldPlate.{OldPlate}
 abbrev pub PlateAt : Type 0
 PlateAt = OldPlate
 
--- the group with this index among groups
+-- the group with this index in a list of groups
 abbrev pub group_in : List Group → ℕ → Group
 group_in groups index = slice_index_or groups index (record {
   section = 0;
@@ -41,7 +42,7 @@ pub record IsPlateOf (plan : PlanData) (plate : PlateAt) : Type 0 where
 
 -- ---- in order
 
--- those of these inks of the group with this index at a site
+-- the plates in these inks of the group with this index at a site
 abbrev pub ink_plates : ℕ → ℕ → List Ink → List PlateAt
 ink_plates site index inks = map (λ ink. record { site = site; group = index; ink = ink }) inks
 
@@ -59,7 +60,7 @@ all_plates plan = flat_map (plates_of plan) (range_with_len 0 (length plan.sites
 
 -- ---- paths
 
--- the path of a plate behind the name of a folder: what folder it is makes no difference
+-- the path of a plate after the name of a folder; it is the same for every folder
 abbrev pub path_below : PlanData → PlateAt → List ℕ
 path_below plan plate = path_of plan [] plate.site (group_at plan plate.group) plate.ink
 

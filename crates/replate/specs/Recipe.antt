@@ -1,5 +1,5 @@
--- The recipe of a plate: all that its file is made of, as plain data. Names are no part of it, neither of
--- files and pages nor of tiles, sections and zones: images, masks and tiles stand in it themselves.
+-- The recipe of a plate: everything that its file is made of, as plain data. It contains no names of files,
+-- pages, tiles, sections or zones: images, masks and tiles are included themselves.
 use Rattle.std.specs.Prelude.{ℕ, Bool, List, [], map, slice_get, slice_index_or, Option, option_map}
 use Rattle.std.specs.Option.{option_map_or}
 use Rattle.pr_base.specs.declared.ink.Ink.{Ink}
@@ -18,10 +18,10 @@ pub data ScreenRecipe : Type 0 where
   Bayer : ℕ → ScreenRecipe
   -- by error diffusion
   Diffuse : ScreenRecipe
-  -- by a tile of this width and height with these numbers
+  -- by a tile with this width, height and numbers
   Own : ℕ → ℕ → List ℕ → ScreenRecipe
 
--- a tile of the plan; one that it doesn't have has no numbers
+-- a tile of the plan; a tile that the plan doesn't have has no numbers
 abbrev pub tile_at : PlanData → ℕ → TileData
 tile_at plan tile = slice_index_or plan.tiles tile (record { name = []; width = 0; height = 0; at = [] })
 
@@ -50,7 +50,7 @@ pub record LayerRecipe : Type 0 where
   pub overprint : Bool
   pub ink : List ℕ
 
--- a page; the first layer lies at the bottom
+-- a page; the first layer is at the bottom
 pub record PageRecipe : Type 0 where
   pub colour : Bool
   pub spot : Bool
@@ -73,7 +73,7 @@ layer_recipe files layer = record {
   ink = layer.ink;
 }
 
--- what the plan says of the layers of a page
+-- the layers of a page in the plan
 abbrev pub layers_at : PlanData → ℕ → List LayerData
 layers_at plan page = option_map_or (λ p. p.layers) (slice_get plan.pages page) []
 
@@ -86,7 +86,7 @@ page_recipe plan files page = record {
 
 -- ---- plates
 
--- what all plates of a plan have in common: all curves and all marks, of whichever ink
+-- what all plates of a plan have in common: all curves and all marks, of every ink
 pub record Settings : Type 0 where
   pub dpi : ℕ
   pub page_width : ℕ

@@ -1,5 +1,5 @@
--- What a delivery of the plates that must be made leaves on the racks of its sites, by what each of them told
--- before and tells now.
+-- What a delivery of the plates that must be made leaves on the racks of its sites, by what each rack reports
+-- before and after.
 use Rattle.std.specs.Prelude.{◌≡◌, ℕ, ◌+◌, ◌<◌, ◌≤◌, Bool, List, length, map, take, Some, IfSome, slice_get}
 use Rattle.std.specs.Prelude.{slice_index_or}
 use Rattle.pr_base.specs.Count.{Rose}
@@ -20,23 +20,23 @@ use Rattle.replate.specs.Plates.{PlateAt, plates_of}
 
 -- ---- what is to be made
 
--- whether the picks tell a plate to be made
+-- whether the picks report that a plate must be made
 abbrev pub is_picked : PicksData → PlateAt → Bool
 is_picked picks plate = is_made picks plate.site plate.group plate.ink
 
--- which plates of a site they do, in the order of its files
+-- whether each plate of a site must be made by the picks, in the order of the site's files
 abbrev pub picked_bits : PicksData → PlanData → ℕ → List Bool
 picked_bits picks plan site = map (is_picked picks) (plates_of plan site)
 
--- what a delivery is to make: of all rows of a plan, with paths below the folder `out`, the plates of each
--- site at which these bits are true
+-- the task of a delivery: from all rows of a plan, with paths below the folder `out`, it makes the plates of
+-- each site whose flags are true
 pub record Making : Type 0 where
   pub plan : PlanData
   pub rows : List (List ℕ)
   pub out : List ℕ
   pub bits : ℕ → List Bool
 
--- the same by picks
+-- the same, with the flags of the picks
 abbrev pub by_picks : PlanData → List (List ℕ) → List ℕ → PicksData → Making
 by_picks plan rows out picks = record {
   plan = plan;
@@ -53,21 +53,21 @@ files_for making site = picked_files making.plan making.rows making.out site (ma
 abbrev pub all_files : Making → ℕ → List Plate
 all_files making site = site_files making.plan making.rows making.out site
 
--- these are the frames of rows for a plan, as many as it has
+-- these are the frames of rows for a plan, as many as the plan has
 pub record AreRowsOf (plan : PlanData) (frames : List (List ℕ)) : Type 0 where
   pub count : length frames ≡ length (row_places plan)
   pub are : AreFrames (row_size (plate_width plan)) (map framed_row frames) frames
 
 -- ---- the end of a site
 
--- a site that made all that it was to make: its rack has exactly these files more
+-- a site that made all its plates: its rack has exactly these files in addition
 pub record FitsDone (making : Making) (site : ℕ) (before now : RackTells) (made kept : ℕ) : Type 0 where
   pub made_are : made ≡ length (files_for making site)
   pub kept_are : made + kept ≡ length (all_files making site)
   pub finished : now.tells.finished ≡ grown (files_for making site) before.tells.finished
 
--- a site that left: its rack has the first of these files more, so many; and it left since a call failed,
--- which is the last that failed, for one of the other files
+-- a site that left: its rack has, in addition, the first `made` of these files. It left because a call
+-- failed, which is the last failed call, for one of the other files
 pub record FitsLeft (making : Making) (site : ℕ) (before now : RackTells) (made : ℕ) (path : List ℕ)
     : Type 0 where
   pub finished : now.tells.finished ≡ grown (take made (files_for making site)) before.tells.finished
@@ -81,25 +81,25 @@ pub record FitsLeft (making : Making) (site : ℕ) (before now : RackTells) (mad
   pub last_call : RackCall
   pub missed : IfSome now.missed (λ last. last ≡ Some (last_call, path))
 
--- a site's end fits what its rack has more than before
+-- a site's end fits what its rack has in addition to before
 abbrev pub FitsEnd : Making → ℕ → RackTells → RackTells → RemadeEnd → Type 0
 FitsEnd making site before now (Done made kept) = FitsDone making site before now made kept
 FitsEnd making site before now (Left made path) = FitsLeft making site before now made path
 
--- a site of a delivery that want of memory ended: its rack has the first of these files more
+-- a site of a delivery that ended out of memory: its rack has the first of these files in addition
 pub record FitsPart (making : Making) (site : ℕ) (before now : RackTells) : Type 0 where
   pub files : ℕ
   pub finished : now.tells.finished ≡ grown (take files (files_for making site)) before.tells.finished
 
 -- ---- all sites
 
--- each site has an end, which fits what its rack has more than before
+-- each site has an end, which fits what its rack has in addition to before
 pub record RemadeFits (making : Making) (before now : List RackTells) (ends : List RemadeEnd) : Type 0 where
   pub count : length ends ≡ length making.plan.sites
   pub each : (site : ℕ) (old new : RackTells) (end : RemadeEnd) → slice_get before site ≡ Some old
       → slice_get now site ≡ Some new → slice_get ends site ≡ Some end → FitsEnd making site old new end
 
--- want of memory ended the delivery
+-- the delivery ended out of memory
 pub record RemadePart (making : Making) (before now : List RackTells) : Type 0 where
   pub each : (site : ℕ) (old new : RackTells) → site < length making.plan.sites
       → slice_get before site ≡ Some old → slice_get now site ≡ Some new → FitsPart making site old new

@@ -1,4 +1,5 @@
--- Where the path of a plate stands in another plan: by the names of its site and section, and by its pair.
+-- The site and group of another plan that a plate's path names: found by the names of the site and the
+-- section, and by the pair.
 use Rattle.std.specs.Prelude.{◌≡◌, ◌<◌, ◌≤◌, ℕ, Bool, false, IsTrue, List, [], length, slice_index_or}
 use Rattle.plan_parts.specs.declared.printing.Screen.TheVariants.{Diffuse}
 use Rattle.plan_json.specs.Data.{PlanData}
@@ -24,7 +25,7 @@ pub record IsGroupOf (groups : List Group) (section pair site index : ℕ) : Typ
   pub pair_is : (group_in groups index).pair ≡ pair
   pub of_site : IsTrue (has_site (group_in groups index) site)
 
--- a group of another plan at one of its sites: but for the edition, its plates there have the paths of the
+-- a group of another plan at one of its sites: except for the edition, its plates there have the paths of the
 -- plates of this group at this site
 pub record StandsFor (plan : PlanData) (site : ℕ) (group : Group) (other : PlanData) (its index : ℕ)
     : Type 0 where
@@ -40,25 +41,25 @@ pub record SamePages (before : JobData) (old : Group) (after : JobData) (new : G
   pub left : page_recipe before.plan before.files old.left ≡ page_recipe after.plan after.files new.left
   pub right : page_recipe before.plan before.files old.right ≡ page_recipe after.plan after.files new.right
 
--- an old group at one of its sites stands for this new group at this site, and prints the same two pages
+-- an old group at one of its sites corresponds to this new group at this site, and prints the same two pages
 pub record Stays (before after : JobData) (site : ℕ) (group : Group) (its index : ℕ) : Type 0 where
   pub stands : StandsFor after.plan site group before.plan its index
   pub pages : SamePages before (group_at before.plan index) after group
 
--- whether some old group stays at each site of a new group
+-- for each site of a new group, whether some old group stays there
 pub record AreKept (before after : JobData) (group : Group) (sites : ℕ) (row : List Bool) : Type 0 where
   pub stays : (site : ℕ) → site < sites → IsTrue (slice_index_or row site false)
       → (its : ℕ) × ((index : ℕ) × Stays before after site group its index)
   pub each : (site its index : ℕ) → site < sites → IsTrue (has_site group site)
       → Stays before after site group its index → IsTrue (slice_index_or row site false)
 
--- the same of each of the first new groups
+-- the same for each of the first new groups
 pub record AreAllKept (before after : JobData) (groups : ℕ) (kept : List (List Bool)) : Type 0 where
   pub rows : (index : ℕ) → index < groups
       → AreKept before after (group_at after.plan index) (length after.plan.sites)
       (slice_index_or kept index [])
 
--- both plans have one edition and the same settings, and screen the ink in this slot alike
+-- both plans have the same edition and settings, and screen the ink in this slot alike
 pub record IsAlike (before after : PlanData) (slot : ℕ) : Type 0 where
   pub edition : before.edition ≡ after.edition
   pub settings : settings_of before ≡ settings_of after

@@ -1,4 +1,4 @@
-// What two plans say alike of a plate: their settings, how they screen an ink, and pages.
+// Comparison of two plans for a plate: their settings, the screening of an ink, and pages.
 ghost use Rattle.std.specs.Prelude.{◌≡◌, ◌<◌, ◌↔◌, IsTrue, All, length, map};
 ghost use Rattle.plan_json.specs.Plan.{IsPlan};
 ghost use Rattle.plan_parts.specs.Parts.{IsScreen};
@@ -8,7 +8,7 @@ ghost use Rattle.replate.specs.Classes.{HasClasses, classed, classed_page};
 use crate::classes::Classes;
 use plan_json::{Mark, Page, Plan, PlanCurve, PlanLayer, Screen};
 
-/// Whether two plans have one edition.
+/// Returns whether two plans have the same edition.
 pub(crate) fn same_edition(before: &Plan, after: &Plan) -> bool
     ensures same { IsTrue result ↔ (before.now.edition ≡ after.now.edition) }
     ensures before { IsPlan before.now }
@@ -17,7 +17,7 @@ pub(crate) fn same_edition(before: &Plan, after: &Plan) -> bool
     before.edition == after.edition
 }
 
-/// Whether two plans have the same settings.
+/// Returns whether two plans have the same settings.
 pub(crate) fn same_settings(before: &Plan, after: &Plan) -> bool
     ensures { IsTrue result ↔ (settings_of before.now ≡ settings_of after.now) }
 {
@@ -82,7 +82,7 @@ fn same_points(before: &[(u8, u8)], after: &[(u8, u8)]) -> bool
     before == after
 }
 
-/// Whether two plans screen an ink alike, each by its own screen.
+/// Returns whether two plans screen an ink alike, each by its own screen.
 pub(crate) fn same_screen(before: &Plan, old: Screen, after: &Plan, new: Screen) -> bool
     requires old { IsScreen (length before.now.tiles) old }
     requires new { IsScreen (length after.now.tiles) new }
@@ -96,7 +96,7 @@ pub(crate) fn same_screen(before: &Plan, old: Screen, after: &Plan, new: Screen)
     }
 }
 
-/// Whether a tile of each plan has the same sides and numbers.
+/// Returns whether a tile of each plan has the same sides and numbers.
 fn same_tile(before: &Plan, old: usize, after: &Plan, new: usize) -> bool
     requires old { old < length before.now.tiles }
     requires new { new < length after.now.tiles }
@@ -107,7 +107,7 @@ fn same_tile(before: &Plan, old: usize, after: &Plan, new: usize) -> bool
     a.width == b.width && a.height == b.height && a.at == b.at
 }
 
-/// Whether two pages are the same, by the classes of their files.
+/// Returns whether two pages are the same, by the classes of their files.
 pub(crate) fn same_page(old: &Page, new: &Page, classes: &Classes) -> bool
     requires old { All (HasClasses classes.now.before.items) old.now.layers }
     requires new { All (HasClasses classes.now.after.items) new.now.layers }
@@ -145,7 +145,7 @@ fn same_layer(old: &PlanLayer, new: &PlanLayer, classes: &Classes) -> bool
     in_class(old, &classes.before) == in_class(new, &classes.after)
 }
 
-/// A layer with the classes of its files in place of their indexes.
+/// Returns a layer with the classes of its files in place of their indexes.
 fn in_class(layer: &PlanLayer, classes: &[usize]) -> PlanLayer
     requires { HasClasses classes.now layer.now }
     ensures { result ≡ classed classes.now layer.now }

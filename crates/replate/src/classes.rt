@@ -1,4 +1,5 @@
-// Files of two jobs told apart: each has a number, and those of one number have the same bytes.
+// Classes of the files of two jobs: each file has a number, and files with the same number have the same
+// bytes.
 ghost use Rattle.std.specs.Prelude.{◌≡◌, ◌++◌, ◌∷◌, [], ℕ, List, IfOk, OnOk, length, map, position};
 ghost use Rattle.std.specs.Str.{bytes_eq};
 ghost use Rattle.replate.specs.Inputs.{bytes_of};
@@ -8,7 +9,8 @@ use pr_base::NoMemory;
 use std::alloc::Global;
 use std::collections::BTreeMap;
 
-/// The length and the bytes of a file, by which files are in order: most files differ in their lengths.
+/// The length and the bytes of a file, the key that orders files. The length comes first since most files
+/// differ in it.
 type Whole<'a> = (usize, &'a [u8]);
 
 /// The class of each file of two jobs: the index of the first old file with the same bytes, or the number of
@@ -20,7 +22,7 @@ pub(crate) struct Classes {
 }
 
 impl Classes {
-    /// The classes of the files of an old and a new job.
+    /// Returns the classes of the files of an old and a new job.
     pub(crate) fn of<'a>(
         alloc: Global,
         before: &'a [Vec<u8>],
@@ -41,7 +43,7 @@ impl Classes {
     }
 }
 
-/// Notes files of which none is known yet, and gives their classes.
+/// Records files, starting from none, and returns their classes.
 fn numbered<'a>(
     alloc: Global,
     known: &mut BTreeMap<Whole<'a>, usize>,
@@ -60,7 +62,7 @@ fn numbered<'a>(
     Ok(classes)
 }
 
-/// The class of a file that stands behind those that are known; it is known from now on.
+/// Returns the class of the file that follows the known ones, and records it as known.
 fn noted<'a>(
     known: &mut BTreeMap<Whole<'a>, usize>,
     file: &'a [u8],
@@ -80,14 +82,14 @@ fn noted<'a>(
     }
 }
 
-/// The index of the first file that is known with the same bytes.
+/// Returns the index of the first known file with the same bytes.
 fn sought<'a>(known: &BTreeMap<Whole<'a>, usize>, file: &'a [u8]) -> Option<usize>
     ensures { (files : List (List ℕ)) → Knows known.now files → result ≡ position (bytes_eq file.now) files }
 {
     known.get(&(file.len(), file)).copied()
 }
 
-/// The classes of other files.
+/// Returns the classes of other files.
 fn found<'a>(
     alloc: Global,
     known: &BTreeMap<Whole<'a>, usize>,

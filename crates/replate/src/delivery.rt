@@ -13,9 +13,9 @@ use pr_base::{Deal, NoMemory, RowFeed};
 use pr_rack::Rack;
 use std::alloc::Global;
 
-/// Makes the plates of a new job that must be made, each site's on the rack of its number, with paths below
-/// the folder `out`. The rows are those of the deal, which the feed gives in order. A site whose rack fails
-/// leaves, and the others go on; once no site has a plate left to make no more rows are asked for.
+/// Makes the plates of a new job that must be made, each site's on the rack with its number, with paths below
+/// the folder `out`. The feed gives the rows of the deal in order. A site whose rack fails leaves, and the
+/// others continue. Once no site has a plate left to make, no further row is requested.
 pub fn deliver<D: Deal, F: RowFeed, R: Rack>(
     alloc: Global,
     deal: &D,
@@ -30,15 +30,15 @@ pub fn deliver<D: Deal, F: RowFeed, R: Rack>(
     requires feed { F.left feed.old ≡ D.rows deal.now }
     requires racks { length after.now.plan.sites ≤ length racks.old }
     requires idle { AreIdle (length after.now.plan.sites) (all_told R.Rack racks.old) }
-    // Each site's end fits what its rack has more than before.
+    // Each site's end fits what its rack has in addition to before.
     ensures fits { IfOk result (λ ends. RemadeFits
         (by_picks after.now.plan (map framed_row (D.rows deal.now)) out.now picks.now)
         (all_told R.Rack racks.old) (all_told R.Rack racks.new) ends.items) }
-    // Want of memory: each rack has the first of the files that its site was to make more.
+    // Out of memory: each rack has, in addition, the first of the files that its site was to make.
     ensures part { OnErr result (RemadePart
         (by_picks after.now.plan (map framed_row (D.rows deal.now)) out.now picks.now)
         (all_told R.Rack racks.old) (all_told R.Rack racks.new)) }
-    // What stands of the racks, whatever the answer.
+    // What holds of the racks on every outcome.
     ensures counts { KeepCounts (all_told R.Rack racks.old) (all_told R.Rack racks.new) }
     ensures others { drop (length after.now.plan.sites) racks.new
         ≡ drop (length after.now.plan.sites) racks.old }

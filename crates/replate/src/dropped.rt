@@ -14,7 +14,7 @@ use crate::{Inputs, OldPlate};
 use pr_base::NoMemory;
 use std::alloc::Global;
 
-/// The old plates whose path no new plate has, by old site and then in the order of its files.
+/// Returns the old plates whose path no new plate has, by old site and then in the order of its files.
 pub(crate) fn dropped_plates(
     alloc: Global,
     before: &Inputs<'_>,
@@ -30,7 +30,7 @@ pub(crate) fn dropped_plates(
     Ok(plates)
 }
 
-/// Adds those of a site.
+/// Adds the dropped plates of a site.
 fn add_site(
     plates: &mut Vec<OldPlate>,
     before: &Inputs<'_>,
@@ -47,7 +47,7 @@ fn add_site(
     Ok(())
 }
 
-/// Adds those of a group at a site.
+/// Adds the dropped plates of a group at a site.
 fn add_group(
     plates: &mut Vec<OldPlate>,
     before: &Inputs<'_>,
@@ -68,7 +68,7 @@ fn add_group(
     Ok(())
 }
 
-/// Adds those of the inks of a group at a site.
+/// Adds the dropped plates of a group's inks at a site.
 fn add_inks(
     plates: &mut Vec<OldPlate>,
     before: &Inputs<'_>,
@@ -95,7 +95,8 @@ fn add_inks(
     Ok(())
 }
 
-/// Adds an old plate if no new plate has its path, where its place is the place of the new plates that could.
+/// Adds an old plate if no new plate has its path. Its place is the site and group of the new plates that
+/// could have it.
 fn add_plate(
     plates: &mut Vec<OldPlate>,
     before: &Inputs<'_>,
@@ -118,7 +119,7 @@ fn add_plate(
     Ok(())
 }
 
-/// Whether no new plate has the path of an old one.
+/// Returns whether no new plate has the path of an old one.
 fn is_dropped(
     before: &Inputs<'_>,
     after: &Inputs<'_>,

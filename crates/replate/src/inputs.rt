@@ -1,11 +1,11 @@
-// A job as it is compared.
+// A job, as input to a comparison.
 
 use plan_json::Plan;
 use plan_rows::RowPlan;
 use std::marker::Model;
 
-/// A job as it is compared with another: its plan, the row plan of this plan, and the bytes of its files in
-/// the order of `Plan::files`, all lent. Contracts see the plan and the files.
+/// A job, as input to a comparison: its plan, the row plan of this plan, and the bytes of its files in the
+/// order of `Plan::files`, all borrowed. Contracts see the plan and the files.
 #[derive(Drop)]
 pub struct Inputs<'a> {
     plan: &'a Plan,
@@ -28,7 +28,7 @@ impl<'a> Inputs<'a> {
     ghost use Rattle.plan_rows.specs.Rows.{rows_of};
     ghost use Rattle.replate.specs.Inputs.{AreInputs, bytes_of};
 
-    /// The job of a plan and its files.
+    /// Returns the job of a plan and its files.
     pub fn new(plan: &'a Plan, rows: &'a RowPlan, files: &'a [Vec<u8>]) -> Inputs<'a>
         requires { AreInputs plan.now rows.now files.now }
         ensures { result ≡ record { plan = plan.now; files = bytes_of files.now } }
@@ -36,7 +36,7 @@ impl<'a> Inputs<'a> {
         Inputs { plan, rows, files }
     }
 
-    /// The plan. There is a file for each of its files.
+    /// Returns the plan. The job has a file for each file of the plan.
     pub fn plan(&self) -> &'a Plan
         ensures plan { result.now ≡ self.now.plan }
         ensures count { length result.now.files ≡ length self.now.files }
@@ -44,14 +44,14 @@ impl<'a> Inputs<'a> {
         self.plan
     }
 
-    /// The order of its rows.
+    /// Returns the order of its rows.
     pub fn rows(&self) -> &'a RowPlan
         ensures { result.now ≡ rows_of self.now.plan }
     {
         self.rows
     }
 
-    /// The bytes of its files.
+    /// Returns the bytes of its files.
     pub fn files(&self) -> &'a [Vec<u8>]
         ensures { bytes_of result.now ≡ self.now.files }
     {

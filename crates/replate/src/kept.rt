@@ -1,4 +1,4 @@
-// Which new groups print at which sites the two pages that the old job has at their places.
+// Which new groups print, at which sites, the same two pages as the old job at the same place.
 ghost use Rattle.std.specs.Prelude.{◌≡◌, ◌<◌, ◌≤◌, ◌↔◌, ℕ, IsTrue, IfOk, All, length, slice_index_or};
 ghost use Rattle.plan_parts.specs.Parts.{IsLayer};
 ghost use Rattle.plan_json.specs.Plan.{IsPlan};
@@ -18,10 +18,10 @@ use plan_rows::Group;
 use pr_base::NoMemory;
 use std::alloc::Global;
 
-/// The most sites that a plan has.
+/// The largest number of sites in a plan.
 pub(crate) const SITES: usize = 16;
 
-/// For each new group and each site, whether the old job has the same two pages at its place.
+/// Returns, for each new group and each site, whether the old job has the same two pages at its place.
 pub(crate) fn kept_groups(
     alloc: Global,
     before: &Inputs<'_>,
@@ -44,7 +44,7 @@ pub(crate) fn kept_groups(
     Ok(kept)
 }
 
-/// For each site, whether the old job has the same two pages at the place of a new group.
+/// Returns, for each site, whether the old job has the same two pages at the place of a new group.
 fn kept_sites(
     before: &Inputs<'_>,
     after: &Inputs<'_>,
@@ -65,7 +65,7 @@ fn kept_sites(
     row
 }
 
-/// Whether a new group has a site, and the old job has the same two pages at its place.
+/// Returns whether a new group has a site, and the old job has the same two pages at its place.
 fn is_kept(
     before: &Inputs<'_>,
     after: &Inputs<'_>,
@@ -85,7 +85,7 @@ fn is_kept(
     group.has_site(site) && stays(before, after, classes, site, group)
 }
 
-/// Whether the old job has the same two pages at the place of a new group at a site.
+/// Returns whether the old job has the same two pages at the place of a new group at a site.
 fn stays(
     before: &Inputs<'_>,
     after: &Inputs<'_>,
@@ -106,7 +106,7 @@ fn stays(
     }
 }
 
-/// Whether an old group has the two pages of a new one.
+/// Returns whether an old group has the two pages of a new one.
 fn same_pages(
     before: &Inputs<'_>,
     after: &Inputs<'_>,
@@ -124,7 +124,7 @@ fn same_pages(
         && is_same(before, old.right, after, group.right, classes)
 }
 
-/// Whether an old page is the same as a new one.
+/// Returns whether an old page is the same as a new one.
 fn is_same(
     before: &Inputs<'_>,
     old: usize,
@@ -141,7 +141,7 @@ fn is_same(
     same_page(page_at(before, old), page_at(after, new), classes)
 }
 
-/// A page of a job's plan.
+/// Returns a page of a job's plan.
 fn page_at<'a>(job: &Inputs<'a>, page: usize) -> &'a Page
     requires { page < length job.now.plan.pages }
     ensures page { result.now ≡ slice_index_or job.now.plan.pages page result.now }

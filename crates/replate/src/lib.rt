@@ -1,6 +1,6 @@
-// Which plates a late page changes: what a plate is made of is its recipe, and two jobs are compared by the
-// recipes of their plates. Files are told apart once, and nothing of either job is copied. `deliver` makes
-// the plates that changed, and these alone.
+// Which plates a late page changes. A plate's recipe is all that the plate is made of, and two jobs are
+// compared by the recipes of their plates. Files are classified once, and nothing of either job is copied.
+// `deliver` makes the changed plates, and only these.
 #![tactic(auto)]
 
 mod alike;

@@ -10,7 +10,7 @@ use pr_rack::Rack;
 use ring_lanes::Deck;
 use site_agent::{Kept, LeftCause, Site};
 
-/// A site of a delivery, and how the delivery ends there unless a call of its rack fails.
+/// A site of a delivery, and its end unless a call of its rack fails.
 #[derive(Debug, Drop)]
 pub(crate) struct Maker {
     pub(crate) site: Site,
@@ -18,7 +18,7 @@ pub(crate) struct Maker {
 }
 
 impl Maker {
-    /// Whether plates are left to make.
+    /// Returns whether plates are left to make.
     pub(crate) fn is_making(&self) -> bool
         requires { IsUp self.now }
         ensures { result ≡ is_making_lem self.now }
@@ -29,14 +29,14 @@ impl Maker {
         }
     }
 
-    /// Whether it has left.
+    /// Returns whether the site has left.
     fn has_left(&self) -> bool
         ensures { result ≡ has_left_lem self.now.end }
     {
         matches!(self.end, RemadeEnd::Left { .. })
     }
 
-    /// The delivery ends here for this cause.
+    /// Ends the delivery at this site for this cause.
     fn leave(&mut self, cause: LeftCause)
         ensures { self.new ≡ record self.old { end = RemadeEnd.Left cause.plates cause.path } }
     {
@@ -47,7 +47,7 @@ impl Maker {
     }
 }
 
-/// A site takes the row that was put last, keeps it and gives it back, unless it has left.
+/// Passes the row that was put last to a site, which keeps it and gives it back, unless the site has left.
 #[tactic(auto, using(crate::proofs::MakerLemmas::left_stays))]
 pub(crate) fn hand<D: Deal, R: Rack>(
     deck: &mut Deck<'_, D>,
@@ -69,7 +69,7 @@ pub(crate) fn hand<D: Deal, R: Rack>(
     hand_on(deck, maker, rack)
 }
 
-/// The same with a site that goes on.
+/// Does the same for a site that hasn't left.
 fn hand_on<D: Deal, R: Rack>(
     deck: &mut Deck<'_, D>,
     maker: &mut Maker,

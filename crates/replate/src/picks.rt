@@ -1,4 +1,4 @@
-// The picks: which new plates must be made, and which old ones are dropped.
+// The picks: which new plates must be made, and which old plates are dropped.
 ghost use Rattle.std.specs.Prelude.{◌≡◌, ◌<◌, ◌↔◌, ℕ, false, IsTrue, IfOk, length, slice_index_or};
 ghost use Rattle.replate.specs.Standing.{IsAlike};
 
@@ -12,11 +12,11 @@ use pr_base::{Ink, NoMemory};
 use std::alloc::Global;
 use std::marker::Model;
 
-/// The slots of inks.
+/// The number of ink slots.
 const SLOTS: usize = 5;
 
-/// Which plates of a new job must be made, beside those of an old one, and which old ones are dropped. They
-/// take a byte for each site that a plan may have, group by group of the new plan.
+/// Which plates of a new job must be made, compared with an old job, and which old plates are dropped. They
+/// take one byte for each site that a plan may have, for each group of the new plan.
 #[derive(Debug, Drop)]
 pub struct Picks {
     alike: [bool; SLOTS],
@@ -37,9 +37,9 @@ impl Picks {
     ghost use Rattle.replate.specs.Picks.{MustMake, dropped_of, is_made};
     ghost use Rattle.replate.specs.Plates.{PlateAt, IsPlateOf};
 
-    /// Compares two jobs. Want of memory is the one refusal.
+    /// Compares two jobs. Fails only when out of memory.
     pub fn of(alloc: Global, before: &Inputs<'_>, after: &Inputs<'_>) -> Result<Picks, NoMemory>
-        // Exactly the plates that must be made are told.
+        // Exactly the plates that must be made are reported as such.
         ensures made { IfOk result (λ picks. (new : PlateAt) → IsPlateOf after.now.plan new
             → IsTrue (is_made picks new.site new.group new.ink)
             ↔ MustMake before.now after.now new) }
@@ -57,7 +57,7 @@ impl Picks {
         })
     }
 
-    /// Whether the plate of a new group in an ink must be made for a site.
+    /// Returns whether the plate of a new group in an ink must be made for a site.
     pub fn made(&self, site: usize, group: usize, ink: Ink) -> bool
         requires site { site < 16 }
         requires group { group < length self.now.kept }
@@ -67,7 +67,7 @@ impl Picks {
         !(self.alike[ink.slot()] && row[site])
     }
 
-    /// The old plates whose path no new plate has, by old site and then in the order of its files.
+    /// Returns the old plates whose path no new plate has, by old site and then in the order of its files.
     pub fn dropped(&self) -> &[OldPlate]
         ensures { result.now ≡ self.now.dropped }
     {
@@ -75,7 +75,7 @@ impl Picks {
     }
 }
 
-/// For each ink, whether both plans have one edition and the same settings, and screen it alike.
+/// Returns, for each ink, whether both plans have the same edition and settings, and screen it alike.
 fn alike_inks(before: &Plan, after: &Plan) -> [bool; SLOTS]
     ensures { (slot : ℕ) → slot < 5
         → IsTrue (slice_index_or result slot false) ↔ IsAlike before.now after.now slot }
@@ -87,7 +87,7 @@ fn alike_inks(before: &Plan, after: &Plan) -> [bool; SLOTS]
     alike
 }
 
-/// Whether both plans have one edition and the same settings, and screen the ink in a slot alike.
+/// Returns whether both plans have the same edition and settings, and screen the ink in a slot alike.
 fn is_alike(before: &Plan, after: &Plan, slot: usize) -> bool
     requires { slot < 5 }
     ensures { IsTrue result ↔ IsAlike before.now after.now slot }

@@ -1,4 +1,4 @@
-// A delivery of the plates that must be made, row by row over a deck.
+// Delivery of the plates that must be made, row by row over a deck.
 ghost use Rattle.std.specs.Prelude.{◌≡◌, ◌-◌, ◌<◌, ◌^◌, ℕ, false, true, All, IfOk, OnErr, OnOk, count_by};
 ghost use Rattle.std.specs.Prelude.{length, map, slice_index_or};
 ghost use Rattle.tif_packbits.specs.Frame.{framed_row};
@@ -20,8 +20,8 @@ use ring_lanes::Deck;
 use site_agent::Site;
 use std::alloc::Global;
 
-/// What doesn't change while a delivery goes on: the new job, which of its plates must be made, and the
-/// folder of the plates.
+/// What is constant during a delivery: the new job, which of its plates must be made, and the folder of the
+/// plates.
 #[derive(Drop)]
 pub(crate) struct Remaking<'p> {
     pub(crate) alloc: Global,
@@ -31,7 +31,7 @@ pub(crate) struct Remaking<'p> {
 }
 
 impl Remaking<'_> {
-    /// A site before the first row.
+    /// Returns a site before the first row.
     fn maker(&self, site: usize) -> Result<Maker, NoMemory>
         requires picks { length self.now.picks.now.kept ≡ length (groups_of self.now.after.now.plan) }
         requires site { site < length self.now.after.now.plan.sites }
@@ -45,7 +45,7 @@ impl Remaking<'_> {
         Ok(Maker { site, end })
     }
 
-    /// The sites before the first row.
+    /// Returns the sites before the first row.
     fn makers(&self) -> Result<Vec<Maker>, NoMemory>
         requires picks { length self.now.picks.now.kept ≡ length (groups_of self.now.after.now.plan) }
         ensures fresh { IfOk result (λ makers. makers.items
@@ -60,7 +60,8 @@ impl Remaking<'_> {
         Ok(makers)
     }
 
-    /// Row after row, until no site has a plate left to make, and how each site ended. `row` is room for one.
+    /// Handles row after row until no site has a plate left to make, and returns how each site ended. `row`
+    /// is the buffer for one row.
     fn make_rows<D: Deal, F: RowFeed, R: Rack>(
         &self,
         deck: &mut Deck<'_, D>,
@@ -96,7 +97,7 @@ impl Remaking<'_> {
         ends_of(self.alloc, makers)
     }
 
-    /// The same over all rows of a deal.
+    /// Does the same over all rows of a deal.
     pub(crate) fn make_plates<D: Deal, F: RowFeed, R: Rack>(
         &self,
         deal: &D,
@@ -124,7 +125,7 @@ impl Remaking<'_> {
     }
 }
 
-/// The end of a site that makes the plates at which these are true.
+/// Returns the end of a site that makes the plates whose flags are true.
 fn end_of(wanted: &[bool]) -> RemadeEnd
     requires { length wanted.now < 2 ^ 32 }
     ensures { result ≡ RemadeEnd.Done (count_by (λ bit. bit) wanted.now)
@@ -137,14 +138,14 @@ fn end_of(wanted: &[bool]) -> RemadeEnd
     }
 }
 
-/// A rack tells of its slots what it tells of the begun ones.
+/// States that a rack reports of its slots what it reports of the begun ones.
 fn tell_slots<R: Rack>(racks: &[R])
     ensures { AllTellSlots (all_told R.Rack racks.now) }
 {
     let _ = racks;
 }
 
-/// Whether some site has plates left to make.
+/// Returns whether some site has plates left to make.
 fn are_making(makers: &[Maker]) -> bool
     requires { All IsUp makers.now }
     ensures some { result ≡ true → (i : ℕ) × (i < length makers.now)
@@ -181,7 +182,7 @@ fn hand_row<D: Deal, R: Rack>(
     Ok(())
 }
 
-/// How the sites ended.
+/// Returns how the sites ended.
 fn ends_of(alloc: Global, makers: Vec<Maker>) -> Result<Vec<RemadeEnd>, NoMemory>
     ensures { IfOk result (λ ends. ends.items ≡ map (λ maker. maker.end) makers.items) }
 {

@@ -1,4 +1,4 @@
-// Where the path of a plate stands in another plan.
+// The site and group of another plan that the path of a plate names.
 ghost use Rattle.std.specs.Prelude.{◌≡◌, ◌<◌, ◌≤◌, ◌↔◌, ℕ, IsTrue, IfSome, IfNone, length};
 ghost use Rattle.plan_json.specs.Plan.{IsPlan};
 ghost use Rattle.plan_rows.specs.Groups.{groups_of};
@@ -12,8 +12,8 @@ use crate::Inputs;
 use plan_json::Plan;
 use plan_rows::{Group, RowPlan, section_name, site_name};
 
-/// The site and the group of another plan whose plates have, but for the edition, the paths of the plates of
-/// this group at this site.
+/// Returns the site and the group of another plan whose plates have, except for the edition, the paths of the
+/// plates of this group at this site.
 pub(crate) fn counterpart(
     plan: &Plan,
     site: usize,
@@ -41,7 +41,7 @@ pub(crate) fn counterpart(
     Some((its, index))
 }
 
-/// The group of a job's plan with this index.
+/// Returns the group of a job's plan with this index.
 pub(crate) fn group_with<'a>(job: &Inputs<'a>, index: usize) -> &'a Group
     requires { index < length (groups_of job.now.plan) }
     ensures group { result.now ≡ group_at job.now.plan index }
@@ -53,14 +53,14 @@ pub(crate) fn group_with<'a>(job: &Inputs<'a>, index: usize) -> &'a Group
     &job.rows().groups()[index]
 }
 
-/// The number of groups of a job's plan.
+/// Returns the number of groups of a job's plan.
 pub(crate) fn group_count(job: &Inputs<'_>) -> usize
     ensures { result ≡ length (groups_of job.now.plan) }
 {
     job.rows().groups().len()
 }
 
-/// The number of sites of a job's plan.
+/// Returns the number of sites of a job's plan.
 pub(crate) fn site_count(job: &Inputs<'_>) -> usize
     ensures count { result ≡ length job.now.plan.sites }
     ensures most { result ≤ 16 }
@@ -69,7 +69,7 @@ pub(crate) fn site_count(job: &Inputs<'_>) -> usize
     job.plan().sites.len()
 }
 
-/// The group of a section, a pair and a site.
+/// Returns the group of a section, a pair and a site.
 fn group_of(groups: &[Group], section: usize, pair: u32, site: usize) -> Option<usize>
     requires { site < 16 }
     ensures found { IfSome result (IsGroupOf groups.now section pair site) }

@@ -11,7 +11,7 @@ use crate::{Inputs, Picks};
 use pr_base::{Ink, NoMemory};
 use std::alloc::Global;
 
-/// For each plate of a site, in the order of its files, whether it must be made.
+/// Returns, for each plate of a site in the order of its files, whether it must be made.
 pub(crate) fn wanted_of(
     alloc: Global,
     after: &Inputs<'_>,
@@ -32,7 +32,7 @@ pub(crate) fn wanted_of(
     Ok(bits)
 }
 
-/// Adds those of a group.
+/// Adds the flags of a group.
 fn add_group(
     bits: &mut Vec<bool>,
     after: &Inputs<'_>,
@@ -53,7 +53,7 @@ fn add_group(
     Ok(())
 }
 
-/// Adds those of the inks of a group.
+/// Adds the flags of a group's inks.
 fn add_inks(
     bits: &mut Vec<bool>,
     after: &Inputs<'_>,
@@ -75,7 +75,7 @@ fn add_inks(
     Ok(())
 }
 
-/// Adds that of a plate.
+/// Adds the flag of a plate.
 fn add_plate(
     bits: &mut Vec<bool>,
     picks: &Picks,

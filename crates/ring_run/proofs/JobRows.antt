@@ -37,7 +37,7 @@ over_job P own plan files out readers ring same is p =
     subst (λ (rows : List (List ℕ)). P (by_ring plan rows out readers ring)) (rows_are plan files is')
     (subst (λ (q : PlanData). P (by_ring q (map framed_row (plate_frames plan files)) out readers ring)) same p)
 
--- ---- the racks of the sites, and those behind them
+-- ---- the racks of the sites, and those after them
 
 job_fits : {X : Type 0} (tell : X → RackTells) (own plan : PlanData) (files : List (List ℕ)) (out : List ℕ) (readers ring : ℕ) (racks racks' front front' rest : List X) (ends : List SiteEnd) → racks ≡ front ++ rest → racks' ≡ front' ++ rest
     → length front ≡ length own.sites → length front' ≡ length front → own ≡ plan → IsPlan own → RunFits (by_ring own (map framed_row (plate_frames plan files)) out readers ring) (map tell front) (map tell front') ends
@@ -55,7 +55,7 @@ job_part tell own plan files out readers ring racks racks' front front' rest is 
     (over_wide tell (λ old new. RunPart (by_ring own (map framed_row (plate_frames plan files)) out readers ring) old new) racks racks' front front' rest is is'
     (part_wide (by_ring own (map framed_row (plate_frames plan files)) out readers ring) (map tell front) (map tell front') (map tell rest) (length-map front tell ∙ long) (length-map front' tell ∙ same ∙ long) part))
 
--- so what a run leaves by the racks of its sites it leaves by all
+-- so what a run leaves on the racks of its sites, it leaves on all racks
 pub job_leaves : {X E : Type 0} (tell : X → RackTells) (own plan : PlanData) (files : List (List ℕ)) (out : List ℕ) (readers ring : ℕ) (racks racks' front front' rest : List X) (answer : Result Outcome E) → racks ≡ front ++ rest → racks' ≡ front' ++ rest
     → length front ≡ length own.sites → length front' ≡ length front → own ≡ plan → IsPlan own → RunLeaves (by_ring own (map framed_row (plate_frames plan files)) out readers ring) (map tell front) (map tell front') answer
     → RunLeaves (by_ring plan (plate_rows plan files) out readers ring) (map tell racks) (map tell racks') answer
@@ -65,7 +65,7 @@ job_leaves tell own plan files out readers ring racks racks' front front' rest a
   counts = all_keep tell racks racks' front front' rest is is' same leaves.counts;
 }
 
--- and the racks behind stay
+-- and the racks after them are unchanged
 behind : {X : Type 0} (count : ℕ) (racks front rest : List X) → racks ≡ front ++ rest → length front ≡ count → drop count racks ≡ rest
 behind count racks front rest is long = ap (drop count) is ∙ ap (λ n. drop n (front ++ rest)) (sym long) ∙ drop-append_seam front rest
 

@@ -1,4 +1,4 @@
--- How many plates and rows a site has.
+-- The numbers of plates and rows that a site has.
 use Rattle.std.proofs.Common.{◌≡◌, ℕ, suc, ◌+◌, ◌*◌, ◌<◌, Bool, true, false, cond, if◌then◌else◌, List, [], ◌∷◌, ◌++◌, length, map, filter, take, get_or, refl, sym, ap, ◌∙◌, zero-add, append-nil, arith}
 use Rattle.std.specs.Prelude.{count_by, slice_get}
 use Rattle.std.specs.List.{enumerate_from, flat_map, range_with_len}
@@ -25,7 +25,7 @@ one-group : (b : Bool) (group : Group) → length (flat_map group_plates (cond b
 one-group true group = ap length (append-nil (group_plates group)) ∙ length-map (inks_of group) (λ ink. (group, ink))
 one-group false group = refl
 
--- a group more
+-- one more group
 pub plates_more : (groups : List Group) (site i : ℕ) (d : Group) → i < length groups
     → length (plates_in (take (i + 1) groups) site) ≡ length (plates_in (take i groups) site) + (if has_site (get_or groups i d) site then ink_count (get_or groups i d) else 0)
 plates_more groups site i d within =
@@ -44,7 +44,7 @@ count_by-cons p x xs = sum_by-cons (λ y. cond (p y) 1 0) x xs
 count_by-append : {X : Type 0} (p : X → Bool) (xs ys : List X) → count_by p (xs ++ ys) ≡ count_by p xs + count_by p ys
 count_by-append p xs ys = sum_by-append (λ y. cond (p y) 1 0) xs ys
 
--- to count numbers by what stands there in a list is to count what stands there
+-- counting numbers by the elements of a list at these indexes is counting the elements
 count-numbers : {X : Type 0} (p : X → Bool) (f : ℕ → Bool) (xs : List X) (k : ℕ) → ((i : ℕ) → f (k + i) ≡ option_map_or p (slice_get xs i) false)
     → count_by f (range_with_len k (length xs)) ≡ count_by p xs
 count-numbers p f [] k alike = refl
@@ -54,7 +54,7 @@ count-numbers p f (x ∷ xs) k alike =
     ∙ ap (λ n. cond (p x) 1 0 + n) (count-numbers p f xs (k + 1) (λ i. ap f (let e : (k + 1) + i ≡ k + suc i = omega arith in e) ∙ alike (suc i)))
     ∙ sym (count_by-cons p x xs)
 
--- the rows of one group are all kept, or none
+-- either all rows of one group are kept, or none
 kept_row : (groups : List Group) (site index y : ℕ) (b : Bool) (inks : List Ink) → is_of groups site index ≡ b
     → count_by (λ place. is_of groups site place.group) (map (place_of index y) inks) ≡ cond b (length inks) 0
 kept_row groups site index y true [] is = refl

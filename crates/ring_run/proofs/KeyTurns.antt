@@ -1,4 +1,4 @@
--- Key readers at readers' ends: before the first row, told, in a turn, and behind the last row.
+-- Key readers at readers' ends: before the first row, notified, in a turn, and after the last row.
 use Rattle.std.proofs.Common.{◌≡◌, ℕ, zero, suc, ◌+◌, ◌<◌, ◌≤◌, Bool, false, List, [], ◌∷◌, ◌++◌, length, map, get_or, Some, None, refl, sym, ap, subst, ◌∙◌, arith}
 use Rattle.std.specs.Prelude.{slice_get}
 use Rattle.std.proofs.lemmas.List.{length-append}
@@ -49,7 +49,7 @@ pub counting_opens : (table : TableId) (ring : RingNumbers) (n : ℕ) (more : Li
 counting_opens table ring n more keys new may i reader key there there' =
     subst (λ (x : ReaderState). IsCounting x key) (sym (new i reader there)) (counting_first table ring (n + i) key (may i key there'))
 
--- ---- told
+-- ---- notified
 
 counting_told : (w : WriterState) (was is : ReaderState) (key : KeyReaderData) → IsTold w was is → IsCounting was key → IsCounting is key
 counting_told w was is key told counting =
@@ -67,7 +67,7 @@ counting_told w was is key told counting =
           (subst (λ (n : ℕ). CountsRows key.rows was.ring 0 n (zeros_of key.counts) key.counts) (sym cursor) counting.counted);
     }
 
--- each key reader whose reader was told may take its turn
+-- each key reader whose reader was notified may take its turn
 pub may_count : (w : WriterState) (were are : List ReaderState) (keys : List KeyReaderData) → length are ≡ length were → AreTold IsTold w were are → MayAllTurn IsCounting were keys → MayAllTurn IsCounting are keys
 may_count w were are keys same told may i reader key there there' =
     let inside = slice_get_within are i reader there in
@@ -77,7 +77,7 @@ may_count w were are keys same told may i reader key there there' =
 
 -- ---- a turn
 
--- one that counts rows
+-- a key reader that counts rows
 pub counted_on : (was is : ReaderState) (old new : KeyReaderData) → IsCounting was old → new.rows ≡ old.rows → CountsRows old.rows was.ring was.cursor is.cursor old.counts new.counts → IsBounded new.counts is.cursor
     → is ≡ record was { cursor = is.cursor; seen = is.seen; loads = is.loads } → was.cursor ≤ is.cursor → is.cursor ≤ was.ring.total → (was.cursor < was.seen → was.cursor < is.cursor) → Counted was old is new
 counted_on was is old new counting rows counts bounded stays grows within gets_on =
@@ -110,7 +110,7 @@ counted_on was is old new counting rows counts bounded stays grows within gets_o
 
 -- ---- a round
 
--- what the turns of the key readers left of their ends
+-- what the turns of the key readers leave of their ends
 pub more_rounded : (w : WriterState) (were mid are : List ReaderState) (keys keys' : List KeyReaderData) → length mid ≡ length were → length were ≡ length keys → length keys' ≡ length keys → AreTold IsTold w were mid → AreTurned Counted mid keys are keys' → EndsRounded w were are
 more_rounded w were mid are keys keys' same count count' told turned i was is wt it =
     let inside = slice_get_within were i was wt in
@@ -127,7 +127,7 @@ more_rounded w were mid are keys keys' same count count' told turned i was is wt
       any [] inside' long = absurd (omega (arith, inside', long))
       any (key ∷ keys) inside' long = key
 
--- and of the key readers
+-- what the turns leave of the key readers
 pub keys_counting : (mid are : List ReaderState) (keys keys' : List KeyReaderData) → length are ≡ length mid → length keys' ≡ length keys → AreTurned Counted mid keys are keys' → MayAllTurn IsCounting are keys'
 keys_counting mid are keys keys' same same' turned i reader key there there' =
     let inside = slice_get_within are i reader there in
@@ -144,7 +144,7 @@ keys_same mid are keys keys' same count turned i old new there there' =
       any [] inside' long = absurd (omega (arith, inside', long))
       any (reader ∷ mid) inside' long = reader
 
--- rounds one after the other
+-- rounds in succession
 pub same_keys_again : (olds mids news : List KeyReaderData) → length mids ≡ length olds → AreSameKeys olds mids → AreSameKeys mids news → AreSameKeys olds news
 same_keys_again olds mids news count first next i old new there there' =
     let inside = slice_get_within olds i old there in
@@ -152,7 +152,7 @@ same_keys_again olds mids news count first next i old new there there' =
     let mid-at : slice_get mids i ≡ Some mid = slice_get-get_or mids i old (omega (arith, inside, count)) in
     same_again old mid new (first i old mid there mid-at) (next i mid new mid-at there')
 
--- ---- behind the last row
+-- ---- after the last row
 
 has_counted : (ring : RingNumbers) (reader : ReaderState) (old new : KeyReaderData) → reader.ring ≡ ring → is_going reader ≡ false → IsCounting reader new → IsSameKey old new → HasCounted ring old new
 has_counted ring reader old new ring-is over counting same =
@@ -163,7 +163,7 @@ has_counted ring reader old new ring-is over counting same =
           (subst (λ (r : RingNumbers). CountsRows new.rows r 0 reader.cursor (zeros_of new.counts) new.counts) ring-is counting.counted);
     }
 
--- where ends are told each key reader has counted all rows
+-- where ends are returned, each key reader has counted all rows
 pub have_counted : (plan : PlanData) (writer : WriterState) (ring : RingNumbers) (seats : List SeatData) (more : List ReaderState) (keys keys' : List KeyReaderData) (ends : List SiteEnd) → writer.ring ≡ ring → AreEndsOf writer (all_readers seats more) → are_going seats more ≡ false
     → map Some ends ≡ ends_in plan seats → length more ≡ length keys' → MayAllTurn IsCounting more keys' → AreSameKeys keys keys' → HaveCounted ring keys keys'
 have_counted plan writer ring seats more keys keys' ends ring-is are over ends-are count counting same i old new there there' =
@@ -194,7 +194,7 @@ fresh_may plan files places readers size keys is fresh i key there =
       zeros = f.zeros ∙ ap (λ n. no_counts n (plate_width plan) key.counts.keys) (sym groups) ∙ ap (λ n. no_counts key.counts.groups n key.counts.keys) (sym width);
     }
 
--- one that was made for a plan is fresh
+-- a key reader made for a plan is fresh
 pub fresh_key : (plan : PlanData) (rows : RowPlanData) (width number : ℕ) (counts : CountsData) (key : KeyReaderData) → key ≡ record { rows = rows; counts = counts } → rows ≡ rows_of plan
     → counts ≡ no_counts (length rows.groups) width number → width ≡ plate_width plan → IsFreshKey plan key
 fresh_key plan rows width number counts key same rows-is counts-is width-is =
@@ -205,7 +205,7 @@ fresh_key plan rows width number counts key same rows-is counts-is width-is =
           ∙ ap (λ n. no_counts (length (groups_of plan)) (plate_width plan) n) (sym (ap (λ (c : CountsData). c.keys) own));
     }
 
--- and alone it is each
+-- the same for a list of one key reader
 pub fresh_one : (plan : PlanData) (key : KeyReaderData) (keys : List KeyReaderData) → keys ≡ key ∷ [] → IsFreshKey plan key → AreFreshKeys plan keys
 fresh_one plan key keys is fresh i k there = subst (λ (x : KeyReaderData). IsFreshKey plan x) (only i k (ap (λ list. slice_get list i) (sym is) ∙ there)) fresh where
   only : (i : ℕ) (k : KeyReaderData) → slice_get (key ∷ []) i ≡ Some k → key ≡ k
@@ -214,7 +214,7 @@ fresh_one plan key keys is fresh i k there = subst (λ (x : KeyReaderData). IsFr
     none : None ≡ Some k → ⊥
     none e = cc
 
--- behind the last row of a job the counts fit
+-- after the last row of a job the counts fit
 keys_fit : (plan : PlanData) (files : List (List ℕ)) (places readers size : ℕ) (old new : KeyReaderData) → IsPlan plan → IsFreshKey plan old → HasCounted (ring_of places readers (plate_frames plan files) size) old new
     → KeysFit plan (plate_rows plan files) old.counts.keys new.counts
 keys_fit plan files places readers size old new is fresh has =
@@ -243,7 +243,7 @@ pub all_keys_fit : (plan : PlanData) (files : List (List ℕ)) (places readers s
 all_keys_fit plan files places readers size olds news is fresh have i old new there there' =
     keys_fit plan files places readers size old new is (fresh i old there) (have i old new there there')
 
--- so do those of the one key reader, where they were taken of it
+-- so do the counts of the one key reader, where they were taken from it
 pub keys_one : (plan : PlanData) (rows : List (List ℕ)) (olds news given : List KeyReaderData) (old : KeyReaderData) (keys : ℕ) (counts : CountsData) → olds ≡ old ∷ [] → length news ≡ length olds → given ≡ news → old.counts.keys ≡ keys
     → AllKeysFit plan rows olds news → ((key : KeyReaderData) → slice_get given 0 ≡ Some key → counts ≡ key.counts) → KeysFit plan rows keys counts
 keys_one plan rows olds [] given old keys counts is long same number fit its = absurd (omega (arith, long, ap length is))
@@ -251,7 +251,7 @@ keys_one plan rows olds (new ∷ news) given old keys counts is long same number
     subst (λ (c : CountsData). KeysFit plan rows keys c) (sym (its new (ap (λ list. slice_get list 0) same)))
     (subst (λ (n : ℕ). KeysFit plan rows n new.counts) number (fit 0 old new (ap (λ list. slice_get list 0) is) refl))
 
--- the one of a list is the last of it
+-- the element of a list of one is its last
 pub only_one : {X : Type 0} (xs ys : List X) (x y : X) → xs ≡ ys ++ x ∷ [] → length xs ≡ 1 → slice_get xs 0 ≡ Some y → x ≡ y
 only_one xs [] x y is long there = same_Some x y (ap (λ list. slice_get list 0) (sym is) ∙ there)
 only_one xs (z ∷ ys) x y is long there = let more = length-append ys (x ∷ []) in let same = ap length is in absurd (omega (arith, long, more, same))

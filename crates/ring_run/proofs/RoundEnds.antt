@@ -1,4 +1,4 @@
--- What one round leaves, of the sites, the further readers and the writer together.
+-- What one round leaves of the sites, the further readers and the writer together.
 use Rattle.std.proofs.Common.{◌≡◌, ℕ, ◌<◌, true, List, length, map, sym, ap, subst, ◌∙◌, arith}
 use Rattle.std.specs.Prelude.{slice_get}
 use Rattle.std.specs.List.{list_any}
@@ -16,14 +16,14 @@ use Rattle.ring_run.specs.Served.{Turned}
 use Rattle.ring_run.proofs.KeyTurns.{keys_counting, keys_same, more_rounded}
 use Rattle.ring_run.proofs.Rounds.{all_rounded, ends_stay, ends_told, falls, knows_both, more_end, rounded, seat_end, stay_seated}
 
--- the ends of sites and of further readers are of the writer's ring
+-- the ends of sites and of further readers belong to the writer's ring
 pub seats_at : (w w' : WriterState) (seats seats' : List SeatData) (more : List ReaderState) → AreEndsOf w (all_readers seats more) → seats' ≡ seats → w'.table ≡ w.table → AreAtTable (λ (seat : SeatData). seat.reader) w' seats'
 seats_at w w' seats seats' more ends is table i seat there = (seat_end w seats more i seat ends (ap (λ list. slice_get list i) (sym is) ∙ there)).table ∙ sym table
 
 pub more_at : (w w' : WriterState) (seats : List SeatData) (more more' : List ReaderState) → AreEndsOf w (all_readers seats more) → more' ≡ more → w'.table ≡ w.table → AreAtTable (λ (reader : ReaderState). reader) w' more'
 more_at w w' seats more more' ends is table i reader there = (more_end w seats more i reader ends (ap (λ list. slice_get list i) (sym is) ∙ there)).table ∙ sym table
 
--- the feed has what it had where the writer took in notes
+-- the feed is unchanged where the writer took in notes
 pub feed_noted : (left : List (List ℕ)) (w w' : WriterState) → w' ≡ record w { known = w'.known; loads = w'.loads } → MayFeed left w → MayFeed left w'
 feed_noted left w w' same may =
     subst (λ (x : WriterState). MayFeed left x) (sym same) (record { feed = may.feed; rows = may.rows })
@@ -41,7 +41,7 @@ pub record RoundLeaves (w w' : WriterState) (old new : List RackTells) (seats se
   pub same : AreSameKeys keys keys'
   pub falls : list_any is_going (all_readers seats more) ≡ true → to_do w' (all_readers seats' more') < to_do w (all_readers seats more)
 
--- once the writer knows of all, and all were told, and took their turns
+-- once the writer knows of all readers, and all were notified and took their turns
 pub round_leaves : {X : Type 0} (tell : X → RackTells) (left : List (List ℕ)) (w noted w' : WriterState) (known : List ℕ) (seats told seats' : List SeatData) (more told' more' : List ReaderState) (racks racks' : List X) (keys keys' : List KeyReaderData)
     → AreEndsOf w (all_readers seats more) → 0 < w.ring.places → length seats ≡ length racks → length more ≡ length keys → noted ≡ record w { known = noted.known; loads = noted.loads }
     → KnowsAll (λ (seat : SeatData). seat.reader) known seats → KnowsMore known noted.known → KnowsAll (λ (reader : ReaderState). reader) noted.known more

@@ -1,4 +1,4 @@
--- A round of a run: what the notes tell, and what the turns leave.
+-- A round of a run: the effect of the notes and of the turns.
 use Rattle.std.proofs.Common.{◌≡◌, ◌≢◌, ℕ, zero, suc, ◌+◌, ◌-◌, ◌<◌, ◌≤◌, ◌⊎◌, Bool, true, false, not, ◌&&◌, ◌||◌, List, [], ◌∷◌, ◌++◌, length, map, set, get_or, Option, Some, None, refl, sym, ap, subst, ◌∙◌, inl, inr, ⊎_elim, arith}
 use Rattle.std.specs.Prelude.{nat_lt, slice_get}
 use Rattle.std.specs.List.{list_any}
@@ -23,7 +23,7 @@ use Rattle.ring_run.specs.Served.{AreSomeSeated, Carries, IsSeated, IsServed, So
 
 -- ---- lists
 
--- what stands behind what is written stays
+-- elements after the written one are unchanged
 set-stays : {X : Type 0} (xs : List X) (i j : ℕ) (x : X) → i < j → slice_get (set xs i x) j ≡ slice_get xs j
 set-stays [] i j x less = refl
 set-stays (y ∷ xs) zero zero x less = absurd (omega (arith, less))
@@ -31,7 +31,7 @@ set-stays (y ∷ xs) zero (suc j) x less = refl
 set-stays (y ∷ xs) (suc i) zero x less = absurd (omega (arith, less))
 set-stays (y ∷ xs) (suc i) (suc j) x less = set-stays xs i j x (omega (arith, less))
 
--- what stands in a mapped list
+-- the element at an index of a mapped list
 pub mapped : {X Y : Type 0} (f : X → Y) (xs : List X) (i : ℕ) (y : Y) → slice_get (map f xs) i ≡ Some y → (x : X) × (slice_get xs i ≡ Some x) × (f x ≡ y)
 mapped f [] i y there = absurd (none there) where
   none : None ≡ Some y → ⊥
@@ -53,7 +53,7 @@ pub any_at : {X : Type 0} (p : X → Bool) (xs : List X) → list_any p xs ≡ t
 any_at p [] none = absurd (let e : false ≡ true = none in cc)
 any_at p (x ∷ xs) some = any_in p x xs some (λ e. any_at p xs e) (cases_Bool (p x))
 
--- none does
+-- no element passes the test
 pub none_at : {X : Type 0} (p : X → Bool) (xs : List X) (i : ℕ) (x : X) → list_any p xs ≡ false → slice_get xs i ≡ Some x → p x ≡ false
 none_at p [] i x none there = absurd (nothing there) where
   nothing : None ≡ Some x → ⊥
@@ -67,9 +67,10 @@ none_at p (y ∷ xs) (suc i) x none there = none_at p xs i x (rest (p y) (list_a
   rest false b e = e
   rest true b e = absurd (let f : true ≡ false = e in cc)
 
--- ---- two lists, one behind the other
+-- ---- two lists, one after the other
 
--- what holds of each pair of two lists, and of each pair of two others, holds where these stand behind those
+-- what holds of each pair of two lists, and of each pair of two others, holds where the latter are appended
+-- to the former
 pub both_pairs : {X : Type 0} (P : X → X → Type 0) (xs ys xs' ys' : List X) → length xs ≡ length xs' → ((i : ℕ) (x y : X) → slice_get xs i ≡ Some x → slice_get xs' i ≡ Some y → P x y) → ((i : ℕ) (x y : X) → slice_get ys i ≡ Some x → slice_get ys' i ≡ Some y → P x y)
     → (i : ℕ) (x y : X) → slice_get (xs ++ ys) i ≡ Some x → slice_get (xs' ++ ys') i ≡ Some y → P x y
 both_pairs P [] ys [] ys' same first last i x y there there' = last i x y there there'
@@ -86,11 +87,11 @@ both_each P (w ∷ xs) ys first last (suc i) x there = both_each P xs ys (λ j. 
 
 -- ---- the readers' notes
 
--- the writer knows of the ends of the first ones
+-- the writer knows the ends of the first ones
 abbrev pub KnowsUpTo : {X : Type 0} → (X → ReaderState) → List ℕ → List X → ℕ → Type 0
 KnowsUpTo {X} end known xs i = (j : ℕ) (x : X) → j < i → slice_get xs j ≡ Some x → Knows known (end x)
 
--- what it knew it knows where it knows more
+-- the writer still knows what it knew where it knows more
 pub knows_on : (old new : List ℕ) (reader : ReaderState) → KnowsMore old new → Knows old reader → Knows new reader
 knows_on old new reader more knows = record {
   left = λ out. none (cursor_known new reader.number) refl (knows.left out);
@@ -117,7 +118,7 @@ more_again old mid new first next r k is =
 pub more_same : (known : List ℕ) → KnowsMore known known
 more_same known r k is = (k, is, (let e : k ≤ k = omega arith in e))
 
--- a note of one reader
+-- the effect of a note of one reader
 pub noted_more : (old new : WriterState) (number : ℕ) → IsLoaded old new number → OthersStand old new number → KnowsMore old.known new.known
 noted_more old new number loaded others r k is =
     ⊎_elim
@@ -143,7 +144,7 @@ knows_more end old new xs i x note there is cursor left more upto j y less at =
     (λ c l. record { left = l; cursor = c }) cursor left))
     (cases_lt j i)
 
--- the writer knows of the sites and of the further readers
+-- the writer knows the ends of the sites and of the further readers
 pub knows_both : (known known' : List ℕ) (seats : List SeatData) (more : List ReaderState) → KnowsAll (λ seat. seat.reader) known seats → KnowsMore known known' → KnowsAll (λ reader. reader) known' more
     → KnowsAll (λ (reader : ReaderState). reader) known' (all_readers seats more)
 knows_both known known' seats more first grows last =
@@ -155,7 +156,7 @@ knows_both known known' seats more first grows last =
 
 -- ---- the writer's notes
 
--- the first ones were told
+-- the first ones were notified
 pub record ToldUpTo {X : Type 0} (told : X → X → Type 0) (were are : List X) (i : ℕ) : Type 0 where
   pub done : (j : ℕ) (was is : X) → j < i → slice_get were j ≡ Some was → slice_get are j ≡ Some is → told was is
   pub rest : (j : ℕ) → i ≤ j → slice_get are j ≡ slice_get were j
@@ -182,7 +183,7 @@ told_more told were are i x within upto here = record {
 pub told_all : {X : Type 0} (told : X → X → Type 0) (were are : List X) (i : ℕ) → length were ≤ i → ToldUpTo told were are i → (j : ℕ) (was is : X) → slice_get were j ≡ Some was → slice_get are j ≡ Some is → told was is
 told_all told were are i all upto j was is wt it = upto.done j was is (omega (arith, slice_get_within were j was wt, all)) wt it
 
--- ---- a site that was told
+-- ---- a site that was notified
 
 told_seated : (w : WriterState) (was is : SeatData) (delivery : Delivery) (site : ℕ) (before now : RackTells) → IsSeatTold w was is → IsSeated delivery site before now was → IsSeated delivery site before now is
 told_seated w was is delivery site before now told seated =
@@ -206,7 +207,7 @@ some_told w was is now told some = record {
       (told_seated w was is some.delivery was.reader.number some.before now told some.is);
 }
 
--- each site that was told may take its turn
+-- each site that was notified may take its turn
 pub may_turn : {X : Type 0} (tell : X → RackTells) (w : WriterState) (were are : List SeatData) (racks : List X) → length are ≡ length were → AreTold IsSeatTold w were are → AreSomeSeated (map tell racks) were
     → (i : ℕ) (seat : SeatData) (rack : X) → slice_get are i ≡ Some seat → slice_get racks i ≡ Some rack → SomeSeated (tell rack) seat
 may_turn tell w were are racks same told some i seat rack at racked =
@@ -217,7 +218,7 @@ may_turn tell w were are racks same told some i seat rack at racked =
 
 -- ---- a round
 
--- what a round did to one reader's end: it was told, and took its turn
+-- the effect of a round on one reader's end: it was notified, and took its turn
 pub record EndRounded (w : WriterState) (was is : ReaderState) : Type 0 where
   pub mid : ReaderState
   pub told : IsTold w was mid
@@ -226,7 +227,7 @@ pub record EndRounded (w : WriterState) (was is : ReaderState) : Type 0 where
 abbrev pub EndsRounded : WriterState → List ReaderState → List ReaderState → Type 0
 EndsRounded w were are = (i : ℕ) (was is : ReaderState) → slice_get were i ≡ Some was → slice_get are i ≡ Some is → EndRounded w was is
 
--- and to one site
+-- the effect of a round on one site
 pub record Rounded (w : WriterState) (old new : RackTells) (was is : SeatData) : Type 0 where
   pub mid : SeatData
   pub told : IsSeatTold w was mid
@@ -280,7 +281,7 @@ reader_stays : (w : WriterState) (was is : ReaderState) → EndRounded w was is 
 reader_stays w was is r =
     r.takes.stays ∙ ap {A = ReaderState} (λ x. record x { cursor = is.cursor; left = is.left; seen = is.seen; loads = is.loads }) r.told.stays
 
--- the readers' ends stay those of the writer's ring
+-- the readers' ends remain those of the writer's ring
 pub ends_stay : (w before after : WriterState) (were are : List ReaderState) → length were ≡ length are → after.table ≡ before.table → after.ring ≡ before.ring → AreEndsOf before were → EndsRounded w were are → AreEndsOf after are
 ends_stay w before after were are same table ring ends rounded = record {
   count = sym same ∙ ends.count ∙ ap (λ (r : RingNumbers). r.readers) (sym ring);
@@ -311,11 +312,11 @@ more_in seats more i reader there =
 pub seat_end : (w : WriterState) (seats : List SeatData) (more : List ReaderState) (i : ℕ) (seat : SeatData) → AreEndsOf w (all_readers seats more) → slice_get seats i ≡ Some seat → IsEndOf w i seat.reader
 seat_end w seats more i seat ends there = ends.each i seat.reader (seat_in seats more i seat there)
 
--- and those of the further readers the last
+-- the ends of the further readers are the last of all ends
 pub more_end : (w : WriterState) (seats : List SeatData) (more : List ReaderState) (i : ℕ) (reader : ReaderState) → AreEndsOf w (all_readers seats more) → slice_get more i ≡ Some reader → IsEndOf w (length seats + i) reader
 more_end w seats more i reader ends there = ends.each (length seats + i) reader (more_in seats more i reader there)
 
--- of each run the sites stay seated
+-- in each run the sites remain seated
 pub stay_seated : (w before : WriterState) (old new : List RackTells) (were are : List SeatData) (more : List ReaderState) → AreEndsOf before (all_readers were more) → AreRounded w old new were are → StaySeated old new were are
 stay_seated w before old new were are more ends rounded delivery i first told now was is carries tt' nt wt it seated =
     let r = rounded i told now was is tt' nt wt it in
@@ -333,7 +334,7 @@ same_to_take w was is told = ap to_take told.stays
 to_take_fewer : (w : WriterState) (was is : ReaderState) → EndRounded w was is → to_take is ≤ to_take was
 to_take_fewer w was is r = let same = same_to_take w was r.mid r.told in let few = r.takes.fewer in omega (arith, same, few)
 
--- a reader that goes on is joined, and a row is yet to come
+-- a reader that continues is joined, and a row is yet to come
 going_parts : (reader : ReaderState) → is_going reader ≡ true → (reader.left ≡ false) × (reader.cursor < reader.ring.total)
 going_parts reader going = by reader.left (nat_lt reader.cursor reader.ring.total) refl going where
   by : (left more : Bool) → more ≡ nat_lt reader.cursor reader.ring.total → (not left && more) ≡ true → (left ≡ false) × (reader.cursor < reader.ring.total)
@@ -350,7 +351,7 @@ to_take_less w was is r going below =
     let less = r.takes.gets_on left (omega (arith, cursor, head, below)) in
     omega (arith, same, less)
 
--- sums over the readers
+-- the sums over the readers
 all_fewer : (were are : List ReaderState) → length were ≡ length are → ((i : ℕ) (was is : ReaderState) → slice_get were i ≡ Some was → slice_get are i ≡ Some is → to_take is ≤ to_take was) → all_to_take are ≤ all_to_take were
 unfolding all_to_take
 all_fewer [] [] same each = omega arith
@@ -377,7 +378,7 @@ all_less (was ∷ were) (is ∷ are) (suc at) was-at is-at same each wt it less 
     let rest = all_less were are at was-at is-at (omega (arith, same)) (λ i w s. each (suc i) w s) wt it less in
     omega (arith, first, rest)
 
--- a reader that goes on with a row below this head
+-- a reader that continues, with a row below this head
 abbrev behind : ℕ → ReaderState → Bool
 behind head reader = is_going reader && nat_lt reader.cursor head
 
@@ -394,7 +395,7 @@ not_behind head reader none going = by (nat_lt reader.cursor head) refl (ap (λ 
   by true l e = absurd (let f : true ≡ false = e in cc)
   by false l e = ltb-false reader.cursor head (sym l)
 
--- where no reader that goes on is behind head, there is room for the next row
+-- where no reader that continues is behind the head, the ring has room for the next row
 room_for : (w : WriterState) (readers : List ReaderState) → AreEndsOf w readers → KnowsAll (λ (reader : ReaderState). reader) w.known readers → w.head ≤ w.ring.total → 0 < w.ring.places
     → ((i : ℕ) (reader : ReaderState) → slice_get readers i ≡ Some reader → is_going reader ≡ true → w.head ≤ reader.cursor) → HasRoom w
 room_for w readers ends knows within places ahead r less k is =
@@ -428,7 +429,7 @@ room_for w readers ends knows within places ahead r less k is =
           let high = (knows r reader at).cursor k known in
           omega (arith, done, total, high, within, places)
 
--- where a reader goes on, a round leaves less to do
+-- where a reader continues, a round leaves less to do
 pub falls : (left : List (List ℕ)) (first w last : WriterState) (were are : List ReaderState) → w ≡ record first { known = w.known; loads = w.loads } → AreEndsOf w were → KnowsAll (λ (reader : ReaderState). reader) w.known were
     → length were ≡ length are → EndsRounded w were are → Fed left w last → 0 < w.ring.places → list_any is_going were ≡ true → to_do last are < to_do first were
 falls left first w last were are noted ends knows same rounded fed places going =
@@ -468,7 +469,7 @@ falls left first w last were are noted ends knows same rounded fed places going 
       few : (i : ℕ) (was is : ReaderState) → slice_get were i ≡ Some was → slice_get are i ≡ Some is → to_take is ≤ to_take was
       few i was is wt it = to_take_fewer w was is (rounded i was is wt it)
 
--- the ends stay those of a writer that takes in notes
+-- the ends remain those of a writer that takes in notes
 pub ends_told : (old new : WriterState) (readers : List ReaderState) → new ≡ record old { known = new.known; loads = new.loads } → AreEndsOf old readers → AreEndsOf new readers
 ends_told old new readers is ends = record {
   count = ends.count ∙ ap (λ (w : WriterState). w.ring.readers) (sym is);
@@ -483,7 +484,7 @@ ends_told old new readers is ends = record {
 
 -- ---- rounds
 
--- behind a round each site may take its turn again
+-- after a round each site may take its turn again
 pub some_on : (old new : List RackTells) (writer : WriterState) (were are : List SeatData) (more more' : List ReaderState) → length were ≡ length are → length old ≡ length were → AreSomeSeated old were → AreEndsOf writer (all_readers were more) → (after : WriterState)
     → AreEndsOf after (all_readers are more') → after.ring ≡ writer.ring → StaySeated old new were are → AreSomeSeated new are
 some_on old new writer were are more more' same olds some ends after ends' ring stay i told seat tt' at =
@@ -503,7 +504,7 @@ some_on old new writer were are more more' same olds some ends after ends' ring 
           (stay s.delivery i s.before first told was seat s.carries first-at tt' was-at at (subst (λ (n : ℕ). IsSeated s.delivery n s.before first was) end.number s.is));
     }
 
--- rounds one after the other
+-- rounds in succession
 pub stay_then : (old mid new : List RackTells) (were are last : List SeatData) (more more' : List ReaderState) (writer : WriterState) → length are ≡ length last → length mid ≡ length last → (first : WriterState) → AreEndsOf first (all_readers were more)
     → AreEndsOf writer (all_readers are more') → writer.ring ≡ first.ring → StaySeated old mid were are → StaySeated mid new are last → StaySeated old new were last
 stay_then old mid new were are last more more' writer same mids first ends ends' ring stay next delivery i before told now was is carries tt' nt wt it seated =
@@ -515,7 +516,7 @@ stay_then old mid new were are last more more' writer same mids first ends ends'
     next delivery i before t now m is (subst (λ (r : RingNumbers). Carries delivery r) ((seat_end first were more i was ends wt).ring ∙ sym ring ∙ sym (seat_end writer are more' i m ends' m-at).ring) carries) t-at nt m-at it
     (stay delivery i before told t was m carries tt' t-at wt m-at seated)
 
--- where the readers go on, one of them does
+-- where the readers continue, one of them does
 any-map : {X Y : Type 0} (p : Y → Bool) (f : X → Y) (xs : List X) (ys : List Y) → list_any p (map f xs ++ ys) ≡ (list_any (λ x. p (f x)) xs || list_any p ys)
 any-map p f [] ys = refl
 any-map p f (x ∷ xs) ys = ap (λ b. p (f x) || b) (any-map p f xs ys) ∙ either (p (f x)) (list_any (λ y. p (f y)) xs) (list_any p ys) where
@@ -529,7 +530,7 @@ some_going seats more on = any-map is_going (λ seat. seat.reader) seats more �
   first true b e = refl
   first false b e = absurd (let f : false ≡ true = e in cc)
 
--- where they don't, and no site was stopped, none of them does
+-- where they don't, and no site ran out of memory, none of them does
 pub none_going : (seats : List SeatData) (more : List ReaderState) → are_going seats more ≡ false → list_any (λ seat. is_stopped seat.site) seats ≡ false → list_any is_going (all_readers seats more) ≡ false
 none_going seats more over none = any-map is_going (λ seat. seat.reader) seats more ∙ by (list_any (λ (s : SeatData). is_going s.reader) seats || list_any is_going more) (list_any (λ (s : SeatData). is_stopped s.site) seats) none over where
   by : (a b : Bool) → b ≡ false → (a && not b) ≡ false → a ≡ false

@@ -52,7 +52,7 @@ get_or-up_to (suc n) i less =
 pub length-fresh_seats : (plan : PlanData) (out : List ℕ) (readers : List ReaderState) → length (fresh_seats plan out readers) ≡ length readers
 length-fresh_seats plan out readers = length-map (enumerate_from 0 readers) (fresh_seat plan out) ∙ length-enumerate_from 0 readers
 
--- readers' ends that no row passed yet, from reader n on
+-- new readers' ends, numbered from n on, which no row has passed yet
 abbrev pub AreNew : TableId → RingNumbers → ℕ → List ReaderState → Type 0
 AreNew table ring n readers = (i : ℕ) (reader : ReaderState) → slice_get readers i ≡ Some reader → reader ≡ new_reader_state table ring (n + i)
 
@@ -86,7 +86,7 @@ fresh-at plan out table ring readers i seat are there =
     ∙ ap (λ (x : ReaderState). record { reader = x; site = Going (fresh_site plan out i) })
     (are i (get_or readers i seat.reader) (slice_get-get_or readers i seat.reader less) ∙ ap (new_reader_state table ring) (zero-add i))
 
--- the ends of the seats are these ends
+-- the ends of the seats are the given ends
 fresh-readers : (plan : PlanData) (out : List ℕ) (k : ℕ) (readers : List ReaderState) → map (λ seat. seat.reader) (map (fresh_seat plan out) (enumerate_from k readers)) ≡ readers
 fresh-readers plan out k [] = refl
 fresh-readers plan out k (reader ∷ readers) = ap (λ list. reader ∷ list) (fresh-readers plan out (k + 1) readers)
@@ -107,7 +107,7 @@ fresh_ends plan out table ring writer front back is are =
           };
     })
 
--- no row is dealt with
+-- at the start no row has been handled
 pub run_begins : (delivery : Delivery) (table : TableId) (ring : RingNumbers) (readers : List ReaderState) (before : List RackTells) → Carries delivery ring → AreNew table ring 0 readers → length readers ≡ length delivery.plan.sites
     → AreIdle (length delivery.plan.sites) before → ((site : ℕ) (told : RackTells) → slice_get before site ≡ Some told → TellsSlots told) → AreSeated delivery before before (fresh_seats delivery.plan delivery.out readers)
 run_begins delivery table ring readers before carries new sites idle slots = record {
@@ -149,7 +149,7 @@ begin_some delivery writer ring before seats more carries is ends are i told sea
       is = subst (λ (n : ℕ). IsSeated delivery n told told seat) (sym end.number) (are.each i told told seat at at there);
     }
 
--- behind the last round each site is seated, as it was at first
+-- after the last round each site is seated, as at the start
 pub end_seated : (delivery : Delivery) (writer : WriterState) (ring : RingNumbers) (before now : List RackTells) (were are : List SeatData) (more : List ReaderState) → Carries delivery ring → writer.ring ≡ ring → AreEndsOf writer (all_readers were more)
     → length were ≡ length are → length before ≡ length were → AreSeated delivery before before were → StaySeated before now were are → AreSeated delivery before now are
 end_seated delivery writer ring before now were are more carries is ends same racks seated stay = record {
@@ -163,7 +163,7 @@ end_seated delivery writer ring before now were are more carries is ends same ra
 
 -- ---- the end
 
--- an end that is told is that of a site that wasn't stopped
+-- the end of a site, where there is one, is that of a site that didn't run out of memory
 told_end : (plan : PlanData) (site : ℕ) (state : RunSite) (end : SiteEnd) → Some end ≡ end_of plan site state → is_stopped state ≡ false
 told_end plan site (Going going) end is = refl
 told_end plan site (Left cause) end is = refl
@@ -183,7 +183,7 @@ end_fits delivery ring site n before now Stopped end carries over stopped is = a
   none : Some end ≡ None → ⊥
   none e = cc
 
--- a joined reader that doesn't go on is at the last row's end
+-- a joined reader that doesn't continue is at the end of the last row
 over_at : (seat : SeatData) → is_going seat.reader ≡ false → seat.reader.cursor ≤ seat.reader.ring.total → seat.reader.left ≡ is_out seat.site → is_out seat.site ≡ true ⊎ (seat.reader.cursor ≡ seat.reader.ring.total)
 over_at seat none within left = by seat.reader.left (nat_lt seat.reader.cursor seat.reader.ring.total) refl left none where
   by : (out more : Bool) → more ≡ nat_lt seat.reader.cursor seat.reader.ring.total → out ≡ is_out seat.site → (not out && more) ≡ false → is_out seat.site ≡ true ⊎ (seat.reader.cursor ≡ seat.reader.ring.total)
@@ -191,7 +191,7 @@ over_at seat none within left = by seat.reader.left (nat_lt seat.reader.cursor s
   by false true m o e = absurd (let f : true ≡ false = e in cc)
   by false false m o e = inr (let low : seat.reader.ring.total ≤ seat.reader.cursor = ltb-false seat.reader.cursor seat.reader.ring.total (sym m) in omega (arith, low, within))
 
--- and a joined reader
+-- the same for a joined reader by itself
 pub over_end : (reader : ReaderState) → is_going reader ≡ false → reader.left ≡ false → reader.cursor ≤ reader.ring.total → reader.cursor ≡ reader.ring.total
 over_end reader none joined within = by reader.left (nat_lt reader.cursor reader.ring.total) refl joined none where
   by : (out more : Bool) → more ≡ nat_lt reader.cursor reader.ring.total → out ≡ false → (not out && more) ≡ false → reader.cursor ≡ reader.ring.total
@@ -203,7 +203,7 @@ none_all : (seats : List SeatData) → ((i : ℕ) (seat : SeatData) → slice_ge
 none_all [] each = refl
 none_all (seat ∷ seats) each = ap (λ b. b || list_any (λ s. is_stopped s.site) seats) (each 0 seat refl) ∙ none_all seats (λ i s. each (suc i) s)
 
--- the end that is told of a site
+-- the end returned for a site
 told_at : (plan : PlanData) (seats : List SeatData) (ends : List SiteEnd) → map Some ends ≡ ends_in plan seats → (site : ℕ) (end : SiteEnd) (seat : SeatData) → slice_get ends site ≡ Some end → slice_get seats site ≡ Some seat → Some end ≡ end_of plan site seat.site
 told_at plan seats ends ends-are site end seat e there =
     let inside : site < length seats = slice_get_within seats site seat there in
@@ -216,7 +216,7 @@ told_at plan seats ends ends-are site end seat e there =
 told_count : (plan : PlanData) (seats : List SeatData) (ends : List SiteEnd) → map Some ends ≡ ends_in plan seats → length ends ≡ length seats
 told_count plan seats ends ends-are = sym (length-map ends Some) ∙ ap length ends-are ∙ length-map (enumerate_from 0 seats) _ ∙ length-enumerate_from 0 seats
 
--- where ends are told and the readers don't go on, none of them does
+-- where ends are returned and the readers don't continue, none of them does
 pub none_left : (plan : PlanData) (seats : List SeatData) (more : List ReaderState) (ends : List SiteEnd) → map Some ends ≡ ends_in plan seats → are_going seats more ≡ false → list_any is_going (all_readers seats more) ≡ false
 none_left plan seats more ends ends-are over = none_going seats more over
     (none_all seats (λ i seat there.
@@ -250,7 +250,7 @@ run_fits delivery writer ring before now seats more ends carries ring-is at over
   count : length ends ≡ length seats
   count = told_count delivery.plan seats ends ends-are
 
--- ---- where memory was wanted
+-- ---- out of memory
 
 -- what a site leaves at any time is a part
 stopped : (delivery : Delivery) (ring : RingNumbers) (site n : ℕ) (before now : RackTells) (state : RunSite) → Carries delivery ring → n ≤ length (row_places delivery.plan) → IsServed delivery site n before now state
@@ -285,7 +285,7 @@ grown-nothing : {X : Type 0} (list : Option (List X)) → list ≡ grown [] list
 grown-nothing None = refl
 grown-nothing (Some list) = ap Some (sym (append-nil list))
 
--- nothing is a part
+-- having made nothing is a part
 pub none_part : (delivery : Delivery) (before : List RackTells) → RunPart delivery before before
 none_part delivery before = record {
   each = λ site old new less b r.
@@ -293,22 +293,22 @@ none_part delivery before = record {
       (record { files = 0; rows' = 0; finished = grown-nothing old.tells.finished; taken = grown-nothing old.tells.taken; failed = inl refl });
 }
 
--- so it is of what is left where nothing was made for want of memory
+-- so it is for what is left where nothing was made because memory ran out
 pub none_leaves : {E : Type 0} (delivery : Delivery) (before : List RackTells) (answer : Result Outcome E) → IsErr answer → RunLeaves delivery before before answer
 none_leaves delivery before (Ok outcome) is = absurd (let no : false ≡ true = is in cc)
 none_leaves delivery before (Err fault) is = record { fits = tt; part = none_part delivery before; counts = counts_stay before }
 
 -- ---- counts
 
--- those of the sites by what is said of each
+-- the counts of all sites, from what holds of each
 pub counts_keep : (delivery : Delivery) (before now : List RackTells) → AreStopped delivery before now → length now ≤ length delivery.plan.sites → KeepCounts before now
 counts_keep delivery before now are few = record {
   each = λ site old new b r. (are.each site old new (omega (arith, slice_get_within now site new r, few)) b r).faults;
 }
 
--- ---- racks and others behind them
+-- ---- racks and others after them
 
--- what holds of the sites' racks holds where others stand behind them
+-- what holds of the sites' racks holds where other racks follow them
 pub fits_wide : (delivery : Delivery) (before now rest : List RackTells) (ends : List SiteEnd) → length before ≡ length delivery.plan.sites → length now ≡ length delivery.plan.sites → RunFits delivery before now ends
     → RunFits delivery (before ++ rest) (now ++ rest) ends
 fits_wide delivery before now rest ends olds news fits = record {
@@ -333,7 +333,7 @@ enumerate-more (y ∷ xs) x k =
     ap (λ list. (k, y) ∷ list) (enumerate-more xs x (k + 1))
     ∙ ap (λ n. (k, y) ∷ (enumerate_from (k + 1) xs ++ (n, x) ∷ [])) (let e : (k + 1) + length xs ≡ k + suc (length xs) = omega arith in e)
 
--- the end of a site more
+-- one more site's end
 pub ends_more : (plan : PlanData) (seats : List SeatData) (seat : SeatData) → ends_in plan (seats ++ seat ∷ []) ≡ ends_in plan seats ++ end_of plan (length seats) seat.site ∷ []
 ends_more plan seats seat =
     ap (map (λ pair. end_of plan pair.0 pair.1.site)) (enumerate-more seats seat 0)
@@ -343,14 +343,14 @@ ends_more plan seats seat =
 pub length-ends_in : (plan : PlanData) (seats : List SeatData) → length (ends_in plan seats) ≡ length seats
 length-ends_in plan seats = length-map (enumerate_from 0 seats) _ ∙ length-enumerate_from 0 seats
 
--- a seat more
+-- one more seat
 pub seats_more : (plan : PlanData) (out : List ℕ) (readers : List ReaderState) (reader : ReaderState) → fresh_seats plan out (readers ++ reader ∷ []) ≡ fresh_seats plan out readers ++ fresh_seat plan out (length readers, reader) ∷ []
 seats_more plan out readers reader =
     ap (map (fresh_seat plan out)) (enumerate-more readers reader 0)
     ∙ map-append (fresh_seat plan out) (enumerate_from 0 readers) ((0 + length readers, reader) ∷ [])
     ∙ ap (λ n. fresh_seats plan out readers ++ fresh_seat plan out (n, reader) ∷ []) (zero-add (length readers))
 
--- a list in two parts of these lengths
+-- a list split in two parts of these lengths
 pub split_at : {X : Type 0} (all front back : List X) (at n k : ℕ) → at ≡ n → front ≡ take at all → back ≡ drop at all → length all ≡ n + k → (front ++ back ≡ all) × (length front ≡ n) × (length back ≡ k)
 split_at all front back at n k at-is front-is back-is long =
     let whole : front ++ back ≡ all = ap (λ list. list ++ back) front-is ∙ ap (λ list. take at all ++ list) back-is ∙ take-append-drop at all in
@@ -359,9 +359,9 @@ split_at all front back at n k at-is front-is back-is long =
     let same = ap length whole in
     (whole, first, omega (arith, first, both, same, long))
 
--- ---- the first seats, where racks of any type tell
+-- ---- the first seats, for racks of any type
 
--- a run begins at the ends of a ring that was opened, of which the first are the sites'
+-- a run begins at the ends of a newly opened ring, the first of which are the sites'
 pub run_opens : {X : Type 0} (tell : X → RackTells) (delivery : Delivery) (table : TableId) (ring : RingNumbers) (writer : WriterState) (front back : List ReaderState) (seats : List SeatData) (racks : List X) → writer ≡ new_writer_state table ring
     → front ++ back ≡ map (new_reader_state table ring) (up_to ring.readers) → seats ≡ fresh_seats delivery.plan delivery.out front → length front ≡ length delivery.plan.sites → Carries delivery ring
     → AreIdle (length delivery.plan.sites) (map tell racks) → AllTellSlots (map tell racks)

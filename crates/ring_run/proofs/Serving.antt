@@ -1,4 +1,4 @@
--- A site of a run and its turn: it goes on, it leaves, or want of memory stops it.
+-- A site of a run and its turn: the site continues, it leaves, or it runs out of memory.
 use Rattle.std.proofs.Common.{◌≡◌, ℕ, ◌+◌, ◌-◌, ◌<◌, ◌≤◌, inl, inr, Bool, true, false, if◌then◌else◌, List, length, map, take, Option, Some, None, IfSome, refl, sym, ap, subst, ◌∙◌, arith}
 use Rattle.std.specs.Prelude.{is_some}
 use Rattle.std.specs.Option.{option_map}
@@ -42,14 +42,14 @@ use Rattle.ring_run.specs.Served.{Carries, GoesOnAt, HasLeft, HasStopped, IsSeat
 
 -- ---- the rows of a ring
 
--- the rows that are to be delivered are those of the ring's frames
+-- the rows to deliver are those of the ring's frames
 pub rows_are : (delivery : Delivery) (ring : RingNumbers) → Carries delivery ring → map framed_row ring.rows ≡ delivery.rows
 rows_are delivery ring carries = AreFrames-rows (row_size (plate_width delivery.plan)) delivery.rows ring.rows carries.are
 
 pub total_is : (delivery : Delivery) (ring : RingNumbers) → Carries delivery ring → ring.total ≡ length (row_places delivery.plan)
 total_is delivery ring carries = carries.total ∙ AreFrames-length (row_size (plate_width delivery.plan)) delivery.rows ring.rows carries.are ∙ carries.count
 
--- a site that goes on does so with the rows of its reader
+-- a site that continues does so with the rows of its reader
 going_by : (delivery : Delivery) (reader : ReaderState) (before now : Tells) (going : SiteData) → Carries delivery reader.ring → IsGoing delivery.rows (delivery.source reader.number) before now going → IsGoingBy reader before now going
 going_by delivery reader before now going carries is =
     subst (λ (rows : List (List ℕ)). IsGoing rows (source_of reader) before now going) (sym (rows_are delivery reader.ring carries))
@@ -71,16 +71,16 @@ asked_rows delivery ring site n before now going carries at = record {
       (subst (λ (job : SiteJob). AreFrames (row_size job.width) delivery.rows ring.rows) (sym at.job_is) carries.are);
 }
 
--- ---- a site that goes on
+-- ---- a site that continues
 
--- how it stands, in the words of the plan
+-- the state of the site, in the terms of the plan
 stands_at : (delivery : Delivery) (site n : ℕ) (before now : RackTells) (going : SiteData) → GoesOnAt delivery site n before now going
     → StandsAfter (job_of delivery.plan delivery.out site) delivery.rows (delivery.source site) n before.tells now.tells going.counts
 stands_at delivery site n before now going at =
     subst (λ (m : ℕ). StandsAfter (job_of delivery.plan delivery.out site) delivery.rows (delivery.source site) m before.tells now.tells going.counts) at.next_is
     (subst (λ (job : SiteJob). StandsAfter job delivery.rows (delivery.source site) going.next before.tells now.tells going.counts) at.job_is at.is.stands)
 
--- its rack has the first files and the first rows more
+-- its rack has, in addition, the first files and the first rows
 pub going_part : (delivery : Delivery) (ring : RingNumbers) (site n : ℕ) (before now : RackTells) (going : SiteData) → Carries delivery ring → n ≤ length (row_places delivery.plan)
     → GoesOnAt delivery site n before now going → FitsPart delivery site before now
 going_part delivery ring site n before now going carries within at =
@@ -94,7 +94,7 @@ going_part delivery ring site n before now going carries within at =
       failed = inl at.missed;
     }
 
--- behind the last row it has finished
+-- after the last row it has finished
 pub finishes : (delivery : Delivery) (ring : RingNumbers) (site : ℕ) (before now : RackTells) (going : SiteData) → Carries delivery ring
     → GoesOnAt delivery site (length (row_places delivery.plan)) before now going → FitsFinished delivery site before now (length (site_plates delivery.plan site)) (kept_rows delivery.plan site)
 finishes delivery ring site before now going carries at =
@@ -150,7 +150,7 @@ leaves delivery reader n before old new going cause carries within at by rose mi
       faults = (let since = at.faults in omega (arith, since));
     }
 
--- ---- a site whose rack wants memory
+-- ---- a site whose rack runs out of memory
 
 pub stops : (delivery : Delivery) (reader : ReaderState) (n m : ℕ) (before old new : RackTells) (going : SiteData) → Carries delivery reader.ring → m < length (row_places delivery.plan)
     → GoesOnAt delivery reader.number n before old going → StopsAt going.job (map framed_row reader.ring.rows) (source_of reader) m before.tells new.tells → new.missed ≡ old.missed → old.faults ≤ new.faults
@@ -178,7 +178,7 @@ stops delivery reader n m before old new going carries within at stopped missed 
 
 -- ---- rows that are yet to be taken
 
--- a reader that was joined has no more of them when its cursor didn't fall
+-- a joined reader whose cursor didn't fall has no more rows to take than before
 pub fewer : (old new : ReaderState) → new.ring ≡ old.ring → old.left ≡ false → old.cursor ≤ new.cursor → to_take new ≤ to_take old
 fewer old new ring joined grows = by new.left old.left joined where
   by : (left left' : Bool) → left' ≡ false → (if left then 0 else new.ring.total - new.cursor) ≤ (if left' then 0 else old.ring.total - old.cursor)
@@ -186,7 +186,7 @@ fewer old new ring joined grows = by new.left old.left joined where
   by true false e = omega arith
   by false false e = let same : new.ring.total ≡ old.ring.total = ap (λ (r : RingNumbers). r.total) ring in omega (arith, same, grows)
 
--- and fewer where it rose
+-- and fewer rows to take where its cursor rose
 pub less : (old new : ReaderState) → new.ring ≡ old.ring → old.left ≡ false → old.cursor < new.cursor → new.cursor ≤ old.ring.total → to_take new < to_take old
 less old new ring joined grows within = by new.left old.left joined where
   by : (left left' : Bool) → left' ≡ false → (if left then 0 else new.ring.total - new.cursor) < (if left' then 0 else old.ring.total - old.cursor)
@@ -207,18 +207,18 @@ idle told seat none = record {
   seated = λ delivery before carries seated. seated;
 }
 
--- one that has left, or was stopped, takes none
+-- a site that has left, or ran out of memory, takes no row
 pub idle_out : (told : RackTells) (seat : SeatData) → SomeSeated told seat → is_out seat.site ≡ true → Turned told told seat seat
 idle_out told seat some out = idle told seat (λ joined more. let both : false ≡ true = sym joined ∙ some.is.left ∙ out in cc)
 
--- what stays of a reader's end in a turn
+-- what is unchanged of a reader's end in a turn
 abbrev pub StaysBut : ReaderState → ReaderState → Type 0
 StaysBut old new = new ≡ record old { cursor = new.cursor; left = new.left; seen = new.seen; loads = new.loads }
 
 going_at : (delivery : Delivery) (before told : RackTells) (reader : ReaderState) (going : SiteData) → IsSeated delivery reader.number before told (record { reader = reader; site = Going going }) → GoesOnAt delivery reader.number reader.cursor before told going
 going_at delivery before told reader going seated = seated.is
 
--- it goes on
+-- the site continues
 pub turned_on : (old new : RackTells) (was is : ReaderState) (going next : SiteData) → StaysBut was is → is.left ≡ false → was.left ≡ false → was.cursor ≤ is.cursor → is.cursor ≤ was.ring.total → (was.cursor < was.seen → was.cursor < is.cursor)
     → GoesOnBy was going next old new → GoesOnTo going next is.cursor → new.missed ≡ old.missed → old.faults ≤ new.faults
     → Turned old new (record { reader = was; site = Going going }) (record { reader = is; site = Going next })
@@ -246,7 +246,7 @@ turned_on old new was is going next stays joined' joined grows within gets_on st
       };
     }
 
--- it leaves
+-- the site leaves
 pub turned_left : (old new : RackTells) (was is : ReaderState) (going : SiteData) (cause : LeftCause) → StaysBut was is → is.left ≡ true → was.left ≡ false → was.cursor < is.cursor → is.cursor ≤ was.ring.total
     → IsCauseAt going.job cause.row cause → cause.row + 1 ≡ is.cursor → Rose old.faults new.faults → IfSome new.missed (λ last. last ≡ Some (cause.call, cause.path))
     → LeavesBy was going old new cause → old.faults ≤ new.faults
@@ -271,7 +271,7 @@ turned_left old new was is going cause stays out joined grows within by row rose
       };
     }
 
--- want of memory stops it
+-- the site runs out of memory
 pub turned_out : (old new : RackTells) (was is : ReaderState) (going : SiteData) → StaysBut was is → is.left ≡ true → was.left ≡ false → was.cursor < is.cursor → is.cursor ≤ was.ring.total
     → ((n : ℕ) → n + 1 ≡ is.cursor → StopsBy was going old new n) → new.missed ≡ old.missed → old.faults ≤ new.faults
     → Turned old new (record { reader = was; site = Going going }) (record { reader = is; site = Stopped })

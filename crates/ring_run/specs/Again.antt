@@ -1,4 +1,4 @@
--- The laws of a site's turn: behind one another may be taken, and both are one turn.
+-- The laws of a site's turn: turns may be taken one after another, and two of them amount to one turn.
 use Rattle.std.specs.Prelude.{◌≡◌, ℕ}
 use Rattle.std.proofs.Common.{sym, ap, subst, ◌∙◌}
 use Rattle.std.proofs.Math.Nat.{le_trans, suc-le-suc_iff}

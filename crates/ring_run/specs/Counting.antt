@@ -1,4 +1,4 @@
--- A key reader at a reader's end of a run's ring: what it has counted, and what a turn makes of it.
+-- A key reader at a reader's end of a run's ring: what it has counted, and the effect of a turn.
 use Rattle.std.specs.Prelude.{◌≡◌, ℕ, ◌≤◌, false, List, length, slice_get, Some}
 use Rattle.std.proofs.Common.{ap, ◌∙◌}
 use Rattle.plan_rows.specs.Rows.{places_in}
@@ -9,21 +9,21 @@ use Rattle.ink_keys.specs.Turn.{AreRowsOf, CountsRows, KeyReaderData}
 use Rattle.ring_run.specs.Again.{takes_again}
 use Rattle.ring_run.specs.Served.{TakesOn}
 
--- counts of nothing yet, made as these were
+-- counts of nothing yet, with the same layout as these
 abbrev pub zeros_of : CountsData → CountsData
 zeros_of counts = no_counts counts.groups counts.width counts.keys
 
--- a key reader that counted no row yet may count those of a ring
+-- a key reader that has counted no row yet may count those of a ring
 pub record MayCount (ring : RingNumbers) (key : KeyReaderData) : Type 0 where
   pub total : ring.total ≡ length (places_in key.rows)
   pub rows : AreRowsOf key.counts.width ring
   pub zeros : key.counts ≡ zeros_of key.counts
 
--- so may each of them
+-- each of the key readers may count the rows of a ring
 abbrev pub MayAllCount : RingNumbers → List KeyReaderData → Type 0
 MayAllCount ring keys = (i : ℕ) (key : KeyReaderData) → slice_get keys i ≡ Some key → MayCount ring key
 
--- a key reader at a joined reader's end has counted the rows below the cursor, from zeros on
+-- a key reader at a joined reader's end has counted the rows below the cursor, starting from zeros
 pub record IsCounting (reader : ReaderState) (key : KeyReaderData) : Type 0 where
   pub joined : reader.left ≡ false
   pub home : reader.held ≡ false
@@ -33,12 +33,12 @@ pub record IsCounting (reader : ReaderState) (key : KeyReaderData) : Type 0 wher
   pub bounded : IsBounded key.counts reader.cursor
   pub counted : CountsRows key.rows reader.ring 0 reader.cursor (zeros_of key.counts) key.counts
 
--- a key reader counts for the same rows, groups, width and keys
+-- a key reader counts for the same rows, groups, width and keys as before
 pub record IsSameKey (old new : KeyReaderData) : Type 0 where
   pub rows : new.rows ≡ old.rows
   pub counts : new.counts ≡ record old.counts { numbers = new.counts.numbers }
 
--- so does each
+-- the same for each key reader
 abbrev pub AreSameKeys : List KeyReaderData → List KeyReaderData → Type 0
 AreSameKeys olds news = (i : ℕ) (old new : KeyReaderData) → slice_get olds i ≡ Some old
     → slice_get news i ≡ Some new → IsSameKey old new
@@ -52,7 +52,7 @@ pub record Counted (was : ReaderState) (old : KeyReaderData) (is : ReaderState) 
   pub same : IsSameKey old new
   pub counting : IsCounting is new
 
--- behind one turn another may be taken, and both are one
+-- after one turn another may be taken, and the two amount to one
 pub may_count_again : (was is : ReaderState) (old new : KeyReaderData) → Counted was old is new
     → IsCounting is new
 may_count_again was is old new counted = counted.counting
@@ -73,12 +73,12 @@ counted_again was then is old mid new first next = record {
 
 -- ---- all rows
 
--- all rows of a ring were counted, from zeros on
+-- all rows of a ring were counted, starting from zeros
 pub record HasCounted (ring : RingNumbers) (old new : KeyReaderData) : Type 0 where
   pub same : IsSameKey old new
   pub counted : CountsRows new.rows ring 0 ring.total (zeros_of new.counts) new.counts
 
--- so they were by each key reader
+-- the same for each key reader
 abbrev pub HaveCounted : RingNumbers → List KeyReaderData → List KeyReaderData → Type 0
 HaveCounted ring olds news = (i : ℕ) (old new : KeyReaderData) → slice_get olds i ≡ Some old
     → slice_get news i ≡ Some new → HasCounted ring old new

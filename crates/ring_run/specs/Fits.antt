@@ -1,4 +1,4 @@
--- What a run leaves on the racks of its sites, by what each of them told before and tells now.
+-- What a run leaves on the racks of its sites, by what each rack reports before and after.
 use Rattle.std.specs.Prelude.{◌≡◌, ℕ, ◌<◌, ◌⊎◌, false, List, length, map, take, count_by, Some, IfSome, IfOk}
 use Rattle.std.specs.Prelude.{OnErr, Result, slice_get}
 use Rattle.std.specs.List.{range_with_len}
@@ -24,15 +24,15 @@ use Rattle.ring_run.specs.declared.site_end.SiteEnd.TheVariants.{Finished, Left}
 
 -- ---- a run
 
--- what a run is to deliver: all rows of a plan, to sites that take them from these sources, as plates with
--- paths below the folder `out`
+-- the task of a run: it delivers all rows of a plan, to sites that take them from these sources, as plates
+-- with paths below the folder `out`
 pub record Delivery : Type 0 where
   pub plan : PlanData
   pub rows : List (List ℕ)
   pub out : List ℕ
   pub source : ℕ → Source
 
--- the same by a ring of so many readers and places, where the reader of a site has its number
+-- the same, over a ring with this many readers and places, where the reader of a site has its number
 abbrev pub by_ring : PlanData → List (List ℕ) → List ℕ → ℕ → ℕ → Delivery
 by_ring plan rows out readers ring = record {
   plan = plan;
@@ -41,11 +41,11 @@ by_ring plan rows out readers ring = record {
   source = λ site. Ring site readers ring;
 }
 
--- the same of the rows of a job
+-- the same for the rows of a job
 abbrev pub by_job : JobData → List ℕ → ℕ → ℕ → Delivery
 by_job job out readers ring = by_ring job.plan (plate_rows job.plan job.files) out readers ring
 
--- the same of the rows whose frames a ring has
+-- the same for the rows whose frames a ring has
 abbrev pub on_ring : PlanData → List ℕ → RingNumbers → Delivery
 on_ring plan out ring = by_ring plan (map framed_row ring.rows) out ring.readers ring.places
 
@@ -53,7 +53,7 @@ on_ring plan out ring = by_ring plan (map framed_row ring.rows) out ring.readers
 abbrev pub files_for : Delivery → ℕ → List Plate
 files_for delivery site = site_files delivery.plan delivery.rows delivery.out site
 
--- the rows that a site keeps, upward and each once, with its source
+-- the rows that a site keeps, in ascending order and each once, with their sources
 abbrev pub drawn_for : Delivery → ℕ → List (ℕ × Source)
 drawn_for delivery site = drawn_rows delivery.plan site (delivery.source site)
 
@@ -63,8 +63,8 @@ kept_rows plan site = count_by (keeps_row plan site) (range_with_len 0 (length (
 
 -- ---- the end of a site
 
--- a site that finished with so many plates and rows: its rack has all its files and all its rows more, and
--- no slot of it is begun
+-- a site that finished with this many plates and rows: its rack has all its files and all its rows in
+-- addition, and no slot of the rack is begun
 pub record FitsFinished (delivery : Delivery) (site : ℕ) (before now : RackTells) (plates rows' : ℕ)
     : Type 0 where
   pub plates_are : plates ≡ length (site_plates delivery.plan site)
@@ -73,16 +73,16 @@ pub record FitsFinished (delivery : Delivery) (site : ℕ) (before now : RackTel
   pub taken : now.tells.taken ≡ grown (drawn_for delivery site) before.tells.taken
   pub begun : (slot : ℕ) → slot < 5 → slice_get now.tells.begun slot ≡ Some false
 
--- the files of a site that were finished where it left
+-- the files of a site that were finished when it left
 abbrev pub files_by : Delivery → ℕ → LeftCause → List Plate
 files_by delivery site cause = take cause.plates (files_for delivery site)
 
--- the rows of a site up to the one that it left at
+-- the rows of a site up to the one at which it left
 abbrev pub drawn_by : Delivery → ℕ → LeftCause → List (ℕ × Source)
 drawn_by delivery site cause = rows_up_to cause.row cause.call (drawn_for delivery site)
 
--- a site that left: its rack has the files more that were finished by then, and the rows up to the one that
--- it left at; and it left since a call failed, which is the last that failed
+-- a site that left: its rack has, in addition, the files that were finished by then, and the rows up to the
+-- one at which it left. It left because a call failed, which is the last failed call
 pub record FitsCause (delivery : Delivery) (site : ℕ) (before now : RackTells) (cause : LeftCause)
     : Type 0 where
   pub cause_fits : FitsLeft delivery.plan delivery.rows delivery.out site cause (files_by delivery site cause)
@@ -91,14 +91,14 @@ pub record FitsCause (delivery : Delivery) (site : ℕ) (before now : RackTells)
   pub counted : Rose before.faults now.faults
   pub missed : IfSome now.missed (λ last. last ≡ Some (cause.call, cause.path))
 
--- a site's end fits what its rack has more than before
+-- a site's end fits what its rack has in addition to before
 abbrev pub FitsEnd : Delivery → ℕ → RackTells → RackTells → SiteEnd → Type 0
 FitsEnd delivery site before now (Finished plates rows') =
     FitsFinished delivery site before now plates rows'
 FitsEnd delivery site before now (Left cause) = FitsCause delivery site before now cause
 
--- a site of a run that ran out of memory: its rack has the first of its files more, and the first of its
--- rows; no call of the rack failed in the run, or the site left for one that did
+-- a site of a run that ran out of memory: its rack has, in addition, the first of its files and the first of
+-- its rows. No call of the rack failed in the run, or the site left because of one that did
 pub record FitsPart (delivery : Delivery) (site : ℕ) (before now : RackTells) : Type 0 where
   pub files : ℕ
   pub rows' : ℕ
@@ -109,23 +109,23 @@ pub record FitsPart (delivery : Delivery) (site : ℕ) (before now : RackTells) 
 
 -- ---- all sites
 
--- each site has an end, which fits what its rack has more than before
+-- each site has an end, which fits what its rack has in addition to before
 pub record RunFits (delivery : Delivery) (before now : List RackTells) (ends : List SiteEnd) : Type 0 where
   pub count : length ends ≡ length delivery.plan.sites
   pub each : (site : ℕ) (old new : RackTells) (end : SiteEnd) → slice_get before site ≡ Some old
       → slice_get now site ≡ Some new → slice_get ends site ≡ Some end → FitsEnd delivery site old new end
 
--- want of memory ended the run
+-- the run ended out of memory
 pub record RunPart (delivery : Delivery) (before now : List RackTells) : Type 0 where
   pub each : (site : ℕ) (old new : RackTells) → site < length delivery.plan.sites
       → slice_get before site ≡ Some old → slice_get now site ≡ Some new → FitsPart delivery site old new
 
--- what a run leaves of what the racks of its sites tell, by its answer
+-- what a run leaves on the racks of its sites, by its result
 pub record RunLeaves {E : Type 0} (delivery : Delivery) (before now : List RackTells)
     (answer : Result Outcome E) : Type 0 where
-  -- each site's end fits what its rack has more than before
+  -- each site's end fits what its rack has in addition to before
   pub fits : IfOk answer (λ outcome. RunFits delivery before now outcome.sites.items)
-  -- want of memory: each rack has the first of its site's files more, and the first of its rows
+  -- out of memory: each rack has, in addition, the first of its site's files and the first of its rows
   pub part : OnErr answer (RunPart delivery before now)
-  -- no count of failures falls, whatever the answer
+  -- no count of failures falls, on any outcome
   pub counts : KeepCounts before now

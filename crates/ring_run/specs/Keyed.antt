@@ -7,8 +7,8 @@ use Rattle.ink_keys.specs.Counts.{CountsData, no_counts}
 use Rattle.ink_keys.specs.Plates.{AreKeyCounts}
 use Rattle.ink_keys.specs.Turn.{KeyReaderData}
 
--- the counts are those of a plan's groups, by its plates' width and so many keys, and each count of a plate
--- is that of its rows, out of all rows in order
+-- the counts are those of a plan's groups, by its plates' width and this many keys, and each count of a plate
+-- is that of its rows, among all rows in order
 pub record KeysFit (plan : PlanData) (rows : List (List ℕ)) (keys : ℕ) (counts : CountsData) : Type 0 where
   pub groups_are : counts.groups ≡ length (groups_of plan)
   pub width_is : counts.width ≡ plate_width plan
@@ -20,7 +20,7 @@ pub record IsFreshKey (plan : PlanData) (key : KeyReaderData) : Type 0 where
   pub rows_are : key.rows ≡ rows_of plan
   pub zeros : key.counts ≡ no_counts (length (groups_of plan)) (plate_width plan) key.counts.keys
 
--- so is each
+-- the same for each key reader
 abbrev pub AreFreshKeys : PlanData → List KeyReaderData → Type 0
 AreFreshKeys plan keys = (i : ℕ) (key : KeyReaderData) → slice_get keys i ≡ Some key → IsFreshKey plan key
 

@@ -1,5 +1,5 @@
--- A round of a run: notes go round between the ends of the ring, and then the writer and the readers take
--- their turns. This is the contract of private calls.
+-- A round of a run: the ends of the ring exchange notes, and then the writer and the readers take their
+-- turns. This is the contract of private calls.
 use Rattle.std.specs.Prelude.{◌≡◌, ℕ, ◌+◌, ◌-◌, ◌<◌, ◌≤◌, true, List, [], ◌∷◌, length, slice_get, Some, None}
 use Rattle.std.specs.List.{list_any}
 use Rattle.ring_lanes.specs.Reader.{ReaderState}
@@ -24,51 +24,51 @@ pub record AreEndsOf (writer : WriterState) (readers : List ReaderState) : Type 
 abbrev pub AreAtTable : {X : Type 0} → (X → ReaderState) → WriterState → List X → Type 0
 AreAtTable {X} end writer xs = (i : ℕ) (x : X) → slice_get xs i ≡ Some x → (end x).table ≡ writer.table
 
--- what the writer knows of a reader isn't below what the reader told: that it left, or its cursor
+-- what the writer knows of a reader isn't below what the reader reported: that it left, or its cursor
 pub record Knows (known : List ℕ) (reader : ReaderState) : Type 0 where
   pub left : reader.left ≡ true → cursor_known known reader.number ≡ None
   pub cursor : (k : ℕ) → cursor_known known reader.number ≡ Some k → reader.cursor ≤ k
 
--- so it is of the end of each of these
+-- the writer knows the end of each of these
 abbrev pub KnowsAll : {X : Type 0} → (X → ReaderState) → List ℕ → List X → Type 0
 KnowsAll {X} end known xs = (i : ℕ) (x : X) → slice_get xs i ≡ Some x → Knows known (end x)
 
--- no known cursor falls, and a reader that is known to have left stays so
+-- no known cursor falls, and a reader that is known to have left remains so
 abbrev pub KnowsMore : List ℕ → List ℕ → Type 0
 KnowsMore old new = (r k : ℕ) → cursor_known new r ≡ Some k
     → (j : ℕ) × (cursor_known old r ≡ Some j) × (j ≤ k)
 
--- a note of the writer came to a reader, where it goes on: the reader knows the head, and the writer knows
--- that it is joined
+-- a note of the writer reached a reader that continues: the reader knows the head, and the writer knows that
+-- the reader is joined
 pub record IsTold (w : WriterState) (was is : ReaderState) : Type 0 where
   pub stays : is ≡ record was { seen = is.seen; loads = is.loads }
   pub head : is_going was ≡ true → w.head ≤ is.seen
   pub joined : is_going was ≡ true → (k : ℕ) × (cursor_known w.known was.number ≡ Some k)
 
--- so it did to the reader of a site
+-- a note of the writer reached the reader of a site
 pub record IsSeatTold (w : WriterState) (was is : SeatData) : Type 0 where
   pub site : is.site ≡ was.site
   pub end : IsTold w was.reader is.reader
 
--- so it did to each of these
+-- a note of the writer reached each of these
 abbrev pub AreTold : {X : Type 0} → (WriterState → X → X → Type 0) → WriterState → List X → List X → Type 0
 AreTold {X} told w were are = (i : ℕ) (was is : X) → slice_get were i ≡ Some was
     → slice_get are i ≡ Some is → told w was is
 
--- how many rows the readers have yet to take
+-- the number of rows that the readers have yet to take
 unfoldable pub all_to_take : List ReaderState → ℕ
 all_to_take [] = 0
 all_to_take (reader ∷ readers) = to_take reader + all_to_take readers
 
--- the measure of a run: how many rows are yet to be published, and to be taken
+-- the measure of a run: the number of rows that are yet to be published or to be taken
 abbrev pub to_do : WriterState → List ReaderState → ℕ
 to_do writer readers = (writer.ring.total - writer.head) + all_to_take readers
 
--- it falls, where some reader goes on
+-- the measure falls, where some reader continues
 abbrev pub Falls : WriterState → List ReaderState → WriterState → List ReaderState → Type 0
 Falls was readers now behind = list_any is_going readers ≡ true → to_do now behind < to_do was readers
 
--- of each run, the sites are seated afterwards as they were
+-- in each run, the sites remain seated after the round
 abbrev pub StaySeated : List RackTells → List RackTells → List SeatData → List SeatData → Type 0
 StaySeated old new were are = (delivery : Delivery) (i : ℕ) (before told now : RackTells) (was is : SeatData)
     → Carries delivery was.reader.ring

@@ -18,13 +18,13 @@ all_readers seats more = map (λ seat. seat.reader) seats ++ more
 abbrev pub is_going : ReaderState → Bool
 is_going reader = not reader.left && nat_lt reader.cursor reader.ring.total
 
--- want of memory stopped the site
+-- the site ran out of memory
 abbrev pub is_stopped : RunSite → Bool
 is_stopped (Going going) = false
 is_stopped (Left cause) = false
 is_stopped Stopped = true
 
--- some reader goes on, whether a site's or a further one, and no site was stopped
+-- some reader continues, a site's or a further one, and no site ran out of memory
 abbrev pub are_going : List SeatData → List ReaderState → Bool
 are_going seats more =
     (list_any (λ seat. is_going seat.reader) seats || list_any is_going more)

@@ -1,4 +1,4 @@
--- How far the sites of a run are. This is the contract of private calls.
+-- The progress of a run's sites. This is the contract of private calls.
 use Rattle.std.specs.Prelude.{◌≡◌, ℕ, ◌-◌, ◌<◌, ◌≤◌, if◌then◌else◌, Bool, true, false, List, length, map}
 use Rattle.std.specs.Prelude.{filter, slice_get, Option, Some, None}
 use Rattle.std.specs.List.{enumerate_from, flat_map}
@@ -26,7 +26,7 @@ use Rattle.ring_run.specs.declared.site_end.SiteEnd.TheVariants as Ended
 use Rattle.ring_run.specs.Fits.{Delivery, FitsCause, FitsPart, RunFits, kept_rows}
 use Rattle.ring_run.specs.Seat.{SeatData}
 
--- the frames of the rows that are to be delivered pass through a ring
+-- the frames of the rows to deliver pass through a ring
 pub record Carries (delivery : Delivery) (ring : RingNumbers) : Type 0 where
   pub plan_is : IsPlan delivery.plan
   pub are : AreFrames (row_size (plate_width delivery.plan)) delivery.rows ring.rows
@@ -36,7 +36,7 @@ pub record Carries (delivery : Delivery) (ring : RingNumbers) : Type 0 where
 
 -- ---- one site
 
--- a site goes on, and has dealt with the rows below row n
+-- a site continues, and has handled the rows below row n
 pub record GoesOnAt (delivery : Delivery) (site n : ℕ) (before now : RackTells) (going : SiteData)
     : Type 0 where
   pub job_is : going.job ≡ job_of delivery.plan delivery.out site
@@ -58,7 +58,7 @@ pub record HasStopped (delivery : Delivery) (site : ℕ) (before now : RackTells
   pub missed : now.missed ≡ before.missed
   pub faults : before.faults ≤ now.faults
 
--- a site has dealt with the rows below row n, or has left, or was stopped
+-- a site has handled the rows below row n, or has left, or ran out of memory
 abbrev pub IsServed : Delivery → ℕ → ℕ → RackTells → RackTells → RunSite → Type 0
 IsServed delivery site n before now (Going going) = GoesOnAt delivery site n before now going
 IsServed delivery site n before now (Left cause) = HasLeft delivery site before now cause
@@ -66,13 +66,13 @@ IsServed delivery site n before now Stopped = HasStopped delivery site before no
 
 -- ---- a site at its reader's end
 
--- a site that doesn't go on has left the ring
+-- a site that doesn't continue has left the ring
 abbrev pub is_out : RunSite → Bool
 is_out (Going going) = false
 is_out (Left cause) = true
 is_out Stopped = true
 
--- a site has dealt with the rows below its reader's cursor, or has left the ring
+-- a site has handled the rows below its reader's cursor, or has left the ring
 pub record IsSeated (delivery : Delivery) (site : ℕ) (before now : RackTells) (seat : SeatData)
     : Type 0 where
   pub home : seat.reader.held ≡ false
@@ -80,7 +80,7 @@ pub record IsSeated (delivery : Delivery) (site : ℕ) (before now : RackTells) 
   pub left : seat.reader.left ≡ is_out seat.site
   pub is : IsServed delivery site seat.reader.cursor before now seat.site
 
--- of some run, a site is seated so
+-- in some run, a site is seated so
 pub record SomeSeated (now : RackTells) (seat : SeatData) : Type 0 where
   pub delivery : Delivery
   pub before : RackTells
@@ -89,18 +89,18 @@ pub record SomeSeated (now : RackTells) (seat : SeatData) : Type 0 where
 
 -- ---- a turn
 
--- how many rows a reader has yet to take, unless it left
+-- the number of rows that a reader has yet to take, unless it left
 abbrev pub to_take : ReaderState → ℕ
 to_take reader = if reader.left then 0 else reader.ring.total - reader.cursor
 
--- what a turn leaves of a reader's end, whoever sits there: it is the same end, and fewer rows are yet to be
--- taken where a row was known of
+-- what a turn leaves of a reader's end, whoever holds it: it is the same end, and fewer rows are yet to be
+-- taken where a row was known
 pub record TakesOn (was is : ReaderState) : Type 0 where
   pub stays : is ≡ record was { cursor = is.cursor; left = is.left; seen = is.seen; loads = is.loads }
   pub fewer : to_take is ≤ to_take was
   pub gets_on : was.left ≡ false → was.cursor < was.seen → to_take is < to_take was
 
--- a turn of a site at its reader's end: of each run it is seated afterwards as it was
+-- a turn of a site at its reader's end: in each run the site remains seated
 pub record Turned (old new : RackTells) (was is : SeatData) : Type 0 where
   pub end : TakesOn was.reader is.reader
   pub seated : (delivery : Delivery) (before : RackTells) → Carries delivery was.reader.ring
@@ -108,7 +108,7 @@ pub record Turned (old new : RackTells) (was is : SeatData) : Type 0 where
 
 -- ---- all sites
 
--- each may take its turn
+-- each site may take its turn
 abbrev pub AreSomeSeated : List RackTells → List SeatData → Type 0
 AreSomeSeated now seats = (i : ℕ) (told : RackTells) (seat : SeatData) → slice_get now i ≡ Some told
     → slice_get seats i ≡ Some seat → SomeSeated told seat
@@ -126,7 +126,7 @@ pub record LeavesPart (delivery : Delivery) (site : ℕ) (before now : RackTells
   pub part : FitsPart delivery site before now
   pub faults : before.faults ≤ now.faults
 
--- so does each site
+-- each site leaves a part
 pub record AreStopped (delivery : Delivery) (before now : List RackTells) : Type 0 where
   pub each : (site : ℕ) (old new : RackTells) → site < length delivery.plan.sites
       → slice_get before site ≡ Some old → slice_get now site ≡ Some new → LeavesPart delivery site old new
@@ -140,11 +140,11 @@ fresh_seat plan out (site, reader) = record { reader = reader; site = Going (fre
 abbrev pub fresh_seats : PlanData → List ℕ → List ReaderState → List SeatData
 fresh_seats plan out readers = map (fresh_seat plan out) (enumerate_from 0 readers)
 
--- the plates of a site, out of these groups
+-- the plates of a site from these groups
 abbrev pub plates_in : List Group → ℕ → List PlateOf
 plates_in groups site = flat_map group_plates (filter (λ group. has_site group site) groups)
 
--- the end of a site that is so behind the last row; none where it was stopped
+-- the end of a site in this state after the last row; none where it ran out of memory
 abbrev pub end_of : PlanData → ℕ → RunSite → Option SiteEnd
 end_of plan site (Going going) = Some (Finished (length (site_plates plan site)) (kept_rows plan site))
 end_of plan site (Left cause) = Some (Ended.Left cause)
@@ -156,13 +156,13 @@ ends_in plan seats = map (λ pair. end_of plan pair.0 pair.1.site) (enumerate_fr
 
 -- ---- a run
 
--- of each run whose sites are before the first row, each site's end fits
+-- in each run whose sites are before the first row, each site's end fits
 abbrev pub FitsFrom : PlanData → RingNumbers → List RackTells → List RackTells → List SeatData → List SiteEnd
     → Type 0
 FitsFrom plan ring old new seats ends = (delivery : Delivery) → delivery.plan ≡ plan → Carries delivery ring
     → AreSeated delivery old old seats → RunFits delivery old new ends
 
--- of each such run, what the sites leave is a part at least
+-- in each such run, what the sites leave is at least a part
 abbrev pub StopsFrom : PlanData → RingNumbers → List RackTells → List RackTells → List SeatData → Type 0
 StopsFrom plan ring old new seats = (delivery : Delivery) → delivery.plan ≡ plan → Carries delivery ring
     → AreSeated delivery old old seats → AreStopped delivery old new

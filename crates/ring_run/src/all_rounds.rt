@@ -27,14 +27,14 @@ pub(crate) struct WriterAndFeed<'a, 'r, D: Deal, F> {
     pub(crate) feed: &'a mut F,
 }
 
-/// What the readers of a run take their turns with: the racks of its sites, and its key readers.
+/// What the readers of a run need for their turns: the racks of its sites, and its key readers.
 pub(crate) struct RacksAndKeys<'a, 'p, R> {
     pub(crate) racks: &'a mut [R],
     pub(crate) keys: &'a mut [RunKeyReader<'p>],
 }
 
-/// Takes round after round, until each site has finished or left and each further reader has all rows, or a
-/// site ran out of memory.
+/// Runs round after round, until each site has finished or left and each further reader has all rows, or
+/// until a site runs out of memory.
 pub(crate) fn run_rounds<
     T: Threads + Clock + Sync,
     D: Deal + Sync,

@@ -1,4 +1,4 @@
-// What sits at a reader's end of a run's ring, and how notes go to and from it.
+// The holder of a reader's end of a run's ring, and the notes to and from it.
 ghost use Rattle.std.specs.Prelude.{◌≡◌};
 ghost use Rattle.ring_lanes.specs.Note.{told_by_reader};
 ghost use Rattle.ring_lanes.specs.Reader.{ReaderState};
@@ -10,22 +10,22 @@ use ring_lanes::{CursorNote, Reader, Writer};
 
 /// A reader's end of a ring, bare or with a site.
 ///
-/// Implementers define `end`, the end itself, and `heard`, what a note of the writer leaves.
+/// Implementers define `end`, the end itself, and `heard`, the effect of a note of the writer.
 pub(crate) trait AtEnd<D: Deal> {
     ghost end: { Self → ReaderState };
 
     ghost heard: { WriterState → Self → Self → Type 0 };
 
-    /// Whether its reader hasn't left, and rows are still to come.
+    /// Returns whether its reader hasn't left and rows are still to come.
     fn goes_on(&self) -> bool
         ensures { result ≡ is_going (end self.now) };
 
-    /// Makes a note of the reader, also of one that has left.
+    /// Makes a note of the reader, even of one that has left.
     fn note(&mut self) -> CursorNote<D>
         ensures note { result ≡ told_by_reader (end self.old) }
         ensures same { self.new ≡ self.old };
 
-    /// Takes in a note of the writer, if it goes on.
+    /// Takes in a note of the writer, if the reader continues.
     fn hear(&mut self, writer: &mut Writer<'_, D>)
         requires table { (end self.old).table ≡ writer.old.table }
         ensures heard { heard writer.old self.old self.new }

@@ -7,7 +7,7 @@ use ring_lanes::Writer;
 use ring_turns::{Ahead, TurnWith, feed_ahead};
 use std::thread::Threads;
 
-/// Makes the next rows of a feed side by side whenever none is ready, in threads that this value permits.
+/// Makes the next rows of a feed in parallel whenever none is ready, in threads that this value permits.
 #[derive(Drop)]
 pub(crate) struct Bands<'t, T> {
     pub(crate) rt: &'t T,
@@ -21,7 +21,7 @@ impl<'t, T: Threads + Sync, F: BandFeed> Ahead<F> for Bands<'t, T> {
     }
 }
 
-/// The feed of a run, with what makes its bands.
+/// The feed of a run, together with the maker of its bands.
 #[derive(Drop)]
 pub(crate) struct Banded<'t, 'f, T, F> {
     pub(crate) bands: Bands<'t, T>,

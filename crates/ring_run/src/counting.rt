@@ -23,14 +23,14 @@ impl<'p> Model for RunKeyReader<'p> {
 }
 
 impl<'p> RunKeyReader<'p> {
-    /// This key reader.
+    /// Returns a key reader of a run from this key reader.
     pub fn new(reader: KeyReader<'p>) -> RunKeyReader<'p>
         ensures { result ≡ reader.entry }
     {
         RunKeyReader { reader }
     }
 
-    /// Its counts.
+    /// Returns its counts.
     pub fn into_counts(self) -> Counts
         ensures { result ≡ self.entry.counts }
     {
@@ -56,7 +56,7 @@ impl<'r, 'p, D: Deal> TurnWith<RunKeyReader<'p>> for Reader<'r, D> {
 
     ghost turned = { λ was old is new. Counted was old is new };
 
-    /// The turn of the key reader that sits here.
+    /// Takes the turn of the key reader at this end.
     fn turn(&mut self, key: &mut RunKeyReader<'p>, patience: u32) {
         count_rows(self, &mut key.reader, patience);
     }

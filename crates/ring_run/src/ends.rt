@@ -1,4 +1,4 @@
-// The sites of a run before its first row and behind its last.
+// The sites of a run before its first row and after its last.
 ghost use Rattle.std.specs.Prelude.{◌≡◌, ◌<◌, ◌≤◌, IfOk, Some, if◌then◌else◌, length, map};
 ghost use Rattle.plan_json.specs.Plan.{IsPlan};
 ghost use Rattle.plan_rows.specs.Inks.{has_site, ink_count};
@@ -18,7 +18,7 @@ use ring_lanes::Reader;
 use site_agent::Site;
 use std::alloc::Global;
 
-/// The sites of a plan before the first row, each at its reader's end.
+/// Returns the sites of a plan before the first row, each at its reader's end.
 pub(crate) fn seats_of<'r, D: Deal>(
     alloc: Global,
     plan: &Plan,
@@ -38,7 +38,7 @@ pub(crate) fn seats_of<'r, D: Deal>(
     Ok(seats)
 }
 
-/// How the sites ended; none is told where want of memory stopped one.
+/// Returns how the sites ended. Fails if one of them ran out of memory.
 pub(crate) fn ends_of<D: Deal>(
     alloc: Global,
     plan: &Plan,
@@ -58,7 +58,7 @@ pub(crate) fn ends_of<D: Deal>(
     Ok(Outcome { sites: ends })
 }
 
-/// How a site ended, unless want of memory stopped it.
+/// Returns how a site ended, or `None` if it ran out of memory.
 fn end_at(plan: &Plan, rows: &RowPlan, index: usize, site: RunSite) -> Option<SiteEnd>
     requires plan { IsPlan plan.now }
     requires rows { rows.now ≡ rows_of plan.now }
@@ -72,7 +72,7 @@ fn end_at(plan: &Plan, rows: &RowPlan, index: usize, site: RunSite) -> Option<Si
     }
 }
 
-/// The end of a site that has all its plates.
+/// Returns the end of a site that has all its plates.
 fn finished(plan: &Plan, rows: &RowPlan, site: usize) -> SiteEnd
     requires plan { IsPlan plan.now }
     requires rows { rows.now ≡ rows_of plan.now }
@@ -86,7 +86,7 @@ fn finished(plan: &Plan, rows: &RowPlan, site: usize) -> SiteEnd
     }
 }
 
-/// How many plates a site has.
+/// Returns the number of a site's plates.
 fn plate_count(rows: &RowPlan, site: usize) -> u32
     requires { site < 16 }
     ensures { result ≡ length (plates_in rows.now.groups site) }
@@ -99,7 +99,7 @@ fn plate_count(rows: &RowPlan, site: usize) -> u32
     count
 }
 
-/// How many plates of a group a site has.
+/// Returns the number of a site's plates from a group.
 fn printed(group: &Group, site: usize) -> u32
     requires { site < 16 }
     ensures count { result ≡ (if has_site group.now site then ink_count group.now else 0) }

@@ -1,4 +1,4 @@
-// A run of a job over its ring, by a feed that has the job's rows.
+// A run of a job over its ring, by a feed of the job's rows.
 ghost use Rattle.std.specs.Prelude.{◌≡◌};
 ghost use Rattle.press_job.specs.Rows.{plate_frames};
 ghost use Rattle.ring_run.specs.JobRun.{JobLeaves, MayRun};
@@ -13,8 +13,8 @@ use press_job::{BandFeed, Job};
 use std::thread::Threads;
 use std::time::Clock;
 
-/// Delivers the plates of a job, each site's to the rack of its number, as `run` says. The key readers count
-/// the rows. All rows of the job are still to come from the feed.
+/// Delivers the plates of a job, each site's to the rack with its number, as described by `run`. The key
+/// readers count the rows. All rows of the job are still to come from the feed.
 pub fn run_fed<T: Threads + Clock + Sync, F: BandFeed + Send, R: Rack + Send>(
     rt: &T,
     run: &Run<'_>,

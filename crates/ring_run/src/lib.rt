@@ -1,6 +1,6 @@
-// The run of a job: one writer and every site, side by side over a ring, round after round. `run_fed`
-// delivers the plates of a job, whose rows a feed gives, to the racks of its sites, and answers how each site
-// ended. A key reader may count the ink keys of the plates beside them.
+// The run of a job: one writer and all sites run in parallel over a ring, round after round. `run_fed`
+// delivers the plates of a job, whose rows come from a feed, to the racks of its sites, and returns how each
+// site ended. A key reader may count the ink keys of the plates at the same time.
 #![tactic(auto)]
 
 mod all_rounds;

@@ -1,5 +1,5 @@
-// A round of a run: notes go round between the ends of the ring, and then the writer and the readers take
-// their turns, side by side.
+// A round of a run: the ends of the ring exchange notes, and then the writer and the readers take their turns
+// in parallel.
 ghost use Rattle.std.specs.Prelude.{◌≡◌, ◌<◌, length};
 ghost use Rattle.pr_rack.specs.Told.{all_told};
 ghost use Rattle.ring_turns.specs.Feeding.{MayFeed};
@@ -22,7 +22,7 @@ use ring_turns::{Pace, Pairs, turn_all};
 use std::thread::Threads;
 use std::time::Clock;
 
-/// Hands a note of each reader to the writer, also of one that has left.
+/// Hands a note of each reader to the writer, even of one that has left.
 fn tell_writer<D: Deal, E: AtEnd<D>>(writer: &mut Writer<'_, D>, ends: &mut [E])
     requires table { AreAtTable E.end writer.old ends.old }
     ensures knows { KnowsAll E.end writer.new.known ends.new }
@@ -36,7 +36,7 @@ fn tell_writer<D: Deal, E: AtEnd<D>>(writer: &mut Writer<'_, D>, ends: &mut [E])
     }
 }
 
-/// Hands a note of the writer to each reader that goes on.
+/// Hands a note of the writer to each reader that continues.
 fn tell_readers<D: Deal, E: AtEnd<D>>(writer: &mut Writer<'_, D>, ends: &mut [E])
     requires table { AreAtTable E.end writer.old ends.old }
     ensures told { AreTold E.heard writer.old ends.old ends.new }
@@ -47,7 +47,7 @@ fn tell_readers<D: Deal, E: AtEnd<D>>(writer: &mut Writer<'_, D>, ends: &mut [E]
     }
 }
 
-/// A round: afterwards fewer rows are yet to be published or to be taken, where a reader goes on.
+/// Runs a round. Where a reader continues, fewer rows are yet to be published or to be taken afterwards.
 pub(crate) fn round<T: Threads + Clock + Sync, D: Deal + Sync, F: BandFeed + Send, R: Rack + Send>(
     rt: &T,
     writer: &mut Writer<'_, D>,

@@ -1,4 +1,4 @@
-// A run over a ring, and what stays the same while it goes on.
+// A run over a ring, and what is constant during it.
 ghost use Rattle.std.specs.Prelude.{◌≡◌, ◌+◌, ◌<◌, ◌≤◌, length, map, true, IfOk};
 ghost use Rattle.tif_packbits.specs.Frame.{framed_row};
 ghost use Rattle.pr_rack.specs.Told.{all_told};
@@ -30,15 +30,15 @@ use std::alloc::Global;
 use std::thread::Threads;
 use std::time::Clock;
 
-/// A rack tells of its slots what it tells of the begun ones.
+/// States that a rack reports of its slots what it reports of the begun ones.
 fn tell_slots<R: Rack>(racks: &[R])
     ensures { AllTellSlots (all_told R.Rack racks.now) }
 {
     let _ = racks;
 }
 
-/// What doesn't change while a run goes on: its plan and the order of its rows, the folder of the plates, how
-/// many readers and places the ring has, and how often a turn looks in vain.
+/// What is constant during a run: its plan and the order of its rows, the folder of the plates, the numbers
+/// of readers and places of the ring, and how often a turn looks in vain.
 #[derive(Drop)]
 pub struct Run<'p> {
     pub alloc: Global,
@@ -59,7 +59,7 @@ struct RunEnds<'r, D: Deal> {
 }
 
 impl Run<'_> {
-    /// Round after round, and how each site ended.
+    /// Runs round after round, and returns how each site ended.
     fn run_seats<T: Threads + Clock + Sync, D: Deal + Sync, F: BandFeed + Send, R: Rack + Send>(
         &self,
         rt: &T,
@@ -99,7 +99,7 @@ impl Run<'_> {
         ends_of(self.alloc, self.plan, self.rows, seats)
     }
 
-    /// The same over a ring whose ends are still there.
+    /// Does the same over a ring whose ends haven't been handed out yet.
     fn run_on<T: Threads + Clock + Sync, D: Deal + Sync, F: BandFeed + Send, R: Rack + Send>(
         &self,
         rt: &T,
@@ -140,7 +140,8 @@ impl Run<'_> {
     }
 
     /// Delivers the rows of a deal, which the feed gives in order, to the racks of the plan's sites, over a
-    /// ring, and tells how each site ended. The key readers have the ring's last readers and count all rows.
+    /// ring, and returns how each site ended. The key readers have the ring's last readers and count all
+    /// rows.
     pub(crate) fn run_rows<
         T: Threads + Clock + Sync,
         D: Deal + Sync,
@@ -173,7 +174,7 @@ impl Run<'_> {
             (ring_of self.now.ring self.now.readers (D.rows deal.now) (D.size deal.now)) keys.old keys.new) }
     {
         let row_len = deal.row_len();
-        // A row's number is far below the word of a reader that left.
+        // A row's number is far below the word that marks a reader that left.
         let total = self.rows.total();
         prove!(total < u64::MAX);
         let mut table = open_ring(self.alloc, deal, self.ring, self.readers)?;

@@ -11,7 +11,7 @@ use ring_lanes::{CursorNote, Reader, Writer};
 use ring_turns::TurnWith;
 use std::marker::Model;
 
-/// A site of a run at its reader's end of the ring. Contracts see the end, and how far the site is.
+/// A site of a run at its reader's end of the ring. Contracts see the end and the site's progress.
 #[derive(Drop)]
 pub(crate) struct Seat<'r, D: Deal> {
     reader: Reader<'r, D>,

@@ -1,4 +1,4 @@
-// Whether a run goes on, by its sites and its further readers at their ends.
+// Whether a run continues, by its sites and its further readers at their ends.
 ghost use Rattle.std.specs.Prelude.{◌≡◌};
 ghost use Rattle.std.specs.List.{list_any};
 ghost use Rattle.ring_run.specs.Seat.{are_going as are_going_lem, is_going, is_stopped};
@@ -8,7 +8,7 @@ use crate::seat::Seat;
 use pr_base::Deal;
 use ring_lanes::Reader;
 
-/// Whether some reader goes on, a site's or a further one, and no site was stopped.
+/// Returns whether some reader continues, a site's or a further one, and no site ran out of memory.
 pub(crate) fn are_going<D: Deal>(seats: &[Seat<'_, D>], more: &[Reader<'_, D>]) -> bool
     ensures { result ≡ are_going_lem seats.now more.now }
 {
@@ -17,14 +17,14 @@ pub(crate) fn are_going<D: Deal>(seats: &[Seat<'_, D>], more: &[Reader<'_, D>]) 
     going && !stopped
 }
 
-/// Whether some of these readers goes on.
+/// Returns whether some of these readers continues.
 fn some_going<D: Deal, E: AtEnd<D>>(ends: &[E]) -> bool
     ensures { result ≡ list_any (λ it. is_going (E.end it)) ends.now }
 {
     ends.iter().any(|end| end.goes_on())
 }
 
-/// Whether want of memory stopped some site.
+/// Returns whether some site ran out of memory.
 fn some_stopped<D: Deal>(seats: &[Seat<'_, D>]) -> bool
     ensures { result ≡ list_any (λ seat. is_stopped seat.site) seats.now }
 {

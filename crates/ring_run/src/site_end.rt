@@ -5,7 +5,7 @@ use site_agent::LeftCause;
 /// How a site ended.
 #[derive(Debug, PartialEq, Eq, Drop)]
 pub enum SiteEnd {
-    /// All its plates are finished: so many of them, of so many rows together.
+    /// All its plates are finished: `plates` of them, of `rows` rows in total.
     Finished { plates: u32, rows: u64 },
     /// A call of its rack failed.
     Left(LeftCause),
