@@ -15,7 +15,7 @@ pub data Command : Type 0 where
   Run : Edition → Command
   -- as `run`, with the counts of this many ink keys of each plate
   Keys : Edition → ℕ → Command
-  -- the generated job with this number, over a ring with this many slots, with this patience
+  -- the generated job with this number, over a ring of this many places, with this patience
   Drill : ℕ → ℕ → ℕ → Command
   -- whether the stored plates are those of an edition
   Verify : Asked → Command
@@ -32,7 +32,7 @@ one_of [] = None
 one_of (file ∷ []) = if is_given file then Some (One file) else None
 one_of (file ∷ word ∷ words) = None
 
--- the last arguments of a run or a drill: the number of slots in the ring and the patience, by default 64 and
+-- the last arguments of a run or a drill: the number of places of the ring and the patience, by default 64 and
 -- 1024
 abbrev pub numbers_of : List (List ℕ) → Option (ℕ × ℕ)
 numbers_of [] = Some (64, 1024)

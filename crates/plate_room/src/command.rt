@@ -188,7 +188,7 @@ fn drill_of(words: &[String]) -> Option<Drill>
     })
 }
 
-/// Parses the last arguments of a run or a drill: the number of slots in the ring, and the patience.
+/// Parses the last arguments of a run or a drill: the number of places of the ring, and the patience.
 fn numbers_of(words: &[String]) -> Option<(u32, u32)>
     ensures meant { result ≡ numbers_meant (words_of words.now) }
     ensures ring { IfSome result (λ numbers. IsWithin 1 1024 numbers.0) }

@@ -75,8 +75,8 @@ pub fn plate_main<T: Threads + Clock + Sync, H: Shelf, R: Rack + Send, S: Sink, 
     ensures verdict_there { IsToldThere (words_of words.now)
         (shelf_seen H.Shelf shelf.old shelf.new) result }
 
-    // Status 7: `out` or `note` failed. If `out` failed, the command produced everything but its complete text,
-    // which it writes last.
+    // Status 7: `out` or `note` failed. If `out` failed, the command produced everything but its complete
+    // text, which it writes last.
     ensures printing { result ≡ 7 →
         IsUnprinted R.Rack (words_of words.now) (shelf_seen H.Shelf shelf.old shelf.new)
         racks.old racks.new (sink_seen S.Sink out.old out.new)
