@@ -32,8 +32,8 @@ one_of [] = None
 one_of (file ∷ []) = if is_given file then Some (One file) else None
 one_of (file ∷ word ∷ words) = None
 
--- the last arguments of a run or a drill: the number of places of the ring and the patience, by default 64 and
--- 1024
+-- the last arguments of a run or a drill: the number of places of the ring and the patience, by default
+-- 64 and 1024
 abbrev pub numbers_of : List (List ℕ) → Option (ℕ × ℕ)
 numbers_of [] = Some (64, 1024)
 numbers_of (ring ∷ []) = option_map (λ places. (places, 1024)) (number_within 1 1024 ring)
