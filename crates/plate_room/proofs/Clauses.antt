@@ -269,7 +269,7 @@ module _ {R : Type 0} (g : Ghosts R) (seen : Seen R) (note : SinkSeen) (status :
   printing_out (Wanted st broken line) files is pass calm h = absurd (six_or_seven status st h)
   printing_out (NotPrinted st spoilt same) files is pass calm h = spoilt.rose
 
-  -- ---- what doesn't change
+  -- ---- racks and output
 
   -- a command that was cut short left racks and output unchanged, or its verdict is a pass
   broken_stays : (files : Files) → seen.shelf.held ≡ Some files → (verdict_of seen.words files ≡ None → ⊥)
