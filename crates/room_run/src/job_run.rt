@@ -17,7 +17,7 @@ use std::time::Clock;
 
 /// Delivers the plates of a job, those of each site to the rack with its number, with paths below the folder
 /// `out`. A site whose rack fails drops out, and the others continue. The rows pass from one writer to the
-/// sites through a ring of `ring` places. Writer and sites work in parallel, in rounds; in its turn of a
+/// sites through a ring of `ring` places. Writer and sites work concurrently, in rounds; in its turn of a
 /// round each looks at most `patience` times for a row or a place without finding one. Sites that share a
 /// thread do so together.
 pub fn run_job<T: Threads + Clock + Sync, R: Rack + Send>(
@@ -41,7 +41,8 @@ pub fn run_job<T: Threads + Clock + Sync, R: Rack + Send>(
     ensures part { OnErr result (RunPart
         (by_job job.now out.now (length job.now.plan.sites) ring)
         (all_told R.Rack racks.old) (all_told R.Rack racks.new)) }
-    // What doesn't change of the racks, whatever the result.
+    // Whatever the result: the racks' counts of failures never decrease, and the racks after the last site's
+    // are unchanged.
     ensures counts { KeepCounts (all_told R.Rack racks.old) (all_told R.Rack racks.new) }
     ensures others { drop (length job.now.plan.sites) racks.new ≡ drop (length job.now.plan.sites) racks.old }
 {

@@ -49,7 +49,8 @@ pub fn run_keys<T: Threads + Clock + Sync, R: Rack + Send>(
     ensures part { OnErr result (RunPart
         (by_job job.now out.now (length job.now.plan.sites + 1) ring)
         (all_told R.Rack racks.old) (all_told R.Rack racks.new)) }
-    // What doesn't change of the racks, whatever the result.
+    // Whatever the result: the racks' counts of failures never decrease, and the racks after the last site's
+    // are unchanged.
     ensures counts { KeepCounts (all_told R.Rack racks.old) (all_told R.Rack racks.new) }
     ensures others { drop (length job.now.plan.sites) racks.new ≡ drop (length job.now.plan.sites) racks.old }
 {
