@@ -1,4 +1,4 @@
--- What each way to end says of the clauses of `plate_main`.
+-- What each way to end implies for the clauses of `plate_main`.
 use Rattle.std.proofs.Common.{◌≡◌, ◌≢◌, ◌⊎◌, ℕ, List, [], Option, Some, None, IfSome, refl, sym, subst, ◌∙◌, ap, inl, inr, arith}
 use Rattle.pr_ports.specs.Sink.{Grew}
 use Rattle.pr_rack.specs.declared.rack.Rack.{Ghosts}
@@ -42,21 +42,21 @@ refused_or_cut status refused cut = grind arith
 six_or_seven : (status : ℕ) → status ≡ 6 → status ≡ 7 → ⊥
 six_or_seven status six seven = omega arith
 
--- words that are no command aren't one
+-- arguments that aren't a command aren't this command either
 none_asked : (words : List (List ℕ)) (command : Command) → command_of words ≡ None → command_of words ≡ Some command → ⊥
 none_asked words command none asked = let e : None ≡ Some command = sym none ∙ asked in cc
 
--- P of the files that a shelf tells
+-- P holds of the files, where the shelf's files are known
 told : (held : Option Files) (P : Files → Type 0) → ((files : Files) → held ≡ Some files → P files) → IfSome held P
 told None P f = tt
 told (Some files) P f = f files refl
 
--- the verdict on a command line that is a command
+-- the verdict on a command line, where it is this command
 asked_is : (words : List (List ℕ)) (files : Files) (command : Command) → command_of words ≡ Some command
     → verdict_of words files ≡ verdict_for (Some command) files
 asked_is words files command asked = ap (λ c. verdict_for c files) asked
 
--- a refusal with this status was met, and its line told
+-- a refusal with this status was met, and its line was reported
 pub record HasRefused {R : Type 0} (seen : Seen R) (note : SinkSeen) (status : ℕ) : Type 0 where
   pub refusal : Refusal
   pub is : status ≡ status_of refusal
@@ -64,14 +64,14 @@ pub record HasRefused {R : Type 0} (seen : Seen R) (note : SinkSeen) (status : �
   pub line : Grew note.given note.given' (line_of refusal)
 
 module _ {R : Type 0} (g : Ghosts R) (seen : Seen R) where
-  -- a command that is done passes
+  -- the verdict on a command that is done is a pass
   done_passes : (files : Files) (status : ℕ) → seen.shelf.held ≡ Some files
       → IsDone g seen.words seen.shelf seen.racks seen.racks' seen.out status → verdict_of seen.words files ≡ None
   done_passes files status is done =
       asked_is seen.words files done.command done.asked
       ∙ (owes g done.command).prints files seen.shelf seen.racks seen.racks' done.made.text status is done.made.prints
 
-  -- so does one of whose text a front was printed
+  -- the verdict is a pass also where a prefix of the text was printed
   front_passes : (files : Files) (command : Command) → seen.shelf.held ≡ Some files → command_of seen.words ≡ Some command
       → PrintsFront (makes_of g command) seen.shelf seen.racks seen.racks' seen.out → verdict_of seen.words files ≡ None
   front_passes files command is asked front =
@@ -171,7 +171,7 @@ module _ {R : Type 0} (g : Ghosts R) (seen : Seen R) (note : SinkSeen) (status :
   pub refused_out : Ending g seen note status → IsRefusal status → IsSilent seen.out
   refused_out e h = (refused_at e h).stopped.silent
 
-  -- words that met the refusal of no command are none
+  -- arguments that met the refusal with status 2 aren't a command
   no_command : (refusal : Refusal) → status_of refusal ≡ 2 → Meets seen.words seen.shelf refusal → command_of seen.words ≡ None
   no_command refusal is (inl (none, r, same)) = none
   no_command refusal is (inr (command, asked, met)) = absurd ((owes g command).known seen.shelf refusal met is)
@@ -180,7 +180,7 @@ module _ {R : Type 0} (g : Ghosts R) (seen : Seen R) (note : SinkSeen) (status :
   words_none e h =
       let r = refused_at e (inl h) in no_command r.refusal (sym r.is ∙ h) r.stopped.met
 
-  -- words that are no command met that refusal alone
+  -- arguments that aren't a command met that refusal alone
   none_met : (refusal : Refusal) → command_of seen.words ≡ None → Meets seen.words seen.shelf refusal
       → (refusal ≡ Words) × IsUntouched seen.shelf
   none_met refusal none (inl (n, is, same)) = (is, same)
@@ -220,7 +220,7 @@ module _ {R : Type 0} (g : Ghosts R) (seen : Seen R) (note : SinkSeen) (status :
     by (inl verdict) = record { refusal = r.refusal; verdict = verdict; is = sym r.is; line = r.line }
     by (inr (five, failed)) = absurd (other (r.is ∙ five))
 
-  -- where no load failed a refusal that was met is the verdict
+  -- if no load failed, a refusal that was met is the verdict
   calm_verdict : (files : Files) (refusal : Refusal) → seen.shelf.held ≡ Some files → (LoadFailed seen.shelf → ⊥)
       → IsStopped seen refusal → verdict_of seen.words files ≡ Some refusal
   calm_verdict files refusal is calm stopped = elim (verdict_met files refusal is stopped) [
@@ -243,7 +243,7 @@ module _ {R : Type 0} (g : Ghosts R) (seen : Seen R) (note : SinkSeen) (status :
   verdict_there (Wanted st broken line) files is refusal verdict calm = inr (inl st)
   verdict_there (NotPrinted st spoilt same) files is refusal verdict calm = inr (inr st)
 
-  -- a refusal isn't met where nothing is wrong and no load failed
+  -- no refusal is met if the verdict is a pass and no load failed
   none_wrong : (files : Files) (refusal : Refusal) → seen.shelf.held ≡ Some files → verdict_of seen.words files ≡ None
       → (LoadFailed seen.shelf → ⊥) → IsStopped seen refusal → ⊥
   none_wrong files refusal is pass calm stopped =
@@ -269,9 +269,9 @@ module _ {R : Type 0} (g : Ghosts R) (seen : Seen R) (note : SinkSeen) (status :
   printing_out (Wanted st broken line) files is pass calm h = absurd (six_or_seven status st h)
   printing_out (NotPrinted st spoilt same) files is pass calm h = spoilt.rose
 
-  -- ---- what stands
+  -- ---- racks and output
 
-  -- a part of a command left racks and output as they were, or its verdict is pass
+  -- a command that was cut short left racks and output unchanged, or its verdict is a pass
   broken_stays : (files : Files) → seen.shelf.held ≡ Some files → (verdict_of seen.words files ≡ None → ⊥)
       → IsCut g seen.words seen.shelf seen.racks seen.racks' seen.out
       → (seen.racks' ≡ seen.racks) × (seen.out.given' ≡ seen.out.given)
@@ -331,7 +331,7 @@ module _ {R : Type 0} (g : Ghosts R) (seen : Seen R) (note : SinkSeen) (status :
   drill_status (Wanted is broken front) drill = inr (inl is)
   drill_status (NotPrinted is spoilt same) drill = inr (inr is)
 
-  -- ---- a look at plates
+  -- ---- a verification
 
   pub look_never_one : Ending g seen note status → AsksVerify (command_of seen.words) → status ≢ 1
   look_never_one e look h =
@@ -339,7 +339,7 @@ module _ {R : Type 0} (g : Ghosts R) (seen : Seen R) (note : SinkSeen) (status :
       look_not_one g seen.shelf seen.racks seen.racks' done.made.text status done.command
       (subst AsksVerify done.asked look) done.made.prints h
 
-  -- what a look that was cut short left of the racks
+  -- the racks after a verification that was cut short
   look_cut : AsksVerify (command_of seen.words) → IsCut g seen.words seen.shelf seen.racks seen.racks' seen.out
       → seen.racks' ≡ seen.racks
   look_cut look (inl same) = same.0

@@ -1,4 +1,4 @@
--- Numbers among the words of a command line.
+-- Numbers among the arguments of a command line.
 use Rattle.std.proofs.Common.{◌≡◌, ◌≤◌, ◌<◌, ℕ, ◌^◌, ◌&&◌, ◌==◌, not, Bool, true, false, nat_le, if◌then◌else◌, List, [], ◌∷◌, length, Some, None, Result, Ok, Err, refl, sym, subst, inl, inr, arith, rules}
 use Rattle.std.proofs.lemmas.Bool.Decides.{nat_tests}
 use Rattle.std.proofs.lemmas.Bool.{and_parts}
@@ -9,18 +9,18 @@ use Rattle.std.specs.Result.{OkIff}
 use Rattle.std.proofs.lemmas.Str.Parse.{IsNumeralModel, numerals_by_fold, parse_digits}
 use Rattle.plate_room.specs.Number.{value_behind, is_number, number_within, IsValue}
 
--- digits and their value, in the words of std
+-- digits and their value, in the terms of std
 own : IsNumeralModel (λ ds. list_all is_ascii_digit ds ≡ true) (value_behind 0)
 own = numerals_by_fold _ (search rules) value_behind (search rules)
 
--- a number is made of digits, one at least
+-- a number consists of digits, at least one
 digits_of : (word : List ℕ) → is_number word ≡ true → (list_all is_ascii_digit word ≡ true) × (0 < length word)
 digits_of [] h = absurd cc
 digits_of (digit ∷ []) h = (h, omega arith)
 digits_of (digit ∷ next ∷ digits) h =
     ((and_parts (not (digit == 48)) (list_all is_ascii_digit (digit ∷ next ∷ digits)) h).1, omega arith)
 
--- what parsing says of a number, at each answer
+-- what a parse result implies for a number, case by case
 pub value_ok : (E : Type 0) (word : List ℕ) (r : Result ℕ E) (n : ℕ) → is_number word ≡ true
     → ParsesUnsigned 32 10 word r → r ≡ Ok n → n ≡ value_behind 0 word
 value_ok E word r n is h e =
@@ -36,7 +36,7 @@ value_err E word r e is h at =
     let none : value_behind 0 word < 2 ^ 32 → ⊥ = λ less. (subst P at (parse_digits own 32 word r h digits.0)) (digits.1, less) in
     grind (arith, none)
 
--- a number within the bounds, and one beyond them
+-- a number within the bounds, and one outside them
 pub within_some : (word : List ℕ) (least most n : ℕ) → IsValue word (Some n) → least ≤ n → n ≤ most
     → Some n ≡ number_within least most word
 unfolding number_within

@@ -1,4 +1,4 @@
--- What all commands owe: a line for each.
+-- The obligations of all commands, with one case for each command.
 use Rattle.std.proofs.Common.{◌≡◌, ◌⊎◌, ℕ, List, Some, arith}
 use Rattle.pr_rack.specs.declared.rack.Rack.{Ghosts}
 use Rattle.room_base.specs.declared.refusal.Refusal.{Refusal}
@@ -42,7 +42,7 @@ module _ {R : Type 0} (g : Ghosts R) (shelf : ShelfSeen) (racks racks' : List R)
   drill_zero (Verify asked) drill made = absurd drill
   drill_zero (Replate change) drill made = absurd drill
 
-  -- what ends with 8 is a look at plates
+  -- a command that ends with 8 is a verification
   pub eight_looks : (command : Command) → (makes_of g command).Prints shelf racks racks' text status → status ≡ 8
       → AsksVerify (Some command)
   eight_looks (One file) made is = absurd (let zero = made.0.zero in omega arith)
@@ -60,7 +60,7 @@ module _ {R : Type 0} (g : Ghosts R) (shelf : ShelfSeen) (racks racks' : List R)
     by : (status ≡ 0) ⊎ (status ≡ 1) → ⊥
     by h = grind arith
 
-  -- and that never ends with 1
+  -- a verification never ends with 1
   pub look_not_one : (command : Command) → AsksVerify (Some command)
       → (makes_of g command).Prints shelf racks racks' text status → status ≡ 1 → ⊥
   look_not_one (One file) look made is = look
@@ -72,7 +72,7 @@ module _ {R : Type 0} (g : Ghosts R) (shelf : ShelfSeen) (racks racks' : List R)
     by : (status ≡ 0) ⊎ (status ≡ 8) → ⊥
     by h = grind arith
 
-  -- it leaves the racks
+  -- a verification doesn't change the racks
   pub look_leaves : (command : Command) → AsksVerify (Some command)
       → (makes_of g command).Prints shelf racks racks' text status → racks' ≡ racks
   look_leaves (One file) look made = absurd look
@@ -82,7 +82,7 @@ module _ {R : Type 0} (g : Ghosts R) (shelf : ShelfSeen) (racks racks' : List R)
   look_leaves (Verify asked) look made = made.1
   look_leaves (Replate change) look made = absurd look
 
-  -- nor does it begin anything
+  -- a verification never begins to produce anything
   pub look_begins : (command : Command) → AsksVerify (Some command) → (makes_of g command).Begins shelf racks racks' → ⊥
   look_begins (One file) look begun = begun
   look_begins (Run edition) look begun = look

@@ -1,4 +1,4 @@
--- How a run ends, from what its steps leave.
+-- How a run ends, derived from the contracts of its steps.
 use Rattle.std.proofs.Common.{◌≡◌, ℕ, Some, Result, Ok, Err, OnOk, inl, inr}
 use Rattle.pr_rack.specs.declared.rack.Rack.{Ghosts}
 use Rattle.room_base.specs.declared.refusal.Refusal.{Refusal}
@@ -18,14 +18,14 @@ tell_end g seen note status refusal (inl (is, grew)) stopped = Refused refusal i
 tell_end g seen note status refusal (inr (inl (is, rose, front))) stopped = NotNoted refusal is stopped rose front
 tell_end g seen note status refusal (inr (inr (is, two))) stopped = Untold refusal is stopped two
 
--- a run whose command wasn't done
+-- a run whose command didn't end with a status
 pub ends : {R : Type 0} (g : Ghosts R) (seen : Seen R) (note : SinkSeen) (why : Stop) (status : ℕ)
     → Answered g seen (Err why) → TellsStop why note status → Ending g seen note status
 ends g seen note (stop.Refused refusal) status stopped told = tell_end g seen note status refusal told stopped
 ends g seen note stop.Memory status broken (is, front) = Wanted is broken front
 ends g seen note stop.Printing status spoilt (is, same) = NotPrinted is spoilt same
 
--- what a command leaves, of words that are this command
+-- the state after a command, where the arguments are this command
 pub answered : {R : Type 0} (g : Ghosts R) (seen : Seen R) (command : Command) (result : Result ℕ Stop)
     → command_of seen.words ≡ Some command → OnOk result (seen.shelf.missed' ≡ seen.shelf.missed)
     → Answers (rules_of command) (makes_of g command) seen.shelf seen.racks seen.racks' seen.out result
@@ -41,7 +41,7 @@ answered g seen command (Err stop.Memory) asked missed (inr part) =
 answered g seen command (Err stop.Printing) asked missed (front, rose) =
     record { command = command; asked = asked; made = front; rose = rose }
 
--- what holds anyway holds of an answer that is good
+-- what holds unconditionally holds for an `Ok` result
 pub on_any : (P : Type 0) (result : Result ℕ Stop) → P → OnOk result P
 on_any P (Ok status) p = p
 on_any P (Err why) p = tt

@@ -1,4 +1,4 @@
--- What the code's words are. These are the contracts of private calls.
+-- How the code's types correspond to the specification's. These are the contracts of private functions.
 use Rattle.std.specs.Prelude.{◌≡◌, Option, Some, None}
 use Rattle.pr_base.specs.Number.{IsWithin}
 use Rattle.plate_room.specs.Command as line
@@ -17,12 +17,12 @@ pub record HasNumbers (edition : Edition) : Type 0 where
   pub ring : IsWithin 1 1024 edition.ring
   pub patience : IsWithin 1 65536 edition.patience
 
--- so are those of a drill
+-- the numbers of a drill are in their ranges
 pub record HasTurns (drill : Drill) : Type 0 where
   pub ring : IsWithin 1 1024 drill.ring
   pub patience : IsWithin 1 65536 drill.patience
 
--- so are those of a command
+-- the numbers of a command are in their ranges
 abbrev pub IfRun : Option asked_type.Command → Type 0
 IfRun None = Unit {0}
 IfRun (Some (asked.One file)) = Unit {0}
@@ -32,11 +32,11 @@ IfRun (Some (asked.Drill drill)) = HasTurns drill
 IfRun (Some (asked.Verify asked')) = Unit {0}
 IfRun (Some (asked.Replate change)) = Unit {0}
 
--- what the words of a drill are
+-- the command of the specification that a drill of the code stands for
 abbrev pub drill_told : Drill → line.Command
 drill_told drill = line.Drill drill.number drill.ring drill.patience
 
--- the code's command is this one
+-- the code's command is this one of the specification
 abbrev pub IsCommand : Option asked_type.Command → Option line.Command → Type 0
 IsCommand None meant = meant ≡ None
 IsCommand (Some (asked.One file)) meant = meant ≡ Some (line.One file.now)
@@ -46,22 +46,22 @@ IsCommand (Some (asked.Drill drill)) meant = meant ≡ Some (drill_told drill)
 IsCommand (Some (asked.Verify asked')) meant = meant ≡ Some (line.Verify (asked_told asked'))
 IsCommand (Some (asked.Replate change)) meant = meant ≡ Some (line.Replate (change_told change))
 
--- the code's edition is this one
+-- the code's edition is this one of the specification
 abbrev pub IsEdition : Option Edition → Option EditionMeant → Type 0
 IsEdition None meant = meant ≡ None
 IsEdition (Some edition) meant = meant ≡ Some (edition_told edition)
 
--- the code's drill is this command
+-- the code's drill is this command of the specification
 abbrev pub IsDrill : Option Drill → Option line.Command → Type 0
 IsDrill None meant = meant ≡ None
 IsDrill (Some drill) meant = meant ≡ Some (drill_told drill)
 
--- what the code asks of plates is this
+-- the code's verification is this one of the specification
 abbrev pub IsAskedFor : Option Asked → Option AskedMeant → Type 0
 IsAskedFor None meant = meant ≡ None
 IsAskedFor (Some asked') meant = meant ≡ Some (asked_told asked')
 
--- the code's change is this one
+-- the code's change is this one of the specification
 abbrev pub IsChange : Option Change → Option ChangeMeant → Type 0
 IsChange None meant = meant ≡ None
 IsChange (Some change) meant = meant ≡ Some (change_told change)

@@ -1,4 +1,4 @@
--- How a command may end, in the words of the contract of `plate_main`.
+-- How a command may end, as the contract of `plate_main` states it.
 use Rattle.std.specs.Prelude.{◌≡◌, ℕ, ◌⊎◌, List, [], Some, None}
 use Rattle.pr_ports.specs.Sink.{Grew, GrewByPrefix}
 use Rattle.pr_rack.specs.declared.rack.Rack.{Ghosts}
@@ -10,49 +10,49 @@ use Rattle.room_base.specs.Seen.{Files, LoadFailed, PutFailed, RackFailed, Shelf
 use Rattle.room_base.specs.Note.{GrewByTwo}
 use Rattle.room_base.specs.Status.{IsCutShort}
 
--- the note took the whole line of a refusal with this status, which the words met
+-- the note received the complete line of a refusal that has this status and that the arguments met
 pub record Tells (words : List (List ℕ)) (shelf : ShelfSeen) (note : SinkSeen) (status : ℕ) : Type 0 where
   pub refusal : Refusal
   pub is : status_of refusal ≡ status
   pub met : Meets words shelf refusal
   pub line : Grew note.given note.given' (line_of refusal)
 
--- the verdict is a refusal with this status, and the note took its whole line
+-- the verdict is a refusal with this status, and the note received its complete line
 pub record TellsVerdict (words : List (List ℕ)) (files : Files) (note : SinkSeen) (status : ℕ) : Type 0 where
   pub refusal : Refusal
   pub verdict : verdict_of words files ≡ Some refusal
   pub is : status_of refusal ≡ status
   pub line : Grew note.given note.given' (line_of refusal)
 
--- a line that a command which was cut short may have begun to tell: that of the refusal that it met, or none
+-- the line that a command which was cut short may have begun to write: that of the refusal it met, or none
 abbrev pub MayTell : List (List ℕ) → ShelfSeen → List ℕ → Type 0
 MayTell words shelf line =
     (line ≡ []) ⊎ ((refusal : Refusal) × Meets words shelf refusal × (line ≡ line_of refusal))
 
--- the note took a front of such a line, and then a front of the line on memory
+-- the note received a prefix of such a line, then a prefix of the out-of-memory line
 abbrev pub TellsOfMemory : List (List ℕ) → ShelfSeen → SinkSeen → Type 0
 TellsOfMemory words shelf note =
     (line : List ℕ) × MayTell words shelf line × GrewByTwo note.given note.given' line memory_line
 
--- the note took a front of such a line
+-- the note received a prefix of such a line
 abbrev pub TellsPart : List (List ℕ) → ShelfSeen → SinkSeen → Type 0
 TellsPart words shelf note =
     (line : List ℕ) × MayTell words shelf line × GrewByPrefix note.given note.given' line
 
--- ---- where a shelf tells its files
+-- ---- where the files of the shelf are known
 
--- where no load failed the verdict is told, unless the command was cut short
+-- if no load failed, a verdict that refuses is reported unless the command was cut short
 abbrev pub IsToldThere : List (List ℕ) → ShelfSeen → ℕ → Type 0
 IsToldThere words shelf status = (files : Files) → shelf.held ≡ Some files
     → (refusal : Refusal) → verdict_of words files ≡ Some refusal
     → (LoadFailed shelf → ⊥) → (status ≡ status_of refusal) ⊎ IsCutShort status
 
--- where nothing is wrong and no load failed, 7 says that the output failed
+-- if the verdict is a pass and no load failed, status 7 means that the output failed
 abbrev pub FailsByOut : List (List ℕ) → ShelfSeen → SinkSeen → ℕ → Type 0
 FailsByOut words shelf out status = (files : Files) → shelf.held ≡ Some files
     → verdict_of words files ≡ None → (LoadFailed shelf → ⊥) → status ≡ 7 → PutFailed out
 
--- no load failed, no call of a rack, and no write to the output or to the note
+-- no load, no call of a rack and no write to the output or the note failed
 pub record NoneFailed {R : Type 0} (g : Ghosts R) (shelf : ShelfSeen) (racks racks' : List R)
     (out note : SinkSeen) : Type 0 where
   pub loads : LoadFailed shelf → ⊥
@@ -60,7 +60,7 @@ pub record NoneFailed {R : Type 0} (g : Ghosts R) (shelf : ShelfSeen) (racks rac
   pub output : PutFailed out → ⊥
   pub notes : PutFailed note → ⊥
 
--- where nothing is wrong and nothing fails, the command ends with its own status or memory was wanted
+-- if the verdict is a pass and nothing fails, the command ends with its own status or with 6 (out of memory)
 abbrev pub IsComplete : {R : Type 0} → Ghosts R → List (List ℕ) → ShelfSeen → List R → List R → SinkSeen
     → SinkSeen → ℕ → Type 0
 IsComplete g words shelf racks racks' out note status = (files : Files) → shelf.held ≡ Some files

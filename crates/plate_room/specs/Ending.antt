@@ -1,4 +1,4 @@
--- How a run of `plate_main` ends. This is the contract of a private call.
+-- How a run of `plate_main` ends. This is the contract of a private function.
 use Rattle.std.specs.Prelude.{◌≡◌, ℕ, List, Some, Result, Ok, Err}
 use Rattle.pr_ports.specs.Sink.{Grew, GrewByPrefix}
 use Rattle.pr_rack.specs.declared.rack.Rack.{Ghosts}
@@ -12,11 +12,11 @@ use Rattle.plate_room.specs.Tasks.{IsCut, IsDone, IsUnprinted, Meets}
 use Rattle.room_base.specs.Note.{GrewByTwo}
 use Rattle.room_base.specs.Seen.{Seen, ShelfSeen, SinkSeen, IsSilent, PutFailed}
 
--- the words are a command
+-- the arguments are a command
 abbrev pub IsAsked : List (List ℕ) → Type 0
 IsAsked words = (command : Command) × (command_of words ≡ Some command)
 
--- what a command saw
+-- the state that a command observes
 abbrev pub seen_of : {R : Type 0} → List (List ℕ) → ShelfSeen → List R → List R → SinkSeen → Seen R
 seen_of words shelf racks racks' out = record {
   words = words;
@@ -26,28 +26,28 @@ seen_of words shelf racks racks' out = record {
   out = out;
 }
 
--- the command met a refusal, and made nothing
+-- the command met a refusal, and produced nothing
 pub record IsStopped {R : Type 0} (seen : Seen R) (refusal : Refusal) : Type 0 where
   pub met : Meets seen.words seen.shelf refusal
   pub racks : seen.racks' ≡ seen.racks
   pub silent : IsSilent seen.out
 
 module _ {R : Type 0} (g : Ghosts R) where
-  -- the command is done, and no load failed that the shelf tells of
+  -- the command is done, and the shelf counted no failed load
   pub record IsFinished (seen : Seen R) (status : ℕ) : Type 0 where
     pub made : IsDone g seen.words seen.shelf seen.racks seen.racks' seen.out status
     pub missed : seen.shelf.missed' ≡ seen.shelf.missed
 
-  -- a part of a command was done
+  -- the command was cut short
   pub record IsBroken (seen : Seen R) : Type 0 where
     pub asked : IsAsked seen.words
     pub cut : IsCut g seen.words seen.shelf seen.racks seen.racks' seen.out
 
-  -- a command was done but for its text
+  -- the command produced everything but its complete text
   abbrev pub IsSpoilt : Seen R → Type 0
   IsSpoilt seen = IsUnprinted g seen.words seen.shelf seen.racks seen.racks' seen.out
 
-  -- what a command leaves
+  -- the state after a command, by its result
   abbrev pub Answered : Seen R → Result ℕ Stop → Type 0
   Answered seen (Ok status) = IsFinished seen status
   Answered seen (Err (stop.Refused refusal)) = IsStopped seen refusal
@@ -58,13 +58,13 @@ module _ {R : Type 0} (g : Ghosts R) where
     Done : IsFinished seen status → IsSilent note → Ending seen note status
     Refused : (refusal : Refusal) → status ≡ status_of refusal → IsStopped seen refusal
         → Grew note.given note.given' (line_of refusal) → Ending seen note status
-    -- memory was wanted to tell of a refusal
+    -- memory ran out while the refusal was reported
     Untold : (refusal : Refusal) → status ≡ 6 → IsStopped seen refusal
         → GrewByTwo note.given note.given' (line_of refusal) memory_line → Ending seen note status
     -- the note failed
     NotNoted : (refusal : Refusal) → status ≡ 7 → IsStopped seen refusal → PutFailed note
         → GrewByPrefix note.given note.given' (line_of refusal) → Ending seen note status
-    -- memory was wanted
+    -- memory ran out in the command
     Wanted : status ≡ 6 → IsBroken seen → GrewByPrefix note.given note.given' memory_line
         → Ending seen note status
     -- the output failed

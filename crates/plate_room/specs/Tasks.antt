@@ -1,4 +1,4 @@
--- All commands: what each asks and makes, and what that says of a call.
+-- All commands: the rules of each, what it produces, and what a call therefore satisfies.
 use Rattle.std.specs.Prelude.{◌≡◌, ℕ, ◌⊎◌, List, Option, Some, None}
 use Rattle.pr_rack.specs.declared.rack.Rack.{Ghosts}
 use Rattle.room_base.specs.declared.refusal.Refusal.{Refusal}
@@ -13,7 +13,7 @@ use Rattle.room_one.specs.OneFile.{PrintsPlate, one_rules}
 use Rattle.room_base.specs.Seen.{Files, IsUntouched, PutFailed, ShelfSeen, SinkSeen}
 use Rattle.room_base.specs.Task.{IsNothing, IsPart, Makes, PrintsFront, PrintsWhole, Rules, telling}
 
--- what a command asks
+-- the rules of a command
 abbrev pub rules_of : Command → Rules
 rules_of (One file) = one_rules file
 rules_of (Run edition) = run_rules edition
@@ -22,7 +22,8 @@ rules_of (Drill number ring patience) = drill_rules
 rules_of (Verify asked) = check_rules asked
 rules_of (Replate change) = change_rules change
 
--- words meet this refusal: they are no command, and nothing is loaded, or they are one that meets it
+-- the arguments meet this refusal: either they aren't a command, and nothing is loaded, or their command
+-- meets it
 abbrev pub Meets : List (List ℕ) → ShelfSeen → Refusal → Type 0
 Meets words shelf refusal =
     ((command_of words ≡ None) × (refusal ≡ refused.Words) × IsUntouched shelf)
@@ -37,14 +38,14 @@ verdict_for (Some command) files = (rules_of command).verdict files
 abbrev pub verdict_of : List (List ℕ) → Files → Option Refusal
 verdict_of words files = verdict_for (command_of words) files
 
--- words are a command that ends with this status where a shelf holds these files and nothing fails
+-- the arguments are a command that ends with this status if the shelf holds these files and nothing fails
 pub record IsEnd (words : List (List ℕ)) (files : Files) (status : ℕ) : Type 0 where
   pub command : Command
   pub asked : command_of words ≡ Some command
   pub ends : (rules_of command).Ends files status
 
 module _ {R : Type 0} (g : Ghosts R) where
-  -- what a command makes
+  -- what a command produces
   abbrev pub makes_of : Command → Makes R
   makes_of (One file) = telling (PrintsPlate file)
   makes_of (Run edition) = run_makes g edition
@@ -53,14 +54,15 @@ module _ {R : Type 0} (g : Ghosts R) where
   makes_of (Verify asked) = telling (PrintsFound asked)
   makes_of (Replate change) = change_makes g change
 
-  -- words are a command, and the output took its whole text
+  -- the arguments are a command, and the output received its complete text
   pub record IsDone (words : List (List ℕ)) (shelf : ShelfSeen) (racks racks' : List R) (out : SinkSeen)
       (status : ℕ) : Type 0 where
     pub command : Command
     pub asked : command_of words ≡ Some command
     pub made : PrintsWhole (makes_of command) shelf racks racks' out status
 
-  -- words are a command that was done but for its text, of which the output failed to take all
+  -- the arguments are a command that produced everything but its complete text: the output failed after a
+  -- prefix of it
   pub record IsUnprinted (words : List (List ℕ)) (shelf : ShelfSeen) (racks racks' : List R) (out : SinkSeen)
       : Type 0 where
     pub command : Command
@@ -68,13 +70,13 @@ module _ {R : Type 0} (g : Ghosts R) where
     pub made : PrintsFront (makes_of command) shelf racks racks' out
     pub rose : PutFailed out
 
-  -- words are a command, and it was cut short
+  -- the arguments are a command that was cut short
   pub record IsBegun (words : List (List ℕ)) (shelf : ShelfSeen) (racks racks' : List R) (out : SinkSeen)
       : Type 0 where
     pub command : Command
     pub asked : command_of words ≡ Some command
     pub made : IsPart (makes_of command) shelf racks racks' out
 
-  -- what is left where memory was wanted or a sink failed: nothing was made, or a part
+  -- the result of an allocation failure or a failed sink: nothing was produced, or a part
   abbrev pub IsCut : List (List ℕ) → ShelfSeen → List R → List R → SinkSeen → Type 0
   IsCut words shelf racks racks' out = IsNothing racks racks' out ⊎ IsBegun words shelf racks racks' out

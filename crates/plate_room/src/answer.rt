@@ -1,4 +1,4 @@
-// Doing a command.
+// Running a command.
 ghost use Rattle.plate_room.specs.Command.{AsksDrill, command_of as meant, words_of};
 ghost use Rattle.plate_room.specs.Ending.{Answered, seen_of};
 ghost use Rattle.room_base.specs.Seen.{AreIdle, shelf_seen, sink_seen};
@@ -16,7 +16,7 @@ use std::alloc::Global;
 use std::thread::Threads;
 use std::time::Clock;
 
-/// Does what the words ask for, and answers the status of what was done.
+/// Runs the command that the arguments ask for, and returns its status.
 pub(crate) fn answer<T: Threads + Clock + Sync, H: Shelf, R: Rack + Send, S: Sink>(
     rt: &T,
     alloc: Global,

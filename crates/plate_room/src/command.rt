@@ -1,4 +1,4 @@
-// The words of a command line.
+// The arguments of a command line.
 ghost use Rattle.std.specs.Prelude.{◌≡◌, IfSome};
 ghost use Rattle.pr_base.specs.Number.{IsWithin};
 ghost use Rattle.plate_room.specs.Command.{asked_of as asked_meant, change_of as change_meant};
@@ -14,18 +14,19 @@ use room_replate::Change;
 use room_run::{Drill, Edition};
 use room_verify::Asked;
 
-/// What the words ask for.
+/// The command that the arguments ask for.
 #[derive(Clone, Copy)]
 pub(crate) enum Command<'a> {
     /// `one FILE`: the black plate of a file.
     One { file: &'a str },
     /// `run PLAN FILES OUT [RING [PATIENCE]]`: the plates of all sites of an edition.
     Run(Edition<'a>),
-    /// `keys PLAN FILES OUT KEYS [RING [PATIENCE]]`: the same, and the counts of so many keys of each plate.
+    /// `keys PLAN FILES OUT KEYS [RING [PATIENCE]]`: as `run`, with the counts of this many ink keys of each
+    /// plate.
     Keys(Edition<'a>, u32),
-    /// `drill N [RING [PATIENCE]]`: the report of a generated job, and the dots on its plates.
+    /// `drill N [RING [PATIENCE]]`: the report of a generated job, and the number of dots on its plates.
     Drill(Drill),
-    /// `verify PLAN FILES OUT`: whether the plates that are held are those of an edition.
+    /// `verify PLAN FILES OUT`: whether the stored plates are those of an edition.
     Verify(Asked<'a>),
     /// `replate OLDPLAN OLDFILES PLAN FILES OUT`: the plates of an edition that changed.
     Replate(Change<'a>),
@@ -41,7 +42,7 @@ const PATIENCE: u32 = 1024;
 
 const MOST_PATIENCE: u32 = 65_536;
 
-/// The command that the words are, if they are one. The words of files and folders aren't empty.
+/// Returns the command that the arguments spell, if any. The names of files and folders must not be empty.
 #[tactic(auto, unfolding(crate::specs::Command::command_of))]
 pub(crate) fn command_of(words: &[String]) -> Option<Command<'_>>
     ensures meant { IsCommand result (meant (words_of words.now)) }
@@ -73,7 +74,7 @@ pub(crate) fn command_of(words: &[String]) -> Option<Command<'_>>
     }
 }
 
-/// The words behind `one`.
+/// Parses the arguments after `one`.
 fn one_of(words: &[String]) -> Option<Command<'_>>
     ensures meant { IsCommand result (one_meant (words_of words.now)) }
     ensures within { IfRun result }
@@ -86,7 +87,7 @@ fn one_of(words: &[String]) -> Option<Command<'_>>
     }
 }
 
-/// The words behind `run`.
+/// Parses the arguments after `run`.
 fn edition_of(words: &[String]) -> Option<Edition<'_>>
     ensures meant { IsEdition result (edition_meant (words_of words.now)) }
     ensures within { IfSome result HasNumbers }
@@ -97,7 +98,7 @@ fn edition_of(words: &[String]) -> Option<Edition<'_>>
     edition_in(plan.as_str(), files.as_str(), out.as_str(), numbers)
 }
 
-/// The words behind `keys`.
+/// Parses the arguments after `keys`.
 fn keys_of(words: &[String]) -> Option<Command<'_>>
     ensures meant { IsCommand result (keys_meant (words_of words.now)) }
     ensures within { IfRun result }
@@ -110,7 +111,7 @@ fn keys_of(words: &[String]) -> Option<Command<'_>>
     Some(Command::Keys(edition, keys))
 }
 
-/// An edition of these texts, and the words of its numbers.
+/// Returns the edition with these paths and the numbers that the last arguments give.
 fn edition_in<'a>(
     plan: &'a str,
     files: &'a str,
@@ -134,7 +135,7 @@ fn edition_in<'a>(
     })
 }
 
-/// The words behind `verify`.
+/// Parses the arguments after `verify`.
 fn asked_of(words: &[String]) -> Option<Asked<'_>>
     ensures { IsAskedFor result (asked_meant (words_of words.now)) }
 {
@@ -150,7 +151,7 @@ fn asked_of(words: &[String]) -> Option<Asked<'_>>
     }
 }
 
-/// The words behind `replate`.
+/// Parses the arguments after `replate`.
 fn change_of(words: &[String]) -> Option<Change<'_>>
     ensures { IsChange result (change_meant (words_of words.now)) }
 {
@@ -170,7 +171,7 @@ fn change_of(words: &[String]) -> Option<Change<'_>>
     })
 }
 
-/// The words behind `drill`.
+/// Parses the arguments after `drill`.
 fn drill_of(words: &[String]) -> Option<Drill>
     ensures meant { IsDrill result (drill_meant (words_of words.now)) }
     ensures within { IfSome result HasTurns }
@@ -187,7 +188,7 @@ fn drill_of(words: &[String]) -> Option<Drill>
     })
 }
 
-/// The last words of a run or a drill: the places of the ring and the patience.
+/// Parses the last arguments of a run or a drill: the number of places of the ring, and the patience.
 fn numbers_of(words: &[String]) -> Option<(u32, u32)>
     ensures meant { result ≡ numbers_meant (words_of words.now) }
     ensures ring { IfSome result (λ numbers. IsWithin 1 1024 numbers.0) }

@@ -1,5 +1,5 @@
-// The room where plates are made: reads the words of a command line, has the command done by the crate that
-// it stands in, and tells of a refusal. `plate_main` is the call that everything else is for.
+// The command line: parses the arguments, calls the crate that implements the command, and reports a refusal.
+// `plate_main` is the entry point.
 #![tactic(auto)]
 
 mod answer;

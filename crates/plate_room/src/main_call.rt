@@ -1,4 +1,4 @@
-// The top call.
+// The entry point of the command line.
 ghost use Rattle.std.specs.Prelude.{◌≡◌, ◌≤◌, ◌⊎◌, ◌≢◌, None, Some, IfSome, length};
 ghost use Rattle.plate_room.specs.Command.{AsksDrill, AsksVerify, command_of, words_of};
 ghost use Rattle.room_base.specs.Status.{IsCutShort, IsDoneStatus, IsRefusal, IsStatus};
@@ -17,22 +17,22 @@ use std::alloc::Global;
 use std::thread::Threads;
 use std::time::Clock;
 
-/// Does what the words of a command line ask for: loads files from `shelf`, keeps plates on `racks`, writes
-/// to `out`, and writes the line of a refusal to `note`. It answers the exit status.
+/// Runs the command that the arguments `words` ask for: loads files from `shelf`, stores plates on `racks`,
+/// writes its text to `out`, and writes the line of a refusal to `note`. Returns the exit status.
 ///
 /// | status | when |
 /// |---|---|
 /// | 0 | done |
-/// | 1 | done, and a site left since its rack failed |
-/// | 2 | the words are no command |
+/// | 1 | done, but a site dropped out because its rack failed |
+/// | 2 | the arguments aren't a command |
 /// | 3 | the plan is refused |
 /// | 4 | an input file is refused |
 /// | 5 | the shelf failed |
-/// | 6 | memory was wanted |
+/// | 6 | out of memory |
 /// | 7 | `out` or `note` failed |
-/// | 8 | done, and a plate that the shelf holds isn't right |
+/// | 8 | done, but a plate on the shelf doesn't match |
 ///
-/// A drill runs in memory of its own, so that statuses 1, 3, 4 and 5 never come of it.
+/// A drill uses its own files and racks, in memory, so it never ends with status 1, 3, 4 or 5.
 pub fn plate_main<T: Threads + Clock + Sync, H: Shelf, R: Rack + Send, S: Sink, E: Sink>(
     rt: &T,
     alloc: Global,
@@ -47,7 +47,7 @@ pub fn plate_main<T: Threads + Clock + Sync, H: Shelf, R: Rack + Send, S: Sink, 
     ensures statuses { IsStatus result }
     ensures held { H.held shelf.new ≡ H.held shelf.old }
 
-    // Done: the output and the racks took exactly what the command makes.
+    // Done: `out` and the racks received exactly what the command produces.
     ensures done { IsDoneStatus result → IsDone R.Rack (words_of words.now)
         (shelf_seen H.Shelf shelf.old shelf.new) racks.old racks.new
         (sink_seen S.Sink out.old out.new) result }
@@ -57,7 +57,7 @@ pub fn plate_main<T: Threads + Clock + Sync, H: Shelf, R: Rack + Send, S: Sink, 
     ensures one { result ≡ 1 → RackFailed R.Rack racks.old racks.new }
     ensures eight { result ≡ 8 → AsksVerify (command_of (words_of words.now)) }
 
-    // Refused: the note took the whole line of a refusal that the words met.
+    // Refused: `note` received the complete line of a refusal that the arguments met.
     ensures words { result ≡ 2 → command_of (words_of words.now) ≡ None }
     ensures words_there { command_of (words_of words.now) ≡ None → (result ≡ 2) ⊎ IsCutShort result }
     ensures plan { result ≡ 3 → Tells (words_of words.now)
@@ -68,14 +68,15 @@ pub fn plate_main<T: Threads + Clock + Sync, H: Shelf, R: Rack + Send, S: Sink, 
         (shelf_seen H.Shelf shelf.old shelf.new) (sink_seen E.Sink note.old note.new) 5 }
     ensures words_note { result ≡ 2 → Tells (words_of words.now)
         (shelf_seen H.Shelf shelf.old shelf.new) (sink_seen E.Sink note.old note.new) 2 }
-    // Where files are told that is the verdict, a failed load aside; and the verdict is told where no load
-    // failed.
+    // Where the files are known, the refusal is the verdict on them unless a load failed (status 5). Where no
+    // load failed, a verdict that refuses is reported unless the command is cut short.
     ensures verdict { (files : Files) → H.held shelf.old ≡ Some files → IsRefusal result → result ≢ 5
         → TellsVerdict (words_of words.now) files (sink_seen E.Sink note.old note.new) result }
     ensures verdict_there { IsToldThere (words_of words.now)
         (shelf_seen H.Shelf shelf.old shelf.new) result }
 
-    // The output or the note failed; where the output did, all was made but its text, which comes last.
+    // Status 7: `out` or `note` failed. If `out` failed, the command produced everything but its complete
+    // text, which it writes last.
     ensures printing { result ≡ 7 →
         IsUnprinted R.Rack (words_of words.now) (shelf_seen H.Shelf shelf.old shelf.new)
         racks.old racks.new (sink_seen S.Sink out.old out.new)
@@ -83,8 +84,7 @@ pub fn plate_main<T: Threads + Clock + Sync, H: Shelf, R: Rack + Send, S: Sink, 
     ensures printing_out { FailsByOut (words_of words.now)
         (shelf_seen H.Shelf shelf.old shelf.new) (sink_seen S.Sink out.old out.new) result }
 
-    // What stands of the racks and the output: nothing is made before the verdict, nor of a command that is
-    // refused.
+    // Racks and output: a command produces nothing before its verdict, and nothing if it is refused.
     ensures racks_stay { (files : Files) → H.held shelf.old ≡ Some files
         → (verdict_of (words_of words.now) files ≡ None → ⊥) → racks.new ≡ racks.old }
     ensures out_stays { (files : Files) → H.held shelf.old ≡ Some files
@@ -98,24 +98,26 @@ pub fn plate_main<T: Threads + Clock + Sync, H: Shelf, R: Rack + Send, S: Sink, 
     ensures printing_note { result ≡ 7 → TellsPart (words_of words.now)
         (shelf_seen H.Shelf shelf.old shelf.new) (sink_seen E.Sink note.old note.new) }
 
-    // What stands of the counts: nothing is loaded for words that are no command, and no load fails where
-    // all is done.
+    // Counters: arguments that aren't a command load nothing, and a command that is done had no failed load.
+    // A command that is done doesn't change the failure count of `note`, nor a refused one that of `out`.
     ensures words_shelf { command_of (words_of words.now) ≡ None
         → IsUntouched (shelf_seen H.Shelf shelf.old shelf.new) }
     ensures done_missed { IsDoneStatus result → H.missed shelf.new ≡ H.missed shelf.old }
     ensures done_note_faults { IsDoneStatus result → E.faults note.new ≡ E.faults note.old }
     ensures refused_out_faults { IsRefusal result → S.faults out.new ≡ S.faults out.old }
 
-    // A drill is done, or cut short by want of memory or by a sink. It leaves shelf and racks alone.
+    // A drill is done, or cut short by an allocation failure or a failed sink. It doesn't change the shelf or
+    // the racks.
     ensures drill { AsksDrill (command_of (words_of words.now)) → (result ≡ 0) ⊎ IsCutShort result }
     ensures drill_shelf { AsksDrill (command_of (words_of words.now)) → shelf.new ≡ shelf.old }
     ensures drill_racks { AsksDrill (command_of (words_of words.now)) → racks.new ≡ racks.old }
 
-    // A look at plates leaves the racks alone, and no site leaves.
+    // A verification doesn't change the racks, and never ends with status 1.
     ensures verify { AsksVerify (command_of (words_of words.now)) → result ≢ 1 }
     ensures verify_racks { AsksVerify (command_of (words_of words.now)) → racks.new ≡ racks.old }
 
-    // Where nothing is wrong and nothing fails, the command ends with its own status or memory was wanted.
+    // If the verdict is a pass and nothing fails, the command ends with its own status or with 6 (out of
+    // memory).
     ensures complete { IsComplete R.Rack (words_of words.now)
         (shelf_seen H.Shelf shelf.old shelf.new) racks.old racks.new
         (sink_seen S.Sink out.old out.new) (sink_seen E.Sink note.old note.new) result }
@@ -123,7 +125,7 @@ pub fn plate_main<T: Threads + Clock + Sync, H: Shelf, R: Rack + Send, S: Sink, 
     run(rt, alloc, words, shelf, racks, out, note)
 }
 
-/// Does a command and tells of a refusal.
+/// Runs a command, and reports a refusal on `note`.
 fn run<T: Threads + Clock + Sync, H: Shelf, R: Rack + Send, S: Sink, E: Sink>(
     rt: &T,
     alloc: Global,

@@ -1,11 +1,11 @@
-// A number among the words of a command line.
+// A number among the arguments of a command line.
 ghost use Rattle.std.specs.Prelude.{◌≡◌, IfSome};
 ghost use Rattle.pr_base.specs.Number.{IsWithin};
 ghost use Rattle.std.specs.Char.{is_ascii_digit};
 ghost use Rattle.std.specs.List.{list_all};
 ghost use Rattle.plate_room.specs.Number.{IsValue, is_number as is_number_lem, number_within as number_of};
 
-/// The number that a word is, if it is one from `least` to `most`.
+/// Returns the number that an argument spells, if it is one from `least` to `most`.
 pub(crate) fn number_within(word: &str, least: u32, most: u32) -> Option<u32>
     ensures number { result ≡ number_of least most word.now }
     ensures within { IfSome result (IsWithin least most) }
@@ -22,7 +22,7 @@ pub(crate) fn number_within(word: &str, least: u32, most: u32) -> Option<u32>
     }
 }
 
-/// The value of a word that is a number, if it fits 32 bits.
+/// Returns the value of an argument that is a number, if it fits 32 bits.
 fn value_of(word: &str) -> Option<u32>
     ensures { IsValue word.now result }
 {
@@ -35,7 +35,7 @@ fn value_of(word: &str) -> Option<u32>
     }
 }
 
-/// Whether a word is one digit, or several of which the first isn't 0.
+/// Returns whether an argument is one digit, or several digits of which the first isn't 0.
 fn is_number(word: &[u8]) -> bool
     ensures { result ≡ is_number_lem word.now }
 {
@@ -46,7 +46,7 @@ fn is_number(word: &[u8]) -> bool
     }
 }
 
-/// Whether all bytes are digits.
+/// Returns whether all bytes are ASCII digits.
 fn are_digits(word: &[u8]) -> bool
     ensures { result ≡ list_all is_ascii_digit word.now }
 {

@@ -1,4 +1,4 @@
--- What the run of a job leaves, from what its steps leave.
+-- The result of running a job, derived from the contracts of its steps.
 use Rattle.std.proofs.Common.{◌≡◌, ◌≤◌, ◌++◌, ℕ, List, length, drop, Result, Ok, Err, subst, sym, inl, inr, arith}
 use Rattle.pr_rack.specs.declared.rack.Rack.{Ghosts}
 use Rattle.pr_rack.specs.Told.{RackTells, all_told}
@@ -14,7 +14,7 @@ use Rattle.room_run.specs.Report.{report_of, status_of_ends}
 use Rattle.room_base.specs.Seen.{ShelfSeen, SinkSeen}
 use Rattle.room_base.specs.Task.{Answers, Puts}
 
--- no reader beside the sites
+-- no reader besides those of the sites
 pub fits_alone : (edition : Edition) (job : JobData) (before now : List RackTells) (ends : List SiteEnd)
     → RunFits (by_ring job.plan (plate_rows job.plan job.files) edition.out (length job.plan.sites) edition.ring) before now ends
     → RunFits (delivery_of edition none_further job) before now ends
@@ -28,7 +28,7 @@ part_alone edition job before now part =
     subst (λ (n : ℕ). RunPart (by_ring job.plan (plate_rows job.plan job.files) edition.out n edition.ring) before now) (omega arith) part
 
 module _ {R : Type 0} (g : Ghosts R) (edition : Edition) (further : Further) (job : JobData) (racks racks' : List R) where
-  -- the text of a run whose sites' ends fit what the racks have more
+  -- the text of a run where the sites' ends fit what the racks gained
   pub reports_are : (text : List ℕ) (status : ℕ) (ends : List SiteEnd) → length job.plan.sites ≤ length racks → length racks' ≡ length racks
       → RunFits (delivery_of edition further job) (all_told g racks) (all_told g racks') ends
       → drop (length job.plan.sites) racks' ≡ drop (length job.plan.sites) racks
@@ -42,7 +42,7 @@ module _ {R : Type 0} (g : Ghosts R) (edition : Edition) (further : Further) (jo
   }
 
 module _ {R : Type 0} (g : Ghosts R) (edition : Edition) (further : Further) (job : JobData) (racks racks' : List R) (out : SinkSeen) where
-  -- what the run of a job leaves where its report was put
+  -- the state after the run of a job and the attempt to print its report
   pub put_delivers : (text : List ℕ) (own : ℕ) (result : Result ℕ Stop) → Reports g edition further job racks racks' text own
       → Puts text own out result → Delivered g edition further job racks racks' out result
   put_delivers text own (Ok status) reports (is, grew) = record {
@@ -56,7 +56,7 @@ module _ {R : Type 0} (g : Ghosts R) (edition : Edition) (further : Further) (jo
   put_delivers text own (Err stop.Printing) reports (front, rose) =
       (record { text = text; status = own; reports = reports; grew = front }, rose)
 
-  -- and of an edition that was prepared
+  -- the state after the run of an edition that was prepared
   pub delivers_run : (shelf : ShelfSeen) (result : Result ℕ Stop) → IsPrepared shelf.held edition.plan edition.files job
       → Delivered g edition further job racks racks' out result
       → Answers (run_rules edition) (makes_with g edition further) shelf racks racks' out result

@@ -1,4 +1,4 @@
--- The plates of a site of a job: how many there are, and that their rows fill them.
+-- The plates of a site of a job: their number, and that their rows fill them.
 use Rattle.std.proofs.Common.{◌≡◌, ℕ, zero, suc, ◌+◌, ◌*◌, ◌<◌, ◌≤◌, Bool, true, false, List, [], ◌∷◌, ◌++◌, length, map, get_or, All, Contains, codes, filter, flat_map, sum_by, Option, Some, refl, sym, ap, subst, ◌∙◌, add-one, append_assoc, arith}
 use Rattle.std.specs.Prelude.{slice_get}
 use Rattle.std.specs.Global.{Vec}
@@ -33,7 +33,7 @@ use Rattle.press_job.proofs.FrameLemmas.{rows-long}
 use Rattle.drill_room.specs.Dots.{HasSides, all_dots, bytes_of}
 use Rattle.room_run.specs.Drill.{dots_line, dots_lines, finished_end, finished_ends, site_dots}
 
--- ---- how many plates a site has
+-- ---- the number of plates of a site
 
 few_inks : (group : Group) → length (group_plates group) ≤ 5
 few_inks group = omega (arith, length-map {B = PlateOf} (inks_of group) (λ ink. (group, ink)), by group.colour group.spot)
@@ -61,7 +61,7 @@ few_plates plan site is =
 
 -- ---- the rows of a plate
 
--- a plate of the plan: its group is one of the plan's, and prints the ink
+-- a plate of the plan: its group is one of the plan's, and prints the plate's ink
 record IsOfPlan (plan : PlanData) (plate : PlateOf) : Type 0 where
   index : ℕ
   of : slice_get (groups_of plan) index ≡ Some plate.0
@@ -97,12 +97,12 @@ site_plates_of_plan plan site =
     plates_of_plan plan (filter (λ group. has_site group site) (groups_of plan))
     (All-filter (λ group. has_site group site) (InPlan plan) (groups_of plan) (all_in_plan plan))
 
--- the rows of a job are as many as its places
+-- a job has as many rows as row places
 rows_count : (plan : PlanData) (files : List (List ℕ)) → length (plate_rows plan files) ≡ length (row_places plan)
 unfolding plate_rows
 rows_count plan files = length-map (row_places plan) _
 
--- row y of a plate is one of them
+-- row y of a plate is one of the job's rows
 row_sized : (plan : PlanData) (files : List (List ℕ)) (plate : PlateOf) (y : ℕ) → IsPlan plan → IsOfPlan plan plate → y < plate_height plan
     → length (get_or (plate_rows plan files) (row_number plate.0 y plate.1) []) ≡ row_size (plate_width plan)
 row_sized plan files plate y is of less =
@@ -133,7 +133,7 @@ plates_sides plan files site is =
 
 -- ---- the files of a site
 
--- files that a site has are the plates of these rows
+-- the files of a site are the plates of these rows
 pub files_are : (plan : PlanData) (rows : List (List ℕ)) (out : List ℕ) (site : ℕ) (files : List (List ℕ × Vec ℕ))
     → files_of files ≡ site_files plan rows out site
     → bytes_of files ≡ map (plate_file (plate_width plan) plan.dpi) (map (rows_of_plate plan rows) (site_plates plan site))
@@ -148,7 +148,7 @@ pub files_count : (plan : PlanData) (rows : List (List ℕ)) (out : List ℕ) (s
 files_count plan rows out site files is same =
     omega (arith, length-map files plate_of, ap length same, length-map (site_plates plan site) (file_of plan rows out site), few_plates plan site is)
 
--- a plate has the eight bytes before its rows
+-- a plate file has eight bytes before its rows
 front_there : (width dpi : ℕ) (rows : List (List ℕ)) → 8 ≤ length (plate_file width dpi rows)
 unfolding plate_file
 front_there width dpi rows = omega arith
@@ -162,7 +162,7 @@ fronts_there plan rows out site files is =
     (All-map (λ file. 8 ≤ length file) (plate_file (plate_width plan) plan.dpi) plates
     (λ k d less. front_there (plate_width plan) plan.dpi (get_or plates k d)))
 
--- what is counted in the files of a site are its dots
+-- the count over the files of a site is its number of dots
 pub dots_are : (plan : PlanData) (images : List (List ℕ)) (out : List ℕ) (site : ℕ) (files : List (List ℕ × Vec ℕ)) (shape : PlateShape)
     (dots : ℕ) → IsPlan plan → shape ≡ shape_of_plate plan → files_of files ≡ site_files plan (plate_rows plan images) out site
     → ((dpi : ℕ) (plates : List (List (List ℕ))) → bytes_of files ≡ map (plate_file shape.width dpi) plates
@@ -175,7 +175,7 @@ dots_are plan images out site files shape dots is_plan is_shape is counted =
     (files_are plan (plate_rows plan images) out site files is ∙ ap (λ (s : PlateShape). map (plate_file s.width plan.dpi) plates) (sym is_shape))
     (subst (λ (s : PlateShape). All (HasSides s.width s.height) plates) (sym is_shape) (plates_sides plan images site is_plan))
 
--- the lines of the first sites, and one more
+-- the lines of the first n sites, and one more
 lines_upto : (f : ℕ → List ℕ) (a n j : ℕ) → a + n ≡ j → flat_map f (range_with_len a (suc n)) ≡ flat_map f (range_with_len a n) ++ f j
 lines_upto f a zero j is = append-nil (f a) ∙ ap f (let e : a ≡ j = omega arith in e)
 lines_upto f a (suc n) j is =
@@ -184,7 +184,7 @@ lines_upto f a (suc n) j is =
 pub lines_more : (plan : PlanData) (rows : List (List ℕ)) (sites : ℕ) → dots_lines plan rows (sites + 1) ≡ dots_lines plan rows sites ++ dots_line plan rows sites
 lines_more plan rows sites = rw add-one (lines_upto (dots_line plan rows) 0 sites sites (omega arith))
 
--- a line that is printed so is the site's
+-- a line printed like this is the site's
 pub line_is : (text name : List ℕ) (dots : ℕ) (plan : PlanData) (rows : List (List ℕ)) (site : ℕ)
     → text ≡ codes "dots " ++ (name ++ (codes " " ++ (decimal dots ++ codes "\n"))) → name ≡ site_name plan site
     → dots ≡ site_dots plan rows site → text ≡ dots_line plan rows site
@@ -197,7 +197,7 @@ line_is text name dots plan rows site is is_name is_dots =
 pub name_is : (plan : PlanData) (site : ℕ) (found : SiteData) → slice_get plan.sites site ≡ Some found → found.name ≡ site_name plan site
 name_is plan site found at = sym (ap (λ (o : Option SiteData). option_map_or (λ (s : SiteData). s.name) o []) at)
 
--- as many ends as sites
+-- there are as many ends as sites
 pub ends_count : (plan : PlanData) → length (finished_ends plan) ≡ length plan.sites
 unfolding finished_ends
 ends_count plan = length-map (range_with_len 0 (length plan.sites)) (finished_end plan) ∙ length-range_with_len 0 (length plan.sites)

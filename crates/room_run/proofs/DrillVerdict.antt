@@ -29,14 +29,14 @@ use Rattle.job_gen.specs.Plan.{image_layer, job_files, job_pages, job_plan, line
 
 -- ---- the uses of a file
 
--- what a file of a generated plan passes, by its index: 1 is the linework, 2 the mask, and all others are
--- contone images
+-- the tests that a file of a generated plan passes, by its index: 1 is the linework, 2 the mask, and all
+-- others are contone images
 pub record PassesAt (file : ℕ) (bytes : List ℕ) : Type 0 where
   pub contone : file ≢ 1 → file ≢ 2 → result_err (contone_shape bytes) ≡ None
   pub line : file ≡ 1 → result_err (bilevel_shape Line bytes) ≡ None
   pub mask : file ≡ 2 → result_err (bilevel_shape Mask bytes) ≡ None
 
--- no question finds anything
+-- if no test finds a fault, the first fault is none
 first_none : {A B : Type 0} (f : A → Option B) (xs : List A) → All (λ x. f x ≡ None) xs → first_some f xs ≡ None
 first_none f [] h = refl
 first_none f (x ∷ xs) h =
@@ -58,7 +58,7 @@ image_none file index bytes passes one two =
     (mention_none file index bytes (use_of (image_layer index)) (λ same.
     passes.contone (λ e. one (same ∙ e)) (λ e. two (same ∙ e))))
 
--- what the second mention of a layer is for
+-- the use of a layer's second mention
 abbrev second_use : {A B : Type 0} → B → List (A × B) → B
 second_use d [] = d
 second_use d (first ∷ []) = d
@@ -73,7 +73,7 @@ line_none file bytes passes =
     (mention_none file 1 bytes line (λ same. passes.line (sym same)))
     ∙ ap (λ o. option_or o None) (mention_none file 2 bytes mask (λ same. passes.mask (sym same)))
 
--- the index of a page's image is neither that of the linework nor that of the mask
+-- the index of a page's image differs from those of the linework and the mask
 index_one : (j : ℕ) → 1 ≤ j → page_index j ≢ 1
 index_one j least = grind (arith, nat_tests)
 
@@ -95,7 +95,7 @@ other_none : (file pages : ℕ) (bytes : List ℕ) → PassesAt file bytes → 1
 other_none file pages bytes passes least =
     ap (λ o. option_or o None) (image_none file (pages + 2) bytes passes (omega arith) (omega arith))
 
--- pages of a section, and then another
+-- the pages of a section, then another page
 pages_none : {B : Type 0} (f : PageData → Option B) (pages : ℕ) (js : List ℕ) (last : PageData) → All (λ j. 1 ≤ j) js
     → ((j : ℕ) → 1 ≤ j → f (section_page pages j) ≡ None) → f last ≡ None
     → first_some f (map (section_page pages) js ++ last ∷ []) ≡ None
@@ -118,7 +118,7 @@ file_none sites pages size file bytes least passes =
 
 -- ---- crops and masks
 
--- the mask has the sides of the linework
+-- the mask has the same dimensions as the linework
 pub record FitsMask (files : List (List ℕ)) : Type 0 where
   pub width : width_of (bytes_at files 2) ≡ width_of (bytes_at files 1)
   pub length : length_of (bytes_at files 2) ≡ length_of (bytes_at files 1)
@@ -156,16 +156,16 @@ layers_none sites pages size files fits =
     pages_none (page_fit_fault files) pages (range_with_len 1 pages) (other_page pages) (from_one pages)
     (λ j one. page_fits files pages j fits) (ap (λ o. option_or o None) (image_fits files (pages + 2)))
 
--- ---- what is held
+-- ---- stored files
 
--- a file of a plan is held, isn't long, and passes
+-- a file of a plan is stored, isn't too long, and passes its tests
 record IsHeld (plan : PlanData) (held : List (List ℕ × List ℕ)) (file : ℕ) : Type 0 where
   bytes : List ℕ
   there : held_at held (path_of plan (codes "in") file) ≡ Some bytes
   small : length bytes ≤ most_bytes
   passes : PassesAt file bytes
 
--- all files of a plan are, and the mask fits
+-- every file of a plan is stored, isn't too long, and passes its tests; and the mask fits
 record AreHeld (plan : PlanData) (held : List (List ℕ × List ℕ)) : Type 0 where
   few : length plan.files ≤ 11
   each : (file : ℕ) → file < length plan.files → IsHeld plan held file
@@ -214,7 +214,7 @@ at_none sites pages size file held least are within =
     (room_left loaded (length h.bytes) few h.small)
     ∙ ap (option_map (refusal_of plan file)) (file_none sites pages size file h.bytes least h.passes)
 
--- the number at a place
+-- the number at an index of a range
 number_at : (count k d : ℕ) → k < count → get_or (range_with_len 0 count) k d ≡ k
 number_at count k d within = get_or-range_with_len 0 count k d within ∙ zero-add k
 
@@ -330,7 +330,7 @@ eight_held n sites size passing = record {
     each (suc (suc (suc (suc (suc (suc (suc (suc (suc (suc zero)))))))))) less = contone_held n passing _ _ 10 0 (omega arith) (omega arith) refl
     each (suc (suc (suc (suc (suc (suc (suc (suc (suc (suc (suc file))))))))))) less = absurd (omega arith)
 
--- nothing is wrong with the files of a generated job
+-- every generated job passes the verdict on its files
 pub job_passes : (n : ℕ) → ArePassing n (contone_bytes n) (line_bytes n) (mask_bytes n)
     → verdict_on_files (job_plan n) (codes "in") (files_of n) ≡ None
 job_passes n passing = by (n / 4 % 2) (omega arith)
@@ -343,7 +343,7 @@ job_passes n passing = by (n / 4 % 2) (omega arith)
 
 -- ---- a shelf of files that pass
 
--- where no question finds anything, none finds something
+-- if the first fault is none, no test finds a fault
 none_each : {A B : Type 0} (f : A → Option B) (xs : List A) → first_some f xs ≡ None → All (λ x. f x ≡ None) xs
 none_each f [] h = λ k d less. absurd (omega (arith, less))
 none_each {A} {B} f (x ∷ xs) h = by (f x) refl (λ rest. none_each f xs rest) h
@@ -353,7 +353,7 @@ none_each {A} {B} f (x ∷ xs) h = by (f x) refl (λ rest. none_each f xs rest) 
     by None is all rest = All-cons (λ y. f y ≡ None) x xs is (all rest)
     by (Some y) is all rest = absurd (let e : Some y ≡ None = rest in cc)
 
--- a file that isn't held is missing
+-- a file that isn't stored is reported missing
 not_held : (plan : PlanData) (limit file : ℕ) (found : Option (List ℕ)) → found ≡ None
     → verdict_on plan (codes "in") limit file found ≡ None → ⊥
 not_held plan limit file None is none = cc
@@ -363,7 +363,7 @@ first_of : {B : Type 0} (a b : Option B) → option_or a b ≡ None → a ≡ No
 first_of None b h = refl
 first_of (Some x) b h = cc
 
--- nothing is missing of files with which nothing is wrong
+-- no file is missing if the verdict on the files is a pass
 pub never_missing : (plan : PlanData) (held : List (List ℕ × List ℕ)) (path : List ℕ) → verdict_on_files plan (codes "in") held ≡ None
     → IsMissing plan (codes "in") (Some held) path → held_at held path ≡ None → ⊥
 unfolding verdict_before verdict_at

@@ -1,4 +1,4 @@
--- A run over racks that don't fail: each site finishes, and its rack has its files.
+-- A run over racks that don't fail: each site finishes, and its rack holds its files.
 use Rattle.std.proofs.Common.{◌≡◌, ℕ, ◌<◌, List, [], ◌++◌, length, map, get_or, is_some, All, codes, Some, option_map, sym, ap, subst, ◌∙◌, inl, inr, arith}
 use Rattle.std.specs.Prelude.{slice_get}
 use Rattle.std.specs.List.{range_with_len}
@@ -17,7 +17,7 @@ use Rattle.ring_run.specs.declared.site_end.SiteEnd.{SiteEnd}
 use Rattle.ring_run.specs.declared.site_end.SiteEnd.TheVariants.{Finished, Left}
 use Rattle.room_base.proofs.Owed.{there}
 
--- what a rack that doesn't fail tells
+-- what is known of a rack that doesn't fail
 abbrev pub sure_told : MemState → RackTells
 sure_told rack = record {
   tells = record {
@@ -30,7 +30,7 @@ sure_told rack = record {
   faults = 0;
 }
 
--- racks of empty slots have none that is begun
+-- racks with empty slots have begun none of them
 pub idle : (racks : List MemState) (count : ℕ) → All (λ rack. rack.slots ≡ empty_slots) racks → AreIdle count (map sure_told racks)
 idle racks count empty = record {
   each = λ site told within at.
@@ -47,21 +47,21 @@ never : Rose 0 0 → ⊥
 never (inl less) = absurd (omega arith)
 never (inr last) = absurd (omega arith)
 
--- so its site finishes
+-- the site of a rack that doesn't fail finishes
 end_is : (delivery : Delivery) (site : ℕ) (old new : MemState) (end : SiteEnd)
     → FitsEnd delivery site (sure_told old) (sure_told new) end → end ≡ finished_end delivery.plan site
 end_is delivery site old new (Finished plates rows) fits =
     ap {A = ℕ} (λ p. Finished p rows) fits.plates_are ∙ ap {A = ℕ} (λ r. Finished (length (site_plates delivery.plan site)) r) fits.rows_are
 end_is delivery site old new (Left cause) fits = absurd (never fits.counted)
 
--- and it has the files of the site, where it had none
+-- the rack holds the files of its site, if it held none before
 files_at : (delivery : Delivery) (site : ℕ) (old new : MemState) (end : SiteEnd) → old.files ≡ []
     → FitsEnd delivery site (sure_told old) (sure_told new) end → new.files ≡ files_for delivery site
 files_at delivery site old new (Finished plates rows) none fits =
     same_Some _ _ fits.finished ∙ ap (λ l. l ++ files_for delivery site) none
 files_at delivery site old new (Left cause) none fits = absurd (never fits.counted)
 
--- and it took the rows of the site, where it had taken none
+-- the rack took the rows of its site, if it had taken none before
 taken_at : (delivery : Delivery) (site : ℕ) (old new : MemState) (end : SiteEnd) → old.taken ≡ []
     → FitsEnd delivery site (sure_told old) (sure_told new) end → new.taken ≡ drawn_for delivery site
 taken_at delivery site old new (Finished plates rows) none fits =
@@ -93,7 +93,7 @@ module _ (delivery : Delivery) (racks racks' : List MemState) (ends : List SiteE
       (fits_at k old.0 new.0 _ old.1 new.1 (slice_get-get_or ends k (Finished 0 0) less))
       ∙ sym (get_or-map-range_with_len (finished_end delivery.plan) 0 sites k k (Finished 0 0) within (omega arith)))
 
-  -- what holds of a rack that was empty, by its end, holds of each
+  -- a property that follows from an end, for a rack that was empty, holds for each rack
   each_was : (P : MemState → Type 0) (Q : ℕ → MemState → Type 0) → All P racks
       → ((site : ℕ) (old new : MemState) (end : SiteEnd) → P old → FitsEnd delivery site (sure_told old) (sure_told new) end → Q site new)
       → (site : ℕ) (rack : MemState) → slice_get racks' site ≡ Some rack → Q site rack
@@ -106,7 +106,7 @@ module _ (delivery : Delivery) (racks racks' : List MemState) (ends : List SiteE
       step site old.0 rack (get_or ends site (Finished 0 0)) was
       (fits_at site old.0 rack _ old.1 at (slice_get-get_or ends site (Finished 0 0) less))
 
--- the same of a job's run over a ring
+-- the same for a job's run over a ring
 module _ (job : JobData) (ring : ℕ) (racks racks' : List MemState) (ends : List SiteEnd)
     (count : length racks ≡ length job.plan.sites) (kept : length racks' ≡ length racks)
     (fits : RunFits (by_ring job.plan (rows_in job) (codes "drill") (length job.plan.sites) ring) (map sure_told racks)

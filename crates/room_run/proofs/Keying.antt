@@ -1,4 +1,4 @@
--- The keys lines that are made of a run's counts are those of its job.
+-- The keys lines printed from a run's counts are those of its job.
 use Rattle.std.proofs.Common.{◌≡◌, ◌<◌, ◌+◌, ◌++◌, ◌∙◌, ℕ, List, [], ◌∷◌, suc, Some, All, length, map, get_or, refl, sym, ap, subst, arith}
 use Rattle.std.specs.Prelude.{codes, slice_get, slice_index}
 use Rattle.std.specs.Fmt.{digits}
@@ -19,14 +19,14 @@ use Rattle.ink_keys.specs.Keys.{key_count}
 use Rattle.ink_keys.specs.Plates.{AreKeyCounts}
 use Rattle.room_run.specs.Keys.{group_lines, key_counts, key_line, lines_with, numbers_at, numbers_for, plate_line}
 
--- each group of a plan is of one of its sections
+-- each group of a plan belongs to one of its sections
 pub sections_within : (plan : PlanData) (groups : List Group) → IsPlan plan → groups ≡ groups_of plan
     → All (λ group. group.section < length plan.sections) groups
 sections_within plan groups is all =
     subst (λ (list : List Group). All (λ group. group.section < length plan.sections) list) (sym all)
     (λ k d less. (groups_in_plan plan is k d less).section)
 
--- numbers that are the counts at each key are all counts
+-- numbers that equal the counts at each key are the list of all counts
 pub numbers_are : (counts : CountsData) (index : ℕ) (ink : Ink) (found : List ℕ) → length found ≡ counts.keys
     → ((k : ℕ) → k < counts.keys → slice_index found k ≡ number_at counts index ink k) → found ≡ numbers_at counts index ink
 numbers_are counts index ink found count each =
@@ -36,7 +36,7 @@ numbers_are counts index ink found count each =
     let within : k < counts.keys = omega (arith, less, count) in
     each k within ∙ sym (get_or-map-range_with_len (number_at counts index ink) 0 counts.keys k k 0 within (omega arith)))
 
--- lists that are joined from pieces that are the same are the same
+-- concatenations of equal pieces are equal
 same_pieces : {X : Type 0} (f g : X → List ℕ) (xs : List X) → All (λ x. f x ≡ g x) xs → flat_map f xs ≡ flat_map g xs
 same_pieces f g [] same = refl
 same_pieces f g (x ∷ xs) same =
@@ -56,7 +56,7 @@ module _ (plan : PlanData) (f g : ℕ → Group → Ink → List ℕ) where
       ∙ ap (λ (l : List ℕ). group_lines plan g (start, group) ++ l)
       (groups_alike (start + 1) groups (λ i n other is at. same (suc i) n other (omega (arith, is)) at))
 
--- the lines of counts that are those of all plates are those of the plates
+-- the lines printed from counts that are those of all plates are the lines of the plates
 pub lines_are : (plan : PlanData) (rows : List (List ℕ)) (counts : CountsData) → AreKeyCounts plan rows counts
     → lines_with plan (numbers_for counts) ≡ lines_with plan (key_counts plan rows counts.keys)
 unfolding lines_with
@@ -73,7 +73,7 @@ lines_are plan rows counts each =
     ∙ each n group ink key (ap (λ m. slice_get (groups_of plan) m) (omega (arith, is)) ∙ at) (All-contains_itself (inks_of group) k d less) within
     ∙ sym (get_or-map-range_with_len (key_count plan rows group ink counts.keys) 0 counts.keys key key 0 within (omega arith))))
 
--- the line of a plate whose counts are these
+-- the line of a plate with these counts
 row_one : key_line 0 (codes "A-001-K") (3 ∷ 5 ∷ 0 ∷ 0 ∷ []) ≡ codes "keys 0 A-001-K 3 5 0 0\n"
 unfolding digits
 row_one = refl

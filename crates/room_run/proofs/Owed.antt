@@ -1,4 +1,4 @@
--- What the commands over a run owe.
+-- The obligations of the commands that run an edition.
 use Rattle.std.proofs.Common.{◌≡◌, ◌⊎◌, ℕ, ◌<◌, ◌≤◌, List, length, [], ◌∷◌, Bool, Some, suc, option_map, true, false, if◌then◌else◌, refl, ap, ◌∙◌, inl, inr, arith}
 use Rattle.std.specs.Prelude.{slice_get}
 use Rattle.std.specs.List.{list_all}
@@ -34,7 +34,7 @@ drill_owes g number = record {
 
 -- ---- `run`
 
--- where not all finished a site left
+-- if not all sites finished, a site dropped out
 some_left : (ends : List SiteEnd) → list_all is_finished ends ≡ false
     → (site : ℕ) × (cause : LeftCause) × (slice_get ends site ≡ Some (Left cause))
 some_left [] h = cc
@@ -50,7 +50,7 @@ run_status ends status is = by (list_all is_finished ends) is where
   by true h = inl h
   by false h = inr h
 
--- it is 1 where not all finished alone
+-- the status is 1 only if not all sites finished
 not_all : (ends : List SiteEnd) (status : ℕ) → status ≡ status_of_ends ends → status ≡ 1 → list_all is_finished ends ≡ false
 unfolding status_of_ends
 not_all ends status is one = by (list_all is_finished ends) is where
@@ -59,7 +59,7 @@ not_all ends status is one = by (list_all is_finished ends) is where
   by false h = refl
 
 module _ {R : Type 0} (g : Ghosts R) where
-  -- the rack of a site that left counted a failure
+  -- the rack of a site that dropped out counted a failure
   site_failed : (edition : Edition) (further : Further) (job : JobData) (racks racks' : List R) (ends : List SiteEnd) (site : ℕ) (cause : LeftCause)
       → Delivers g edition further job racks racks' ends → slice_get ends site ≡ Some (Left cause) → RackFailed g racks racks'
   site_failed edition further job racks racks' ends site cause delivers at =

@@ -1,5 +1,5 @@
--- What a drill prints: the report of the generated job with a number, whose sites all finish, and the dots on
--- the plates of each site. Both are functions of the number.
+-- The text of a drill: the report of the generated job with a number, whose sites all finish, and the number
+-- of dots on the plates of each site. Both are functions of the job's number.
 use Rattle.std.specs.Prelude.{◌≡◌, ℕ, List, ◌++◌, codes, length, map, flat_map, slice_get, None, Some}
 use Rattle.std.specs.Fmt.{decimal}
 use Rattle.std.specs.List.{range_with_len}
@@ -24,7 +24,7 @@ use Rattle.ring_run.specs.declared.site_end.SiteEnd.TheVariants.{Finished}
 
 -- ---- the report
 
--- a site with all its plates and rows
+-- the end of a site that finished all its plates and rows
 abbrev pub finished_end : PlanData → ℕ → SiteEnd
 finished_end plan site = Finished (length (site_plates plan site)) (kept_rows plan site)
 
@@ -33,7 +33,7 @@ finished_ends plan = map (finished_end plan) (range_with_len 0 (length plan.site
 
 -- ---- the dots
 
--- the dots on all plates of a site, out of all rows in order
+-- the number of dots on all plates of a site, out of all rows in order
 unfoldable pub site_dots : PlanData → List (List ℕ) → ℕ → ℕ
 site_dots plan rows site = all_dots (map (rows_of_plate plan rows) (site_plates plan site))
 
@@ -42,7 +42,7 @@ abbrev pub dots_line : PlanData → List (List ℕ) → ℕ → List ℕ
 dots_line plan rows site =
     codes "dots " ++ site_name plan site ++ codes " " ++ decimal (site_dots plan rows site) ++ codes "\n"
 
--- the lines of the first sites, so many of them
+-- the lines of the first `sites` sites
 abbrev pub dots_lines : PlanData → List (List ℕ) → ℕ → List ℕ
 dots_lines plan rows sites = flat_map (dots_line plan rows) (range_with_len 0 sites)
 
@@ -52,30 +52,30 @@ dots_lines plan rows sites = flat_map (dots_line plan rows) (range_with_len 0 si
 abbrev pub rows_in : JobData → List (List ℕ)
 rows_in job = plate_rows job.plan job.files
 
--- the report of a job whose sites all finished, and then the dots of each site
+-- the report of a job whose sites all finished, followed by the dots of each site
 unfoldable pub told_of : JobData → List ℕ
 told_of job =
     report_of job.plan (finished_ends job.plan) ++ dots_lines job.plan (rows_in job) (length job.plan.sites)
 
--- the generated job with a number, whose files lie in the folder `in`
+-- the generated job with this number, with its files in the folder `in`
 abbrev pub drill_job : ℕ → JobData
 drill_job number =
     record { plan = job_plan number; files = files_in (job_plan number) (codes "in") (files_of number) }
 
--- nothing is wrong with the files of any generated job
+-- every generated job passes the verdict on its files
 abbrev pub GeneratedJobsPass : Type 0
 GeneratedJobsPass = (n : ℕ) → verdict_on_files (job_plan n) (codes "in") (files_of n) ≡ None
 
--- what the drill of a number prints
+-- the text that the drill with this number prints
 unfoldable pub drill_text : ℕ → List ℕ
 drill_text number = told_of (drill_job number)
 
--- the text is that of the drill of a number
+-- the text is that of the drill with this number
 pub record PrintsDrill (number : ℕ) (shelf : ShelfSeen) (text : List ℕ) (status : ℕ) : Type 0 where
   pub is : text ≡ drill_text number
   pub zero : status ≡ 0
 
--- nothing is wrong with a drill, and it meets no refusal
+-- the verdict on a drill is a pass, and a drill meets no refusal
 abbrev pub drill_rules : Rules
 drill_rules = record {
   verdict = λ files. None;
@@ -85,14 +85,14 @@ drill_rules = record {
 
 -- ---- the racks of a drill
 
--- each rack has the files of its site, with paths below the folder `drill`
+-- each rack holds the files of its site, with paths below the folder `drill`
 pub record HaveFiles (job : JobData) (racks : List MemState) : Type 0 where
   pub count : length racks ≡ length job.plan.sites
   pub each : (site : ℕ) (rack : MemState) → slice_get racks site ≡ Some rack
       → rack.files ≡ site_files job.plan (rows_in job) (codes "drill") site
 
--- each rack has the files of its site, and took the rows that the site keeps, from a ring of so many places
--- with a reader for each site
+-- each rack holds the files of its site, and took the rows that the site keeps, from a ring of `ring` places
+-- with one reader for each site
 pub record HaveRun (job : JobData) (ring : ℕ) (racks : List MemState) : Type 0 where
   pub files : HaveFiles job racks
   pub taken : (site : ℕ) (rack : MemState) → slice_get racks site ≡ Some rack

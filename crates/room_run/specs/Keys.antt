@@ -1,5 +1,5 @@
--- The command `keys`: a run whose ring has one reader more, which counts the ink keys of all plates, and the
--- counts behind its report.
+-- The command `keys`: a run whose ring has one further reader, which counts the ink keys of all plates. The
+-- counts follow the report.
 use Rattle.std.specs.Prelude.{ℕ, List, ◌++◌, Result, codes, map}
 use Rattle.std.specs.Fmt.{decimal}
 use Rattle.std.specs.List.{enumerate_from, flat_map, range_with_len}
@@ -21,16 +21,16 @@ use Rattle.room_base.specs.Task.{Answers, Makes}
 
 -- ---- the lines
 
--- a count, with the space before it
+-- a count, after a space
 abbrev pub count_text : ℕ → List ℕ
 count_text count = codes " " ++ decimal count
 
--- the line of a plate, of the index of its group, its name and its counts
+-- the line of a plate, from the index of its group, its name and its counts
 abbrev pub key_line : ℕ → List ℕ → List ℕ → List ℕ
 key_line index name counts =
     codes "keys " ++ decimal index ++ codes " " ++ name ++ flat_map count_text counts ++ codes "\n"
 
--- the line of the plate of a group in an ink, of what gives a plate's counts
+-- the line of a group's plate in an ink, from a function that gives a plate's counts
 abbrev pub plate_line : PlanData → (ℕ → Group → Ink → List ℕ) → ℕ → Group → Ink → List ℕ
 plate_line plan counts index group ink =
     key_line index (plate_name_of plan group ink) (counts index group ink)
@@ -45,7 +45,7 @@ lines_with plan counts = flat_map (group_lines plan counts) (enumerate_from 0 (g
 
 -- ---- the counts
 
--- the counts of a plate from key 0 up, out of all rows in order
+-- the counts of a plate from key 0 up, taken over all rows in order
 abbrev pub key_counts : PlanData → List (List ℕ) → ℕ → ℕ → Group → Ink → List ℕ
 key_counts plan rows keys index group ink = map (key_count plan rows group ink keys) (range_with_len 0 keys)
 
@@ -62,17 +62,17 @@ further_keys keys = record { readers = 1; told = keys_lines keys }
 abbrev pub keys_makes : {R : Type 0} → Ghosts R → Edition → ℕ → Makes R
 keys_makes g edition keys = makes_with g edition (further_keys keys)
 
--- what `keys` leaves
+-- the contract of `keys`
 abbrev pub KeysAnswers : {R : Type 0} → Ghosts R → Edition → ℕ → ShelfSeen → List R → List R → SinkSeen
     → Result ℕ Stop → Type 0
 KeysAnswers g edition keys = Answers (run_rules edition) (keys_makes g edition keys)
 
--- ---- private calls
+-- ---- private functions
 
--- the numbers of a group in an ink, key by key
+-- the counts that `counts` holds for a group in an ink, key by key
 abbrev pub numbers_at : CountsData → ℕ → Ink → List ℕ
 numbers_at counts index ink = map (number_at counts index ink) (range_with_len 0 counts.keys)
 
--- the same, as what gives a plate's counts
+-- the same, as a function that gives a plate's counts
 abbrev pub numbers_for : CountsData → ℕ → Group → Ink → List ℕ
 numbers_for counts index group ink = numbers_at counts index ink

@@ -1,4 +1,4 @@
--- The report of a run: a line for each site, and one of all.
+-- The report of a run: a line for each site, and a total line.
 use Rattle.std.specs.Prelude.{ℕ, Bool, true, false, if◌then◌else◌, List, [], ◌∷◌, ◌++◌, length, codes}
 use Rattle.std.specs.Fmt.{decimal}
 use Rattle.std.specs.List.{list_all}
@@ -24,7 +24,7 @@ site_line site (Left cause) =
     ++ codes " row " ++ decimal cause.row
     ++ codes " call " ++ call_word cause.call ++ codes " file " ++ cause.path ++ codes "\n"
 
--- the lines of the sites with these ends, in order
+-- the lines of the sites that ended like this, in order
 abbrev pub site_lines : List SiteData → List SiteEnd → List ℕ
 site_lines [] ends = []
 site_lines (site ∷ sites) [] = []
@@ -42,6 +42,6 @@ abbrev pub is_finished : SiteEnd → Bool
 is_finished (Finished plates rows) = true
 is_finished (Left cause) = false
 
--- the status of a run: 0 where every site finished
+-- the status of a run: 0 if every site finished, else 1
 unfoldable pub status_of_ends : List SiteEnd → ℕ
 status_of_ends ends = if list_all is_finished ends then 0 else 1

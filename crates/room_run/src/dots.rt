@@ -1,4 +1,4 @@
-// What a drill tells: the report of its run, and a line for each site with the dots on its plates.
+// The text of a drill: the report of its run, and a line for each site with the number of dots on its plates.
 ghost use Rattle.std.specs.Prelude.{◌≡◌, ◌<◌, ◌++◌, IfOk, OnOk, codes, length, string_bytes};
 ghost use Rattle.plan_json.specs.Plan.{IsPlan};
 ghost use Rattle.plan_rows.specs.Plates.{site_files};
@@ -12,7 +12,8 @@ use press_feed::Job;
 use ring_run::SiteEnd;
 use std::alloc::Global;
 
-/// The report of a job whose sites all finished, and the dots on the plates of their racks.
+/// Returns the report of a job whose sites all finished, followed by the number of dots on each site's
+/// plates.
 #[tactic(auto, unfolding(crate::specs::Drill::told_of))]
 pub(crate) fn told(
     alloc: Global,
@@ -29,7 +30,7 @@ pub(crate) fn told(
     Ok(text)
 }
 
-/// Adds the line of each site.
+/// Appends the line of each site.
 fn put_dots(alloc: Global, job: &Job, racks: &[SureRack], text: &mut String) -> Result<(), NoMemory>
     requires racks { HaveFiles job.now racks.now }
     ensures { OnOk result (string_bytes text.new
@@ -42,7 +43,7 @@ fn put_dots(alloc: Global, job: &Job, racks: &[SureRack], text: &mut String) -> 
     Ok(())
 }
 
-/// The line of a site with this rack.
+/// Returns the line of the site whose plates this rack holds.
 fn dots_line(alloc: Global, job: &Job, site: usize, rack: &SureRack) -> Result<String, NoMemory>
     requires site { site < length job.now.plan.sites }
     requires files { rack.now.files ≡ site_files job.now.plan (rows_in job.now) (codes "drill") site }

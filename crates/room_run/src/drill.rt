@@ -30,11 +30,11 @@ use std::time::Clock;
 /// A generated job to be run in memory.
 #[derive(Clone, Copy)]
 pub struct Drill {
-    /// The number of the job.
+    /// The number of the generated job.
     pub number: u32,
-    /// Places of the ring, 1 to 1024.
+    /// The number of places of the ring, 1 to 1024.
     pub ring: u32,
-    /// How often a turn looks for a row in vain, 1 to 65,536.
+    /// The number of times that a turn may look for a row without finding one, 1 to 65,536.
     pub patience: u32,
 }
 
@@ -51,11 +51,11 @@ pub struct DrillRun {
 /// The folder of the job's files.
 const FILES: &str = "in";
 
-/// The folder of its plates.
+/// The folder of the job's plates.
 const PLATES: &str = "drill";
 
-/// Runs a generated job in memory, and prints the report and the dots of its plates. It answers the status
-/// of what was done.
+/// Runs a generated job in memory, and prints its report and the number of dots on its plates. Returns the
+/// status.
 pub fn print_drill<T: Threads + Clock + Sync, S: Sink>(
     rt: &T,
     alloc: Global,
@@ -73,7 +73,7 @@ pub fn print_drill<T: Threads + Clock + Sync, S: Sink>(
     put_text(text.as_bytes(), Status::Done, out)
 }
 
-/// What a drill prints.
+/// Returns the text that a drill prints.
 fn drill_text<T: Threads + Clock + Sync>(
     rt: &T,
     alloc: Global,
@@ -87,7 +87,7 @@ fn drill_text<T: Threads + Clock + Sync>(
     tell_drill(alloc, drill, &drilled)
 }
 
-/// What is told of a drill that was run.
+/// Returns the text of a drill that has run.
 #[tactic(auto, unfolding(crate::specs::Drill::drill_text))]
 fn tell_drill(alloc: Global, drill: Drill, drilled: &DrillRun) -> Result<String, NoMemory>
     requires job { drilled.now.job ≡ drill_job drill.number }
@@ -103,7 +103,7 @@ fn tell_drill(alloc: Global, drill: Drill, drilled: &DrillRun) -> Result<String,
     )
 }
 
-/// Runs the generated job of a drill in memory, each site's plates to an empty rack of its own.
+/// Runs the generated job of a drill in memory, and stores each site's plates on an empty rack of its own.
 pub fn run_drill<T: Threads + Clock + Sync>(
     rt: &T,
     alloc: Global,
@@ -121,7 +121,7 @@ pub fn run_drill<T: Threads + Clock + Sync>(
     Ok(DrillRun { job, ends, racks })
 }
 
-/// Runs a job to empty racks, one for each of its sites, and says how each site ended.
+/// Runs a job over empty racks, one for each of its sites, and returns how each site ended.
 fn deliver_to<T: Threads + Clock + Sync>(
     rt: &T,
     alloc: Global,
@@ -142,7 +142,7 @@ fn deliver_to<T: Threads + Clock + Sync>(
     Ok(outcome.sites)
 }
 
-/// The generated job with a number, prepared.
+/// Returns the generated job with this number, prepared.
 fn job_of<T: Threads + Sync>(rt: &T, alloc: Global, number: u32) -> Result<Job, NoMemory>
     ensures { IfOk result (λ job. job ≡ drill_job number) }
 {
@@ -151,7 +151,7 @@ fn job_of<T: Threads + Sync>(rt: &T, alloc: Global, number: u32) -> Result<Job, 
     prepare_job(rt, alloc, plan, made.files)
 }
 
-/// The plan that a text is.
+/// Parses a plan that is known to be valid.
 fn plan_in(alloc: Global, text: &[u8]) -> Result<Plan, NoMemory>
     requires { IsOk (plan_of text.now) }
     ensures { IfOk result (λ plan. plan_of text.now ≡ Ok plan) }
@@ -163,7 +163,7 @@ fn plan_in(alloc: Global, text: &[u8]) -> Result<Plan, NoMemory>
     }
 }
 
-/// The job of a plan with these files, which pass all tests. It can't be refused but for want of memory.
+/// Prepares the job of a plan with files that pass all tests. Only an allocation failure can stop it.
 fn prepare_job<T: Threads + Sync>(
     rt: &T,
     alloc: Global,
@@ -187,7 +187,7 @@ fn prepare_job<T: Threads + Sync>(
     }
 }
 
-/// So many empty racks.
+/// Returns `count` empty racks.
 fn empty_racks(alloc: Global, count: usize) -> Result<Vec<SureRack>, NoMemory>
     ensures count { IfOk result (λ racks. length racks.items ≡ count) }
     ensures slots { IfOk result (λ racks. All (λ rack. rack.slots ≡ empty_slots) racks.items) }

@@ -27,14 +27,13 @@ pub struct Edition<'a> {
     pub files: &'a str,
     /// The folder of the plates.
     pub out: &'a str,
-    /// Places of the ring, 1 to 1024.
+    /// The number of places of the ring, 1 to 1024.
     pub ring: u32,
-    /// How often a turn looks for a row in vain, 1 to 65,536.
+    /// The number of times that a turn may look for a row without finding one, 1 to 65,536.
     pub patience: u32,
 }
 
-/// Runs an edition: delivers the plates of its sites to the racks, and prints the report. It answers the
-/// status of what was done.
+/// Runs an edition: delivers the plates of its sites to the racks, and prints the report. Returns the status.
 pub fn run_edition<T: Threads + Clock + Sync, H: Shelf, R: Rack + Send, S: Sink>(
     rt: &T,
     alloc: Global,
@@ -58,7 +57,7 @@ pub fn run_edition<T: Threads + Clock + Sync, H: Shelf, R: Rack + Send, S: Sink>
     deliver(rt, alloc, edition, &job, racks, out)
 }
 
-/// Runs a job to the racks and prints the report.
+/// Runs a job over the racks, and prints the report.
 fn deliver<T: Threads + Clock + Sync, R: Rack + Send, S: Sink>(
     rt: &T,
     alloc: Global,
@@ -75,7 +74,7 @@ fn deliver<T: Threads + Clock + Sync, R: Rack + Send, S: Sink>(
         racks.old racks.new (sink_seen S.Sink out.old out.new) result }
 {
     let plan = job.plan();
-    // For its clause: what holds of each plan that was read.
+    // Called for its contract, which states what holds of every plan that was read.
     let _files = plan.files();
     let Ok(outcome) = run_job(
         rt,
@@ -95,7 +94,7 @@ fn deliver<T: Threads + Clock + Sync, R: Rack + Send, S: Sink>(
     put_text(text.as_bytes(), status_of(ends), out)
 }
 
-/// The status of a run whose sites ended so.
+/// Returns the status of a run whose sites ended like this.
 #[tactic(auto, unfolding(crate::specs::Report::status_of_ends))]
 pub(crate) fn status_of(ends: &[SiteEnd]) -> Status
     ensures { number_of result ≡ status_of_ends ends.now }
@@ -108,7 +107,7 @@ pub(crate) fn status_of(ends: &[SiteEnd]) -> Status
     Status::Done
 }
 
-/// Whether a site finished.
+/// Returns whether a site finished.
 fn is_finished(end: &SiteEnd) -> bool
     ensures { result ≡ is_finished_lem end.now }
 {

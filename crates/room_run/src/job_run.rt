@@ -1,4 +1,4 @@
-// A run: all plates of a job, on the racks of its sites.
+// A run: all plates of a job, stored on the racks of its sites.
 ghost use Rattle.std.specs.Prelude.{◌≡◌, ◌≤◌, IfOk, OnErr, drop, length};
 ghost use Rattle.pr_rack.specs.Told.{all_told};
 ghost use Rattle.pr_base.specs.Number.{IsWithin};
@@ -15,10 +15,11 @@ use std::alloc::Global;
 use std::thread::Threads;
 use std::time::Clock;
 
-/// Delivers the plates of a job, each site's to the rack of its number, with paths below the folder `out`.
-/// A site whose rack fails leaves, and the others go on. The rows pass from one writer to the sites through a
-/// ring of `ring` places; all work side by side, in rounds, and in its turn of a round each looks at most
-/// `patience` times in vain for a row or a place; sites that share a thread do so together.
+/// Delivers the plates of a job, those of each site to the rack with its number, with paths below the folder
+/// `out`. A site whose rack fails drops out, and the others continue. The rows pass from one writer to the
+/// sites through a ring of `ring` places. Writer and sites work concurrently, in rounds; in its turn of a
+/// round each looks at most `patience` times for a row or a place without finding one. Sites that share a
+/// thread do so together.
 pub fn run_job<T: Threads + Clock + Sync, R: Rack + Send>(
     rt: &T,
     alloc: Global,
@@ -32,15 +33,16 @@ pub fn run_job<T: Threads + Clock + Sync, R: Rack + Send>(
     requires idle { AreIdle (length job.now.plan.sites) (all_told R.Rack racks.old) }
     requires ring { IsWithin 1 1024 ring }
     requires patience { IsWithin 1 65536 patience }
-    // Each site's end fits what its rack has more than before.
+    // Each site's end fits what its rack gained.
     ensures fits { IfOk result (λ outcome. RunFits
         (by_job job.now out.now (length job.now.plan.sites) ring)
         (all_told R.Rack racks.old) (all_told R.Rack racks.new) outcome.sites.items) }
-    // Want of memory: each rack has the first of its site's files more, and the first of its rows.
+    // Out of memory: each rack gained a prefix of its site's files, and a prefix of its site's rows.
     ensures part { OnErr result (RunPart
         (by_job job.now out.now (length job.now.plan.sites) ring)
         (all_told R.Rack racks.old) (all_told R.Rack racks.new)) }
-    // What stands of the racks, whatever the answer.
+    // Whatever the result: the racks' counts of failures never decrease, and the racks after the last site's
+    // are unchanged.
     ensures counts { KeepCounts (all_told R.Rack racks.old) (all_told R.Rack racks.new) }
     ensures others { drop (length job.now.plan.sites) racks.new ≡ drop (length job.now.plan.sites) racks.old }
 {
@@ -57,8 +59,8 @@ pub fn run_job<T: Threads + Clock + Sync, R: Rack + Send>(
     run_all(rt, &run, job, racks, &mut [])
 }
 
-/// The same with key readers that count the rows. A feed is dropped nowhere else, since what a function drops
-/// on each of its paths is proved for each.
+/// Runs a job as `run_job` does, with key readers that count the rows. This is the only function that drops a
+/// feed, because the prover checks what a function drops once for each of its paths.
 pub(crate) fn run_all<T: Threads + Clock + Sync, R: Rack + Send>(
     rt: &T,
     run: &Run<'_>,

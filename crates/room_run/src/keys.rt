@@ -1,4 +1,5 @@
-// The command `keys`: a run that counts the ink keys of all plates too, and tells them behind its report.
+// The command `keys`: a run that also counts the ink keys of all plates, and prints the counts after its
+// report.
 ghost use Rattle.std.specs.Prelude.{◌≡◌, ◌<◌, ◌≤◌, ◌++◌, All, IfOk, OnOk, length, string_bytes};
 ghost use Rattle.pr_base.specs.Number.{IsWithin};
 ghost use Rattle.plan_rows.specs.Groups.{groups_of};
@@ -27,8 +28,8 @@ use std::alloc::{AllocError, Global};
 use std::thread::Threads;
 use std::time::Clock;
 
-/// Runs an edition and counts so many keys of each plate: delivers the plates of its sites to the racks, and
-/// prints the report and the counts. It answers the status of what was done.
+/// Runs an edition and counts the ink keys of each plate, `keys` of them: delivers the plates of its sites to
+/// the racks, and prints the report and the counts. Returns the status.
 pub fn run_with_keys<T: Threads + Clock + Sync, H: Shelf, R: Rack + Send, S: Sink>(
     rt: &T,
     alloc: Global,
@@ -53,7 +54,7 @@ pub fn run_with_keys<T: Threads + Clock + Sync, H: Shelf, R: Rack + Send, S: Sin
     deliver(rt, alloc, edition, keys, &job, racks, out)
 }
 
-/// Runs a job to the racks, and prints the report and the counts.
+/// Runs a job over the racks, and prints the report and the counts.
 fn deliver<T: Threads + Clock + Sync, R: Rack + Send, S: Sink>(
     rt: &T,
     alloc: Global,
@@ -72,7 +73,7 @@ fn deliver<T: Threads + Clock + Sync, R: Rack + Send, S: Sink>(
         racks.old racks.new (sink_seen S.Sink out.old out.new) result }
 {
     let plan = job.plan();
-    // For its clause: what holds of each plan that was read.
+    // Called for its contract, which states what holds of every plan that was read.
     let _files = plan.files();
     let Ok((outcome, counts)) = run_keys(
         rt,
@@ -93,7 +94,7 @@ fn deliver<T: Threads + Clock + Sync, R: Rack + Send, S: Sink>(
     put_text(text.as_bytes(), status_of(ends), out)
 }
 
-/// The report of a job whose sites ended so, and behind it the counts of all plates.
+/// Returns the report of a job whose sites ended like this, followed by the counts of all plates.
 #[tactic(auto, using(crate::proofs::Keying::lines_are), unfolding(crate::specs::Keys::keys_lines))]
 fn counted_text(
     alloc: Global,
@@ -114,7 +115,7 @@ fn counted_text(
     Ok(text)
 }
 
-/// Adds the lines of all groups of a plan.
+/// Appends the lines of all groups of a plan.
 #[tactic(auto, unfolding(crate::specs::Keys::lines_with))]
 fn put_keys(
     alloc: Global,
@@ -135,7 +136,7 @@ fn put_keys(
     Ok(())
 }
 
-/// Adds the lines of a group, ink by ink.
+/// Appends the lines of a group, ink by ink.
 fn put_group(
     alloc: Global,
     plan: &Plan,
@@ -155,7 +156,7 @@ fn put_group(
     Ok(())
 }
 
-/// The line of the plate of a group in an ink.
+/// Returns the line of a group's plate in an ink.
 fn plate_line(
     alloc: Global,
     plan: &Plan,
@@ -174,7 +175,7 @@ fn plate_line(
     Ok(line)
 }
 
-/// The counts of a group in an ink, from key 0 up.
+/// Returns the counts of a group in an ink, from key 0 up.
 #[tactic(auto, using(crate::proofs::Keying::numbers_are))]
 fn numbers_of(counts: &Counts, index: usize, ink: Ink) -> &[u64]
     requires { index < counts.now.groups }
@@ -183,7 +184,7 @@ fn numbers_of(counts: &Counts, index: usize, ink: Ink) -> &[u64]
     counts.of(index, ink)
 }
 
-/// The line of a plate, of the index of its group, its name and its counts.
+/// Returns the line of a plate from the index of its group, its name and its counts.
 fn key_line(alloc: Global, index: usize, name: &str, counts: &[u64]) -> Result<String, AllocError>
     ensures { IfOk result (λ line. string_bytes line ≡ key_line_lem index name.now counts.now) }
 {

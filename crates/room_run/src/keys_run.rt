@@ -1,4 +1,4 @@
-// A run that also counts the ink keys of all plates, as one more reader of its ring.
+// A run that also counts the ink keys of all plates, through one further reader of its ring.
 ghost use Rattle.std.specs.Prelude.{◌≡◌, ◌+◌, ◌<◌, ◌≤◌, [], ◌∷◌, IfOk, OnErr, Some, drop, length, slice_get};
 ghost use Rattle.pr_rack.specs.Told.{all_told};
 ghost use Rattle.pr_base.specs.Number.{IsWithin};
@@ -19,9 +19,10 @@ use std::alloc::Global;
 use std::thread::Threads;
 use std::time::Clock;
 
-/// Delivers the plates of a job as `run_job` does, and counts the pixels that print in each of `keys` keys
-/// of each plate. The counts come from the rows of the run's own ring, by a reader with the number after the
-/// last site; they are whole also where every site left. All counts are taken before the first row.
+/// Delivers the plates of a job as `run_job` does, and counts the printing pixels in each of the `keys` ink
+/// keys of each plate. The counts come from the rows of the run's own ring, read by a reader whose number
+/// follows that of the last site. They are complete even if every site drops out. All counts are allocated
+/// before the first row.
 pub fn run_keys<T: Threads + Clock + Sync, R: Rack + Send>(
     rt: &T,
     alloc: Global,
@@ -37,18 +38,19 @@ pub fn run_keys<T: Threads + Clock + Sync, R: Rack + Send>(
     requires keys { IsWithin 1 64 keys }
     requires ring { IsWithin 1 1024 ring }
     requires patience { IsWithin 1 65536 patience }
-    // Each site's end fits what its rack has more than before, at a ring with one reader more.
+    // Each site's end fits what its rack gained, over a ring with one further reader.
     ensures fits { IfOk result (λ pair. RunFits
         (by_job job.now out.now (length job.now.plan.sites + 1) ring)
         (all_told R.Rack racks.old) (all_told R.Rack racks.new) pair.0.sites.items) }
-    // Each count is that of its plate's rows, out of all rows of the job.
+    // Each count is that of its plate's rows, taken over all rows of the job.
     ensures keys { IfOk result (λ pair.
         KeysFit job.now.plan (plate_rows job.now.plan job.now.files) keys pair.1) }
-    // Want of memory: each rack has the first of its site's files more, and the first of its rows.
+    // Out of memory: each rack gained a prefix of its site's files, and a prefix of its site's rows.
     ensures part { OnErr result (RunPart
         (by_job job.now out.now (length job.now.plan.sites + 1) ring)
         (all_told R.Rack racks.old) (all_told R.Rack racks.new)) }
-    // What stands of the racks, whatever the answer.
+    // Whatever the result: the racks' counts of failures never decrease, and the racks after the last site's
+    // are unchanged.
     ensures counts { KeepCounts (all_told R.Rack racks.old) (all_told R.Rack racks.new) }
     ensures others { drop (length job.now.plan.sites) racks.new ≡ drop (length job.now.plan.sites) racks.old }
 {
@@ -69,7 +71,7 @@ pub fn run_keys<T: Threads + Clock + Sync, R: Rack + Send>(
     Ok((outcome, counts_of(readers)))
 }
 
-/// A list of one key reader, which adds the rows of this row plan to these counts.
+/// Returns a list of one key reader, which adds the rows of this row plan to these counts.
 fn one_reader<'p>(
     alloc: Global,
     rows: &'p RowPlan,
@@ -84,7 +86,7 @@ fn one_reader<'p>(
     Ok(readers)
 }
 
-/// The counts of the one key reader of a list.
+/// Returns the counts of the only key reader of a list.
 fn counts_of(mut readers: Vec<RunKeyReader<'_>>) -> Counts
     requires one { length readers.items ≡ 1 }
     ensures its { (key : KeyReaderData) → slice_get readers.entry.items 0 ≡ Some key

@@ -1,8 +1,8 @@
-// A law on what is prepared.
+// A law on the preparation of jobs.
 ghost use Rattle.room_run.specs.Drill.{GeneratedJobsPass};
 
-/// Nothing is wrong with the files of a generated job, whatever its number. So to prepare it from a shelf
-/// that holds them fails only for want of memory, or where the shelf counts a failed load.
+/// Every generated job passes the verdict on its files. So preparing it from a shelf that holds its files
+/// fails only if memory runs out, or if the shelf counts a failed load.
 pub fn generated_jobs_pass()
     ensures { GeneratedJobsPass }
 {}

@@ -1,7 +1,7 @@
-// The commands over a run (ring_run): `run` delivers the plates of all sites of an edition and prints the
-// report, `keys` counts the ink keys beside it, and `drill` runs a generated job in memory and counts the
-// dots. `run_job` and `run_keys` open the feed of a job and run it. What is said of any command stands in
-// room_base.
+// The commands that run an edition (over ring_run): `run` delivers the plates of all sites of an edition and
+// prints the report, `keys` also counts the ink keys, and `drill` runs a generated job in memory and counts
+// the dots. `run_job` and `run_keys` open the feed of a job and run it. The definitions common to all
+// commands are in room_base.
 #![tactic(auto)]
 
 mod dots;

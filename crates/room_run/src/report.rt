@@ -1,4 +1,4 @@
-// The report of a run: a line for each site, and one of all.
+// The report of a run: a line for each site, and a total line.
 ghost use Rattle.std.specs.Prelude.{◌≡◌, ◌++◌, IfOk, OnOk, length, string_bytes};
 ghost use Rattle.plan_rows.specs.Rows.{row_places};
 ghost use Rattle.room_run.specs.Report.{call_word as call_word_lem, report_of, site_line as site_line_lem};
@@ -9,7 +9,7 @@ use pr_rack::RackCall;
 use ring_run::SiteEnd;
 use std::alloc::{AllocError, Global};
 
-/// The report of a run of a plan with so many rows, whose sites ended so.
+/// Returns the report of a run of a plan with this many rows, whose sites ended like this.
 #[tactic(auto, unfolding(crate::specs::Report::report_of))]
 pub(crate) fn report(
     alloc: Global,
@@ -29,7 +29,7 @@ pub(crate) fn report(
     Ok(text)
 }
 
-/// The line of a site.
+/// Returns the line of a site.
 fn site_line(alloc: Global, site: &PlanSite, end: &SiteEnd) -> Result<String, AllocError>
     ensures { IfOk result (λ line. string_bytes line ≡ site_line_lem site.now end.now) }
 {
@@ -50,14 +50,14 @@ fn site_line(alloc: Global, site: &PlanSite, end: &SiteEnd) -> Result<String, Al
     }
 }
 
-/// The last line.
+/// Returns the total line, which is the last one.
 fn total_line(alloc: Global, rows: u64, sites: usize) -> Result<String, AllocError>
     ensures { IfOk result (λ line. string_bytes line ≡ total_line_lem rows sites) }
 {
     format!(in alloc; "total rows {rows} sites {sites}\n")
 }
 
-/// The word for a call of a rack.
+/// Returns the word for a call of a rack.
 fn call_word(call: RackCall) -> &'static str
     ensures { result.now ≡ call_word_lem call }
 {
