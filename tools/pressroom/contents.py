@@ -45,7 +45,7 @@ def walk(value, key=""):
 
 
 def may_blend(objects):
-    """Returns whether something may be transparent. A page's own group doesn't count: it blends nothing."""
+    """Returns whether something may be transparent. In a page's own group, opaque objects stay so."""
     return any(
         (key == "/Group" and value is not group_of(holder)) or (key in OPAQUE and value not in OPAQUE[key])
         for holder in objects.values()

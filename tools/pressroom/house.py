@@ -356,7 +356,7 @@ class Reading:
         """Tests that a plan accepts the sizes of pages, plates and marks."""
         width, height = house.plate_pixels()
         if min(house.page_pixels()) < 1 or max(width, height) > 65535:
-            words = f"a plate would be {width} by {height} pixels; each side may be 65535"
+            words = f"a plate would be {width} by {height} pixels; each side is limited to 65535"
             self.faults.add(("trim",), None, words)
         for press in house.presses.values():
             own = "marks" in self.keys.table.get("press", {}).get(press.name, {})

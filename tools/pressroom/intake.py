@@ -242,7 +242,7 @@ def write_plans(house, work, ready, console):
         sizes = {file: os.path.getsize(os.path.join(work.files, file)) for file in plans.files_of(plan)}
         total = sum(sizes.values())
         if total > plans.MOST_BYTES or max(sizes.values(), default=0) > plans.MOST_FILE:
-            words = f"{name}: its files have {total} bytes; plateroom loads {plans.MOST_BYTES}: split it with"
+            words = f"{name}: its files have {total} bytes; the limit is {plans.MOST_BYTES}: split it with"
             console.tell("note", f"{words} pressroom parts", file=name, kind="bytes")
         changed = plans.write(os.path.join(work.path, name), plan)
         said = "written" if changed else "unchanged"

@@ -17,8 +17,8 @@ MOST_TINTS = 24
 
 @dataclass(frozen=True)
 class Spot:
-    """A separation besides the four inks: its name as bytes, its plane, and its mixture of the four, from 0 to
-    1 each.
+    """A separation besides the four inks: its name as bytes, its plane, and its mixture of the four, each
+    from 0 to 1.
     """
 
     name: bytes
