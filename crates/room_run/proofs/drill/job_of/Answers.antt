@@ -8,7 +8,7 @@ use Rattle.room_run.proofs.DrillVerdict.{job_passes}
 use Rattle.room_run.proofs.drill.job_of.Goals as goal
 
 pub prepare_job-requires-clause-passes : goal.prepare_job-requires-clause-passes
-prepare_job-requires-clause-passes g c =
+prepare_job-requires-clause-passes g c κs within =
     let both = sym c.in_ok-plan.ensures ∙ ap plan_of c.as_slice.ensures.value ∙ c.in_ok-made.ensures.plan in
     let plan : c.in_ok-plan.plan ≡ job_plan c.args.number = cc both in
     ap (λ (p : PlanData). verdict_on_files p (codes "in") (files_of c.in_ok-made.made.files.items)) plan
