@@ -1,11 +1,12 @@
 #!/usr/bin/env python3
-"""Measures `pressroom intake` on tabloid pages of several kinds: CPU seconds a page, by program.
+"""Measures the CPU seconds a page of `pressroom intake`, by program, on tabloid pages of several kinds.
 
 usage: bench/intake.py FOLDER [--times N] [--tools TOOLS] [KIND ..]
 
-The pages are PDFs of 280 by 400 mm by Ghostscript's pdfwrite, made in FOLDER where they aren't there, and are
-rendered at 1016 dpi: 11,200 by 16,000 pixels. Each is made N times (3), one at a time, and the least CPU time
-counts. TOOLS is the folder `tools` of another clone, to compare with. It needs what the intake needs.
+The pages are PDFs of 280 by 400 mm, rendered at 1016 dpi: 11,200 by 16,000 pixels. They are written to FOLDER
+with Ghostscript's pdfwrite unless they exist. Each is made N times (default: 3), one at a time, and the least
+CPU time counts. TOOLS is the folder `tools` of another clone to compare with. It needs the programs and
+libraries of intake.
 """
 import argparse
 import os
@@ -36,7 +37,7 @@ spots = "mix"
 
 
 def picture(folder, name, mode, size, place):
-    """A smooth picture with grain as JPEG, placed in millimetres."""
+    """Writes a smooth picture with grain as JPEG. Returns PostScript that places it, in millimetres."""
     import numpy as np
     from PIL import Image
 
@@ -55,7 +56,7 @@ grestore\n"""
 
 
 def texts(colour="0 0 0 1 setcmykcolor"):
-    """A headline and five columns of text."""
+    """Returns a headline and five columns of text."""
     body = f"{colour} /Helvetica-Bold findfont 44 scalefont setfont 34 964 moveto (Sea wall to be closed) show\n"
     body += "/Times-Roman findfont 9 scalefont setfont\n"
     for column in range(5):
@@ -66,7 +67,7 @@ def texts(colour="0 0 0 1 setcmykcolor"):
 
 
 def kinds(folder):
-    """The bodies of the pages by what is on them."""
+    """Returns the bodies of the pages by their contents."""
     colour = picture(folder, "cmyk.jpg", "CMYK", (1600, 1100), (12, 232, 180, 100))
     light = picture(folder, "rgb.jpg", "RGB", (1200, 1500), (200, 232, 68, 100))
     spot = "[/Separation /{} /DeviceCMYK {{ 0 exch dup 0.6 mul exch 0 }}] setcolorspace {} setcolor {} rectfill\n"
@@ -103,7 +104,7 @@ def spent(who):
 
 
 class Watch:
-    """Adds the CPU seconds of each program up, in place of Limits.run."""
+    """Replaces Limits.run, and adds up the CPU seconds of each program."""
 
     def __init__(self, limits):
         self.run, self.seconds, limits.run = limits.run, {}, lambda *words: self.watched(*words)
@@ -120,7 +121,7 @@ class Watch:
 
 
 def measure(intake, source, watch):
-    """CPU seconds of a page, wall-clock seconds, and the seconds of programs."""
+    """Returns the CPU seconds of a page, its wall-clock seconds, and the CPU seconds by program."""
     watch.seconds, begun = {}, time.monotonic()
     before = spent(resource.RUSAGE_SELF) + spent(resource.RUSAGE_CHILDREN)
     outcome = intake.outcome(source)

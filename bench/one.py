@@ -1,4 +1,5 @@
-"""Makes the file, runs both programs in turn, compares their plates, and prints pixels a second and peak memory."""
+"""Measures plateroom's `one` against a C program: makes an image, runs both in turn, compares their plates, and
+prints pixels a second and peak memory."""
 import filecmp
 import os
 import random
@@ -35,7 +36,7 @@ def run(command, plate):
         _, status, usage = os.wait4(process.pid, 0)
         seconds = time.perf_counter() - start
     if status != 0:
-        sys.exit(f"{command[0]} ended with status {status}")
+        sys.exit(f"{command[0]} exited with status {status}")
     return seconds, usage.ru_maxrss
 
 
@@ -54,7 +55,7 @@ def main():
         sys.exit("the plates differ")
     size = os.path.getsize(image) // 1024
     for name, (seconds, memory) in zip(("plateroom", "plain C"), best):
-        print(f"{name}: {WIDTH * LENGTH / seconds / 1e6:.0f} million pixels a second, {memory} KiB (the file has {size} KiB)")
+        print(f"{name}: {WIDTH * LENGTH / seconds / 1e6:.0f} million pixels a second, {memory} KiB (the file is {size} KiB)")
 
 
 if __name__ == "__main__":

@@ -1,5 +1,5 @@
-"""Makes two images for a scale, runs both programs in turn for each screen, compares their plates, and prints what each
-took."""
+"""Measures plateroom's `run` against a C program: makes two images for a scale, runs both programs in turn for each
+screen, compares their plates, and prints the CPU time and peak memory of each."""
 import filecmp
 import json
 import os
@@ -9,13 +9,13 @@ import subprocess
 import sys
 
 WIDTH, LENGTH, SCALE, RUNS = 4000, 6000, 4, 3
-# The sides of the images at each scale.
+# The width and length of the images at each scale.
 SIZES = {SCALE: (WIDTH, LENGTH), 1: (2 * WIDTH, 2 * LENGTH)}
 SCREENS = ("bayer8", "diffuse")
 
 
 def make(path, phase, width=WIDTH, length=LENGTH):
-    """A CMYK file of one strip with a running pattern."""
+    """Writes a CMYK file of one strip with a running pattern."""
     def entry(tag, kind, count, value):
         return struct.pack("<HHII", tag, kind, count, value)
 
@@ -46,11 +46,11 @@ def plan(screen, scale=SCALE):
 
 
 def run(command):
-    """Seconds of user and system time, and peak memory in KiB."""
+    """Returns the seconds of user and system time, and the peak memory in KiB."""
     process = subprocess.Popen(command, stdout=subprocess.DEVNULL)
     _, status, usage = os.wait4(process.pid, 0)
     if status != 0:
-        sys.exit(f"{command[0]} ended with status {status}")
+        sys.exit(f"{command[0]} exited with status {status}")
     return usage.ru_utime, usage.ru_stime, usage.ru_maxrss
 
 
@@ -80,7 +80,7 @@ def main():
             print(f"{screen}, scale {scale}, {name}: {own:.2f} s user and {system:.2f} s system, "
                   f"{pixels / own / 1e6:.0f} million pixels a second of user time, {memory} KiB")
     size = sum(os.path.getsize(os.path.join(files, name)) for name in os.listdir(files)) // 1024
-    print(f"the files have {size} KiB together; the plates of both programs are the same bytes")
+    print(f"the files have {size} KiB in total; both programs made the same plates")
 
 
 if __name__ == "__main__":

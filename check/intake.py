@@ -1,12 +1,12 @@
 #!/usr/bin/env python3
-"""Tries `pressroom intake`: pages that are made here become plates, and what is wrong with one is named.
+"""Tests `pressroom intake`: generated pages become plates, and faults are reported by page.
 
 python3 check/intake.py PROGRAM
 
-The pages are PDFs by Ghostscript's pdfwrite, by other writers that are installed, and by hand. What their
-plates print is counted in pixels, or compared with what poppler draws. It needs Ghostscript, qpdf,
-poppler-utils, libtiff-tools, numpy and Pillow, and is skipped without them. The last line is `N passed, M
-failed`, and the status is 1 where one failed.
+The pages are PDFs made with Ghostscript's pdfwrite, with the other PDF writers that are installed, and by
+hand. The check counts the pixels on their plates, or compares the plates with poppler's rendering. It needs
+Ghostscript, qpdf, poppler-utils, libtiff-tools, numpy and Pillow, and is skipped without them. The last line
+is `N passed, M failed`, and the status is 1 if a test failed.
 """
 import json
 import os
@@ -31,24 +31,22 @@ DPI = 300
 
 
 def events(found, event):
-    """The events of a kind as pairs of file and kind."""
+    """Returns the events of this name as sorted pairs of file and kind."""
     return sorted((item["file"], item["kind"]) for item in found if item["event"] == event)
 
 
 def box(x, y, width, height):
-    """A box of points of the page, whose corner is the lower left one, as pixels of the plate of the first
-    page.
-    """
+    """Converts a box in points from the page's lower left corner to pixels on the plate of the first page."""
     left = HOUSE.right + round(x * DPI / 72)
     top = HOUSE.top + HOUSE.height - round((y + height) * DPI / 72)
     return left, top, round(width * DPI / 72), round(height * DPI / 72)
 
 
 def see_pixels(results, program, folder):
-    """Solid, bare, white text, knock out and overprint: counted on the plates of one page.
+    """Counts the pixels of solids, bare paper, white text, knockouts and overprints on the plates of one page.
 
-    The letters stand at whole pixels, so that they have the same pixels wherever they stand: those that
-    black ones print on bare paper are those that white ones take away.
+    The letters are placed at whole pixels, so they have the same pixels everywhere: white letters clear the
+    same pixels that black letters print on bare paper.
     """
     pages = Pages(folder, "pixels")
     pages.write("A1", PIXELS)
@@ -84,7 +82,7 @@ def see_pixels(results, program, folder):
         got = {ink: ones(ink, CELLS[name]) for ink in "CMYKS"}
         wanted = {ink: wanted.get(ink, 0) for ink in "CMYKS"}
         results.see(got == wanted, f"{name}: {got}, and not {wanted}")
-    # A tint of 40 percent under bayer8: 26 of 64 thresholds lie below 102.
+    # A tint of 40 percent under bayer8: 26 of 64 thresholds are below 102.
     got = ones("S", CELLS["tint of spot"])
     results.see(abs(got / each - 26 / 64) < 0.004, f"a tint of 40 percent of the spot has {got / each:.4f}")
 
@@ -130,8 +128,8 @@ OTHER = "[/Separation (OTHER) cvn /DeviceCMYK {{ dup 0 exch 0 }}] setcolorspace 
 RAMP = "[/Separation /HOUSE /DeviceCMYK {{ 0 exch dup 0 exch }}] setcolorspace "
 RAMP += "0 1 {} {{ dup {} div setcolor {} mul 50 {} 20 rectfill }} for"
 
-# What brings a note or a fault, and beside it what nearly does: the page's body, how it's made, and the
-# kind of event of a house that converts and mixes, and of one that refuses; the empty kind is none.
+# Pages that have a note or a fault, and pages that nearly have one: the body, how the page is made, and the
+# expected event for a house that converts and mixes, and for one that refuses. An empty text is no event.
 TRIED = {
     1: (BLACK, {}, "", ""),
     2: (BLACK + "1 0 0 setrgbcolor 30 20 40 40 rectfill", {}, "note rgb", "fault rgb"),
@@ -159,8 +157,8 @@ TRIED = {
     26: (None, {}, "fault damaged", "fault damaged"),
     24: (RAMP.format(99, 100, 1, 1), {}, "note tints", "note tints"),
     25: (RAMP.format(19, 20, 5, 5), {}, "", ""),
-    # 26 has a picture of too few samples, 27 is there twice, 28 is listed as blank and there, 29 isn't there,
-    # and 30 is listed as blank.
+    # Page 26 has a picture with too few samples, 27 has two files, 28 is listed as blank and has a file, 29 has
+    # no file, and 30 is listed as blank.
     27: (BLACK, {}, "fault second", "fault second"),
     28: (BLACK, {}, "fault blank", "fault blank"),
 }  # fmt: skip
@@ -168,7 +166,7 @@ PLACED = {"rgb": (10.6, 60.1, 14.1, 14.1), "spot": (14.1, 63.6, 10.6, 10.6), "wh
 
 
 def see_told(results, folder):
-    """Each fault and each note comes of the page that brings it, and of no other."""
+    """Tests that each page reports the faults and notes that it has, and no other page does."""
     pages = Pages(folder, "told", count=30, blank=["A28", "A30"])
     for number, (body, how, _, _) in TRIED.items():
         if body is not None:
@@ -191,7 +189,7 @@ def see_told(results, folder):
                 wanted[event].append((name, kind))
         for event in wanted:
             got, right = set(events(found, event)), set(wanted[event])
-            results.see(got == right, f"{colour}: {event}s too many {got - right}, missing {right - got}")
+            results.see(got == right, f"{colour}: unexpected {event}s {got - right}, missing {right - got}")
         results.see(status == 1, f"{colour}: the status is {status}")
         results.see(not os.path.exists(os.path.join(pages.work, "plan.json")), f"{colour}: a plan is written")
         for item in found:
@@ -205,7 +203,7 @@ def see_told(results, folder):
 
 
 def see_place(results, colour, item):
-    """The place of an event in millimetres, where the page has one thing of its kind."""
+    """Tests the place of an event in millimetres, on pages with one object of the kind."""
     if item.get("kind") not in PLACED or item["event"] not in ("fault", "note"):
         return
     right = PLACED[item["kind"]]
@@ -214,13 +212,13 @@ def see_place(results, colour, item):
 
 
 def see_texts(results, found):
-    """What the lines say."""
+    """Tests the texts of faults."""
     texts = {item["file"]: item["text"] for item in found if item["event"] == "fault"}
     for name, pattern in (
         ("A16.pdf", r"trim 64\.0 x 81\.3 mm, not 60\.96 x 81\.28: 3\.0 mm too wide$"),
         ("A18.pdf", r"not embedded: font Helvetica$"),
-        ("A22.pdf", r"incomplete: it has no end of file$"),
-        ("A19.pdf", r"it asks for a password$"),
+        ("A22.pdf", r"incomplete: no %%EOF at its end$"),
+        ("A19.pdf", r"it needs a password$"),
         ("A0027.pdf", r"a second file for A27: A27\.pdf$"),
         ("A29", r"no file for this page$"),
         ("A26.pdf", r"damaged: recoverable image error$"),
@@ -229,7 +227,7 @@ def see_texts(results, found):
 
 
 def by_hand(path, content, resources="", **more):
-    """A PDF of one page by hand; `add` puts objects in front, and their numbers into the text by format."""
+    """Writes a PDF of one page by hand. Objects of `add` come first; format puts their numbers into the texts."""
     pdf = Pdf()
     numbers = [pdf.add(*item) for item in more.get("add", ())]
     stream, size = pdf.add("", content), "[0 0 172.8 230.4]"
@@ -242,7 +240,7 @@ def by_hand(path, content, resources="", **more):
 
 
 def see_colours(results, program, folder):
-    """CMYK keeps its numbers where a profile is tagged to it, and where its page blends in RGB."""
+    """Tests that CMYK keeps its numbers when it's tagged with a profile, and when its page blends in RGB."""
     pages = Pages(folder, "colours")
     with open("/usr/share/color/icc/ghostscript/ps_cmyk.icc", "rb") as file:
         profile = file.read()
@@ -283,8 +281,8 @@ def see_colours(results, program, folder):
 
 
 def see_hostile(results, folder):
-    """Pages that pass a limit, and names that would be paths or commands: each is named, and the others are
-    made.
+    """Tests pages that exceed a limit, and names that look like paths or commands: each page is named, and the
+    others are made.
     """
     pages = Pages(folder, "hostile", count=6)
     forms = [("/Type /XObject /Subtype /Form /BBox [0 0 200 300]", b"0 0 200 300 re f\n" * 10)]
@@ -292,7 +290,7 @@ def see_hostile(results, folder):
         head = f"/Type /XObject /Subtype /Form /BBox [0 0 200 300] /Resources << /XObject << /F {number} 0 R >> >>"
         forms.append((head, b"/F Do\n" * 20))
     by_hand(pages.path("A1"), b"/F Do", "/XObject << /F {9} 0 R >>", add=forms)
-    # What a page paints, and 128 MB of blanks that are packed into a thousandth of that.
+    # A small painting and 128 MB of blanks, which compress to a thousandth of that.
     by_hand(pages.path("A2"), b"0 0 9 9 re f" + b" " * (128 << 20))
     by_hand(pages.path("A3"), b"", "/X " + "[" * 3000 + "]" * 3000)
     bad = os.path.join(folder, "touched")
@@ -310,16 +308,16 @@ def see_hostile(results, folder):
     texts = {item["file"]: item["text"] for item in found if item["event"] in ("fault", "note")}
     for file, pattern in (
         ("A1.pdf", "gs took more than 12 s"),
-        ("A2.pdf", "wanted more than 100 MB of memory"),
+        ("A2.pdf", "needed more than 100 MB of memory"),
         ("A3.pdf", "damaged"),
         ("A4.pdf", "mixed into CMYK"),
     ):
         results.see(re.search(pattern, texts.get(file, "")), f"the line of {file} is {texts.get(file)!r}")
     made = sorted(item["file"] for item in found if item["event"] == "page")
-    results.see(status == 1 and made == ["A4.pdf", "A5.pdf", "A6.pdf"], f"beside hostile pages: {made}")
+    results.see(status == 1 and made == ["A4.pdf", "A5.pdf", "A6.pdf"], f"pages made among hostile ones: {made}")
     results.see(snapshot(folder, pages) == before, "a file was made outside of WORK")
     left = [name for name in os.listdir(pages.work) if name.startswith(".page")]
-    results.see(not left, f"folders of pages are left: {left}")
+    results.see(not left, f"folders of pages remain: {left}")
     for number in (1, 2, 3):
         os.remove(pages.path(f"A{number}"))
     found, status = intake(pages, pages.house(colour="refuse"), "--output", "1")
@@ -328,7 +326,7 @@ def see_hostile(results, folder):
 
 
 def snapshot(folder, pages):
-    """All files below the folder but those of WORK and house files."""
+    """Returns all files below the folder, except those of WORK and house files."""
     return sorted(
         os.path.join(where, name)
         for where, _, names in os.walk(folder)
@@ -339,7 +337,7 @@ def snapshot(folder, pages):
 
 
 def see_changes(results, program, folder):
-    """A second call makes what changed alone, and `replate` finds the old files still there."""
+    """Tests that a second call makes only what changed, and keeps the old files for `replate`."""
     pages = Pages(folder, "changes", count=4)
     for number in range(1, 5):
         pages.write(f"A{number}", BLACK.replace("Harbour", f"Page {number}"))
@@ -369,21 +367,21 @@ def see_changes(results, program, folder):
     names = set(os.listdir(files))
     os.remove(old)
     intake(pages, house)
-    results.see(len(names - set(os.listdir(files))) == 1, "the file of the old page stays without its plan")
+    results.see(len(names - set(os.listdir(files))) == 1, "the file of the old page remains without its plan")
     os.truncate(os.path.join(files, sorted(os.listdir(files))[0]), 100)
     found, _ = intake(pages, house)
     again = [item["file"] for item in found if item["event"] == "page" and not item["kept"]]
-    results.see(len(again) == 1, f"after a file was cut a call makes {again}")
+    results.see(len(again) == 1, f"after a file was truncated a call makes {again}")
     see_writing(results, pages, house)
 
 
 def see_writing(results, pages, house):
-    """A page that somebody still writes: it waits, or is refused by name."""
+    """Tests a page that is still being written: intake waits for it, or refuses it by name."""
     with open(pages.path("A4"), "rb") as file:
         data = file.read()
 
     def write(stop, most):
-        """Writes the file anew, part by part, until it's told to stop or so many seconds are over."""
+        """Rewrites the file part by part until `stop` is set or `most` seconds have passed."""
         end, part = time.monotonic() + most, 0
         while time.monotonic() < end and not stop.wait(0.2):
             part = part % 19 + 1
@@ -404,8 +402,8 @@ def see_writing(results, pages, house):
 
 
 def see_tiffs(results, program, folder):
-    """TIFF files in place of PDFs: what a copy cures prints as the lawful one does, the rest is refused by
-    name.
+    """Tests TIFF files in place of PDFs: those that a copy repairs print like the valid file, and the others are
+    refused by name.
     """
     from PIL import Image
 
@@ -444,14 +442,14 @@ def see_tiffs(results, program, folder):
     results.see(events(found, "note") == [("A12.tif", "pages")], f"notes of TIFF files: {events(found, 'note')}")
     inks = {item["file"]: item["inks"] for item in found if item["event"] == "page"}
     results.see(inks.get("A5.tif") == "K" and inks.get("A2.tif") == "CMYK", f"inks of TIFF files: {inks}")
-    # The same pixels in another form make the same plates, so a plan of the lawful files is a plan of the
-    # others.
+    # The same pixels in another form make the same plates, so a plan that uses only the valid files verifies
+    # these plates.
     plan = fields(os.path.join(pages.work, "plan.json"))
     if not plan:
         return
     plates_of(results, program, pages)
     layers = {page["name"]: page["layers"] for page in plan["pages"]}
-    results.see(layers["A07"][0].get("scale") == 3, f"an image of a third of the size: {layers['A07']}")
+    results.see(layers["A07"][0].get("scale") == 3, f"an image at a third of the size: {layers['A07']}")
     for page in plan["pages"]:
         if page["name"] in ("A02", "A03", "A04", "A12"):
             page["layers"] = layers["A01"]
@@ -462,23 +460,23 @@ def see_tiffs(results, program, folder):
         json.dump(plan, file)
     words = [program, "verify", other, os.path.join(pages.work, "files"), pages.plates]
     answer = subprocess.run(words, capture_output=True, text=True)
-    results.see(answer.stdout.startswith("same plates"), f"cured TIFF files: {answer.stdout!r} {answer.stderr!r}")
+    results.see(answer.stdout.startswith("same plates"), f"repaired TIFF files: {answer.stdout!r} {answer.stderr!r}")
 
 
 EDITS = (
     ("dpi = 300", 'dpi = "300"', r"line 2: dpi: '300' isn't a whole number"),
     ("dpi = 300", "", r"line 1: dpi: is missing"),
     ("trim = [60.96, 81.28]", "trim = [60]", r"line 3: trim: \[60\] isn't a width and a height"),
-    ("gutter = 2", "gutter = 2\nguter = 3", r"line 6: guter: is no key of a house file"),
+    ("gutter = 2", "gutter = 2\nguter = 3", r"line 6: guter: isn't a key of a house file"),
     ("gutter = 2", "gutter = -1", r"line 5: gutter: -1 isn't a length"),
     ("limit = 400", "limit = 401", r"line 6: limit: 401 isn't a limit of 0 to 400"),
     ("A = 2", "A = 3", r"line 8: sections\.A: 3 isn't an even number"),
     ('rgb = "refuse"', 'rgb = "convert"', r"line 9: colour\.profile: is missing"),
     ('rgb = "refuse"', 'rgb = "convert"\nprofile = "house.toml"', r"line 11: colour\.profile: .* isn't an ICC profile"),
-    ("[sites.OSLO]", "[sites.OSLO]\npres = 1", r"line \d+: sites\.OSLO\.pres: is no key"),
+    ("[sites.OSLO]", "[sites.OSLO]\npres = 1", r"line \d+: sites\.OSLO\.pres: isn't a key"),
     ("[sites.OSLO]", '[sites."Os lo"]', r"line \d+: sites\.Os lo: 'Os lo' isn't a name"),
     ("[sites.OSLO]", '[screens]\nK = "bayer3"\n[sites.OSLO]', r"line 13: screens\.K: 'bayer3' isn't one of bayer2"),
-    ("[sites.OSLO]", "[screens]\nK = { angle = 15, ruling = 290 }\n[sites.OSLO]", r"line 13: screens\.K: no tile comes"),
+    ("[sites.OSLO]", "[screens]\nK = { angle = 15, ruling = 290 }\n[sites.OSLO]", r"line 13: screens\.K: no tile is near"),
     ("[sites.OSLO]", "[curves]\nK = [[0, 0], [0.1, 5], [100, 100]]\n[sites.OSLO]", r"line 13: curves\.K: .* isn't a list"),
     ("[sites.OSLO]", "[[marks]]\ninks = \"K\"\nat = [1, 90]\nsize = [1, 1]\n[sites.OSLO]", r"line 12: marks\.0: leaves"),
     ("[sites.OSLO]", "[press.GOSS]\n[sites.OSLO]\npress = \"KBA\"", r"line 14: sites\.OSLO\.press: 'KBA' isn't 'GOSS'"),
@@ -489,13 +487,13 @@ EDITS = (
 
 
 def see_houses(results, folder):
-    """What is wrong with a house file is named with its line; two presses have two plans."""
+    """Tests that faults of a house file are reported with their lines, and that two presses get two plans."""
     pages = Pages(folder, "houses")
     pages.write("A1", BLACK)
     pages.write("A2", BLACK)
     right = pages.house()
     for old, new, pattern in EDITS:
-        results.see(right.count(old) == 1, f"the house file has no single {old!r}")
+        results.see(right.count(old) == 1, f"the house file doesn't have {old!r} exactly once")
         _, status = intake(pages, right.replace(old, new), quiet=True)
         results.see(status == 2 and re.search(pattern, pages.said), f"{new!r}: {pages.said!r}")
     presses = """
@@ -527,7 +525,7 @@ anything = true
 
 
 def see_newspaper(results, program, folder):
-    """The newspaper's PDFs: plates by the three commands, and those of its TIFF files byte for byte."""
+    """Tests the newspaper's PDFs: their plates verify, and match those of its TIFF files byte for byte."""
     folder = os.path.join(folder, "newspaper")
     names = "art", "plan.json", "pages", "work", "plates"
     art, plan, given, work, plates = (os.path.join(folder, name) for name in names)

@@ -1,18 +1,18 @@
-"""Pages by other writers of PDF: each becomes plates that look like what poppler draws of it.
+"""Tests pages made by several PDF writers: their plates look like poppler's rendering of the page.
 
-A page has black text and fields of full colours. What its plates print and what pdftoppm draws are compared
-ink by ink in squares of a millimetre: the sum of the differences is at most so much of the ink that either
-has. A page without its text, or without its fields, passes these bounds. Of writers of CMYK poppler draws
-the inks; of writers of RGB it draws RGB, and the inks are made of that here, as the house says.
+Each page has black text and fields of solid colour. The plates and the output of pdftoppm are compared ink
+by ink in squares of a millimetre. The sum of the differences is at most a fixed part of the larger amount of
+ink. A page without its text, or without its fields, exceeds these bounds. For writers of CMYK, poppler
+renders the inks. For writers of RGB it renders RGB, which is converted to inks here by the house's rules.
 """
 import os
 import subprocess
 
 from intake_pages import HOUSE, PROFILE, Pages, intake, missing_program, plates_of
 
-# The part of an ink that may differ.
+# The largest part of an ink that may differ.
 BOUNDS = {"K": 0.15, "C": 0.06, "M": 0.06, "Y": 0.06}
-# Inks that cover less than this part of the page on both aren't compared.
+# Inks that cover less than this part of the page in both aren't compared.
 LEAST = 0.002
 CELL = 12
 WORDS = "The council voted late/on Tuesday to close/the harbour road for/three weeks while the/sea wall is mended."
@@ -64,7 +64,7 @@ def by_cairo(pages, name):
         context.set_source_rgb(*(int(colour[i : i + 2], 16) / 255 for i in (1, 3, 5)))
         context.rectangle(x, 50, 10, 14)
         context.fill()
-    # Blending, so that the page's group, which is RGB, matters.
+    # Something transparent, so that the page's RGB group matters.
     context.set_source_rgba(0, 0, 0, 0.5)
     context.rectangle(10, 66, 46, 6)
     context.fill()
@@ -124,7 +124,7 @@ def run(words, pages):
 
 
 def lacks(name):
-    """Whether a writer isn't installed."""
+    """Returns whether a writer isn't installed."""
     if name == "cairo":
         try:
             import cairo
@@ -136,15 +136,15 @@ def lacks(name):
 
 
 def cells(samples):
-    """The mean of each square."""
+    """Returns the mean of each square."""
     height, width = (side // CELL * CELL for side in samples.shape)
     part = samples[:height, :width].astype(float)
     return part.reshape(height // CELL, CELL, width // CELL, CELL).mean(axis=(1, 3))
 
 
 def drawn(pages, name, is_cmyk):
-    """What poppler draws of a page, as ink of 0 to 1 in squares. Ghostscript's pages begin at the lower
-    left corner.
+    """Returns poppler's rendering of a page: the ink of each square, 0 to 1. Pages are aligned at the lower left
+    corner.
     """
     import numpy as np
     from PIL import Image
@@ -161,8 +161,8 @@ def drawn(pages, name, is_cmyk):
 
 
 def inked(image):
-    """The four inks of an RGB picture: by the house's profile, and neutral colours by black of the same
-    lightness.
+    """Converts an RGB picture to the four inks by the house's profile, and neutral colours to black ink of the
+    same lightness.
     """
     import numpy as np
     from PIL import Image, ImageCms
@@ -186,7 +186,7 @@ def inked(image):
 
 
 def printed(plates):
-    """What the plates of the first page print, as ink of 0 to 1 in squares."""
+    """Returns what the plates of the first page print: the ink of each square, 0 to 1."""
     import numpy as np
 
     found = {}
@@ -202,13 +202,13 @@ def printed(plates):
 
 
 def off(one, other):
-    """How much of an ink differs, as a part of what either has; 0 where there's next to none."""
+    """Returns the difference as a part of the larger amount of ink; 0 if both have next to none."""
     most = max(one.mean(), other.mean())
     return abs(one - other).mean() / most if most >= LEAST else 0.0
 
 
 def see_corpus(results, program, folder):
-    """The page of each writer that is installed."""
+    """Tests the page of each writer that is installed."""
     for name, (maker, is_cmyk) in WRITERS.items():
         if lacks(name):
             print(f"skipped: {name} isn't installed")
@@ -230,7 +230,7 @@ def see_corpus(results, program, folder):
             part = off(wanted[ink], got[ink])
             said.append(f"{ink} {100 * part:.1f}")
             results.see(part <= bound, f"{name}: {ink} differs by {100 * part:.1f} percent of the ink")
-        # The bounds tell what is missing: text is the upper half of the page, fields the lower.
+        # A page without its text, in the upper half, or without its fields, in the lower, must exceed a bound.
         half = got["K"].shape[0] * 5 // 9
         for part, ink in ((slice(0, half), "K"), (slice(half, None), "C")):
             erased = got[ink].copy()

@@ -1,4 +1,4 @@
-"""What check/intake.py makes its pages and houses by, and runs `pressroom intake` by."""
+"""Makes the pages and house files of check/intake.py, and runs `pressroom intake`."""
 import json
 import os
 import shutil
@@ -15,9 +15,7 @@ BLEED = 9
 
 @dataclass(frozen=True)
 class Sheet:
-    """The pixels of the house that pages are made for: 60.96 by 81.28 mm at 300 dpi, margins and gutter of
-    2 mm.
-    """
+    """The house's sizes in pixels: pages of 60.96 by 81.28 mm at 300 dpi, margins and a gutter of 2 mm."""
 
     width: int = 720
     height: int = 960
@@ -30,12 +28,12 @@ HOUSE = Sheet()
 
 
 def missing_program(*names):
-    """The first of these programs that isn't installed."""
+    """Returns the first of these programs that isn't installed, or None."""
     return next((name for name in names if shutil.which(name) is None), None)
 
 
 def fields(path):
-    """What a JSON file holds; None where it isn't there."""
+    """Returns the contents of a JSON file, or None if it doesn't exist."""
     if not os.path.exists(path):
         return None
     with open(path, encoding="utf-8") as file:
@@ -43,7 +41,7 @@ def fields(path):
 
 
 class Pages:
-    """A folder of pages, with the WORK and the plates that are made of it."""
+    """A folder of pages, and the folders of its WORK and its plates."""
 
     def __init__(self, folder, name, count=2, blank=()):
         self.count, self.blank, self.said = count, blank, ""
@@ -55,7 +53,7 @@ class Pages:
         return os.path.join(self.folder, f"{name}.{ending}")
 
     def house(self, spot=None, colour="refuse", limit=400, sites=None):
-        """The text of a house file. `colour` says what becomes of RGB and of spots."""
+        """Returns the text of a house file. `colour` is how it treats RGB and spots: `refuse` or `convert`."""
         lines = ['edition = "E1"', "dpi = 300", "trim = [60.96, 81.28]", "margins = [2, 2, 2, 2]"]
         lines += ["gutter = 2", f"limit = {limit}"] + ([f"blank = {json.dumps(self.blank)}"] if self.blank else [])
         lines += ["[sections]", f"A = {self.count}", "[colour]"]
@@ -69,7 +67,7 @@ class Pages:
         return "\n".join(lines) + "\n"
 
     def write(self, name, body, size=(60.96, 81.28), trim=True, embed=True, **how):
-        """Writes a page by pdfwrite, and does to it what `how` says: turn, password, owner, cut, broken."""
+        """Writes a page with pdfwrite, then changes it as `how` says: turn, password, owner, cut or broken."""
         width, height = (side * MILLIMETRE for side in size)
         edge = BLEED if trim else 0
         box = f"[{edge} {edge} {width + edge:.4f} {height + edge:.4f}]"
@@ -98,7 +96,7 @@ class Pages:
 
 
 def intake(pages, house, *more, quiet=False):
-    """Runs the command: its events, and its status. What it says on standard error is kept in `pages.said`.
+    """Runs `pressroom intake`. Returns its events and its status, and keeps its standard error in `pages.said`.
     """
     path = os.path.join(os.path.dirname(pages.folder), "house.toml")
     with open(path, "w", encoding="utf-8") as file:
@@ -113,10 +111,10 @@ def intake(pages, house, *more, quiet=False):
 
 
 def plates_of(results, program, pages):
-    """Runs the plan of these pages, verifies it, and gives the plates of the first pair by their ink."""
+    """Runs and verifies the plan of these pages. Returns a function from an ink to its plate of the first pair."""
     plan, files = os.path.join(pages.work, "plan.json"), os.path.join(pages.work, "files")
     answer = subprocess.run([program, "run", plan, files, pages.plates], capture_output=True, text=True)
-    results.see(answer.returncode == 0, f"the run ends with {answer.returncode}: {answer.stderr}")
+    results.see(answer.returncode == 0, f"the run exits with {answer.returncode}: {answer.stderr}")
     answer = subprocess.run([program, "verify", plan, files, pages.plates], capture_output=True, text=True)
     results.see(answer.stdout.startswith("same plates"), f"verify says {answer.stdout!r}")
     read = {}
@@ -131,7 +129,7 @@ def plates_of(results, program, pages):
 
 
 class Blank:
-    """A plate that the pair doesn't have."""
+    """Replaces a plate that the pair doesn't have."""
 
     @staticmethod
     def share(x, y, width, height):

@@ -1,5 +1,5 @@
-"""Tries that pages which are painted in strips have the pixels that `gs` makes in a file, and that a page
-which may have RGB is tested for it.
+"""Tests that pages painted in strips have the same pixels as those that `gs` renders to a file, and that
+pages that may have RGB are recognized.
 """
 import os
 import shutil
@@ -29,12 +29,12 @@ SPOT = "[/Separation /{} /DeviceCMYK {{ 0 exch dup 0.6 mul exch 0 }}] setcolorsp
 
 
 def picture(space, count, side=40):
-    """A picture of so many samples of so many colours, all unlike; pdfwrite puts small ones into the line."""
+    """Returns a picture of so many components and so many pixels a side. pdfwrite writes small ones inline."""
     data = bytes(37 * n * n % 251 for n in range(side * side * count))
     return PICTURE.format(space, "0 1 " * count, data.hex(), side)
 
 
-# Pages, and whether they may have RGB and may be painted in strips.
+# Pages, whether they may have RGB, and whether they may be painted in strips.
 KINDS = {
     "black": (TEXTS + CURVE, False, True),
     "picture": (picture("/DeviceCMYK", 4) + TEXTS, False, True),
@@ -62,7 +62,7 @@ CONTENTS = (
 
 
 def files(folder):
-    """The rows of all TIFF files in a folder."""
+    """Returns the rows of all TIFF files in a folder."""
     found = {}
     for name in sorted(os.listdir(folder)):
         if name.endswith(".tif"):
@@ -73,9 +73,9 @@ def files(folder):
 
 
 def see_strips(results, folder):
-    """Each kind of page, painted in strips and through a file."""
+    """Tests each kind of page, painted in strips and rendered to a file."""
     for text, right in CONTENTS:
-        results.see(has_no_rgb(text) == right, f"{text!r}: no RGB is {has_no_rgb(text)}")
+        results.see(has_no_rgb(text) == right, f"{text!r}: has_no_rgb returns {has_no_rgb(text)}")
     given = os.path.join(folder, "strips")
     os.makedirs(given)
     profiles.write_profiles(given, PROFILE)
@@ -94,21 +94,21 @@ def see_strips(results, folder):
         calls = [Ghostscript(version, Limits(), name, inspected.box, place) for place in places]
         wanted, wanted_seen = calls[1].separate(DPI, SIZE, "HOUSE", False)
         painted = calls[0].painted(DPI, SIZE, "HOUSE") if strips else None
-        results.see(bool(painted) == strips, f"{kind}: in strips it's {painted}")
+        results.see(bool(painted) == strips, f"{kind}: painted in strips: {painted}")
         if painted:
-            results.see(painted[0] == wanted, f"{kind}: in strips it's {painted[0]}, in a file {wanted}")
-            results.see((painted[1] == wanted_seen).all(), f"{kind}: the look at it differs")
+            results.see(painted[0] == wanted, f"{kind}: in strips: {painted[0]}, in a file: {wanted}")
+            results.see((painted[1] == wanted_seen).all(), f"{kind}: the low resolutions differ")
             results.see(files(places[0]) == files(places[1]), f"{kind}: pixels differ")
         if kind == "black":
             other = Ghostscript("9.55.0", Limits(), name, inspected.box, places[0])
-            results.see(other.painted(DPI, SIZE, "HOUSE") is None, "a library of another version is taken")
+            results.see(other.painted(DPI, SIZE, "HOUSE") is None, "a library of another version is used")
         for place in places:
             shutil.rmtree(place)
     see_by_hand(results, given, version)
 
 
 def by_hand(folder, content, head=None, samples=b"", keys=""):
-    """A page by hand, with a picture where it has one."""
+    """Writes a page by hand, with a picture if `head` is given."""
     pdf = Pdf()
     image = pdf.add(f"/Type /XObject /Subtype /Image {head}", samples) if head else 0
     text = pdf.add("", content)
@@ -119,8 +119,8 @@ def by_hand(folder, content, head=None, samples=b"", keys=""):
 
 
 def see_by_hand(results, folder, version):
-    """A page that is a group, and a picture of too few samples: Ghostscript repairs it, so the library's page
-    isn't taken, and `gs` names what is wrong.
+    """Tests a page that is a group, and a picture with too few samples. Ghostscript repairs the picture, so the
+    library's page isn't used, and `gs` reports what is wrong.
     """
     call = Ghostscript(version, Limits(), "page.pdf", "Crop", folder)
     curve = b"0.3 0 0 1 k 0 0 1 0.2 K 2 w 10 10 m 160 20 10 90 150 110 c b 20 120 60 60 re f"
@@ -133,10 +133,10 @@ def see_by_hand(results, folder, version):
     results.see(found == files(folder), "a group: pixels differ")
     head = "/Width 100 /Height 100 /ColorSpace /DeviceGray /BitsPerComponent 8"
     by_hand(folder, b"q 99 0 0 99 0 0 cm /I Do Q", head, bytes(1000))
-    results.see(call.painted(DPI, SIZE, None) is None, "a picture of too few samples is taken")
+    results.see(call.painted(DPI, SIZE, None) is None, "a picture with too few samples is used")
     try:
         call.separate(DPI, SIZE, None, True)
         said = "nothing"
     except Refused as error:
         said = str(error)
-    results.see(said == "damaged: recoverable image error", f"a picture of too few samples: {said}")
+    results.see(said == "damaged: recoverable image error", f"a picture with too few samples: {said}")

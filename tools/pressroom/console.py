@@ -1,4 +1,4 @@
-"""What the commands tell their user: faults, notes, progress, and with `--json` one JSON object a line.
+"""Reports faults, notes and progress to the user of a command.
 
 Text for people goes to standard error, results to standard output. With `--json` each event is one JSON object on a
 line of standard output, with the key `event` first, and no bar is shown.
@@ -7,7 +7,7 @@ import json
 import shutil
 import sys
 
-# The Debian package that has each program.
+# The Debian package of each program.
 PACKAGES = {
     "gs": "ghostscript",
     "qpdf": "qpdf",
@@ -27,11 +27,11 @@ PACKAGES = {
 
 
 class Missing(Exception):
-    """A program or a library that the command needs isn't installed; the text names its Debian package."""
+    """A program or library that the command needs isn't installed. The text names its Debian package."""
 
 
 def need(*programs):
-    """Raises Missing, naming the package, for the first of these programs that isn't on the path."""
+    """Raises Missing, with the package's name, for the first of these programs that isn't on the path."""
     for program in programs:
         if shutil.which(program) is None:
             package = PACKAGES.get(program, program)
@@ -39,13 +39,13 @@ def need(*programs):
 
 
 def fault_of(error):
-    """What an OSError says, with its file where it names one, or the name to which it was to be renamed."""
+    """Returns the text of an OSError with the file that it names; of a rename, with the new name."""
     name = error.filename2 or error.filename
     return f"{name}: {error.strerror}" if name else str(error)
 
 
 class NoBar:
-    """Stands for a bar of progress where tqdm isn't installed."""
+    """Replaces a progress bar if tqdm isn't installed, and shows nothing."""
 
     def update(self, count):
         pass
@@ -63,13 +63,13 @@ class Console:
         self.counts, self.fields, self.drawn = {}, {}, None
 
     def about(self, **fields):
-        """A console that counts with this one, and whose events have these fields too."""
+        """Returns a console that shares this one's counts and adds these fields to its events."""
         other = Console(self.name, self.as_json)
         other.counts, other.fields = self.counts, self.fields | fields
         return other
 
     def tell(self, event, text, **fields):
-        """Tells one event: its text to people, all fields as JSON. `event` is a word such as fault, note, page."""
+        """Reports one event as text or, with all its fields, as JSON. `event` is a word such as fault."""
         self.counts[event] = self.counts.get(event, 0) + 1
         if self.as_json:
             fields = {"event": event, "text": text, **self.fields, **fields}
@@ -80,7 +80,7 @@ class Console:
             print(text if event == "done" else f"{event}: {text}", flush=True)
 
     def bar(self, items, words, total=None):
-        """The items, under a bar of progress where tqdm is installed and they take longer than two seconds."""
+        """Returns the items, with a progress bar if tqdm is installed and they take more than two seconds."""
         try:
             from tqdm import tqdm
         except ImportError:
@@ -90,7 +90,7 @@ class Console:
         return self.drawn
 
     def gauge(self, words, total):
-        """A bar that `update(N)` moves and `close()` ends, shown under the same conditions as `bar`."""
+        """Returns a bar that `update(N)` moves and `close()` ends, shown in the same cases as `bar`."""
         try:
             from tqdm import tqdm
         except ImportError:
@@ -98,6 +98,6 @@ class Console:
         return tqdm(desc=words, total=total, delay=2, leave=False, disable=True if self.as_json else None)
 
     def leave(self, status, text):
-        """Ends the command with this status and line, under its name, on standard error."""
+        """Prints this text after the command's name on standard error, and exits with this status."""
         print(f"{self.name}: {text}", file=sys.stderr)
         sys.exit(status)

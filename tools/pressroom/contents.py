@@ -1,6 +1,7 @@
-"""What a PDF's objects and contents may show, so that a page without it needs no test of its pixels.
+"""Tests a PDF's objects and content streams for transparency, overprint and RGB, so that a page without them
+needs no test of its pixels.
 
-Both answers may be yes for nothing, and are never no where the page has it.
+The tests are conservative: false alarms are possible, misses are not.
 """
 import dataclasses
 import os
@@ -8,15 +9,15 @@ import re
 
 from pressroom.limits import Passed
 
-# Streams of such keys hold no operators.
+# Streams under these keys contain no operators.
 DATA = {
     "/FontFile", "/FontFile2", "/FontFile3", "/ToUnicode", "/Metadata", "/CIDToGIDMap", "/CIDSet",
     "/DestOutputProfile", "/ICCBased",
 }  # fmt: skip
 DECODED = {"/FlateDecode", "/LZWDecode", "/ASCII85Decode", "/ASCIIHexDecode", "/RunLengthDecode", "/Crypt"}
-# So many streams, and megabytes of each and of all, are read.
+# The most streams that are read, and the most megabytes of each and of all.
 MOST_STREAMS, MOST_BYTES = 400, 16
-# Keys of transparency, and their values where nothing is.
+# Keys of transparency, and their values for opaque objects.
 OPAQUE = {
     "/SMask": ("/None",),
     "/BM": ("/Normal", "/Compatible"),
@@ -25,14 +26,14 @@ OPAQUE = {
     "/SMaskInData": (0,),
 }
 STRING = re.compile(rb"\((?:[^()\\]|\\.)*\)", re.DOTALL)
-# The operators of RGB, RGB by name, and what a reader of tokens would have to know: a string within one, a
-# comment and a picture in the line.
+# RGB operators, also within names such as DeviceRGB, and what only a tokenizer can read: nested strings,
+# comments and inline images.
 OPEN = re.compile(rb"rg|RG|[()%]|BI|(?<!MC)ID")
 
 
 def walk(value, key=""):
-    """All values within a value, each with the key of the dictionary that it's in. Lists of a profile have
-    the key /ICCBased.
+    """Yields all values within a value, each with its key in the innermost dictionary. Within the array of a
+    profile the key is /ICCBased.
     """
     yield key, value
     if isinstance(value, dict):
@@ -44,7 +45,7 @@ def walk(value, key=""):
 
 
 def may_blend(objects):
-    """Whether something may be transparent. A page may be a group: what is opaque within it stays so."""
+    """Returns whether something may be transparent. In a page's own group, opaque objects stay so."""
     return any(
         (key == "/Group" and value is not group_of(holder)) or (key in OPAQUE and value not in OPAQUE[key])
         for holder in objects.values()
@@ -53,13 +54,13 @@ def may_blend(objects):
 
 
 def group_of(holder):
-    """The group of an object that is a page, or None."""
+    """Returns the group of an object that is a page, or None."""
     page = holder.get("value")
     return page.get("/Group") if isinstance(page, dict) and page.get("/Type") == "/Page" else None
 
 
 def may_overprint(objects):
-    """Whether something may overprint."""
+    """Returns whether something may overprint."""
     return any(
         key in ("/OP", "/op") and value is not False
         for holder in objects.values()
@@ -68,7 +69,7 @@ def may_overprint(objects):
 
 
 def spots(objects):
-    """The names of separations that aren't of the four inks."""
+    """Returns the names of separations other than the four inks, All and None."""
     found = set()
     for holder in objects.values():
         for _, value in walk(holder):
@@ -79,15 +80,15 @@ def spots(objects):
 
 
 def may_be_painted(objects):
-    """Whether Ghostscript's library paints this page in strips with the pixels that `psdcmyk` makes.
+    """Returns whether Ghostscript's library can paint this page in strips with the pixels of `psdcmyk`.
 
-    In strips it can't blend and doesn't overprint, and it gives several spots in another order.
+    In strips the library can't blend, doesn't overprint, and returns several spots in another order.
     """
     return not may_blend(objects) and not may_overprint(objects) and len(spots(objects)) < 2
 
 
 def may_have_rgb(limits, name, folder, objects):
-    """Whether the PDF in the folder may have RGB."""
+    """Returns whether the PDF in the folder may have RGB."""
     uses = {}
     for holder in objects.values():
         for key, value in walk(holder):
@@ -113,7 +114,7 @@ def may_have_rgb(limits, name, folder, objects):
 
 
 def texts(limits, name, folder, wanted):
-    """The data of these streams; one that can't be read is None."""
+    """Yields the data of these streams, or a single None if they can't be read."""
     words = ["qpdf", "--json=2", "--json-key=qpdf", "--decode-level=generalized", "--json-stream-data=file"]
     words += ["--json-stream-prefix=content", *(f"--json-object={number},{age}" for number, age, _ in wanted)]
     try:
@@ -133,5 +134,5 @@ def texts(limits, name, folder, wanted):
 
 
 def has_no_rgb(text):
-    """Whether a stream of operators surely has no RGB: it has none of its operators but in strings."""
+    """Returns whether a content stream certainly has no RGB: OPEN matches nothing outside its strings."""
     return text is not None and not OPEN.search(STRING.sub(b"", text))

@@ -1,12 +1,12 @@
-"""Renders a page into memory by Ghostscript's library, strip by strip, and makes its files.
+"""Renders a page into memory with Ghostscript's library, strip by strip, and writes the page's files.
 
-It's a program of its own, started under limits in the page's folder with one word, a JSON object: `words`
-for Ghostscript, `pdf`, `size` in pixels, `dpi`, `house`, the name of the house's spot or null, and `version`,
-which `gs --version` prints and the library has to have. It writes `seen.npy` and `answer.json`, and ends with
-0 where all of that is made.
+intake runs this file as a separate process, under limits, in the page's folder. Its one argument is a JSON
+object: `words`, the arguments of Ghostscript; `pdf`, the file; `size` in pixels; `dpi`; `house`, the name of
+the house's spot or null; and `version`, the output of `gs --version`, which the library must match. The
+process writes `seen.npy` and `answer.json`, and exits with 0 if everything was made.
 
-The device is `display` in separations and planes (Ghostscript's gdevdsp.h): it asks for one rectangle after
-another and calls back when that is painted. Its bytes are ink: 0 is bare.
+It uses Ghostscript's device `display` with separations in planes (gdevdsp.h). The device asks for one
+rectangle after another, and calls back when each is painted. Its bytes are ink: 0 is bare.
 """
 import ctypes
 import ctypes.util
@@ -15,19 +15,19 @@ import os
 import sys
 from ctypes import CFUNCTYPE, POINTER, c_char_p, c_int, c_long, c_size_t, c_uint, c_ushort, c_void_p
 
-# A thread for each processor, which nothing here needs, would take much of the limit of memory.
+# By default OpenBLAS starts a thread for each processor, and their memory counts against the limit.
 os.environ["OPENBLAS_NUM_THREADS"] = "1"
 sys.path.insert(0, os.path.dirname(os.path.dirname(os.path.abspath(__file__))))
 from pressroom.separations import Separations, Spot
 from pressroom.strips import STRIP
 
-# DISPLAY_COLORS_SEPARATION, DISPLAY_DEPTH_8 and DISPLAY_PLANAR; all else is 0.
+# DISPLAY_COLORS_SEPARATION, DISPLAY_DEPTH_8 and DISPLAY_PLANAR; all other bits are 0.
 FORMAT = 1 << 19 | 1 << 11 | 1 << 23
-# So many planes the device may paint, whether the page has spots or not.
+# The most planes that the device paints, whether the page has spots or not.
 PLANES = 8
 VERSION = 3, 0
 UTF8, QUIT = 1, -101
-# Ghostscript's fractions: this is 1.
+# The value of 1 among Ghostscript's fractions.
 FRACTION = 32760
 
 HANDLE = c_void_p, c_void_p
@@ -73,7 +73,7 @@ class Revision(ctypes.Structure):
 
 
 def is_version(library, text):
-    """Whether the library is of this version: of 10.02.1 it says 10021."""
+    """Returns whether the library has this version: 10.02.1 is the revision 10021."""
     found = Revision()
     library.gsapi_revision(ctypes.byref(found), ctypes.sizeof(found))
     major, minor, patch = (*map(int, text.split(".")), 0)[:3]
@@ -81,23 +81,23 @@ def is_version(library, text):
 
 
 def mixture(inks):
-    """What a PSD file has of these inks, as parts of 1: its colours are rounded down once more."""
+    """Returns these inks as a PSD file has them, from 0 to 1: it rounds colours down once more."""
     fractions = [round(ink * FRACTION / 65535) for ink in inks]
     return tuple(1 - (65535 * (FRACTION - fraction) // FRACTION) / 65535 for fraction in fractions)
 
 
 class Painter:
-    """Takes a page from the device."""
+    """Receives a page from the device."""
 
     def __init__(self, folder, asked):
         self.folder, self.size, self.dpi = folder, tuple(asked["size"]), asked["dpi"]
         self.house = asked["house"]
         self.names, self.made, self.memory, self.wrong = {}, None, None, None
-        # The rows of a band, those that are painted, and those of them that stand in strips that are made.
+        # Rows in a band, rows that are painted, and rows whose strips are written.
         self.rows, self.painted, self.taken = STRIP, 0, 0
 
     def callback(self):
-        """The device's table of calls."""
+        """Returns the device's table of callbacks."""
 
         def done(*_):
             return 0
@@ -114,28 +114,28 @@ class Painter:
         return 0
 
     def band(self, handle, device, rows):
-        """Learns how many rows a band has. Curves differ by single pixels where bands have other heights,
-        and these are those of `psdcmyk`.
+        """Stores the number of rows in a band. `psdcmyk` has the same bands; with others, curves differ by
+        single pixels.
         """
         self.rows = max(1, rows)
         return 0
 
     def rectangle(self, handle, device, memory, left, top, raster, plane, *rectangle):
-        """Takes the band that was painted, and asks for the next one."""
+        """Receives the band that was painted, and asks for the next one."""
         try:
             if self.made is None:
                 self.begin()
             else:
                 self.take()
             rows = max(0, min(self.rows, self.memory.shape[1] - STRIP, self.size[1] - self.painted))
-            # The block begins with the band: 10.00 paints at its first row, whatever the corner.
+            # The memory begins with the band: 10.00 paints at its first row, whatever the corner is.
             memory[0] = self.memory.ctypes.data + (self.painted - self.taken) * self.size[0]
             left[0], top[0], raster[0], plane[0] = 0, self.painted, *self.memory.strides[1::-1]
             for place, value in zip(rectangle, (0, self.painted, self.size[0] if rows else 0, rows)):
                 place[0] = value
             self.painted += rows
             return 0
-        except Exception as error:  # It can't pass through Ghostscript.
+        except Exception as error:  # Exceptions can't pass through Ghostscript.
             self.wrong = self.wrong or error
             rectangle[2][0] = rectangle[3][0] = 0
             return -1
@@ -145,12 +145,12 @@ class Painter:
 
         spots = [self.names[number] for number in sorted(self.names) if number >= 4]
         if len(spots) > 1:
-            raise ValueError("the order of spots isn't that of planes in a file")
+            raise ValueError("the order of spots may differ from that of planes in a file")
         self.made = Separations(self.folder, self.size, self.dpi, spots, self.house)
         self.memory = np.zeros((PLANES, STRIP + self.rows, self.size[0]), np.uint8)
 
     def take(self):
-        """Makes the strips that are painted, and moves the rows behind them to the front."""
+        """Writes the strips that are painted, and moves the rows after them to the front."""
         planes, first = self.memory[: 4 + len(self.made.spots)], self.taken
         least = 1 if self.painted == self.size[1] else STRIP
         while self.painted - self.taken >= least:
@@ -164,7 +164,7 @@ class Painter:
 
 
 def rendered(words, version, painter):
-    """Renders by Ghostscript; its status, which is 0 where it's well."""
+    """Renders with Ghostscript. Returns 0 if that succeeds, otherwise 1."""
     library = ctypes.CDLL(ctypes.util.find_library("gs"))
     if not is_version(library, version):
         return 1

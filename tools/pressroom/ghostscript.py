@@ -1,4 +1,4 @@
-"""The calls of Ghostscript: a page to planes of ink at a resolution, in a folder of its own."""
+"""Calls Ghostscript, which renders a page to planes of ink at a resolution, in the page's own folder."""
 import json
 import os
 import re
@@ -11,16 +11,16 @@ from pressroom.pdf import Refused, first_line, printable
 from pressroom.planes import Planes
 from pressroom.separations import Separations
 
-# The lines of what Ghostscript repaired; that these are errors or warnings it says on standard error.
+# The lines that say what Ghostscript repaired. That they are errors or warnings is on standard error.
 REPAIRED = re.compile(rb"^\t(.+)$", re.MULTILINE)
-# A page of so many pixels has bands: 10 MB are painted without them.
+# Larger pages, in pixels, are painted in bands. Ghostscript paints 10 MB without them.
 SMALL = 8 << 20
 
 
 @dataclass(frozen=True)
 class Ghostscript:
-    """Renders one page: a PDF in a folder, where write_profiles' files are too. `box` is the box that is
-    taken, `version` what `gs --version` says.
+    """Renders one page: a PDF in a folder that also has the files of write_profiles. `box` names the page box
+    that is rendered, `version` is the output of `gs --version`.
     """
 
     version: str
@@ -30,7 +30,7 @@ class Ghostscript:
     folder: str
 
     def words(self, dpi, size, colours="colour"):
-        """The words of a call but for the device and the file."""
+        """Returns the arguments of a call without the device and the file."""
         return [
             "gs",
             "-dNOPAUSE",
@@ -41,7 +41,7 @@ class Ghostscript:
             f"-dUse{self.box}Box",
             "-dFirstPage=1",
             "-dLastPage=1",
-            # Without it what overprints a separation that is mixed into the four inks takes it away.
+            # Otherwise an object that overprints a separation mixed into the four inks erases it.
             "-dOverprint=/simulate",
             "--permit-file-read=./",
             f"-sSourceObjectICC={colours}.txt",
@@ -52,25 +52,25 @@ class Ghostscript:
         ]
 
     def render(self, dpi, size, name, colours="colour"):
-        """Renders so many pixels of the page to a file of this name in the folder, and returns its planes."""
+        """Renders the page, at this size in pixels, to this file in the folder. Returns its planes."""
         words = [*self.words(dpi, size, colours), "-sDEVICE=psdcmyk", f"-sOutputFile={name}", self.pdf]
         status, out, note = self.limits.run(words, self.folder)
         path = os.path.join(self.folder, name)
         if status or not os.path.isfile(path):
             raise Refused("damaged", f"can't be rendered: {first_line(out + note)}")
-        # Of a picture with too few samples Ghostscript paints what there is, and ends with 0.
+        # If a picture has too few samples, Ghostscript paints those it has and exits with 0.
         if was_repaired(out, note):
             said = b", ".join(REPAIRED.findall(out)).decode("utf-8", "replace")
             raise Refused("damaged", f"damaged: {printable(said) or 'Ghostscript had to repair it'}")
         return Planes(path, size)
 
     def separate(self, dpi, size, house, strips):
-        """Makes the files of the page; what Separations.end says of it, and the page at a low resolution.
+        """Makes the page's files. Returns the result of Separations.end and the page at a low resolution.
 
-        With `strips` the library paints it strip by strip into memory. That takes less than half of the time
-        that planes in a file take, and makes the same pixels, but on pages so small that `gs` makes them
-        without bands. Other pages go through a file, and so do those where the library fails: then what is
-        wrong is what `gs` says.
+        With `strips`, the library paints the page strip by strip into memory. That takes less than half the
+        time of planes in a file, and makes the same pixels, except on pages so small that `gs` paints them
+        without bands. All other pages go through a file. So do pages on which the library fails: then `gs`
+        reports what is wrong.
         """
         painted = self.painted(dpi, size, house) if strips and size[0] * size[1] > SMALL else None
         if painted:
@@ -83,7 +83,7 @@ class Ghostscript:
         return made.end(), made.seen
 
     def painted(self, dpi, size, house):
-        """What `separate` returns, by the library; None where that doesn't succeed."""
+        """Returns what `separate` returns, made by the library, or None if the library fails."""
         import numpy as np
 
         asked = {"words": self.words(dpi, size), "pdf": self.pdf, "size": size, "dpi": dpi}
@@ -102,5 +102,5 @@ class Ghostscript:
 
 
 def was_repaired(out, note):
-    """Whether Ghostscript painted something otherwise than the PDF says."""
+    """Returns whether Ghostscript painted something differently from what the PDF says."""
     return b"errors were encountered" in note or any(b"image error" in line for line in REPAIRED.findall(out))

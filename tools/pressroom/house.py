@@ -1,8 +1,8 @@
-"""The house file: what a newspaper's editions have in common, in TOML, tested key by key.
+"""Reads the house file, a TOML file with what a newspaper's editions have in common, and tests every key.
 
-`read_house(path)` returns a House. All lengths in it are millimetres, limits and curves percent; `pixels`
-makes pixels of millimetres. What is wrong is raised as HouseFault, whose lines each name the file, the line
-and the key.
+`read_house(path)` returns a House. All its lengths are in millimetres, its limits and curves in percent;
+`pixels` converts millimetres to pixels. Errors are raised as HouseFault, whose lines each name the file, the
+line and the key.
 """
 import os
 import re
@@ -38,14 +38,14 @@ INKS = "CMYKS"
 NAMED_SCREENS = ("bayer2", "bayer4", "bayer8", "bayer16", "diffuse")
 # Tables that other commands read and test.
 OTHERS = ("night", "delivery", "keys")
-# The press of sites that name none, where the file describes no press.
+# The press of sites that name none, if the file describes no press.
 ONE_PRESS = "plan"
 LARGEST_TILE = 64
 
 
 @dataclass(frozen=True)
 class Screen:
-    """A screen: one that the program has by name, or a tile of clustered dots by angle, ruling and dot."""
+    """A screen that plateroom has by name, or a tile of clustered dots by angle, ruling and dot."""
 
     name: str = ""
     angle: float = 0.0
@@ -66,7 +66,7 @@ class Mark:
 
 @dataclass(frozen=True)
 class Press:
-    """What the plates of one press need: curves in percent by ink, screens by ink, the limit in percent."""
+    """The settings of one press: limit in percent, screens by ink, curves in percent by ink, and marks."""
 
     name: str
     limit: float
@@ -127,28 +127,28 @@ class House:
     tables: dict
 
     def pixels(self, length):
-        """Millimetres as whole pixels of a plate."""
+        """Returns a length in millimetres as whole pixels of a plate."""
         return round(length * self.dpi / 25.4)
 
     def page_pixels(self):
-        """Width and height of a page in pixels."""
+        """Returns the width and height of a page in pixels."""
         return self.pixels(self.trim[0]), self.pixels(self.trim[1])
 
     def plate_pixels(self):
-        """Width and height of a plate in pixels."""
+        """Returns the width and height of a plate in pixels."""
         (width, height), (left, top, right, bottom) = self.page_pixels(), map(self.pixels, self.margins)
         return left + 2 * width + self.pixels(self.gutter) + right, top + height + bottom
 
     def zones(self):
-        """The zones of all sites, each once."""
+        """Returns the zones of all sites, each once."""
         return list(dict.fromkeys(site.zone for site in self.sites if site.zone))
 
     def table(self, name):
-        """The table that another command owns, untested; empty where the file has none."""
+        """Returns a table that another command reads and tests, or an empty one if the file has none."""
         return self.tables.get(name, {})
 
     def place_of(self, text):
-        """The place that `A01` or `west/A01` names, or None."""
+        """Returns the place that `A01` or `west/A01` names, or None."""
         zone, _, rest = text.rpartition("/")
         for section in sorted(self.sections, key=len, reverse=True):
             number = re.fullmatch(re.escape(section) + r"0*([1-9][0-9]{0,2})", rest)
@@ -158,7 +158,7 @@ class House:
 
 
 def read_house(path):
-    """The house file at this path."""
+    """Reads the house file at this path."""
     try:
         with open(path, "rb") as file:
             text = file.read().decode("utf-8")
@@ -205,7 +205,7 @@ class Reading:
         return house
 
     def sheet(self):
-        """Edition, resolution, sizes and the names of files."""
+        """Reads the edition, the resolution, the sizes and the pattern of file names."""
         keys = self.keys
         margins = numbers(4, 0, 5000, "four lengths of 0 to 5000 mm: left, top, right, bottom")
         return {
@@ -219,7 +219,7 @@ class Reading:
         }
 
     def sections(self):
-        """The page counts of the sections, by name, in the file's order."""
+        """Reads the page counts of the sections, by name, in the file's order."""
         keys = self.keys.inside("sections")
         even = whole(2, 128, "an even number of pages, 2 to 128")
 
@@ -233,7 +233,7 @@ class Reading:
         return {self.name(keys, name): keys.take(name, count) for name in keys.table}
 
     def name(self, keys, name):
-        """The name of a table or a key that the house gives."""
+        """Tests a name that the house gives to a table or key, and returns it."""
         try:
             return NAME(name)
         except Wrong as error:
@@ -241,7 +241,7 @@ class Reading:
             return name
 
     def colour(self):
-        """What becomes of RGB and of separations that aren't the house's own."""
+        """Reads how RGB and separations other than the house's spot are treated."""
         keys = self.keys.inside("colour")
         folder = os.path.dirname(os.path.abspath(self.path))
         text = matching(r"[^\x00-\x1f]+", "the path of an ICC profile")
@@ -265,7 +265,7 @@ class Reading:
         return Spot(separation, tuple(bytes.fromhex(colour[1:]))) if separation and colour else None
 
     def tone(self, keys, dpi, base):
-        """Limit, screens, curves and marks of a table; what it hasn't is taken from the base."""
+        """Reads the limit, screens, curves and marks of a table. The base provides what the table lacks."""
         found = {"limit": keys.take("limit", PERCENT, base["limit"])}
         readers = {"screens": self.screen, "curves": lambda inner, ink, _: inner.take(ink, curve)}
         for name, read in readers.items():
@@ -281,7 +281,7 @@ class Reading:
         return found
 
     def screen(self, keys, ink, dpi):
-        """A screen by its name, or by angle and ruling, for which a tile must come near."""
+        """Reads a screen: a name, or an angle and a ruling for which a tile is near enough."""
         if not isinstance(keys.table[ink], dict):
             words = "one of " + ", ".join(NAMED_SCREENS) + " or { angle = A, ruling = R }"
             name = keys.take(ink, matching("|".join(NAMED_SCREENS), words))
@@ -295,7 +295,7 @@ class Reading:
             return None
         grid = tile.nearest(angle, ruling, dpi, LARGEST_TILE)[0]
         if not tile.is_near(grid, angle, ruling, dpi):
-            near = f"no tile comes near at {dpi} dpi; the nearest has {grid.line(dpi)}"
+            near = f"no tile is near enough at {dpi} dpi; the nearest has {grid.line(dpi)}"
             self.faults.add(inner.path, None, near)
         return Screen(angle=angle, ruling=ruling, dot=dot)
 
@@ -308,7 +308,7 @@ class Reading:
         return Mark(inks, x, y, width, height)
 
     def presses(self, sheet):
-        """The presses, each whole: what it hasn't of its own is the house's."""
+        """Reads the presses. Each inherits the house's settings that it doesn't override."""
         base = {"limit": 400, "screens": {}, "curves": {}, "marks": ()}
         common = self.tone(self.keys, sheet["dpi"], base)
         tables = self.keys.inside("press")
@@ -322,7 +322,7 @@ class Reading:
         return presses
 
     def sites(self, presses):
-        """The sites in the file's order."""
+        """Reads the sites in the file's order."""
         tables, sites = self.keys.inside("sites"), []
         if not 1 <= len(tables.table) <= 16:
             self.faults.add(tables.path, None, "a house has 1 to 16 sites, each a table `[sites.NAME]`")
@@ -334,11 +334,11 @@ class Reading:
             keys.end()
         for press in set(presses) - {site.press for site in sites}:
             if self.keys.table.get("press"):
-                self.faults.add(("press", press), None, "no site has this press")
+                self.faults.add(("press", press), None, "no site uses this press")
         return tuple(sites)
 
     def with_blanks(self, house):
-        """The house with the places that its list `blank` names."""
+        """Returns the house with the places of its list `blank`."""
 
         def blanks(value):
             if not isinstance(value, list) or not all(isinstance(item, str) for item in value):
@@ -353,10 +353,10 @@ class Reading:
         return House(**{**vars(house), "blank": blank or frozenset()})
 
     def see_sizes(self, house):
-        """Whether page, plate and marks have sizes that a plan takes."""
+        """Tests that a plan accepts the sizes of pages, plates and marks."""
         width, height = house.plate_pixels()
         if min(house.page_pixels()) < 1 or max(width, height) > 65535:
-            words = f"a plate would have {width} by {height} pixels; it may have 65535 either way"
+            words = f"a plate would be {width} by {height} pixels; each side is limited to 65535"
             self.faults.add(("trim",), None, words)
         for press in house.presses.values():
             own = "marks" in self.keys.table.get("press", {}).get(press.name, {})

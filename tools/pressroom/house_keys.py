@@ -1,4 +1,5 @@
-"""The values of a house file: what each key takes, and the tables that keys are taken from, fault by fault.
+"""Reads the values of a house file: what each key accepts, and tables whose keys are read one by one, with
+their faults collected.
 """
 import re
 
@@ -6,7 +7,7 @@ REQUIRED = object()
 
 
 class HouseFault(Exception):
-    """What is wrong with a house file: `lines` has each fault with its file, line and key."""
+    """The faults of a house file. `lines` has each fault with its file, line and key."""
 
     def __init__(self, lines):
         super().__init__("\n".join(lines))
@@ -14,7 +15,7 @@ class HouseFault(Exception):
 
 
 class Wrong(Exception):
-    """A value isn't what its key takes; the text says what it is and what the key takes."""
+    """A value that its key doesn't accept. The text has the value, and says what the key accepts."""
 
 
 def wrong(value, words):
@@ -73,7 +74,7 @@ INK_LETTERS = matching("(?=.)C?M?Y?K?S?", "some of the letters CMYKS, in this or
 
 
 def pattern(value):
-    """A pattern of file names: {section}, {page}, * for anything, and text."""
+    """Reads a pattern of file names: {section}, {page}, * for anything, and text."""
     if (
         not isinstance(value, str)
         or value.count("{section}") != 1
@@ -85,7 +86,7 @@ def pattern(value):
 
 
 def curve(value):
-    """Points of percent and what becomes of it; each stands to the right of the one before in 255ths too."""
+    """Reads a curve: points of percent and percent, each to the right of the one before, also in 255ths."""
     words = "a list of 2 to 32 points [percent, percent] from 0 to 100, each to the right of the one before"
     if not isinstance(value, list) or not 2 <= len(value) <= 32:
         raise wrong(value, words)
@@ -97,7 +98,7 @@ def curve(value):
 
 
 def cmyk_profile(path):
-    """A path that leads to an ICC profile of CMYK."""
+    """Tests that a path leads to a CMYK ICC profile, and returns it."""
     try:
         with open(path, "rb") as file:
             head = file.read(40)
@@ -109,13 +110,13 @@ def cmyk_profile(path):
 
 
 class Keys:
-    """The keys of one table while they are read; faults are gathered, each with its line."""
+    """The keys of one table while they are read. Faults are collected with their lines."""
 
     def __init__(self, table, path, faults):
         self.table, self.path, self.faults, self.left = table, path, faults, set(table)
 
     def take(self, key, read, default=REQUIRED):
-        """The value of a key as `read` takes it; the default where it's absent, None where it's wrong."""
+        """Returns the value of a key as `read` returns it, the default if absent, or None if it's wrong."""
         self.left.discard(key)
         if key not in self.table:
             if default is REQUIRED:
@@ -129,7 +130,7 @@ class Keys:
             return None
 
     def inside(self, key):
-        """The keys of a table in this one, which is empty where it's absent."""
+        """Returns the keys of a table within this one. An absent table is empty."""
         self.left.discard(key)
         table = self.table.get(key, {})
         if not isinstance(table, dict):
@@ -138,7 +139,7 @@ class Keys:
         return Keys(table, self.path + (key,), self.faults)
 
     def each(self, key):
-        """The tables of a list of tables."""
+        """Returns the keys of each table in a list of tables."""
         self.left.discard(key)
         items = self.table.get(key, [])
         if not isinstance(items, list) or not all(isinstance(item, dict) for item in items):
@@ -147,20 +148,20 @@ class Keys:
         return [Keys(item, self.path + (key, place), self.faults) for place, item in enumerate(items)]
 
     def end(self):
-        """Names each key that nothing took."""
+        """Reports each key that wasn't read."""
         for key in self.table:
             if key in self.left:
-                self.faults.add(self.path + (key,), None, "is no key of a house file")
+                self.faults.add(self.path + (key,), None, "isn't a key of a house file")
 
 
 class Faults:
-    """The faults of one file, in the order of its lines."""
+    """The faults of one file, sorted by line."""
 
     def __init__(self, path, lines):
         self.path, self.lines, self.found = path, lines, []
 
     def add(self, path, key, words):
-        """One fault at this path; `key` is one that is missing there."""
+        """Adds a fault at this path. `key`, if given, is a key that is missing there."""
         line = self.lines.line(path)
         full = ".".join(map(str, path + ((key,) if key else ())))
         self.found.append((line, f"{self.path} line {line}: {full}: {words}"))

@@ -1,17 +1,17 @@
-"""Makes plans and files for plateroom out of the pages of a night: single-page PDFs, or TIFF files.
+"""Converts an edition's pages, single-page PDFs or TIFF files, into plans and files for plateroom.
 
-HOUSE is the house file (tools/README.md has its keys). IN holds A01.pdf and so on by section and page, and
-ZONE/A01.pdf for a zone's own page. WORK gets `files`, and PRESS.json for each press: a plan, where every page
-is right. Only pages that changed since the last call are made again.
+HOUSE is the house file; tools/README.md lists its keys. IN holds the pages, named by section and page, such
+as A01.pdf, or ZONE/A01.pdf for a zone's own page. The files that it makes are in WORK/files. If no page has a
+fault, it writes a plan WORK/PRESS.json for each press. A second call makes only the pages that changed.
 
-Faults: nothing is made of such a page, the others are made, and no plan is written (but see --partial).
-Notes: the page is made, and something of it isn't as its file says. Both have the file, and the place in
-millimetres from the upper left corner of the page where there is one.
+A fault stops one page: the other pages are made, but no plan is written without --partial. A note reports
+what changed on the way, or what may print badly. Faults and notes name the file and, where there is one, the
+place in millimetres from the page's upper left corner.
 
 example: pressroom intake house.toml in work && plateroom run work/plan.json work/files plates
 
-status: 0 the plans are written; 1 a page has a fault; 2 the words or the house file are wrong, a program
-isn't installed, or WORK can't be written or is another intake's
+status: 0 the plans are written; 1 a page has a fault; 2 the arguments or the house file are wrong, a program
+or library isn't installed, WORK can't be written, or another intake is using WORK
 """
 import argparse
 import os
@@ -36,7 +36,7 @@ PROGRAMS = ("gs", "qpdf", "pdfinfo", "pdffonts", "pdftohtml", "tiffcp", "tiffinf
 
 @dataclass(frozen=True)
 class Outcome:
-    """What became of a page's file: its layers in the plan's form, or a fault."""
+    """The result for one page's file: its inks and layers in the plan's form, or a fault."""
 
     source: pages.PageFile
     page: dict | None = None
@@ -48,7 +48,7 @@ class Outcome:
 
 
 class Intake:
-    """One call: the house, its folders and limits."""
+    """One call: the house, the folder WORK, and the limits."""
 
     def __init__(self, house, work, limits, patience):
         self.house, self.work, self.limits, self.patience = house, work, limits, patience
@@ -59,7 +59,7 @@ class Intake:
         self.settings = state.settings(house, version.decode())
 
     def outcome(self, source):
-        """Makes a page of its file, unless it's made already."""
+        """Makes the page of a file, unless it was made before."""
         try:
             return self.page(source)
         except Passed as error:
@@ -69,14 +69,14 @@ class Intake:
         except OSError as error:
             text = f"{os.path.basename(error.filename or source.path)}: {error.strerror}"
             return Outcome(source, fault=Refused("file", text))
-        except Exception as error:  # Whatever is wrong with one page, the others are made.
+        except Exception as error:  # A failure of one page doesn't stop the others.
             return Outcome(source, fault=Refused("error", f"can't be made: {type(error).__name__}: {error}"))
 
     def page(self, source):
-        """The outcome of a file without a fault."""
+        """Returns the outcome of a file that has no fault."""
         begun = time.monotonic()
         if not pages.is_quiet(source.path, self.patience):
-            raise Refused("written", f"somebody still writes it after {self.patience:g} s")
+            raise Refused("written", f"still being written after {self.patience:g} s")
         with tempfile.TemporaryDirectory(prefix=".page-", dir=self.work.path) as folder:
             copy = f"page.{source.kind}"
             shutil.copyfile(source.path, os.path.join(folder, copy))
@@ -92,7 +92,7 @@ class Intake:
             return Outcome(source, page, made.notes, key=key, seconds=time.monotonic() - begun)
 
     def rendered(self, copy, folder):
-        """The layers and notes of a PDF."""
+        """Returns the inks, layers and notes of a PDF."""
         name, inspected = inspect(self.limits, copy, folder)
         self.see_size(inspected.millimetres())
         for profile in os.listdir(self.profiles.name):
@@ -101,7 +101,7 @@ class Intake:
         notes = [(kind, text, None) for kind, text in inspected.notes]
         rgb = rgb_of(gs, inspected.millimetres()) if inspected.rgb else None
         if rgb and self.house.rgb == "refuse":
-            raise Refused("rgb", "it has RGB, which the house refuses", rgb)
+            raise Refused("rgb", "it has RGB, which the house file refuses", rgb)
         if rgb:
             notes.append(("rgb", "RGB is converted", rgb))
         rendering = Rendering(self.house, gs)
@@ -117,7 +117,7 @@ class Intake:
         return Made(made.inks, made.layers, tuple(notes))
 
     def see_size(self, size):
-        """Refuses a page whose trim isn't the house's."""
+        """Refuses a page whose trim differs from the house's by more than the tolerance."""
         wanted, tolerance = self.house.trim, self.house.tolerance
         if any(abs(side - right) > tolerance for side, right in zip(size, wanted)):
             over = ", ".join(
@@ -129,7 +129,7 @@ class Intake:
             raise Refused("size", text)
 
     def stored(self, place, key, made, folder):
-        """Moves a page's files into WORK under names of their own; the page in the plan's form."""
+        """Moves a page's files into WORK under unique names. Returns the page in the plan's form."""
         stem = str(place).replace("/", "_") + "-" + key[:8] + key[-8:]
         layers = []
         for layer in made.layers:
@@ -140,7 +140,7 @@ class Intake:
 
 
 class Told:
-    """Tells outcomes, and counts them."""
+    """Reports outcomes, and counts them."""
 
     def __init__(self, console):
         self.console, self.made, self.kept = console, 0, 0
@@ -149,7 +149,7 @@ class Told:
         self.problem("fault", name, place, kind, text, box)
 
     def problem(self, event, name, place, kind, text, box):
-        """A fault or a note, with its file, page and place."""
+        """Reports a fault or a note with its file, page and place."""
         fields = {"file": name, "kind": kind}
         if place:
             fields |= {"zone": place.zone, "section": place.section, "page": place.page}
@@ -176,9 +176,9 @@ class Told:
 
 
 def see_places(house, found, strays, told):
-    """Tells what is wrong with the places, and returns the file of each that has one."""
+    """Reports files that are stray, missing or too many. Returns the file of each place without a fault."""
     for name in strays:
-        told.problem("note", name, None, "stray", "no page of this edition; it isn't used", None)
+        told.problem("note", name, None, "stray", "not a page of this edition; not used", None)
     single = {}
     for place, sources in found.items():
         if place in house.blank:
@@ -199,20 +199,23 @@ def read_words():
     )
     whole = positive(int, "a whole number above 0")
     parser.add_argument("house", metavar="HOUSE", help="the house file, house.toml")
-    parser.add_argument("folder", metavar="IN", help="the folder of the pages")
-    parser.add_argument("work", metavar="WORK", help="the folder for files and plans")
+    parser.add_argument("folder", metavar="IN", help="the folder that holds the pages")
+    parser.add_argument("work", metavar="WORK", help="the folder for the plans and their files")
     count = len(os.sched_getaffinity(0))
     for option, metavar, kind, default, text in (
-        ("--jobs", "N", whole, count, f"pages at once ({count} here)"),
-        ("--wait", "S", positive(float, "seconds"), 20.0, "wait so long for a file that is written (20)"),
-        ("--seconds", "S", whole, 120, "limit of time of each program (120)"),
-        ("--memory", "MB", whole, 2000, "limit of its memory (2000)"),
-        ("--output", "MB", whole, 4000, "limit of each file that it writes (4000)"),
+        ("--jobs", "N", whole, count, f"pages made at once ({count} here)"),
+        (
+            "--wait", "S", positive(float, "a number above 0"), 20.0,
+            "seconds to wait for a file that is still being written (20)",
+        ),
+        ("--seconds", "S", whole, 120, "time limit of each program in seconds (120)"),
+        ("--memory", "MB", whole, 2000, "memory limit of each program (2000)"),
+        ("--output", "MB", whole, 4000, "size limit of each file that a program writes (4000)"),
     ):
         parser.add_argument(option, metavar=metavar, type=kind, default=default, help=text)
-    partial = "write plans in spite of faults, with such pages blank"
+    partial = "write the plans despite faults; pages with a fault are blank"
     parser.add_argument("--partial", action="store_true", help=partial)
-    parser.add_argument("--json", action="store_true", help="one JSON object a line for each event")
+    parser.add_argument("--json", action="store_true", help="print each event as a JSON object on one line")
     parser.add_argument("--version", action="version", version=f"pressroom {__version__}")
     return parser.parse_args()
 
@@ -231,7 +234,7 @@ def positive(kind, words):
 
 
 def write_plans(house, work, ready, console):
-    """Writes the plan of each press and returns their names."""
+    """Writes the plan of each press. Returns the names of the plans."""
     names = []
     for press in house.presses.values():
         plan = plans.plan_of(house, press, ready)
@@ -239,7 +242,7 @@ def write_plans(house, work, ready, console):
         sizes = {file: os.path.getsize(os.path.join(work.files, file)) for file in plans.files_of(plan)}
         total = sum(sizes.values())
         if total > plans.MOST_BYTES or max(sizes.values(), default=0) > plans.MOST_FILE:
-            words = f"{name}: its files have {total} bytes, and plateroom loads {plans.MOST_BYTES}: cut it by"
+            words = f"{name}: its files have {total} bytes; the limit is {plans.MOST_BYTES}: split it with"
             console.tell("note", f"{words} pressroom parts", file=name, kind="bytes")
         changed = plans.write(os.path.join(work.path, name), plan)
         said = "written" if changed else "unchanged"
@@ -249,7 +252,7 @@ def write_plans(house, work, ready, console):
 
 
 def see_libraries():
-    """Raises Missing for a library or a profile that isn't there."""
+    """Raises Missing for a library or profile that isn't installed."""
     for library, package in (("numpy", "python3-numpy"), ("PIL", "python3-pil")):
         try:
             __import__(library)
@@ -275,14 +278,14 @@ def main():
     except Missing as error:
         console.leave(2, str(error))
     except BlockingIOError:
-        console.leave(2, f"{words.work}: another intake works there")
+        console.leave(2, f"{words.work}: another intake is using it")
     except OSError as error:
         console.leave(2, f"{error.filename}: {error.strerror}")
     return run(words, console, house, found, strays, work)
 
 
 def run(words, console, house, found, strays, work):
-    """Makes the pages and writes the plans; the status."""
+    """Makes the pages, writes the plans, and returns the status."""
     told = Told(console)
     single = see_places(house, found, strays, told)
     order = sorted(single, key=str)

@@ -1,6 +1,6 @@
-"""A page as layers of a plan: its files, made at the plate's resolution in the page's own folder.
+"""Makes a page's layers for the plan: files at the plate's resolution, in the page's own folder.
 
-The four inks are one planar contone file. Of the spot each tint is a line image, painted in S over it.
+The four inks are one planar contone file. Each tint of the spot is a line image, painted in S over it.
 """
 import os
 from dataclasses import dataclass
@@ -13,7 +13,7 @@ from pressroom.tiff import Tiff
 
 @dataclass(frozen=True)
 class Layer:
-    """A file in the page's folder, the ending of its name, and the other keys of its layer."""
+    """A layer: its file in the page's folder, how that file's name ends in WORK, and its other keys."""
 
     file: str
     ending: str
@@ -22,7 +22,7 @@ class Layer:
 
 @dataclass(frozen=True)
 class Made:
-    """What was made of a page: its inks in the plan's letters, its layers from the bottom, and notes."""
+    """A page that was made: its inks in the plan's letters, its layers from the bottom up, and its notes."""
 
     inks: str
     layers: tuple
@@ -30,7 +30,7 @@ class Made:
 
 
 def packed(limits, folder, name, out, *more):
-    """Makes `out` of a TIFF file, in packed strips."""
+    """Copies a TIFF file to `out` in packed strips. Returns the path of `out`."""
     words = ["tiffcp", *more, "-c", "packbits", "-r", str(STRIP), name, out]
     status, _, note = limits.run(words, folder)
     if status:
@@ -39,7 +39,7 @@ def packed(limits, folder, name, out, *more):
 
 
 def inked(path):
-    """Which of the four inks a planar packed file holds at all."""
+    """Returns the letters of the inks that appear in a planar packed file."""
     image, blank, found = Tiff(path), set(), ""
     for plane, letter in enumerate("CMYK"):
         for strip in range(image.strips):
@@ -56,18 +56,18 @@ def inked(path):
 
 
 def letters(colours, spot):
-    """The plan's letters of a page that holds these inks."""
+    """Returns the plan's letters for a page that has these inks."""
     return ("CMYK" if set(colours) & set("CMY") else "K") + ("S" if spot else "")
 
 
 class Rendering:
-    """Makes the layers of one page by Ghostscript."""
+    """Makes the layers of one page with Ghostscript."""
 
     def __init__(self, house, gs):
         self.house, self.gs, self.size, self.notes, self.seen = house, gs, house.page_pixels(), [], None
 
     def made(self, strips):
-        """The page's layers. `strips` says that it may be painted in strips."""
+        """Makes the page's layers. `strips` is whether the page may be painted in strips."""
         house = self.house.spot.separation if self.house.spot else None
         page, self.seen = self.gs.separate(self.house.dpi, self.size, house, strips)
         tints = []
@@ -87,9 +87,9 @@ class Rendering:
         self.notes.append(("spot", f"the spot {name} is mixed into CMYK", place))
 
     def tints(self, spot):
-        """The layers of the house's spot, one for each tint."""
+        """Returns the layers of the house's spot, one for each tint."""
         if spot["had"] > MOST_TINTS:
-            text = f"the spot has {spot['had']} tints; {MOST_TINTS} even steps are made of them"
+            text = f"the spot has {spot['had']} tints; they are rounded to {MOST_TINTS} even steps"
             self.notes.append(("tints", text, tuple(spot["place"])))
         layers = []
         for tint in spot["tints"]:

@@ -1,5 +1,5 @@
-"""Runs programs on files that nobody vouches for: each call has limits, a folder of its own, and no
-network.
+"""Runs programs on untrusted files. Each call has limits, a folder of its own and, where the machine permits
+it, no network.
 """
 import functools
 import os
@@ -8,38 +8,38 @@ import signal
 import subprocess
 from dataclasses import dataclass
 
-# What a program may print, in bytes: it's read whole.
+# The most that a program may print, in bytes. Its output is read whole.
 MOST_TEXT = 64 << 20
 
 
 class Passed(Exception):
-    """A program passed a limit; the text says which."""
+    """A program exceeded a limit. The text says which."""
 
 
 class PassedTime(Passed):
-    """It passed the limit of time."""
+    """A program exceeded the time limit."""
 
 
 @dataclass(frozen=True)
 class Limits:
-    """The limits of one call: seconds of time, megabytes of memory, megabytes of each file that it writes."""
+    """The limits of one call: seconds, megabytes of memory, and megabytes of each file that it writes."""
 
     seconds: int = 120
     memory: int = 2000
     output: int = 4000
 
     def run(self, words, folder, name=None):
-        """Runs the program in this folder and returns its status, standard output and standard error as
-        bytes. It's called by `name`, or else by its own.
+        """Runs a program in this folder. Returns its status, and its standard output and standard error as
+        bytes. Messages call it `name`, which is by default the name of the program.
 
-        Raises Passed where it passes a limit. Nothing of what the program started runs on.
+        Raises Passed if it exceeds a limit. At the end the program's process group is killed.
         """
         name = name or words[0]
         prefix = [
             "prlimit",
             f"--as={self.memory << 20}",
             f"--fsize={self.output << 20}",
-            # The first stops the program by a signal of its own, the second one that ignores it.
+            # The first limit sends SIGXCPU. The second kills a program that ignores that.
             f"--cpu={self.seconds}:{self.seconds + 1}",
             "--core=0",
             "--",
@@ -63,18 +63,18 @@ class Limits:
         return status, *texts
 
     def see(self, name, status, said, folder):
-        """Raises Passed where a status says that a limit was passed."""
+        """Raises Passed if the program exceeded a limit or was killed by a signal."""
         if status == -signal.SIGXCPU:
-            raise PassedTime(f"{name} took more than {self.seconds} s of processor time")
+            raise PassedTime(f"{name} took more than {self.seconds} s of CPU time")
         if status == -signal.SIGXFSZ or (status and self.is_full(folder)):
             raise Passed(f"{name} wrote a file of more than {self.output} MB")
         if status and (b"VMerror" in said or b"emory" in said or b"bad_alloc" in said):
-            raise Passed(f"{name} wanted more than {self.memory} MB of memory")
+            raise Passed(f"{name} needed more than {self.memory} MB of memory")
         if status < 0:
-            raise Passed(f"{name} was ended by {signal.Signals(-status).name}")
+            raise Passed(f"{name} was killed by {signal.Signals(-status).name}")
 
     def is_full(self, folder):
-        """Whether a file in the folder is as long as files may be."""
+        """Returns whether a file in the folder has the largest size that files may have."""
         with os.scandir(folder) as items:
             return any(item.is_file() and item.stat().st_size >= self.output << 20 for item in items)
 
@@ -85,7 +85,7 @@ def read(path):
 
 
 def stop(process):
-    """Ends the process and all that it started."""
+    """Kills the process and its group."""
     try:
         os.killpg(process.pid, signal.SIGKILL)
     except ProcessLookupError:
@@ -94,7 +94,7 @@ def stop(process):
 
 
 def environment(folder):
-    """What a program sees of the environment: no more than it needs."""
+    """Returns the environment of a program, reduced to what it needs."""
     kept = {name: os.environ[name] for name in ("PATH", "LANG") if name in os.environ}
     home = os.path.abspath(folder)
     return kept | {"HOME": home, "TMPDIR": home, "LC_ALL": "C.UTF-8"}
@@ -102,7 +102,7 @@ def environment(folder):
 
 @functools.cache
 def without_network():
-    """The words that start a program without a network; none where the machine doesn't permit that."""
+    """Returns the arguments that start a program without a network; none if the machine forbids that."""
     if shutil.which("unshare"):
         for words in (["unshare", "--net"], ["unshare", "--user", "--net"]):
             if subprocess.run([*words, "--", "true"], capture_output=True).returncode == 0:

@@ -1,4 +1,4 @@
-"""The files of a night's folder, and the place of each in the edition."""
+"""Finds the files of an edition's folder, and the place of each in the edition."""
 import os
 import re
 import time
@@ -7,13 +7,13 @@ from dataclasses import dataclass
 from pressroom.house import Place
 
 KINDS = {".pdf": "pdf", ".tif": "tiff", ".tiff": "tiff"}
-# A file that nobody wrote for so many seconds is taken as written.
+# A file that wasn't written for this many seconds counts as complete.
 QUIET = 2.0
 
 
 @dataclass(frozen=True)
 class PageFile:
-    """A page's file: its path, its name below the folder, and whether it's a `pdf` or a `tiff`."""
+    """A page's file: its place, its path, its name relative to the folder, and its kind, `pdf` or `tiff`."""
 
     place: Place
     path: str
@@ -32,13 +32,13 @@ class Names:
         ]
 
     def form(self, section):
-        """The pattern as a regular expression for one section."""
+        """Returns the pattern as a regular expression for one section."""
         signs = {"{section}": re.escape(section), "{page}": "0*(?P<page>[1-9][0-9]{0,2})", "*": ".*"}
         parts = re.split(r"(\{section\}|\{page\}|\*)", self.house.names)
         return "".join(signs.get(part, re.escape(part)) for part in parts)
 
     def place(self, stem, zone):
-        """The place of a file name without its ending, or None."""
+        """Returns the place of a file name without its ending, or None."""
         for section, form in self.forms:
             found = form.fullmatch(stem)
             if found and int(found["page"]) <= self.house.sections[section]:
@@ -47,12 +47,12 @@ class Names:
 
 
 def listed(folder):
-    """The names in a folder, in order; those that begin with a dot are no pages."""
+    """Returns the names in a folder, sorted, without those that begin with a dot."""
     return sorted(name for name in os.listdir(folder) if not name.startswith("."))
 
 
 def find(house, folder):
-    """The files of all places, a list for each, and the names of what is no page of the house."""
+    """Returns a list of files for each place, and the names of what isn't a page of the house."""
     names, found, strays = Names(house), {}, []
 
     def see(path, name, zone):
@@ -74,8 +74,7 @@ def find(house, folder):
 
 
 def is_quiet(path, patience):
-    """Waits until nobody writes the file any more; False where somebody still does after `patience`
-    seconds.
+    """Waits until the file is no longer being written. Returns False if it still is after `patience` seconds.
     """
     end = time.monotonic() + patience
     while True:
@@ -88,7 +87,7 @@ def is_quiet(path, patience):
 
 
 def needed(house, given):
-    """The places that some site prints, as far as neither a file nor a blank page is there for them."""
+    """Returns the places that a site prints and for which `given` has no file and no blank page."""
     missing = {}
     for zone in {site.zone for site in house.sites}:
         for section, count in house.sections.items():

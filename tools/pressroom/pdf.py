@@ -1,6 +1,6 @@
-"""What a PDF says of its first page before anything is rendered: by qpdf and poppler, under limits.
+"""Inspects the first page of a PDF before it's rendered, with qpdf and poppler, under limits.
 
-`inspect` returns an Inspected, or raises Refused with what is wrong.
+`inspect` returns the PDF to render and an Inspected, or raises Refused.
 """
 import json
 import os
@@ -9,14 +9,14 @@ from dataclasses import dataclass
 
 from pressroom.contents import may_be_painted, may_have_rgb
 
-# A PDF ends with this within so many bytes.
+# The mark that ends a PDF, and in how many bytes at the end it must be.
 END_MARK, TAIL = b"%%EOF", 1024
 FONT = re.compile(r"\s(yes|no)\s+(?:yes|no)\s+(?:yes|no)\s+(?:\d+\s+\d+|\[none\])$")
 MILLIMETRE = 72 / 25.4
 
 
 class Refused(Exception):
-    """Nothing is made of the page. `kind` is a word for scripts, `place` a box in millimetres or None."""
+    """A fault of the page. `kind` is a word for scripts, `place` a box in millimetres or None."""
 
     def __init__(self, kind, text, place=None):
         super().__init__(text)
@@ -25,8 +25,8 @@ class Refused(Exception):
 
 @dataclass(frozen=True)
 class Inspected:
-    """A page that can be rendered: its trim in points of the unturned page, its turn, which box it is,
-    whether it may have RGB, and whether it may be painted in strips.
+    """A page that can be rendered: its trim and crop boxes in points of the unrotated page, its rotation in
+    degrees, which of the boxes is rendered, whether it may have RGB, and whether it may be painted in strips.
     """
 
     trim: tuple
@@ -38,28 +38,28 @@ class Inspected:
     strips: bool
 
     def millimetres(self):
-        """Width and height of the trimmed page, turned as it is shown."""
+        """Returns the width and height of the trimmed page, rotated as it is shown."""
         left, lower, right, upper = self.trim
         size = (right - left) / MILLIMETRE, (upper - lower) / MILLIMETRE
         return size[::-1] if self.turn % 180 else size
 
 
 def is_whole(path):
-    """Whether the file's end is that of a PDF."""
+    """Returns whether the file ends as a PDF does."""
     with open(path, "rb") as file:
         file.seek(max(0, os.path.getsize(path) - TAIL))
         return END_MARK in file.read()
 
 
 def first_line(note):
-    """The first line of an error that a program wrote, or else its first, for a message."""
+    """Returns the first line of a program's output that begins with Error, or else its first line."""
     lines = [line for line in note.decode("utf-8", "replace").splitlines() if line.strip()]
     named = [line for line in lines if line.startswith("Error")]
     return printable((named + lines)[0]) if lines else "no reason given"
 
 
 def printable(text):
-    """Text of a PDF or a program as it may stand in a line: no controls, and not too long."""
+    """Returns text of a PDF or a program fit for a message: no control characters, at most 120 characters."""
     shown = "".join(letter if letter.isprintable() else "?" for letter in text)
     return shown if len(shown) <= 120 else shown[:117] + "..."
 
@@ -67,11 +67,11 @@ def printable(text):
 def see_damage(limits, name, folder):
     """Refuses a PDF that is incomplete, damaged or locked."""
     if not is_whole(os.path.join(folder, name)):
-        raise Refused("damaged", "incomplete: it has no end of file")
+        raise Refused("damaged", "incomplete: no %%EOF at its end")
     status, out, note = limits.run(["qpdf", "--check", name], folder)
     said = (note + out).decode("utf-8", "replace")
     if "invalid password" in said:
-        raise Refused("locked", "it asks for a password")
+        raise Refused("locked", "it needs a password")
     if status == 2 or (status == 3 and re.search(r"damaged|reconstruct", said)):
         line = re.sub(rf"^(WARNING: |qpdf: )?{name}:? ?", "", first_line(note or out))
         raise Refused("damaged", f"damaged or incomplete: {line}")
@@ -93,46 +93,46 @@ def see_fonts(limits, name, folder):
 
 
 def numbers_of(text, box):
-    """The four numbers of a box as pdfinfo tells them."""
+    """Returns the four numbers of a box in the output of pdfinfo."""
     found = re.search(rf"^Page\s+1 {box}:\s+(.*)$", text, re.MULTILINE)
     return tuple(map(float, found[1].split())) if found else None
 
 
 def page_object(objects):
-    """The dictionary of the first page."""
+    """Returns the dictionary of the first page."""
 
     def followed(value):
-        """What a reference leads to; other values are what they are."""
+        """Returns what a reference refers to, and any other value unchanged."""
         return objects[f"obj:{value}"]["value"] if isinstance(value, str) and value.endswith(" R") else value
 
     node = followed(followed(objects["trailer"]["value"]["/Root"])["/Pages"])
-    # A tree of pages is no deeper than it has objects.
+    # A page tree is never deeper than the file has objects.
     for _ in objects:
         if "/Kids" not in node:
             return node
         node = followed(followed(node["/Kids"])[0])
-    raise ValueError("the tree of pages has a ring")
+    raise ValueError("the page tree has a cycle")
 
 
 def read_objects(limits, name, folder):
-    """The objects of a PDF as qpdf lists them, without the data of streams."""
+    """Returns the objects of a PDF as qpdf lists them, without the data of streams."""
     status, out, note = limits.run(["qpdf", "--json=2", "--json-key=qpdf", name], folder)
     if status not in (0, 3):
         raise Refused("damaged", f"damaged: {first_line(note)}")
     try:
-        # Names of a PDF are bytes of no encoding, and qpdf writes them so.
+        # Names in a PDF are bytes without an encoding, and qpdf writes them unchanged.
         return json.loads(out.decode("utf-8", "surrogateescape"))["qpdf"]
     except (ValueError, LookupError, RecursionError):
         raise Refused("damaged", "damaged: its objects can't be listed") from None
 
 
 def in_cmyk(head, objects):
-    """The edit by which CMYK keeps its numbers, and whether groups change by it; None where there is
-    nothing to edit.
+    """Returns the edit that makes CMYK keep its numbers, or None if none is needed, and whether it changes
+    groups.
 
-    Groups that blend in RGB blend in CMYK: Ghostscript makes a whole group RGB and then CMYK again, and
-    black text in it comes out in four inks. Masks of luminosity keep their colours, as their groups print
-    nothing. CMYK with a profile of its own becomes that of the device, which isn't converted.
+    Groups that blend in RGB are changed to blend in CMYK. Otherwise Ghostscript converts the whole group to
+    RGB and back, and black text in it prints in four inks. Luminosity masks keep their colours, since their
+    groups don't print. CMYK with a profile becomes DeviceCMYK, which isn't converted.
     """
     masks = {
         value["/G"]
@@ -156,7 +156,7 @@ def in_cmyk(head, objects):
 
 
 def untagged(value, objects):
-    """The value with CMYK of the device wherever it has CMYK with a profile of its own."""
+    """Returns the value with DeviceCMYK in place of CMYK with a profile."""
     if isinstance(value, dict):
         kept = {key: inner for key, inner in value.items() if key != "/DefaultCMYK"}
         return {key: untagged(inner, objects) for key, inner in kept.items()}
@@ -168,13 +168,13 @@ def untagged(value, objects):
 
 
 def channels(space, objects):
-    """How many colours a space with a profile has."""
+    """Returns how many components a colour space with a profile has."""
     stream = objects.get(f"obj:{space[1]}", {}).get("stream", {})
     return stream.get("dict", {}).get("/N")
 
 
 def dictionaries(value):
-    """All dictionaries within a value."""
+    """Yields all dictionaries within a value."""
     if isinstance(value, dict):
         yield value
         for inner in value.values():
@@ -185,7 +185,7 @@ def dictionaries(value):
 
 
 def is_rgb(space, objects):
-    """Whether a colour space has three colours of light."""
+    """Returns whether a colour space is RGB: DeviceRGB, CalRGB, or a profile with three components."""
     if isinstance(space, str) and f"obj:{space}" in objects:
         space = objects[f"obj:{space}"].get("value")
     if space in ("/DeviceRGB", "/CalRGB"):
@@ -198,18 +198,18 @@ def is_rgb(space, objects):
 
 
 def structure(head, objects):
-    """The dictionary of the first page, and what in_cmyk gives; Refused where objects aren't what PDFs
-    have.
+    """Returns the dictionary of the first page and the results of in_cmyk. Raises Refused if objects are
+    malformed.
     """
     try:
         return page_object(objects), *in_cmyk(head, objects)
     except (AttributeError, LookupError, RecursionError, TypeError, ValueError):
-        raise Refused("damaged", "damaged: its pages or groups aren't what a PDF has") from None
+        raise Refused("damaged", "damaged: its pages or groups are malformed") from None
 
 
 def inspect(limits, name, folder):
-    """Looks at the first page of a PDF in the folder; the PDF to render, which may be edited, and
-    Inspected.
+    """Inspects the first page of a PDF in the folder. Returns the PDF to render, which may be an edited copy,
+    and an Inspected.
     """
     see_damage(limits, name, folder)
     status, out, note = limits.run(["pdfinfo", "-f", "1", "-l", "1", "-box", name], folder)
@@ -222,17 +222,17 @@ def inspect(limits, name, folder):
     head, objects = read_objects(limits, name, folder)
     page, edit, blends = structure(head, objects)
     if "/UserUnit" in page:
-        raise Refused("unit", "its unit isn't a point (UserUnit)")
+        raise Refused("unit", "its unit isn't the point (UserUnit)")
     see_fonts(limits, name, folder)
     notes = []
     if int(count[1]) != 1:
-        notes.append(("pages", f"it has {count[1]} pages; the first is taken"))
+        notes.append(("pages", f"it has {count[1]} pages; only the first is used"))
     if turn:
         notes.append(("rotated", f"rotated by {turn} degrees"))
     if "/TrimBox" not in page:
-        notes.append(("trim", "no trim box; the whole page is taken"))
+        notes.append(("trim", "no trim box; the whole page is used"))
     if blends:
-        notes.append(("blending", "it blends in RGB; it's blended in CMYK"))
+        notes.append(("blending", "transparency in RGB is blended in CMYK"))
     if edit:
         name = edited(limits, name, folder, edit)
     box = "Trim" if "/TrimBox" in page else "Crop"
@@ -241,7 +241,7 @@ def inspect(limits, name, folder):
 
 
 def edited(limits, name, folder, edit):
-    """The PDF with this edit, as another file in the folder."""
+    """Writes an edited copy of the PDF to the folder, and returns its name."""
     with open(os.path.join(folder, "edit.json"), "w", encoding="utf-8", errors="surrogateescape") as file:
         json.dump(edit, file, ensure_ascii=False)
     words = ["qpdf", name, "--update-from-json=edit.json", "edited.pdf"]

@@ -1,8 +1,8 @@
-"""The planes of a page as Ghostscript's device psdcmyk writes them: the four inks and each spot, 255 where
+"""Reads the planes of a page that Ghostscript's device psdcmyk writes: the four inks and each spot, 255 where
 bare.
 
-A PSD file (Adobe Photoshop File Formats) has a head of 26 bytes, colour data, resources, layers and the
-planes; all numbers begin with the high byte. Names of spots stand in it, so none becomes a file's name.
+A PSD file (Adobe Photoshop File Formats) has a header of 26 bytes, colour data, resources, layers and the
+planes. All numbers are big-endian. The file contains the spots' names, so none becomes a file name.
 """
 import os
 import struct
@@ -12,9 +12,9 @@ from pressroom.separations import Spot
 from pressroom.strips import STRIP
 
 HEAD, RESOURCE = ">4sH6xHIIHH", b"8BIM"
-# Resources: the names of the planes behind the four, and their colours.
+# Resources: the names of the planes after the first four, and their colours.
 NAMES, COLOURS = 1006, 1007
-# More spots than this no page has; each is a plane of the page's size.
+# The most spots of a page. Each is a plane of the page's size.
 MOST_SPOTS = 12
 
 
@@ -26,9 +26,9 @@ class Planes:
         with open(path, "rb") as file:
             sign, version, self.count, self.height, self.width, depth, _ = struct.unpack(HEAD, file.read(26))
             if (sign, version, depth, self.width, self.height) != (b"8BPS", 1, 8, *size) or self.count < 4:
-                raise Refused("damaged", "can't be rendered: its planes have another form")
+                raise Refused("damaged", "can't be rendered: its planes have an unexpected format")
             if self.count - 4 > MOST_SPOTS:
-                raise Refused("spot", f"it has {self.count - 4} spots; at most {MOST_SPOTS} are taken")
+                raise Refused("spot", f"it has {self.count - 4} spots; the limit is {MOST_SPOTS}")
             self.block(file)
             self.read_spots(self.block(file))
             self.block(file)
@@ -38,11 +38,11 @@ class Planes:
 
     @staticmethod
     def block(file):
-        """The bytes of a part that begins with its length."""
+        """Reads the length of a block and returns its bytes."""
         return file.read(struct.unpack(">I", file.read(4))[0])
 
     def read_spots(self, data):
-        """The spots, out of the resources."""
+        """Reads the spots from the resources."""
         at, found = 0, {}
         while data.startswith(RESOURCE, at):
             number, length = struct.unpack_from(">HB", data, at + 4)
@@ -63,14 +63,14 @@ class Planes:
             self.spots.append(Spot(name, 4 + number, tuple(1 - ink / 65535 for ink in inks)))
 
     def mapped(self):
-        """All planes as they stand in the file, as an array."""
+        """Returns all planes as an array, as they are in the file."""
         import numpy as np
 
         shape = self.count, self.height, self.width
         return np.memmap(self.path, dtype=np.uint8, mode="r", offset=self.start, shape=shape)
 
     def mixed(self):
-        """The four inks with all spots mixed in, as an array of rows, columns and inks."""
+        """Returns the four inks with all spots mixed in, as an array of rows, columns and inks."""
         import numpy as np
 
         stored = self.mapped()
@@ -83,8 +83,8 @@ class Planes:
         return np.stack(inks, axis=2)
 
     def strips(self):
-        """The strips of ink from the top: their numbers, and arrays of planes, rows and columns, in the same
-        memory each time.
+        """Yields the strips of ink from the top with their numbers: arrays of planes, rows and columns that
+        share the same memory.
         """
         import numpy as np
 

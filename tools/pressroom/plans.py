@@ -1,17 +1,17 @@
-"""The edition plan of each press, from the house file and what was made of the pages."""
+"""Makes the plan of each press from the house file and the pages that were made."""
 import json
 import os
 
 from pressroom import tile
 from pressroom.house import INKS, LARGEST_TILE, Place
 
-# What plateroom takes of a plan's files: all together, and of one.
+# The most bytes that plateroom loads: of a plan's files together, and of one file.
 MOST_BYTES, MOST_FILE = 3_221_225_472, 536_870_912
 BLANK = {"name": "blank", "inks": "K", "layers": []}
 
 
 def page_names(places):
-    """A name of at most 16 letters, digits and _ for each place, all different."""
+    """Returns a unique name of at most 16 letters, digits and _ for each place."""
     names = {}
     for place in places:
         names[place] = f"{place.section}{place.page:02}" + (f"_{place.zone}" if place.zone else "")
@@ -22,12 +22,12 @@ def page_names(places):
 
 
 def limit_of(percent):
-    """An ink limit in the plan's units."""
+    """Returns an ink limit in the plan's units."""
     return int(percent * 255 / 100 + 1e-9)
 
 
 def screens(press, dpi):
-    """The plan's tiles and screens of a press."""
+    """Returns a press's tiles and screens in the plan's form."""
     tiles, names = {}, {}
     for ink in INKS:
         screen = press.screens.get(ink)
@@ -45,7 +45,7 @@ def screens(press, dpi):
 
 
 def curves(press):
-    """The plan's curves: percent as 255ths."""
+    """Returns a press's curves in the plan's form, percent as 255ths."""
     return {
         ink: [[round(x * 255 / 100), round(y * 255 / 100)] for x, y in points]
         for ink, points in sorted(press.curves.items(), key=lambda pair: INKS.index(pair[0]))
@@ -53,7 +53,7 @@ def curves(press):
 
 
 def marks(house, press):
-    """The plan's marks, each at least a pixel either way."""
+    """Returns a press's marks in the plan's form, each at least one pixel wide and high."""
     found = []
     for mark in press.marks:
         x, y = house.pixels(mark.x), house.pixels(mark.y)
@@ -63,7 +63,7 @@ def marks(house, press):
 
 
 def plan_of(house, press, pages):
-    """The plan of a press. `pages` has the inks and layers of each place that isn't blank."""
+    """Returns the plan of a press. `pages` has the inks and layers of each place that isn't blank."""
     sites = [site for site in house.sites if site.press == press.name]
     zones = list(dict.fromkeys(site.zone for site in sites if site.zone))
     first = {section: number for number, section in enumerate(house.sections)}
@@ -115,13 +115,13 @@ def plan_of(house, press, pages):
 
 
 def files_of(plan):
-    """The names of all files of a plan."""
+    """Returns the names of all files of a plan."""
     return {layer["file"] for page in plan["pages"] for layer in page["layers"]}
 
 
 def write(path, value):
-    """Writes JSON under a name of its own and renames it, unless the file holds it already; True where it's
-    new.
+    """Writes JSON to a file, unless the file already has the same content: under another name first, which is
+    then renamed. Returns whether it wrote.
     """
     data = (json.dumps(value, ensure_ascii=False, indent=1) + "\n").encode()
     try:
@@ -139,7 +139,7 @@ def write(path, value):
 
 
 def plan_files(work):
-    """The names of files of all plans in a folder, whoever wrote them there."""
+    """Returns the names of the files of all plans in a folder, whoever wrote the plans."""
     kept = set()
     for name in os.listdir(work):
         if name.endswith(".json"):

@@ -1,20 +1,20 @@
-"""ICC device links: what becomes of RGB on the way to the four inks.
+"""Makes the ICC device links that convert RGB to the four inks.
 
-Ghostscript's `-dBlackText` makes all text black, coloured text too, and a profile makes black of four inks.
-So RGB text and line art go through a link that is made here: by the house's profile, but for neutral
-colours, which become black ink alone of the same lightness.
+Ghostscript's `-dBlackText` makes all text black, even coloured text, and a profile makes black from four
+inks. So RGB text and line art are converted by a link that is made here. It uses the house's profile, except
+that neutral colours become black ink alone of the same lightness.
 """
 import os
 import shutil
 import struct
 
 SIDE = 33
-# Ghostscript's own profile of CMYK, for a house that names none.
+# Ghostscript's own CMYK profile, for a house that names none.
 PLAIN = "/usr/share/color/icc/ghostscript/default_cmyk.icc"
 
 
 def colours():
-    """The RGB colours of the link's table: blue runs first."""
+    """Returns the RGB colours of the link's table. Blue varies fastest."""
     import numpy as np
 
     steps = np.array([round(255 * i / (SIDE - 1)) for i in range(SIDE)], dtype=np.uint8)
@@ -22,7 +22,7 @@ def colours():
 
 
 def converted(profile):
-    """The four inks of all colours of the table by a CMYK profile."""
+    """Returns the four inks of all colours of the table, by a CMYK profile."""
     import numpy as np
     from PIL import Image, ImageCms
 
@@ -35,7 +35,7 @@ def converted(profile):
 
 
 def blacks(profile):
-    """How much black ink alone has the lightness of each neutral step; 255 for black, 0 for white."""
+    """Returns the black ink, 0 to 255, that alone has the lightness of each neutral step."""
     import numpy as np
     from PIL import Image, ImageCms
 
@@ -48,13 +48,13 @@ def blacks(profile):
     from_rgb = ImageCms.buildTransform(ImageCms.createProfile("sRGB"), lab, "RGB", "LAB", renderingIntent=1)
     wanted = np.asarray(ImageCms.applyTransform(Image.fromarray(steps), from_rgb))[0, :, 0].astype(float)
     light = inked[0, :, 0].astype(float)
-    # Black ink alone doesn't reach an RGB black, so the range of lightness is stretched to the ink's.
+    # Black ink alone is lighter than RGB black, so the range of lightness is scaled to the ink's.
     stretched = light[255] + (wanted - wanted[0]) / (wanted[-1] - wanted[0]) * (light[0] - light[255])
     return [int(np.argmin(abs(light - value))) for value in stretched]
 
 
 def link(table):
-    """The bytes of a device link from RGB to CMYK with these inks, SIDE steps either way."""
+    """Returns the bytes of a device link from RGB to CMYK with these inks, SIDE steps for each colour."""
     lut = b"mft2" + bytes(4) + bytes([3, 4, SIDE, 0])
     lut += struct.pack(">9i", 65536, 0, 0, 0, 65536, 0, 0, 0, 65536) + struct.pack(">2H", 2, 2)
     lut += struct.pack(">6H", *[0, 65535] * 3) + (table.astype(">u2") * 257).astype(">u2").tobytes()
@@ -84,10 +84,10 @@ def write(path, data):
 
 
 def write_profiles(folder, profile):
-    """Writes what Ghostscript reads: `press.icc`, `colour.txt`, by which pages are made, and `marked.txt`.
+    """Writes what Ghostscript reads: `press.icc`; `colour.txt`, which pages are made with; and `marked.txt`.
 
-    A page that is rendered by the last two differs where RGB shows that isn't white, or neutral text or
-    line art. CMYK keeps its numbers.
+    Rendered with `marked.txt` instead of `colour.txt`, a page differs wherever RGB shows, except in white and
+    in neutral text and line art. CMYK keeps its numbers.
     """
     import numpy as np
 
@@ -106,5 +106,5 @@ def write_profiles(folder, profile):
     for name, first in (("colour", ""), ("marked", "marked-")):
         rows = [f"{kind}_RGB\t{first}art.icc\t1\t1\t1" for kind in ("Text", "Graphic")]
         rows += [f"Image_RGB\t{first}images.icc\t1\t1\t1"] if first else []
-        # Rows of CMYK here would turn off overprint mode 1, by which black overprints on nearly every page.
+        # Rows for CMYK would turn off overprint mode 1, with which black overprints on nearly every page.
         write(os.path.join(folder, f"{name}.txt"), ("\n".join(rows) + "\n").encode())

@@ -1,7 +1,7 @@
-"""Makes the files of a page out of its planes of ink, which come in strips of rows from the top.
+"""Makes a page's files from its planes of ink, which arrive as strips of rows from the top.
 
-A plane is the four inks' or a spot's; 0 is bare and 255 is full. The house's spot stays apart, and all others
-are mixed into the four inks.
+A plane holds one of the four inks or a spot: 0 is bare, 255 is full. The house's spot stays separate. All
+other spots are mixed into the four inks.
 """
 import math
 import os
@@ -9,15 +9,16 @@ from dataclasses import dataclass, field
 
 from pressroom.strips import STRIP, StripFile
 
-# The page is looked at in pixels of so many to the inch: places of spots, and ink at their centres.
+# The low resolution, in pixels an inch: for the places of spots, and for ink at the pixels' centres.
 DPI = 72
-# How many tints of the spot are told apart; a page has at most 32 layers.
+# The most tints of the spot. A page has at most 32 layers.
 MOST_TINTS = 24
 
 
 @dataclass(frozen=True)
 class Spot:
-    """A separation beside the four: its name as bytes, its plane, and its mixture of the four, 0 to 1 each.
+    """A separation besides the four inks: its name as bytes, its plane, and its mixture of the four, each
+    from 0 to 1.
     """
 
     name: bytes
@@ -25,7 +26,7 @@ class Spot:
     mixture: tuple
 
     def is_named(self, text):
-        """Whether this is the separation that the house calls so, in either encoding that PDFs have."""
+        """Returns whether this is the separation's name, in either encoding that PDFs use."""
         return text in (decoded(self.name, "utf-8"), decoded(self.name, "latin-1"))
 
     def shown(self):
@@ -41,7 +42,7 @@ def decoded(name, encoding):
 
 @dataclass
 class Shown:
-    """What the page shows of a spot: the pixels around it, and the values of its ink in the house's spot."""
+    """What the page shows of a spot: its box in pixels and, for the house's spot, the values of its ink."""
 
     spot: Spot
     house: bool
@@ -49,7 +50,7 @@ class Shown:
     values: set = field(default_factory=set)
 
     def add(self, ink, top):
-        """Adds a strip's ink that isn't all bare, and returns the rows and columns that have some."""
+        """Adds a strip that has ink. Returns the rows and columns that the ink spans."""
         import numpy as np
 
         rows, columns = ink.any(axis=1).nonzero()[0], ink.any(axis=0).nonzero()[0]
@@ -64,7 +65,7 @@ class Shown:
 
 
 class Separations:
-    """The files `cmyk.tif` and `spot-N.tif` of a page, in its folder, and what the page shows."""
+    """Writes the files `cmyk.tif` and `spot-N.tif` to a page's folder, and records what the page shows."""
 
     def __init__(self, folder, size, dpi, spots, house):
         import numpy as np
@@ -83,7 +84,7 @@ class Separations:
         self.kept = {}
 
     def add(self, strip, planes):
-        """Adds a strip: an array of planes, rows and columns, which may be changed here."""
+        """Adds a strip: an array of planes, rows and columns, which this may change."""
         inked = [plane.view(bool).any() for plane in planes]
         self.look(strip, planes, inked)
         for shown in self.spots:
@@ -101,7 +102,7 @@ class Separations:
                 self.cmyk.write(strip, number, planes[number])
 
     def look(self, strip, planes, inked):
-        """Takes the ink of this strip at the centres of the pixels of low resolution, all spots mixed in."""
+        """Samples this strip's ink at the centres of the low-resolution pixels, with all spots mixed in."""
         import numpy as np
 
         top = strip * STRIP
@@ -115,7 +116,7 @@ class Separations:
         self.seen[first:last] = np.moveaxis(np.minimum(taken[:4], 255), 0, 2)
 
     def mix(self, spot, planes, part, inked):
-        """Mixes a spot into the four inks of this part of a strip."""
+        """Mixes a spot into the four inks in this part of a strip."""
         import numpy as np
 
         for ink, table in enumerate(self.tables[spot.plane]):
@@ -125,7 +126,7 @@ class Separations:
                 inked[ink] = inked[ink] or bool(below.any())
 
     def keep(self, shown, strip, ink):
-        """Keeps a strip of the house's spot until all its tints are known, in a file without what is bare."""
+        """Keeps a strip of the house's spot in a sparse file until all tints are known."""
         import numpy as np
 
         name = f"spot-{shown.spot.plane}.ink"
@@ -137,8 +138,8 @@ class Separations:
         strips.append(strip)
 
     def end(self):
-        """Ends the files; what the page has, as JSON may hold it: the letters of its inks, and its spots
-        that show.
+        """Closes the file of the four inks. Returns what the page has, in values that JSON can hold: the
+        letters of its inks, and the spots that show.
         """
         self.cmyk.close()
         colours = "".join(letter for letter in "CMYK" if letter in self.colours)
@@ -146,7 +147,7 @@ class Separations:
         return {"colours": colours, "spots": spots}
 
     def facts(self, shown):
-        """A spot's name, whether it's the house's, its place in millimetres, its tints and those it had."""
+        """Returns a spot's name, whether it's the house's, its place in mm, its tints and how many it had."""
         one, (left, top, right, bottom) = 25.4 / DPI, (side * DPI / self.dpi for side in shown.box)
         left, top, right, bottom = math.floor(left), math.floor(top), math.ceil(right), math.ceil(bottom)
         place = [round(n * one, 1) for n in (left, top, right - left, bottom - top)]
@@ -155,8 +156,8 @@ class Separations:
         return {"name": shown.spot.shown(), "house": shown.house, "place": place, "tints": tints, "had": had}
 
     def tints(self, shown):
-        """Writes a line image for each tint of the house's spot, rounded to even steps where there are too
-        many; the tints.
+        """Writes a line image for each tint of the house's spot. Returns the tints. Too many tints are
+        rounded to even steps.
         """
         import numpy as np
 

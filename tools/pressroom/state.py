@@ -1,8 +1,8 @@
-"""What an intake made of each page, so that the next one makes only what changed.
+"""Records what intake made of each page, so that the next call makes only what changed.
 
-A page is known by the SHA-256 of its file and of all that its layers come from: the house's keys, the
-programs' versions and this package's. Its files bear that sum in their names, so files of older plans stay
-as they are.
+A page is identified by the SHA-256 of its file and of everything else that its layers depend on: the house's
+keys, and the versions of the programs and of this package. The names of its files contain part of these
+sums, so the files of older plans are not overwritten.
 """
 import fcntl
 import hashlib
@@ -17,13 +17,13 @@ OWN = re.compile(r"[A-Za-z0-9_]+-[0-9a-f]{16}-[a-z0-9]+\.tif(\.new)?")
 
 
 def sum_of(path):
-    """The SHA-256 of a file."""
+    """Returns the SHA-256 of a file."""
     with open(path, "rb") as file:
         return hashlib.file_digest(file, "sha256").hexdigest()
 
 
 def settings(house, versions):
-    """The sum of all but the page's own file that its layers and notes depend on."""
+    """Returns the sum of what a page's layers and notes depend on besides its own file."""
     values = [
         __version__,
         versions,
@@ -40,7 +40,7 @@ def settings(house, versions):
 
 
 class Work:
-    """The folder WORK: `files`, the plans, and `state`. One intake at a time has it."""
+    """The folder WORK: `files`, the plans, and `state`. A lock keeps other intakes out."""
 
     def __init__(self, path):
         self.path, self.files = path, os.path.join(path, "files")
@@ -53,7 +53,7 @@ class Work:
         self.pages = self.read()
 
     def read(self):
-        """The pages of the last intake, by place; none where the state can't be read."""
+        """Returns the pages of the last call by place, or none if the state can't be read."""
         try:
             with open(os.path.join(self.path, "state"), encoding="utf-8") as file:
                 pages = json.load(file)["pages"]
@@ -62,7 +62,7 @@ class Work:
             return {}
 
     def holds(self, page):
-        """Whether all files of a page are there with their sizes."""
+        """Returns whether all files of a page are present with their sizes."""
         try:
             return all(
                 os.path.getsize(os.path.join(self.files, layer["file"])) == size
@@ -72,7 +72,7 @@ class Work:
             return False
 
     def keep(self, place, key, page, notes):
-        """Records what was made of a page; `page` has its inks and layers as the plan has them."""
+        """Records a page that was made. `page` has its inks and layers in the plan's form."""
         sizes = [os.path.getsize(os.path.join(self.files, layer["file"])) for layer in page["layers"]]
         new = {"key": key, "page": page, "sizes": sizes, "notes": notes}
         if self.pages.get(str(place), {}).get("key") != key:
@@ -83,12 +83,12 @@ class Work:
         plans.write(os.path.join(self.path, "state"), {"version": __version__, "pages": self.pages})
 
     def save(self, places):
-        """Records the pages of these places alone."""
+        """Records only the pages of these places."""
         self.pages = {name: page for name, page in self.pages.items() if name in set(map(str, places))}
         self.write()
 
     def clean(self):
-        """Removes the files of pages that no plan in the folder names."""
+        """Removes the pages' files that neither a plan in the folder nor the state names."""
         kept = plans.plan_files(self.path)
         kept |= {layer["file"] for page in self.pages.values() for layer in page["page"]["layers"]}
         for name in os.listdir(self.files):

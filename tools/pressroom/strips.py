@@ -1,6 +1,6 @@
-"""Writes the files of layers strip by strip, by libtiff's PackBits: four planes of 8 bits, or one of 1 bit.
+"""Writes the files of layers strip by strip, packed by libtiff: four planes of 8 bits, or one of 1 bit.
 
-Strips may come in any order. libtiff is the library of libtiff-tools, which an intake needs anyway.
+Strips may arrive in any order. libtiff is installed with libtiff-tools, which intake needs anyway.
 """
 import ctypes
 import ctypes.util
@@ -8,7 +8,7 @@ import functools
 import os
 
 STRIP = 64
-# Fields, in the order of TIFF 6.0, and the value that means PackBits.
+# Fields, in the order of TIFF 6.0, and the compression PackBits.
 WIDTH, LENGTH, BITS, COMPRESSION, PHOTOMETRIC, SAMPLES, ROWS, PLANAR, INK_SET = (
     256, 257, 258, 259, 262, 277, 278, 284, 332,
 )  # fmt: skip
@@ -16,15 +16,15 @@ PACKBITS = 32773
 
 
 class Unpacked(Exception):
-    """libtiff isn't there, or couldn't write a file."""
+    """libtiff isn't installed, or couldn't write a file."""
 
 
 @functools.cache
 def library():
-    """libtiff, with the types of the calls that are used."""
+    """Returns libtiff, with the types of the functions that are used."""
     name = ctypes.util.find_library("tiff")
     if not name:
-        raise Unpacked("libtiff isn't there")
+        raise Unpacked("libtiff isn't installed")
     tiff = ctypes.CDLL(name)
     tiff.TIFFOpen.restype = ctypes.c_void_p
     tiff.TIFFClose.argtypes = [ctypes.c_void_p]
@@ -37,13 +37,13 @@ def library():
 
 
 def packed_zeros(count):
-    """PackBits of a row of so many bytes of 0."""
+    """Returns a row of this many zero bytes, packed."""
     runs, rest = divmod(count, 128)
     return b"\x81\0" * runs + (bytes([(1 - rest) % 256, 0]) if rest else b"")
 
 
 class StripFile:
-    """A TIFF file that is written. What is 0 is bare, in ink as in bits."""
+    """A TIFF file that is being written. In ink and in bits, 0 is bare."""
 
     def __init__(self, path, width, height, planes):
         self.path, self.height, self.planes = path, height, planes
@@ -75,7 +75,7 @@ class StripFile:
             raise Unpacked(f"{os.path.basename(self.path)}: a strip can't be written")
 
     def close(self):
-        """Writes all strips that weren't written as bare, and the file's end."""
+        """Writes the missing strips, which are bare, and closes the file."""
         for number in range(self.planes * self.strips):
             if number not in self.written:
                 data = self.bare * self.rows(number % self.strips)

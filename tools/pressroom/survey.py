@@ -1,5 +1,5 @@
-"""Looks at a page at a low resolution: which RGB it has, where ink is above the limit, and white text over
-four inks.
+"""Surveys a page at a low resolution: where it shows RGB, where ink is above the limit, and where white text
+is over four inks.
 
 Places are boxes in millimetres from the upper left corner of the trimmed page: left, top, width and height.
 """
@@ -10,10 +10,10 @@ from pressroom.pdf import MILLIMETRE
 from pressroom.separations import DPI
 
 ONE = 25.4 / DPI
-# A cell of so many millimetres has too much ink where half of it has; so many square millimetres are a
-# large area.
+# The side of a cell in millimetres, and the least area in square millimetres that is reported. A cell has
+# too much ink if half of it has.
 CELL, LARGE = 5, 400
-# White text below so many points is thin; it lies on four inks where each has at least so much of 255.
+# White text below this size in points is thin. An ink counts as present from this value of 255.
 THIN, INKED = 10, 26
 FONT = re.compile(r'<fontspec id="(\d+)" size="(-?\d+)" [^>]*color="#([0-9a-f]{6})"')
 TEXT = re.compile(
@@ -22,9 +22,7 @@ TEXT = re.compile(
 
 
 def rgb_of(gs, trim_size):
-    """Where RGB shows: the page is rendered twice, by profiles that differ for RGB alone. None where it
-    doesn't.
-    """
+    """Returns where RGB shows, or None. Renders the page twice, with profiles that differ only for RGB."""
     size = tuple(max(1, math.ceil(side / ONE)) for side in trim_size)
     inks = gs.render(DPI, size, "survey.psd").mixed()
     other = gs.render(DPI, size, "marked.psd", "marked").mixed()
@@ -32,7 +30,7 @@ def rgb_of(gs, trim_size):
 
 
 def box_of(marked, one):
-    """The box around what is marked, where a pixel has `one` millimetre; None where nothing is."""
+    """Returns the box around the marked pixels, whose side is `one` mm, or None if none is marked."""
     rows, columns = marked.any(axis=1).nonzero()[0], marked.any(axis=0).nonzero()[0]
     if not len(rows):
         return None
@@ -41,8 +39,8 @@ def box_of(marked, one):
 
 
 def above(seen, limit):
-    """The area above an ink limit in percent, in square millimetres, and its place; None where it isn't
-    large. `seen` is the ink of the page at the low resolution, as an array of rows, columns and inks.
+    """Returns the area in square millimetres whose ink is above a limit in percent, and its place; None if
+    it isn't large. `seen` is the page's ink at the low resolution: an array of rows, columns and inks.
     """
     import numpy as np
 
@@ -57,7 +55,7 @@ def above(seen, limit):
 
 
 def thin_white(limits, name, inspected, seen, folder):
-    """The places of small white text over four inks."""
+    """Returns the places of small white text over four inks."""
     words = ["pdftohtml", "-xml", "-i", "-stdout", "-zoom", "1", "-f", "1", "-l", "1", "-nomerge"]
     status, out, _ = limits.run([*words, "-noroundcoord", name, "text"], folder)
     text = out.decode("utf-8", "replace")
@@ -77,7 +75,8 @@ def thin_white(limits, name, inspected, seen, folder):
 
 
 def corner(inspected):
-    """The trim's upper left corner, as poppler counts points: from that of the crop box of the turned page.
+    """Returns the trim's upper left corner as poppler counts: in points from that of the crop box, on the
+    rotated page.
     """
     left, lower, right, upper = inspected.trim
     crop_left, crop_lower, crop_right, crop_upper = inspected.crop
@@ -90,7 +89,7 @@ def corner(inspected):
 
 
 def lies_on_four(box, seen):
-    """Whether half of what isn't white in this box has all four inks."""
+    """Returns whether at least half of the inked pixels in this box have all four inks."""
     x, y, width, height = (round(value / ONE) for value in box)
     part = seen[max(0, y) : y + max(1, height), max(0, x) : x + max(1, width)]
     inked = part[part.any(axis=2)] if part.size else part

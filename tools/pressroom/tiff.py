@@ -1,24 +1,24 @@
 """Reads TIFF files of the kinds that plateroom takes and makes: their fields, and their strips one at a time.
 
-A file is never held whole. Fields are read by the rules of docs/FORMATS.md, without their tests: a file that
-isn't of those kinds is for the program to name. What makes reading impossible is a Broken.
+A file is never held in memory whole. Fields are read by the rules of docs/FORMATS.md, without their tests:
+plateroom itself reports files of other kinds. A file that can't be read raises Broken.
 """
 import struct
 from array import array
 
 PACKBITS = 32773
 DEFAULTS = {258: (1,), 259: (1,), 277: (1,), 278: (4294967295,), 284: (1,)}
-# What values of a field's type take: BYTE, SHORT and LONG.
+# The size of a value in bytes, and its struct letter, by type: BYTE, SHORT and LONG.
 TYPES = {1: (1, "B"), 3: (2, "H"), 4: (4, "I")}
 RATIONAL = 5
 
 
 class Broken(Exception):
-    """A file that can't be read; its text says why."""
+    """A file can't be read. The text says why."""
 
 
 def unpacked(data, size):
-    """Row after row of so many bytes, as PackBits data give them; the last may be too short."""
+    """Yields rows of `size` bytes unpacked from PackBits data. The last may be too short."""
     out, at = bytearray(), 0
     while at < len(data):
         head = data[at]
@@ -37,7 +37,7 @@ def unpacked(data, size):
 
 
 class Tiff:
-    """An image: its sides in pixels, its form, and its strips."""
+    """An image: its size in pixels, its format, and its strips."""
 
     def __init__(self, path):
         self.path, self.file, self.places = path, None, None
@@ -48,13 +48,13 @@ class Tiff:
             raise
 
     def close(self):
-        """Gives the file and the places of its strips back. They are read anew where more is asked for."""
+        """Closes the file, and forgets the places of its strips. Later reads open it again."""
         if self.file:
             self.file.close()
         self.file = self.places = None
 
     def at(self, place, size):
-        """These bytes of the file."""
+        """Returns `size` bytes of the file at `place`."""
         try:
             if self.file is None:
                 self.file = open(self.path, "rb")
@@ -88,7 +88,7 @@ class Tiff:
         self.packed, self.photometric = self.number(259) == PACKBITS, self.number(262)
         self.planar = self.number(284)
         self.each = max(1, min(self.number(278), self.length))
-        # Where the four inks stand apart, a row of a plane has one of them.
+        # If the four inks are separate planes, a row of a plane has one of them.
         self.row_bytes = (self.width * self.bits * (1 if self.planar == 2 else self.samples) + 7) // 8
         self.strips = (self.length + self.each - 1) // self.each
         planes = self.samples if self.planar == 2 else 1
@@ -99,7 +99,7 @@ class Tiff:
                 raise Broken(f"{self.path}: tag {tag} has fewer values than there are strips")
 
     def values(self, tag):
-        """All values of a field."""
+        """Returns all values of a field."""
         if tag not in self.fields:
             if tag not in DEFAULTS:
                 raise Broken(f"{self.path}: tag {tag} isn't there")
@@ -118,7 +118,7 @@ class Tiff:
         return values[0]
 
     def rational(self, tag):
-        """The first value of a field of fractions."""
+        """Returns the first value of a RATIONAL field."""
         if tag not in self.rationals:
             raise Broken(f"{self.path}: tag {tag} isn't there")
         above, below = struct.unpack(self.order + "II", self.at(self.rationals[tag], 8))
@@ -127,24 +127,24 @@ class Tiff:
         return above / below
 
     def rows_of(self, strip):
-        """How many rows a strip of a plane has."""
+        """Returns how many rows a strip of a plane has."""
         return min(self.each, self.length - strip * self.each)
 
     def place(self, strip, plane=0):
-        """Where a strip begins in the file, and how many bytes it has there."""
+        """Returns where a strip begins in the file, and its length in bytes."""
         if self.places is None:
             self.places = self.values(273), self.values(279)
         return [values[plane * self.strips + strip] for values in self.places]
 
     def stored(self, strip, plane=0):
-        """The bytes of a strip as they stand in the file."""
+        """Returns the bytes of a strip as they are in the file."""
         return self.at(*self.place(strip, plane))
 
     def too_short(self, strip):
         return Broken(f"{self.path}: strip {strip} is too short")
 
     def rows(self, first=0, last=None, plane=0):
-        """The rows from `first` up to `last`, each as bytes."""
+        """Yields the rows from `first` up to, not including, `last`, each as bytes."""
         last = self.length if last is None else min(last, self.length)
         for strip in range(first // self.each, (last + self.each - 1) // self.each):
             top = strip * self.each

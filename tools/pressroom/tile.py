@@ -16,7 +16,7 @@ import sys
 import zlib
 
 MOST = 64
-# How far off a tile may be: degrees, and the part of the ruling.
+# How far a tile may differ: in degrees, and as a part of the ruling.
 OFF_ANGLE, OFF_RULING = 3.0, 0.05
 SHOWN = 10
 # How early a position prints, by its part of the way to the next dot in both directions (0 and 1 are dots).
@@ -37,7 +37,7 @@ class Grid:
         self.cell = side / math.sqrt(self.count)
 
     def off(self, angle, ruling, dpi):
-        """How far it is from what was asked for: degrees, and the part of the ruling."""
+        """Returns the difference from the wanted tile: in degrees, and as a part of the ruling."""
         turn = abs(self.angle - angle) % 90
         return min(turn, 90 - turn), abs(dpi / self.cell / ruling - 1)
 
@@ -48,13 +48,13 @@ class Grid:
         )
 
     def dot_of(self, x, y):
-        """The dot that a pixel belongs to: its position, in units of which `count` are the tile's side."""
+        """Returns the dot that a pixel belongs to, by its position in units of side / count."""
         i = ((2 * x + 1) * self.a + (2 * y + 1) * self.b + self.side) // (2 * self.side)
         j = ((2 * y + 1) * self.a - (2 * x + 1) * self.b + self.side) // (2 * self.side)
         return (i * self.a - j * self.b) % self.count, (i * self.b + j * self.a) % self.count
 
     def order(self):
-        """The order in which the dots begin, each as far as possible from those before it."""
+        """Returns the order in which the dots begin, each as far as possible from those before it."""
         away = {self.dot_of(x, y): math.inf for y in range(self.side) for x in range(self.side)}
         order = {}
         while away:
@@ -68,7 +68,7 @@ class Grid:
 
 
 def thresholds(grid, dot):
-    """The tile, row after row."""
+    """Returns the thresholds of the tile, row by row."""
     dark, side, order = DOTS[dot], grid.side, grid.order()
     ranked, met = [], {}
     for y in range(side):
@@ -76,7 +76,7 @@ def thresholds(grid, dot):
             u = ((2 * x + 1) * grid.a + (2 * y + 1) * grid.b) / (2 * side)
             v = ((2 * y + 1) * grid.a - (2 * x + 1) * grid.b) / (2 * side)
             height, of = -round(dark(u, v), 9), grid.dot_of(x, y)
-            # Of pixels that are alike each dot gets its first before any gets its second.
+            # Among equal pixels, every dot gets its first before any dot gets its second.
             turn = met[height, of] = met.get((height, of), -1) + 1
             ranked.append((height, turn, order[of], y * side + x))
     at = [0] * len(ranked)
@@ -86,7 +86,7 @@ def thresholds(grid, dot):
 
 
 def nearest(angle, ruling, dpi, largest):
-    """The grids by how near they come, the small ones first where they are alike."""
+    """Returns the grids, nearest first; of equally near ones, the smaller first."""
     found = {}
     for side in range(4, largest + 1):
         for a in range(1, side // 3 + 1):
@@ -105,13 +105,13 @@ def nearest(angle, ruling, dpi, largest):
 
 
 def is_near(grid, angle, ruling, dpi):
-    """Whether a grid is near enough to what was asked for to be printed."""
+    """Returns whether a grid is near enough to the wanted angle and ruling to be used."""
     turn, part = grid.off(angle, ruling, dpi)
     return turn <= OFF_ANGLE and part <= OFF_RULING
 
 
 def tile_text(name, grid, at):
-    """The tile as a plan has it, a row on each line."""
+    """Returns the tile in the plan's form, one row on each line."""
     rows = (", ".join(map(str, at[i : i + grid.side])) for i in range(0, len(at), grid.side))
     return (
         f'{{"name": "{name}", "width": {grid.side}, "height": {grid.side}, "at": [\n'
@@ -121,7 +121,7 @@ def tile_text(name, grid, at):
 
 
 def wedge(path, grid, at):
-    """A picture of the tile's dots in eleven steps from paper to solid, each pixel three across."""
+    """Writes a picture of the tile's dots in eleven steps from paper to solid, each pixel 3 by 3."""
     side, zoom, field = grid.side, 3, 96
     rows = []
     for y in range(field):

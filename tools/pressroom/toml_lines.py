@@ -1,6 +1,6 @@
-"""The line of each key of a TOML text, which tomllib doesn't report.
+"""Finds the line of each key of a TOML text, which tomllib doesn't report.
 
-The text has passed tomllib before, so this only follows its tables, keys, strings and brackets.
+tomllib has already accepted the text, so this only follows its tables, keys, strings and brackets.
 """
 import tomllib
 
@@ -15,13 +15,13 @@ class KeyLines:
             table = self.header() if self.text[self.at] == "[" else self.pair(table)
 
     def line(self, path):
-        """The line of this path, or of the nearest one around it that the text has."""
+        """Returns the line of this path, or of the nearest enclosing one that the text has."""
         while path not in self.lines:
             path = path[:-1]
         return self.lines[path]
 
     def skip_blank(self):
-        """Passes over blanks, ends of lines and comments; False at the end of the text."""
+        """Skips blanks, line ends and comments. Returns False at the end of the text."""
         while self.at < len(self.text) and self.text[self.at] in " \t\r\n#":
             if self.text[self.at] == "#":
                 self.at = (self.text + "\n").index("\n", self.at)
@@ -63,7 +63,7 @@ class KeyLines:
         return table
 
     def keys(self, end):
-        """The parts of a dotted key, up to this sign."""
+        """Yields the parts of a dotted key, up to this character."""
         while self.text[self.at] != end:
             sign = self.text[self.at]
             if sign in " \t.":
@@ -83,7 +83,7 @@ class KeyLines:
         return next(iter(tomllib.loads(f"{text} = 0")))
 
     def string(self):
-        """Passes over a string of one or several lines."""
+        """Skips a string of one or several lines."""
         quote = self.text[self.at]
         long = self.text.startswith(quote * 3, self.at)
         mark = quote * 3 if long else quote
@@ -95,7 +95,7 @@ class KeyLines:
             self.at += 1
 
     def value(self, path):
-        """Passes over a value, and records what a list or an inline table holds."""
+        """Skips a value, and records the contents of a list or an inline table."""
         self.skip_blank()
         sign = self.text[self.at]
         if sign in "\"'":
@@ -108,7 +108,7 @@ class KeyLines:
                 self.at += 1
 
     def held(self, path, end):
-        """Passes over what stands between the brackets of a list or an inline table."""
+        """Skips and records the contents of a list or an inline table, up to its closing bracket."""
         number = 0
         while self.skip_blank() and self.text[self.at] != end:
             if self.text[self.at] == ",":
