@@ -1,5 +1,5 @@
 -- What each way to end implies for the clauses of `plate_main`.
-use Rattle.std.proofs.Common.{◌≡◌, ◌≢◌, ◌⊎◌, ℕ, List, [], Option, Some, None, IfSome, refl, sym, subst, ◌∙◌, ap, inl, inr, arith}
+use Rattle.std.proofs.Common.{◌≡◌, ◌≢◌, ◌⊎◌, ℕ, List, [], Option, Some, None, IfSome, false, refl, sym, subst, ◌∙◌, ap, inl, inr, arith}
 use Rattle.pr_ports.specs.Sink.{Grew}
 use Rattle.pr_rack.specs.declared.rack.Rack.{Ghosts}
 use Rattle.room_base.specs.declared.refusal.Refusal.{Refusal}
@@ -10,8 +10,9 @@ use Rattle.room_base.specs.Refusal.{status_of, line_of}
 use Rattle.room_base.specs.Task.{IsPart, PrintsFront}
 use Rattle.plate_room.specs.Tasks.{IsCut, IsDone, IsEnd, IsUnprinted, Meets, makes_of, rules_of, verdict_for, verdict_of}
 use Rattle.room_base.specs.Status.{IsCutShort, IsDoneStatus, IsRefusal, IsStatus}
-use Rattle.plate_room.specs.End.{NoneFailed, Tells, TellsVerdict, TellsOfMemory, TellsPart}
+use Rattle.plate_room.specs.End.{IsMet, IsUnnoted, NoneFailed, Tells, TellsVerdict, TellsOfMemory, TellsPart}
 use Rattle.plate_room.specs.Ending.{Ending, IsFinished, IsStopped, Done, Refused, Untold, NotNoted, Wanted, NotPrinted}
+use Rattle.room_base.specs.Loads.{AllLoaded, names_load}
 use Rattle.room_base.specs.Seen.{Seen, SinkSeen, Files, IsSilent, IsUntouched, LoadFailed, PutFailed, RackFailed}
 use Rattle.room_base.proofs.Grow.{grew_nothing, second_front}
 use Rattle.room_base.proofs.Owed.{Owes}
@@ -29,6 +30,14 @@ status_refuses (Shelf path) = inr (inr (inr refl))
 -- the status of a refusal
 refuses : (status : ℕ) (refusal : Refusal) → status ≡ status_of refusal → IsRefusal status
 refuses status refusal is = subst IsRefusal (sym is) (status_refuses refusal)
+
+-- a refusal whose status isn't 5 names no failed load
+names_none : (refusal : Refusal) → (status_of refusal ≡ 5 → ⊥) → names_load refusal ≡ false
+names_none Words other = refl
+names_none (LongPlan whose) other = refl
+names_none (Plan whose fault) other = refl
+names_none (File whose fault) other = refl
+names_none (Shelf path) other = absurd (other refl)
 
 done_or_refused : (status : ℕ) → IsDoneStatus status → IsRefusal status → ⊥
 done_or_refused status done refused = grind arith
@@ -140,8 +149,8 @@ module _ {R : Type 0} (g : Ghosts R) (seen : Seen R) (note : SinkSeen) (status :
   pub done_note : Ending g seen note status → IsDoneStatus status → IsSilent note
   done_note e h = (finished_at e h).1
 
-  pub done_missed : Ending g seen note status → IsDoneStatus status → seen.shelf.missed' ≡ seen.shelf.missed
-  done_missed e h = (finished_at e h).0.missed
+  pub done_loads : Ending g seen note status → IsDoneStatus status → AllLoaded seen.shelf
+  done_loads e h = (finished_at e h).0.loads
 
   pub one_left : Ending g seen note status → status ≡ 1 → RackFailed g seen.racks seen.racks'
   one_left e h =
@@ -170,6 +179,10 @@ module _ {R : Type 0} (g : Ghosts R) (seen : Seen R) (note : SinkSeen) (status :
 
   pub refused_out : Ending g seen note status → IsRefusal status → IsSilent seen.out
   refused_out e h = (refused_at e h).stopped.silent
+
+  pub refused_loads : Ending g seen note status → IsRefusal status → status ≢ 5 → AllLoaded seen.shelf
+  refused_loads e h other =
+      let r = refused_at e h in r.stopped.loads (names_none r.refusal (λ five. other (r.is ∙ five)))
 
   -- arguments that met the refusal with status 2 aren't a command
   no_command : (refusal : Refusal) → status_of refusal ≡ 2 → Meets seen.words seen.shelf refusal → command_of seen.words ≡ None
@@ -249,14 +262,26 @@ module _ {R : Type 0} (g : Ghosts R) (seen : Seen R) (note : SinkSeen) (status :
   none_wrong files refusal is pass calm stopped =
       let e : None ≡ Some refusal = sym pass ∙ calm_verdict files refusal is calm stopped in cc
 
+  -- the refusal that stopped a command was met, and no load failed, unless it names the load
+  met_at : (refusal : Refusal) → IsStopped seen refusal → IsMet seen.words seen.shelf refusal
+  met_at refusal stopped = record { met = stopped.met; loads = stopped.loads }
+
   -- ---- printing
 
   pub printing_rose : Ending g seen note status → status ≡ 7
-      → IsUnprinted g seen.words seen.shelf seen.racks seen.racks' seen.out ⊎ PutFailed note
+      → IsUnprinted g seen.words seen.shelf seen.racks seen.racks' seen.out
+      ⊎ IsUnnoted seen.words seen.shelf seen.racks seen.racks' seen.out note
   printing_rose (Done f s) h = absurd (done_or_cut status (done_status g seen status f.made) (inr h))
   printing_rose (Refused r is stopped line) h = absurd (refused_or_cut status (refuses status r is) (inr h))
   printing_rose (Untold r is stopped line) h = absurd (six_or_seven status is h)
-  printing_rose (NotNoted r is stopped rose line) h = inr rose
+  printing_rose (NotNoted r is stopped rose line) h = inr (record {
+    refusal = r;
+    is = met_at r stopped;
+    line = line;
+    rose = rose;
+    racks_stay = stopped.racks;
+    silent = stopped.silent;
+  })
   printing_rose (Wanted is broken line) h = absurd (six_or_seven status is h)
   printing_rose (NotPrinted is spoilt same) h = inl spoilt
 
@@ -301,18 +326,18 @@ module _ {R : Type 0} (g : Ghosts R) (seen : Seen R) (note : SinkSeen) (status :
   pub memory_note : Ending g seen note status → status ≡ 6 → TellsOfMemory seen.words seen.shelf note
   memory_note (Done f s) h = absurd (done_or_cut status (done_status g seen status f.made) (inl h))
   memory_note (Refused r is stopped line) h = absurd (refused_or_cut status (refuses status r is) (inl h))
-  memory_note (Untold r is stopped two) h = (line_of r, inr (r, stopped.met, refl), two)
+  memory_note (Untold r is stopped two) h = (line_of r, inr (r, met_at r stopped, refl), two)
   memory_note (NotNoted r is stopped rose line) h = absurd (six_or_seven status h is)
-  memory_note (Wanted is broken front) h = ([], inl refl, second_front note.given note.given' [] memory_line front)
+  memory_note (Wanted is broken front) h = ([], inl (refl, broken.loads), second_front note.given note.given' [] memory_line front)
   memory_note (NotPrinted is spoilt same) h = absurd (six_or_seven status h is)
 
   pub printing_note : Ending g seen note status → status ≡ 7 → TellsPart seen.words seen.shelf note
   printing_note (Done f s) h = absurd (done_or_cut status (done_status g seen status f.made) (inr h))
   printing_note (Refused r is stopped line) h = absurd (refused_or_cut status (refuses status r is) (inr h))
   printing_note (Untold r is stopped line) h = absurd (six_or_seven status is h)
-  printing_note (NotNoted r is stopped rose front) h = (line_of r, inr (r, stopped.met, refl), front)
+  printing_note (NotNoted r is stopped rose front) h = (line_of r, inr (r, met_at r stopped, refl), front)
   printing_note (Wanted is broken line) h = absurd (six_or_seven status is h)
-  printing_note (NotPrinted is spoilt same) h = ([], inl refl, (0, grew_nothing note.given note.given' same))
+  printing_note (NotPrinted is spoilt same) h = ([], inl (refl, spoilt.loads), (0, grew_nothing note.given note.given' same))
 
   -- ---- a drill
 

@@ -17,7 +17,7 @@ pub owes : {R : Type 0} (g : Ghosts R) (command : Command) → Owes g (rules_of 
 owes g (One file) = one_owes g file
 owes g (Run edition) = run_owes g edition none_further
 owes g (Keys edition keys) = run_owes g edition (further_keys keys)
-owes g (Drill number ring patience) = drill_owes g number
+owes g (Drill number ring patience) = drill_owes g number ring
 owes g (Verify asked) = check_owes g asked
 owes g (Replate change) = change_owes g change
 

@@ -1,5 +1,5 @@
 -- How a run ends, derived from the contracts of its steps.
-use Rattle.std.proofs.Common.{◌≡◌, ℕ, Some, Result, Ok, Err, OnOk, inl, inr}
+use Rattle.std.proofs.Common.{◌≡◌, ℕ, Some, Result, Ok, Err, refl, inl, inr}
 use Rattle.pr_rack.specs.declared.rack.Rack.{Ghosts}
 use Rattle.room_base.specs.declared.refusal.Refusal.{Refusal}
 use Rattle.room_base.specs.declared.refusal.Stop.{Stop}
@@ -7,6 +7,7 @@ use Rattle.room_base.specs.declared.refusal.Stop.TheVariants as stop
 use Rattle.room_base.specs.Note.{TellsRefusal, TellsStop}
 use Rattle.plate_room.specs.Command.{Command, command_of}
 use Rattle.plate_room.specs.Ending.{Answered, Ending, IsStopped, Refused, Untold, NotNoted, Wanted, NotPrinted}
+use Rattle.room_base.specs.Loads.{Loads}
 use Rattle.room_base.specs.Seen.{Seen, SinkSeen}
 use Rattle.room_base.specs.Task.{Answers}
 use Rattle.plate_room.specs.Tasks.{makes_of, rules_of}
@@ -27,21 +28,16 @@ ends g seen note stop.Printing status spoilt (is, same) = NotPrinted is spoilt s
 
 -- the state after a command, where the arguments are this command
 pub answered : {R : Type 0} (g : Ghosts R) (seen : Seen R) (command : Command) (result : Result ℕ Stop)
-    → command_of seen.words ≡ Some command → OnOk result (seen.shelf.missed' ≡ seen.shelf.missed)
+    → command_of seen.words ≡ Some command → Loads seen.shelf result
     → Answers (rules_of command) (makes_of g command) seen.shelf seen.racks seen.racks' seen.out result
     → Answered g seen result
-answered g seen command (Ok status) asked missed whole =
-    record { made = record { command = command; asked = asked; made = whole }; missed = missed }
-answered g seen command (Err (stop.Refused refusal)) asked missed (met, racks, silent) =
-    record { met = inr (command, asked, met); racks = racks; silent = silent }
-answered g seen command (Err stop.Memory) asked missed (inl nothing) =
-    record { asked = (command, asked); cut = inl nothing }
-answered g seen command (Err stop.Memory) asked missed (inr part) =
-    record { asked = (command, asked); cut = inr (record { command = command; asked = asked; made = part }) }
-answered g seen command (Err stop.Printing) asked missed (front, rose) =
-    record { command = command; asked = asked; made = front; rose = rose }
-
--- what holds unconditionally holds for an `Ok` result
-pub on_any : (P : Type 0) (result : Result ℕ Stop) → P → OnOk result P
-on_any P (Ok status) p = p
-on_any P (Err why) p = tt
+answered g seen command (Ok status) asked loads whole =
+    record { made = record { command = command; asked = asked; made = whole }; loads = loads refl }
+answered g seen command (Err (stop.Refused refusal)) asked loads (met, racks, silent) =
+    record { met = inr (command, asked, met); racks = racks; silent = silent; loads = loads }
+answered g seen command (Err stop.Memory) asked loads (inl nothing) =
+    record { asked = (command, asked); cut = inl nothing; loads = loads refl }
+answered g seen command (Err stop.Memory) asked loads (inr part) =
+    record { asked = (command, asked); cut = inr (record { command = command; asked = asked; made = part }); loads = loads refl }
+answered g seen command (Err stop.Printing) asked loads (front, rose) =
+    record { command = command; asked = asked; made = front; rose = rose; loads = loads refl }

@@ -1,12 +1,13 @@
 -- How a command may end, as the contract of `plate_main` states it.
-use Rattle.std.specs.Prelude.{◌≡◌, ℕ, ◌⊎◌, List, [], Some, None}
+use Rattle.std.specs.Prelude.{◌≡◌, ℕ, ◌⊎◌, List, [], Some, None, false}
 use Rattle.pr_ports.specs.Sink.{Grew, GrewByPrefix}
 use Rattle.pr_rack.specs.declared.rack.Rack.{Ghosts}
 use Rattle.room_base.specs.Line.{memory_line}
 use Rattle.room_base.specs.declared.refusal.Refusal.{Refusal}
 use Rattle.room_base.specs.Refusal.{status_of, line_of}
 use Rattle.plate_room.specs.Tasks.{IsEnd, Meets, verdict_of}
-use Rattle.room_base.specs.Seen.{Files, LoadFailed, PutFailed, RackFailed, ShelfSeen, SinkSeen}
+use Rattle.room_base.specs.Loads.{AllLoaded, names_load}
+use Rattle.room_base.specs.Seen.{Files, IsSilent, LoadFailed, PutFailed, RackFailed, ShelfSeen, SinkSeen}
 use Rattle.room_base.specs.Note.{GrewByTwo}
 use Rattle.room_base.specs.Status.{IsCutShort}
 
@@ -24,10 +25,27 @@ pub record TellsVerdict (words : List (List ℕ)) (files : Files) (note : SinkSe
   pub is : status_of refusal ≡ status
   pub line : Grew note.given note.given' (line_of refusal)
 
--- the line that a command which was cut short may have begun to write: that of the refusal it met, or none
+-- the arguments met this refusal, and no load failed, unless the refusal names it
+pub record IsMet (words : List (List ℕ)) (shelf : ShelfSeen) (refusal : Refusal) : Type 0 where
+  pub met : Meets words shelf refusal
+  pub loads : names_load refusal ≡ false → AllLoaded shelf
+
+-- the line that a command which was cut short may have begun to write: that of the refusal it met, or none,
+-- where no load failed
 abbrev pub MayTell : List (List ℕ) → ShelfSeen → List ℕ → Type 0
 MayTell words shelf line =
-    (line ≡ []) ⊎ ((refusal : Refusal) × Meets words shelf refusal × (line ≡ line_of refusal))
+    ((line ≡ []) × AllLoaded shelf)
+    ⊎ ((refusal : Refusal) × IsMet words shelf refusal × (line ≡ line_of refusal))
+
+-- the arguments met a refusal, and the note failed at its line. The command produced nothing
+pub record IsUnnoted {R : Type 0} (words : List (List ℕ)) (shelf : ShelfSeen) (racks racks' : List R)
+    (out note : SinkSeen) : Type 0 where
+  pub refusal : Refusal
+  pub is : IsMet words shelf refusal
+  pub line : GrewByPrefix note.given note.given' (line_of refusal)
+  pub rose : PutFailed note
+  pub racks_stay : racks' ≡ racks
+  pub silent : IsSilent out
 
 -- the note received a prefix of such a line, then a prefix of the out-of-memory line
 abbrev pub TellsOfMemory : List (List ℕ) → ShelfSeen → SinkSeen → Type 0

@@ -1,5 +1,5 @@
 -- How a run of `plate_main` ends. This is the contract of a private function.
-use Rattle.std.specs.Prelude.{◌≡◌, ℕ, List, Some, Result, Ok, Err}
+use Rattle.std.specs.Prelude.{◌≡◌, ℕ, List, Some, Result, Ok, Err, false}
 use Rattle.pr_ports.specs.Sink.{Grew, GrewByPrefix}
 use Rattle.pr_rack.specs.declared.rack.Rack.{Ghosts}
 use Rattle.room_base.specs.declared.refusal.Refusal.{Refusal}
@@ -10,6 +10,7 @@ use Rattle.room_base.specs.Line.{memory_line}
 use Rattle.room_base.specs.Refusal.{status_of, line_of}
 use Rattle.plate_room.specs.Tasks.{IsCut, IsDone, IsUnprinted, Meets}
 use Rattle.room_base.specs.Note.{GrewByTwo}
+use Rattle.room_base.specs.Loads.{AllLoaded, names_load}
 use Rattle.room_base.specs.Seen.{Seen, ShelfSeen, SinkSeen, IsSilent, PutFailed}
 
 -- the arguments are a command
@@ -26,22 +27,24 @@ seen_of words shelf racks racks' out = record {
   out = out;
 }
 
--- the command met a refusal, and produced nothing
+-- the command met a refusal, and produced nothing; no load failed, unless the refusal names it
 pub record IsStopped {R : Type 0} (seen : Seen R) (refusal : Refusal) : Type 0 where
   pub met : Meets seen.words seen.shelf refusal
   pub racks : seen.racks' ≡ seen.racks
   pub silent : IsSilent seen.out
+  pub loads : names_load refusal ≡ false → AllLoaded seen.shelf
 
 module _ {R : Type 0} (g : Ghosts R) where
-  -- the command is done, and the shelf counted no failed load
+  -- the command is done, and no load failed
   pub record IsFinished (seen : Seen R) (status : ℕ) : Type 0 where
     pub made : IsDone g seen.words seen.shelf seen.racks seen.racks' seen.out status
-    pub missed : seen.shelf.missed' ≡ seen.shelf.missed
+    pub loads : AllLoaded seen.shelf
 
-  -- the command was cut short
+  -- the command was cut short, and no load failed
   pub record IsBroken (seen : Seen R) : Type 0 where
     pub asked : IsAsked seen.words
     pub cut : IsCut g seen.words seen.shelf seen.racks seen.racks' seen.out
+    pub loads : AllLoaded seen.shelf
 
   -- the command produced everything but its complete text
   abbrev pub IsSpoilt : Seen R → Type 0

@@ -10,6 +10,7 @@ use Rattle.room_run.specs.Drill.{PrintsDrill, drill_rules}
 use Rattle.room_run.specs.Edition.{run_makes, run_rules}
 use Rattle.room_run.specs.Keys.{keys_makes}
 use Rattle.room_one.specs.OneFile.{PrintsPlate, one_rules}
+use Rattle.room_base.specs.Loads.{AllLoaded}
 use Rattle.room_base.specs.Seen.{Files, IsUntouched, PutFailed, ShelfSeen, SinkSeen}
 use Rattle.room_base.specs.Task.{IsNothing, IsPart, Makes, PrintsFront, PrintsWhole, Rules, telling}
 
@@ -50,7 +51,7 @@ module _ {R : Type 0} (g : Ghosts R) where
   makes_of (One file) = telling (PrintsPlate file)
   makes_of (Run edition) = run_makes g edition
   makes_of (Keys edition keys) = keys_makes g edition keys
-  makes_of (Drill number ring patience) = telling (PrintsDrill number)
+  makes_of (Drill number ring patience) = telling (PrintsDrill number ring)
   makes_of (Verify asked) = telling (PrintsFound asked)
   makes_of (Replate change) = change_makes g change
 
@@ -62,13 +63,14 @@ module _ {R : Type 0} (g : Ghosts R) where
     pub made : PrintsWhole (makes_of command) shelf racks racks' out status
 
   -- the arguments are a command that produced everything but its complete text: the output failed after a
-  -- prefix of it
+  -- prefix of it. No load failed
   pub record IsUnprinted (words : List (List ℕ)) (shelf : ShelfSeen) (racks racks' : List R) (out : SinkSeen)
       : Type 0 where
     pub command : Command
     pub asked : command_of words ≡ Some command
     pub made : PrintsFront (makes_of command) shelf racks racks' out
     pub rose : PutFailed out
+    pub loads : AllLoaded shelf
 
   -- the arguments are a command that was cut short
   pub record IsBegun (words : List (List ℕ)) (shelf : ShelfSeen) (racks racks' : List R) (out : SinkSeen)

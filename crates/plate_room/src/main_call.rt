@@ -2,10 +2,11 @@
 ghost use Rattle.std.specs.Prelude.{◌≡◌, ◌≤◌, ◌⊎◌, ◌≢◌, None, Some, IfSome, length};
 ghost use Rattle.plate_room.specs.Command.{AsksDrill, AsksVerify, command_of, words_of};
 ghost use Rattle.room_base.specs.Status.{IsCutShort, IsDoneStatus, IsRefusal, IsStatus};
-ghost use Rattle.plate_room.specs.End.{FailsByOut, IsComplete, IsToldThere, Tells, TellsOfMemory, TellsPart};
-ghost use Rattle.plate_room.specs.End.{TellsVerdict};
+ghost use Rattle.plate_room.specs.End.{FailsByOut, IsComplete, IsToldThere, IsUnnoted, Tells};
+ghost use Rattle.plate_room.specs.End.{TellsOfMemory, TellsPart, TellsVerdict};
 ghost use Rattle.plate_room.specs.Ending.{Ending, seen_of};
-ghost use Rattle.room_base.specs.Seen.{AreIdle, Files, IsUntouched, PutFailed, RackFailed, shelf_seen};
+ghost use Rattle.room_base.specs.Loads.{AllLoaded};
+ghost use Rattle.room_base.specs.Seen.{AreIdle, Files, IsUntouched, RackFailed, shelf_seen};
 ghost use Rattle.room_base.specs.Seen.{sink_seen};
 ghost use Rattle.plate_room.specs.Tasks.{IsCut, IsDone, IsUnprinted, verdict_of};
 
@@ -76,11 +77,13 @@ pub fn plate_main<T: Threads + Clock + Sync, H: Shelf, R: Rack + Send, S: Sink, 
         (shelf_seen H.Shelf shelf.old shelf.new) result }
 
     // Status 7: `out` or `note` failed. If `out` failed, the command produced everything but its complete
-    // text, which it writes last.
+    // text, which it writes last. If `note` failed, it failed at the line of a refusal, and the command
+    // produced nothing.
     ensures printing { result ≡ 7 →
         IsUnprinted R.Rack (words_of words.now) (shelf_seen H.Shelf shelf.old shelf.new)
         racks.old racks.new (sink_seen S.Sink out.old out.new)
-        ⊎ PutFailed (sink_seen E.Sink note.old note.new) }
+        ⊎ IsUnnoted (words_of words.now) (shelf_seen H.Shelf shelf.old shelf.new)
+        racks.old racks.new (sink_seen S.Sink out.old out.new) (sink_seen E.Sink note.old note.new) }
     ensures printing_out { FailsByOut (words_of words.now)
         (shelf_seen H.Shelf shelf.old shelf.new) (sink_seen S.Sink out.old out.new) result }
 
@@ -98,11 +101,14 @@ pub fn plate_main<T: Threads + Clock + Sync, H: Shelf, R: Rack + Send, S: Sink, 
     ensures printing_note { result ≡ 7 → TellsPart (words_of words.now)
         (shelf_seen H.Shelf shelf.old shelf.new) (sink_seen E.Sink note.old note.new) }
 
-    // Counters: arguments that aren't a command load nothing, and a command that is done had no failed load.
-    // A command that is done doesn't change the failure count of `note`, nor a refused one that of `out`.
+    // Counters: arguments that aren't a command load nothing. No load failed in a command that is done, nor
+    // in one that is refused with a status other than 5. A command that is done doesn't change the failure
+    // count of `note`, nor a refused one that of `out`.
     ensures words_shelf { command_of (words_of words.now) ≡ None
         → IsUntouched (shelf_seen H.Shelf shelf.old shelf.new) }
-    ensures done_missed { IsDoneStatus result → H.missed shelf.new ≡ H.missed shelf.old }
+    ensures done_loads { IsDoneStatus result → AllLoaded (shelf_seen H.Shelf shelf.old shelf.new) }
+    ensures refused_loads { IsRefusal result → result ≢ 5 →
+        AllLoaded (shelf_seen H.Shelf shelf.old shelf.new) }
     ensures done_note_faults { IsDoneStatus result → E.faults note.new ≡ E.faults note.old }
     ensures refused_out_faults { IsRefusal result → S.faults out.new ≡ S.faults out.old }
 

@@ -1,5 +1,5 @@
 -- All sites of a delivery, from the first row to the last.
-use Rattle.std.proofs.Common.{◌≡◌, ℕ, zero, suc, ◌+◌, ◌<◌, ◌≤◌, Bool, true, false, not, List, [], ◌∷◌, ◌++◌, length, map, get_or, eqb, Option, Some, None, refl, sym, ap, subst, ◌∙◌, zero-add, append-nil, ⊎_elim, arith}
+use Rattle.std.proofs.Common.{◌≡◌, ℕ, zero, suc, ◌+◌, ◌-◌, ◌<◌, ◌≤◌, Bool, true, false, not, List, [], ◌∷◌, ◌++◌, length, map, get_or, eqb, Option, Some, None, refl, sym, ap, subst, ◌∙◌, zero-add, append-nil, ⊎_elim, inl, arith}
 use Rattle.std.specs.Prelude.{All, count_by, drop, slice_get}
 use Rattle.std.specs.List.{range_with_len}
 use Rattle.std.specs.Option.{option_map}
@@ -19,11 +19,11 @@ use Rattle.plan_json.specs.Plan.{IsPlan}
 use Rattle.plan_rows.specs.Plates.{site_files, site_plates}
 use Rattle.plan_rows.specs.Rows.{row_places}
 use Rattle.site_agent.specs.Given.{finished_count}
-use Rattle.site_agent.specs.Job.{SiteJob}
+use Rattle.site_agent.specs.Job.{SiteJob, IsJob}
 use Rattle.site_agent.specs.Picked.{picked_job}
 use Rattle.site_agent.specs.Racks.{AllTellSlots, AreIdle, KeepCounts, TellsSlots}
 use Rattle.site_agent.specs.Site.{SiteData}
-use Rattle.site_agent.specs.Stands.{grown}
+use Rattle.site_agent.specs.Stands.{StandsAfter, grown, taken_below}
 use Rattle.site_agent.proofs.Parts.{length-kept, picked_at_end, picked_at_start, picked_is}
 use Rattle.site_agent.proofs.Racks.{idle_is, over_wide, slice_get-front}
 use Rattle.site_agent.proofs.Runs.{finished-end}
@@ -33,6 +33,7 @@ use Rattle.replate.specs.declared.remade.RemadeEnd.TheVariants.{Done, Left}
 use Rattle.replate.specs.Making.{AllMade, AllSomeServed, AllStopped, AreServed, Carries, HasPart, HaveParts, IsServed, IsUp, ServedBy, UpBy, fresh_maker, fresh_makers, is_making, making_by}
 use Rattle.replate.specs.Picks.{PicksData}
 use Rattle.replate.specs.Remade.{FitsEnd, FitsPart, Making, RemadeFits, RemadePart, by_picks, picked_bits}
+use Rattle.replate.proofs.DoneLemmas.{none_begun_at, stands_on}
 use Rattle.replate.proofs.MakerLemmas.{served_part, stands_at}
 use Rattle.replate.proofs.RowLemmas.{there_is}
 use Rattle.replate.proofs.WantedLemmas.{length-picked_bits}
@@ -61,6 +62,7 @@ begins_at plan frames out picks site told carries within slots idle = record {
   is = picked_at_start plan rows out site bits Deck told.tells carries.plan_is (idle_is told slots idle) (length-map frames framed_row ∙ carries.rows_are.count) carries.rows_are.are.each;
   made_are = sym (length-kept bits (site_files plan rows out site) long);
   kept_are = (let most : count_by (λ (bit : Bool). bit) bits ≤ length bits = count_by-le-length (λ (bit : Bool). bit) bits in omega (arith, most, long));
+  missed = refl;
   faults = (let e : told.faults ≤ told.faults = omega arith in e);
 } where
   rows : List (List ℕ)
@@ -217,29 +219,35 @@ grown-nothing (Some list) = ap Some (sym (append-nil list))
 pub none_part : (making : Making) (before : List RackTells) → RemadePart making before before
 none_part making before = record {
   each = λ site old new less b r.
-      subst (λ (now : RackTells). FitsPart making site old now) (same_Some old new (sym b ∙ r)) (record { files = 0; finished = grown-nothing old.tells.finished });
+      subst (λ (now : RackTells). FitsPart making site old now) (same_Some old new (sym b ∙ r)) (record { files = 0; finished = grown-nothing old.tells.finished; calls = inl refl });
 }
 
 -- a site without plates left to make fits its end
-end_fits : (making : Making) (site n : ℕ) (before now : RackTells) (going : SiteData) (end : RemadeEnd) → making_by end going ≡ false → ServedBy making site n before now going end → FitsEnd making site before now end
-end_fits making site n before now going (Done made kept) none at =
+end_fits : (making : Making) (site n : ℕ) (before now : RackTells) (going : SiteData) (end : RemadeEnd) → IsPlan making.plan → n ≤ length (row_places making.plan) → making_by end going ≡ false → ServedBy making site n before now going end → FitsEnd making site before now end
+end_fits making site n before now going (Done made kept) is within none at =
     let job : SiteJob = picked_job making.plan making.out site (making.bits site) in
     let all : finished_count going.job going.next ≡ length going.job.plates = eqb-true (finished_count going.job going.next) (length going.job.plates) (not_false (eqb (finished_count going.job going.next) (length going.job.plates)) none) in
+    let last : ℕ = length (row_places making.plan) in
+    let own : IsJob job = picked_is making.plan making.out site (making.bits site) is in
+    let stands : StandsAfter job making.rows Deck n before.tells now.tells going.counts = stands_at making site n before now going made kept at in
     let all' : finished_count job n ≡ length job.plates =
     subst (λ (m : ℕ). finished_count job m ≡ length job.plates) at.next_is (subst (λ (j : SiteJob). finished_count j going.next ≡ length j.plates) at.job_is all) in
     record {
       made_are = at.made_are;
       kept_are = at.kept_are;
-      finished = picked_at_end making.plan making.rows making.out site n (making.bits site) Deck before.tells now.tells going.counts all' (stands_at making site n before now going made kept at);
+      finished = picked_at_end making.plan making.rows making.out site n (making.bits site) Deck before.tells now.tells going.counts all' stands;
+      taken = (stands_on job making.rows Deck n (last - n) before.tells now.tells going.counts own all' stands).rack.taken
+          ∙ ap (λ m. grown (taken_below job Deck m) before.tells.taken) (let e : n + (last - n) ≡ last = omega (arith, within) in e);
+      begun = none_begun_at job making.rows Deck n before.tells now.tells going.counts own all' stands;
     } where
       not_false : (b : Bool) → not b ≡ false → b ≡ true
       not_false true e = refl
       not_false false e = sym e
-end_fits making site n before now going (Left made path) none left = left.fits
+end_fits making site n before now going (Left made path) is within none left = left.fits
 
-pub remade_fits : (making : Making) (n : ℕ) (before now : List RackTells) (makers : List Maker) (ends : List RemadeEnd) → AreServed making n before now makers → All (λ maker. is_making maker ≡ false) makers
+pub remade_fits : (making : Making) (n : ℕ) (before now : List RackTells) (makers : List Maker) (ends : List RemadeEnd) → IsPlan making.plan → n ≤ length (row_places making.plan) → AreServed making n before now makers → All (λ maker. is_making maker ≡ false) makers
     → ends ≡ map (λ maker. maker.end) makers → RemadeFits making before now ends
-remade_fits making n before now makers ends served none are = record {
+remade_fits making n before now makers ends is within served none are = record {
   count = ap length are ∙ length-map makers (λ maker. maker.end) ∙ served.count;
   each = λ site old new end b r e.
       let long = ap length are ∙ length-map makers (λ maker. maker.end) in
@@ -250,7 +258,7 @@ remade_fits making n before now makers ends served none are = record {
       let over : is_making maker.0 ≡ false =
       subst (λ (m : Maker). is_making m ≡ false) (get_or_from_slice_get makers site maker.0 maker.0 maker.1) (none site maker.0 (slice_get_within makers site maker.0 maker.1)) in
       subst (λ (x : RemadeEnd). FitsEnd making site old new x) end-is
-      (end_fits making site n old new maker.0.site maker.0.end over (served.each site old new maker.0 b r maker.1));
+      (end_fits making site n old new maker.0.site maker.0.end is within over (served.each site old new maker.0 b r maker.1));
 }
 
 -- ---- the racks of the sites, and those after them

@@ -6,6 +6,7 @@ pub mod PlateLemmas
 pub mod KeptLemmas
 pub mod PickLemmas
 pub mod MakerLemmas
+pub mod DoneLemmas
 pub mod RowLemmas
 pub mod DeliveryLemmas
 pub mod WantedLemmas

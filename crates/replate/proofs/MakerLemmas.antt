@@ -1,5 +1,5 @@
 -- A site of a delivery and a row: the site continues, it leaves, or its rack runs out of memory.
-use Rattle.std.proofs.Common.{◌≡◌, ℕ, ◌+◌, ◌<◌, true, false, List, length, map, take, Some, IfSome, refl, sym, ap, subst, ◌∙◌, arith}
+use Rattle.std.proofs.Common.{◌≡◌, ℕ, ◌+◌, ◌<◌, true, false, List, length, map, take, Some, IfSome, refl, sym, ap, subst, ◌∙◌, inl, inr, arith}
 use Rattle.std.specs.Prelude.{slice_get}
 use Rattle.std.proofs.lemmas.List.{length-map}
 use Rattle.std.proofs.lemmas.Option.{get_or_from_slice_get, slice_get_within}
@@ -17,8 +17,9 @@ use Rattle.site_agent.specs.Given.{finished_count}
 use Rattle.site_agent.specs.Job.{SiteJob}
 use Rattle.site_agent.specs.Kept.{GoesOn, IsCauseAt}
 use Rattle.site_agent.specs.Picked.{picked_job}
+use Rattle.site_agent.specs.Refused.{taken_at}
 use Rattle.site_agent.specs.Site.{SiteData}
-use Rattle.site_agent.specs.Stands.{AreAsLong, AreBegun, StandsAfter, grown}
+use Rattle.site_agent.specs.Stands.{AreAsLong, AreBegun, StandsAfter, grown, taken_below}
 use Rattle.site_agent.proofs.Drawing.{Keeps, row-taken}
 use Rattle.site_agent.proofs.Going.{going_further, going_within, going_sides, going_begun, going_working}
 use Rattle.site_agent.proofs.Parts.{IsLeftAt, picked_below, picked_left}
@@ -60,6 +61,7 @@ part_at making site n before now going made kept' at = record {
   part = record {
     files = finished_count (picked_job making.plan making.out site (making.bits site)) n;
     finished = files_at making site n before now going made kept' at;
+    calls = inl at.missed;
   };
   faults = at.faults;
 }
@@ -68,7 +70,7 @@ part_at making site n before now going made kept' at = record {
 pub served_part : (making : Making) (site n : ℕ) (before now : RackTells) (going : SiteData) (end : RemadeEnd) → ServedBy making site n before now going end → HasPart making site before now
 served_part making site n before now going (Done made kept') at = part_at making site n before now going made kept' at
 served_part making site n before now going (Left made path) left = record {
-  part = record { files = made; finished = left.fits.finished };
+  part = record { files = made; finished = left.fits.finished; calls = inr (made, path, left.fits) };
   faults = left.faults;
 }
 
@@ -129,6 +131,7 @@ goes_further making frames site n before old new held going next made kept' carr
           (subst (λ (s : Source). StandsAfter going.job making.rows s going.next before.tells old.tells going.counts) (sym row.source_is) stands)));
       made_are = at.made_are;
       kept_are = at.kept_are;
+      missed = keeps.done_missed ∙ at.missed;
       faults = (let since = at.faults in let stay = keeps.faults_stay in omega (arith, since, stay));
     }
 
@@ -141,9 +144,9 @@ made_on frames n old new held maker next made kept' is row keeps = record {
 }
 
 -- the site left
-leaves_at : (making : Making) (frames : List (List ℕ)) (site n : ℕ) (before old new : RackTells) (held : HeldRow) (going next : SiteData) (made kept' : ℕ) (cause : LeftCause) → Carries making frames
+leaves_at : (making : Making) (frames : List (List ℕ)) (site n : ℕ) (before old new : RackTells) (held : HeldRow) (going next : SiteData) (made kept' : ℕ) (cause : LeftCause) → Carries making frames → IsPutRow frames n held
     → Keeps going next held old new (kept.Left cause) → GoesOnAt making site n before old going made kept' → HasLeft making site before new cause.plates cause.path
-leaves_at making frames site n before old new held going next made kept' cause carries keeps at =
+leaves_at making frames site n before old new held going next made kept' cause carries put keeps at =
     let job : SiteJob = picked_job making.plan making.out site (making.bits site) in
     let by : IsCauseAt going.job going.next cause = keeps.left in
     let cause-at : IsCauseAt job n cause = subst (λ (m : ℕ). IsCauseAt job m cause) at.next_is (subst (λ (j : SiteJob). IsCauseAt j going.next cause) at.job_is by) in
@@ -158,15 +161,23 @@ leaves_at making frames site n before old new held going next made kept' cause c
         counted = rose_since before.faults old.faults new.faults at.faults keeps.left_counted;
         last_call = cause.call;
         missed = keeps.left_missed;
+        row = cause.row;
+        cause = subst (λ (m : ℕ). IsCauseAt job m cause) (sym cause-at.row) cause-at;
+        taken = keeps.left_taken
+            ∙ ap (λ m. taken_at cause.call m held.source old.tells.taken) (at.next_is ∙ sym cause-at.row)
+            ∙ ap (λ s. taken_at cause.call cause.row s old.tells.taken) put.source_is
+            ∙ ap (taken_at cause.call cause.row Deck)
+            ((stands_at making site n before old going made kept' at).rack.taken
+            ∙ ap (λ m. grown (taken_below job Deck m) before.tells.taken) (sym cause-at.row));
       };
       faults = (let since = at.faults in let stay = keeps.faults_stay in omega (arith, since, stay));
     }
 
-pub made_left : (frames : List (List ℕ)) (n : ℕ) (old new : RackTells) (held : HeldRow) (maker : Maker) (next : SiteData) (made kept' : ℕ) (cause : LeftCause) → maker.end ≡ Done made kept'
+pub made_left : (frames : List (List ℕ)) (n : ℕ) (old new : RackTells) (held : HeldRow) (maker : Maker) (next : SiteData) (made kept' : ℕ) (cause : LeftCause) → maker.end ≡ Done made kept' → IsPutRow frames n held
     → Keeps maker.site next held old new (kept.Left cause) → Made frames n old new maker (record { site = next; end = Left cause.plates cause.path })
-made_left frames n old new held maker next made kept' cause is keeps = record {
+made_left frames n old new held maker next made kept' cause is put keeps = record {
   each = λ making site before carries served.
-      leaves_at making frames site n before old new held maker.site next made kept' cause carries keeps (going_of making site n before old maker.site maker.end made kept' is served);
+      leaves_at making frames site n before old new held maker.site next made kept' cause carries put keeps (going_of making site n before old maker.site maker.end made kept' is served);
 }
 
 -- the rack ran out of memory
@@ -179,6 +190,7 @@ made_stopped frames n old new held maker next made kept' is keeps = record {
         part = record {
           files = finished_count (picked_job making.plan making.out site (making.bits site)) n;
           finished = keeps.finished_stay ∙ files_at making site n before old maker.site made kept' at;
+          calls = inl (keeps.memory_missed ∙ at.missed);
         };
         faults = (let since = at.faults in let stay = keeps.faults_stay in omega (arith, since, stay));
       };

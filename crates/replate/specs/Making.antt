@@ -38,6 +38,7 @@ pub record GoesOnAt (making : Making) (site n : ℕ) (before now : RackTells) (g
   pub is : IsGoing making.rows Deck before.tells now.tells going
   pub made_are : made ≡ length (files_for making site)
   pub kept_are : made + kept ≡ length (all_files making site)
+  pub missed : now.missed ≡ before.missed
   pub faults : before.faults ≤ now.faults
 
 -- a site has left

@@ -1,18 +1,23 @@
 -- What a delivery of the plates that must be made leaves on the racks of its sites, by what each rack reports
 -- before and after.
-use Rattle.std.specs.Prelude.{◌≡◌, ℕ, ◌+◌, ◌<◌, ◌≤◌, Bool, List, length, map, take, Some, IfSome, slice_get}
-use Rattle.std.specs.Prelude.{slice_index_or}
+use Rattle.std.specs.Prelude.{◌≡◌, ◌⊎◌, ℕ, ◌+◌, ◌<◌, ◌≤◌, Bool, false, List, length, map, take, Some, IfSome}
+use Rattle.std.specs.Prelude.{slice_get, slice_index_or}
 use Rattle.pr_base.specs.Count.{Rose}
 use Rattle.pr_base.specs.Row.{row_size}
 use Rattle.tif_packbits.specs.Frame.{AreFrames, framed_row}
+use Rattle.ring_lanes.specs.declared.source.Source.{Source}
+use Rattle.ring_lanes.specs.declared.source.Source.TheVariants.{Deck}
 use Rattle.pr_rack.specs.declared.rack.RackCall.{RackCall}
 use Rattle.pr_rack.specs.Rack.{Plate}
 use Rattle.pr_rack.specs.Told.{RackTells}
 use Rattle.plan_json.specs.Data.{PlanData, plate_width}
 use Rattle.plan_rows.specs.Plates.{site_files}
 use Rattle.plan_rows.specs.Rows.{row_places}
-use Rattle.site_agent.specs.Picked.{picked_files}
-use Rattle.site_agent.specs.Stands.{grown}
+use Rattle.site_agent.specs.Job.{SiteJob}
+use Rattle.site_agent.specs.Kept.{IsCauseAt}
+use Rattle.site_agent.specs.Picked.{picked_files, picked_job}
+use Rattle.site_agent.specs.Refused.{taken_at}
+use Rattle.site_agent.specs.Stands.{grown, taken_below}
 use Rattle.replate.specs.declared.remade.RemadeEnd.{RemadeEnd}
 use Rattle.replate.specs.declared.remade.RemadeEnd.TheVariants.{Done, Left}
 use Rattle.replate.specs.Picks.{PicksData, is_made}
@@ -49,6 +54,18 @@ by_picks plan rows out picks = record {
 abbrev pub files_for : Making → ℕ → List Plate
 files_for making site = picked_files making.plan making.rows making.out site (making.bits site)
 
+-- the job of a site that makes exactly these files
+abbrev pub job_for : Making → ℕ → SiteJob
+job_for making site = picked_job making.plan making.out site (making.bits site)
+
+-- the rows below row n that a site takes for the plates that it is to make: upward, each once, from a deck
+abbrev pub drawn_below : Making → ℕ → ℕ → List (ℕ × Source)
+drawn_below making site n = taken_below (job_for making site) Deck n
+
+-- all rows that it takes for them
+abbrev pub drawn_for : Making → ℕ → List (ℕ × Source)
+drawn_for making site = drawn_below making site (length (row_places making.plan))
+
 -- all files of a site
 abbrev pub all_files : Making → ℕ → List Plate
 all_files making site = site_files making.plan making.rows making.out site
@@ -60,14 +77,18 @@ pub record AreRowsOf (plan : PlanData) (frames : List (List ℕ)) : Type 0 where
 
 -- ---- the end of a site
 
--- a site that made all its plates: its rack has exactly these files in addition
+-- a site that made all its plates: its rack has exactly these files and their rows in addition, and no slot
+-- of it is begun
 pub record FitsDone (making : Making) (site : ℕ) (before now : RackTells) (made kept : ℕ) : Type 0 where
   pub made_are : made ≡ length (files_for making site)
   pub kept_are : made + kept ≡ length (all_files making site)
   pub finished : now.tells.finished ≡ grown (files_for making site) before.tells.finished
+  pub taken : now.tells.taken ≡ grown (drawn_for making site) before.tells.taken
+  pub begun : (slot : ℕ) → slot < 5 → slice_get now.tells.begun slot ≡ Some false
 
--- a site that left: its rack has, in addition, the first `made` of these files. It left because a call
--- failed, which is the last failed call, for one of the other files
+-- a site that left: its rack has, in addition, the first `made` of these files, and took the rows of all of
+-- them below the one at which it left. It left because a call failed, which is the last failed call, for one
+-- of the other files
 pub record FitsLeft (making : Making) (site : ℕ) (before now : RackTells) (made : ℕ) (path : List ℕ)
     : Type 0 where
   pub finished : now.tells.finished ≡ grown (take made (files_for making site)) before.tells.finished
@@ -80,16 +101,28 @@ pub record FitsLeft (making : Making) (site : ℕ) (before now : RackTells) (mad
   -- the call that failed
   pub last_call : RackCall
   pub missed : IfSome now.missed (λ last. last ≡ Some (last_call, path))
+  -- the row at which it left, which is a row of that file
+  pub row : ℕ
+  pub cause : IsCauseAt (job_for making site) row
+      (record { plates = made; row = row; call = last_call; path = path })
+  pub taken : now.tells.taken ≡ taken_at last_call row Deck
+      (grown (drawn_below making site row) before.tells.taken)
 
 -- a site's end fits what its rack has in addition to before
 abbrev pub FitsEnd : Making → ℕ → RackTells → RackTells → RemadeEnd → Type 0
 FitsEnd making site before now (Done made kept) = FitsDone making site before now made kept
 FitsEnd making site before now (Left made path) = FitsLeft making site before now made path
 
--- a site of a delivery that ended out of memory: its rack has the first of these files in addition
+-- the site left
+abbrev pub HasFailed : Making → ℕ → RackTells → RackTells → Type 0
+HasFailed making site before now = (made : ℕ) × (path : List ℕ) × FitsLeft making site before now made path
+
+-- a site of a delivery that ended out of memory: its rack has the first of these files in addition, and none
+-- of its calls failed, unless the site left
 pub record FitsPart (making : Making) (site : ℕ) (before now : RackTells) : Type 0 where
   pub files : ℕ
   pub finished : now.tells.finished ≡ grown (take files (files_for making site)) before.tells.finished
+  pub calls : (now.missed ≡ before.missed) ⊎ HasFailed making site before now
 
 -- ---- all sites
 

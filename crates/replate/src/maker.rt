@@ -61,6 +61,7 @@ pub(crate) fn hand<D: Deal, R: Rack>(
         (told R.Rack rack.old) (told R.Rack rack.new) maker.old maker.new) }
     ensures stopped { OnErr result (Stopped deck.old.rows (deck.old.put - 1)
         (told R.Rack rack.old) (told R.Rack rack.new) maker.old) }
+    ensures memory_missed { OnErr result (R.missed rack.new ≡ R.missed rack.old) }
     ensures deck { deck.new ≡ deck.old }
 {
     if maker.has_left() {
@@ -83,6 +84,7 @@ fn hand_on<D: Deal, R: Rack>(
         (told R.Rack rack.old) (told R.Rack rack.new) maker.old maker.new) }
     ensures stopped { OnErr result (Stopped deck.old.rows (deck.old.put - 1)
         (told R.Rack rack.old) (told R.Rack rack.new) maker.old) }
+    ensures memory_missed { OnErr result (R.missed rack.new ≡ R.missed rack.old) }
     ensures deck { deck.new ≡ deck.old }
 {
     let held = deck.take();

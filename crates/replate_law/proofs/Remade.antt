@@ -1,6 +1,6 @@
 -- A rack after the made plates are stored and the dropped ones deleted, path by path.
 use Rattle.std.proofs.Common.{◌≡◌, ℕ, suc, ◌+◌, ◌<◌, Bool, true, false, cond, List, [], ◌∷◌, ◌++◌, length, map, Some, None, refl, ap, sym, subst, add-zero, zero-add, ◌∙◌, inl, inr, arith}
-use Rattle.std.specs.Prelude.{IsTrue, ◌↔◌, ◌&&◌, ◌||◌, filter, option_map}
+use Rattle.std.specs.Prelude.{IsTrue, ◌↔◌, ◌&&◌, ◌||◌, filter, not, option_map}
 use Rattle.std.specs.List.{enumerate_from, find, flat_map, list_any}
 use Rattle.std.specs.Option.{option_or}
 use Rattle.std.specs.Str.{bytes_eq}
@@ -21,6 +21,7 @@ use Rattle.replate.specs.Picks.{MustMake, dropped_of, is_dropped, recipe_at}
 use Rattle.replate.specs.Plates.{IsPlateOf, PlateAt, all_plates, group_at, group_in, has_path, ink_plates, path_below, plates_in, plates_of}
 use Rattle.plan_rows.proofs.Names.{path_under, paths_tell, sites_apart}
 use Rattle.replate.proofs.PlateLemmas.{any_of_site, any_plate, can_tell, some_of_site, some_plate}
+use Rattle.site_agent.specs.Picked.{kept_where}
 use Rattle.replate_law.specs.Law.{File, bytes_of_plate, entry_of, files_of_site, held_in, is_dropped_path, picked_files, remade_at}
 use Rattle.replate_law.proofs.Printed.{file_by, file_is}
 use Rattle.replate_law.proofs.Unmade.{held, one_recipe, same}
@@ -93,6 +94,20 @@ files_are : (job : JobData) (out : List ℕ) (site : ℕ) → files_of_site job 
 unfolding site_plates plates_of
 files_are job out site = sym (entries_are job out site 0 (groups_of job.plan) (λ k low. ap (group_at job.plan) (zero-add k)))
 
+-- the entries at the flags of a test are those of the plates that pass the test
+kept_tested : (made : PlateAt → Bool) (e : PlateAt → File) (ps : List PlateAt) → kept_where (map made ps) (map e ps) ≡ map e (filter made ps)
+kept_tested made e [] = refl
+kept_tested made e (p ∷ ps) = go (made p) (kept_tested made e ps)
+  where
+    go : (b : Bool) → kept_where (map made ps) (map e ps) ≡ map e (filter made ps)
+        → cond b (e p ∷ kept_where (map made ps) (map e ps)) (kept_where (map made ps) (map e ps)) ≡ map e (cond b (p ∷ filter made ps) (filter made ps))
+    go true rest = ap (λ l. e p ∷ l) rest
+    go false rest = rest
+
+picked_are : (job : JobData) (out : List ℕ) (site : ℕ) (made : PlateAt → Bool) → picked_files job out site made ≡ map (entry_of job out) (filter made (plates_of job.plan site))
+picked_are job out site made =
+    ap (kept_where (map made (plates_of job.plan site))) (files_are job out site) ∙ kept_tested made (entry_of job out) (plates_of job.plan site)
+
 -- if no plate of a site has the path, the site has no file at it
 pub none_at : (job : JobData) (out path : List ℕ) (site : ℕ) → list_any (λ p. bytes_eq (entry_of job out p).0 path) (plates_of job.plan site) ≡ false → held_in (files_of_site job out site) path ≡ None
 none_at job out path site none = ap (λ files. held_in files path) (files_are job out site) ∙ held_none (entry_of job out) path (plates_of job.plan site) none
@@ -108,13 +123,49 @@ paths_below a b out p q is = append_cancel_left out (path_below a.plan p) (path_
 pub paths_above : (a b : JobData) (out : List ℕ) (p q : PlateAt) → path_below a.plan p ≡ path_below b.plan q → (entry_of a out p).0 ≡ (entry_of b out q).0
 paths_above a b out p q is = path_out a out p ∙ ap (λ l. out ++ l) is ∙ sym (path_out b out q)
 
+-- if plates of two plans have the same path, their sites have the same name
+site_named : (plan : PlanData) (other : PlanData) (p q : PlateAt) → IsPlan plan → IsPlan other → IsPlateOf plan p → IsPlateOf other q → path_below plan p ≡ path_below other q
+    → site_name plan p.site ≡ site_name other q.site
+site_named plan other p q is other_is of other_of path =
+    (paths_tell plan other p.site q.site (group_at plan p.group) (group_at other q.group) p.ink q.ink (can_tell plan p.site p.group is of.site of.group) (can_tell other q.site q.group other_is other_of.site other_of.group) path).site_named
+
 -- if plates of two plans have the same path, the first one's site is the one with the name of the second
 -- one's site
 site_is : (plan : PlanData) (other : PlanData) (p q : PlateAt) (its : ℕ) → IsPlan plan → IsPlan other → IsPlateOf plan p → IsPlateOf other q → path_below plan p ≡ path_below other q
     → its < length plan.sites → site_name plan its ≡ site_name other q.site → p.site ≡ its
 site_is plan other p q its is other_is of other_of path low name =
-    let names = paths_tell plan other p.site q.site (group_at plan p.group) (group_at other q.group) p.ink q.ink (can_tell plan p.site p.group is of.site of.group) (can_tell other q.site q.group other_is other_of.site other_of.group) path in
-    sites_apart plan p.site its is of.site low (names.site_named ∙ sym name)
+    sites_apart plan p.site its is of.site low (site_named plan other p q is other_is of other_of path ∙ sym name)
+
+-- ---- a site that the old job doesn't name
+
+untested : (made : PlateAt → Bool) (ps : List PlateAt) → list_any (λ p. not (made p)) ps ≡ false → filter made ps ≡ ps
+untested made [] all = refl
+untested made (p ∷ ps) all = go (made p) (untested made ps) all
+  where
+    go : (b : Bool) → (list_any (λ q. not (made q)) ps ≡ false → filter made ps ≡ ps) → (not b || list_any (λ q. not (made q)) ps) ≡ false
+        → cond b (p ∷ filter made ps) (filter made ps) ≡ p ∷ ps
+    go true rest is = ap (λ l. p ∷ l) (rest is)
+    go false rest is = absurd (false≢true (sym is))
+
+module _ (before after : JobData) (out : List ℕ) (site : ℕ) (made : PlateAt → Bool) (before_is : IsPlan before.plan) (after_is : IsPlan after.plan)
+    (low : site < length after.plan.sites) (other : (old : ℕ) → old < length before.plan.sites → site_name before.plan old ≡ site_name after.plan site → ⊥)
+    (told : (new : PlateAt) → IsPlateOf after.plan new → IsTrue (made new) ↔ MustMake before after new) where
+  -- each of its plates must be made
+  all_made : (new : PlateAt) → IsPlateOf after.plan new → new.site ≡ site → made new ≡ true
+  all_made new new_is at =
+      (told new new_is).1 (λ old old_is old_path recipe.
+      other old.site old_is.site (site_named before.plan after.plan old new before_is after_is old_is new_is old_path ∙ ap (site_name after.plan) at))
+
+  -- so all of its files are made
+  pub new_site : picked_files after out site made ≡ files_of_site after out site
+  new_site =
+      picked_are after out site made
+      ∙ ap (map (entry_of after out))
+      (untested made (plates_of after.plan site)
+      (false_from_ne_true (list_any (λ p. not (made p)) (plates_of after.plan site)) (λ some.
+      let one = some_of_site after.plan site (λ p. not (made p)) low some in
+      both_ways (not (made one.0)) (ap not (all_made one.0 one.1 one.2)) one.3)))
+      ∙ sym (files_are after out site)
 
 module _ (before after : JobData) (out path : List ℕ) (old_site site : ℕ) (made : PlateAt → Bool) (before_is : IsPlan before.plan) (after_is : IsPlan after.plan)
     (old_low : old_site < length before.plan.sites) (low : site < length after.plan.sites) (name : site_name before.plan old_site ≡ site_name after.plan site)
@@ -165,12 +216,14 @@ module _ (before after : JobData) (out path : List ℕ) (old_site site : ℕ) (m
         let both = and_parts (made other.0) (test other.0) other.3 in
         let parts = and_parts (is_new other.0) (bytes_eq (entry_of after out other.0).1 all.0) both.1 in
         let its_path = (bytes_decides (entry_of after out other.0).0 path).0 parts.0 in
-        all.1 ∙ ap Some (sym ((bytes_decides (entry_of after out other.0).1 all.0).0 parts.1) ∙ one_file other.0 new other.1 new_is (its_path ∙ sym at_path))
+        ap (λ files. held_in files path) (picked_are after out site made) ∙ all.1
+        ∙ ap Some (sym ((bytes_decides (entry_of after out other.0).1 all.0).0 parts.1) ∙ one_file other.0 new other.1 new_is (its_path ∙ sym at_path))
 
     unmade_held : made new ≡ false → held_in (picked_files after out site made) path ≡ None
     unfolding is_new
     unmade_held is =
-        held_none (entry_of after out) path (filter made (plates_of after.plan site))
+        ap (λ files. held_in files path) (picked_are after out site made)
+        ∙ held_none (entry_of after out) path (filter made (plates_of after.plan site))
         (any-filter made is_new (plates_of after.plan site)
         ∙ false_from_ne_true (list_any (λ p. made p && is_new p) (plates_of after.plan site)) (λ some.
         let other = some_of_site after.plan site (λ p. made p && is_new p) low some in
@@ -225,7 +278,8 @@ module _ (before after : JobData) (out path : List ℕ) (old_site site : ℕ) (m
     none_made : held_in (picked_files after out site made) path ≡ None
     unfolding is_new
     none_made =
-        held_none (entry_of after out) path (filter made (plates_of after.plan site))
+        ap (λ files. held_in files path) (picked_are after out site made)
+        ∙ held_none (entry_of after out) path (filter made (plates_of after.plan site))
         (any-filter made is_new (plates_of after.plan site)
         ∙ false_from_ne_true (list_any (λ p. made p && is_new p) (plates_of after.plan site)) (λ some.
         let other = some_of_site after.plan site (λ p. made p && is_new p) low some in

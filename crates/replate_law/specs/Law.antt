@@ -1,5 +1,5 @@
 -- The files of a job's plates, and the contents of a rack after the plates that were made are stored.
-use Rattle.std.specs.Prelude.{ℕ, Bool, if◌then◌else◌, List, [], filter, map, Option, None, option_map}
+use Rattle.std.specs.Prelude.{ℕ, Bool, if◌then◌else◌, List, [], map, Option, None, option_map}
 use Rattle.std.specs.List.{find, list_any}
 use Rattle.std.specs.Option.{option_or}
 use Rattle.std.specs.Str.{bytes_eq}
@@ -8,6 +8,7 @@ use Rattle.press_job.specs.Rows.{plate_rows}
 use Rattle.replate.specs.Inputs.{JobData}
 use Rattle.replate.specs.Picks.{dropped_of}
 use Rattle.replate.specs.Plates.{PlateAt, group_at, plates_of}
+use Rattle.replate.specs.Remade.{Making, files_for}
 
 -- a path and its bytes
 abbrev pub File : Type 0
@@ -26,9 +27,18 @@ bytes_of_plate job plate = (entry_of job [] plate).1
 abbrev pub files_of_site : JobData → List ℕ → ℕ → List File
 files_of_site job out site = site_files job.plan (plate_rows job.plan job.files) out site
 
--- the files of the plates that pass a test, in the same order
+-- the task of making the plates of a job that pass a test, with paths below the folder `out`
+abbrev pub making_for : JobData → List ℕ → (PlateAt → Bool) → Making
+making_for job out made = record {
+  plan = job.plan;
+  rows = plate_rows job.plan job.files;
+  out = out;
+  bits = λ site. map made (plates_of job.plan site);
+}
+
+-- the files of a site's plates that pass a test, in the same order, as a delivery makes them
 abbrev pub picked_files : JobData → List ℕ → ℕ → (PlateAt → Bool) → List File
-picked_files job out site made = map (entry_of job out) (filter made (plates_of job.plan site))
+picked_files job out site made = files_for (making_for job out made) site
 
 -- ---- files as a map from paths to bytes
 

@@ -5,7 +5,7 @@ ghost use Rattle.plan_rows.specs.Paths.{site_name};
 ghost use Rattle.replate.specs.Inputs.{JobData};
 ghost use Rattle.replate.specs.Picks.{MustMake};
 ghost use Rattle.replate.specs.Plates.{PlateAt, IsPlateOf, has_path, path_below};
-ghost use Rattle.replate_law.specs.Law.{bytes_of_plate, files_of_site, held_in, remade_at};
+ghost use Rattle.replate_law.specs.Law.{bytes_of_plate, files_of_site, held_in, picked_files, remade_at};
 ghost use Rattle.replate_law.specs.Part.{HasPlate, IsPlateIn, IsSectionAt, PrintAlike, SectionAt, SitePrints};
 
 /// A new plate that need not be made is already present: the old job has a plate with its path, and the file
@@ -25,6 +25,13 @@ pub fn replate_law()
         → site_name before.plan old_site ≡ site_name after.plan site
         → ((new : PlateAt) → IsPlateOf after.plan new → IsTrue (made new) ↔ MustMake before after new)
         → remade_at before after out old_site site made path ≡ held_in (files_of_site after out site) path }
+    // If no site of the old job has the name of a site, all files of that site are made.
+    ensures new_site { (before after : JobData) (out : List ℕ) (site : ℕ) (made : PlateAt → Bool)
+        → IsPlan before.plan → IsPlan after.plan → site < length after.plan.sites
+        → ((old : ℕ) → old < length before.plan.sites
+        → ¬ (site_name before.plan old ≡ site_name after.plan site))
+        → ((new : PlateAt) → IsPlateOf after.plan new → IsTrue (made new) ↔ MustMake before after new)
+        → picked_files after out site made ≡ files_of_site after out site }
 {}
 
 /// If two jobs print a section alike at a site, each of its plates there is the same file in both, whatever

@@ -4,3 +4,4 @@ pub mod Grow
 pub mod Jobs
 pub mod Owed
 pub mod Told
+pub mod Loads

@@ -1,6 +1,7 @@
 // Loading a job: its plan, and then the files that the plan names.
-ghost use Rattle.std.specs.Prelude.{◌≡◌, ◌≤◌, ℕ, List, IfErr, IfOk, OnOk};
+ghost use Rattle.std.specs.Prelude.{◌≡◌, ◌≤◌, ℕ, List, IfErr, IfOk};
 ghost use Rattle.room_base.specs.Job.{JobRefused, IsPlanned, IsPrepared};
+ghost use Rattle.room_base.specs.Loads.{Loads};
 ghost use Rattle.room_base.specs.Seen.{shelf_seen};
 
 use crate::refusal::{Refusal, Stop, Whose};
@@ -27,7 +28,7 @@ pub fn load_job<T: Threads + Sync, H: Shelf>(
     ensures refused { IfErr result
         (JobRefused whose path.now folder.now (shelf_seen H.Shelf shelf.old shelf.new)) }
     ensures held { H.held shelf.new ≡ H.held shelf.old }
-    ensures missed { OnOk result (H.missed shelf.new ≡ H.missed shelf.old) }
+    ensures loads { Loads (shelf_seen H.Shelf shelf.old shelf.new) result }
     ensures faults_stay { H.faults shelf.old ≤ H.faults shelf.new }
     ensures longs_stay { H.longs shelf.old ≤ H.longs shelf.new }
 {
@@ -49,7 +50,7 @@ fn load_plan<H: Shelf>(alloc: Global, whose: Whose, path: &str, shelf: &mut H) -
     ensures refused { IfErr result (λ stop. (folder : List ℕ) →
         JobRefused whose path.now folder (shelf_seen H.Shelf shelf.old shelf.new) stop) }
     ensures held { H.held shelf.new ≡ H.held shelf.old }
-    ensures missed { OnOk result (H.missed shelf.new ≡ H.missed shelf.old) }
+    ensures loads { Loads (shelf_seen H.Shelf shelf.old shelf.new) result }
     ensures faults_stay { H.faults shelf.old ≤ H.faults shelf.new }
     ensures longs_stay { H.longs shelf.old ≤ H.longs shelf.new }
 {

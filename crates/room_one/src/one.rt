@@ -1,6 +1,7 @@
 // The command `one`: the black plate of one file.
-ghost use Rattle.std.specs.Prelude.{◌≡◌, OnOk};
+ghost use Rattle.std.specs.Prelude.{◌≡◌};
 ghost use Rattle.room_one.specs.OneFile.{PrintsPlate, named, one_rules, too_long as too_long_fault};
+ghost use Rattle.room_base.specs.Loads.{Loads};
 ghost use Rattle.room_base.specs.Seen.{shelf_seen, sink_seen};
 ghost use Rattle.room_base.specs.Task.{Told};
 
@@ -23,7 +24,7 @@ pub fn print_one<H: Shelf, S: Sink>(
     ensures told { Told (one_rules file.now) (PrintsPlate file.now)
         (shelf_seen H.Shelf shelf.old shelf.new) (sink_seen S.Sink out.old out.new) result }
     ensures held { H.held shelf.new ≡ H.held shelf.old }
-    ensures missed { OnOk result (H.missed shelf.new ≡ H.missed shelf.old) }
+    ensures loads { Loads (shelf_seen H.Shelf shelf.old shelf.new) result }
 {
     let Ok(name) = PathText::of(alloc, file) else {
         return Err(Stop::Memory);

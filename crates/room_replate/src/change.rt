@@ -1,10 +1,11 @@
 // The command `replate`: makes the plates of an edition that changed, and only these.
-ghost use Rattle.std.specs.Prelude.{◌≡◌, ◌≤◌, IfErr, IfOk, OnErr, OnOk, length};
+ghost use Rattle.std.specs.Prelude.{◌≡◌, ◌≤◌, IfErr, IfOk, OnErr, length};
 ghost use Rattle.plan_json.specs.Plan.{IsPlan};
 ghost use Rattle.plan_rows.specs.Groups.{groups_of};
 ghost use Rattle.press_job.specs.Rows.{plate_frames};
 ghost use Rattle.room_replate.specs.Change.{AnswersChange, change_told, ChangeRefused, DeliversPicked};
 ghost use Rattle.room_replate.specs.Change.{DeliversPickedPart, IsLate, IsLoadedLate, compared};
+ghost use Rattle.room_base.specs.Loads.{Loads};
 ghost use Rattle.room_base.specs.Seen.{AreIdle, shelf_seen, sink_seen};
 
 use crate::remade::{dropped_lines, remade_text, status_of};
@@ -56,7 +57,7 @@ pub fn print_change<T: Threads + Sync, H: Shelf, R: Rack, S: Sink>(
         (shelf_seen H.Shelf shelf.old shelf.new)
         racks.old racks.new (sink_seen S.Sink out.old out.new) result }
     ensures held { H.held shelf.new ≡ H.held shelf.old }
-    ensures missed { OnOk result (H.missed shelf.new ≡ H.missed shelf.old) }
+    ensures loads { Loads (shelf_seen H.Shelf shelf.old shelf.new) result }
 {
     let late = load_late(rt, alloc, change, shelf)?;
     let Ok(remade) = make_late(alloc, change, &late, racks) else {
@@ -82,7 +83,7 @@ fn load_late<T: Threads + Sync, H: Shelf>(
     ensures refused { IfErr result
         (ChangeRefused (change_told change.entry) (shelf_seen H.Shelf shelf.old shelf.new)) }
     ensures held { H.held shelf.new ≡ H.held shelf.old }
-    ensures missed { OnOk result (H.missed shelf.new ≡ H.missed shelf.old) }
+    ensures loads { Loads (shelf_seen H.Shelf shelf.old shelf.new) result }
 {
     let before = load_job(
         rt,

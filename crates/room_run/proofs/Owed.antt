@@ -21,8 +21,8 @@ use Rattle.room_base.proofs.Owed.{zero_or_one, there, Owes}
 
 -- ---- `drill`
 
-pub drill_owes : {R : Type 0} (g : Ghosts R) (number : ℕ) → Owes g drill_rules (telling (PrintsDrill number))
-drill_owes g number = record {
+pub drill_owes : {R : Type 0} (g : Ghosts R) (number ring : ℕ) → Owes g drill_rules (telling (PrintsDrill number ring))
+drill_owes g number ring = record {
   met = λ files shelf refusal held met. absurd met;
   known = λ shelf refusal met is. met;
   prints = λ files shelf racks racks' text status held made. refl;

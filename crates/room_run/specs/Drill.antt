@@ -70,19 +70,6 @@ GeneratedJobsPass = (n : ℕ) → verdict_on_files (job_plan n) (codes "in") (fi
 unfoldable pub drill_text : ℕ → List ℕ
 drill_text number = told_of (drill_job number)
 
--- the text is that of the drill with this number
-pub record PrintsDrill (number : ℕ) (shelf : ShelfSeen) (text : List ℕ) (status : ℕ) : Type 0 where
-  pub is : text ≡ drill_text number
-  pub zero : status ≡ 0
-
--- the verdict on a drill is a pass, and a drill meets no refusal
-abbrev pub drill_rules : Rules
-drill_rules = record {
-  verdict = λ files. None;
-  Meets = λ shelf refusal. ⊥;
-  Ends = λ files status. status ≡ 0;
-}
-
 -- ---- the racks of a drill
 
 -- each rack holds the files of its site, with paths below the folder `drill`
@@ -97,3 +84,25 @@ pub record HaveRun (job : JobData) (ring : ℕ) (racks : List MemState) : Type 0
   pub files : HaveFiles job racks
   pub taken : (site : ℕ) (rack : MemState) → slice_get racks site ≡ Some rack
       → rack.taken ≡ drawn_rows job.plan site (Ring site (length job.plan.sites) ring)
+
+-- ---- the command
+
+-- the text is that of the drill with this number, and there are racks that ran its job with a ring of `ring`
+-- places
+pub record IsDrilled (number ring : ℕ) (text : List ℕ) : Type 0 where
+  pub is : text ≡ drill_text number
+  pub racks : List MemState
+  pub run : HaveRun (drill_job number) ring racks
+
+-- a drill prints this text, and its status is 0
+pub record PrintsDrill (number ring : ℕ) (shelf : ShelfSeen) (text : List ℕ) (status : ℕ) : Type 0 where
+  pub drilled : IsDrilled number ring text
+  pub zero : status ≡ 0
+
+-- the verdict on a drill is a pass, and a drill meets no refusal
+abbrev pub drill_rules : Rules
+drill_rules = record {
+  verdict = λ files. None;
+  Meets = λ shelf refusal. ⊥;
+  Ends = λ files status. status ≡ 0;
+}

@@ -8,7 +8,7 @@ ghost use Rattle.pr_rack.specs.Mem.{empty_slots};
 ghost use Rattle.pr_base.specs.Number.{IsWithin};
 ghost use Rattle.plan_json.specs.PlanOf.{plan_of};
 ghost use Rattle.press_job.specs.Verdict.{files_in, verdict_on_files};
-ghost use Rattle.room_run.specs.Drill.{HaveRun, PrintsDrill, drill_job, drill_rules, drill_text as text_for};
+ghost use Rattle.room_run.specs.Drill.{HaveRun, IsDrilled, PrintsDrill, drill_job, drill_rules};
 ghost use Rattle.room_run.specs.Drill.{finished_ends};
 ghost use Rattle.room_base.specs.Seen.{ShelfSeen, sink_seen};
 ghost use Rattle.room_base.specs.Task.{Told};
@@ -64,7 +64,7 @@ pub fn print_drill<T: Threads + Clock + Sync, S: Sink>(
 ) -> Result<u8, Stop>
     requires ring { IsWithin 1 1024 drill.ring }
     requires patience { IsWithin 1 65536 drill.patience }
-    ensures { (shelf : ShelfSeen) → Told drill_rules (PrintsDrill drill.number)
+    ensures { (shelf : ShelfSeen) → Told drill_rules (PrintsDrill drill.number drill.ring)
         shelf (sink_seen S.Sink out.old out.new) result }
 {
     let Ok(text) = drill_text(rt, alloc, drill) else {
@@ -81,19 +81,18 @@ fn drill_text<T: Threads + Clock + Sync>(
 ) -> Result<String, NoMemory>
     requires ring { IsWithin 1 1024 drill.ring }
     requires patience { IsWithin 1 65536 drill.patience }
-    ensures { IfOk result (λ text. string_bytes text ≡ text_for drill.number) }
+    ensures { IfOk result (λ text. IsDrilled drill.number drill.ring (string_bytes text)) }
 {
     let drilled = run_drill(rt, alloc, drill)?;
     tell_drill(alloc, drill, &drilled)
 }
 
 /// Returns the text of a drill that has run.
-#[tactic(auto, unfolding(crate::specs::Drill::drill_text))]
 fn tell_drill(alloc: Global, drill: Drill, drilled: &DrillRun) -> Result<String, NoMemory>
     requires job { drilled.now.job ≡ drill_job drill.number }
     requires ends { drilled.now.ends.items ≡ finished_ends drilled.now.job.plan }
     requires racks { HaveRun drilled.now.job drill.ring drilled.now.racks.items }
-    ensures { IfOk result (λ text. string_bytes text ≡ text_for drill.number) }
+    ensures { IfOk result (λ text. IsDrilled drill.number drill.ring (string_bytes text)) }
 {
     told(
         alloc,

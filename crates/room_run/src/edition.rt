@@ -1,8 +1,9 @@
 // The command `run`: the plates of all sites of an edition.
-ghost use Rattle.std.specs.Prelude.{◌≡◌, ◌≤◌, OnOk, length};
+ghost use Rattle.std.specs.Prelude.{◌≡◌, ◌≤◌, length};
 ghost use Rattle.pr_base.specs.Number.{IsWithin};
 ghost use Rattle.room_run.specs.Edition.{edition_told, Delivered, none_further, run_makes, run_rules};
 ghost use Rattle.room_run.specs.Report.{is_finished as is_finished_lem, status_of_ends};
+ghost use Rattle.room_base.specs.Loads.{Loads};
 ghost use Rattle.room_base.specs.Seen.{AreIdle, shelf_seen, sink_seen};
 ghost use Rattle.room_base.specs.Status.{number_of};
 ghost use Rattle.room_base.specs.Task.{Answers};
@@ -51,7 +52,7 @@ pub fn run_edition<T: Threads + Clock + Sync, H: Shelf, R: Rack + Send, S: Sink>
         (shelf_seen H.Shelf shelf.old shelf.new)
         racks.old racks.new (sink_seen S.Sink out.old out.new) result }
     ensures held { H.held shelf.new ≡ H.held shelf.old }
-    ensures missed { OnOk result (H.missed shelf.new ≡ H.missed shelf.old) }
+    ensures loads { Loads (shelf_seen H.Shelf shelf.old shelf.new) result }
 {
     let job = load_job(rt, alloc, Whose::New, edition.plan, edition.files, shelf)?;
     deliver(rt, alloc, edition, &job, racks, out)

@@ -10,6 +10,7 @@ ghost use Rattle.room_run.specs.Keys.{KeysAnswers, further_keys, group_lines, ke
 ghost use Rattle.room_run.specs.Keys.{keys_lines, lines_with, numbers_at, numbers_for};
 ghost use Rattle.room_run.specs.Keys.{plate_line as plate_line_lem};
 ghost use Rattle.room_run.specs.Report.{report_of};
+ghost use Rattle.room_base.specs.Loads.{Loads};
 ghost use Rattle.room_base.specs.Seen.{AreIdle, shelf_seen, sink_seen};
 
 use crate::edition::{Edition, status_of};
@@ -48,7 +49,7 @@ pub fn run_with_keys<T: Threads + Clock + Sync, H: Shelf, R: Rack + Send, S: Sin
         (shelf_seen H.Shelf shelf.old shelf.new)
         racks.old racks.new (sink_seen S.Sink out.old out.new) result }
     ensures held { H.held shelf.new ≡ H.held shelf.old }
-    ensures missed { OnOk result (H.missed shelf.new ≡ H.missed shelf.old) }
+    ensures loads { Loads (shelf_seen H.Shelf shelf.old shelf.new) result }
 {
     let job = load_job(rt, alloc, Whose::New, edition.plan, edition.files, shelf)?;
     deliver(rt, alloc, edition, keys, &job, racks, out)

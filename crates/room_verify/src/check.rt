@@ -1,10 +1,11 @@
 // The command `verify`: checks whether the plates on a shelf are those of an edition.
-ghost use Rattle.std.specs.Prelude.{◌≡◌, IfOk, OnOk, length, string_bytes};
+ghost use Rattle.std.specs.Prelude.{◌≡◌, IfOk, length, string_bytes};
 ghost use Rattle.press_job.specs.Rows.{plate_frames};
 ghost use Rattle.plate_verify.specs.Looking.{told as found_of};
 ghost use Rattle.room_verify.specs.Check.{asked_told, Looks, PrintsFound, byte_line as byte_line_lem};
 ghost use Rattle.room_verify.specs.Check.{check_rules, found_line, found_status, row_line as row_line_lem};
 ghost use Rattle.room_verify.specs.Check.{same_line as same_line_lem};
+ghost use Rattle.room_base.specs.Loads.{Loads};
 ghost use Rattle.room_base.specs.Seen.{shelf_seen, sink_seen};
 ghost use Rattle.room_base.specs.Status.{number_of};
 ghost use Rattle.room_base.specs.Task.{Told};
@@ -39,7 +40,7 @@ pub fn print_check<T: Threads + Sync, H: Shelf, S: Sink>(
     ensures told { Told (check_rules (asked_told asked.entry)) (PrintsFound (asked_told asked.entry))
         (shelf_seen H.Shelf shelf.old shelf.new) (sink_seen S.Sink out.old out.new) result }
     ensures held { H.held shelf.new ≡ H.held shelf.old }
-    ensures missed { OnOk result (H.missed shelf.new ≡ H.missed shelf.old) }
+    ensures loads { Loads (shelf_seen H.Shelf shelf.old shelf.new) result }
 {
     let job = load_job(rt, alloc, Whose::New, asked.plan, asked.files, shelf)?;
     let checked = check_plates(alloc, &job, asked.out, shelf)?;
@@ -66,7 +67,7 @@ fn check_plates<H: Shelf>(
 ) -> Result<Checked, Stop>
     ensures looks { Looks job.now out.now (shelf_seen H.Shelf shelf.old shelf.new) result }
     ensures held { H.held shelf.new ≡ H.held shelf.old }
-    ensures missed { OnOk result (H.missed shelf.new ≡ H.missed shelf.old) }
+    ensures loads { Loads (shelf_seen H.Shelf shelf.old shelf.new) result }
 {
     let Ok(mut feed) = Feed::open(alloc, job) else {
         return Err(Stop::Memory);
@@ -85,7 +86,7 @@ fn check_fed<F: RowFeed, H: Shelf>(
     requires feed { F.left feed.old ≡ plate_frames job.now.plan job.now.files }
     ensures looks { Looks job.now out.now (shelf_seen H.Shelf shelf.old shelf.new) result }
     ensures held { H.held shelf.new ≡ H.held shelf.old }
-    ensures missed { OnOk result (H.missed shelf.new ≡ H.missed shelf.old) }
+    ensures loads { Loads (shelf_seen H.Shelf shelf.old shelf.new) result }
 {
     match verify(alloc, job.plan(), job.rows(), feed, out, shelf) {
         Ok(checked) => Ok(checked),

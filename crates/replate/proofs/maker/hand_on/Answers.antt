@@ -105,6 +105,8 @@ returns-in-Left-clause-made g c =
     let done = is_done c.args.maker.now.end c.requires.going in
     let old : RackTells = told g.R.Rack c.args.rack.now in
     let new : RackTells = told g.R.Rack c.keep-kept.new.rack in
+    let number : held.number ≡ n = (let put = c.take-held.ensures.number in omega (arith, put)) in
+    let row : IsPutRow c.args.deck.now.rows n held = record { number_is = number; bytes_are = c.take-held.ensures.bytes; source_is = c.take-held.ensures.source } in
     let keeps : Keeps c.args.maker.now.site c.keep-kept.new.self held old new (kept.Left c.in-Left.cause) = record {
       keeps = c.in-Left.ensures.keeps;
       goes_on = c.in-Left.ensures.goes_on;
@@ -123,7 +125,7 @@ returns-in-Left-clause-made g c =
       faults_stay = c.in-Left.ensures.faults_stay;
     } in
     subst (λ (is : Maker). Made c.args.deck.now.rows n old new c.args.maker.now is) (sym c.leave.ensures)
-    (made_left c.args.deck.now.rows n old new held c.args.maker.now c.keep-kept.new.self done.0 done.1.0 c.in-Left.cause done.1.1 keeps)
+    (made_left c.args.deck.now.rows n old new held c.args.maker.now c.keep-kept.new.self done.0 done.1.0 c.in-Left.cause done.1.1 row keeps)
 
 pub returns-in-Memory-clause-stopped : goal.returns-in-Memory-clause-stopped
 returns-in-Memory-clause-stopped g c =

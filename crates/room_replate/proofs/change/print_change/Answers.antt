@@ -1,4 +1,5 @@
 use Rattle.std.proofs.Common.{◌∙◌, refl, ap, inl, inr}
+use Rattle.std.proofs.lemmas.Result.{err_from_is_err_and}
 use Rattle.room_replate.specs.Change.{change_told, change_makes, change_rules}
 use Rattle.room_replate.specs.Remade.{remade_text, status_of_remade}
 use Rattle.room_base.specs.Status.{number_of}
@@ -53,3 +54,17 @@ returns-clause-answered g c =
       status_is = c.status_of.ensures ∙ ap status_of_remade c.as_slice-ends.ensures.value;
     })
     c.put_text.ensures
+
+pub returns-in_err-late-clause-loads : goal.returns-in_err-late-clause-loads
+returns-in_err-late-clause-loads g c =
+    let p = err_from_is_err_and c.from_residual.result c.from_residual.ensures.1 in
+    rw (p.1, p.2) c.in_err-late.ensures.loads
+
+pub returns-in_default-clause-loads : goal.returns-in_default-clause-loads
+returns-in_default-clause-loads g c = λ done. c.in_ok-late.ensures.loads refl
+
+pub returns-in_default-remade_text-clause-loads : goal.returns-in_default-remade_text-clause-loads
+returns-in_default-remade_text-clause-loads g c = λ done. c.in_ok-late.ensures.loads refl
+
+pub returns-clause-loads : goal.returns-clause-loads
+returns-clause-loads g c = λ done. c.in_ok-late.ensures.loads refl

@@ -1,8 +1,10 @@
-use Rattle.std.proofs.Common.{◌∙◌, ap}
+use Rattle.std.proofs.Common.{◌∙◌, ap, refl}
+use Rattle.std.proofs.lemmas.Result.{err_from_is_err_and}
 use Rattle.plate_verify.specs.Looking.{told}
 use Rattle.room_verify.specs.Check.{asked_told, PrintsFound, check_rules, found_line}
 use Rattle.room_base.specs.Status.{number_of}
 use Rattle.room_verify.proofs.Looking.{found_behind}
+use Rattle.room_base.proofs.Loads.{all_behind, loads_behind}
 use Rattle.room_base.proofs.Told.{put_tells}
 use Rattle.room_verify.proofs.check.print_check.Goals as goal
 
@@ -22,3 +24,25 @@ returns-clause-told g c =
       status_is = c.status_of.ensures;
     })
     c.put_text.ensures
+
+pub returns-in_err-job-clause-loads : goal.returns-in_err-job-clause-loads
+returns-in_err-job-clause-loads g c =
+    let p = err_from_is_err_and c.from_residual.result c.from_residual.ensures.1 in
+    rw (p.1, p.2) c.in_err-job.ensures.loads
+
+pub returns-in_err-checked-clause-loads : goal.returns-in_err-checked-clause-loads
+returns-in_err-checked-clause-loads g c =
+    let p = err_from_is_err_and c.from_residual-in_err-checked.result c.from_residual-in_err-checked.ensures.1 in
+    rw (p.1, p.2)
+    (loads_behind g.H.Shelf c.args.shelf.now c.load_job.new.shelf c.check_plates.new.shelf _ (c.in_ok-job.ensures.loads refl)
+    c.in_err-checked.ensures.loads)
+
+pub returns-in_default-clause-loads : goal.returns-in_default-clause-loads
+returns-in_default-clause-loads g c = λ done.
+    all_behind g.H.Shelf c.args.shelf.now c.load_job.new.shelf c.check_plates.new.shelf (c.in_ok-job.ensures.loads refl)
+    (c.in_ok-checked.ensures.loads refl)
+
+pub returns-clause-loads : goal.returns-clause-loads
+returns-clause-loads g c = λ done.
+    all_behind g.H.Shelf c.args.shelf.now c.load_job.new.shelf c.check_plates.new.shelf (c.in_ok-job.ensures.loads refl)
+    (c.in_ok-checked.ensures.loads refl)

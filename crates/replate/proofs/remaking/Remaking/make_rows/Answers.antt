@@ -5,6 +5,7 @@ use Rattle.ring_lanes.specs.Deck.{DeckState}
 use Rattle.tif_packbits.specs.Frame.{framed_row}
 use Rattle.pr_rack.specs.Told.{RackTells, told}
 use Rattle.plan_json.specs.Data.{PlanData}
+use Rattle.plan_rows.specs.Rows.{row_places}
 use Rattle.replate.specs.declared.maker.Maker.{Maker}
 use Rattle.replate.specs.Making.{AllMade, AllSomeServed, AllStopped, AreServed, Carries, HaveParts, IsUp, is_making}
 use Rattle.replate.specs.Remade.{Making, by_picks}
@@ -216,7 +217,11 @@ returns-clause-fits g c =
     let news : length now ≡ length makers = length-map c.loop-feed.racks tell ∙ was.racks ∙ sym c.requires.racks ∙ sym was.served.count in
     let none : All (λ (maker : Maker). is_making maker ≡ false) makers =
     subst (λ (list : List Maker). All (λ (maker : Maker). is_making maker ≡ false) list) c.deref.ensures.value (c.are_making.ensures.none c.loop-feed-test.false) in
-    if_ok c.ends_of.result _ _ (λ ends is. remade_fits making n before now makers ends.items was.served none is) c.ends_of.ensures
+    let most : n ≤ length c.loop-feed.deck.rows = was.within in
+    let same : length c.loop-feed.deck.rows ≡ length frames = ap length was.rows in
+    let count : length frames ≡ length (row_places plan) = carries.rows_are.count in
+    let within : n ≤ length (row_places plan) = omega (arith, most, same, count) in
+    if_ok c.ends_of.result _ _ (λ ends is. remade_fits making n before now makers ends.items carries.plan_is within was.served none is) c.ends_of.ensures
 
 pub returns-clause-part : goal.returns-clause-part
 returns-clause-part g c =
