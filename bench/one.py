@@ -1,17 +1,12 @@
-"""Measures plateroom's `one` against a C program: makes an image, runs both in turn, compares their plates, and
-prints pixels a second and peak memory."""
-import filecmp
-import os
+"""The image of `plateroom one` for pages.py: CMYK, uncompressed, one strip of noise."""
 import random
 import struct
-import subprocess
-import sys
-import time
 
-WIDTH, LENGTH, RUNS = 12000, 9000, 5
+WIDTH, LENGTH = 12000, 9000
 
 
 def make(path):
+    """Writes the image."""
     def entry(tag, kind, count, value):
         return struct.pack("<HHII", tag, kind, count, value)
 
@@ -27,36 +22,3 @@ def make(path):
         for y in range(LENGTH):
             at = 977 * y % (4 * WIDTH)
             file.write(noise[at : at + 4 * WIDTH])
-
-
-def run(command, plate):
-    with open(plate, "wb") as out:
-        start = time.perf_counter()
-        process = subprocess.Popen(command, stdout=out)
-        _, status, usage = os.wait4(process.pid, 0)
-        seconds = time.perf_counter() - start
-    if status != 0:
-        sys.exit(f"{command[0]} exited with status {status}")
-    return seconds, usage.ru_maxrss
-
-
-def main():
-    plateroom, plain, folder = sys.argv[1:4]
-    image = os.path.join(folder, "large.tif")
-    if not os.path.exists(image):
-        make(image)
-    plates = [os.path.join(folder, name) for name in ("plateroom-K.tif", "plain-K.tif")]
-    commands = [[plateroom, "one", image], [plain, image]]
-    best = [(float("inf"), 0)] * 2
-    for _ in range(RUNS):
-        for i in range(2):
-            best[i] = min(best[i], run(commands[i], plates[i]))
-    if not filecmp.cmp(plates[0], plates[1], shallow=False):
-        sys.exit("the plates differ")
-    size = os.path.getsize(image) // 1024
-    for name, (seconds, memory) in zip(("plateroom", "plain C"), best):
-        print(f"{name}: {WIDTH * LENGTH / seconds / 1e6:.0f} million pixels a second, {memory} KiB (the file is {size} KiB)")
-
-
-if __name__ == "__main__":
-    main()
