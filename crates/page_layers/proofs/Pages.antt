@@ -1,9 +1,9 @@
 -- The layers of a page, one after the other.
-use Rattle.std.proofs.Common.{◌≡◌, ℕ, ◌+◌, ◌-◌, ◌/◌, ◌<◌, ◌≤◌, ◌&&◌, Bool, true, false, nat_lt, IsTrue, All, List, [], ◌∷◌, ◌++◌, length, get_or, set, take, replicate, inl, inr, refl, sym, ap, ◌∙◌, arith}
+use Rattle.std.proofs.Common.{◌≡◌, ℕ, ◌+◌, ◌-◌, ◌/◌, ◌<◌, ◌≤◌, ◌&&◌, Bool, true, false, nat_lt, IsTrue, All, List, [], ◌∷◌, ◌++◌, length, get_or, set, take, inl, inr, refl, sym, ap, ◌∙◌, arith}
 use Rattle.std.specs.List.{fold, list_all}
 use Rattle.std.proofs.Math.Nat.{div-mul-le_self}
 use Rattle.std.proofs.lemmas.Bool.{cases_eq, cases_lt, eqb-true, lt-ltb}
-use Rattle.std.proofs.lemmas.List.{append_assoc, get_or-map, get_or-replicate, get_or-set_other, get_or-set_same, get_or_default, length-map, length-set, map-append, map-set, set-get_or, take_all}
+use Rattle.std.proofs.lemmas.List.{append_assoc, get_or-map, get_or-set_other, get_or-set_same, get_or_default, length-map, length-set, map-append, map-set, set-get_or, take_all}
 use Rattle.std.proofs.lemmas.List.Sums.{fold_more}
 use Rattle.std.proofs.lemmas.Nat.{le-div}
 use Rattle.std.proofs.lemmas.List.Elements.{All-head, All-tail, All-weaker}
@@ -122,20 +122,6 @@ painted-all states olds i x y start same all =
     let long : length (layers_of olds) ≤ i = rw (sym same) (omega (arith, length-map states (λ (s : LayerState). s.layer))) in
     ap (fold (λ under layer. painted layer x y under) start) (take_all i (layers_of olds) long)
 
--- a row without ink
-pub blank_inks : (planes : Planes) (c m y k s width x : ℕ) → planes.cyan ≡ replicate c 0 → planes.magenta ≡ replicate m 0 → planes.yellow ≡ replicate y 0 → planes.black ≡ replicate k 0 → planes.spot ≡ replicate s 0
-    → c ≡ width → m ≡ width → y ≡ width → k ≡ width → s ≡ width → x < width → inks_at planes x ≡ blank
-blank_inks planes c m y k s width x c_is m_is y_is k_is s_is c_wide m_wide y_wide k_wide s_wide below =
-    let cyan = none planes.cyan c c_is c_wide in
-    let magenta = none planes.magenta m m_is m_wide in
-    let yellow = none planes.yellow y y_is y_wide in
-    let black = none planes.black k k_is k_wide in
-    let spot = none planes.spot s s_is s_wide in
-    rw (cyan, magenta, yellow, black, spot) refl
-  where
-    none : (plane : List ℕ) (n : ℕ) → plane ≡ replicate n 0 → n ≡ width → get_or plane x 0 ≡ 0
-    none plane n is wide = ap (λ list. get_or list x 0) is ∙ get_or-replicate n x 0 0 (omega arith)
-
 -- the layers painted over no ink give the ink of the page
 pub ink_at-is : (layers : List Layer) (x y : ℕ) → fold (λ under layer. painted layer x y under) blank layers ≡ ink_at layers x y
 unfolding ink_at
@@ -203,7 +189,7 @@ all_alike (state ∷ states) width y ready each =
     let first : shows_alike state.width state.layer y ≡ true = rw own (All-head P state.layer (layers_of states) each) in
     together _ _ first (all_alike states width y (All-tail (IsReady width y) state states ready) (All-tail P state.layer (layers_of states) each))
 
--- where the bottom layer covers everything, the ink below it does not matter
+-- where the bottom layer covers a pixel, the ink below it does not matter
 pub covered_inks : (states : List LayerState) (x y : ℕ) (first : LayerState) (under : Planes) → 0 < length states → painted (get_or states 0 first).layer x y (inks_at under x) ≡ painted (get_or states 0 first).layer x y blank
     → fold (λ under layer. painted layer x y under) (inks_at under x) (layers_of states) ≡ ink_at (layers_of states) x y
 covered_inks [] x y first under some same = absurd (omega arith)

@@ -142,12 +142,12 @@ knocked_out : (art : Art) (column row x : ℕ) (under : Planes) → laid false (
 knocked_out (Contone image) column row x under = refl
 knocked_out (Line image inks) column row x under = refl
 
-pub covers_all : (layer : Layer) (width x y : ℕ) (painting : Painting) (admitted : List ℕ) (under : Planes) → painting ≡ painting_of layer → painting ≡ Whole → layer.x ≡ 0 → length admitted ≡ span_of width layer → length admitted ≡ width
-    → shows_on width layer y ≡ true → x < width → painted layer x y (inks_at under x) ≡ painted layer x y blank
-covers_all layer width x y painting admitted under painting_is whole left long wide shows within =
+pub covers_all : (layer : Layer) (width x y : ℕ) (painting : Painting) (admitted : List ℕ) (under : Planes) → painting ≡ painting_of layer → painting ≡ Whole → length admitted ≡ span_of width layer
+    → shows_on width layer y ≡ true → layer.x ≤ x → x < layer.x + length admitted → painted layer x y (inks_at under x) ≡ painted layer x y blank
+covers_all layer width x y painting admitted under painting_is whole long shows from within =
     let both = whole_is layer.overprint (is_bare layer) (sym painting_is ∙ whole) in
-    let place : layer.x + x ≡ x = omega arith in
-    let column : covers_column layer x ≡ true = rw place at (inside_column layer width x (omega arith)) in
+    let place : layer.x + (x - layer.x) ≡ x = omega arith in
+    let column : covers_column layer x ≡ true = rw place at (inside_column layer width (x - layer.x) (omega arith)) in
     let row = shown_row width layer y shows in
     let at = column_at layer x in
     let all : admits layer at (row_at layer y) ≡ true = bare_admits layer.mask layer.art at (row_at layer y) both.1 in

@@ -95,11 +95,15 @@ pub record IsMarked (test : ℕ → Bool) (source : ℕ → ℕ) (count : ℕ) (
 abbrev pub bit_is : Bool → List ℕ → ℕ → Bool
 bit_is zeros row x = if zeros then not (bit_at row x) else bit_at row x
 
--- the values from one place to another, exclusive, are kept where a test of their place passes and 0
--- elsewhere; all others are unchanged
-pub record Keeps (test : ℕ → Bool) (from to : ℕ) (old new : List ℕ) : Type 0 where
+-- what marks hold where a pixel is marked: 255 if they are fresh, or else what they held
+abbrev pub held : Bool → List ℕ → ℕ → ℕ
+held fresh old n = if fresh then 255 else slice_index old n
+
+-- the values from one place to another, exclusive, are those of a source where a test of their place passes
+-- and 0 elsewhere; all others are unchanged
+pub record Marks (test : ℕ → Bool) (source : ℕ → ℕ) (from to : ℕ) (old new : List ℕ) : Type 0 where
   pub long : length new ≡ length old
-  pub inside : (n : ℕ) → from ≤ n → n < to → slice_index new n ≡ (if test n then slice_index old n else 0)
+  pub inside : (n : ℕ) → from ≤ n → n < to → slice_index new n ≡ (if test n then source n else 0)
   pub before : (n : ℕ) → n < from → slice_index new n ≡ slice_index old n
   pub behind : (n : ℕ) → to ≤ n → slice_index new n ≡ slice_index old n
 

@@ -1,13 +1,13 @@
 // Which pixels of a layer show: those that its image marks and its mask lets through.
 ghost use Rattle.std.specs.Prelude.{◌≡◌, ℕ, ◌+◌, ◌-◌, ◌*◌, ◌/◌, ◌<◌, ◌≤◌, if◌then◌else◌, IsTrue, length};
-ghost use Rattle.std.specs.Prelude.{option_map, replicate, slice_index};
+ghost use Rattle.std.specs.Prelude.{option_map, replicate};
 ghost use Rattle.std.specs.Option.{ForSome};
-ghost use Rattle.page_layers.specs.Layer.{IsLayer, admits, paints_at, shows_through};
+ghost use Rattle.page_layers.specs.Layer.{IsLayer, admits, shows_through};
 ghost use Rattle.page_layers.specs.Reader.{Holds, IsOf, mask_cursor};
-ghost use Rattle.page_layers.specs.Rows.{IsAdmitted, IsMarked, is_bare};
+ghost use Rattle.page_layers.specs.Rows.{IsAdmitted, IsMarked, held, is_bare};
 
 use crate::layer::{Art, Crop, Layer};
-use crate::marks::keep_marked;
+use crate::marks::mark_pixels;
 use crate::row_reader::RowReader;
 use crate::stretch::stretch;
 use tif_image::Bilevel;
@@ -48,30 +48,63 @@ pub(crate) fn admit_row(
     if is_bare(layer) {
         return;
     }
-    let crop = layer.crop;
-    mark_art(&layer.art, image, image_room, crop, marks);
-    mark_mask(&layer.mask, mask, mask_room, crop, image.read(), marks);
+    if layer.scale == 1 {
+        mark_row(layer, image, mask, image_room, mask_room, admitted);
+        return;
+    }
+    mark_row(layer, image, mask, image_room, mask_room, marks);
     stretch(marks, 1, layer.scale as usize, admitted);
 }
 
-// Sets `marks` to 255 for the columns of the image that paint, from the crop's first on, and to 0 for the
+// Sets `marks` to 255 for the columns of the image that show, from the crop's first on, and to 0 for the
 // others.
-fn mark_art(art: &Art<'_>, image: &RowReader<'_>, room: &[u8], crop: Crop, marks: &mut [u8])
-    requires image { IsOf art.now image.now }
-    requires part { Holds image.now crop room.now }
-    requires within { length marks.old ≤ crop.width }
+fn mark_row(
+    layer: &Layer<'_>,
+    image: &RowReader<'_>,
+    mask: &Option<RowReader<'_>>,
+    image_room: &[u8],
+    mask_room: &[u8],
+    marks: &mut [u8],
+)
+    requires image { IsOf layer.now.art image.now }
+    requires mask { mask.now ≡ option_map (mask_cursor image.now.next) layer.now.mask }
+    requires image_part { Holds image.now layer.now.crop image_room.now }
+    requires mask_part { ForSome mask.now (λ reader. Holds reader layer.now.crop mask_room.now) }
+    requires columns { length marks.old ≤ layer.now.crop.width }
     ensures { IsMarked
-        (λ n. paints_at art.now (crop.x + n) (image.now.next - 1))
+        (λ n. admits layer.now (layer.now.crop.x + n) (image.now.next - 1))
         (λ n. 255) (length marks.old) marks.new }
 {
-    marks.fill(255);
-    if let Art::Line(line, _) = art {
-        keep_marked(line, image, crop, room, marks);
+    let crop = layer.crop;
+    match &layer.art {
+        Art::Contone(_) => mark_mask(
+            true,
+            &layer.mask,
+            mask,
+            mask_room,
+            crop,
+            image.read(),
+            marks,
+        ),
+        Art::Line(line, _) => {
+            mark_pixels(true, line, image, crop, image_room, marks);
+            mark_mask(
+                false,
+                &layer.mask,
+                mask,
+                mask_room,
+                crop,
+                image.read(),
+                marks,
+            );
+        }
     }
 }
 
-// Sets `marks` to 0 for the columns of the image that the mask hides, from the crop's first on.
+// Sets `marks` to 0 for the columns of the image that the mask hides, from the crop's first on. The others
+// become 255 if the marks are `fresh`, or else they keep their value.
 fn mark_mask(
+    fresh: bool,
     mask: &Option<Bilevel<'_>>,
     reader: &Option<RowReader<'_>>,
     room: &[u8],
@@ -84,9 +117,14 @@ fn mark_mask(
     requires within { length marks.old ≤ crop.width }
     ensures { IsMarked
         (λ n. shows_through mask.now (crop.x + n) (next - 1))
-        (slice_index marks.old) (length marks.old) marks.new }
+        (held fresh marks.old) (length marks.old) marks.new }
 {
-    if let (Some(mask), Some(reader)) = (mask, reader) {
-        keep_marked(mask, reader, crop, room, marks);
+    match (mask, reader) {
+        (Some(mask), Some(reader)) => mark_pixels(fresh, mask, reader, crop, room, marks),
+        _ => {
+            if fresh {
+                marks.fill(255);
+            }
+        }
     }
 }

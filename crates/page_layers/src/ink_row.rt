@@ -1,5 +1,5 @@
 // A row of a page in five inks.
-ghost use Rattle.std.specs.Prelude.{ℕ, ◌+◌, ◌*◌, ◌<◌, ◌≤◌, length};
+ghost use Rattle.std.specs.Prelude.{◌≡◌, ℕ, ◌+◌, ◌*◌, ◌<◌, ◌≤◌, length, slice_index};
 ghost use Rattle.page_layers.specs.Rows.{HasSamples};
 
 use crate::lay::{Painting, lay_ink, lay_span};
@@ -42,7 +42,7 @@ impl Model for InkRow {
 impl InkRow {
     ghost use Rattle.std.specs.Prelude.{◌≡◌, ℕ, ◌+◌, ◌*◌, ◌/◌, ◌<◌, ◌≤◌, IfOk, length, replicate};
     ghost use Rattle.std.specs.Prelude.{slice_index};
-    ghost use Rattle.page_layers.specs.Inks.{HasWidth, Planes, blank_planes, plane_of};
+    ghost use Rattle.page_layers.specs.Inks.{HasWidth, Planes, blank, blank_planes, inks_at, plane_of};
     ghost use Rattle.page_layers.specs.Rows.{HasSamples, LaysSpan};
 
     /// Allocates a row of `width` pixels without ink.
@@ -100,19 +100,20 @@ impl InkRow {
         }
     }
 
-    /// Sets all inks to 0.
-    pub(crate) fn clear(&mut self)
-        ensures cyan { self.new.cyan ≡ replicate (length self.old.cyan) 0 }
-        ensures magenta { self.new.magenta ≡ replicate (length self.old.magenta) 0 }
-        ensures yellow { self.new.yellow ≡ replicate (length self.old.yellow) 0 }
-        ensures black { self.new.black ≡ replicate (length self.old.black) 0 }
-        ensures spot { self.new.spot ≡ replicate (length self.old.spot) 0 }
+    /// Sets all inks to 0 before column `from`, and from column `to` on.
+    pub(crate) fn clear_beside(&mut self, from: usize, to: usize)
+        requires wide { HasWidth self.old (length self.old.cyan) }
+        requires order { from ≤ to }
+        requires within { to ≤ length self.old.cyan }
+        ensures wide { HasWidth self.new (length self.old.cyan) }
+        ensures before { (x : ℕ) → x < from → inks_at self.new x ≡ blank }
+        ensures behind { (x : ℕ) → to ≤ x → inks_at self.new x ≡ blank }
     {
-        self.cyan.fill(0);
-        self.magenta.fill(0);
-        self.yellow.fill(0);
-        self.black.fill(0);
-        self.spot.fill(0);
+        clear_beside(from, to, &mut self.cyan);
+        clear_beside(from, to, &mut self.magenta);
+        clear_beside(from, to, &mut self.yellow);
+        clear_beside(from, to, &mut self.black);
+        clear_beside(from, to, &mut self.spot);
     }
 
     /// Sets the process inks to the samples of a row of pixels, each pixel repeated `scale` times.
@@ -199,6 +200,18 @@ impl InkRow {
         lay_ink(painting, from, black, admitted, &mut self.black);
         lay_ink(painting, from, spot, admitted, &mut self.spot);
     }
+}
+
+// Sets a row to 0 before column `from`, and from column `to` on.
+fn clear_beside(from: usize, to: usize, into: &mut [u8])
+    requires order { from ≤ to }
+    requires within { to ≤ length into.old }
+    ensures long { length into.new ≡ length into.old }
+    ensures before { (x : ℕ) → x < from → slice_index into.new x ≡ 0 }
+    ensures behind { (x : ℕ) → to ≤ x → slice_index into.new x ≡ 0 }
+{
+    into[..from].fill(0);
+    into[to..].fill(0);
 }
 
 // Sets a row to the samples of one ink, the first of which is at `first`. `pixels` may be empty when no

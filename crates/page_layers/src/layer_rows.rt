@@ -139,16 +139,19 @@ impl<'a> LayerRows<'a> {
         );
     }
 
-    /// Returns whether the layer shows at each column of row `y` of the page and replaces all ink below,
-    /// including the spot ink.
-    pub(crate) fn covers(&self, y: u32) -> bool
-        ensures { IsTrue result → (x : ℕ) → x < self.now.width → (under : Planes)
+    /// Returns the columns of row `y` of the page at which the layer shows and replaces all ink below,
+    /// including the spot ink: the first and the one after the last, which are equal where there are none.
+    pub(crate) fn covered(&self, y: u32) -> (usize, usize)
+        ensures order { result.0 ≤ result.1 }
+        ensures within { result.1 ≤ self.now.width }
+        ensures covered { (x : ℕ) → result.0 ≤ x → x < result.1 → (under : Planes)
             → painted self.now.layer x y (inks_at under x) ≡ painted self.now.layer x y blank }
     {
-        self.painting == Painting::Whole
-            && self.layer.x == 0
-            && self.admitted.len() == self.width as usize
-            && self.shows(y)
+        if self.painting != Painting::Whole || !self.shows(y) {
+            return (0, 0);
+        }
+        let from = self.layer.x as usize;
+        (from, from + self.admitted.len())
     }
 
     // Reads up to row `row` of the image and expands it to paint, unless that row was read last.

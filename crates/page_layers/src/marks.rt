@@ -1,8 +1,8 @@
 // The marked pixels of a bilevel image as bytes.
-ghost use Rattle.std.specs.Prelude.{◌≡◌, ℕ, ◌+◌, ◌-◌, ◌*◌, ◌%◌, ◌<◌, ◌≤◌, length, slice_index};
+ghost use Rattle.std.specs.Prelude.{◌≡◌, ℕ, ◌+◌, ◌-◌, ◌*◌, ◌%◌, ◌<◌, ◌≤◌, if◌then◌else◌, length};
 ghost use Rattle.tif_image.specs.Image.{pixel_marked};
 ghost use Rattle.page_layers.specs.Reader.{Holds};
-ghost use Rattle.page_layers.specs.Rows.{IsMarked, Keeps, bit_is};
+ghost use Rattle.page_layers.specs.Rows.{IsMarked, Marks, bit_is, held};
 
 use crate::layer::Crop;
 use crate::row_reader::RowReader;
@@ -25,8 +25,10 @@ const BIT_OF: [u8; BLOCK] = [
     8, 4, 2, 1, 128, 64, 32, 16, 8, 4, 2, 1,
 ];
 
-/// Sets to 0 the bytes of pixels that are not marked, from the first column of a crop on.
-pub(crate) fn keep_marked(
+/// Writes the marks of a row of pixels, from the first column of a crop on. A byte becomes 0 where the pixel
+/// is not marked. Elsewhere it becomes 255 if the marks are `fresh`, or else it keeps its value.
+pub(crate) fn mark_pixels(
+    fresh: bool,
     image: &Bilevel<'_>,
     reader: &RowReader<'_>,
     crop: Crop,
@@ -39,41 +41,63 @@ pub(crate) fn keep_marked(
     requires within { length into.old ≤ crop.width }
     ensures { IsMarked
         (λ n. pixel_marked image.now.shape image.now.bytes (crop.x + n) (reader.now.next - 1))
-        (slice_index into.old) (length into.old) into.new }
+        (held fresh into.old) (length into.old) into.new }
 {
     // Called for its clause: one sample a pixel.
     let _shape = image.shape();
     // The first byte holds the crop's first column.
     let first = crop.x as usize % 8;
-    keep(image.marks_zeros(), reader.part(crop, room), first, into);
+    mark(
+        fresh,
+        image.marks_zeros(),
+        reader.part(crop, room),
+        first,
+        into,
+    );
 }
 
-// Keeps the bytes of pixels whose bit is 0, or else of those whose bit is 1, and clears the others. The
-// pixels before a byte boundary of the row come first, then whole blocks, then the rest.
-fn keep(zeros: bool, row: &[u8], first: usize, into: &mut [u8])
+// Marks the bytes of pixels whose bit is 0, or else of those whose bit is 1. The pixels before a byte
+// boundary of the row come first, then whole blocks, then the rest.
+fn mark(fresh: bool, zeros: bool, row: &[u8], first: usize, into: &mut [u8])
     requires small { first + length into.old ≤ 65535 }
     requires within { first + length into.old ≤ 8 * length row.now }
     ensures { IsMarked (λ j. bit_is zeros row.now (first + j))
-        (slice_index into.old) (length into.old) into.new }
+        (held fresh into.old) (length into.old) into.new }
 {
     let all = into.len();
     let ragged = ((8 - first % 8) % 8).min(all);
     let done = ragged + (all - ragged) / BLOCK * BLOCK;
-    keep_bits(zeros, row, first, into, 0, ragged);
-    keep_blocks(zeros, row, first, into, ragged, done);
-    keep_bits(zeros, row, first, into, done, all);
+    mark_bits(fresh, zeros, row, first, into, 0, ragged);
+    mark_blocks(fresh, zeros, row, first, into, ragged, done);
+    mark_bits(fresh, zeros, row, first, into, done, all);
 }
 
 // The loop multiplies by 0 or 1, since a branch on the bit would often be mispredicted.
-fn keep_bits(zeros: bool, row: &[u8], first: usize, into: &mut [u8], from: usize, to: usize)
+fn mark_bits(
+    fresh: bool,
+    zeros: bool,
+    row: &[u8],
+    first: usize,
+    into: &mut [u8],
+    from: usize,
+    to: usize,
+)
     requires order { (from ≤ to) × (to ≤ length into.old) }
     requires small { first + to ≤ 65535 }
     requires within { first + to ≤ 8 * length row.now }
-    ensures { Keeps (λ j. bit_is zeros row.now (first + j)) from to into.old into.new }
+    ensures { Marks (λ j. bit_is zeros row.now (first + j)) (held fresh into.old) from to into.old into.new }
 {
     for j in from..to {
-        into[j] *= u8::from(has_bit(zeros, row, first + j));
+        into[j] = held_byte(fresh, into[j]) * u8::from(has_bit(zeros, row, first + j));
     }
+}
+
+// Returns what a marked byte holds afterwards: 255 if the marks are fresh, or else what it held.
+#[inline(always)]
+fn held_byte(fresh: bool, byte: u8) -> u8
+    ensures { result ≡ (if fresh then 255 else byte) }
+{
+    if fresh { 255 } else { byte }
 }
 
 // Returns whether pixel `x` of a row has the bit 0, or else the bit 1.
@@ -87,34 +111,44 @@ fn has_bit(zeros: bool, row: &[u8], x: usize) -> bool
 }
 
 // Does the same for whole blocks, the first of which starts at a byte of the row.
-fn keep_blocks(zeros: bool, row: &[u8], first: usize, into: &mut [u8], from: usize, to: usize)
+fn mark_blocks(
+    fresh: bool,
+    zeros: bool,
+    row: &[u8],
+    first: usize,
+    into: &mut [u8],
+    from: usize,
+    to: usize,
+)
     requires order { (from ≤ to) × (to ≤ length into.old) }
     requires small { first + to ≤ 65535 }
     requires within { first + to ≤ 8 * length row.now }
     requires begins { from < to → (first + from) % 8 ≡ 0 }
     requires whole { (to - from) % BLOCK ≡ 0 }
-    ensures { Keeps (λ j. bit_is zeros row.now (first + j)) from to into.old into.new }
+    ensures { Marks (λ j. bit_is zeros row.now (first + j)) (held fresh into.old) from to into.old into.new }
 {
     let byte = (first + from) / 8;
     for k in 0..(to - from) / BLOCK {
         let bits = &row[byte + 8 * k..byte + 8 * k + 8];
         let at = from + BLOCK * k;
-        keep_block(zeros, bits, &mut into[at..at + BLOCK]);
+        mark_block(fresh, zeros, bits, &mut into[at..at + BLOCK]);
     }
 }
 
-// Does the same for one block. Each pixel's bit is isolated in a lane, and its byte is kept where the bit has
-// the value sought.
-fn keep_block(zeros: bool, bits: &[u8], into: &mut [u8])
+// Does the same for one block. Each pixel's bit is isolated in a lane, and compared with the value sought.
+fn mark_block(fresh: bool, zeros: bool, bits: &[u8], into: &mut [u8])
     requires bits { length bits.now ≡ 8 }
     requires into { length into.old ≡ BLOCK }
-    ensures { IsMarked (bit_is zeros bits.now) (slice_index into.old) BLOCK into.new }
+    ensures { IsMarked (bit_is zeros bits.now) (held fresh into.old) BLOCK into.new }
 {
     let none = u8x64::splat(0);
     let each = u8x64::from_array(BIT_OF);
     let wanted = if zeros { none } else { each };
+    let values = if fresh {
+        u8x64::splat(255)
+    } else {
+        u8x64::from_slice(into)
+    };
     let bit = u8x8::from_slice(bits).swizzle(BYTE_OF) & each;
-    bit.simd_eq(wanted)
-        .select(u8x64::from_slice(into), none)
-        .copy_to_slice(into);
+    bit.simd_eq(wanted).select(values, none).copy_to_slice(into);
 }

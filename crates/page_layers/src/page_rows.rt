@@ -171,7 +171,7 @@ fn layer_rooms(alloc: Global, count: usize) -> Result<Vec<LayerRoom>, NoMemory>
     Ok(rooms)
 }
 
-// Sets all inks to 0 before row `y` is painted, unless the bottom layer replaces all of them.
+// Sets all inks to 0 before row `y` is painted, except where the bottom layer replaces them.
 fn clear_under(layers: &[LayerRows<'_>], y: u32, into: &mut InkRow)
     requires width { HasWidth into.old (length into.old.cyan) }
     requires ready { All (IsReady (length into.old.cyan) y) layers.now }
@@ -180,10 +180,12 @@ fn clear_under(layers: &[LayerRows<'_>], y: u32, into: &mut InkRow)
         → fold (λ under layer. painted layer x y under) (inks_at into.new x) (layers_of layers.now)
         ≡ ink_at (layers_of layers.now) x y }
 {
-    if !layers.is_empty() && layers[0].covers(y) {
+    if layers.is_empty() {
+        into.clear_beside(0, 0);
         return;
     }
-    into.clear();
+    let (from, to) = layers[0].covered(y);
+    into.clear_beside(from, to);
 }
 
 // Paints the layers in order over row `y`.

@@ -1,31 +1,30 @@
--- The bits of one page in eight columns as one byte, the first in the highest bit.
-use Rattle.std.proofs.Common.{◌≡◌, ℕ, zero, suc, ◌-◌, ◌*◌, ◌/◌, ◌%◌, ◌^◌, ◌<◌, Bool, true, false, cond, List, ◌++◌, length, take, eqb, bit_and, get_or, refl, ap, sym, subst, ◌∙◌, arith, map}
+-- The bits of one page in sixty-four columns as eight bytes, each with its first pixel in the highest bit.
+use Rattle.std.proofs.Common.{◌≡◌, ℕ, zero, suc, ◌+◌, ◌-◌, ◌*◌, ◌/◌, ◌%◌, ◌^◌, ◌<◌, ◌≤◌, Bool, true, false, cond, List, ◌++◌, length, take, eqb, bit_and, get_or, refl, ap, ◌∙◌, arith, map, w64}
+use Rattle.std.specs.Int.{to_be_bytes, to_le_bytes}
 use Rattle.std.specs.List.{range_with_len}
 use Rattle.std.proofs.lemmas.Bool.Decides.{nat_tests}
-use Rattle.std.proofs.lemmas.List.{get_or_append_left, get_or-take, length-take}
 use Rattle.std.proofs.lemmas.List.FromFn.{get_or-map-range_with_len, length-map-range_with_len}
 use Rattle.std.proofs.lemmas.Nat.{mod_below, pow_pos}
 use Rattle.std.proofs.lemmas.Nat.Bits.{and_pow}
-use Rattle.std.proofs.lemmas.Simd.{bit_mask_l, mask_l-mod, mask_l-lt}
+use Rattle.std.proofs.lemmas.Simd.{bit_mask_l, mask_l-mod}
+use borrow.Rule.Slice.PartMut.{put_mid}
 use lib.Lanes.{mask_l, top}
-use Rattle.pr_base.specs.Bits.{byte_bit}
+use Rattle.pr_base.specs.Bits.{bit_at, byte_bit, SetsBits}
+use Rattle.pr_base.proofs.Parts.{loaded, part_above, part_below, part_here}
+use Rattle.pr_base.proofs.Words.{byte_bit-number}
 use Rattle.scr_diffuse.specs.Diffusers.{bit_of}
-
--- lane x of eight columns, before they are reversed
-abbrev pub lane : List ℕ → ℕ → ℕ
-lane columns x = get_or (take 8 columns ++ take 8 columns) x 0
 
 -- the mask of the bit of a page
 abbrev pub alone : ℕ → ℕ
 alone page = 1 * 2 ^ page % 256
 
--- the result of the comparison in that lane
+-- the result of the comparison in lane x of the columns, before the lanes of each byte are reversed
 abbrev pub lane_test : ℕ → List ℕ → ℕ → Bool
-lane_test page columns x = top 7 (cond (eqb (bit_and (lane columns x) (alone page)) (alone page)) 255 0)
+lane_test page columns x = top 7 (cond (eqb (bit_and (get_or (take 64 columns ++ take 64 columns) x 0) (alone page)) (alone page)) 255 0)
 
--- the lanes of the comparison of a reversed vector
+-- the lanes of the comparison, with the lanes of each byte reversed
 abbrev pub lane_tests : ℕ → List ℕ → List Bool
-lane_tests page columns = map (λ i. lane_test page columns (7 - i)) (range_with_len 0 8)
+lane_tests page columns = map (λ i. lane_test page columns (8 * (i / 8) + 7 - i % 8)) (range_with_len 0 64)
 
 top_of_mask : (b : Bool) → top 7 (cond b 255 0) ≡ b
 top_of_mask true = refl
@@ -52,29 +51,49 @@ digit_is zero p digit some = grind (arith, nat_tests)
 digit_is (suc zero) p digit some = grind (arith, nat_tests)
 digit_is (suc (suc d)) p digit some = absurd (omega arith)
 
-loaded : (columns : List ℕ) (x : ℕ) → length columns ≡ 8 → x < 8 → lane columns x ≡ get_or columns x 0
-loaded columns x whole within =
-    get_or_append_left (take 8 columns) (take 8 columns) 0 x (omega (arith, length-take 8 columns)) ∙ get_or-take 8 columns x 0 within
-
-lane_test_is : (page : ℕ) (columns : List ℕ) (x : ℕ) → page < 8 → length columns ≡ 8 → x < 8 → lane_test page columns x ≡ bit_of (get_or columns x 0) page
+lane_test_is : (page : ℕ) (columns : List ℕ) (x : ℕ) → page < 8 → length columns ≡ 64 → x < 64 → lane_test page columns x ≡ bit_of (get_or columns x 0) page
 lane_test_is page columns x lanes whole within =
-    top_of_mask _ ∙ ap (λ n. eqb (bit_and n (alone page)) (alone page)) (loaded columns x whole within)
+    top_of_mask _ ∙ ap (λ n. eqb (bit_and n (alone page)) (alone page)) (loaded 64 columns x whole within)
     ∙ ap (λ m. eqb (bit_and (get_or columns x 0) m) m) (alone_is page lanes)
     ∙ ap (λ n. eqb n (2 ^ page)) (and_pow (get_or columns x 0) page)
     ∙ digit_is (get_or columns x 0 / 2 ^ page % 2) (2 ^ page) (mod_below _ 2 (omega arith)) (pow_pos page)
 
--- the mask is a byte
-pub dots-fit : (page : ℕ) (columns : List ℕ) → mask_l (lane_tests page columns) % 2 ^ 64 < 256
-dots-fit page columns =
-    let count : length (lane_tests page columns) ≡ 8 = length-map-range_with_len (λ i. lane_test page columns (7 - i)) 0 8 in
-    let below : mask_l (lane_tests page columns) < 2 ^ length (lane_tests page columns) = mask_l-lt (lane_tests page columns) in
-    let byte : mask_l (lane_tests page columns) < 2 ^ 8 = subst (λ (n : ℕ). mask_l (lane_tests page columns) < 2 ^ n) count below in
-    subst (λ (n : ℕ). n < 256) (sym (mask_l-mod (lane_tests page columns) 64 (omega arith))) byte
+-- a byte of a number in little-endian order is one of its bytes in big-endian order
+low_is_high : (n j : ℕ) → j < 8 → get_or (to_le_bytes w64 n) j 0 ≡ get_or (to_be_bytes w64 n) (7 - j) 0
+low_is_high n zero within = refl
+low_is_high n (suc zero) within = refl
+low_is_high n (suc (suc zero)) within = refl
+low_is_high n (suc (suc (suc zero))) within = refl
+low_is_high n (suc (suc (suc (suc zero)))) within = refl
+low_is_high n (suc (suc (suc (suc (suc zero))))) within = refl
+low_is_high n (suc (suc (suc (suc (suc (suc zero)))))) within = refl
+low_is_high n (suc (suc (suc (suc (suc (suc (suc zero))))))) within = refl
+low_is_high n (suc (suc (suc (suc (suc (suc (suc (suc j)))))))) within = absurd (omega arith)
 
-pub dot_bit : (page : ℕ) (columns : List ℕ) (x : ℕ) → page < 8 → length columns ≡ 8 → x < 8 → byte_bit (mask_l (lane_tests page columns) % 2 ^ 64) x ≡ bit_of (get_or columns x 0) page
-dot_bit page columns x lanes whole within =
-    let back : 7 - (7 - x) ≡ x = omega arith in
-    ap (λ m. eqb (m / 2 ^ (7 - x) % 2) 1) (mask_l-mod (lane_tests page columns) 64 (omega (arith, length-map-range_with_len (λ i. lane_test page columns (7 - i)) 0 8)))
-    ∙ ap (λ b. eqb b 1) (bit_mask_l (lane_tests page columns) (7 - x)) ∙ one_if _
-    ∙ get_or-map-range_with_len (λ i. lane_test page columns (7 - i)) 0 8 (7 - x) (7 - x) false (omega arith) (omega arith)
-    ∙ ap (λ y. lane_test page columns y) back ∙ lane_test_is page columns x lanes whole within
+-- the eight bytes of the mask, in little-endian order, hold the pixels in order
+pub dots_show : (page : ℕ) (columns : List ℕ) (x : ℕ) → page < 8 → length columns ≡ 64 → x < 64 → bit_at (to_le_bytes w64 (mask_l (lane_tests page columns) % 2 ^ 64)) x ≡ bit_of (get_or columns x 0) page
+dots_show page columns x lanes whole within =
+    let test = λ (i : ℕ). lane_test page columns (8 * (i / 8) + 7 - i % 8) in
+    let mask = mask_l (lane_tests page columns) in
+    let lane = 63 - (8 * (7 - x / 8) + x % 8) in
+    let back : 8 * (lane / 8) + 7 - lane % 8 ≡ x = omega arith in
+    ap (λ byte. byte_bit byte (x % 8)) (low_is_high (mask % 2 ^ 64) (x / 8) (omega arith))
+    ∙ byte_bit-number (mask % 2 ^ 64) (7 - x / 8) (x % 8) (omega arith) (omega arith)
+    ∙ ap (λ m. eqb (m / 2 ^ lane % 2) 1) (mask_l-mod (lane_tests page columns) 64 (omega (arith, length-map-range_with_len test 0 64)))
+    ∙ ap (λ b. eqb b 1) (bit_mask_l (lane_tests page columns) lane) ∙ one_if _
+    ∙ get_or-map-range_with_len test 0 64 lane lane false (omega arith) (omega arith)
+    ∙ ap (λ y. lane_test page columns y) back
+    ∙ lane_test_is page columns x lanes whole within
+
+-- the pixels of eight bytes that were written to a packed row
+pub SetsBits_block : (test : ℕ → Bool) (bits bytes : List ℕ) (first count : ℕ) → count ≡ 8 → first + 8 ≤ length bits → length bytes ≡ 8 → ((x : ℕ) → x < 64 → bit_at bytes x ≡ test x) → SetsBits test (8 * first) 64 bits (put_mid first count bits bytes)
+SetsBits_block test bits bytes first count eight room whole shows = record {
+  inside = λ x below.
+      let byte : (8 * first + x) / 8 - first ≡ x / 8 = omega arith in
+      let column : (8 * first + x) % 8 ≡ x % 8 = omega arith in
+      ap (λ b. byte_bit b ((8 * first + x) % 8)) (part_here first count bits bytes ((8 * first + x) / 8) (omega arith) (omega arith) (omega arith) (omega arith))
+      ∙ ap (λ j. byte_bit (get_or bytes j 0) ((8 * first + x) % 8)) byte ∙ ap (λ y. byte_bit (get_or bytes (x / 8) 0) y) column
+      ∙ shows x below;
+  before = λ k below. ap (λ b. byte_bit b (k % 8)) (part_below first count bits bytes (k / 8) (omega arith) (omega arith));
+  behind = λ k above. ap (λ b. byte_bit b (k % 8)) (part_above first count bits bytes (k / 8) (omega arith) (omega arith) (omega arith));
+}

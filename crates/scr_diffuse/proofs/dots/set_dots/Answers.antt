@@ -7,7 +7,7 @@ use Rattle.scr_diffuse.proofs.dots.set_dots.Goals as goal
 pub returns : goal.returns
 returns c =
     let ragged = c.min-ragged.result in
-    let done = ragged + (length c.args.columns.now - ragged) / 8 * 8 in
-    spans_of (λ n. bit_of n c.args.lane) 0 c.args.columns.now c.args.bits.now c.set_bits.new.bits c.set_bytes.new.bits c.set_bits-2.new.bits c.args.from ragged done
+    let done = ragged + (length c.args.columns.now - ragged) / 64 * 64 in
+    spans_of (λ n. bit_of n c.args.lane) 0 c.args.columns.now c.args.bits.now c.set_bits.new.bits c.set_blocks.new.bits c.set_bits-2.new.bits c.args.from ragged done
     (omega arith) (omega arith) (λ h. omega arith)
-    c.set_bits.ensures c.set_bytes.ensures c.set_bits-2.ensures
+    c.set_bits.ensures c.set_blocks.ensures c.set_bits-2.ensures

@@ -1,7 +1,7 @@
 use Rattle.std.proofs.Common.{◌≡◌, ◌+◌, ◌-◌, ◌*◌, ◌/◌, length, take, drop, refl, arith}
 use Rattle.std.proofs.lemmas.List.{length-drop, length-take}
-use Rattle.page_layers.proofs.Blocks.{Keeps_block}
-use Rattle.page_layers.proofs.marks.keep_blocks.Goals as goal
+use Rattle.page_layers.proofs.Blocks.{Marks_block}
+use Rattle.page_layers.proofs.marks.mark_blocks.Goals as goal
 
 pub loop-k-preserved : goal.loop-k-preserved
 loop-k-preserved c =
@@ -10,5 +10,5 @@ loop-k-preserved c =
     let cut = at + 64 - at in
     let begins = c.requires.begins (omega arith) in
     let size : length (take cut (drop at c.loop-k.into)) ≡ 64 = omega (arith, c.loop-k.auto.into, length-take cut (drop at c.loop-k.into), length-drop at c.loop-k.into) in
-    let long : length c.keep_block.new.into ≡ 64 = omega (arith, c.keep_block.auto.into, size) in
-    Keeps_block c.args.zeros c.args.row.now c.args.first c.args.from at (c.args.from + 64 * (c.loop-k.k + 1)) (at + 64) _ byte (byte + 8) c.args.into.now c.loop-k.into _ (omega arith) (omega arith) (omega arith) (omega arith) (omega arith) (omega (arith, begins)) refl long c.keep_block.ensures c.loop-k.invariant
+    let long : length c.mark_block.new.into ≡ 64 = omega (arith, c.mark_block.auto.into, size) in
+    Marks_block c.args.fresh c.args.zeros c.args.row.now c.args.first c.args.from at (c.args.from + 64 * (c.loop-k.k + 1)) (at + 64) _ byte (byte + 8) c.args.into.now c.loop-k.into _ (omega arith) (omega arith) (omega arith) (omega arith) (omega arith) (omega (arith, begins)) refl long c.mark_block.ensures c.loop-k.invariant
