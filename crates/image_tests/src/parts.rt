@@ -108,6 +108,23 @@ fn assert_bytes(rt: &impl Abort, part: &[u8], row: &[u8], from: usize, to: usize
 }
 
 #[test]
+fn columns_of_each_plane(rt: HostRuntime) -> Result<(), Fail> {
+    let dir = read_dir(&EIGHT_STRIPS)?;
+    let strips = Strips::check(&EIGHT_STRIPS, &dir, PLANES)?;
+    let mut cursor = strips.rows();
+    assert!(&rt; cursor.has_planes() && cursor.left() == 2);
+    let (mut cyan, mut magenta, mut yellow, mut black) = ([0; 3], [0; 2], [0; 0], [0; 1]);
+    cursor.next_planes(1, &mut cyan, &mut magenta, &mut yellow, &mut black);
+    assert!(&rt; cyan == [2, 3, 4] && magenta == [12, 13] && black == [32]);
+    let (mut cyan, mut magenta, mut yellow, mut black) = ([0; 4], [0; 4], [0; 4], [0; 4]);
+    cursor.next_planes(0, &mut cyan, &mut magenta, &mut yellow, &mut black);
+    assert!(&rt; cyan == [5, 6, 7, 8] && magenta == [15, 16, 17, 18]);
+    assert!(&rt; yellow == [25, 26, 27, 28] && black == [35, 36, 37, 38]);
+    assert!(&rt; cursor.left() == 0);
+    Ok(())
+}
+
+#[test]
 fn parts_of_one_plane(rt: HostRuntime) -> Result<(), Fail> {
     // Five rows of bits in three strips.
     let bits = Shape {

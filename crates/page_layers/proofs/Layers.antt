@@ -1,22 +1,24 @@
 -- What a layer's rows keep, from the first row on.
-use Rattle.std.proofs.Common.{◌≡◌, ℕ, Bool, true, false, if◌then◌else◌, ◌+◌, ◌*◌, ◌/◌, ◌%◌, ◌<◌, ◌≤◌, List, length, take, drop, get_or, replicate, slice_index, Option, Some, None, option_map, refl, sym, ap, ◌∙◌, arith}
+use Rattle.std.proofs.Common.{◌≡◌, ℕ, Bool, true, false, if◌then◌else◌, ◌+◌, ◌*◌, ◌/◌, ◌%◌, ◌<◌, ◌≤◌, List, length, map, take, drop, get_or, replicate, slice_index, Option, Some, None, option_map, refl, sym, ap, ◌∙◌, arith}
 use Rattle.std.proofs.Math.Nat.{mul-div-le}
+use Rattle.std.specs.List.{range_with_len}
 use Rattle.std.proofs.lemmas.List.{get_or-drop, get_or-replicate, get_or-take, length-replicate}
+use Rattle.std.proofs.lemmas.List.FromFn.{get_or-map-range_with_len}
 use Rattle.std.specs.Prelude.{◌==◌}
 use Rattle.std.specs.Option.{ForSome}
 use Rattle.std.proofs.lemmas.Option.{same_Some}
 use Rattle.tif_image.specs.Image.{BilevelImage}
 use Rattle.pr_base.specs.Row.{row_size}
 use Rattle.tif_strips.specs.declared.shape.Shape.{Shape}
-use Rattle.tif_strips.specs.Strips.{Cursor, Image, image_part, image_row, row_length}
+use Rattle.tif_strips.specs.Strips.{Cursor, Image, image_part, image_row, ink_part, row_length}
 use Rattle.page_layers.specs.declared.layer.Art.{Art}
 use Rattle.page_layers.specs.declared.layer.Art.TheVariants.{Contone, Line}
 use Rattle.page_layers.specs.declared.layer.Layer.{Layer}
 use Rattle.page_layers.specs.declared.lay.Painting.{Painting}
-use Rattle.page_layers.specs.Inks.{Planes, inks_at}
+use Rattle.page_layers.specs.Inks.{HasWidth, Planes, inks_at}
 use Rattle.page_layers.specs.Layer.{IsLayer, bytes_of, paint_at, shape_of}
-use Rattle.page_layers.specs.Reader.{mask_cursor}
-use Rattle.page_layers.specs.Rows.{HasSamples, IsLayerRows, IsPaint, fixed_of, painting_of, span_of, with_fixed}
+use Rattle.page_layers.specs.Reader.{IsOf, mask_cursor}
+use Rattle.page_layers.specs.Rows.{HasSamples, IsInkOf, IsLayerRows, IsPaint, bare_art, fixed_of, painting_of, span_of, with_fixed}
 
 -- a row of an image has at most four bytes for each of its pixels
 pub row_most : (shape : Shape) → shape.width ≤ 65535 → row_length shape ≤ 262140
@@ -118,6 +120,34 @@ contone_pixel image first count scale row pixels old new is enough long_m long_y
         let place : 4 * first + (i + 4 * (j / scale)) ≡ 4 * (first + j / scale) + i = omega arith in
         ap (λ list. get_or list (i + 4 * (j / scale)) 0) is ∙ get_or-take (4 * count) (drop (4 * first) all) (i + 4 * (j / scale)) 0 (omega arith)
         ∙ get_or-drop (4 * first) all (i + 4 * (j / scale)) 0 ∙ ap (λ n. get_or all n 0) place
+
+-- the samples of an image whose inks have their own planes are its paint
+pub planes_paint : (art : Art) (cursor : Cursor) (first scale row span : ℕ) (old new : Planes) → IsOf art cursor → bare_art art ≡ true → scale ≡ 1 → HasWidth old span
+    → IsInkOf cursor row 0 first old.cyan new.cyan → IsInkOf cursor row 1 first old.magenta new.magenta → IsInkOf cursor row 2 first old.yellow new.yellow
+    → IsInkOf cursor row 3 first old.black new.black → new.spot ≡ replicate span 0 → IsPaint art first scale row span new
+unfolding ink_part
+planes_paint (Line image inks) cursor first scale row span old new is bare one wide c m y k s = absurd (cc)
+planes_paint (Contone image) cursor first scale row span old new is bare one wide c m y k s = record {
+  each = λ j below.
+      let cyan = at j below 0 new.cyan (length old.cyan) wide.cyan c.samples in
+      let magenta = at j below 1 new.magenta (length old.magenta) wide.magenta m.samples in
+      let yellow = at j below 2 new.yellow (length old.yellow) wide.yellow y.samples in
+      let black = at j below 3 new.black (length old.black) wide.black k.samples in
+      let spot : get_or new.spot j 0 ≡ 0 = ap (λ list. get_or list j 0) s ∙ get_or-replicate span j 0 0 below in
+      rw (cyan, magenta, yellow, black, spot) refl;
+}
+  where
+    at : (j : ℕ) → j < span → (ink : ℕ) (plane : List ℕ) (count : ℕ) → count ≡ span → plane ≡ map (λ x. slice_index (image_row cursor.shape cursor.bytes row) (4 * x + ink)) (range_with_len first count)
+        → get_or plane j 0 ≡ get_or (image_row image.shape image.bytes row) (4 * (first + j / scale) + ink) 0
+    at j below ink plane count long plane_is =
+        let sample = λ (x : ℕ). slice_index (image_row cursor.shape cursor.bytes row) (4 * x + ink) in
+        let shape : cursor.shape ≡ image.shape = ap (λ (cursor : Cursor). cursor.shape) is in
+        let bytes : cursor.bytes ≡ image.bytes = ap (λ (cursor : Cursor). cursor.bytes) is in
+        let column : first + j ≡ first + j / scale = rw one (omega arith) in
+        ap (λ list. get_or list j 0) plane_is
+        ∙ get_or-map-range_with_len sample first count j (first + j) 0 (omega arith) refl
+        ∙ ap sample column
+        ∙ rw (shape, bytes) refl
 
 -- and those of a row are the row's paint
 pub contone_paint : (image : Image) (first count scale row : ℕ) (pixels : List ℕ) (old new : Planes) → pixels ≡ take (4 * count) (drop (4 * first) (image_row image.shape image.bytes row))

@@ -3,7 +3,7 @@ use Rattle.std.specs.Prelude.{◌≡◌, ℕ, ◌+◌, ◌-◌, ◌*◌, ◌/◌
 use Rattle.std.specs.Prelude.{if◌then◌else◌, IsTrue, List, All, length, map, not, replicate, slice_index}
 use Rattle.std.specs.Prelude.{Option, Some, None, option_map}
 use Rattle.pr_base.specs.Bits.{bit_at}
-use Rattle.tif_strips.specs.Strips.{Cursor}
+use Rattle.tif_strips.specs.Strips.{Cursor, ink_part}
 use Rattle.tif_image.specs.Image.{BilevelImage}
 use Rattle.page_layers.specs.declared.layer.Art.{Art}
 use Rattle.page_layers.specs.declared.layer.Art.TheVariants.{Contone, Line}
@@ -47,6 +47,11 @@ pub record IsStretched (source : List ℕ) (step scale count : ℕ) (into : List
 pub record HasSamples (pixels : List ℕ) (first scale : ℕ) (old new : List ℕ) : Type 0 where
   pub long : length new ≡ length old
   pub each : (j : ℕ) → j < length old → slice_index new j ≡ slice_index pixels (first + 4 * (j / scale))
+
+-- the samples of one ink in row y of an image, from column `first` on
+pub record IsInkOf (image : Cursor) (y ink first : ℕ) (old new : List ℕ) : Type 0 where
+  pub long : length new ≡ length old
+  pub samples : new ≡ ink_part image.shape image.bytes y ink first (length old)
 
 -- ---- a layer on a page of a given width
 

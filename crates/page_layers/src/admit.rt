@@ -1,10 +1,10 @@
 // Which pixels of a layer show: those that its image marks and its mask lets through.
 ghost use Rattle.std.specs.Prelude.{◌≡◌, ℕ, ◌+◌, ◌-◌, ◌*◌, ◌/◌, ◌<◌, ◌≤◌, if◌then◌else◌, IsTrue, length};
-ghost use Rattle.std.specs.Prelude.{option_map, replicate};
+ghost use Rattle.std.specs.Prelude.{false, option_map, replicate};
 ghost use Rattle.std.specs.Option.{ForSome};
 ghost use Rattle.page_layers.specs.Layer.{IsLayer, admits, shows_through};
 ghost use Rattle.page_layers.specs.Reader.{Holds, IsOf, mask_cursor};
-ghost use Rattle.page_layers.specs.Rows.{IsAdmitted, IsMarked, held, is_bare};
+ghost use Rattle.page_layers.specs.Rows.{IsAdmitted, IsMarked, bare_art, held, is_bare};
 
 use crate::layer::{Art, Crop, Layer};
 use crate::marks::mark_pixels;
@@ -35,7 +35,7 @@ pub(crate) fn admit_row(
 )
     requires image { IsOf layer.now.art image.now }
     requires mask { mask.now ≡ option_map (mask_cursor image.now.next) layer.now.mask }
-    requires image_part { Holds image.now layer.now.crop image_room.now }
+    requires image_part { bare_art layer.now.art ≡ false → Holds image.now layer.now.crop image_room.now }
     requires mask_part { ForSome mask.now (λ reader. Holds reader layer.now.crop mask_room.now) }
     requires layer { IsLayer layer.now }
     requires columns { length marks.old ≤ layer.now.crop.width }
@@ -68,7 +68,7 @@ fn mark_row(
 )
     requires image { IsOf layer.now.art image.now }
     requires mask { mask.now ≡ option_map (mask_cursor image.now.next) layer.now.mask }
-    requires image_part { Holds image.now layer.now.crop image_room.now }
+    requires image_part { bare_art layer.now.art ≡ false → Holds image.now layer.now.crop image_room.now }
     requires mask_part { ForSome mask.now (λ reader. Holds reader layer.now.crop mask_room.now) }
     requires columns { length marks.old ≤ layer.now.crop.width }
     ensures { IsMarked

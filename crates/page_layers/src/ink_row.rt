@@ -4,6 +4,7 @@ ghost use Rattle.page_layers.specs.Rows.{HasSamples};
 
 use crate::lay::{Painting, lay_ink, lay_span};
 use crate::room::{refill, room};
+use crate::row_reader::RowReader;
 use crate::stretch::stretch;
 use pr_base::{Ink, NoMemory};
 use std::alloc::Global;
@@ -43,7 +44,8 @@ impl InkRow {
     ghost use Rattle.std.specs.Prelude.{◌≡◌, ℕ, ◌+◌, ◌*◌, ◌/◌, ◌<◌, ◌≤◌, IfOk, length, replicate};
     ghost use Rattle.std.specs.Prelude.{slice_index};
     ghost use Rattle.page_layers.specs.Inks.{HasWidth, Planes, blank, blank_planes, inks_at, plane_of};
-    ghost use Rattle.page_layers.specs.Rows.{HasSamples, LaysSpan};
+    ghost use Rattle.tif_strips.specs.Strips.{planes};
+    ghost use Rattle.page_layers.specs.Rows.{HasSamples, IsInkOf, LaysSpan};
 
     /// Allocates a row of `width` pixels without ink.
     pub fn new(alloc: Global, width: u32) -> Result<InkRow, NoMemory>
@@ -132,6 +134,32 @@ impl InkRow {
         set_sample(pixels, 1, scale, &mut self.magenta);
         set_sample(pixels, 2, scale, &mut self.yellow);
         set_sample(pixels, 3, scale, &mut self.black);
+    }
+
+    /// Sets the process inks to the samples of row `y`, from column `first` on, of an image whose inks have
+    /// their own planes.
+    pub(crate) fn read_planes(&mut self, image: &mut RowReader<'_>, y: u32, first: u32)
+        requires wide { HasWidth self.old (length self.old.cyan) }
+        requires before { image.old.next ≤ y }
+        requires small { y < 65535 }
+        requires within { y < image.old.shape.length }
+        requires planes { planes image.old.shape ≡ 4 }
+        requires columns { first + length self.old.cyan ≤ image.old.shape.width }
+        ensures image { image.new ≡ record image.old { next = y + 1 } }
+        ensures cyan { IsInkOf image.old y 0 first self.old.cyan self.new.cyan }
+        ensures magenta { IsInkOf image.old y 1 first self.old.magenta self.new.magenta }
+        ensures yellow { IsInkOf image.old y 2 first self.old.yellow self.new.yellow }
+        ensures black { IsInkOf image.old y 3 first self.old.black self.new.black }
+        ensures spot { self.new.spot ≡ self.old.spot }
+    {
+        image.reach_planes(
+            y,
+            first,
+            &mut self.cyan,
+            &mut self.magenta,
+            &mut self.yellow,
+            &mut self.black,
+        );
     }
 
     /// Paints samples, and no spot ink, from column `from` on, where they are admitted.

@@ -1,9 +1,11 @@
 // The rows of one layer on a page.
-ghost use Rattle.std.specs.Prelude.{◌≡◌, ℕ, ◌+◌, ◌-◌, ◌*◌, ◌/◌, ◌<◌, ◌≤◌, length, option_map};
+ghost use Rattle.std.specs.Prelude.{◌≡◌, ℕ, ◌+◌, ◌-◌, ◌*◌, ◌/◌, ◌<◌, ◌≤◌, false, length, option_map};
+ghost use Rattle.tif_strips.specs.Strips.{row_length};
 ghost use Rattle.page_layers.specs.Inks.{HasWidth, inks_at};
 ghost use Rattle.page_layers.specs.Layer.{IsLayer, paint_at, shape_of};
 ghost use Rattle.page_layers.specs.Reader.{Holds, IsOf};
-ghost use Rattle.page_layers.specs.Rows.{IsPaint, LaysSpan, fixed_of, painting_of, span_of, with_fixed};
+ghost use Rattle.page_layers.specs.Rows.{IsPaint, LaysSpan, bare_art, fixed_of, painting_of, span_of};
+ghost use Rattle.page_layers.specs.Rows.{with_fixed};
 
 use crate::InkRow;
 use crate::admit::{admit_row, is_bare};
@@ -166,17 +168,17 @@ impl<'a> LayerRows<'a> {
             return;
         }
         let crop = self.layer.crop;
-        self.image.reach(row, crop, &mut room.image);
-        reach_mask(&mut self.mask, row, crop, &mut room.mask);
         let scale = self.layer.scale;
-        paint_row(
+        read_row(
             &self.layer.art,
-            &self.image,
-            &room.image,
+            &mut self.image,
+            row,
             crop,
             scale,
+            &mut room.image,
             &mut self.paint,
         );
+        reach_mask(&mut self.mask, row, crop, &mut room.mask);
         admit_row(
             &self.layer,
             &self.image,
@@ -207,6 +209,45 @@ impl<'a> LayerRows<'a> {
         self.image.restart(self.layer.art.rows());
         restart_mask(&mut self.mask, &self.layer.mask);
     }
+}
+
+// Reads row `y` of the image and expands it to paint. Of linework the crop's columns are in the buffer
+// afterwards.
+fn read_row(
+    art: &Art<'_>,
+    image: &mut RowReader<'_>,
+    y: u32,
+    crop: Crop,
+    scale: u32,
+    room: &mut [u8],
+    paint: &mut InkRow,
+)
+    requires image { IsOf art.now image.old }
+    requires before { image.old.next ≤ y }
+    requires small { y < 65535 }
+    requires row { y < image.old.shape.length }
+    requires columns { crop.x + crop.width ≤ image.old.shape.width }
+    requires long { row_length image.old.shape ≤ length room.old }
+    requires scale { (1 ≤ scale) × (scale ≤ 64) }
+    requires wide { HasWidth paint.old (length paint.old.cyan) }
+    requires narrow { length paint.old.cyan ≤ 65535 }
+    requires within { (n : ℕ) → scale * n < length paint.old.cyan → n < crop.width }
+    requires fixed { paint.old ≡ with_fixed art.now (length paint.old.cyan) paint.old }
+    ensures image { image.new ≡ record image.old { next = y + 1 } }
+    ensures part { bare_art art.now ≡ false → Holds image.new crop room.new }
+    ensures wide { HasWidth paint.new (length paint.old.cyan) }
+    ensures fixed { paint.new ≡ with_fixed art.now (length paint.old.cyan) paint.new }
+    ensures paint { IsPaint art.now crop.x scale (image.new.next - 1) (length paint.old.cyan) paint.new }
+{
+    if let Art::Contone(_) = art
+        && scale == 1
+        && image.has_planes()
+    {
+        paint.read_planes(image, y, crop.x);
+        return;
+    }
+    image.reach(y, crop, room);
+    paint_row(art, image, room, crop, scale, paint);
 }
 
 // Expands the row that was read last to paint, for each column of the page. The inks that are the same in

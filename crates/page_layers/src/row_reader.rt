@@ -23,8 +23,8 @@ impl<'a> Model for RowReader<'a> {
 }
 
 impl<'a> RowReader<'a> {
-    ghost use Rattle.std.specs.Prelude.{◌≡◌, ◌+◌, ◌-◌, ◌<◌, ◌≤◌, length};
-    ghost use Rattle.tif_strips.specs.Strips.{row_length};
+    ghost use Rattle.std.specs.Prelude.{◌≡◌, ◌+◌, ◌-◌, ◌<◌, ◌≤◌, ◌↔◌, IsTrue, length};
+    ghost use Rattle.tif_strips.specs.Strips.{ink_part, planes, row_length};
     ghost use Rattle.page_layers.specs.Reader.{Holds, crop_length, crop_part};
 
     /// Makes a reader from a cursor before the first row.
@@ -56,6 +56,44 @@ impl<'a> RowReader<'a> {
         self.rows.skip_rows(y - self.read);
         let len = self.rows.part_len(crop.x, crop.width);
         self.rows.next_part(crop.x, crop.width, &mut room[..len]);
+        self.read = y + 1;
+    }
+
+    /// Returns whether each ink of a contone image has its own plane.
+    pub(crate) fn has_planes(&self) -> bool
+        ensures { IsTrue result ↔ (planes self.now.shape ≡ 4) }
+    {
+        self.rows.has_planes()
+    }
+
+    /// Advances to row `y` of an image whose inks have their own planes, and reads it from column `first` on:
+    /// as many samples of each ink as its slice holds.
+    pub(crate) fn reach_planes(
+        &mut self,
+        y: u32,
+        first: u32,
+        cyan: &mut [u8],
+        magenta: &mut [u8],
+        yellow: &mut [u8],
+        black: &mut [u8],
+    )
+        requires before { self.old.next ≤ y }
+        requires small { y < 65535 }
+        requires within { y < self.old.shape.length }
+        requires planes { planes self.old.shape ≡ 4 }
+        requires cyan { first + length cyan.old ≤ self.old.shape.width }
+        requires magenta { first + length magenta.old ≤ self.old.shape.width }
+        requires yellow { first + length yellow.old ≤ self.old.shape.width }
+        requires black { first + length black.old ≤ self.old.shape.width }
+        ensures reader { self.new ≡ record self.old { next = y + 1 } }
+        ensures cyan { cyan.new ≡ ink_part self.old.shape self.old.bytes y 0 first (length cyan.old) }
+        ensures magenta { magenta.new
+            ≡ ink_part self.old.shape self.old.bytes y 1 first (length magenta.old) }
+        ensures yellow { yellow.new ≡ ink_part self.old.shape self.old.bytes y 2 first (length yellow.old) }
+        ensures black { black.new ≡ ink_part self.old.shape self.old.bytes y 3 first (length black.old) }
+    {
+        self.rows.skip_rows(y - self.read);
+        self.rows.next_planes(first, cyan, magenta, yellow, black);
         self.read = y + 1;
     }
 

@@ -28,7 +28,12 @@ fn noise() -> [u8; 1040] {
     row
 }
 
-fn file(alloc: Global, row: &[u8]) -> Result<Vec<u8>, NoMemory>
+fn file(
+    alloc: Global,
+    row: &[u8],
+    planar: Planar,
+    compression: Compression,
+) -> Result<Vec<u8>, NoMemory>
     requires { length row.now ≡ 1040 }
 {
     let form = ImageForm {
@@ -36,8 +41,8 @@ fn file(alloc: Global, row: &[u8]) -> Result<Vec<u8>, NoMemory>
         width: PIXELS,
         length: 1,
         order: Order::Little,
-        planar: Planar::Chunky,
-        compression: Compression::Uncompressed,
+        planar,
+        compression,
         rows_per_strip: 1,
     };
     make_image(alloc, &form, row)
@@ -46,9 +51,13 @@ fn file(alloc: Global, row: &[u8]) -> Result<Vec<u8>, NoMemory>
 #[test]
 fn samples_begin_and_end_at_any_column(rt: HostRuntime) -> Result<(), Fail> {
     let row = noise();
-    let file = file(rt.alloc(), &row)?;
+    let chunky = file(rt.alloc(), &row, Planar::Chunky, Compression::Uncompressed)?;
     for scale in [1, 2, 3, 4, 63, 64] {
-        assert_widths(&rt, &file, &row, scale)?;
+        assert_widths(&rt, &chunky, &row, scale)?;
+    }
+    let apart = file(rt.alloc(), &row, Planar::Separate, Compression::PackBits)?;
+    for scale in [1, 2] {
+        assert_widths(&rt, &apart, &row, scale)?;
     }
     Ok(())
 }

@@ -1,12 +1,12 @@
 -- Four inks interleaved into pixels, pixel by pixel and piece by piece.
-use Rattle.std.proofs.Common.{◌≡◌, ◌≢◌, ℕ, zero, suc, ◌+◌, ◌-◌, ◌*◌, ◌<◌, ◌≤◌, List, [], ◌∷◌, ◌++◌, length, take, drop, get_or, set, inl, inr, refl, sym, ap, ◌∙◌, arith}
+use Rattle.std.proofs.Common.{◌≡◌, ◌≢◌, ℕ, zero, suc, ◌+◌, ◌-◌, ◌*◌, ◌<◌, ◌≤◌, List, [], ◌∷◌, ◌++◌, length, take, drop, get_or, set, inl, inr, refl, sym, ap, ◌∙◌, arith, zero-add}
 use Rattle.std.proofs.lemmas.Bool.{cases_eq, cases_lt}
 use Rattle.std.proofs.lemmas.List.{get_or-append_right, get_or-drop, get_or-set_other, get_or-set_same, get_or-take, get_or_append_left, length-drop, length-set, length-take-le, drop-drop, take_at}
 use borrow.Rule.Slice.PartMut.{put_mid}
 use Rattle.tif_strips.specs.declared.shape.Shape.{Shape}
 use Rattle.tif_strips.specs.Strips.{image_part, image_row, part_length, plane_data, plane_row, plane_row_length, planes, planar_pixel, row_length}
 use Rattle.tif_strips.specs.Planes.{HasPixels}
-use Rattle.tif_strips.proofs.Fours.{length-fours, part_of_fours}
+use Rattle.tif_strips.proofs.Fours.{get_or-fours, length-fours, part_of_fours}
 use Rattle.tif_strips.proofs.Shapes.{four_places, four_planes}
 
 -- before the first pixel
@@ -144,6 +144,16 @@ image_part-inks shape bytes y row first count inks into more row_is within room 
     (λ x ink below small. each x ink below small ∙ sym (get_or-take row _ (first + x) 0 (omega arith)) ∙ ap (λ list. get_or list (first + x) 0) (rows ink small)
     ∙ get_or-take (plane_row_length shape) _ (first + x) 0 (omega (arith, four.2)) ∙ get_or-drop (y * plane_row_length shape) (plane_data shape bytes ink) (first + x) 0
     ∙ (rw four.2 (four_ways (λ i. get_or (plane_data shape bytes i) (y * shape.width + (first + x)) 0 ≡ get_or (planar_pixel shape bytes y (first + x)) i 0) refl refl refl refl ink small))))
+
+-- a sample of a plane's row is that of its pixel in the image's row
+pub image_row-ink : (shape : Shape) (bytes : List ℕ) (y x ink : ℕ) → planes shape ≢ 1 → x < shape.width → ink < 4 → get_or (plane_row shape bytes ink y) x 0 ≡ get_or (image_row shape bytes y) (4 * x + ink) 0
+unfolding image_row planar_pixel plane_row
+image_row-ink shape bytes y x ink more below small =
+    let four = four_planes shape more in
+    let pixel = get_or-fours (planar_pixel shape bytes y) 0 shape.width x ink (λ x. refl) below small ∙ ap (λ i. get_or (planar_pixel shape bytes y i) ink 0) (zero-add x) in
+    rw four.0 (get_or-take (plane_row_length shape) _ x 0 (omega (arith, four.2)) ∙ get_or-drop (y * plane_row_length shape) (plane_data shape bytes ink) x 0
+    ∙ (rw four.2 (four_ways (λ i. get_or (plane_data shape bytes i) (y * shape.width + x) 0 ≡ get_or (planar_pixel shape bytes y x) i 0) refl refl refl refl ink small))
+    ∙ sym pixel)
 
 -- if there is only one plane, its rows are the image's rows
 pub image_row-one : (shape : Shape) (bytes : List ℕ) (y : ℕ) → planes shape ≡ 1 → plane_row shape bytes 0 y ≡ image_row shape bytes y

@@ -1,20 +1,21 @@
 -- The rows of a strip that a cursor has still to produce, from the strip's start to its end.
-use Rattle.std.proofs.Common.{◌≡◌, ◌≢◌, ℕ, zero, suc, ◌+◌, ◌-◌, ◌*◌, ◌/◌, ◌<◌, ◌≤◌, List, [], ◌∷◌, length, map, take, drop, get_or, None, inl, inr, refl, sym, ap, ◌∙◌, zero-add, arith}
+use Rattle.std.proofs.Common.{◌≡◌, ◌≢◌, ℕ, zero, suc, ◌+◌, ◌-◌, ◌*◌, ◌/◌, ◌<◌, ◌≤◌, List, [], ◌∷◌, length, map, take, drop, get_or, slice_index, None, inl, inr, refl, sym, ap, ◌∙◌, zero-add, arith}
 use Rattle.std.proofs.lemmas.Bool.{cases_eq}
-use Rattle.std.proofs.lemmas.List.{drop-drop, get_or-drop, get_or-map, length-drop, length-map, length-take-le}
+use Rattle.std.specs.List.{range_with_len}
+use Rattle.std.proofs.lemmas.List.{drop-drop, ext_get_or, get_or-drop, get_or-map, get_or-take, length-drop, length-map, length-take-le}
 use Rattle.std.proofs.lemmas.List.FromFn.{get_or-map-range_with_len, length-map-range_with_len}
 use Rattle.std.proofs.lemmas.Nat.{div-mul-add, mod-mul-add}
 use Rattle.tif_strips.specs.declared.place.Place.{Place}
 use Rattle.tif_strips.specs.declared.planes.Planes.{Planes}
 use Rattle.tif_strips.specs.declared.shape.Shape.{Shape}
-use Rattle.tif_strips.specs.Strips.{Image, IsStriped, image_part, image_row, part_length, plane_part_length, plane_place, plane_row, plane_row_length, planes, row_length, samples_in, stored_bytes, strip_fault, strip_rows, strips_per_plane}
+use Rattle.tif_strips.specs.Strips.{Image, IsStriped, image_part, image_row, ink_part, part_length, plane_part_length, plane_place, plane_row, plane_row_length, planes, row_length, samples_in, stored_bytes, strip_fault, strip_rows, strips_per_plane}
 use Rattle.tif_strips.specs.Planes.{HasPixels, aheads_of, strip_samples}
 use Rattle.tif_strips.specs.Place.{HoldsRows, IsPlace}
 use Rattle.tif_strips.proofs.Faults.{fault_of_strip-passed, strip_enough-passed}
 use Rattle.tif_strips.proofs.Ahead.{get_or-later}
-use Rattle.tif_strips.proofs.Inks.{image_part-inks, image_row-fours, image_row-one}
+use Rattle.tif_strips.proofs.Inks.{image_part-inks, image_row-fours, image_row-ink, image_row-one}
 use Rattle.tif_strips.proofs.Rows.{plane_row-in_strip, take-drop-take}
-use Rattle.tif_strips.proofs.Shapes.{four_places, four_planes, needed_length-in_plane, one_plane, part_in_row, row_length-planes, strip_number, strip_of_row}
+use Rattle.tif_strips.proofs.Shapes.{four_places, four_planes, ink_wide, needed_length-in_plane, one_plane, part_in_row, row_length-planes, strip_number, strip_of_row}
 
 -- the samples of strip i of a plane are its rows
 pub HoldsRows-begin : (image : Image) (plane i : ℕ) → IsStriped image.shape → strip_fault image.shape image.bytes ≡ None → plane < planes image.shape → i < strips_per_plane image.shape
@@ -167,6 +168,29 @@ image_part-place image place row from len first count into is some row_is from_i
           ∙ ap (λ list. get_or list x 0) (get_or-later from ink aheads _ refl (omega (arith, all)))
           ∙ get_or-drop from (get_or aheads ink []) x 0 ∙ ap (λ n. get_or (get_or aheads ink []) (n + x) 0) (from_is ∙ same.0))
     ]
+
+-- the next samples of a plane are one ink of the image's row
+pub ink_part-place : (image : Image) (place : Place) (row first count ink : ℕ) (into : List ℕ) → IsPlace image place → 0 < place.rows → row ≡ plane_row_length image.shape → planes image.shape ≡ 4
+    → ink < 4 → first + count ≤ image.shape.width → into ≡ take count (drop first (get_or (aheads_of place.planes) ink [])) → into ≡ ink_part image.shape image.bytes place.next ink first count
+unfolding ink_part
+ink_part-place image place row first count ink into is some row_is four small within into_is =
+    let shape = image.shape in
+    let ahead = get_or (aheads_of place.planes) ink [] in
+    let more : planes shape ≢ 1 = λ one. absurd (omega arith) in
+    let known : ink < planes shape = omega arith in
+    let wide : row ≡ shape.width = row_is ∙ ink_wide shape four in
+    let sample = λ (x : ℕ). slice_index (image_row shape image.bytes place.next) (4 * x + ink) in
+    let long : length (take count (drop first ahead)) ≡ count = length-take-le count (drop first ahead) (omega (arith, length-drop first ahead, row_long image place ink row is some row_is known)) in
+    into_is
+    ∙ ext_get_or 0 (take count (drop first ahead)) (map sample (range_with_len first count)) (long ∙ sym (length-map-range_with_len sample first count))
+    (λ x below.
+    let inside : x < count = omega arith in
+    get_or-take count (drop first ahead) x 0 inside
+    ∙ get_or-drop first ahead x 0
+    ∙ sym (get_or-take row ahead (first + x) 0 (omega arith))
+    ∙ ap (λ list. get_or list (first + x) 0) (row_ahead image place ink row is some row_is known)
+    ∙ image_row-ink shape image.bytes place.next (first + x) ink more (omega arith) small
+    ∙ sym (get_or-map-range_with_len sample first count x (first + x) 0 inside refl))
 
 -- the samples of strip i of each of four planes
 pub strip_samples-four : (shape : Shape) (bytes : List ℕ) (i strips : ℕ) (cyan magenta yellow black : List ℕ) → planes shape ≡ 4 → strips ≡ strips_per_plane shape

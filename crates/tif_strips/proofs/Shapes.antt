@@ -99,6 +99,10 @@ four_planes shape more = rows (shape.samples == 4) (shape.planar == 2) shape.wid
     rows true false width size more = absurd (more refl)
     rows false apart width size more = absurd (more refl)
 
+-- so a row of one ink has a byte for each pixel
+pub ink_wide : (shape : Shape) → planes shape ≡ 4 → plane_row_length shape ≡ shape.width
+ink_wide shape four = (four_planes shape (λ one. absurd (omega arith))).2
+
 -- ---- parts of a row
 
 -- the lengths of a part in all planes add up to its length in the image's row

@@ -145,6 +145,11 @@ abbrev pub image_part : Shape → List ℕ → ℕ → ℕ → ℕ → List ℕ
 image_part shape bytes y first count =
     take (part_length shape first count) (drop (column_place shape first) (image_row shape bytes y))
 
+-- the samples of one ink in row y of an image of four inks, in these columns
+unfoldable pub ink_part : Shape → List ℕ → ℕ → ℕ → ℕ → ℕ → List ℕ
+ink_part shape bytes y ink first count =
+    map (λ x. slice_index (image_row shape bytes y) (4 * x + ink)) (range_with_len first count)
+
 -- the corresponding numbers for a row of one plane
 unfoldable pub plane_place : Shape → ℕ → ℕ
 plane_place shape x =

@@ -1,7 +1,7 @@
 // The position of a cursor in an image.
 ghost use Rattle.std.specs.Prelude.{◌≡◌, ◌+◌, ◌<◌, ◌≤◌, length, None};
 ghost use Rattle.tif_strips.specs.Strips.{IsStriped, image_part, image_row, part_length, row_length};
-ghost use Rattle.tif_strips.specs.Strips.{strip_fault};
+ghost use Rattle.tif_strips.specs.Strips.{ink_part, planes, strip_fault};
 
 use crate::planes::Planes;
 use crate::samples::Samples;
@@ -55,6 +55,43 @@ impl<'a> Place<'a> {
         let from = shape.plane_place(first);
         let len = shape.plane_part_len(first, count);
         self.planes.part(shape.plane_row_len(), from, len, into);
+        self.rows -= 1;
+        self.next += 1;
+    }
+
+    /// Reads the inks of the next row, each of which has its own plane: from column `first` on, as many
+    /// samples of each ink as its slice holds.
+    pub(crate) fn read_inks(
+        &mut self,
+        table: &StripTable<'a>,
+        first: u32,
+        cyan: &mut [u8],
+        magenta: &mut [u8],
+        yellow: &mut [u8],
+        black: &mut [u8],
+    )
+        requires place { IsPlace table.now self.old }
+        requires left { self.old.next < table.now.shape.length }
+        requires planes { planes table.now.shape ≡ 4 }
+        requires cyan { first + length cyan.old ≤ table.now.shape.width }
+        requires magenta { first + length magenta.old ≤ table.now.shape.width }
+        requires yellow { first + length yellow.old ≤ table.now.shape.width }
+        requires black { first + length black.old ≤ table.now.shape.width }
+        ensures cyan { cyan.new
+            ≡ ink_part table.now.shape table.now.bytes self.old.next 0 first (length cyan.old) }
+        ensures magenta { magenta.new
+            ≡ ink_part table.now.shape table.now.bytes self.old.next 1 first (length magenta.old) }
+        ensures yellow { yellow.new
+            ≡ ink_part table.now.shape table.now.bytes self.old.next 2 first (length yellow.old) }
+        ensures black { black.new
+            ≡ ink_part table.now.shape table.now.bytes self.old.next 3 first (length black.old) }
+        ensures place { IsPlace table.now self.new }
+        ensures next { self.new.next ≡ self.old.next + 1 }
+    {
+        self.enter(table);
+        let row = table.shape().plane_row_len();
+        self.planes
+            .inks(row, first as usize, cyan, magenta, yellow, black);
         self.rows -= 1;
         self.next += 1;
     }

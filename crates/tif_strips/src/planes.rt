@@ -44,6 +44,40 @@ impl<'a> Planes<'a> {
         self.skip(row - from - count);
     }
 
+    /// Reads the next row of four planes, which is `row` bytes long, from byte `from` on: as many samples of
+    /// each ink as its slice holds.
+    pub(crate) fn inks(
+        &mut self,
+        row: usize,
+        from: usize,
+        cyan: &mut [u8],
+        magenta: &mut [u8],
+        yellow: &mut [u8],
+        black: &mut [u8],
+    )
+        requires four { length (aheads_of self.old) ≡ 4 }
+        requires cyan { from + length cyan.old ≤ row }
+        requires magenta { from + length magenta.old ≤ row }
+        requires yellow { from + length yellow.old ≤ row }
+        requires black { from + length black.old ≤ row }
+        requires enough { (plane : ℕ) → plane < length (aheads_of self.old)
+            → row ≤ length (slice_index_or (aheads_of self.old) plane []) }
+        ensures cyan { cyan.new
+            ≡ take (length cyan.old) (drop from (slice_index_or (aheads_of self.old) 0 [])) }
+        ensures magenta { magenta.new
+            ≡ take (length magenta.old) (drop from (slice_index_or (aheads_of self.old) 1 [])) }
+        ensures yellow { yellow.new
+            ≡ take (length yellow.old) (drop from (slice_index_or (aheads_of self.old) 2 [])) }
+        ensures black { black.new
+            ≡ take (length black.old) (drop from (slice_index_or (aheads_of self.old) 3 [])) }
+        ensures left { aheads_of self.new ≡ map (drop row) (aheads_of self.old) }
+    {
+        match self {
+            Planes::One(_) => unreachable!(),
+            Planes::Four(inks) => inks.part(row, from, cyan, magenta, yellow, black),
+        }
+    }
+
     // Reads the next `count` bytes in each plane.
     fn fill(&mut self, count: usize, into: &mut [u8])
         requires room { length into.old ≡ length (aheads_of self.old) * count }
@@ -74,7 +108,7 @@ impl<'a> Planes<'a> {
 }
 
 impl<'a> Inks<'a> {
-    ghost use Rattle.tif_strips.specs.Planes.{HasPixels, inks_of};
+    ghost use Rattle.tif_strips.specs.Planes.{HasPixels, ahead_of, inks_of};
 
     // Reads the next `width` pixels, block by block.
     fn fill(&mut self, width: usize, into: &mut [u8])
@@ -98,6 +132,34 @@ impl<'a> Inks<'a> {
             lay_pixels(&c[..count], &m[..count], &y[..count], &k[..count], pixels);
             at += count;
         }
+    }
+
+    // Reads the next row, which has `row` pixels, from pixel `from` on: as many samples of each ink as its
+    // slice holds.
+    fn part(
+        &mut self,
+        row: usize,
+        from: usize,
+        cyan: &mut [u8],
+        magenta: &mut [u8],
+        yellow: &mut [u8],
+        black: &mut [u8],
+    )
+        requires cyan { from + length cyan.old ≤ row }
+        requires magenta { from + length magenta.old ≤ row }
+        requires yellow { from + length yellow.old ≤ row }
+        requires black { from + length black.old ≤ row }
+        requires enough { (ink : ℕ) → ink < 4 → row ≤ length (slice_index_or (inks_of self.old) ink []) }
+        ensures cyan { cyan.new ≡ take (length cyan.old) (drop from (ahead_of self.old.cyan)) }
+        ensures magenta { magenta.new ≡ take (length magenta.old) (drop from (ahead_of self.old.magenta)) }
+        ensures yellow { yellow.new ≡ take (length yellow.old) (drop from (ahead_of self.old.yellow)) }
+        ensures black { black.new ≡ take (length black.old) (drop from (ahead_of self.old.black)) }
+        ensures left { inks_of self.new ≡ map (drop row) (inks_of self.old) }
+    {
+        self.cyan.part(row, from, cyan);
+        self.magenta.part(row, from, magenta);
+        self.yellow.part(row, from, yellow);
+        self.black.part(row, from, black);
     }
 
     // Skips the next `width` pixels.

@@ -26,9 +26,9 @@ impl<'a> Model for RowCursor<'a> {
 }
 
 impl<'a> RowCursor<'a> {
-    ghost use Rattle.std.specs.Prelude.{◌≡◌, ◌+◌, ◌-◌, ◌<◌, ◌≤◌, length, None};
-    ghost use Rattle.tif_strips.specs.Strips.{IsStriped, image_part, image_row, part_length, row_length};
-    ghost use Rattle.tif_strips.specs.Strips.{strip_fault};
+    ghost use Rattle.std.specs.Prelude.{◌≡◌, ◌+◌, ◌-◌, ◌<◌, ◌≤◌, ◌↔◌, IsTrue, length, None};
+    ghost use Rattle.tif_strips.specs.Strips.{IsStriped, image_part, image_row, ink_part, part_length};
+    ghost use Rattle.tif_strips.specs.Strips.{planes, row_length, strip_fault};
 
     /// Starts before the first row.
     pub(crate) fn new(table: StripTable<'a>) -> RowCursor<'a>
@@ -82,6 +82,43 @@ impl<'a> RowCursor<'a> {
         ensures next { self.new ≡ record self.old { next = self.old.next + 1 } }
     {
         self.place.read(&self.table, first, count, into);
+    }
+
+    /// Returns whether each ink of a contone image has its own plane.
+    pub fn has_planes(&self) -> bool
+        ensures { IsTrue result ↔ (planes self.now.shape ≡ 4) }
+    {
+        self.table.shape().planes() == 4
+    }
+
+    /// Reads the inks of the next row, each of which has its own plane: from column `first` on, as many
+    /// samples of each ink as its slice holds. The samples are those of `next_row`.
+    pub fn next_planes(
+        &mut self,
+        first: u32,
+        cyan: &mut [u8],
+        magenta: &mut [u8],
+        yellow: &mut [u8],
+        black: &mut [u8],
+    )
+        requires left { self.old.next < self.old.shape.length }
+        requires planes { planes self.old.shape ≡ 4 }
+        requires cyan { first + length cyan.old ≤ self.old.shape.width }
+        requires magenta { first + length magenta.old ≤ self.old.shape.width }
+        requires yellow { first + length yellow.old ≤ self.old.shape.width }
+        requires black { first + length black.old ≤ self.old.shape.width }
+        ensures cyan { cyan.new
+            ≡ ink_part self.old.shape self.old.bytes self.old.next 0 first (length cyan.old) }
+        ensures magenta { magenta.new
+            ≡ ink_part self.old.shape self.old.bytes self.old.next 1 first (length magenta.old) }
+        ensures yellow { yellow.new
+            ≡ ink_part self.old.shape self.old.bytes self.old.next 2 first (length yellow.old) }
+        ensures black { black.new
+            ≡ ink_part self.old.shape self.old.bytes self.old.next 3 first (length black.old) }
+        ensures next { self.new ≡ record self.old { next = self.old.next + 1 } }
+    {
+        self.place
+            .read_inks(&self.table, first, cyan, magenta, yellow, black);
     }
 
     /// Skips the next `count` rows. Strips that end among them are not read any further, except a last strip

@@ -1,5 +1,5 @@
 // The samples of a strip, in order.
-ghost use Rattle.std.specs.Prelude.{◌≡◌, ◌≤◌, ◌↔◌, IsTrue, length, take, drop};
+ghost use Rattle.std.specs.Prelude.{◌≡◌, ◌+◌, ◌≤◌, ◌↔◌, IsTrue, length, take, drop};
 ghost use Rattle.tif_strips.specs.Strips.{samples_in};
 
 use tif_packbits::Unpacker;
@@ -43,6 +43,19 @@ impl<'a> Samples<'a> {
                 };
             }
         }
+    }
+
+    /// Reads the samples of the next row from byte `from` on, as many as `into` holds. The row is `row` bytes
+    /// long.
+    pub(crate) fn part(&mut self, row: usize, from: usize, into: &mut [u8])
+        requires within { from + length into.old ≤ row }
+        requires enough { row ≤ length (ahead_of self.old) }
+        ensures given { into.new ≡ take (length into.old) (drop from (ahead_of self.old)) }
+        ensures left { ahead_of self.new ≡ drop row (ahead_of self.old) }
+    {
+        self.skip(from);
+        self.fill(into);
+        self.skip(row - from - into.len());
     }
 
     /// Skips the next `n` bytes of samples.
