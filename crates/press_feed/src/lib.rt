@@ -18,6 +18,8 @@ mod share;
 mod sheet;
 mod side;
 mod side_pages;
+mod wide;
 
 pub use feed::Feed;
 pub use press_job::{Job, Refusal, prepare, spotless_law};
+pub use wide::{BandMaker, ByThreads, WideFeed};

@@ -13,7 +13,7 @@ ghost use Rattle.room_base.specs.Task.{Told};
 use plate_verify::{Checked, VerifyFault, verify};
 use pr_base::{PathText, RowFeed};
 use pr_ports::{Shelf, Sink};
-use press_feed::{Feed, Job};
+use press_feed::{BandMaker, ByThreads, Job, WideFeed};
 use room_base::{Refusal, Status, Stop, Whose, load_job, put_text};
 use std::alloc::{AllocError, Global};
 use std::thread::Threads;
@@ -43,7 +43,7 @@ pub fn print_check<T: Threads + Sync, H: Shelf, S: Sink>(
     ensures loads { Loads (shelf_seen H.Shelf shelf.old shelf.new) result }
 {
     let job = load_job(rt, alloc, Whose::New, asked.plan, asked.files, shelf)?;
-    let checked = check_plates(alloc, &job, asked.out, shelf)?;
+    let checked = check_plates(&ByThreads { rt }, alloc, &job, asked.out, shelf)?;
     let Ok(line) = line_of(alloc, site_count(&job), &checked) else {
         return Err(Stop::Memory);
     };
@@ -58,18 +58,20 @@ fn site_count(job: &Job) -> usize
     plan.sites.len()
 }
 
-/// Verifies the plates of a job below the folder `out`.
-fn check_plates<H: Shelf>(
+/// Verifies the plates of a job below the folder `out`. `maker` makes the bands of its rows.
+fn check_plates<M: BandMaker, H: Shelf>(
+    maker: &M,
     alloc: Global,
     job: &Job,
     out: &str,
     shelf: &mut H,
 ) -> Result<Checked, Stop>
+    requires may { M.may }
     ensures looks { Looks job.now out.now (shelf_seen H.Shelf shelf.old shelf.new) result }
     ensures held { H.held shelf.new ≡ H.held shelf.old }
     ensures loads { Loads (shelf_seen H.Shelf shelf.old shelf.new) result }
 {
-    let Ok(mut feed) = Feed::open(alloc, job) else {
+    let Ok(mut feed) = WideFeed::open(maker, alloc, job) else {
         return Err(Stop::Memory);
     };
     check_fed(alloc, job, &mut feed, out, shelf)
