@@ -12,7 +12,7 @@ use crate::remade::{dropped_lines, remade_text, status_of};
 use pr_base::{NoMemory, RowFeed};
 use pr_ports::{Shelf, Sink};
 use pr_rack::Rack;
-use press_feed::{Feed, Job};
+use press_feed::{BandMaker, ByThreads, Job, WideFeed};
 use replate::{Inputs, Picks, RemadeEnd, deliver};
 use room_base::{Stop, Whose, load_job, put_text};
 use std::alloc::Global;
@@ -60,7 +60,7 @@ pub fn print_change<T: Threads + Sync, H: Shelf, R: Rack, S: Sink>(
     ensures loads { Loads (shelf_seen H.Shelf shelf.old shelf.new) result }
 {
     let late = load_late(rt, alloc, change, shelf)?;
-    let Ok(remade) = make_late(alloc, change, &late, racks) else {
+    let Ok(remade) = make_late(&ByThreads { rt }, alloc, change, &late, racks) else {
         return Err(Stop::Memory);
     };
     let ends = remade.as_slice();
@@ -125,13 +125,15 @@ fn inputs_of(job: &Job) -> Inputs<'_>
     Inputs::new(job.plan(), job.rows(), job.files())
 }
 
-/// Makes the plates that must be made.
-fn make_late<R: Rack>(
+/// Makes the plates that must be made. `maker` makes the bands of their rows.
+fn make_late<M: BandMaker, R: Rack>(
+    maker: &M,
     alloc: Global,
     change: Change<'_>,
     late: &Late,
     racks: &mut [R],
 ) -> Result<Vec<RemadeEnd>, NoMemory>
+    requires may { M.may }
     requires racks { 16 ≤ length racks.old }
     requires idle { AreIdle R.Rack racks.old }
     requires groups { length late.now.picks.kept ≡ length (groups_of late.now.job.plan) }
@@ -140,19 +142,20 @@ fn make_late<R: Rack>(
     ensures part { OnErr result (DeliversPickedPart R.Rack (change_told change.entry) late.now.job
         late.now.picks racks.old racks.new) }
 {
-    let mut feed = Feed::open(alloc, &late.job)?;
-    make_fed(alloc, change, late, &mut feed, racks)
+    let feed = WideFeed::open(maker, alloc, &late.job)?;
+    make_fed(alloc, change, late, feed, racks)
 }
 
-/// Does the same with a feed from which no row has been taken yet.
-fn make_fed<F: RowFeed, R: Rack>(
+/// Does the same with a feed from which no row has been taken yet, and drops the feed: a function that is
+/// generic over it is proved without the parts of one.
+fn make_fed<F: RowFeed + Drop, R: Rack>(
     alloc: Global,
     change: Change<'_>,
     late: &Late,
-    feed: &mut F,
+    feed: F,
     racks: &mut [R],
 ) -> Result<Vec<RemadeEnd>, NoMemory>
-    requires feed { F.left feed.old ≡ plate_frames late.now.job.plan late.now.job.files }
+    requires feed { F.left feed ≡ plate_frames late.now.job.plan late.now.job.files }
     requires racks { 16 ≤ length racks.old }
     requires idle { AreIdle R.Rack racks.old }
     requires groups { length late.now.picks.kept ≡ length (groups_of late.now.job.plan) }
@@ -162,10 +165,11 @@ fn make_fed<F: RowFeed, R: Rack>(
         late.now.picks racks.old racks.new) }
 {
     let inputs = inputs_of(&late.job);
+    let mut feed = feed;
     deliver(
         alloc,
         &late.job,
-        feed,
+        &mut feed,
         &inputs,
         &late.picks,
         change.out,
