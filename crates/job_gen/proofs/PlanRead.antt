@@ -6,7 +6,7 @@ use Rattle.plan_parts.specs.Forms.{is_file_name, is_name, is_name_byte, names_a_
 use Rattle.plan_parts.specs.Reading.{at_item, at_key, object_with, required, optional, number, name, file_name, new_name, defined, items_in, items_within, each_after, nth}
 use Rattle.plan_json.specs.Pages.{PageText, black, either, kind, paint, crop, mask, ink, placing, painting, layer, layers, inks_named, page_inks, page, pages, page_names}
 use Rattle.plan_json.specs.PlanOf.{front, inks, joined, layout, page_size, margins, plan_by, plan_in}
-use Rattle.plan_parts.specs.Printing.{identities, mark, mark_inks, marks, screen, screen_named, screens}
+use Rattle.plan_parts.specs.Printing.{each_ink, identities, mark, mark_in, mark_inks, marks, screen, screen_named, screens}
 use Rattle.plan_json.specs.Zoning.{section_pages, section, sections, new_page, replace, replaced, zone, zones, site_zone, site, sites, zone_names}
 use Rattle.std.specs.Fmt.{digits}
 use Rattle.plan_json.specs.Files.{files_of, index_of, layer_of, page_of, pages_of}
@@ -119,7 +119,7 @@ front_is sites pages size least most =
 inks_are : (sites pages size : ℕ) → 1 ≤ size → size ≤ 16
     → inks false (8 + 2 * (64 * size) + 16 + 8) (8 + 48 * size + 8) [] (value_with sites pages size)
     ≡ Ok (record { tiles = []; screens = job_screens; curves = identities; marks = job_mark ∷ [] })
-unfolding digits inks value_with printing_members layout_members required optional object_with number items_in items_within each_after screens screen screen_named marks mark mark_inks
+unfolding digits inks value_with printing_members layout_members required optional object_with number items_in items_within each_after screens each_ink screen screen_named marks mark mark_in mark_inks
 inks_are sites pages size least most =
     let wide : nat_le (0 + 4) (8 + 2 * (64 * size) + 16 + 8) ≡ true = grind (arith, nat_tests) in
     let high : nat_le (0 + 4) (8 + 48 * size + 8) ≡ true = grind (arith, nat_tests) in

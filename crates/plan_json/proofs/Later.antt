@@ -12,7 +12,7 @@ use Rattle.plan_parts.specs.Data.{TileData, CurveData, MarkData}
 use Rattle.plan_json.specs.Data.{PlanData}
 use Rattle.plan_json.specs.Printed.{Inks, Layout}
 use Rattle.plan_parts.specs.Reading.{Reader, at_key, at_item, is_among, first_unknown, object_with, ink_keys, required_in, required, optional_in, optional, items_within, each_after, list_of}
-use Rattle.plan_parts.specs.Printing.{screens, curves, mark_inks, mark, marks}
+use Rattle.plan_parts.specs.Printing.{screens, curves, mark_inks, mark_in, mark, marks}
 use Rattle.plan_json.specs.Pages.{PageText, ink, painting, layer, layers, inks_named, page_inks, page, pages}
 use Rattle.plan_json.specs.PlanOf.{inks, layout, plan_by}
 use Rattle.plan_parts.proofs.Sound.{bind_ok}
@@ -86,9 +86,13 @@ mark_inks_later path d v e = grind (arith, common_steps)
 mark_inks_key : (path : List ℕ) (o : Data) (v : List Bool) → required (codes "inks") (mark_inks false) path o ≡ Ok v → required (codes "inks") (mark_inks true) path o ≡ Ok v
 mark_inks_key path o v e = required_later (mark_inks false) (mark_inks true) mark_inks_later (codes "inks") path o v e
 
+mark_in_later : (path : List ℕ) (o : Data) (m : MarkData) → mark_in false path o ≡ Ok m → mark_in true path o ≡ Ok m
+unfolding mark_in
+mark_in_later path o m e = grind (arith, common_steps, mark_inks_key)
+
 mark_later : (width height : ℕ) (path : List ℕ) (d : Data) (m : MarkData) → mark false width height path d ≡ Ok m → mark true width height path d ≡ Ok m
 unfolding mark
-mark_later width height path d m e = grind (arith, common_steps, mark_inks_key)
+mark_later width height path d m e = grind (arith, common_steps, mark_in_later)
 
 marks_later : (width height : ℕ) (path : List ℕ) (d : Data) (v : List MarkData) → marks false width height path d ≡ Ok v → marks true width height path d ≡ Ok v
 unfolding marks

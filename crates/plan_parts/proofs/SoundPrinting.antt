@@ -17,8 +17,8 @@ use Rattle.plan_parts.specs.Data.{TileData, CurveData, MarkData}
 use Rattle.pr_base.specs.Number.{IsWithin}
 use Rattle.plan_parts.specs.Words.{AreDistinct}
 use Rattle.plan_parts.specs.Parts.{IsTile, IsScreen, IsCurve, IsMark, place}
-use Rattle.plan_parts.specs.Reading.{Read, ◌>>=◌, ◌>>◌, must, some_or, text, new_name, object_with, ink_keys, number, index_in, required, optional}
-use Rattle.plan_parts.specs.Printing.{tile_keys, mark_keys, bytes_of, tile, tiles, tile_names, screen_named, own_screen, screen, screens, bayer_screens, identity, identities, is_rising, spans, point, points, curve, curves, taken, flags_in, mark_inks, mark, marks}
+use Rattle.plan_parts.specs.Reading.{Read, Reader, ◌>>=◌, ◌>>◌, must, some_or, text, new_name, object_with, ink_keys, number, index_in, required, optional}
+use Rattle.plan_parts.specs.Printing.{each_ink, tile_keys, mark_keys, bytes_of, tile_in, tile, tiles, tile_names, screen_named, own_screen, screen, screens, bayer_screens, identity, identities, is_rising, spans, point, points, curve, curves, taken, flags_in, mark_inks, mark_in, is_inside, mark, marks}
 use Rattle.plan_parts.proofs.Sound.{ok_is, then_ok, must_ok, required_gives, optional_gives, number_required, new_name_required, nth_sound, bind_ok, number_sound, index_below, distinct-push, map-push, list_keeps}
 
 -- ---- tiles
@@ -32,19 +32,22 @@ bytes_sound n path d v e =
 bytes_required : (key : List ℕ) (n : ℕ) (path : List ℕ) (o : Data) (v : List ℕ) → required key (bytes_of n) path o ≡ Ok v → (length v ≡ n) × All (IsWithin 0 255) v
 bytes_required key n path o v e = required_gives (λ v. (length v ≡ n) × All (IsWithin 0 255) v) (bytes_of n) (bytes_sound n) key path o v e
 
+tile_in_sound : (earlier : List TileData) (path : List ℕ) (o : Data) (t : TileData) → tile_in earlier path o ≡ Ok t → IsTile t × (index_in (tile_names earlier) t.name ≡ None)
+unfolding tile_in
+tile_in_sound earlier path o t e =
+    let s1 = bind_ok (required (codes "name") (new_name (tile_names earlier)) path o) (λ name. required (codes "width") (number 1 64) path o >>= λ width. required (codes "height") (number 1 64) path o >>= λ height. required (codes "at") (bytes_of (width * height)) path o >>= λ at. Ok (record { name = name; width = width; height = height; at = at })) t e in
+    let s2 = bind_ok (required (codes "width") (number 1 64) path o) (λ width. required (codes "height") (number 1 64) path o >>= λ height. required (codes "at") (bytes_of (width * height)) path o >>= λ at. Ok (record { name = s1.0; width = width; height = height; at = at })) t s1.2 in
+    let s3 = bind_ok (required (codes "height") (number 1 64) path o) (λ height. required (codes "at") (bytes_of (s2.0 * height)) path o >>= λ at. Ok (record { name = s1.0; width = s2.0; height = height; at = at })) t s2.2 in
+    let s4 = bind_ok (required (codes "at") (bytes_of (s2.0 * s3.0)) path o) (λ at. Ok (record { name = s1.0; width = s2.0; height = s3.0; at = at })) t s3.2 in
+    let same = ok_is {A = TileData} (record { name = s1.0; width = s2.0; height = s3.0; at = s4.0 }) t s4.2 in
+    let n = new_name_required (codes "name") (tile_names earlier) path o s1.0 s1.1 in
+    let v = bytes_required (codes "at") (s2.0 * s3.0) path o s4.0 s4.1 in
+    subst (λ (t : TileData). IsTile t × (index_in (tile_names earlier) t.name ≡ None)) same
+    (record { name = n.0; width = number_required (codes "width") 1 64 path o s2.0 s2.1; height = number_required (codes "height") 1 64 path o s3.0 s3.1; numbers = v.0; bytes = v.1 }, n.1)
+
 pub tile_sound : (earlier : List TileData) (path : List ℕ) (d : Data) (t : TileData) → tile earlier path d ≡ Ok t → IsTile t × (index_in (tile_names earlier) t.name ≡ None)
 unfolding tile
-tile_sound earlier path d t e =
-    let s0 = bind_ok (object_with tile_keys path d) (λ o. required (codes "name") (new_name (tile_names earlier)) path o >>= λ name. required (codes "width") (number 1 64) path o >>= λ width. required (codes "height") (number 1 64) path o >>= λ height. required (codes "at") (bytes_of (width * height)) path o >>= λ at. Ok (record { name = name; width = width; height = height; at = at })) t e in
-    let s1 = bind_ok (required (codes "name") (new_name (tile_names earlier)) path s0.0) (λ name. required (codes "width") (number 1 64) path s0.0 >>= λ width. required (codes "height") (number 1 64) path s0.0 >>= λ height. required (codes "at") (bytes_of (width * height)) path s0.0 >>= λ at. Ok (record { name = name; width = width; height = height; at = at })) t s0.2 in
-    let s2 = bind_ok (required (codes "width") (number 1 64) path s0.0) (λ width. required (codes "height") (number 1 64) path s0.0 >>= λ height. required (codes "at") (bytes_of (width * height)) path s0.0 >>= λ at. Ok (record { name = s1.0; width = width; height = height; at = at })) t s1.2 in
-    let s3 = bind_ok (required (codes "height") (number 1 64) path s0.0) (λ height. required (codes "at") (bytes_of (s2.0 * height)) path s0.0 >>= λ at. Ok (record { name = s1.0; width = s2.0; height = height; at = at })) t s2.2 in
-    let s4 = bind_ok (required (codes "at") (bytes_of (s2.0 * s3.0)) path s0.0) (λ at. Ok (record { name = s1.0; width = s2.0; height = s3.0; at = at })) t s3.2 in
-    let same = ok_is {A = TileData} (record { name = s1.0; width = s2.0; height = s3.0; at = s4.0 }) t s4.2 in
-    let n = new_name_required (codes "name") (tile_names earlier) path s0.0 s1.0 s1.1 in
-    let v = bytes_required (codes "at") (s2.0 * s3.0) path s0.0 s4.0 s4.1 in
-    subst (λ (t : TileData). IsTile t × (index_in (tile_names earlier) t.name ≡ None)) same
-    (record { name = n.0; width = number_required (codes "width") 1 64 path s0.0 s2.0 s2.1; height = number_required (codes "height") 1 64 path s0.0 s3.0 s3.1; numbers = v.0; bytes = v.1 }, n.1)
+tile_sound earlier path d t e = let s = bind_ok (object_with tile_keys path d) (tile_in earlier path) t e in tile_in_sound earlier path s.0 t s.2
 
 abbrev pub AreTiles : List TileData → Type 0
 AreTiles tiles = All IsTile tiles × AreDistinct (tile_names tiles)
@@ -64,11 +67,26 @@ tiles_sound path d v e = let kept = list_keeps tile AreTiles tiles_step 0 16 pat
 pub no_tiles : AreTiles []
 no_tiles = (All-nil IsTile, none_apart)
 
--- ---- lists of five
+-- ---- a value for each ink
 
 pub five : {A : Type 0} (P : A → Type 0) (c m y k s : A) → P c → P m → P y → P k → P s → All P (c ∷ m ∷ y ∷ k ∷ s ∷ [])
 five P c m y k s a b d e f =
     All-cons P c (m ∷ y ∷ k ∷ s ∷ []) a (All-cons P m (y ∷ k ∷ s ∷ []) b (All-cons P y (k ∷ s ∷ []) d (All-cons P k (s ∷ []) e (All-cons P s [] f (All-nil P)))))
+
+-- a property of the default and of everything that is read holds for each of the five values
+each_ink_gives : {A : Type 0} (P : A → Type 0) (absent : A) (read : Reader A) → P absent → ((path : List ℕ) (d : Data) (x : A) → read path d ≡ Ok x → P x)
+    → (path : List ℕ) (o : Data) (v : List A) → each_ink absent read path o ≡ Ok v → (length v ≡ 5) × All P v
+unfolding each_ink
+each_ink_gives {A} P absent read h each path o v e =
+    let s1 = bind_ok (optional (codes "C") absent read path o) (λ c. optional (codes "M") absent read path o >>= λ m. optional (codes "Y") absent read path o >>= λ y. optional (codes "K") absent read path o >>= λ k. optional (codes "S") absent read path o >>= λ s. Ok (c ∷ m ∷ y ∷ k ∷ s ∷ [])) v e in
+    let s2 = bind_ok (optional (codes "M") absent read path o) (λ m. optional (codes "Y") absent read path o >>= λ y. optional (codes "K") absent read path o >>= λ k. optional (codes "S") absent read path o >>= λ s. Ok (s1.0 ∷ m ∷ y ∷ k ∷ s ∷ [])) v s1.2 in
+    let s3 = bind_ok (optional (codes "Y") absent read path o) (λ y. optional (codes "K") absent read path o >>= λ k. optional (codes "S") absent read path o >>= λ s. Ok (s1.0 ∷ s2.0 ∷ y ∷ k ∷ s ∷ [])) v s2.2 in
+    let s4 = bind_ok (optional (codes "K") absent read path o) (λ k. optional (codes "S") absent read path o >>= λ s. Ok (s1.0 ∷ s2.0 ∷ s3.0 ∷ k ∷ s ∷ [])) v s3.2 in
+    let s5 = bind_ok (optional (codes "S") absent read path o) (λ s. Ok (s1.0 ∷ s2.0 ∷ s3.0 ∷ s4.0 ∷ s ∷ [])) v s4.2 in
+    let same = ok_is {A = List A} (s1.0 ∷ s2.0 ∷ s3.0 ∷ s4.0 ∷ s5.0 ∷ []) v s5.2 in
+    let one : (key : List ℕ) (x : A) → optional key absent read path o ≡ Ok x → P x = λ key x. optional_gives P absent read h each key path o x in
+    subst (λ (v : List A). (length v ≡ 5) × All P v) same
+    (refl, five P s1.0 s2.0 s3.0 s4.0 s5.0 (one (codes "C") s1.0 s1.1) (one (codes "M") s2.0 s2.1) (one (codes "Y") s3.0 s3.1) (one (codes "K") s4.0 s4.1) (one (codes "S") s5.0 s5.1))
 
 -- ---- screens
 
@@ -118,26 +136,13 @@ bayer n = refl
 pub bayer_screens_sound : (n : ℕ) → AreScreens n bayer_screens
 bayer_screens_sound n = (refl, five (IsScreen n) (Bayer 8) (Bayer 8) (Bayer 8) (Bayer 8) (Bayer 8) (bayer n) (bayer n) (bayer n) (bayer n) (bayer n))
 
-screen_optional : (key : List ℕ) (tiles : List TileData) (path : List ℕ) (o : Data) (s : Screen) → optional key (Bayer 8) (screen (tile_names tiles)) path o ≡ Ok s → IsScreen (length tiles) s
-screen_optional key tiles path o s e =
-    let same : length (tile_names tiles) ≡ length tiles = length-map (λ (t : TileData). t.name) tiles in
-    let P : Screen → Type 0 = λ s. IsScreen (length (tile_names tiles)) s in
-    subst (λ (n : ℕ). IsScreen n s) same (optional_gives P (Bayer 8) (screen (tile_names tiles)) (bayer (length (tile_names tiles))) (screen_sound (tile_names tiles)) key path o s e)
-
-five_screens : (n : ℕ) (c m y k s : Screen) → IsScreen n c → IsScreen n m → IsScreen n y → IsScreen n k → IsScreen n s → All (IsScreen n) (c ∷ m ∷ y ∷ k ∷ s ∷ [])
-five_screens n c m y k s a b d e f = five (IsScreen n) c m y k s a b d e f
-
 pub screens_sound : (spot : Bool) (tiles : List TileData) (path : List ℕ) (d : Data) (v : List Screen) → screens spot tiles path d ≡ Ok v → AreScreens (length tiles) v
 unfolding screens
 screens_sound spot tiles path d v e =
-    let s0 = bind_ok (object_with (ink_keys spot) path d) (λ o. optional (codes "C") (Bayer 8) (screen (tile_names tiles)) path o >>= λ c. optional (codes "M") (Bayer 8) (screen (tile_names tiles)) path o >>= λ m. optional (codes "Y") (Bayer 8) (screen (tile_names tiles)) path o >>= λ y. optional (codes "K") (Bayer 8) (screen (tile_names tiles)) path o >>= λ k. optional (codes "S") (Bayer 8) (screen (tile_names tiles)) path o >>= λ s. Ok (c ∷ m ∷ y ∷ k ∷ s ∷ [])) v e in
-    let s1 = bind_ok (optional (codes "C") (Bayer 8) (screen (tile_names tiles)) path s0.0) (λ c. optional (codes "M") (Bayer 8) (screen (tile_names tiles)) path s0.0 >>= λ m. optional (codes "Y") (Bayer 8) (screen (tile_names tiles)) path s0.0 >>= λ y. optional (codes "K") (Bayer 8) (screen (tile_names tiles)) path s0.0 >>= λ k. optional (codes "S") (Bayer 8) (screen (tile_names tiles)) path s0.0 >>= λ s. Ok (c ∷ m ∷ y ∷ k ∷ s ∷ [])) v s0.2 in
-    let s2 = bind_ok (optional (codes "M") (Bayer 8) (screen (tile_names tiles)) path s0.0) (λ m. optional (codes "Y") (Bayer 8) (screen (tile_names tiles)) path s0.0 >>= λ y. optional (codes "K") (Bayer 8) (screen (tile_names tiles)) path s0.0 >>= λ k. optional (codes "S") (Bayer 8) (screen (tile_names tiles)) path s0.0 >>= λ s. Ok (s1.0 ∷ m ∷ y ∷ k ∷ s ∷ [])) v s1.2 in
-    let s3 = bind_ok (optional (codes "Y") (Bayer 8) (screen (tile_names tiles)) path s0.0) (λ y. optional (codes "K") (Bayer 8) (screen (tile_names tiles)) path s0.0 >>= λ k. optional (codes "S") (Bayer 8) (screen (tile_names tiles)) path s0.0 >>= λ s. Ok (s1.0 ∷ s2.0 ∷ y ∷ k ∷ s ∷ [])) v s2.2 in
-    let s4 = bind_ok (optional (codes "K") (Bayer 8) (screen (tile_names tiles)) path s0.0) (λ k. optional (codes "S") (Bayer 8) (screen (tile_names tiles)) path s0.0 >>= λ s. Ok (s1.0 ∷ s2.0 ∷ s3.0 ∷ k ∷ s ∷ [])) v s3.2 in
-    let s5 = bind_ok (optional (codes "S") (Bayer 8) (screen (tile_names tiles)) path s0.0) (λ s. Ok (s1.0 ∷ s2.0 ∷ s3.0 ∷ s4.0 ∷ s ∷ [])) v s4.2 in
-    let same = ok_is {A = List Screen} (s1.0 ∷ s2.0 ∷ s3.0 ∷ s4.0 ∷ s5.0 ∷ []) v s5.2 in
-    subst (λ (v : List Screen). AreScreens (length tiles) v) same (refl, five_screens (length tiles) s1.0 s2.0 s3.0 s4.0 s5.0 (screen_optional (codes "C") tiles path s0.0 s1.0 s1.1) (screen_optional (codes "M") tiles path s0.0 s2.0 s2.1) (screen_optional (codes "Y") tiles path s0.0 s3.0 s3.1) (screen_optional (codes "K") tiles path s0.0 s4.0 s4.1) (screen_optional (codes "S") tiles path s0.0 s5.0 s5.1))
+    let s = bind_ok (object_with (ink_keys spot) path d) (each_ink (Bayer 8) (screen (tile_names tiles)) path) v e in
+    let n = length (tile_names tiles) in
+    let same : n ≡ length tiles = length-map (λ (t : TileData). t.name) tiles in
+    subst (λ (n : ℕ). AreScreens n v) same (each_ink_gives (IsScreen n) (Bayer 8) (screen (tile_names tiles)) (bayer n) (screen_sound (tile_names tiles)) path s.0 v s.2)
 
 -- ---- curves
 
@@ -202,23 +207,11 @@ AreCurves v = (length v ≡ 5) × All IsCurve v
 pub identities_sound : AreCurves identities
 identities_sound = (refl, five IsCurve identity identity identity identity identity identity_is identity_is identity_is identity_is identity_is)
 
-curve_optional : (key path : List ℕ) (o : Data) (v : CurveData) → optional key identity curve path o ≡ Ok v → IsCurve v
-curve_optional key path o v e = optional_gives IsCurve identity curve identity_is curve_is key path o v e
-
-five_curves : (c m y k s : CurveData) → IsCurve c → IsCurve m → IsCurve y → IsCurve k → IsCurve s → All IsCurve (c ∷ m ∷ y ∷ k ∷ s ∷ [])
-five_curves c m y k s a b d e f = five IsCurve c m y k s a b d e f
-
 pub curves_sound : (spot : Bool) (path : List ℕ) (d : Data) (v : List CurveData) → curves spot path d ≡ Ok v → AreCurves v
 unfolding curves
 curves_sound spot path d v e =
-    let s0 = bind_ok (object_with (ink_keys spot) path d) (λ o. optional (codes "C") identity curve path o >>= λ c. optional (codes "M") identity curve path o >>= λ m. optional (codes "Y") identity curve path o >>= λ y. optional (codes "K") identity curve path o >>= λ k. optional (codes "S") identity curve path o >>= λ s. Ok (c ∷ m ∷ y ∷ k ∷ s ∷ [])) v e in
-    let s1 = bind_ok (optional (codes "C") identity curve path s0.0) (λ c. optional (codes "M") identity curve path s0.0 >>= λ m. optional (codes "Y") identity curve path s0.0 >>= λ y. optional (codes "K") identity curve path s0.0 >>= λ k. optional (codes "S") identity curve path s0.0 >>= λ s. Ok (c ∷ m ∷ y ∷ k ∷ s ∷ [])) v s0.2 in
-    let s2 = bind_ok (optional (codes "M") identity curve path s0.0) (λ m. optional (codes "Y") identity curve path s0.0 >>= λ y. optional (codes "K") identity curve path s0.0 >>= λ k. optional (codes "S") identity curve path s0.0 >>= λ s. Ok (s1.0 ∷ m ∷ y ∷ k ∷ s ∷ [])) v s1.2 in
-    let s3 = bind_ok (optional (codes "Y") identity curve path s0.0) (λ y. optional (codes "K") identity curve path s0.0 >>= λ k. optional (codes "S") identity curve path s0.0 >>= λ s. Ok (s1.0 ∷ s2.0 ∷ y ∷ k ∷ s ∷ [])) v s2.2 in
-    let s4 = bind_ok (optional (codes "K") identity curve path s0.0) (λ k. optional (codes "S") identity curve path s0.0 >>= λ s. Ok (s1.0 ∷ s2.0 ∷ s3.0 ∷ k ∷ s ∷ [])) v s3.2 in
-    let s5 = bind_ok (optional (codes "S") identity curve path s0.0) (λ s. Ok (s1.0 ∷ s2.0 ∷ s3.0 ∷ s4.0 ∷ s ∷ [])) v s4.2 in
-    let same = ok_is {A = List CurveData} (s1.0 ∷ s2.0 ∷ s3.0 ∷ s4.0 ∷ s5.0 ∷ []) v s5.2 in
-    subst (λ (v : List CurveData). AreCurves v) same (refl, five_curves s1.0 s2.0 s3.0 s4.0 s5.0 (curve_optional (codes "C") path s0.0 s1.0 s1.1) (curve_optional (codes "M") path s0.0 s2.0 s2.1) (curve_optional (codes "Y") path s0.0 s3.0 s3.1) (curve_optional (codes "K") path s0.0 s4.0 s4.1) (curve_optional (codes "S") path s0.0 s5.0 s5.1))
+    let s = bind_ok (object_with (ink_keys spot) path d) (each_ink identity curve path) v e in
+    each_ink_gives IsCurve identity curve identity_is curve_is path s.0 v s.2
 
 -- ---- marks
 
@@ -247,21 +240,33 @@ inks_required key spot path o v e = required_gives AreInks (mark_inks spot) (mar
 pub inside_sound : (a b width height : ℕ) → (nat_le a width && nat_le b height) ≡ true → (a ≤ width) × (b ≤ height)
 inside_sound a b width height e = let h = both (nat_le a width) (nat_le b height) e in (leb-true _ _ h.0, leb-true _ _ h.1)
 
+-- the inks of a mark, and its sides
+abbrev IsMarkAnywhere : MarkData → Type 0
+IsMarkAnywhere m = AreInks m.inks × IsWithin 1 65535 m.w × IsWithin 1 65535 m.h
+
+mark_in_sound : (spot : Bool) (path : List ℕ) (o : Data) (m : MarkData) → mark_in spot path o ≡ Ok m → IsMarkAnywhere m
+unfolding mark_in
+mark_in_sound spot path o m e =
+    let s1 = bind_ok (required (codes "inks") (mark_inks spot) path o) (λ inks. required (codes "x") (number 0 65535) path o >>= λ x. required (codes "y") (number 0 65535) path o >>= λ y. required (codes "w") (number 1 65535) path o >>= λ w. required (codes "h") (number 1 65535) path o >>= λ h. Ok (record { inks = inks; x = x; y = y; w = w; h = h })) m e in
+    let s2 = bind_ok (required (codes "x") (number 0 65535) path o) (λ x. required (codes "y") (number 0 65535) path o >>= λ y. required (codes "w") (number 1 65535) path o >>= λ w. required (codes "h") (number 1 65535) path o >>= λ h. Ok (record { inks = s1.0; x = x; y = y; w = w; h = h })) m s1.2 in
+    let s3 = bind_ok (required (codes "y") (number 0 65535) path o) (λ y. required (codes "w") (number 1 65535) path o >>= λ w. required (codes "h") (number 1 65535) path o >>= λ h. Ok (record { inks = s1.0; x = s2.0; y = y; w = w; h = h })) m s2.2 in
+    let s4 = bind_ok (required (codes "w") (number 1 65535) path o) (λ w. required (codes "h") (number 1 65535) path o >>= λ h. Ok (record { inks = s1.0; x = s2.0; y = s3.0; w = w; h = h })) m s3.2 in
+    let s5 = bind_ok (required (codes "h") (number 1 65535) path o) (λ h. Ok (record { inks = s1.0; x = s2.0; y = s3.0; w = s4.0; h = h })) m s4.2 in
+    let same = ok_is {A = MarkData} (record { inks = s1.0; x = s2.0; y = s3.0; w = s4.0; h = s5.0 }) m s5.2 in
+    subst IsMarkAnywhere same
+    (inks_required (codes "inks") spot path o s1.0 s1.1, number_required (codes "w") 1 65535 path o s4.0 s4.1, number_required (codes "h") 1 65535 path o s5.0 s5.1)
+
 pub mark_sound : (spot : Bool) (width height : ℕ) (path : List ℕ) (d : Data) (m : MarkData) → mark spot width height path d ≡ Ok m → IsMark width height m
 unfolding mark
 mark_sound spot width height path d m e =
-    let s0 = bind_ok (object_with mark_keys path d) (λ o. required (codes "inks") (mark_inks spot) path o >>= λ inks. required (codes "x") (number 0 65535) path o >>= λ x. required (codes "y") (number 0 65535) path o >>= λ y. required (codes "w") (number 1 65535) path o >>= λ w. required (codes "h") (number 1 65535) path o >>= λ h. must (nat_le (x + w) width && nat_le (y + h) height) (Range path) >> (Ok (record { inks = inks; x = x; y = y; w = w; h = h }))) m e in
-    let s1 = bind_ok (required (codes "inks") (mark_inks spot) path s0.0) (λ inks. required (codes "x") (number 0 65535) path s0.0 >>= λ x. required (codes "y") (number 0 65535) path s0.0 >>= λ y. required (codes "w") (number 1 65535) path s0.0 >>= λ w. required (codes "h") (number 1 65535) path s0.0 >>= λ h. must (nat_le (x + w) width && nat_le (y + h) height) (Range path) >> (Ok (record { inks = inks; x = x; y = y; w = w; h = h }))) m s0.2 in
-    let s2 = bind_ok (required (codes "x") (number 0 65535) path s0.0) (λ x. required (codes "y") (number 0 65535) path s0.0 >>= λ y. required (codes "w") (number 1 65535) path s0.0 >>= λ w. required (codes "h") (number 1 65535) path s0.0 >>= λ h. must (nat_le (x + w) width && nat_le (y + h) height) (Range path) >> (Ok (record { inks = s1.0; x = x; y = y; w = w; h = h }))) m s1.2 in
-    let s3 = bind_ok (required (codes "y") (number 0 65535) path s0.0) (λ y. required (codes "w") (number 1 65535) path s0.0 >>= λ w. required (codes "h") (number 1 65535) path s0.0 >>= λ h. must (nat_le (s2.0 + w) width && nat_le (y + h) height) (Range path) >> (Ok (record { inks = s1.0; x = s2.0; y = y; w = w; h = h }))) m s2.2 in
-    let s4 = bind_ok (required (codes "w") (number 1 65535) path s0.0) (λ w. required (codes "h") (number 1 65535) path s0.0 >>= λ h. must (nat_le (s2.0 + w) width && nat_le (s3.0 + h) height) (Range path) >> (Ok (record { inks = s1.0; x = s2.0; y = s3.0; w = w; h = h }))) m s3.2 in
-    let s5 = bind_ok (required (codes "h") (number 1 65535) path s0.0) (λ h. must (nat_le (s2.0 + s4.0) width && nat_le (s3.0 + h) height) (Range path) >> (Ok (record { inks = s1.0; x = s2.0; y = s3.0; w = s4.0; h = h }))) m s4.2 in
-    let s6 = then_ok (must (nat_le (s2.0 + s4.0) width && nat_le (s3.0 + s5.0) height) (Range path)) (Ok (record { inks = s1.0; x = s2.0; y = s3.0; w = s4.0; h = s5.0 })) m s5.2 in
-    let same = ok_is {A = MarkData} (record { inks = s1.0; x = s2.0; y = s3.0; w = s4.0; h = s5.0 }) m s6.2 in
-    let i = inks_required (codes "inks") spot path s0.0 s1.0 s1.1 in
-    let inside = inside_sound (s2.0 + s4.0) (s3.0 + s5.0) width height (must_ok _ (Range path) s6.1) in
+    let s0 = bind_ok (object_with mark_keys path d) (λ o. mark_in spot path o >>= λ found. must (is_inside width height found) (Range path) >> Ok found) m e in
+    let s1 = bind_ok (mark_in spot path s0.0) (λ found. must (is_inside width height found) (Range path) >> Ok found) m s0.2 in
+    let s2 = then_ok (must (is_inside width height s1.0) (Range path)) (Ok s1.0) m s1.2 in
+    let same = ok_is {A = MarkData} s1.0 m s2.2 in
+    let anywhere = mark_in_sound spot path s0.0 s1.0 s1.1 in
+    let inside = inside_sound (s1.0.x + s1.0.w) (s1.0.y + s1.0.h) width height (must_ok _ (Range path) s2.1) in
     subst (IsMark width height) same
-    (record { inks = i.0; some = i.1; w = number_required (codes "w") 1 65535 path s0.0 s4.0 s4.1; h = number_required (codes "h") 1 65535 path s0.0 s5.0 s5.1; right = inside.0; bottom = inside.1 })
+    (record { inks = anywhere.0.0; some = anywhere.0.1; w = anywhere.1; h = anywhere.2; right = inside.0; bottom = inside.1 })
 
 pub marks_sound : (spot : Bool) (width height : ℕ) (path : List ℕ) (d : Data) (v : List MarkData) → marks spot width height path d ≡ Ok v → All (IsMark width height) v × (length v ≤ 64)
 unfolding marks

@@ -13,6 +13,16 @@ use Rattle.plan_parts.specs.Reading.{Read, Reader, ◌>>=◌, ◌>>◌, must, so
 use Rattle.plan_parts.specs.Reading.{required, optional, number, text, new_name, index_in, items_within}
 use Rattle.plan_parts.specs.Reading.{list_of, nth}
 
+-- the value of the key of each ink, or a default where the key is absent
+unfoldable pub each_ink : {A : Type 0} → A → Reader A → Reader (List A)
+each_ink absent read path o = do
+  c ← optional (codes "C") absent read path o
+  m ← optional (codes "M") absent read path o
+  y ← optional (codes "Y") absent read path o
+  k ← optional (codes "K") absent read path o
+  s ← optional (codes "S") absent read path o
+  Ok (c ∷ m ∷ y ∷ k ∷ s ∷ [])
+
 -- ---- tiles
 
 abbrev pub tile_keys : List (List ℕ)
@@ -25,14 +35,17 @@ tile_names tiles = map (λ tile. tile.name) tiles
 unfoldable pub bytes_of : ℕ → Reader (List ℕ)
 bytes_of count = list_of count count (λ _. number 0 255)
 
-unfoldable pub tile : List TileData → Reader TileData
-tile earlier path d = do
-  o ← object_with tile_keys path d
+-- the keys of a tile, in order
+unfoldable pub tile_in : List TileData → Reader TileData
+tile_in earlier path o = do
   name ← required (codes "name") (new_name (tile_names earlier)) path o
   width ← required (codes "width") (number 1 64) path o
   height ← required (codes "height") (number 1 64) path o
   at ← required (codes "at") (bytes_of (width * height)) path o
   Ok (record { name = name; width = width; height = height; at = at })
+
+unfoldable pub tile : List TileData → Reader TileData
+tile earlier path d = object_with tile_keys path d >>= tile_in earlier path
 
 unfoldable pub tiles : Reader (List TileData)
 tiles = list_of 0 16 tile
@@ -60,14 +73,7 @@ unfoldable pub screen : List (List ℕ) → Reader Screen
 screen names path d = text path d >>= screen_named names path
 
 unfoldable pub screens : Bool → List TileData → Reader (List Screen)
-screens spot tiles path d = do
-  o ← object_with (ink_keys spot) path d
-  c ← optional (codes "C") (Bayer 8) (screen (tile_names tiles)) path o
-  m ← optional (codes "M") (Bayer 8) (screen (tile_names tiles)) path o
-  y ← optional (codes "Y") (Bayer 8) (screen (tile_names tiles)) path o
-  k ← optional (codes "K") (Bayer 8) (screen (tile_names tiles)) path o
-  s ← optional (codes "S") (Bayer 8) (screen (tile_names tiles)) path o
-  Ok (c ∷ m ∷ y ∷ k ∷ s ∷ [])
+screens spot tiles path d = object_with (ink_keys spot) path d >>= each_ink (Bayer 8) (screen (tile_names tiles)) path
 
 -- ---- curves
 
@@ -107,14 +113,7 @@ curve path d = do
   Ok all
 
 unfoldable pub curves : Bool → Reader (List CurveData)
-curves spot path d = do
-  o ← object_with (ink_keys spot) path d
-  c ← optional (codes "C") identity curve path o
-  m ← optional (codes "M") identity curve path o
-  y ← optional (codes "Y") identity curve path o
-  k ← optional (codes "K") identity curve path o
-  s ← optional (codes "S") identity curve path o
-  Ok (c ∷ m ∷ y ∷ k ∷ s ∷ [])
+curves spot path d = object_with (ink_keys spot) path d >>= each_ink identity curve path
 
 -- ---- marks
 
@@ -144,17 +143,27 @@ mark_inks spot path d = do
 abbrev pub mark_keys : List (List ℕ)
 mark_keys = codes "inks" ∷ codes "x" ∷ codes "y" ∷ codes "w" ∷ codes "h" ∷ []
 
--- a mark inside a plate of this width and height
-unfoldable pub mark : Bool → ℕ → ℕ → Reader MarkData
-mark spot width height path d = do
-  o ← object_with mark_keys path d
+-- the keys of a mark, in order
+unfoldable pub mark_in : Bool → Reader MarkData
+mark_in spot path o = do
   inks ← required (codes "inks") (mark_inks spot) path o
   x ← required (codes "x") (number 0 65535) path o
   y ← required (codes "y") (number 0 65535) path o
   w ← required (codes "w") (number 1 65535) path o
   h ← required (codes "h") (number 1 65535) path o
-  must (nat_le (x + w) width && nat_le (y + h) height) (Range path)
   Ok (record { inks = inks; x = x; y = y; w = w; h = h })
+
+-- whether a mark is inside a plate of this width and height
+abbrev pub is_inside : ℕ → ℕ → MarkData → Bool
+is_inside width height mark = nat_le (mark.x + mark.w) width && nat_le (mark.y + mark.h) height
+
+-- a mark inside a plate of this width and height
+unfoldable pub mark : Bool → ℕ → ℕ → Reader MarkData
+mark spot width height path d = do
+  o ← object_with mark_keys path d
+  found ← mark_in spot path o
+  must (is_inside width height found) (Range path)
+  Ok found
 
 unfoldable pub marks : Bool → ℕ → ℕ → Reader (List MarkData)
 marks spot width height = list_of 0 64 (λ _. mark spot width height)

@@ -87,6 +87,26 @@ fn identities(alloc: Global) -> Result<[PlanCurve; 5], NoMemory>
     Ok([c, m, y, k, s])
 }
 
+// Reads the curve of the ink with this key.
+fn curve_of(o: &Object<'_>, key: &str) -> Result<PlanCurve, PlanFault>
+    ensures { Gives (λ c. c) result (inside o.now (optional key.now spec.identity spec.curve)) }
+{
+    o.optional(key, identity(o.alloc)?, &CurveReader)
+}
+
+// Reads the curves of all inks from their object.
+#[tactic(auto, unfolding(crate::specs::Printing::each_ink))]
+fn curves_of(o: &Object<'_>) -> Result<[PlanCurve; 5], PlanFault>
+    ensures { Gives (λ c. c) result (inside o.now (spec.each_ink spec.identity spec.curve)) }
+{
+    let c = curve_of(o, "C")?;
+    let m = curve_of(o, "M")?;
+    let y = curve_of(o, "Y")?;
+    let k = curve_of(o, "K")?;
+    let s = curve_of(o, "S")?;
+    Ok([c, m, y, k, s])
+}
+
 // Reads the curves of all inks.
 #[derive(Drop)]
 struct CurvesReader {
@@ -101,12 +121,7 @@ impl Reader for CurvesReader {
     #[tactic(auto, unfolding(crate::specs::Printing::curves))]
     fn read(&self, node: Node<'_>) -> Result<[PlanCurve; 5], PlanFault> {
         let o = node.ink_object(self.spot)?;
-        let c = o.optional("C", identity(o.alloc)?, &CurveReader)?;
-        let m = o.optional("M", identity(o.alloc)?, &CurveReader)?;
-        let y = o.optional("Y", identity(o.alloc)?, &CurveReader)?;
-        let k = o.optional("K", identity(o.alloc)?, &CurveReader)?;
-        let s = o.optional("S", identity(o.alloc)?, &CurveReader)?;
-        Ok([c, m, y, k, s])
+        curves_of(&o)
     }
 }
 

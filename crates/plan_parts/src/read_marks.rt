@@ -23,16 +23,33 @@ impl ItemReader for MarkReader {
     #[tactic(auto, unfolding(crate::specs::Printing::mark))]
     fn read_item(&self, _earlier: &[Mark], node: Node<'_>) -> Result<Mark, PlanFault> {
         let o = node.object(&["inks", "x", "y", "w", "h"])?;
-        let inks = o.required("inks", &MarkInksReader { spot: self.spot })?;
-        let x = o.required("x", &Number(0, 65535))? as u32;
-        let y = o.required("y", &Number(0, 65535))? as u32;
-        let w = o.required("w", &Number(1, 65535))? as u32;
-        let h = o.required("h", &Number(1, 65535))? as u32;
-        if x + w > self.width || y + h > self.height {
+        let mark = mark_of(&o, self.spot)?;
+        if !is_inside(self.width, self.height, &mark) {
             return Err(PlanFault::Range(node.path()?));
         }
-        Ok(Mark { inks, x, y, w, h })
+        Ok(mark)
     }
+}
+
+// Reads a mark from its object, wherever it is.
+#[tactic(auto, unfolding(crate::specs::Printing::mark_in))]
+fn mark_of(o: &Object<'_>, spot: bool) -> Result<Mark, PlanFault>
+    ensures { Gives (λ m. m) result (inside o.now (spec.mark_in spot)) }
+{
+    let inks = o.required("inks", &MarkInksReader { spot })?;
+    let x = o.required("x", &Number(0, 65535))? as u32;
+    let y = o.required("y", &Number(0, 65535))? as u32;
+    let w = o.required("w", &Number(1, 65535))? as u32;
+    let h = o.required("h", &Number(1, 65535))? as u32;
+    Ok(Mark { inks, x, y, w, h })
+}
+
+fn is_inside(width: u32, height: u32, mark: &Mark) -> bool
+    ensures { result ≡ spec.is_inside width height mark.now }
+{
+    let right = u64::from(mark.x) + u64::from(mark.w);
+    let bottom = u64::from(mark.y) + u64::from(mark.h);
+    right <= u64::from(width) && bottom <= u64::from(height)
 }
 
 // Reads which inks a mark has.

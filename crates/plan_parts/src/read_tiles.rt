@@ -35,21 +35,29 @@ impl ItemReader for TileReader {
 
     ghost reads = { λ _. spec.tile };
 
-    #[tactic(auto, unfolding(crate::specs::Printing::tile, crate::specs::Printing::bytes_of))]
+    #[tactic(auto, unfolding(crate::specs::Printing::tile))]
     fn read_item(&self, earlier: &[PlanTile], node: Node<'_>) -> Result<PlanTile, PlanFault> {
         let o = node.object(&["name", "width", "height", "at"])?;
-        let name = o.required("name", &NewName(earlier))?;
-        let width = o.required("width", &Number(1, 64))? as u32;
-        let height = o.required("height", &Number(1, 64))? as u32;
-        let count = (width * height) as usize;
-        let at = o.required("at", &ListOf(count, count, ByteReader))?;
-        Ok(PlanTile {
-            name,
-            width,
-            height,
-            at,
-        })
+        tile_of(&o, earlier)
     }
+}
+
+// Reads a tile from its object.
+#[tactic(auto, unfolding(crate::specs::Printing::tile_in, crate::specs::Printing::bytes_of))]
+fn tile_of(o: &Object<'_>, earlier: &[PlanTile]) -> Result<PlanTile, PlanFault>
+    ensures { Gives (λ t. t) result (inside o.now (spec.tile_in earlier.now)) }
+{
+    let name = o.required("name", &NewName(earlier))?;
+    let width = o.required("width", &Number(1, 64))? as u32;
+    let height = o.required("height", &Number(1, 64))? as u32;
+    let count = (width * height) as usize;
+    let at = o.required("at", &ListOf(count, count, ByteReader))?;
+    Ok(PlanTile {
+        name,
+        width,
+        height,
+        at,
+    })
 }
 
 /// Returns the tiles of a plan: the value of the key `tiles` of the top object, or none where the key is
@@ -133,14 +141,23 @@ impl Reader for ScreensReader<'_> {
     #[tactic(auto, unfolding(crate::specs::Printing::screens))]
     fn read(&self, node: Node<'_>) -> Result<[Screen; 5], PlanFault> {
         let o = node.ink_object(self.spot)?;
-        let screen = ScreenReader { tiles: self.tiles };
-        let c = o.optional("C", Screen::Bayer(8), &screen)?;
-        let m = o.optional("M", Screen::Bayer(8), &screen)?;
-        let y = o.optional("Y", Screen::Bayer(8), &screen)?;
-        let k = o.optional("K", Screen::Bayer(8), &screen)?;
-        let s = o.optional("S", Screen::Bayer(8), &screen)?;
-        Ok([c, m, y, k, s])
+        screens_of(&o, self.tiles)
     }
+}
+
+// Reads the screens of all inks from their object.
+#[tactic(auto, unfolding(crate::specs::Printing::each_ink))]
+fn screens_of(o: &Object<'_>, tiles: &[PlanTile]) -> Result<[Screen; 5], PlanFault>
+    ensures { Gives (λ s. s) result
+        (inside o.now (spec.each_ink (Screen.Bayer 8) (spec.screen (spec.tile_names tiles.now)))) }
+{
+    let screen = ScreenReader { tiles };
+    let c = o.optional("C", Screen::Bayer(8), &screen)?;
+    let m = o.optional("M", Screen::Bayer(8), &screen)?;
+    let y = o.optional("Y", Screen::Bayer(8), &screen)?;
+    let k = o.optional("K", Screen::Bayer(8), &screen)?;
+    let s = o.optional("S", Screen::Bayer(8), &screen)?;
+    Ok([c, m, y, k, s])
 }
 
 /// Returns the screens of a plan with these tiles, one for each ink: the value of the key `screens` of the

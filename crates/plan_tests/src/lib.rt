@@ -6,6 +6,8 @@ mod changes;
 #[cfg(test)]
 mod faults;
 #[cfg(test)]
+mod pairs;
+#[cfg(test)]
 mod plates;
 #[cfg(test)]
 mod rows;
