@@ -70,7 +70,7 @@ impl<'d, D: Deal> Ring<'d, D> {
     }
 
     /// Gives out all the ends of this ring, with every reader joined. This succeeds once; if allocation
-    /// fails, the ring still has the ends.
+    /// fails, the ring still has the ends, which no clause states.
     pub fn ends(&mut self, alloc: Global) -> Result<Ends<'_, D>, NoMemory>
         requires { self.old.fresh ≡ true }
         ensures writer { IfOk result (λ ends. ends.writer ≡ new_writer_state self.old.table self.old.ring) }

@@ -124,7 +124,7 @@ impl<'d, D: Deal> RingTable<'d, D> {
     }
 
     /// Gives out all the seats of this table. This is the first call on the table. If allocation fails, the
-    /// table still has the seats.
+    /// table still has the seats, which no clause states.
     pub fn seats(&mut self, alloc: Global) -> Result<Seats<'_, D>, NoMemory>
         requires { self.old.fresh ≡ true }
         ensures writer { IfOk result (λ seats. seats.writer ≡ new_writer_mark self.old.table self.old.ring) }
