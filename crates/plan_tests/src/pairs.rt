@@ -20,6 +20,10 @@ const PAIRS: [(u32, u32, u32, u32); 36] = [
 fn pairs_of_sections_of_2_to_16_pages(rt: HostRuntime) {
     for (n, j, left, right) in PAIRS {
         assert!(rt; n % 2 == 0 && 1 <= j && j <= n / 2);
-        assert_eq!(rt; pair(n, j), (left, right), "pair {j} of {n} pages");
+        let pages = pair(n, j);
+        assert!(rt;
+            pages.0 == left && pages.1 == right,
+            "pair {j} of {n} pages"
+        );
     }
 }
