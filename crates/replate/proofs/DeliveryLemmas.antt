@@ -18,7 +18,7 @@ use Rattle.plan_json.specs.Data.{PlanData}
 use Rattle.plan_json.specs.Plan.{IsPlan}
 use Rattle.plan_rows.specs.Plates.{site_files, site_plates}
 use Rattle.plan_rows.specs.Rows.{row_places}
-use Rattle.site_agent.specs.Given.{finished_count}
+use Rattle.site_agent.specs.Given.{finished_count, kept_below}
 use Rattle.site_agent.specs.Job.{SiteJob, IsJob}
 use Rattle.site_agent.specs.Picked.{picked_job}
 use Rattle.site_agent.specs.Racks.{AllTellSlots, AreIdle, KeepCounts, TellsSlots}
@@ -217,9 +217,10 @@ grown-nothing (Some list) = ap Some (sym (append-nil list))
 
 -- no file at all is a part
 pub none_part : (making : Making) (before : List RackTells) → RemadePart making before before
+unfolding kept_below
 none_part making before = record {
   each = λ site old new less b r.
-      subst (λ (now : RackTells). FitsPart making site old now) (same_Some old new (sym b ∙ r)) (record { files = 0; finished = grown-nothing old.tells.finished; calls = inl refl });
+      subst (λ (now : RackTells). FitsPart making site old now) (same_Some old new (sym b ∙ r)) (record { files = 0; finished = grown-nothing old.tells.finished; row = 0; taken = inl (grown-nothing old.tells.taken); calls = inl refl });
 }
 
 -- a site without plates left to make fits its end
@@ -239,6 +240,7 @@ end_fits making site n before now going (Done made kept) is within none at =
       taken = (stands_on job making.rows Deck n (last - n) before.tells now.tells going.counts own all' stands).rack.taken
           ∙ ap (λ m. grown (taken_below job Deck m) before.tells.taken) (let e : n + (last - n) ≡ last = omega (arith, within) in e);
       begun = none_begun_at job making.rows Deck n before.tells now.tells going.counts own all' stands;
+      missed = at.missed;
     } where
       not_false : (b : Bool) → not b ≡ false → b ≡ true
       not_false true e = refl

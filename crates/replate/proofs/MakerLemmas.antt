@@ -1,5 +1,5 @@
 -- A site of a delivery and a row: the site continues, it leaves, or its rack runs out of memory.
-use Rattle.std.proofs.Common.{◌≡◌, ℕ, ◌+◌, ◌<◌, true, false, List, length, map, take, Some, IfSome, refl, sym, ap, subst, ◌∙◌, inl, inr, arith}
+use Rattle.std.proofs.Common.{◌≡◌, ℕ, ◌+◌, ◌<◌, Bool, true, false, List, length, map, take, Option, Some, IfSome, refl, sym, ap, subst, ◌∙◌, inl, inr, arith}
 use Rattle.std.specs.Prelude.{slice_get}
 use Rattle.std.proofs.lemmas.List.{length-map}
 use Rattle.std.proofs.lemmas.Option.{get_or_from_slice_get, slice_get_within}
@@ -9,26 +9,31 @@ use Rattle.ring_lanes.specs.declared.source.Source.{Source}
 use Rattle.ring_lanes.specs.declared.source.Source.TheVariants.{Deck}
 use Rattle.tif_packbits.specs.Frame.{IsFrame, framed_row}
 use Rattle.tif_packbits.proofs.Frames.{AreFrames-frame}
+use Rattle.pr_rack.specs.declared.rack.RackCall.{RackCall}
+use Rattle.pr_rack.specs.declared.rack.RackCall.TheVariants.{Begin, Row, Finish}
+use Rattle.pr_rack.specs.Rack.{with_row}
 use Rattle.pr_rack.specs.Told.{RackTells, Tells}
 use Rattle.plan_json.specs.Data.{plate_width}
 use Rattle.site_agent.specs.declared.kept.Kept.TheVariants as kept
 use Rattle.site_agent.specs.declared.kept.LeftCause.{LeftCause}
-use Rattle.site_agent.specs.Given.{finished_count}
+use Rattle.site_agent.specs.Given.{finished_count, is_kept}
 use Rattle.site_agent.specs.Job.{SiteJob}
-use Rattle.site_agent.specs.Kept.{GoesOn, IsCauseAt}
+use Rattle.site_agent.specs.Kept.{GoesOn, IsCauseAt, TakenOnce}
 use Rattle.site_agent.specs.Picked.{picked_job}
 use Rattle.site_agent.specs.Refused.{taken_at}
 use Rattle.site_agent.specs.Site.{SiteData}
 use Rattle.site_agent.specs.Stands.{AreAsLong, AreBegun, StandsAfter, grown, taken_below}
+use Rattle.site_agent.proofs.Counting.{any}
 use Rattle.site_agent.proofs.Drawing.{Keeps, row-taken}
 use Rattle.site_agent.proofs.Going.{going_further, going_within, going_sides, going_begun, going_working}
 use Rattle.site_agent.proofs.Parts.{IsLeftAt, picked_below, picked_left}
 use Rattle.site_agent.proofs.Racks.{rose_since}
+use Rattle.site_agent.proofs.Steps.{is_kept-row}
 use Rattle.replate.specs.declared.maker.Maker.{Maker}
 use Rattle.replate.specs.declared.remade.RemadeEnd.{RemadeEnd}
 use Rattle.replate.specs.declared.remade.RemadeEnd.TheVariants.{Done, Left}
 use Rattle.replate.specs.Making.{Carries, GoesOnAt, HasLeft, HasPart, Made, ServedBy, SomeServed, Stopped, has_left}
-use Rattle.replate.specs.Remade.{Making, files_for}
+use Rattle.replate.specs.Remade.{AreTakenUpTo, Making, drawn_below, files_for, job_for}
 
 -- ---- the row
 
@@ -61,16 +66,35 @@ part_at making site n before now going made kept' at = record {
   part = record {
     files = finished_count (picked_job making.plan making.out site (making.bits site)) n;
     finished = files_at making site n before now going made kept' at;
+    row = n;
+    taken = inl (stands_at making site n before now going made kept' at).rack.taken;
     calls = inl at.missed;
   };
   faults = at.faults;
 }
 
+-- a site that left took the row at which it left only if the call was to finish its plate
+left_taken : (making : Making) (site n : ℕ) (cause : LeftCause) (before now : Option (List (ℕ × Source))) → IsCauseAt (job_for making site) n cause → now ≡ taken_at cause.call n Deck (grown (drawn_below making site n) before)
+    → AreTakenUpTo making site n before now
+left_taken making site n cause before now at is = by cause.call is where
+  by : (call : RackCall) → now ≡ taken_at call n Deck (grown (drawn_below making site n) before) → AreTakenUpTo making site n before now
+  by Begin taken = inl taken
+  by Row taken = inl taken
+  by Finish taken = inr (is_kept-row (job_for making site) n at.index at.y any at.is, taken)
+
 -- each site's rack has a part
 pub served_part : (making : Making) (site n : ℕ) (before now : RackTells) (going : SiteData) (end : RemadeEnd) → ServedBy making site n before now going end → HasPart making site before now
 served_part making site n before now going (Done made kept') at = part_at making site n before now going made kept' at
 served_part making site n before now going (Left made path) left = record {
-  part = record { files = made; finished = left.fits.finished; calls = inr (made, path, left.fits) };
+  part = record {
+    files = made;
+    finished = left.fits.finished;
+    row = left.fits.row;
+    taken = left_taken making site left.fits.row
+        (record { plates = made; row = left.fits.row; call = left.fits.last_call; path = path })
+        before.tells.taken now.tells.taken left.fits.cause left.fits.taken;
+    calls = inr (made, path, left.fits);
+  };
   faults = left.faults;
 }
 
@@ -180,16 +204,36 @@ made_left frames n old new held maker next made kept' cause is put keeps = recor
       leaves_at making frames site n before old new held maker.site next made kept' cause carries put keeps (going_of making site n before old maker.site maker.end made kept' is served);
 }
 
+-- only a row of the site can run out of memory
+own_row : (test : Bool) → (test ≡ false → kept.Memory ≡ kept.Done) → test ≡ true
+own_row true passes = refl
+own_row false passes = let e : kept.Memory ≡ kept.Done = passes refl in cc
+
+-- so its rack took the rows below it, and the row itself or not
+memory_taken : (making : Making) (frames : List (List ℕ)) (site n : ℕ) (before old new : RackTells) (held : HeldRow) (going next : SiteData) (made kept' : ℕ) → IsPutRow frames n held
+    → Keeps going next held old new kept.Memory → GoesOnAt making site n before old going made kept' → AreTakenUpTo making site n before.tells.taken new.tells.taken
+memory_taken making frames site n before old new held going next made kept' put keeps at =
+    let stood : old.tells.taken ≡ grown (drawn_below making site n) before.tells.taken = (stands_at making site n before old going made kept' at).rack.taken in
+    let own : is_kept (job_for making site) n ≡ true =
+    subst (λ (m : ℕ). is_kept (job_for making site) m ≡ true) at.next_is (subst (λ (j : SiteJob). is_kept j going.next ≡ true) at.job_is (own_row (is_kept going.job going.next) keeps.passes)) in
+    let once : TakenOnce going.next held.source old.tells.taken new.tells.taken = keeps.memory_taken in
+    elim once [
+      | inl none ↦ inl (none ∙ stood)
+      | inr more ↦ inr (own, more ∙ ap (λ m. with_row m held.source old.tells.taken) at.next_is ∙ ap (λ s. with_row n s old.tells.taken) put.source_is ∙ ap (with_row n Deck) stood)
+    ]
+
 -- the rack ran out of memory
-pub made_stopped : (frames : List (List ℕ)) (n : ℕ) (old new : RackTells) (held : HeldRow) (maker : Maker) (next : SiteData) (made kept' : ℕ) → maker.end ≡ Done made kept'
+pub made_stopped : (frames : List (List ℕ)) (n : ℕ) (old new : RackTells) (held : HeldRow) (maker : Maker) (next : SiteData) (made kept' : ℕ) → maker.end ≡ Done made kept' → IsPutRow frames n held
     → Keeps maker.site next held old new kept.Memory → Stopped frames n old new maker
-made_stopped frames n old new held maker next made kept' is keeps = record {
+made_stopped frames n old new held maker next made kept' is put keeps = record {
   each = λ making site before carries served.
       let at : GoesOnAt making site n before old maker.site made kept' = going_of making site n before old maker.site maker.end made kept' is served in
       record {
         part = record {
           files = finished_count (picked_job making.plan making.out site (making.bits site)) n;
           finished = keeps.finished_stay ∙ files_at making site n before old maker.site made kept' at;
+          row = n;
+          taken = memory_taken making frames site n before old new held maker.site next made kept' put keeps at;
           calls = inl (keeps.memory_missed ∙ at.missed);
         };
         faults = (let since = at.faults in let stay = keeps.faults_stay in omega (arith, since, stay));

@@ -1,18 +1,19 @@
 -- What a delivery of the plates that must be made leaves on the racks of its sites, by what each rack reports
 -- before and after.
-use Rattle.std.specs.Prelude.{◌≡◌, ◌⊎◌, ℕ, ◌+◌, ◌<◌, ◌≤◌, Bool, false, List, length, map, take, Some, IfSome}
-use Rattle.std.specs.Prelude.{slice_get, slice_index_or}
+use Rattle.std.specs.Prelude.{◌≡◌, ◌⊎◌, ℕ, ◌+◌, ◌<◌, ◌≤◌, Bool, true, false, List, length, map, take, Option}
+use Rattle.std.specs.Prelude.{Some, IfSome, slice_get, slice_index_or}
 use Rattle.pr_base.specs.Count.{Rose}
 use Rattle.pr_base.specs.Row.{row_size}
 use Rattle.tif_packbits.specs.Frame.{AreFrames, framed_row}
 use Rattle.ring_lanes.specs.declared.source.Source.{Source}
 use Rattle.ring_lanes.specs.declared.source.Source.TheVariants.{Deck}
 use Rattle.pr_rack.specs.declared.rack.RackCall.{RackCall}
-use Rattle.pr_rack.specs.Rack.{Plate}
+use Rattle.pr_rack.specs.Rack.{Plate, with_row}
 use Rattle.pr_rack.specs.Told.{RackTells}
 use Rattle.plan_json.specs.Data.{PlanData, plate_width}
 use Rattle.plan_rows.specs.Plates.{site_files}
 use Rattle.plan_rows.specs.Rows.{row_places}
+use Rattle.site_agent.specs.Given.{is_kept}
 use Rattle.site_agent.specs.Job.{SiteJob}
 use Rattle.site_agent.specs.Kept.{IsCauseAt}
 use Rattle.site_agent.specs.Picked.{picked_files, picked_job}
@@ -77,14 +78,15 @@ pub record AreRowsOf (plan : PlanData) (frames : List (List ℕ)) : Type 0 where
 
 -- ---- the end of a site
 
--- a site that made all its plates: its rack has exactly these files and their rows in addition, and no slot
--- of it is begun
+-- a site that made all its plates: its rack has exactly these files and their rows in addition, no slot of
+-- it is begun, and its last failed call is that of before
 pub record FitsDone (making : Making) (site : ℕ) (before now : RackTells) (made kept : ℕ) : Type 0 where
   pub made_are : made ≡ length (files_for making site)
   pub kept_are : made + kept ≡ length (all_files making site)
   pub finished : now.tells.finished ≡ grown (files_for making site) before.tells.finished
   pub taken : now.tells.taken ≡ grown (drawn_for making site) before.tells.taken
   pub begun : (slot : ℕ) → slot < 5 → slice_get now.tells.begun slot ≡ Some false
+  pub missed : now.missed ≡ before.missed
 
 -- a site that left: its rack has, in addition, the first `made` of these files, and took the rows of all of
 -- them below the one at which it left. It left because a call failed, which is the last failed call, for one
@@ -117,11 +119,20 @@ FitsEnd making site before now (Left made path) = FitsLeft making site before no
 abbrev pub HasFailed : Making → ℕ → RackTells → RackTells → Type 0
 HasFailed making site before now = (made : ℕ) × (path : List ℕ) × FitsLeft making site before now made path
 
--- a site of a delivery that ended out of memory: its rack has the first of these files in addition, and none
--- of its calls failed, unless the site left
+-- the rows that a site takes for the plates that it is to make were taken up to this row: those below it, and
+-- the row itself or not if it is one of them
+abbrev pub AreTakenUpTo : Making → ℕ → ℕ → Option (List (ℕ × Source)) → Option (List (ℕ × Source)) → Type 0
+AreTakenUpTo making site row before now =
+    let below = grown (drawn_below making site row) before in
+    (now ≡ below) ⊎ ((is_kept (job_for making site) row ≡ true) × (now ≡ with_row row Deck below))
+
+-- a site of a delivery that ended out of memory: its rack has the first of these files in addition, and took
+-- their rows up to some row. None of its calls failed, unless the site left
 pub record FitsPart (making : Making) (site : ℕ) (before now : RackTells) : Type 0 where
   pub files : ℕ
   pub finished : now.tells.finished ≡ grown (take files (files_for making site)) before.tells.finished
+  pub row : ℕ
+  pub taken : AreTakenUpTo making site row before.tells.taken now.tells.taken
   pub calls : (now.missed ≡ before.missed) ⊎ HasFailed making site before now
 
 -- ---- all sites

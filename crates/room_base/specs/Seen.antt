@@ -54,7 +54,7 @@ pub record Seen (R : Type 0) : Type 0 where
   pub racks' : List R
   pub out : SinkSeen
 
--- nothing was loaded
+-- no load failed, and no file was counted as too long
 pub record IsUntouched (shelf : ShelfSeen) : Type 0 where
   pub missed : shelf.missed' ≡ shelf.missed
   pub faults : shelf.faults' ≡ shelf.faults

@@ -19,7 +19,7 @@ use std::time::Clock;
 /// `out`. A site whose rack fails drops out, and the others continue. The rows pass from one writer to the
 /// sites through a ring of `ring` places. Writer and sites work concurrently, in rounds; in its turn of a
 /// round each looks at most `patience` times for a row or a place without finding one. Sites that share a
-/// thread do so together.
+/// thread do so together, but each of them at least once, even if they are more than `patience`.
 pub fn run_job<T: Threads + Clock + Sync, R: Rack + Send>(
     rt: &T,
     alloc: Global,

@@ -134,6 +134,8 @@ returns-in-Memory-clause-stopped g c =
     let done = is_done c.args.maker.now.end c.requires.going in
     let old : RackTells = told g.R.Rack c.args.rack.now in
     let new : RackTells = told g.R.Rack c.keep-kept.new.rack in
+    let number : held.number ≡ n = (let put = c.take-held.ensures.number in omega (arith, put)) in
+    let row : IsPutRow c.args.deck.now.rows n held = record { number_is = number; bytes_are = c.take-held.ensures.bytes; source_is = c.take-held.ensures.source } in
     let keeps : Keeps c.args.maker.now.site c.keep-kept.new.self held old new kept.Memory = record {
       keeps = c.in-Memory.ensures.keeps;
       goes_on = c.in-Memory.ensures.goes_on;
@@ -151,4 +153,4 @@ returns-in-Memory-clause-stopped g c =
       ended = c.in-Memory.ensures.ended;
       faults_stay = c.in-Memory.ensures.faults_stay;
     } in
-    made_stopped c.args.deck.now.rows n old new held c.args.maker.now c.keep-kept.new.self done.0 done.1.0 done.1.1 keeps
+    made_stopped c.args.deck.now.rows n old new held c.args.maker.now c.keep-kept.new.self done.0 done.1.0 done.1.1 row keeps
