@@ -51,7 +51,7 @@ fn want_of_memory<R: Eprint>(rt: &R) -> ExitCode {
     ExitCode::from(MEMORY)
 }
 
-/// Runs the command over a shelf of the files that `files` loads. A shelf is made and lent only where the type of
+/// Runs the command over a shelf of the files that `files` loads. A shelf gets a proof only where the type of
 /// what loads its files is a parameter.
 fn run<T: Threads + Clock + Sync, L: FileLoader + Drop, R: Rack + Send, S: Sink, E: Sink>(
     rt: &T,

@@ -15,12 +15,13 @@ use std::thread::Threads;
 
 /// Loads files of the host, long ones in several threads. A runtime that permits threads is one.
 ///
-/// Implementers define `may`, the condition under which files may be loaded. It is kept here because neither a
-/// struct nor a method of `Shelf` can state that a value may be shared between threads.
+/// Implementers define `may`, the condition under which files may be loaded. It is kept here because neither
+/// a struct nor a method of `Shelf` can state that a value may be shared between threads.
 pub trait FileLoader {
     ghost may: { Type 0 };
 
-    /// Returns the bytes of the file at `path`, at most `limit` of them. `faults` counts the calls that failed.
+    /// Returns the bytes of the file at `path`, at most `limit` of them. `faults` counts the calls that
+    /// failed.
     fn load_file(&self, path: &str, limit: u64, faults: &mut u64) -> Result<Vec<u8>, LoadFault>
         requires { may }
         ensures told { IfTooLong result (λ told. told ≡ limit) }
@@ -64,7 +65,7 @@ impl HostFile {
 
 /// A file that is read whole, in several threads if it is long.
 ///
-/// This is a trait because a value of a type parameter of an `impl` is passed on as one that threads may share
+/// This is a trait because an `impl` can pass a value of its type parameter on as one that threads may share
 /// only to a method of a trait that requires it.
 trait ReadWide {
     /// Returns the bytes of the file, at most `limit` of them. `faults` counts the reads that failed.

@@ -1,6 +1,6 @@
 // The shelf of files on the host.
-ghost use Rattle.std.specs.Prelude.{◌≡◌, ◌+◌, ◌-◌, ◌++◌, ◌<◌, ◌≤◌, None, IfOk, IfSome, IsErrOf, OnErr, ◌==◌, drop};
-ghost use Rattle.std.specs.Prelude.{false, if◌then◌else◌, is_some, length, min, not, take};
+ghost use Rattle.std.specs.Prelude.{◌≡◌, ◌+◌, ◌-◌, ◌++◌, ◌<◌, ◌≤◌, None, IfOk, IfSome, IsErrOf, OnErr, ◌==◌};
+ghost use Rattle.std.specs.Prelude.{drop, false, if◌then◌else◌, is_some, length, min, not, take};
 ghost use Rattle.std.specs.Io.KnownBytes.{Keeps};
 ghost use Rattle.pr_base.specs.Count.{Rose, count_unless};
 ghost use Rattle.pr_base.specs.Stream.{ReadsSome};
@@ -32,7 +32,8 @@ impl<R: FileLoader> Model for HostShelf<R> {
 }
 
 impl<R: FileLoader> HostShelf<R> {
-    /// A shelf of the host's files, with no failures counted. Long files are loaded in threads that `rt` permits.
+    /// A shelf of the host's files, with no failures counted. Long files are loaded in threads that `rt`
+    /// permits.
     pub fn new(rt: R) -> HostShelf<R>
         requires { R.may }
         ensures { result ≡ record { faults = 0; longs = 0 } }

@@ -12,7 +12,7 @@ use pr_base::Counted;
 use std::alloc::Global;
 use std::thread::{Threads, available_parallelism};
 
-/// The bytes from which a file is loaded by several threads: below, starting these takes longer than the load.
+/// The bytes from which a file is loaded by several threads. Below, there is little to gain.
 const LONG_FILE: u64 = 8 << 20;
 
 /// The most threads that load a file.

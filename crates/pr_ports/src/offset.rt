@@ -12,8 +12,8 @@ pub(crate) trait OffsetRead {
     /// All bytes of the file, where known.
     ghost whole: { Self → Option (List ℕ) };
 
-    /// Reads into the start of `into` from byte `offset` of the file on, and returns the number of bytes read:
-    /// 0 only at the end of the file, or if `into` is empty. Returns `None` if the read failed.
+    /// Reads into the start of `into` from byte `offset` of the file on, and returns the number of bytes
+    /// read: 0 only at the end of the file, or if `into` is empty. Returns `None` if the read failed.
     fn read_from(&self, into: &mut [u8], offset: u64) -> Option<usize>
         ensures within { IfSome result (λ count. count ≤ length into.new) }
         ensures bytes { IfSome result (IsReadAt (whole self.now) offset into.new) };
