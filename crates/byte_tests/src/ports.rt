@@ -1,7 +1,9 @@
 // Shelves and sinks, in memory and on the host, and streams whose calls fail.
 use crate::checks::check;
 use pr_base::{Counted, PathText};
-use pr_ports::{HostShelf, LoadFault, MemShelf, MemSink, Shelf, Sink, SinkFault, WriterSink};
+use pr_ports::{
+    FileLoader, HostShelf, LoadFault, MemShelf, MemSink, Shelf, Sink, SinkFault, WriterSink,
+};
 use std::io::{Read, Write};
 use std::path::PathBuf;
 use std::process::Abort;
@@ -67,12 +69,46 @@ fn reads_and_refuses<S: Shelf>(rt: &HostRuntime, shelf: &mut S, path: &str) -> [
     ]
 }
 
+// What a shelf of the machine reads and refuses at this path.
+fn tries_a_shelf<L: FileLoader + Drop>(rt: &HostRuntime, files: L, path: &str) -> [bool; 5]
+    requires { L.may }
+{
+    let mut shelf = HostShelf::new(files);
+    reads_and_refuses(rt, &mut shelf, path)
+}
+
 #[test]
 fn the_machines_shelf_reads_a_file_and_refuses_others(rt: HostRuntime) -> Result<(), Fail> {
     let path = own_file(&rt, "shelf")?;
     let text = path.as_path().to_str().ok_or("no text")?;
-    let mut shelf = HostShelf::new(rt.clone()?);
-    check(&rt, &reads_and_refuses(&rt, &mut shelf, text));
+    check(&rt, &tries_a_shelf(&rt, rt.clone()?, text));
+    Ok(())
+}
+
+// Bytes that differ at each of two successive pages: a share read at another offset shows.
+fn long_bytes<R: AllocGlobal>(rt: &R) -> Result<Vec<u8>, Fail> {
+    let mut bytes = Vec::new(rt.alloc());
+    for page in 0..2_200u32 {
+        let value = (page % 251) as u8;
+        bytes.resize(bytes.len() + 4_096, value)?;
+    }
+    Ok(bytes)
+}
+
+// Whether a shelf of the machine reads a file of these bytes, which several threads load.
+fn reads_long<L: FileLoader + Drop>(rt: &HostRuntime, files: L, path: &str, bytes: &[u8]) -> bool
+    requires { L.may }
+{
+    let mut shelf = HostShelf::new(files);
+    reads(rt, &mut shelf, path, bytes) && fs::remove_file(rt, path).is_ok()
+}
+
+#[test]
+fn the_machines_shelf_reads_a_long_file(rt: HostRuntime) -> Result<(), Fail> {
+    let path = own_file(&rt, "long")?;
+    let text = path.as_path().to_str().ok_or("no text")?;
+    let bytes = long_bytes(&rt)?;
+    check(&rt, &[reads_long(&rt, rt.clone()?, text, bytes.as_slice())]);
     Ok(())
 }
 

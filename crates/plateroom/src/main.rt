@@ -2,17 +2,20 @@
 // with its status.
 #![tactic(auto)]
 
-ghost use Rattle.std.specs.Prelude.{◌≡◌, IfOk, length};
+ghost use Rattle.std.specs.Prelude.{◌≡◌, ◌≤◌, IfOk, length};
 ghost use Rattle.room_base.specs.Seen.{AreIdle};
+ghost use Rattle.room_base.specs.Status.{IsRefusal, IsStatus};
 
 use plate_room::plate_main;
-use pr_ports::{HostShelf, WriterSink};
+use pr_ports::{FileLoader, HostShelf, Sink, WriterSink};
 use pr_rack::{HostRack, Rack};
-use std::alloc::AllocError;
+use std::alloc::{AllocError, Global};
 use std::env;
 use std::env::Env;
 use std::io::ErrorKind;
 use std::process::ExitCode;
+use std::thread::Threads;
+use std::time::Clock;
 
 /// The status for out of memory.
 const MEMORY: u8 = 6;
@@ -48,6 +51,28 @@ fn want_of_memory<R: Eprint>(rt: &R) -> ExitCode {
     ExitCode::from(MEMORY)
 }
 
+/// Runs the command over a shelf of the files that `files` loads. A shelf gets a proof only where the type of
+/// what loads its files is a parameter.
+fn run<T: Threads + Clock + Sync, L: FileLoader + Drop, R: Rack + Send, S: Sink, E: Sink>(
+    rt: &T,
+    alloc: Global,
+    words: &[String],
+    files: L,
+    racks: &mut [R],
+    out: &mut S,
+    note: &mut E,
+) -> u8
+    requires may { L.may }
+    requires racks { 16 ≤ length racks.old }
+    requires idle { AreIdle R.Rack racks.old }
+    ensures statuses { IsStatus result }
+    ensures refused_racks { IsRefusal result → racks.new ≡ racks.old }
+    ensures refused_out { IsRefusal result → S.given out.new ≡ S.given out.old }
+{
+    let mut shelf = HostShelf::new(files);
+    plate_main(rt, alloc, words, &mut shelf, racks, out, note)
+}
+
 fn main(rt: HostRuntime) -> ExitCode {
     let Ok(words) = words(&rt) else {
         return want_of_memory(&rt);
@@ -58,11 +83,11 @@ fn main(rt: HostRuntime) -> ExitCode {
     let Ok(mut racks) = racks(&rt) else {
         return want_of_memory(&rt);
     };
-    let status = plate_main(
+    let status = run(
         &rt,
         rt.alloc(),
         words.as_slice(),
-        &mut HostShelf::new(files),
+        files,
         racks.as_mut_slice(),
         &mut WriterSink::new(rt.stdout()),
         &mut WriterSink::new(rt.stderr()),

@@ -1,2 +1,3 @@
 pub mod Distinct
 mod Readers
+mod Offsets

@@ -1,3 +1,4 @@
 pub mod Shelf
 pub mod Sink
 pub mod Mem
+pub mod Offset

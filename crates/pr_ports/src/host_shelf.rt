@@ -1,39 +1,41 @@
 // The shelf of files on the host.
-ghost use Rattle.std.specs.Prelude.{◌≡◌, ◌+◌, ◌<◌, ◌≤◌, None, IfOk, IfSome, IsErrOf, OnErr, ◌==◌, drop};
-ghost use Rattle.std.specs.Prelude.{false, if◌then◌else◌, is_some, length, min, not, take};
+ghost use Rattle.std.specs.Prelude.{◌≡◌, ◌+◌, ◌-◌, ◌++◌, ◌<◌, ◌≤◌, None, IfOk, IfSome, IsErrOf, OnErr, ◌==◌};
+ghost use Rattle.std.specs.Prelude.{drop, false, if◌then◌else◌, is_some, length, min, not, take};
 ghost use Rattle.std.specs.Io.KnownBytes.{Keeps};
 ghost use Rattle.pr_base.specs.Count.{Rose, count_unless};
 ghost use Rattle.pr_base.specs.Stream.{ReadsSome};
 ghost use Rattle.pr_ports.specs.Shelf.{has_failed, GaveAtMost, HasCome, IfTooLong};
 ghost use Rattle.pr_ports.specs.Mem.{Counts, counts_after};
 
+use crate::host_file::FileLoader;
 use crate::{LoadFault, Shelf};
 use pr_base::{Counted, raised};
 use std::alloc::Global;
-use std::fs;
-use std::fs::OpenFile;
 use std::io::Read;
 use std::marker::Model;
-use std::rt::Files;
 
 /// Files on the host, by path. A file that can't be opened or read is a counted `Failed`. Contracts know
 /// only its counts, not the files.
 #[derive(Drop)]
-pub struct HostShelf<R: Files + AllocGlobal> {
+pub struct HostShelf<R: FileLoader> {
     rt: R,
     faults: u64,
     longs: u64,
 }
 
-impl<R: Files + AllocGlobal> Model for HostShelf<R> {
+impl<R: FileLoader> Model for HostShelf<R> {
     ghost Value = { Counts };
 
     ghost view = { λ s. record { faults = s.faults; longs = s.longs } };
+
+    ghost invariant = { λ _. R.may };
 }
 
-impl<R: Files + AllocGlobal> HostShelf<R> {
-    /// A shelf of the host's files, with no failures counted.
+impl<R: FileLoader> HostShelf<R> {
+    /// A shelf of the host's files, with no failures counted. Long files are loaded in threads that `rt`
+    /// permits.
     pub fn new(rt: R) -> HostShelf<R>
+        requires { R.may }
         ensures { result ≡ record { faults = 0; longs = 0 } }
     {
         HostShelf {
@@ -89,7 +91,7 @@ fn read_piece<F: Read>(
 
 /// Reads a file to its end, or to one byte beyond `limit`. `size` is the length that the file's metadata
 /// reports. Memory for it is reserved in advance, plus one byte for the read that detects the end.
-fn read_whole<F: Read>(
+pub(crate) fn read_whole<F: Read>(
     alloc: Global,
     file: &mut Counted<F>,
     size: u64,
@@ -104,9 +106,30 @@ fn read_whole<F: Read>(
     ensures count { file.new.faults ≡ count_unless (not (has_failed result)) file.old.faults }
 {
     let expected = (size.min(limit) as usize).saturating_add(1);
-    let Ok(mut bytes) = Vec::with_capacity(alloc, expected) else {
+    let Ok(bytes) = Vec::with_capacity(alloc, expected) else {
         return Err(LoadFault::Memory);
     };
+    read_on(file, bytes, limit)
+}
+
+/// Reads the rest of a file behind the bytes that were read before it, to its end or to one byte beyond
+/// `limit`.
+pub(crate) fn read_on<F: Read>(
+    file: &mut Counted<F>,
+    mut bytes: Vec<u8>,
+    limit: u64,
+) -> Result<Vec<u8>, LoadFault>
+    requires { length bytes.items ≤ limit }
+    ensures told { IfTooLong result (λ told. told ≡ limit) }
+    ensures within { IfOk result (λ all. length all.items ≤ limit) }
+    ensures whole { IfOk result
+        (λ all. IfSome (F.remaining file.old.stream) (λ left. bytes.items ++ left ≡ all.items)) }
+    ensures longer { IfTooLong result
+        (λ _. IfSome (F.remaining file.old.stream) (λ left. limit < length (bytes.items ++ left))) }
+    ensures most { GaveAtMost (limit + 1 - length bytes.items)
+        (F.remaining file.old.stream) (F.remaining file.new.stream) }
+    ensures count { file.new.faults ≡ count_unless (not (has_failed result)) file.old.faults }
+{
     'pieces: loop {
         let room = limit - bytes.len() as u64;
         let most = piece_len(room, bytes.capacity() - bytes.len());
@@ -136,7 +159,7 @@ fn piece_len(room: u64, spare: usize) -> usize
     if spare == 0 { most } else { most.min(spare) }
 }
 
-impl<R: Files + AllocGlobal> Shelf for HostShelf<R> {
+impl<R: FileLoader> Shelf for HostShelf<R> {
     ghost held = { λ _. None };
 
     ghost missed = { λ _. None };
@@ -156,17 +179,7 @@ impl<R: Files + AllocGlobal> Shelf for HostShelf<R> {
 
         ensures after { self.new ≡ counts_after self.old result }
     {
-        let Ok(file) = fs::open(&self.rt, path) else {
-            self.faults = raised(self.faults);
-            return Err(LoadFault::Failed);
-        };
-        let size = match file.metadata() {
-            Ok(metadata) => metadata.len(),
-            Err(_) => 0,
-        };
-        let mut file = Counted::new(file, self.faults);
-        let result = read_whole(self.rt.alloc(), &mut file, size, limit);
-        self.faults = file.faults();
+        let result = self.rt.load_file(path, limit, &mut self.faults);
         if let Err(LoadFault::TooLong { .. }) = &result {
             self.longs = raised(self.longs);
         }

@@ -3,13 +3,18 @@
 // with a model of its full contents; one works on the host, where only the counts are known to contracts.
 #![tactic(auto)]
 
+mod host_file;
 mod host_shelf;
+mod long_file;
 mod mem_shelf;
 mod mem_sink;
+mod offset;
+mod shares;
 mod shelf;
 mod sink;
 mod writer_sink;
 
+pub use host_file::FileLoader;
 pub use host_shelf::HostShelf;
 pub use mem_shelf::MemShelf;
 pub use mem_sink::MemSink;

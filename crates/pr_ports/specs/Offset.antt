@@ -1,0 +1,12 @@
+-- What a read at an offset of a file gives.
+use Rattle.std.specs.Prelude.{◌≡◌, ℕ, ◌<◌, ◌≤◌, List, length, take, drop, Option, IfSome}
+
+-- where the file's bytes are known, the first count bytes of into are those of the file from the offset on
+abbrev pub HasFront : Option (List ℕ) → ℕ → List ℕ → ℕ → Type 0
+HasFront whole offset into count = IfSome whole (λ all. take count into ≡ take count (drop offset all))
+
+-- the same of one read: none only at the end of the file, or into an empty buffer
+abbrev pub IsReadAt : Option (List ℕ) → ℕ → List ℕ → ℕ → Type 0
+IsReadAt whole offset into count =
+    HasFront whole offset into count
+    × IfSome whole (λ all. count ≡ 0 → 0 < length into → length all ≤ offset)

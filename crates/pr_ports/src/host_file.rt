@@ -1,0 +1,103 @@
+// The files of the host, each loaded whole.
+ghost use Rattle.std.specs.Prelude.{◌≡◌, ◌≤◌, IfOk, length, not};
+ghost use Rattle.std.specs.Thread.{IsSync};
+ghost use Rattle.pr_base.specs.Count.{count_unless};
+ghost use Rattle.pr_ports.specs.Shelf.{has_failed, IfTooLong};
+
+use crate::LoadFault;
+use crate::host_shelf::read_whole;
+use crate::long_file::{read_long, threads_for};
+use pr_base::{Counted, raised};
+use std::fs;
+use std::fs::{File, OpenFile};
+use std::rt::Files;
+use std::thread::Threads;
+
+/// Loads files of the host, long ones in several threads. A runtime that permits threads is one.
+///
+/// Implementers define `may`, the condition under which files may be loaded. It is kept here because neither
+/// a struct nor a method of `Shelf` can state that a value may be shared between threads.
+pub trait FileLoader {
+    ghost may: { Type 0 };
+
+    /// Returns the bytes of the file at `path`, at most `limit` of them. `faults` counts the calls that
+    /// failed.
+    fn load_file(&self, path: &str, limit: u64, faults: &mut u64) -> Result<Vec<u8>, LoadFault>
+        requires { may }
+        ensures told { IfTooLong result (λ told. told ≡ limit) }
+        ensures within { IfOk result (λ bytes. length bytes.items ≤ limit) }
+        ensures count { faults.new ≡ count_unless (not (has_failed result)) faults.old }
+        ensures faults_stay { faults.old ≤ faults.new };
+}
+
+impl<R: Files<File = File> + AllocGlobal + Threads + Sync> FileLoader for R {
+    ghost may = { IsSync R.row };
+
+    fn load_file(&self, path: &str, limit: u64, faults: &mut u64) -> Result<Vec<u8>, LoadFault> {
+        match HostFile::open(self, path) {
+            Some(file) => file.read(self, limit, faults),
+            None => {
+                *faults = raised(*faults);
+                Err(LoadFault::Failed)
+            }
+        }
+    }
+}
+
+/// An open file, and the length in bytes that its metadata reports.
+#[derive(Drop)]
+struct HostFile {
+    file: File,
+    size: u64,
+}
+
+impl HostFile {
+    /// Opens the file at `path`, if there is one that can be opened.
+    fn open<R: Files<File = File>>(rt: &R, path: &str) -> Option<HostFile> {
+        let file = fs::open(rt, path).ok()?;
+        let size = match file.metadata() {
+            Ok(metadata) => metadata.len(),
+            Err(_) => 0,
+        };
+        Some(HostFile { file, size })
+    }
+}
+
+/// A file that is read whole, in several threads if it is long.
+///
+/// This is a trait because an `impl` can pass a value of its type parameter on as one that threads may share
+/// only to a method of a trait that requires it.
+trait ReadWide {
+    /// Returns the bytes of the file, at most `limit` of them. `faults` counts the reads that failed.
+    fn read<R: AllocGlobal + Threads + Sync>(
+        self,
+        rt: &R,
+        limit: u64,
+        faults: &mut u64,
+    ) -> Result<Vec<u8>, LoadFault>
+        requires { IsSync R.row }
+        ensures told { IfTooLong result (λ told. told ≡ limit) }
+        ensures within { IfOk result (λ bytes. length bytes.items ≤ limit) }
+        ensures count { faults.new ≡ count_unless (not (has_failed result)) faults.old }
+        ensures faults_stay { faults.old ≤ faults.new };
+}
+
+impl ReadWide for HostFile {
+    fn read<R: AllocGlobal + Threads + Sync>(
+        self,
+        rt: &R,
+        limit: u64,
+        faults: &mut u64,
+    ) -> Result<Vec<u8>, LoadFault> {
+        let HostFile { file, size } = self;
+        let alloc = rt.alloc();
+        let threads = threads_for(rt, size.min(limit));
+        if threads > 1 {
+            return read_long(rt, threads, alloc, &file, size, limit, faults);
+        }
+        let mut file = Counted::new(file, *faults);
+        let result = read_whole(alloc, &mut file, size, limit);
+        *faults = file.faults();
+        result
+    }
+}
