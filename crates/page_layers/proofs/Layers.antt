@@ -15,10 +15,12 @@ use Rattle.page_layers.specs.declared.layer.Art.{Art}
 use Rattle.page_layers.specs.declared.layer.Art.TheVariants.{Contone, Line}
 use Rattle.page_layers.specs.declared.layer.Layer.{Layer}
 use Rattle.page_layers.specs.declared.lay.Painting.{Painting}
-use Rattle.page_layers.specs.Inks.{HasWidth, Planes, inks_at}
+use Rattle.page_layers.specs.declared.page_inks.PageInks.{PageInks}
+use Rattle.page_layers.specs.Inks.{HasWidth, Planes, inks_at, only, painted_inks}
 use Rattle.page_layers.specs.Layer.{IsLayer, bytes_of, paint_at, shape_of}
 use Rattle.page_layers.specs.Reader.{IsOf, mask_cursor}
 use Rattle.page_layers.specs.Rows.{HasSamples, IsInkOf, IsLayerRows, IsPaint, bare_art, fixed_of, painting_of, span_of, with_fixed}
+use Rattle.page_layers.proofs.Only.{only-five}
 
 -- a row of an image has at most four bytes for each of its pixels
 pub row_most : (shape : Shape) → shape.width ≤ 65535 → row_length shape ≤ 262140
@@ -58,15 +60,15 @@ pub inks_from : (plane inks fixed : List ℕ) (width i : ℕ) {span : ℕ} → p
 inks_from plane inks fixed width i is wide same = rw (is, wide, same) refl
 
 -- before the first row
-pub IsLayerRows-open : (layer : Layer) (width columns : ℕ) (painting : Painting) (image : Cursor) (mask : Option Cursor) (paint : Planes) (marks admitted : List ℕ) (marks_room admitted_room : ℕ)
+pub IsLayerRows-open : (layer : Layer) (width columns : ℕ) (painting : Painting) (image : Cursor) (mask : Option Cursor) (paint : Planes) (inks : PageInks) (marks admitted : List ℕ) (marks_room admitted_room : ℕ)
     → IsLayer layer → painting ≡ painting_of layer → (shape_of layer.art).width ≤ 65535 → (shape_of layer.art).length ≤ 65535 → width ≤ 65535
     → image ≡ record { shape = shape_of layer.art; bytes = bytes_of layer.art; next = 0 } → mask ≡ option_map (mask_cursor 0) layer.mask
     → paint.cyan ≡ replicate (span_of width layer) (slice_index (fixed_of layer.art) 0) → paint.magenta ≡ replicate (span_of width layer) (slice_index (fixed_of layer.art) 1)
     → paint.yellow ≡ replicate (span_of width layer) (slice_index (fixed_of layer.art) 2) → paint.black ≡ replicate (span_of width layer) (slice_index (fixed_of layer.art) 3)
     → paint.spot ≡ replicate (span_of width layer) (slice_index (fixed_of layer.art) 4)
     → length marks ≡ columns → span_of width layer ≤ columns * layer.scale → columns ≤ layer.crop.width → admitted ≡ replicate (span_of width layer) 255
-    → 65535 ≤ marks_room → 65535 ≤ admitted_room → IsLayerRows layer width painting image mask paint marks admitted marks_room admitted_room
-IsLayerRows-open layer width columns painting image mask paint marks admitted marks_room admitted_room is painting_is wide long page image_is mask_is c m y k s marks_are enough within admitted_is marks_wide admitted_wide =
+    → 65535 ≤ marks_room → 65535 ≤ admitted_room → IsLayerRows layer width painting image mask paint inks marks admitted marks_room admitted_room
+IsLayerRows-open layer width columns painting image mask paint inks marks admitted marks_room admitted_room is painting_is wide long page image_is mask_is c m y k s marks_are enough within admitted_is marks_wide admitted_wide =
     let next : image.next ≡ 0 = ap (λ (cursor : Cursor). cursor.next) image_is in
     record {
       layer_is = is;
@@ -91,6 +93,18 @@ IsLayerRows-open layer width columns painting image mask paint marks admitted ma
       admitted_wide = admitted_wide;
     }
 
+-- paint of linework has its inks at each column
+pub line_paint : (inks : List Bool) (image : BilevelImage) (values : List ℕ) (first scale row span : ℕ) (paint : Planes) → paint ≡ with_fixed (Line image values) span paint → IsPaint inks (Line image values) first scale row span paint
+line_paint inks image values first scale row span paint fixed = record {
+  each = λ j below.
+      let c = get_or-replicate span j (slice_index values 0) 0 below in
+      let m = get_or-replicate span j (slice_index values 1) 0 below in
+      let y = get_or-replicate span j (slice_index values 2) 0 below in
+      let k = get_or-replicate span j (slice_index values 3) 0 below in
+      let s = get_or-replicate span j (slice_index values 4) 0 below in
+      ap (λ (p : Planes). only inks (inks_at p j)) fixed ∙ (rw (c, m, y, k, s) refl);
+}
+
 -- a part of a row of four samples has four bytes for each column
 pub part_of_four : (shape : Shape) (bytes : List ℕ) (y first count : ℕ) → shape.samples ≡ 4 → image_part shape bytes y first count ≡ take (4 * count) (drop (4 * first) (image_row shape bytes y))
 part_of_four shape bytes y first count four = cases (shape.samples == 4) (ap (λ n. n == 4) four)
@@ -101,17 +115,14 @@ part_of_four shape bytes y first count four = cases (shape.samples == 4) (ap (λ
     cases false is = absurd (cc)
 
 -- the samples of a pixel of a contone image are its paint
-contone_pixel : (image : Image) (first count scale row : ℕ) (pixels : List ℕ) (old new : Planes) → pixels ≡ take (4 * count) (drop (4 * first) (image_row image.shape image.bytes row))
+contone_pixel : (inks : PageInks) (image : Image) (first count scale row : ℕ) (pixels : List ℕ) (old new : Planes) → pixels ≡ take (4 * count) (drop (4 * first) (image_row image.shape image.bytes row))
     → ((n : ℕ) → scale * n < length old.cyan → n < count) → length old.magenta ≡ length old.cyan → length old.yellow ≡ length old.cyan → length old.black ≡ length old.cyan
-    → HasSamples pixels 0 scale old.cyan new.cyan → HasSamples pixels 1 scale old.magenta new.magenta → HasSamples pixels 2 scale old.yellow new.yellow → HasSamples pixels 3 scale old.black new.black
-    → new.spot ≡ replicate (length old.cyan) 0 → (j : ℕ) → j < length old.cyan → inks_at new j ≡ paint_at (Contone image) (first + j / scale) row
-contone_pixel image first count scale row pixels old new is enough long_m long_y long_k c m y k s j below =
-    let cyan = c.each j below ∙ at 0 (omega arith) in
-    let magenta = m.each j (omega arith) ∙ at 1 (omega arith) in
-    let yellow = y.each j (omega arith) ∙ at 2 (omega arith) in
-    let black = k.each j (omega arith) ∙ at 3 (omega arith) in
-    let spot : get_or new.spot j 0 ≡ 0 = ap (λ list. get_or list j 0) s ∙ get_or-replicate (length old.cyan) j 0 0 below in
-    rw (cyan, magenta, yellow, black, spot) refl
+    → HasSamples inks.colour pixels 0 scale old.cyan new.cyan → HasSamples inks.colour pixels 1 scale old.magenta new.magenta → HasSamples inks.colour pixels 2 scale old.yellow new.yellow
+    → HasSamples true pixels 3 scale old.black new.black → new.spot ≡ replicate (length old.cyan) 0 → (j : ℕ) → j < length old.cyan
+    → only (painted_inks inks) (inks_at new j) ≡ only (painted_inks inks) (paint_at (Contone image) (first + j / scale) row)
+contone_pixel inks image first count scale row pixels old new is enough long_m long_y long_k c m y k s j below =
+    only-five inks _ _ _ _ _ _ _ _ _ _ (λ on. c.each on j below ∙ at 0 (omega arith)) (λ on. m.each on j (omega arith) ∙ at 1 (omega arith)) (λ on. y.each on j (omega arith) ∙ at 2 (omega arith))
+    (k.each refl j (omega arith) ∙ at 3 (omega arith)) (λ on. ap (λ list. get_or list j 0) s ∙ get_or-replicate (length old.cyan) j 0 0 below)
   where
     at : (i : ℕ) → i < 4 → get_or pixels (i + 4 * (j / scale)) 0 ≡ get_or (image_row image.shape image.bytes row) (4 * (first + j / scale) + i) 0
     at i small =
@@ -122,19 +133,16 @@ contone_pixel image first count scale row pixels old new is enough long_m long_y
         ∙ get_or-drop (4 * first) all (i + 4 * (j / scale)) 0 ∙ ap (λ n. get_or all n 0) place
 
 -- the samples of an image whose inks have their own planes are its paint
-pub planes_paint : (art : Art) (cursor : Cursor) (first scale row span : ℕ) (old new : Planes) → IsOf art cursor → bare_art art ≡ true → scale ≡ 1 → HasWidth old span
-    → IsInkOf cursor row 0 first old.cyan new.cyan → IsInkOf cursor row 1 first old.magenta new.magenta → IsInkOf cursor row 2 first old.yellow new.yellow
-    → IsInkOf cursor row 3 first old.black new.black → new.spot ≡ replicate span 0 → IsPaint art first scale row span new
+pub planes_paint : (inks : PageInks) (art : Art) (cursor : Cursor) (first scale row span : ℕ) (old new : Planes) → IsOf art cursor → bare_art art ≡ true → scale ≡ 1 → HasWidth old span
+    → IsInkOf inks.colour cursor row 0 first old.cyan new.cyan → IsInkOf inks.colour cursor row 1 first old.magenta new.magenta → IsInkOf inks.colour cursor row 2 first old.yellow new.yellow
+    → IsInkOf true cursor row 3 first old.black new.black → new.spot ≡ replicate span 0 → IsPaint (painted_inks inks) art first scale row span new
 unfolding ink_part
-planes_paint (Line image inks) cursor first scale row span old new is bare one wide c m y k s = absurd (cc)
-planes_paint (Contone image) cursor first scale row span old new is bare one wide c m y k s = record {
+planes_paint inks (Line image values) cursor first scale row span old new is bare one wide c m y k s = absurd (cc)
+planes_paint inks (Contone image) cursor first scale row span old new is bare one wide c m y k s = record {
   each = λ j below.
-      let cyan = at j below 0 new.cyan (length old.cyan) wide.cyan c.samples in
-      let magenta = at j below 1 new.magenta (length old.magenta) wide.magenta m.samples in
-      let yellow = at j below 2 new.yellow (length old.yellow) wide.yellow y.samples in
-      let black = at j below 3 new.black (length old.black) wide.black k.samples in
-      let spot : get_or new.spot j 0 ≡ 0 = ap (λ list. get_or list j 0) s ∙ get_or-replicate span j 0 0 below in
-      rw (cyan, magenta, yellow, black, spot) refl;
+      only-five inks _ _ _ _ _ _ _ _ _ _ (λ on. at j below 0 new.cyan (length old.cyan) wide.cyan (c.samples on)) (λ on. at j below 1 new.magenta (length old.magenta) wide.magenta (m.samples on))
+      (λ on. at j below 2 new.yellow (length old.yellow) wide.yellow (y.samples on)) (at j below 3 new.black (length old.black) wide.black (k.samples refl))
+      (λ on. ap (λ list. get_or list j 0) s ∙ get_or-replicate span j 0 0 below);
 }
   where
     at : (j : ℕ) → j < span → (ink : ℕ) (plane : List ℕ) (count : ℕ) → count ≡ span → plane ≡ map (λ x. slice_index (image_row cursor.shape cursor.bytes row) (4 * x + ink)) (range_with_len first count)
@@ -150,9 +158,9 @@ planes_paint (Contone image) cursor first scale row span old new is bare one wid
         ∙ rw (shape, bytes) refl
 
 -- and those of a row are the row's paint
-pub contone_paint : (image : Image) (first count scale row : ℕ) (pixels : List ℕ) (old new : Planes) → pixels ≡ take (4 * count) (drop (4 * first) (image_row image.shape image.bytes row))
+pub contone_paint : (inks : PageInks) (image : Image) (first count scale row : ℕ) (pixels : List ℕ) (old new : Planes) → pixels ≡ take (4 * count) (drop (4 * first) (image_row image.shape image.bytes row))
     → ((n : ℕ) → scale * n < length old.cyan → n < count) → length old.magenta ≡ length old.cyan → length old.yellow ≡ length old.cyan → length old.black ≡ length old.cyan
-    → HasSamples pixels 0 scale old.cyan new.cyan → HasSamples pixels 1 scale old.magenta new.magenta → HasSamples pixels 2 scale old.yellow new.yellow → HasSamples pixels 3 scale old.black new.black
-    → new.spot ≡ replicate (length old.cyan) 0 → IsPaint (Contone image) first scale row (length old.cyan) new
-contone_paint image first count scale row pixels old new is enough long_m long_y long_k c m y k s =
-    record { each = contone_pixel image first count scale row pixels old new is enough long_m long_y long_k c m y k s }
+    → HasSamples inks.colour pixels 0 scale old.cyan new.cyan → HasSamples inks.colour pixels 1 scale old.magenta new.magenta → HasSamples inks.colour pixels 2 scale old.yellow new.yellow
+    → HasSamples true pixels 3 scale old.black new.black → new.spot ≡ replicate (length old.cyan) 0 → IsPaint (painted_inks inks) (Contone image) first scale row (length old.cyan) new
+contone_paint inks image first count scale row pixels old new is enough long_m long_y long_k c m y k s =
+    record { each = contone_pixel inks image first count scale row pixels old new is enough long_m long_y long_k c m y k s }

@@ -1,6 +1,7 @@
 pub mod Stretches
 pub mod Paints
 pub mod Layers
+pub mod Only
 pub mod Pages
 pub mod Blocks
 pub mod Spans

@@ -8,10 +8,12 @@ use Rattle.std.proofs.lemmas.List.Sums.{fold_more}
 use Rattle.std.proofs.lemmas.Nat.{le-div}
 use Rattle.std.proofs.lemmas.List.Elements.{All-head, All-tail, All-weaker}
 use Rattle.page_layers.specs.declared.layer.Layer.{Layer}
-use Rattle.page_layers.specs.Inks.{Planes, blank, inks_at}
+use Rattle.page_layers.specs.declared.page_inks.PageInks.{PageInks}
+use Rattle.page_layers.specs.Inks.{Planes, blank, inks_at, only}
 use Rattle.page_layers.specs.Layer.{IsLayer, covers_column, covers_row, ink_at, painted, row_at}
 use Rattle.page_layers.specs.Page.{shows_alike}
 use Rattle.page_layers.specs.Rows.{IsReady, LayerState, layers_of}
+use Rattle.page_layers.proofs.Only.{only-painted}
 use Rattle.page_layers.proofs.Paints.{right_of_page, uncovered}
 
 -- replacing a state by another one of the same layer keeps the list of layers
@@ -35,7 +37,7 @@ IsReady-next width y states ready =
     (λ state is. record { width_is = is.width_is; scaled = is.scaled; read = omega (arith, is.read, row_at-next state.layer y is.scaled) }) states ready
 
 -- and so is a layer that has read no further than that row
-pub IsReady-after : (width y : ℕ) (old new : LayerState) → IsReady width y old → new ≡ record old { read = new.read } → new.read ≤ row_at old.layer y + 1 → IsReady width y new
+pub IsReady-after : (width y : ℕ) (old new : LayerState) → IsReady width y old → new ≡ record old { read = new.read; inks = new.inks } → new.read ≤ row_at old.layer y + 1 → IsReady width y new
 IsReady-after width y old new is same read =
     let layer : new.layer ≡ old.layer = ap (λ (s : LayerState). s.layer) same in
     record {
@@ -45,8 +47,8 @@ IsReady-after width y old new is same read =
     }
 
 -- a layer that was just opened is ready for row 0
-pub IsReady-open : (width : ℕ) (layer : Layer) (state : LayerState) → state ≡ record { layer = layer; width = width; read = 0 } → IsLayer layer → IsReady width 0 state
-IsReady-open width layer state same is =
+pub IsReady-open : (width : ℕ) (layer : Layer) (inks : PageInks) (state : LayerState) → state ≡ record { layer = layer; width = width; read = 0; inks = inks } → IsLayer layer → IsReady width 0 state
+IsReady-open width layer inks state same is =
     let own : state.layer ≡ layer = ap (λ (s : LayerState). s.layer) same in
     let none : state.read ≡ 0 = ap (λ (s : LayerState). s.read) same in
     record {
@@ -104,16 +106,16 @@ restarted states olds width y same widths reads ready = λ k d below.
     }
 
 -- one more layer painted
-pub painted-more : (states olds : List LayerState) (i x y : ℕ) (start under ink : List ℕ) (state : LayerState) → i < length states → layers_of states ≡ layers_of olds → state ≡ get_or states i state
-    → under ≡ fold (λ under layer. painted layer x y under) start (take i (layers_of olds)) → ink ≡ painted state.layer x y under
-    → ink ≡ fold (λ under layer. painted layer x y under) start (take (i + 1) (layers_of olds))
-painted-more states olds i x y start under ink state below same is before laid =
+pub painted-more : (inks : List Bool) (states olds : List LayerState) (i x y : ℕ) (start under ink : List ℕ) (state : LayerState) → i < length states → layers_of states ≡ layers_of olds → state ≡ get_or states i state
+    → only inks under ≡ only inks (fold (λ under layer. painted layer x y under) start (take i (layers_of olds))) → only inks ink ≡ only inks (painted state.layer x y under)
+    → only inks ink ≡ only inks (fold (λ under layer. painted layer x y under) start (take (i + 1) (layers_of olds)))
+painted-more inks states olds i x y start under ink state below same is before laid =
     let own : get_or (layers_of olds) i state.layer ≡ state.layer =
     ap (λ list. get_or list i state.layer) (sym same) ∙ get_or-map (λ (s : LayerState). s.layer) states i state state.layer below ∙ ap (λ (s : LayerState). s.layer) (sym is) in
     let long : i < length (layers_of olds) = rw (sym same) (omega (arith, length-map states (λ (s : LayerState). s.layer))) in
-    laid ∙ ap (λ ink. painted state.layer x y ink) before
-    ∙ ap (λ layer. painted layer x y (fold (λ under layer. painted layer x y under) start (take i (layers_of olds)))) (sym own)
-    ∙ sym (fold_more (λ under layer. painted layer x y under) start (layers_of olds) i state.layer long)
+    laid ∙ only-painted inks state.layer x y under (fold (λ under layer. painted layer x y under) start (take i (layers_of olds))) before
+    ∙ ap (λ layer. only inks (painted layer x y (fold (λ under layer. painted layer x y under) start (take i (layers_of olds))))) (sym own)
+    ∙ ap (only inks) (sym (fold_more (λ under layer. painted layer x y under) start (layers_of olds) i state.layer long))
 
 -- all layers painted
 pub painted-all : (states olds : List LayerState) (i x y : ℕ) (start : List ℕ) → layers_of states ≡ layers_of olds → length states ≤ i

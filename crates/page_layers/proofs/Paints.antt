@@ -7,10 +7,12 @@ use Rattle.page_layers.specs.declared.layer.Art.TheVariants.{Contone, Line}
 use Rattle.page_layers.specs.declared.layer.Layer.{Layer}
 use Rattle.page_layers.specs.declared.lay.Painting.{Painting}
 use Rattle.page_layers.specs.declared.lay.Painting.TheVariants.{Whole, Knockout, Overprint}
-use Rattle.page_layers.specs.Inks.{Planes, blank, inks_at, laid, laid_value}
+use Rattle.page_layers.specs.declared.page_inks.PageInks.{PageInks}
+use Rattle.page_layers.specs.Inks.{Planes, blank, inks_at, laid, laid_value, only, painted_inks}
 use Rattle.page_layers.specs.Layer.{admits, column_at, covers_column, covers_row, paint_at, painted, paints_at, row_at, shows_through}
 use Rattle.page_layers.specs.Page.{shows_on}
-use Rattle.page_layers.specs.Rows.{IsExpanded, LaysSpan, bare_art, is_bare, laid_where, no_mask, painting_of, span_of}
+use Rattle.page_layers.specs.Rows.{IsExpanded, LaysSpan, bare_art, is_bare, laid_where, no_mask, painted_as, painting_of, span_of}
+use Rattle.page_layers.proofs.Only.{only-five, only-laid_if}
 
 -- each pixel of a contone layer without a mask shows
 bare_admits : (mask : Option BilevelImage) (art : Art) (column row : ℕ) → (if no_mask mask then bare_art art else false) ≡ true → (paints_at art column row && shows_through mask column row) ≡ true
@@ -82,13 +84,13 @@ pub right_of_page : (layer : Layer) (width x : ℕ) → x < width → width ≤ 
 right_of_page layer width x within beside = left_of_it layer x (omega arith)
 
 -- a row of the page on which the layer shows, with its paint over the ink below
-pub painted-row : (layer : Layer) (width y : ℕ) (painting : Painting) (paint : Planes) (admitted : List ℕ) (old new : Planes) → painting ≡ painting_of layer → length admitted ≡ span_of width layer
-    → covers_row layer y ≡ true → IsExpanded layer (row_at layer y) (span_of width layer) paint admitted
-    → LaysSpan painting layer.x paint.cyan admitted old.cyan new.cyan → LaysSpan painting layer.x paint.magenta admitted old.magenta new.magenta
-    → LaysSpan painting layer.x paint.yellow admitted old.yellow new.yellow → LaysSpan painting layer.x paint.black admitted old.black new.black
-    → LaysSpan painting layer.x paint.spot admitted old.spot new.spot
-    → (x : ℕ) → x < width → inks_at new x ≡ painted layer x y (inks_at old x)
-painted-row layer width y painting paint admitted old new painting_is long row expanded cyan magenta yellow black spot x within =
+pub painted-row : (inks : PageInks) (layer : Layer) (width y : ℕ) (painting : Painting) (paint : Planes) (admitted : List ℕ) (old new : Planes) → painting ≡ painting_of layer → length admitted ≡ span_of width layer
+    → covers_row layer y ≡ true → IsExpanded inks layer (row_at layer y) (span_of width layer) paint admitted
+    → LaysSpan (painted_as inks.colour painting) layer.x paint.cyan admitted old.cyan new.cyan → LaysSpan (painted_as inks.colour painting) layer.x paint.magenta admitted old.magenta new.magenta
+    → LaysSpan (painted_as inks.colour painting) layer.x paint.yellow admitted old.yellow new.yellow → LaysSpan painting layer.x paint.black admitted old.black new.black
+    → LaysSpan (painted_as inks.spot painting) layer.x paint.spot admitted old.spot new.spot
+    → (x : ℕ) → x < width → only (painted_inks inks) (inks_at new x) ≡ only (painted_inks inks) (painted layer x y (inks_at old x))
+painted-row inks layer width y painting paint admitted old new painting_is long row expanded cyan magenta yellow black spot x within =
     elim (cases_lt x layer.x) [
       | inl before ↦ same (cyan.before x before) (magenta.before x before) (yellow.before x before) (black.before x before) (spot.before x before) (left_of_it layer x before)
       | inr from ↦
@@ -104,12 +106,13 @@ painted-row layer width y painting paint admitted old new painting_is long row e
     ]
   where
     same : get_or new.cyan x 0 ≡ get_or old.cyan x 0 → get_or new.magenta x 0 ≡ get_or old.magenta x 0 → get_or new.yellow x 0 ≡ get_or old.yellow x 0
-        → get_or new.black x 0 ≡ get_or old.black x 0 → get_or new.spot x 0 ≡ get_or old.spot x 0 → covers_column layer x ≡ false → inks_at new x ≡ painted layer x y (inks_at old x)
+        → get_or new.black x 0 ≡ get_or old.black x 0 → get_or new.spot x 0 ≡ get_or old.spot x 0 → covers_column layer x ≡ false
+        → only (painted_inks inks) (inks_at new x) ≡ only (painted_inks inks) (painted layer x y (inks_at old x))
     same c m y' k s none =
         let five : inks_at new x ≡ inks_at old x = cc in
-        five ∙ sym (uncovered layer x y (inks_at old x) (ap (λ under. under && covers_row layer y) none))
+        ap (only (painted_inks inks)) (five ∙ sym (uncovered layer x y (inks_at old x) (ap (λ under. under && covers_row layer y) none)))
 
-    here : (j : ℕ) → j < span_of width layer → inks_at new (layer.x + j) ≡ painted layer (layer.x + j) y (inks_at old (layer.x + j))
+    here : (j : ℕ) → j < span_of width layer → only (painted_inks inks) (inks_at new (layer.x + j)) ≡ only (painted_inks inks) (painted layer (layer.x + j) y (inks_at old (layer.x + j)))
     here j inside =
         let at = layer.crop.x + j / layer.scale in
         let shows = admits layer at (row_at layer y) in
@@ -117,18 +120,17 @@ painted-row layer width y painting paint admitted old new painting_is long row e
         let way : (paint under : ℕ) → laid_where painting (get_or admitted j 0) paint under ≡ (if shows then laid_value layer.overprint paint under else under) =
         λ paint under. ap (λ p. laid_where p (get_or admitted j 0) paint under) painting_is ∙ ap (λ a. laid_where (painting_of layer) a paint under) (expanded.admits_is.each j inside)
         ∙ laid_ink layer.overprint (is_bare layer) shows paint under (λ bare. bare_admits layer.mask layer.art at (row_at layer y) bare) in
-        let c = cyan.inside j under ∙ way _ _ in
-        let m = magenta.inside j under ∙ way _ _ in
-        let ye = yellow.inside j under ∙ way _ _ in
-        let k = black.inside j under ∙ way _ _ in
-        let s = spot.inside j under ∙ way _ _ in
+        let laid_in : (is_painted : Bool) (paint under : ℕ) → is_painted ≡ true → laid_where (painted_as is_painted painting) (get_or admitted j 0) paint under ≡ (if shows then laid_value layer.overprint paint under else under) =
+        λ is_painted paint under on. ap (λ it. laid_where (painted_as it painting) (get_or admitted j 0) paint under) on ∙ way paint under in
         let five = laid_inks layer.overprint shows (get_or paint.cyan j 0) (get_or paint.magenta j 0) (get_or paint.yellow j 0) (get_or paint.black j 0) (get_or paint.spot j 0)
         (get_or old.cyan (layer.x + j) 0) (get_or old.magenta (layer.x + j) 0) (get_or old.yellow (layer.x + j) 0) (get_or old.black (layer.x + j) 0) (get_or old.spot (layer.x + j) 0) in
         let whole = covered layer (layer.x + j) y (inks_at old (layer.x + j)) (inside_column layer width j inside) row in
-        rw (c, m, ye, k, s)
-        (five ∙ ap (λ paint. if shows then laid layer.overprint paint (inks_at old (layer.x + j)) else inks_at old (layer.x + j)) (expanded.paint_is.each j inside)
-        ∙ ap (λ column. if admits layer column (row_at layer y) then laid layer.overprint (paint_at layer.art column (row_at layer y)) (inks_at old (layer.x + j)) else inks_at old (layer.x + j)) (sym (column_is layer j))
-        ∙ sym whole)
+        only-five inks _ _ _ _ _ _ _ _ _ _ (λ on. cyan.inside j under ∙ laid_in inks.colour _ _ on) (λ on. magenta.inside j under ∙ laid_in inks.colour _ _ on) (λ on. yellow.inside j under ∙ laid_in inks.colour _ _ on)
+        (black.inside j under ∙ way _ _) (λ on. spot.inside j under ∙ laid_in inks.spot _ _ on)
+        ∙ ap (only (painted_inks inks)) five
+        ∙ only-laid_if (painted_inks inks) layer.overprint shows (inks_at paint j) (paint_at layer.art at (row_at layer y)) (inks_at old (layer.x + j)) (inks_at old (layer.x + j)) (expanded.paint_is.each j inside) refl
+        ∙ ap (λ column. only (painted_inks inks) (if admits layer column (row_at layer y) then laid layer.overprint (paint_at layer.art column (row_at layer y)) (inks_at old (layer.x + j)) else inks_at old (layer.x + j))) (sym (column_is layer j))
+        ∙ ap (only (painted_inks inks)) (sym whole)
 
 -- a layer that is painted whole knocks out, and each of its pixels shows
 whole_is : (overprint bare : Bool) → (if overprint then Overprint else if bare then Whole else Knockout) ≡ Whole → (overprint ≡ false) × (bare ≡ true)

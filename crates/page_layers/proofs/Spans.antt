@@ -6,7 +6,7 @@ use Rattle.std.proofs.lemmas.List.{get_or-replicate, length-replicate}
 use borrow.Rule.Slice.PartMut.{put_mid}
 use Rattle.pr_base.proofs.Parts.{part_above, part_below, part_here, part_long}
 use Rattle.page_layers.specs.declared.lay.Painting.{Painting}
-use Rattle.page_layers.specs.declared.lay.Painting.TheVariants.{Whole, Knockout, Overprint}
+use Rattle.page_layers.specs.declared.lay.Painting.TheVariants.{Whole, Knockout, Overprint, Nothing}
 use Rattle.page_layers.specs.Rows.{LaysSpan, laid_where}
 
 -- a part of a row that was rewritten
@@ -43,6 +43,10 @@ LaysSpan_spread from cut size ink admitted old under part room cut_is size_is lo
 both : (bit : Bool) (under : ℕ) → under ≡ (if bit then under else under)
 both true under = refl
 both false under = refl
+
+-- where nothing is painted, nothing changes
+pub LaysSpan_nothing : (from : ℕ) (paint admitted old : List ℕ) → LaysSpan Nothing from paint admitted old old
+LaysSpan_nothing from paint admitted old = record { long = refl; inside = λ j within. refl; before = λ x below. refl; behind = λ x above. refl }
 
 -- overprinting the value 0 changes nothing
 pub LaysSpan_none : (from ink : ℕ) (admitted old : List ℕ) → ink ≡ 0 → LaysSpan Overprint from (replicate (length admitted) ink) admitted old old

@@ -1,8 +1,10 @@
--- Rows of five inks, and one ink value painted over another. The rules are plateroom's own.
-use Rattle.std.specs.Prelude.{◌≡◌, ℕ, ◌==◌, ◌&&◌, Bool, if◌then◌else◌, List, [], ◌∷◌, length, replicate}
+-- Rows of five inks, which of them are painted, and one ink value painted over another. The rules are
+-- plateroom's own.
+use Rattle.std.specs.Prelude.{◌≡◌, ℕ, ◌==◌, ◌&&◌, Bool, true, if◌then◌else◌, List, [], ◌∷◌, length, replicate}
 use Rattle.std.specs.Prelude.{slice_index}
 use Rattle.pr_base.specs.declared.ink.Ink.{Ink}
 use Rattle.pr_base.specs.declared.ink.Ink.TheVariants.{C, M, Y, K, S}
+use Rattle.page_layers.specs.declared.page_inks.PageInks.{PageInks}
 
 -- a row of each ink, a value for each pixel
 pub record Planes : Type 0 where
@@ -33,6 +35,16 @@ abbrev pub inks_at : Planes → ℕ → List ℕ
 inks_at planes x =
     slice_index planes.cyan x ∷ slice_index planes.magenta x ∷ slice_index planes.yellow x
     ∷ slice_index planes.black x ∷ slice_index planes.spot x ∷ []
+
+-- whether each of the five inks is painted
+abbrev pub painted_inks : PageInks → List Bool
+painted_inks inks = inks.colour ∷ inks.colour ∷ inks.colour ∷ true ∷ inks.spot ∷ []
+
+-- the values of the inks that are painted, and 0 for each other ink
+abbrev pub only : List Bool → List ℕ → List ℕ
+only [] values = []
+only (is_painted ∷ rest) [] = []
+only (is_painted ∷ rest) (value ∷ values) = (if is_painted then value else 0) ∷ only rest values
 
 -- rows of this width, without ink
 abbrev pub blank_planes : ℕ → Planes

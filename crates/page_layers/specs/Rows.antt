@@ -9,8 +9,9 @@ use Rattle.page_layers.specs.declared.layer.Art.{Art}
 use Rattle.page_layers.specs.declared.layer.Art.TheVariants.{Contone, Line}
 use Rattle.page_layers.specs.declared.layer.Layer.{Layer}
 use Rattle.page_layers.specs.declared.lay.Painting.{Painting}
-use Rattle.page_layers.specs.declared.lay.Painting.TheVariants.{Whole, Knockout, Overprint}
-use Rattle.page_layers.specs.Inks.{HasWidth, Planes, blank, inks_at}
+use Rattle.page_layers.specs.declared.lay.Painting.TheVariants.{Whole, Knockout, Overprint, Nothing}
+use Rattle.page_layers.specs.declared.page_inks.PageInks.{PageInks}
+use Rattle.page_layers.specs.Inks.{HasWidth, Planes, blank, inks_at, only, painted_inks}
 use Rattle.page_layers.specs.Layer.{IsLayer, admits, paint_at, row_at, shape_of}
 use Rattle.page_layers.specs.Reader.{IsOf, mask_cursor}
 
@@ -22,6 +23,11 @@ laid_where Whole admitted paint under = paint
 laid_where Knockout admitted paint under = if admitted == 0 then under else paint
 laid_where Overprint admitted paint under =
     if admitted == 0 then under else if paint == 0 then under else paint
+laid_where Nothing admitted paint under = under
+
+-- how a layer is painted in an ink that is painted or not
+abbrev pub painted_as : Bool → Painting → Painting
+painted_as is_painted painting = if is_painted then painting else Nothing
 
 -- the first `count` values are the paint over the old row
 pub record IsLaid (painting : Painting) (paint admitted old : List ℕ) (count : ℕ) (new : List ℕ)
@@ -39,19 +45,27 @@ pub record LaysSpan (painting : Painting) (from : ℕ) (paint admitted old new :
   pub before : (x : ℕ) → x < from → slice_index new x ≡ slice_index old x
   pub behind : (x : ℕ) → from + length admitted ≤ x → slice_index new x ≡ slice_index old x
 
+-- if an ink is painted, its row is 0 before one column and from another one on
+pub record IsClearBeside (is_painted : Bool) (from to : ℕ) (row : List ℕ) : Type 0 where
+  pub before : IsTrue is_painted → (x : ℕ) → x < from → slice_index row x ≡ 0
+  pub behind : IsTrue is_painted → (x : ℕ) → to ≤ x → slice_index row x ≡ 0
+
 -- each value of a source, `step` apart, repeated `scale` times
 pub record IsStretched (source : List ℕ) (step scale count : ℕ) (into : List ℕ) : Type 0 where
   pub each : (j : ℕ) → j < count → slice_index into j ≡ slice_index source (step * (j / scale))
 
--- the samples of one ink of a row of pixels, the first sample at `first`, each repeated `scale` times
-pub record HasSamples (pixels : List ℕ) (first scale : ℕ) (old new : List ℕ) : Type 0 where
+-- if an ink is painted, its samples of a row of pixels, the first sample at `first`, each repeated `scale`
+-- times
+pub record HasSamples (is_painted : Bool) (pixels : List ℕ) (first scale : ℕ) (old new : List ℕ)
+    : Type 0 where
   pub long : length new ≡ length old
-  pub each : (j : ℕ) → j < length old → slice_index new j ≡ slice_index pixels (first + 4 * (j / scale))
+  pub each : IsTrue is_painted → (j : ℕ) → j < length old
+      → slice_index new j ≡ slice_index pixels (first + 4 * (j / scale))
 
--- the samples of one ink in row y of an image, from column `first` on
-pub record IsInkOf (image : Cursor) (y ink first : ℕ) (old new : List ℕ) : Type 0 where
+-- if an ink is painted, its samples in row y of an image, from column `first` on
+pub record IsInkOf (is_painted : Bool) (image : Cursor) (y ink first : ℕ) (old new : List ℕ) : Type 0 where
   pub long : length new ≡ length old
-  pub samples : new ≡ ink_part image.shape image.bytes y ink first (length old)
+  pub samples : IsTrue is_painted → new ≡ ink_part image.shape image.bytes y ink first (length old)
 
 -- ---- a layer on a page of a given width
 
@@ -112,9 +126,11 @@ pub record Marks (test : ℕ → Bool) (source : ℕ → ℕ) (from to : ℕ) (o
   pub before : (n : ℕ) → n < from → slice_index new n ≡ slice_index old n
   pub behind : (n : ℕ) → to ≤ n → slice_index new n ≡ slice_index old n
 
--- the paint of a row of the image, from column `first` on, each pixel repeated `scale` times
-pub record IsPaint (art : Art) (first scale row span : ℕ) (paint : Planes) : Type 0 where
-  pub each : (j : ℕ) → j < span → inks_at paint j ≡ paint_at art (first + j / scale) row
+-- the paint of a row of the image in the inks that are painted, from column `first` on, each pixel repeated
+-- `scale` times
+pub record IsPaint (inks : List Bool) (art : Art) (first scale row span : ℕ) (paint : Planes) : Type 0 where
+  pub each : (j : ℕ) → j < span
+      → only inks (inks_at paint j) ≡ only inks (paint_at art (first + j / scale) row)
 
 -- 255 for each covered column of the page where the layer shows, and 0 elsewhere
 pub record IsAdmitted (layer : Layer) (row span : ℕ) (admitted : List ℕ) : Type 0 where
@@ -122,15 +138,16 @@ pub record IsAdmitted (layer : Layer) (row span : ℕ) (admitted : List ℕ) : T
       → slice_index admitted j ≡ (if admits layer (layer.crop.x + j / layer.scale) row then 255 else 0)
 
 -- the paint of a row of the image at each covered column of the page, and where the layer shows
-pub record IsExpanded (layer : Layer) (row span : ℕ) (paint : Planes) (admitted : List ℕ) : Type 0 where
-  pub paint_is : IsPaint layer.art layer.crop.x layer.scale row span paint
+pub record IsExpanded (inks : PageInks) (layer : Layer) (row span : ℕ) (paint : Planes) (admitted : List ℕ)
+    : Type 0 where
+  pub paint_is : IsPaint (painted_inks inks) layer.art layer.crop.x layer.scale row span paint
   pub admits_is : IsAdmitted layer row span admitted
 
 -- what a layer's rows keep: cursors before the same row of the image and of its mask, and the paint of the
 -- row before that one
 pub record IsLayerRows (layer : Layer) (width : ℕ) (painting : Painting) (image : Cursor)
-    (mask : Option Cursor) (paint : Planes) (marks admitted : List ℕ) (marks_room admitted_room : ℕ)
-    : Type 0 where
+    (mask : Option Cursor) (paint : Planes) (inks : PageInks) (marks admitted : List ℕ)
+    (marks_room admitted_room : ℕ) : Type 0 where
   pub layer_is : IsLayer layer
   pub painting_is : painting ≡ painting_of layer
   pub sides : ((shape_of layer.art).width ≤ 65535) × ((shape_of layer.art).length ≤ 65535) × (width ≤ 65535)
@@ -142,17 +159,19 @@ pub record IsLayerRows (layer : Layer) (width : ℕ) (painting : Painting) (imag
   pub marks_long : span_of width layer ≤ length marks * layer.scale
   pub columns : length marks ≤ layer.crop.width
   pub bare : IsTrue (is_bare layer) → admitted ≡ replicate (span_of width layer) 255
-  pub expanded : 0 < image.next → IsExpanded layer (image.next - 1) (span_of width layer) paint admitted
+  pub expanded : 0 < image.next
+      → IsExpanded inks layer (image.next - 1) (span_of width layer) paint admitted
   -- both have capacity for a row of any page
   pub marks_wide : 65535 ≤ marks_room
   pub admitted_wide : 65535 ≤ admitted_room
 
--- what contracts see of a layer's rows: the layer, the page's width, and the number of image rows passed so
--- far
+-- what contracts see of a layer's rows: the layer, the page's width, the number of image rows passed so far,
+-- and the inks in which the paint is made
 pub record LayerState : Type 0 where
   pub layer : Layer
   pub width : ℕ
   pub read : ℕ
+  pub inks : PageInks
 
 -- ready for row y of the page, or for a later one
 pub record IsReady (width y : ℕ) (state : LayerState) : Type 0 where

@@ -1,7 +1,8 @@
 // A row of a page in five inks.
-ghost use Rattle.std.specs.Prelude.{◌≡◌, ℕ, ◌+◌, ◌*◌, ◌<◌, ◌≤◌, length, slice_index};
-ghost use Rattle.page_layers.specs.Rows.{HasSamples};
+ghost use Rattle.std.specs.Prelude.{◌≡◌, ℕ, ◌+◌, ◌*◌, ◌<◌, ◌≤◌, length};
+ghost use Rattle.page_layers.specs.Rows.{HasSamples, IsClearBeside};
 
+use crate::PageInks;
 use crate::lay::{Painting, lay_ink, lay_span};
 use crate::room::{refill, room};
 use crate::row_reader::RowReader;
@@ -42,10 +43,10 @@ impl Model for InkRow {
 
 impl InkRow {
     ghost use Rattle.std.specs.Prelude.{◌≡◌, ℕ, ◌+◌, ◌*◌, ◌/◌, ◌<◌, ◌≤◌, IfOk, length, replicate};
-    ghost use Rattle.std.specs.Prelude.{slice_index};
-    ghost use Rattle.page_layers.specs.Inks.{HasWidth, Planes, blank, blank_planes, inks_at, plane_of};
+    ghost use Rattle.std.specs.Prelude.{slice_index, true};
+    ghost use Rattle.page_layers.specs.Inks.{HasWidth, blank_planes, plane_of};
     ghost use Rattle.tif_strips.specs.Strips.{planes};
-    ghost use Rattle.page_layers.specs.Rows.{HasSamples, IsInkOf, LaysSpan};
+    ghost use Rattle.page_layers.specs.Rows.{HasSamples, IsClearBeside, IsInkOf, LaysSpan, painted_as};
 
     /// Allocates a row of `width` pixels without ink.
     pub fn new(alloc: Global, width: u32) -> Result<InkRow, NoMemory>
@@ -102,43 +103,53 @@ impl InkRow {
         }
     }
 
-    /// Sets all inks to 0 before column `from`, and from column `to` on.
-    pub(crate) fn clear_beside(&mut self, from: usize, to: usize)
+    /// Sets the painted inks to 0 before column `from`, and from column `to` on.
+    pub(crate) fn clear_beside(&mut self, inks: PageInks, from: usize, to: usize)
         requires wide { HasWidth self.old (length self.old.cyan) }
         requires order { from ≤ to }
         requires within { to ≤ length self.old.cyan }
         ensures wide { HasWidth self.new (length self.old.cyan) }
-        ensures before { (x : ℕ) → x < from → inks_at self.new x ≡ blank }
-        ensures behind { (x : ℕ) → to ≤ x → inks_at self.new x ≡ blank }
+        ensures cyan { IsClearBeside inks.colour from to self.new.cyan }
+        ensures magenta { IsClearBeside inks.colour from to self.new.magenta }
+        ensures yellow { IsClearBeside inks.colour from to self.new.yellow }
+        ensures black { IsClearBeside true from to self.new.black }
+        ensures spot { IsClearBeside inks.spot from to self.new.spot }
     {
-        clear_beside(from, to, &mut self.cyan);
-        clear_beside(from, to, &mut self.magenta);
-        clear_beside(from, to, &mut self.yellow);
-        clear_beside(from, to, &mut self.black);
-        clear_beside(from, to, &mut self.spot);
+        clear_beside(inks.colour, from, to, &mut self.cyan);
+        clear_beside(inks.colour, from, to, &mut self.magenta);
+        clear_beside(inks.colour, from, to, &mut self.yellow);
+        clear_beside(true, from, to, &mut self.black);
+        clear_beside(inks.spot, from, to, &mut self.spot);
     }
 
-    /// Sets the process inks to the samples of a row of pixels, each pixel repeated `scale` times.
-    pub(crate) fn set_samples(&mut self, pixels: &[u8], scale: usize)
+    /// Sets the painted ones of the process inks to the samples of a row of pixels, each pixel repeated
+    /// `scale` times.
+    pub(crate) fn set_samples(&mut self, inks: PageInks, pixels: &[u8], scale: usize)
         requires wide { HasWidth self.old (length self.old.cyan) }
         requires small { length self.old.cyan ≤ 65535 }
         requires scale { (1 ≤ scale) × (scale ≤ 64) }
         requires enough { (n : ℕ) → scale * n < length self.old.cyan → 4 * n + 3 < length pixels.now }
-        ensures cyan { HasSamples pixels.now 0 scale self.old.cyan self.new.cyan }
-        ensures magenta { HasSamples pixels.now 1 scale self.old.magenta self.new.magenta }
-        ensures yellow { HasSamples pixels.now 2 scale self.old.yellow self.new.yellow }
-        ensures black { HasSamples pixels.now 3 scale self.old.black self.new.black }
+        ensures cyan { HasSamples inks.colour pixels.now 0 scale self.old.cyan self.new.cyan }
+        ensures magenta { HasSamples inks.colour pixels.now 1 scale self.old.magenta self.new.magenta }
+        ensures yellow { HasSamples inks.colour pixels.now 2 scale self.old.yellow self.new.yellow }
+        ensures black { HasSamples true pixels.now 3 scale self.old.black self.new.black }
         ensures spot { self.new.spot ≡ self.old.spot }
     {
-        set_sample(pixels, 0, scale, &mut self.cyan);
-        set_sample(pixels, 1, scale, &mut self.magenta);
-        set_sample(pixels, 2, scale, &mut self.yellow);
-        set_sample(pixels, 3, scale, &mut self.black);
+        set_sample(inks.colour, pixels, 0, scale, &mut self.cyan);
+        set_sample(inks.colour, pixels, 1, scale, &mut self.magenta);
+        set_sample(inks.colour, pixels, 2, scale, &mut self.yellow);
+        set_sample(true, pixels, 3, scale, &mut self.black);
     }
 
-    /// Sets the process inks to the samples of row `y`, from column `first` on, of an image whose inks have
-    /// their own planes.
-    pub(crate) fn read_planes(&mut self, image: &mut RowReader<'_>, y: u32, first: u32)
+    /// Sets the painted ones of the process inks to the samples of row `y`, from column `first` on, of an
+    /// image whose inks have their own planes.
+    pub(crate) fn read_planes(
+        &mut self,
+        inks: PageInks,
+        image: &mut RowReader<'_>,
+        y: u32,
+        first: u32,
+    )
         requires wide { HasWidth self.old (length self.old.cyan) }
         requires before { image.old.next ≤ y }
         requires small { y < 65535 }
@@ -146,12 +157,16 @@ impl InkRow {
         requires planes { planes image.old.shape ≡ 4 }
         requires columns { first + length self.old.cyan ≤ image.old.shape.width }
         ensures image { image.new ≡ record image.old { next = y + 1 } }
-        ensures cyan { IsInkOf image.old y 0 first self.old.cyan self.new.cyan }
-        ensures magenta { IsInkOf image.old y 1 first self.old.magenta self.new.magenta }
-        ensures yellow { IsInkOf image.old y 2 first self.old.yellow self.new.yellow }
-        ensures black { IsInkOf image.old y 3 first self.old.black self.new.black }
+        ensures cyan { IsInkOf inks.colour image.old y 0 first self.old.cyan self.new.cyan }
+        ensures magenta { IsInkOf inks.colour image.old y 1 first self.old.magenta self.new.magenta }
+        ensures yellow { IsInkOf inks.colour image.old y 2 first self.old.yellow self.new.yellow }
+        ensures black { IsInkOf true image.old y 3 first self.old.black self.new.black }
         ensures spot { self.new.spot ≡ self.old.spot }
     {
+        if !inks.colour {
+            image.reach_planes(y, first, &mut [], &mut [], &mut [], &mut self.black);
+            return;
+        }
         image.reach_planes(
             y,
             first,
@@ -162,9 +177,10 @@ impl InkRow {
         );
     }
 
-    /// Paints samples, and no spot ink, from column `from` on, where they are admitted.
+    /// Paints samples, and no spot ink, from column `from` on, where they are admitted: of the painted inks.
     pub(crate) fn lay_samples(
         &mut self,
+        inks: PageInks,
         painting: Painting,
         from: usize,
         paint: &InkRow,
@@ -177,27 +193,31 @@ impl InkRow {
         requires yellow { from + length admitted.now ≤ length self.old.yellow }
         requires black { from + length admitted.now ≤ length self.old.black }
         requires spot { from + length admitted.now ≤ length self.old.spot }
-        ensures cyan { LaysSpan painting from paint.now.cyan admitted.now self.old.cyan self.new.cyan }
-        ensures magenta { LaysSpan painting from paint.now.magenta admitted.now
+        ensures cyan { LaysSpan (painted_as inks.colour painting) from paint.now.cyan admitted.now
+            self.old.cyan self.new.cyan }
+        ensures magenta { LaysSpan (painted_as inks.colour painting) from paint.now.magenta admitted.now
             self.old.magenta self.new.magenta }
-        ensures yellow { LaysSpan painting from paint.now.yellow admitted.now
+        ensures yellow { LaysSpan (painted_as inks.colour painting) from paint.now.yellow admitted.now
             self.old.yellow self.new.yellow }
         ensures black { LaysSpan painting from paint.now.black admitted.now self.old.black self.new.black }
-        ensures spot { LaysSpan painting from paint.now.spot admitted.now self.old.spot self.new.spot }
+        ensures spot { LaysSpan (painted_as inks.spot painting) from paint.now.spot admitted.now
+            self.old.spot self.new.spot }
     {
-        lay_span(painting, from, &paint.cyan, admitted, &mut self.cyan);
-        lay_span(painting, from, &paint.magenta, admitted, &mut self.magenta);
-        lay_span(painting, from, &paint.yellow, admitted, &mut self.yellow);
+        let colour = painting.of(inks.colour);
+        lay_span(colour, from, &paint.cyan, admitted, &mut self.cyan);
+        lay_span(colour, from, &paint.magenta, admitted, &mut self.magenta);
+        lay_span(colour, from, &paint.yellow, admitted, &mut self.yellow);
         lay_span(painting, from, &paint.black, admitted, &mut self.black);
-        lay_ink(painting, from, 0, admitted, &mut self.spot);
+        lay_ink(painting.of(inks.spot), from, 0, admitted, &mut self.spot);
     }
 
-    /// Paints these inks from column `from` on, where they are admitted.
+    /// Paints these ink values from column `from` on, where they are admitted: of the painted inks.
     pub(crate) fn lay_inks(
         &mut self,
+        inks: PageInks,
         painting: Painting,
         from: usize,
-        inks: &[u8; 5],
+        values: &[u8; 5],
         admitted: &[u8],
     )
         requires cyan { from + length admitted.now ≤ length self.old.cyan }
@@ -205,51 +225,57 @@ impl InkRow {
         requires yellow { from + length admitted.now ≤ length self.old.yellow }
         requires black { from + length admitted.now ≤ length self.old.black }
         requires spot { from + length admitted.now ≤ length self.old.spot }
-        ensures cyan { LaysSpan painting from
-            (replicate (length admitted.now) (slice_index inks.now 0))
+        ensures cyan { LaysSpan (painted_as inks.colour painting) from
+            (replicate (length admitted.now) (slice_index values.now 0))
             admitted.now self.old.cyan self.new.cyan }
-        ensures magenta { LaysSpan painting from
-            (replicate (length admitted.now) (slice_index inks.now 1))
+        ensures magenta { LaysSpan (painted_as inks.colour painting) from
+            (replicate (length admitted.now) (slice_index values.now 1))
             admitted.now self.old.magenta self.new.magenta }
-        ensures yellow { LaysSpan painting from
-            (replicate (length admitted.now) (slice_index inks.now 2))
+        ensures yellow { LaysSpan (painted_as inks.colour painting) from
+            (replicate (length admitted.now) (slice_index values.now 2))
             admitted.now self.old.yellow self.new.yellow }
         ensures black { LaysSpan painting from
-            (replicate (length admitted.now) (slice_index inks.now 3))
+            (replicate (length admitted.now) (slice_index values.now 3))
             admitted.now self.old.black self.new.black }
-        ensures spot { LaysSpan painting from
-            (replicate (length admitted.now) (slice_index inks.now 4))
+        ensures spot { LaysSpan (painted_as inks.spot painting) from
+            (replicate (length admitted.now) (slice_index values.now 4))
             admitted.now self.old.spot self.new.spot }
     {
-        let [cyan, magenta, yellow, black, spot] = *inks;
-        lay_ink(painting, from, cyan, admitted, &mut self.cyan);
-        lay_ink(painting, from, magenta, admitted, &mut self.magenta);
-        lay_ink(painting, from, yellow, admitted, &mut self.yellow);
+        let colour = painting.of(inks.colour);
+        let [cyan, magenta, yellow, black, spot] = *values;
+        lay_ink(colour, from, cyan, admitted, &mut self.cyan);
+        lay_ink(colour, from, magenta, admitted, &mut self.magenta);
+        lay_ink(colour, from, yellow, admitted, &mut self.yellow);
         lay_ink(painting, from, black, admitted, &mut self.black);
-        lay_ink(painting, from, spot, admitted, &mut self.spot);
+        lay_ink(painting.of(inks.spot), from, spot, admitted, &mut self.spot);
     }
 }
 
-// Sets a row to 0 before column `from`, and from column `to` on.
-fn clear_beside(from: usize, to: usize, into: &mut [u8])
+// Sets a row to 0 before column `from`, and from column `to` on, if its ink is painted.
+fn clear_beside(is_painted: bool, from: usize, to: usize, into: &mut [u8])
     requires order { from ≤ to }
     requires within { to ≤ length into.old }
     ensures long { length into.new ≡ length into.old }
-    ensures before { (x : ℕ) → x < from → slice_index into.new x ≡ 0 }
-    ensures behind { (x : ℕ) → to ≤ x → slice_index into.new x ≡ 0 }
+    ensures clear { IsClearBeside is_painted from to into.new }
 {
+    if !is_painted {
+        return;
+    }
     into[..from].fill(0);
     into[to..].fill(0);
 }
 
-// Sets a row to the samples of one ink, the first of which is at `first`. `pixels` may be empty when no
-// column shows.
-fn set_sample(pixels: &[u8], first: usize, scale: usize, into: &mut [u8])
+// Sets a row to the samples of one ink, the first of which is at `first`, if the ink is painted. `pixels` may
+// be empty when no column shows.
+fn set_sample(is_painted: bool, pixels: &[u8], first: usize, scale: usize, into: &mut [u8])
     requires small { length into.old ≤ 65535 }
     requires scale { (1 ≤ scale) × (scale ≤ 64) }
     requires enough { (n : ℕ) → scale * n < length into.old → first + 4 * n < length pixels.now }
-    ensures { HasSamples pixels.now first scale into.old into.new }
+    ensures { HasSamples is_painted pixels.now first scale into.old into.new }
 {
+    if !is_painted {
+        return;
+    }
     if !into.is_empty() {
         stretch(&pixels[first..], 4, scale, into);
     }

@@ -12,6 +12,20 @@ pub(crate) enum Painting {
     Knockout,
     /// Admitted pixels replace the ink below where their own value is not 0.
     Overprint,
+    /// Nothing is painted.
+    Nothing,
+}
+
+impl Painting {
+    ghost use Rattle.std.specs.Prelude.{◌≡◌};
+    ghost use Rattle.page_layers.specs.Rows.{painted_as};
+
+    /// Returns how a layer is painted in an ink that is painted or not.
+    pub(crate) fn of(self, is_painted: bool) -> Painting
+        ensures { result ≡ painted_as is_painted self }
+    {
+        if is_painted { self } else { Painting::Nothing }
+    }
 }
 
 /// Paints over a row from column `from` on. A pixel is admitted where `admitted` is not 0.
@@ -26,11 +40,12 @@ pub(crate) fn lay_span(
     requires within { from + length admitted.now ≤ length into.old }
     ensures { LaysSpan painting from paint.now admitted.now into.old into.new }
 {
-    let part = &mut into[from..from + admitted.len()];
+    let to = from + admitted.len();
     match painting {
-        Painting::Whole => part.copy_from_slice(paint),
-        Painting::Knockout => knock_out(paint, admitted, part),
-        Painting::Overprint => overprint(paint, admitted, part),
+        Painting::Whole => into[from..to].copy_from_slice(paint),
+        Painting::Knockout => knock_out(paint, admitted, &mut into[from..to]),
+        Painting::Overprint => overprint(paint, admitted, &mut into[from..to]),
+        Painting::Nothing => (),
     }
 }
 
@@ -43,6 +58,7 @@ pub(crate) fn lay_ink(painting: Painting, from: usize, ink: u8, admitted: &[u8],
         Painting::Whole => into[from..from + admitted.len()].fill(ink),
         Painting::Knockout => knock_out_ink(from, ink, admitted, into),
         Painting::Overprint => overprint_ink(from, ink, admitted, into),
+        Painting::Nothing => (),
     }
 }
 

@@ -1,13 +1,12 @@
 // The rows of one layer on a page.
 ghost use Rattle.std.specs.Prelude.{◌≡◌, ℕ, ◌+◌, ◌-◌, ◌*◌, ◌/◌, ◌<◌, ◌≤◌, false, length, option_map};
 ghost use Rattle.tif_strips.specs.Strips.{row_length};
-ghost use Rattle.page_layers.specs.Inks.{HasWidth, inks_at};
+ghost use Rattle.page_layers.specs.Inks.{HasWidth, inks_at, painted_inks};
 ghost use Rattle.page_layers.specs.Layer.{IsLayer, paint_at, shape_of};
 ghost use Rattle.page_layers.specs.Reader.{Holds, IsOf};
 ghost use Rattle.page_layers.specs.Rows.{IsPaint, LaysSpan, bare_art, fixed_of, painting_of, span_of};
-ghost use Rattle.page_layers.specs.Rows.{with_fixed};
+ghost use Rattle.page_layers.specs.Rows.{painted_as, with_fixed};
 
-use crate::InkRow;
 use crate::admit::{admit_row, is_bare};
 use crate::lay::Painting;
 use crate::layer::{Art, Crop, Layer};
@@ -15,6 +14,7 @@ use crate::layer_room::LayerRoom;
 use crate::mask_rows::{open_mask, reach_mask, restart_mask};
 use crate::room::{ReadRoom, refill};
 use crate::row_reader::RowReader;
+use crate::{InkRow, PageInks};
 use std::marker::Model;
 
 /// A layer, with the row of its image that was read last, expanded to the page's columns as paint. Contracts
@@ -29,6 +29,8 @@ pub(crate) struct LayerRows<'a> {
     mask: Option<RowReader<'a>>,
     /// The ink values at each column of the page that the layer covers.
     paint: InkRow,
+    /// The inks of the page in which the paint was made.
+    inks: PageInks,
     /// A byte for each column of the image that shows: 255 where it is admitted, and 0 elsewhere.
     marks: Vec<u8>,
     /// The same for each column of the page that the layer covers.
@@ -43,15 +45,20 @@ impl<'a> Model for LayerRows<'a> {
     ghost use Rattle.std.specs.Vec.{vec_capacity};
     ghost use Rattle.page_layers.specs.Rows.{IsLayerRows};
 
-    ghost view = { λ r. record { layer = r.layer; width = r.width; read = r.image.next } };
+    ghost view = { λ r. record {
+      layer = r.layer;
+      width = r.width;
+      read = r.image.next;
+      inks = r.inks;
+    } };
 
-    ghost invariant = { λ r. IsLayerRows r.layer r.width r.painting r.image r.mask r.paint
+    ghost invariant = { λ r. IsLayerRows r.layer r.width r.painting r.image r.mask r.paint r.inks
         r.marks.items r.admitted.items (vec_capacity r.marks) (vec_capacity r.admitted) };
 }
 
 impl<'a> LayerRows<'a> {
     ghost use Rattle.std.specs.Prelude.{◌≡◌, ℕ, ◌+◌, ◌<◌, ◌≤◌, IsTrue};
-    ghost use Rattle.page_layers.specs.Inks.{HasWidth, Planes, blank, inks_at};
+    ghost use Rattle.page_layers.specs.Inks.{HasWidth, Planes, blank, inks_at, only, painted_inks};
     ghost use Rattle.page_layers.specs.Layer.{IsLayer, painted, row_at};
     ghost use Rattle.page_layers.specs.Page.{shows_alike, shows_on};
 
@@ -59,7 +66,7 @@ impl<'a> LayerRows<'a> {
     pub(crate) fn open(room: LayerRoom, layer: Layer<'a>, width: u32) -> LayerRows<'a>
         requires layer { IsLayer layer }
         requires width { width ≤ 65535 }
-        ensures { result ≡ record { layer = layer.entry; width = width; read = 0 } }
+        ensures { result ≡ record { layer = layer.entry; width = width; read = 0; inks = PageInks.ALL } }
     {
         let span = span_of(&layer, width);
         let columns = columns_of(&layer, span);
@@ -83,6 +90,7 @@ impl<'a> LayerRows<'a> {
             image,
             mask,
             paint,
+            inks: PageInks::ALL,
             marks,
             admitted,
         }
@@ -115,24 +123,27 @@ impl<'a> LayerRows<'a> {
         self.layer.crop.y + (y - self.layer.y) / self.layer.scale
     }
 
-    /// Paints the layer over row `y` of the page.
-    pub(crate) fn paint(&mut self, y: u32, room: &mut ReadRoom, into: &mut InkRow)
+    /// Paints the layer in these inks over row `y` of the page.
+    pub(crate) fn paint(&mut self, y: u32, inks: PageInks, room: &mut ReadRoom, into: &mut InkRow)
         requires width { HasWidth into.old self.old.width }
         requires read { self.old.read ≤ row_at self.old.layer y + 1 }
         ensures inks { (x : ℕ) → x < self.old.width
-            → inks_at into.new x ≡ painted self.old.layer x y (inks_at into.old x) }
+            → only (painted_inks inks) (inks_at into.new x)
+            ≡ only (painted_inks inks) (painted self.old.layer x y (inks_at into.old x)) }
         ensures width { HasWidth into.new self.old.width }
-        ensures layer { self.new ≡ record self.old { read = self.new.read } }
+        ensures layer { self.new ≡ record self.old { read = self.new.read; inks = self.new.inks } }
         ensures read { self.new.read ≤ row_at self.old.layer y + 1 }
     {
         if !self.shows(y) {
             return;
         }
         let row = self.row_at(y);
+        self.turn_to(inks);
         self.stand_behind(row, room);
         let from = self.layer.x as usize;
         lay_paint(
             &self.layer.art,
+            inks,
             self.painting,
             from,
             &self.paint,
@@ -156,6 +167,17 @@ impl<'a> LayerRows<'a> {
         (from, from + self.admitted.len())
     }
 
+    // Takes the inks in which the next paint is made. If they are others than before, the image is read again.
+    fn turn_to(&mut self, inks: PageInks)
+        ensures state { self.new ≡ record self.old { read = self.new.read; inks = inks } }
+        ensures read { self.new.read ≤ self.old.read }
+    {
+        if self.inks != inks {
+            self.restart();
+            self.inks = inks;
+        }
+    }
+
     // Reads up to row `row` of the image and expands it to paint, unless that row was read last.
     #[tactic(auto, using(crate::proofs::Layers::row_most))]
     fn stand_behind(&mut self, row: u32, room: &mut ReadRoom)
@@ -171,6 +193,7 @@ impl<'a> LayerRows<'a> {
         let scale = self.layer.scale;
         read_row(
             &self.layer.art,
+            self.inks,
             &mut self.image,
             row,
             crop,
@@ -215,6 +238,7 @@ impl<'a> LayerRows<'a> {
 // afterwards.
 fn read_row(
     art: &Art<'_>,
+    inks: PageInks,
     image: &mut RowReader<'_>,
     y: u32,
     crop: Crop,
@@ -237,23 +261,24 @@ fn read_row(
     ensures part { bare_art art.now ≡ false → Holds image.new crop room.new }
     ensures wide { HasWidth paint.new (length paint.old.cyan) }
     ensures fixed { paint.new ≡ with_fixed art.now (length paint.old.cyan) paint.new }
-    ensures paint { IsPaint art.now crop.x scale (image.new.next - 1) (length paint.old.cyan) paint.new }
+    ensures paint { IsPaint (painted_inks inks) art.now crop.x scale (image.new.next - 1) (length paint.old.cyan) paint.new }
 {
     if let Art::Contone(_) = art
         && scale == 1
         && image.has_planes()
     {
-        paint.read_planes(image, y, crop.x);
+        paint.read_planes(inks, image, y, crop.x);
         return;
     }
     image.reach(y, crop, room);
-    paint_row(art, image, room, crop, scale, paint);
+    paint_row(art, inks, image, room, crop, scale, paint);
 }
 
 // Expands the row that was read last to paint, for each column of the page. The inks that are the same in
 // every row are in place already.
 fn paint_row(
     art: &Art<'_>,
+    inks: PageInks,
     image: &RowReader<'_>,
     image_room: &[u8],
     crop: Crop,
@@ -269,12 +294,12 @@ fn paint_row(
     requires fixed { paint.old ≡ with_fixed art.now (length paint.old.cyan) paint.old }
     ensures wide { HasWidth paint.new (length paint.old.cyan) }
     ensures fixed { paint.new ≡ with_fixed art.now (length paint.old.cyan) paint.new }
-    ensures paint { IsPaint art.now crop.x scale (image.now.next - 1) (length paint.old.cyan) paint.new }
+    ensures paint { IsPaint (painted_inks inks) art.now crop.x scale (image.now.next - 1) (length paint.old.cyan) paint.new }
 {
     if let Art::Contone(contone) = art {
         // Called for its clause: four samples a pixel.
         let _shape = contone.shape();
-        paint.set_samples(image.part(crop, image_room), scale as usize);
+        paint.set_samples(inks, image.part(crop, image_room), scale as usize);
     }
 }
 
@@ -282,6 +307,7 @@ fn paint_row(
 // paint.
 fn lay_paint(
     art: &Art<'_>,
+    inks: PageInks,
     painting: Painting,
     from: usize,
     paint: &InkRow,
@@ -292,16 +318,19 @@ fn lay_paint(
     requires fixed { paint.now ≡ with_fixed art.now (length admitted.now) paint.now }
     requires wide { HasWidth into.old (length into.old.cyan) }
     requires room { from + length admitted.now ≤ length into.old.cyan }
-    ensures cyan { LaysSpan painting from paint.now.cyan admitted.now into.old.cyan into.new.cyan }
-    ensures magenta { LaysSpan painting from paint.now.magenta admitted.now
+    ensures cyan { LaysSpan (painted_as inks.colour painting) from paint.now.cyan admitted.now
+        into.old.cyan into.new.cyan }
+    ensures magenta { LaysSpan (painted_as inks.colour painting) from paint.now.magenta admitted.now
         into.old.magenta into.new.magenta }
-    ensures yellow { LaysSpan painting from paint.now.yellow admitted.now into.old.yellow into.new.yellow }
+    ensures yellow { LaysSpan (painted_as inks.colour painting) from paint.now.yellow admitted.now
+        into.old.yellow into.new.yellow }
     ensures black { LaysSpan painting from paint.now.black admitted.now into.old.black into.new.black }
-    ensures spot { LaysSpan painting from paint.now.spot admitted.now into.old.spot into.new.spot }
+    ensures spot { LaysSpan (painted_as inks.spot painting) from paint.now.spot admitted.now
+        into.old.spot into.new.spot }
 {
     match art {
-        Art::Contone(_) => into.lay_samples(painting, from, paint, admitted),
-        Art::Line(_, inks) => into.lay_inks(painting, from, inks, admitted),
+        Art::Contone(_) => into.lay_samples(inks, painting, from, paint, admitted),
+        Art::Line(_, values) => into.lay_inks(inks, painting, from, values, admitted),
     }
 }
 

@@ -10,6 +10,7 @@ mod layer_room;
 mod layer_rows;
 mod marks;
 mod mask_rows;
+mod page_inks;
 mod page_rows;
 mod room;
 mod row_reader;
@@ -18,4 +19,5 @@ mod stretch;
 
 pub use ink_row::InkRow;
 pub use layer::{Art, Crop, Layer};
+pub use page_inks::PageInks;
 pub use page_rows::PageRows;

@@ -2,16 +2,16 @@
 ghost use Rattle.std.specs.Prelude.{◌≡◌, ℕ, ◌<◌, ◌≤◌, All, IfOk, length};
 ghost use Rattle.std.specs.List.{fold, list_all};
 ghost use Rattle.std.specs.Vec.{vec_capacity};
-ghost use Rattle.page_layers.specs.Inks.{HasWidth, inks_at};
+ghost use Rattle.page_layers.specs.Inks.{HasWidth, inks_at, only, painted_inks};
 ghost use Rattle.page_layers.specs.Layer.{ink_at, painted};
 ghost use Rattle.page_layers.specs.Page.{shows_alike};
 ghost use Rattle.page_layers.specs.Rows.{IsReady, layers_of};
 
-use crate::InkRow;
 use crate::layer::Layer;
 use crate::layer_room::LayerRoom;
 use crate::layer_rows::LayerRows;
 use crate::room::ReadRoom;
+use crate::{InkRow, PageInks};
 use pr_base::NoMemory;
 use std::alloc::Global;
 use std::marker::Model;
@@ -53,7 +53,7 @@ impl<'a> Model for PageRows<'a> {
 
 impl<'a> PageRows<'a> {
     ghost use Rattle.std.specs.Prelude.{◌≡◌, ℕ, ◌+◌, ◌-◌, ◌<◌, ◌≤◌, ◌∷◌, ◌++◌, [], All, IfOk, IsTrue, length};
-    ghost use Rattle.page_layers.specs.Inks.{HasWidth, inks_at};
+    ghost use Rattle.page_layers.specs.Inks.{HasWidth, inks_at, only, painted_inks};
     ghost use Rattle.page_layers.specs.Layer.{IsLayer, ink_at};
     ghost use Rattle.page_layers.specs.Page.{shows_alike};
 
@@ -121,9 +121,23 @@ impl<'a> PageRows<'a> {
         ensures width { HasWidth into.new self.old.width }
         ensures page { self.new ≡ record self.old { next = self.old.next + 1 } }
     {
+        self.next_in(PageInks::ALL, into);
+    }
+
+    /// Writes the next row in some inks. Of the others only the width is known afterwards. Where a page is
+    /// asked for other inks than in its last row, its images are read again from the top.
+    pub fn next_in(&mut self, inks: PageInks, into: &mut InkRow)
+        requires left { self.old.next < self.old.height }
+        requires width { HasWidth into.old self.old.width }
+        ensures inks { (x : ℕ) → x < self.old.width
+            → only (painted_inks inks) (inks_at into.new x)
+            ≡ only (painted_inks inks) (ink_at self.old.layers x self.old.next) }
+        ensures width { HasWidth into.new self.old.width }
+        ensures page { self.new ≡ record self.old { next = self.old.next + 1 } }
+    {
         let y = self.next;
-        clear_under(&self.layers, y, into);
-        paint_layers(&mut self.layers, y, &mut self.read, into);
+        clear_under(&self.layers, y, inks, into);
+        paint_layers(&mut self.layers, y, inks, &mut self.read, into);
         self.next = y + 1;
     }
 
@@ -171,36 +185,44 @@ fn layer_rooms(alloc: Global, count: usize) -> Result<Vec<LayerRoom>, NoMemory>
     Ok(rooms)
 }
 
-// Sets all inks to 0 before row `y` is painted, except where the bottom layer replaces them.
-fn clear_under(layers: &[LayerRows<'_>], y: u32, into: &mut InkRow)
+// Sets the painted inks to 0 before row `y` is painted, except where the bottom layer replaces them.
+fn clear_under(layers: &[LayerRows<'_>], y: u32, inks: PageInks, into: &mut InkRow)
     requires width { HasWidth into.old (length into.old.cyan) }
     requires ready { All (IsReady (length into.old.cyan) y) layers.now }
     ensures width { HasWidth into.new (length into.old.cyan) }
     ensures under { (x : ℕ) → x < length into.old.cyan
-        → fold (λ under layer. painted layer x y under) (inks_at into.new x) (layers_of layers.now)
-        ≡ ink_at (layers_of layers.now) x y }
+        → only (painted_inks inks)
+        (fold (λ under layer. painted layer x y under) (inks_at into.new x) (layers_of layers.now))
+        ≡ only (painted_inks inks) (ink_at (layers_of layers.now) x y) }
 {
     if layers.is_empty() {
-        into.clear_beside(0, 0);
+        into.clear_beside(inks, 0, 0);
         return;
     }
     let (from, to) = layers[0].covered(y);
-    into.clear_beside(from, to);
+    into.clear_beside(inks, from, to);
 }
 
-// Paints the layers in order over row `y`.
-fn paint_layers(layers: &mut [LayerRows<'_>], y: u32, read: &mut ReadRoom, into: &mut InkRow)
+// Paints the layers in order over row `y`, in these inks.
+fn paint_layers(
+    layers: &mut [LayerRows<'_>],
+    y: u32,
+    inks: PageInks,
+    read: &mut ReadRoom,
+    into: &mut InkRow,
+)
     requires width { HasWidth into.old (length into.old.cyan) }
     requires ready { All (IsReady (length into.old.cyan) y) layers.old }
     ensures inks { (x : ℕ) → x < length into.old.cyan
-        → inks_at into.new x
-        ≡ fold (λ under layer. painted layer x y under) (inks_at into.old x) (layers_of layers.old) }
+        → only (painted_inks inks) (inks_at into.new x)
+        ≡ only (painted_inks inks)
+        (fold (λ under layer. painted layer x y under) (inks_at into.old x) (layers_of layers.old)) }
     ensures width { HasWidth into.new (length into.old.cyan) }
     ensures layers { layers_of layers.new ≡ layers_of layers.old }
     ensures ready { All (IsReady (length into.old.cyan) y) layers.new }
 {
     for layer in layers.iter_mut() {
-        layer.paint(y, read, into);
+        layer.paint(y, inks, read, into);
     }
 }
 

@@ -1,5 +1,6 @@
 // A row of one ink of a page after its tone curve.
-ghost use Rattle.std.specs.Prelude.{◌≡◌, ◌≤◌, ◌<◌, ℕ, IfOk, if◌then◌else◌, length, slice_index, true, false};
+ghost use Rattle.std.specs.Prelude.{◌≡◌, ◌≤◌, ◌<◌, ℕ, IfOk, IsTrue, List, if◌then◌else◌, length, replicate};
+ghost use Rattle.std.specs.Prelude.{slice_index, false};
 ghost use Rattle.press_job.specs.Printing.{toned};
 
 use crate::tones::Tones;
@@ -7,51 +8,88 @@ use page_tone::Curve;
 use pr_base::{Ink, NoMemory};
 use std::alloc::Global;
 
-/// The values of one ink. If neither a curve nor a limit changes them, they stay in the row where the page's
-/// layers were painted.
+/// Where the values of an ink are.
+#[derive(Clone, Copy)]
+pub(crate) enum Source {
+    /// In the row in which the page's layers were painted: neither a curve nor a limit changes them.
+    Painted,
+    /// In the plane.
+    Own,
+    /// In a row without ink: the page does not print the ink.
+    Blank,
+}
+
+/// The values of one ink.
 #[derive(Drop)]
 pub(crate) struct Plane {
     pub(crate) values: Vec<u8>,
-    pub(crate) is_left: bool,
+    pub(crate) source: Source,
 }
 
 impl Plane {
     ghost use Rattle.press_job.specs.Planes.{IsToned, shown_in};
-    ghost use Rattle.press_job.specs.Tones.{limits};
 
     /// Returns a row of `width` values.
     pub(crate) fn new(alloc: Global, width: u32) -> Result<Plane, NoMemory>
         ensures width { IfOk result (λ plane. length plane.values.items ≡ width) }
-        ensures left { IfOk result (λ plane. plane.is_left ≡ false) }
+        ensures own { IfOk result (λ plane. plane.source ≡ Source.Own) }
     {
         Ok(Plane {
             values: vec![in alloc; 0; width as usize]?,
-            is_left: false,
+            source: Source::Own,
         })
     }
 
-    /// Applies the ink's curve to a row of ink values, or sets no ink if the page does not print this ink.
-    pub(crate) fn tone(&mut self, tones: &Tones<'_>, ink: Ink, prints: bool, row: &[u8])
+    /// Applies the ink's curve to a row of ink values, or shows no ink if the page does not print this ink.
+    /// Values that will be limited become the plane's own.
+    pub(crate) fn tone(
+        &mut self,
+        tones: &Tones<'_>,
+        ink: Ink,
+        prints: bool,
+        is_limited: bool,
+        row: &[u8],
+    )
         requires { length row.now ≡ length self.old.values.items }
-        ensures values { IsToned tones.now ink prints row.now (shown_in row.now self.new) }
+        ensures values { (blank : List ℕ) → blank ≡ replicate (length row.now) 0
+            → IsToned tones.now ink prints row.now (shown_in row.now blank self.new) }
         ensures width { length self.new.values.items ≡ length self.old.values.items }
-        ensures own { limits tones.now ink ≡ true → self.new.is_left ≡ false }
+        ensures own { IsTrue is_limited → self.new.source ≡ Source.Own }
     {
-        self.is_left = prints && tones.is_plain(ink) && !tones.limits(ink);
-        if !self.is_left {
-            tone_values(tones, ink, prints, row, &mut self.values);
+        self.source = source_of(tones, ink, prints, is_limited);
+        match self.source {
+            Source::Own => tone_values(tones, ink, prints, row, &mut self.values),
+            Source::Painted | Source::Blank => (),
         }
     }
 
-    /// Lends the values: its own, or those of `row` if they were left there.
-    pub(crate) fn of<'a>(&'a self, row: &'a [u8]) -> &'a [u8]
-        ensures { result.now ≡ shown_in row.now self.now }
+    /// Lends the values: its own, or those of the painted row or of the blank one.
+    pub(crate) fn of<'a>(&'a self, row: &'a [u8], blank: &'a [u8]) -> &'a [u8]
+        ensures { result.now ≡ shown_in row.now blank.now self.now }
     {
-        if self.is_left {
-            row
-        } else {
-            self.values.as_slice()
+        match self.source {
+            Source::Painted => row,
+            Source::Own => self.values.as_slice(),
+            Source::Blank => blank,
         }
+    }
+}
+
+/// Returns where the values of an ink are after its curve.
+fn source_of(tones: &Tones<'_>, ink: Ink, prints: bool, is_limited: bool) -> Source
+    ensures painted { result ≡ Source.Painted → IsTrue prints
+        × ((value : ℕ) → value < 256 → toned tones.now ink value ≡ value) }
+    ensures blank { result ≡ Source.Blank → prints ≡ false }
+    ensures own { IsTrue is_limited → result ≡ Source.Own }
+{
+    if is_limited {
+        Source::Own
+    } else if !prints {
+        Source::Blank
+    } else if tones.is_plain(ink) {
+        Source::Painted
+    } else {
+        Source::Own
     }
 }
 

@@ -7,7 +7,7 @@ ghost use Rattle.press_job.specs.Planes.{IsSameKind, ShowsInks};
 
 use crate::plane::Plane;
 use crate::tones::Tones;
-use page_layers::{InkRow, PageRows};
+use page_layers::{InkRow, PageInks, PageRows};
 use page_tone::limit_row;
 use plan_json::Plan;
 use pr_base::{Ink, NoMemory};
@@ -19,6 +19,8 @@ use std::marker::Model;
 #[derive(Drop)]
 pub struct PrintedRow {
     inks: InkRow,
+    /// The values of each ink that the page does not print.
+    blank: Vec<u8>,
     cyan: Plane,
     magenta: Plane,
     yellow: Plane,
@@ -33,9 +35,9 @@ impl Model for PrintedRow {
 
     ghost use Rattle.press_job.specs.Planes.{HaveWidth, shown_planes};
 
-    ghost view = { λ r. shown_planes r.inks r.cyan r.magenta r.yellow r.black r.spot };
+    ghost view = { λ r. shown_planes r.inks r.blank.items r.cyan r.magenta r.yellow r.black r.spot };
 
-    ghost invariant = { λ r. HaveWidth r.inks r.cyan r.magenta r.yellow r.black r.spot };
+    ghost invariant = { λ r. HaveWidth r.inks r.blank.items r.cyan r.magenta r.yellow r.black r.spot };
 }
 
 impl PrintedRow {
@@ -46,6 +48,7 @@ impl PrintedRow {
         let width = plan.page_width;
         Ok(PrintedRow {
             inks: InkRow::new(alloc, width)?,
+            blank: vec![in alloc; 0; width as usize]?,
             cyan: Plane::new(alloc, width)?,
             magenta: Plane::new(alloc, width)?,
             yellow: Plane::new(alloc, width)?,
@@ -85,17 +88,19 @@ impl PrintedRow {
         ensures width { HasWidth self.new page.old.width }
         ensures page { page.new ≡ record page.old { next = page.old.next + 1 } }
     {
-        page.next(&mut self.inks);
+        page.next_in(PageInks { colour, spot }, &mut self.inks);
+        let is_limited = tones.limits(colour);
         self.cyan
-            .tone(tones, Ink::C, colour, self.inks.plane(Ink::C));
+            .tone(tones, Ink::C, colour, is_limited, self.inks.plane(Ink::C));
         self.magenta
-            .tone(tones, Ink::M, colour, self.inks.plane(Ink::M));
+            .tone(tones, Ink::M, colour, is_limited, self.inks.plane(Ink::M));
         self.yellow
-            .tone(tones, Ink::Y, colour, self.inks.plane(Ink::Y));
+            .tone(tones, Ink::Y, colour, is_limited, self.inks.plane(Ink::Y));
         self.black
-            .tone(tones, Ink::K, true, self.inks.plane(Ink::K));
-        self.spot.tone(tones, Ink::S, spot, self.inks.plane(Ink::S));
-        if tones.limits(Ink::K) {
+            .tone(tones, Ink::K, true, is_limited, self.inks.plane(Ink::K));
+        self.spot
+            .tone(tones, Ink::S, spot, false, self.inks.plane(Ink::S));
+        if is_limited {
             limit_planes(
                 tones.limit(),
                 &mut self.cyan,
@@ -113,11 +118,11 @@ impl PrintedRow {
     {
         let row = self.inks.plane(ink);
         match ink {
-            Ink::C => self.cyan.of(row),
-            Ink::M => self.magenta.of(row),
-            Ink::Y => self.yellow.of(row),
-            Ink::K => self.black.of(row),
-            Ink::S => self.spot.of(row),
+            Ink::C => self.cyan.of(row, &self.blank),
+            Ink::M => self.magenta.of(row, &self.blank),
+            Ink::Y => self.yellow.of(row, &self.blank),
+            Ink::K => self.black.of(row, &self.blank),
+            Ink::S => self.spot.of(row, &self.blank),
         }
     }
 }

@@ -1,6 +1,6 @@
 // The tone of a plan: the curve of each ink, and the ink limit of a pixel.
 ghost use Rattle.std.specs.Prelude.{◌≡◌, ◌<◌, ◌≤◌, ℕ, IfOk, IsTrue, slice_index};
-ghost use Rattle.press_job.specs.Tones.{identity};
+ghost use Rattle.press_job.specs.Tones.{identity, most_ink as most_of};
 
 use page_tone::Curve;
 use plan_json::Plan;
@@ -8,8 +8,11 @@ use pr_base::{Ink, NoMemory};
 use std::alloc::Global;
 use std::marker::Model;
 
-/// The largest sum of four ink values. This limit changes nothing.
-const NO_LIMIT: u16 = 4 * 255;
+/// The largest ink value, which a page that prints K alone has at most.
+const MOST_BLACK: u16 = 255;
+
+/// The largest sum of four ink values.
+const MOST_INK: u16 = 4 * 255;
 
 /// The tone of a plan: for each of the five inks a table of its curve over the ink values 0 to 255, and the
 /// ink limit of a pixel. Contracts see the plan.
@@ -55,11 +58,11 @@ impl<'j> Tones<'j> {
         plan.limit
     }
 
-    /// Whether the plan's limit can change the values of this ink.
-    pub(crate) fn limits(&self, ink: Ink) -> bool
-        ensures { result ≡ limits self.now ink }
+    /// Whether the plan's limit can change the values of a page that prints C, M and Y if `colour`.
+    pub(crate) fn limits(&self, colour: bool) -> bool
+        ensures { result ≡ limits self.now colour }
     {
-        ink != Ink::S && self.limit() < NO_LIMIT
+        self.limit() < most_ink(colour)
     }
 
     /// Whether the curve of an ink changes no value, judged by its points.
@@ -77,6 +80,13 @@ impl<'j> Tones<'j> {
     {
         &self.curves[ink.slot()]
     }
+}
+
+/// Returns the largest sum of C, M, Y and K at a pixel of a page that prints C, M and Y if `colour`.
+fn most_ink(colour: bool) -> u16
+    ensures { result ≡ most_of colour }
+{
+    if colour { MOST_INK } else { MOST_BLACK }
 }
 
 /// Whether these are the two points of the identity curve.

@@ -17,5 +17,5 @@ returns-in-Contone-clause-paint c =
     let four = part_of_four c.in-Contone.contone.shape c.in-Contone.contone.bytes _ c.args.crop.x c.args.crop.width samples in
     let spot = c.set_samples.ensures.spot ∙ ap (λ (paint : Planes). paint.spot) c.requires.fixed ∙ ap (λ (art : Art). (with_fixed art (length c.args.paint.now.cyan) c.args.paint.now).spot) c.in-Contone.is in
     rw c.in-Contone.is
-    (contone_paint c.in-Contone.contone c.args.crop.x c.args.crop.width c.args.scale _ c.part.result.now c.args.paint.now c.set_samples.new.self (part ∙ four) c.requires.within c.requires.wide.magenta c.requires.wide.yellow c.requires.wide.black
+    (contone_paint c.args.inks c.in-Contone.contone c.args.crop.x c.args.crop.width c.args.scale _ c.part.result.now c.args.paint.now c.set_samples.new.self (part ∙ four) c.requires.within c.requires.wide.magenta c.requires.wide.yellow c.requires.wide.black
     c.set_samples.ensures.cyan c.set_samples.ensures.magenta c.set_samples.ensures.yellow c.set_samples.ensures.black spot)

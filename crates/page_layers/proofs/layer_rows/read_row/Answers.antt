@@ -23,5 +23,5 @@ returns-clause-paint c =
     let bare : bare_art c.args.art.now ≡ true = ap bare_art c.in-Contone.is in
     let spot = c.read_planes.ensures.spot ∙ ap (λ (paint : Planes). paint.spot) c.requires.fixed ∙ ap (λ (art : Art). (with_fixed art span c.args.paint.now).spot) c.in-Contone.is in
     rw row
-    (planes_paint c.args.art.now c.args.image.now c.args.crop.x c.args.scale c.args.y span c.args.paint.now c.read_planes.new.self c.requires.image bare c.if-scale-eq1.true c.requires.wide
+    (planes_paint c.args.inks c.args.art.now c.args.image.now c.args.crop.x c.args.scale c.args.y span c.args.paint.now c.read_planes.new.self c.requires.image bare c.if-scale-eq1.true c.requires.wide
     c.read_planes.ensures.cyan c.read_planes.ensures.magenta c.read_planes.ensures.yellow c.read_planes.ensures.black spot)

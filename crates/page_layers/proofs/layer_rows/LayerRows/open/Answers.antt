@@ -7,7 +7,7 @@ use Rattle.page_layers.proofs.layer_rows.LayerRows.open.Goals as goal
 pub invariant_of-result : goal.invariant_of-result
 invariant_of-result c =
     let span : c.span_of-span.result ≡ span_of c.args.width c.args.layer = c.span_of-span.ensures in
-    IsLayerRows-open c.args.layer c.args.width c.columns_of-columns.result c.painting_of-painting.result c.new-image.result c.open_mask-mask.result c.refill.new.self
+    IsLayerRows-open c.args.layer c.args.width c.columns_of-columns.result c.painting_of-painting.result c.new-image.result c.open_mask-mask.result c.refill.new.self _
     c.refill-2.new.bytes.items c.refill-3.new.bytes.items _ _ c.requires.layer c.painting_of-painting.ensures c.shape-shape.ensures.width c.shape-shape.ensures.length c.requires.width
     (c.new-image.ensures ∙ c.rows.ensures) c.open_mask-mask.ensures
     (inks_from _ _ _ _ 0 c.refill.ensures.cyan span c.fixed_inks.ensures)

@@ -1,16 +1,6 @@
-use Rattle.std.proofs.Common.{◌≡◌, ◌<◌, ℕ, List, subst, ap, ◌∙◌, arith}
-use Rattle.std.specs.List.{fold}
-use Rattle.page_layers.specs.Inks.{inks_at}
-use Rattle.page_layers.specs.Layer.{ink_at, painted}
-use Rattle.page_layers.specs.Page.{Page}
-use Rattle.page_layers.specs.Rows.{LayerState, layers_of}
+use Rattle.std.proofs.Common.{◌∙◌}
+use Rattle.page_layers.proofs.Only.{only-ink_at}
 use Rattle.page_layers.proofs.page_rows.PageRows.next.Goals as goal
 
 pub returns-clause-inks : goal.returns-clause-inks
-returns-clause-inks c =
-    let P : Page → Type 0 = λ page. (x : ℕ) → x < c.args.self.now.width → inks_at c.paint_layers.new.into x ≡ ink_at page.layers x page.next in
-    subst P c.self.view_is
-    (λ x within.
-    c.paint_layers.ensures.inks x (omega (arith, c.requires.width.cyan, c.clear_under.ensures.width.cyan))
-    ∙ ap (λ (states : List LayerState). fold (λ under layer. painted layer x c.self.inside.next under) (inks_at c.clear_under.new.into x) (layers_of states)) (c.deref_mut.ensures.value)
-    ∙ rw c.deref.ensures.value at (c.clear_under.ensures.under x (omega (arith, c.requires.width.cyan))))
+returns-clause-inks c = λ x within. c.next_in.ensures.inks x within ∙ only-ink_at c.args.self.now.layers x c.args.self.now.next

@@ -15,7 +15,7 @@ invariant_of-self c =
       ready =
           All-same (IsReady c.self.inside.width c.self.inside.next) c.push_reserved.new.self.items _ c.push_reserved.ensures.items
           (All-push (IsReady c.self.inside.width c.self.inside.next) c.self.inside.layers.items c.open.result c.self.invariant.ready
-          (subst (λ y. IsReady c.self.inside.width y c.open.result) (sym top) (IsReady-open c.self.inside.width c.args.layer c.open.result c.open.ensures c.requires.layer)));
+          (subst (λ y. IsReady c.self.inside.width y c.open.result) (sym top) (IsReady-open c.self.inside.width c.args.layer _ c.open.result c.open.ensures c.requires.layer)));
       layers_fit = omega (arith, c.self.invariant.layers_fit, c.push_reserved.ensures.len, c.take_last-room.ensures.len, c.push_reserved.ensures.capacity);
       rooms_fit = omega (arith, c.self.invariant.rooms_fit, c.push_reserved.ensures.len, c.take_last-room.ensures.len, c.take_last-room.ensures.capacity);
     }
