@@ -1,5 +1,5 @@
 -- The rows of a job, and a run's contract over them.
-use Rattle.std.proofs.Common.{◌≡◌, ℕ, Result, List, ◌++◌, length, drop, map, refl, sym, ap, subst, ◌∙◌}
+use Rattle.std.proofs.Common.{◌≡◌, ℕ, Option, Result, List, ◌++◌, length, drop, map, refl, sym, ap, subst, ◌∙◌}
 use Rattle.std.proofs.lemmas.List.{length-map}
 use Rattle.std.proofs.Math.Seq.{drop-append_seam}
 use Rattle.pr_base.specs.Row.{row_size}
@@ -13,7 +13,11 @@ use Rattle.ring_rule.specs.Views.{ring_of}
 use Rattle.site_agent.proofs.Racks.{all_keep, over_wide}
 use Rattle.ring_run.specs.declared.site_end.Outcome.{Outcome}
 use Rattle.ring_run.specs.declared.site_end.SiteEnd.{SiteEnd}
-use Rattle.ring_run.specs.Fits.{Delivery, RunFits, RunLeaves, RunPart, by_ring}
+use Rattle.ring_run.specs.Fits.{Delivery, RunFits, RunPart, by_ring}
+use Rattle.ring_run.specs.JobRun.{RunLeaves}
+use Rattle.ring_run.specs.Keyed.{CountsFit}
+use Rattle.ink_keys.specs.Counts.{CountsData}
+use Rattle.ink_keys.specs.Turn.{KeyReaderData}
 use Rattle.ring_run.specs.Served.{Carries}
 use Rattle.site_agent.proofs.Results.{if_err, if_ok}
 use Rattle.ring_run.proofs.Running.{fits_wide, part_wide}
@@ -56,11 +60,12 @@ job_part tell own plan files out readers ring racks racks' front front' rest is 
     (part_wide (by_ring own (map framed_row (plate_frames plan files)) out readers ring) (map tell front) (map tell front') (map tell rest) (length-map front tell ∙ long) (length-map front' tell ∙ same ∙ long) part))
 
 -- so what a run leaves on the racks of its sites, it leaves on all racks
-pub job_leaves : {X E : Type 0} (tell : X → RackTells) (own plan : PlanData) (files : List (List ℕ)) (out : List ℕ) (readers ring : ℕ) (racks racks' front front' rest : List X) (answer : Result Outcome E) → racks ≡ front ++ rest → racks' ≡ front' ++ rest
-    → length front ≡ length own.sites → length front' ≡ length front → own ≡ plan → IsPlan own → RunLeaves (by_ring own (map framed_row (plate_frames plan files)) out readers ring) (map tell front) (map tell front') answer
-    → RunLeaves (by_ring plan (plate_rows plan files) out readers ring) (map tell racks) (map tell racks') answer
-job_leaves tell own plan files out readers ring racks racks' front front' rest answer is is' long same plan-is is-plan leaves = record {
-  fits = if_ok answer _ _ (λ outcome fits. job_fits tell own plan files out readers ring racks racks' front front' rest outcome.sites.items is is' long same plan-is is-plan fits) leaves.fits;
+pub job_leaves : {X E : Type 0} (tell : X → RackTells) (own plan : PlanData) (files : List (List ℕ)) (out : List ℕ) (readers ring : ℕ) (keys : Option KeyReaderData) (racks racks' front front' rest : List X) (answer : Result (Outcome × Option CountsData) E) → racks ≡ front ++ rest → racks' ≡ front' ++ rest
+    → length front ≡ length own.sites → length front' ≡ length front → own ≡ plan → IsPlan own → RunLeaves (by_ring own (map framed_row (plate_frames plan files)) out readers ring) keys (map tell front) (map tell front') answer
+    → RunLeaves (by_ring plan (plate_rows plan files) out readers ring) keys (map tell racks) (map tell racks') answer
+job_leaves tell own plan files out readers ring keys racks racks' front front' rest answer is is' long same plan-is is-plan leaves = record {
+  fits = if_ok answer _ _ (λ pair fits. job_fits tell own plan files out readers ring racks racks' front front' rest pair.0.sites.items is is' long same plan-is is-plan fits) leaves.fits;
+  counts_fit = if_ok answer _ _ (λ pair fits. over_job (λ (d : Delivery). CountsFit d.plan d.rows keys pair.1) own plan files out readers ring plan-is is-plan fits) leaves.counts_fit;
   part = if_err answer _ _ (λ part. job_part tell own plan files out readers ring racks racks' front front' rest is is' long same plan-is is-plan part) leaves.part;
   counts = all_keep tell racks racks' front front' rest is is' same leaves.counts;
 }

@@ -1,7 +1,6 @@
 mod Serving
 mod Kept
+mod Rounds
+pub mod Keys
 pub mod Running
 pub mod JobRows
-mod Rounds
-pub mod KeyTurns
-mod RoundEnds

@@ -1,11 +1,16 @@
 -- A run from its first round to its last.
 use Rattle.std.proofs.Common.{◌≡◌, ℕ, zero, suc, ◌+◌, ◌-◌, ◌<◌, ◌≤◌, ◌⊎◌, Bool, true, false, not, ◌&&◌, ◌||◌, List, [], ◌∷◌, ◌++◌, length, map, take, drop, get_or, Result, Ok, Err, Option, Some, None, refl, sym, ap, subst, ◌∙◌, inl, inr, ⊎_elim, zero-add, append-nil, arith}
-use Rattle.std.specs.Prelude.{IsErr, nat_lt, slice_get}
+use Rattle.std.specs.Prelude.{IfOk, IsErr, nat_lt, slice_get}
 use Rattle.std.specs.List.{enumerate_from, list_any}
+use Rattle.std.specs.Option.{option_and_then, option_map}
+use Rattle.ink_keys.specs.Counts.{CountsData}
+use Rattle.ink_keys.specs.Turn.{KeyReaderData}
+use Rattle.ring_turns.proofs.Halves.{slice_get-take}
+use Rattle.std.proofs.Math.Seq.{drop-append_seam, take-append_seam}
 use Rattle.std.proofs.lemmas.Bool.{cases_lt, ltb-false}
 use Rattle.std.proofs.lemmas.List.{take-append-drop, length-append, length-take-le, get_or-append_right, get_or_append_left, get_or-map, length-map, map-append}
 use Rattle.std.proofs.lemmas.List.FromFn.{get_or-enumerate_from, length-enumerate_from}
-use Rattle.std.proofs.lemmas.Option.{get_or_from_slice_get, same_Some, slice_get-get_or, slice_get_within}
+use Rattle.std.proofs.lemmas.Option.{get_or_from_slice_get, same_Some, slice_get-get_or, slice_get-map, slice_get_past, slice_get_within}
 use Rattle.atomic_table.specs.Seated.{TableId}
 use Rattle.ring_rule.specs.declared.view.RingNumbers.{RingNumbers}
 use Rattle.ring_rule.specs.Views.{up_to}
@@ -20,19 +25,22 @@ use Rattle.plan_rows.specs.Rows.{row_places}
 use Rattle.site_agent.specs.Plan.{fresh_site}
 use Rattle.site_agent.specs.Stands.{grown}
 use Rattle.site_agent.proofs.Going.{going_at_start}
-use Rattle.site_agent.specs.Racks.{AreIdle, KeepCounts, TellsSlots, AllTellSlots}
+use Rattle.site_agent.specs.Racks.{AreIdle, KeepCounts, AllTellSlots}
 use Rattle.site_agent.proofs.Racks.{counts_stay, idle_is, slice_get-behind, slice_get-front}
-use Rattle.ring_run.specs.declared.site.RunSite.{RunSite}
-use Rattle.ring_run.specs.declared.site.RunSite.TheVariants.{Going, Left, Stopped}
+use Rattle.ring_run.specs.declared.role.Role.{Role}
+use Rattle.ring_run.specs.declared.role.Role.TheVariants.{Going, Left, Stopped, Counting}
 use Rattle.ring_run.specs.declared.site_end.Outcome.{Outcome}
 use Rattle.ring_run.specs.declared.site_end.SiteEnd.{SiteEnd}
 use Rattle.ring_run.specs.declared.site_end.SiteEnd.TheVariants.{Finished}
 use Rattle.ring_run.specs.declared.site_end.SiteEnd.TheVariants as Ended
-use Rattle.ring_run.specs.Fits.{Delivery, FitsEnd, FitsPart, RunFits, RunLeaves, RunPart, kept_rows}
+use Rattle.ring_run.specs.Fits.{Delivery, FitsEnd, FitsPart, RunFits, RunPart, kept_rows}
+use Rattle.ring_run.specs.JobRun.{RunLeaves}
+use Rattle.ring_run.specs.Keyed.{AreFreshKeys, CountsFit, KeysFit, further_count}
 use Rattle.ring_run.specs.Round.{AreEndsOf, StaySeated}
-use Rattle.ring_run.specs.Seat.{SeatData, all_readers, are_going, is_going, is_stopped}
-use Rattle.ring_run.specs.Served.{AreSeated, AreSomeSeated, AreStopped, Carries, GoesOnAt, IsSeated, IsServed, LeavesPart, end_of, ends_in, fresh_seat, fresh_seats, is_out}
-use Rattle.ring_run.proofs.Rounds.{mapped, none_at, none_going, seat_end, seat_in}
+use Rattle.ring_run.specs.Seat.{SeatData, are_going, counts_at, counts_in, is_going, is_stopped}
+use Rattle.ring_run.specs.Served.{AreSeated, AreSomeSeated, AreStopped, Carries, GoesOnAt, IsCounting, IsSeated, IsServed, LeavesPart, Work, end_of, ends_in, fresh_seats, is_out, site_seat, site_seats}
+use Rattle.ring_run.proofs.Keys.{counting_first, counts_fit}
+use Rattle.ring_run.proofs.Rounds.{mapped, none_at, none_going}
 use Rattle.ring_run.proofs.Serving.{finishes, going_part, total_is}
 
 -- ---- the start
@@ -49,12 +57,8 @@ get_or-up_to (suc n) i less =
     (cases_lt i n)
 
 -- there is a seat for each reader
-pub length-fresh_seats : (plan : PlanData) (out : List ℕ) (readers : List ReaderState) → length (fresh_seats plan out readers) ≡ length readers
-length-fresh_seats plan out readers = length-map (enumerate_from 0 readers) (fresh_seat plan out) ∙ length-enumerate_from 0 readers
-
--- new readers' ends, numbered from n on, which no row has passed yet
-abbrev pub AreNew : TableId → RingNumbers → ℕ → List ReaderState → Type 0
-AreNew table ring n readers = (i : ℕ) (reader : ReaderState) → slice_get readers i ≡ Some reader → reader ≡ new_reader_state table ring (n + i)
+pub length-site_seats : (plan : PlanData) (out : List ℕ) (readers : List ReaderState) → length (site_seats plan out readers) ≡ length readers
+length-site_seats plan out readers = length-map (enumerate_from 0 readers) (site_seat plan out) ∙ length-enumerate_from 0 readers
 
 all_new : (table : TableId) (ring : RingNumbers) (n i : ℕ) (reader : ReaderState) → slice_get (map (new_reader_state table ring) (up_to n)) i ≡ Some reader → reader ≡ new_reader_state table ring i
 all_new table ring n i reader there =
@@ -63,222 +67,314 @@ all_new table ring n i reader there =
     let number : at.0 ≡ i = sym (get_or_from_slice_get (up_to n) i at.0 0 at.1) ∙ get_or-up_to n i (omega (arith, inside, length_up n)) in
     sym at.2 ∙ ap (new_reader_state table ring) number
 
-front_new : (table : TableId) (ring : RingNumbers) (n : ℕ) (front back : List ReaderState) → front ++ back ≡ map (new_reader_state table ring) (up_to n) → AreNew table ring 0 front
-front_new table ring n front back is i reader there =
-    all_new table ring n i reader (ap (λ list. slice_get list i) (sym is) ∙ slice_get-front front back i (slice_get_within front i reader there) ∙ there)
-    ∙ ap (new_reader_state table ring) (sym (zero-add i))
-
-pub back_new : (table : TableId) (ring : RingNumbers) (n : ℕ) (front back : List ReaderState) → front ++ back ≡ map (new_reader_state table ring) (up_to n) → AreNew table ring (length front) back
-back_new table ring n front back is i reader there =
-    all_new table ring n (length front + i) reader
-    (ap (λ list. slice_get list (length front + i)) (sym is) ∙ slice_get-behind front back (length front + i) (let e : length front ≤ length front + i = omega arith in e)
-    ∙ ap (slice_get back) (let e : (length front + i) - length front ≡ i = omega arith in e) ∙ there)
-
--- the seat at an index
-pub fresh-at : (plan : PlanData) (out : List ℕ) (table : TableId) (ring : RingNumbers) (readers : List ReaderState) (i : ℕ) (seat : SeatData) → AreNew table ring 0 readers → slice_get (fresh_seats plan out readers) i ≡ Some seat
-    → seat ≡ record { reader = new_reader_state table ring i; site = Going (fresh_site plan out i) }
-fresh-at plan out table ring readers i seat are there =
-    let count = length-fresh_seats plan out readers in
-    let less : i < length readers = omega (arith, slice_get_within (fresh_seats plan out readers) i seat there, count) in
-    sym (get_or_from_slice_get (fresh_seats plan out readers) i seat seat there)
-    ∙ get_or-map (fresh_seat plan out) (enumerate_from 0 readers) i (0, seat.reader) seat (omega (arith, less, length-enumerate_from 0 readers))
-    ∙ ap (fresh_seat plan out) (get_or-enumerate_from 0 readers i (0, seat.reader) less ∙ ap (λ k. (k, get_or readers i seat.reader)) (zero-add i))
-    ∙ ap (λ (x : ReaderState). record { reader = x; site = Going (fresh_site plan out i) })
-    (are i (get_or readers i seat.reader) (slice_get-get_or readers i seat.reader less) ∙ ap (new_reader_state table ring) (zero-add i))
-
 -- the ends of the seats are the given ends
-fresh-readers : (plan : PlanData) (out : List ℕ) (k : ℕ) (readers : List ReaderState) → map (λ seat. seat.reader) (map (fresh_seat plan out) (enumerate_from k readers)) ≡ readers
-fresh-readers plan out k [] = refl
-fresh-readers plan out k (reader ∷ readers) = ap (λ list. reader ∷ list) (fresh-readers plan out (k + 1) readers)
+site-readers : (plan : PlanData) (out : List ℕ) (k : ℕ) (readers : List ReaderState) → map (λ seat. seat.reader) (map (site_seat plan out) (enumerate_from k readers)) ≡ readers
+site-readers plan out k [] = refl
+site-readers plan out k (reader ∷ readers) = ap (λ list. reader ∷ list) (site-readers plan out (k + 1) readers)
+
+key-readers : (key : KeyReaderData) (readers : List ReaderState) → map (λ (seat : SeatData). seat.reader) (map (λ reader. record { reader = reader; role = Counting key }) readers) ≡ readers
+key-readers key [] = refl
+key-readers key (reader ∷ readers) = ap (λ list. reader ∷ list) (key-readers key readers)
+
+fresh-readers : (plan : PlanData) (out : List ℕ) (readers : List ReaderState) (keys : Option KeyReaderData) → map (λ seat. seat.reader) (fresh_seats plan out readers keys) ≡ readers
+fresh-readers plan out readers None = site-readers plan out 0 readers
+fresh-readers plan out readers (Some key) =
+    map-append (λ (seat : SeatData). seat.reader) (site_seats plan out (take (length plan.sites) readers)) _
+    ∙ ap (λ list. list ++ map (λ (seat : SeatData). seat.reader) (map (λ reader. record { reader = reader; role = Counting key }) (drop (length plan.sites) readers))) (site-readers plan out 0 (take (length plan.sites) readers))
+    ∙ ap (λ list. take (length plan.sites) readers ++ list) (key-readers key (drop (length plan.sites) readers))
+    ∙ take-append-drop (length plan.sites) readers
+
+pub length-fresh_seats : (plan : PlanData) (out : List ℕ) (readers : List ReaderState) (keys : Option KeyReaderData) → length (fresh_seats plan out readers keys) ≡ length readers
+length-fresh_seats plan out readers keys = sym (length-map (fresh_seats plan out readers keys) (λ (seat : SeatData). seat.reader)) ∙ ap length (fresh-readers plan out readers keys)
+
+-- the reader at an index
+fresh_reader : (plan : PlanData) (out : List ℕ) (table : TableId) (ring : RingNumbers) (readers : List ReaderState) (keys : Option KeyReaderData) (i : ℕ) (seat : SeatData) → readers ≡ map (new_reader_state table ring) (up_to ring.readers)
+    → slice_get (fresh_seats plan out readers keys) i ≡ Some seat → seat.reader ≡ new_reader_state table ring i
+fresh_reader plan out table ring readers keys i seat are there =
+    all_new table ring ring.readers i seat.reader
+    (ap (λ list. slice_get list i) (sym (fresh-readers plan out readers keys ∙ are))
+    ∙ slice_get-map (λ (seat : SeatData). seat.reader) (fresh_seats plan out readers keys) i ∙ ap (option_map (λ (seat : SeatData). seat.reader)) there)
 
 -- all readers are at the ends of the ring
-pub fresh_ends : (plan : PlanData) (out : List ℕ) (table : TableId) (ring : RingNumbers) (writer : WriterState) (front back : List ReaderState) → writer ≡ new_writer_state table ring
-    → front ++ back ≡ map (new_reader_state table ring) (up_to ring.readers) → AreEndsOf writer (all_readers (fresh_seats plan out front) back)
-fresh_ends plan out table ring writer front back is are =
-    subst (λ (list : List ReaderState). AreEndsOf writer list) (sym (ap (λ list. list ++ back) (fresh-readers plan out 0 front) ∙ are))
-    (record {
-      count = length-map (up_to ring.readers) (new_reader_state table ring) ∙ length_up ring.readers ∙ ap (λ (w : WriterState). w.ring.readers) (sym is);
-      each = λ i reader there.
-          let fresh = all_new table ring ring.readers i reader there in
-          record {
-            table = ap (λ (x : ReaderState). x.table) fresh ∙ ap (λ (w : WriterState). w.table) (sym is);
-            ring = ap (λ (x : ReaderState). x.ring) fresh ∙ ap (λ (w : WriterState). w.ring) (sym is);
-            number = ap (λ (x : ReaderState). x.number) fresh;
-          };
-    })
+pub fresh_ends : (plan : PlanData) (out : List ℕ) (table : TableId) (ring : RingNumbers) (writer : WriterState) (readers : List ReaderState) (keys : Option KeyReaderData) → writer ≡ new_writer_state table ring → readers ≡ map (new_reader_state table ring) (up_to ring.readers)
+    → AreEndsOf writer (fresh_seats plan out readers keys)
+fresh_ends plan out table ring writer readers keys is are = record {
+  count = length-fresh_seats plan out readers keys ∙ ap length are ∙ length-map (up_to ring.readers) (new_reader_state table ring) ∙ length_up ring.readers ∙ ap (λ (w : WriterState). w.ring.readers) (sym is);
+  each = λ i seat there.
+      let fresh = fresh_reader plan out table ring readers keys i seat are there in
+      record {
+        table = ap (λ (x : ReaderState). x.table) fresh ∙ ap (λ (w : WriterState). w.table) (sym is);
+        ring = ap (λ (x : ReaderState). x.ring) fresh ∙ ap (λ (w : WriterState). w.ring) (sym is);
+        number = ap (λ (x : ReaderState). x.number) fresh;
+      };
+}
+
+-- the role at an index: a site's, or behind those of the sites the key reader's
+abbrev IsFirst : PlanData → List ℕ → Option KeyReaderData → ℕ → Role → Type 0
+IsFirst plan out keys i role =
+    ((i < length plan.sites) × (role ≡ Going (fresh_site plan out i))) ⊎ ((length plan.sites ≤ i) × (key : KeyReaderData) × (keys ≡ Some key) × (role ≡ Counting key))
+
+site_role : (plan : PlanData) (out : List ℕ) (readers : List ReaderState) (i : ℕ) (seat : SeatData) → slice_get (site_seats plan out readers) i ≡ Some seat → seat.role ≡ Going (fresh_site plan out i)
+site_role plan out readers i seat there =
+    let count = length-site_seats plan out readers in
+    let less : i < length readers = omega (arith, slice_get_within (site_seats plan out readers) i seat there, count) in
+    ap (λ (x : SeatData). x.role)
+    (sym (get_or_from_slice_get (site_seats plan out readers) i seat seat there)
+    ∙ get_or-map (site_seat plan out) (enumerate_from 0 readers) i (0, seat.reader) seat (omega (arith, less, length-enumerate_from 0 readers))
+    ∙ ap (site_seat plan out) (get_or-enumerate_from 0 readers i (0, seat.reader) less ∙ ap (λ k. (k, get_or readers i seat.reader)) (zero-add i)))
+
+fresh_role : (plan : PlanData) (out : List ℕ) (readers : List ReaderState) (keys : Option KeyReaderData) (i : ℕ) (seat : SeatData) → length readers ≡ length plan.sites + further_count keys → slice_get (fresh_seats plan out readers keys) i ≡ Some seat
+    → IsFirst plan out keys i seat.role
+fresh_role plan out readers None i seat long there =
+    inl (omega (arith, slice_get_within (site_seats plan out readers) i seat there, length-site_seats plan out readers, long), site_role plan out readers i seat there)
+fresh_role plan out readers (Some key) i seat long there =
+    let front = site_seats plan out (take (length plan.sites) readers) in
+    let back : List SeatData = map (λ reader. record { reader = reader; role = Counting key }) (drop (length plan.sites) readers) in
+    let first : length front ≡ length plan.sites = length-site_seats plan out (take (length plan.sites) readers) ∙ length-take-le (length plan.sites) readers (omega (arith, long)) in
+    ⊎_elim
+    (λ (less : i < length plan.sites). inl (less, site_role plan out (take (length plan.sites) readers) i seat (sym (slice_get-front front back i (omega (arith, less, first))) ∙ there)))
+    (λ (more : length plan.sites ≤ i).
+    let at = mapped (λ (reader : ReaderState). let s : SeatData = record { reader = reader; role = Counting key } in s) (drop (length plan.sites) readers) (i - length front) seat (sym (slice_get-behind front back i (omega (arith, more, first))) ∙ there) in
+    inr (more, key, refl, ap (λ (s : SeatData). s.role) (sym at.2)))
+    (cases_lt i (length plan.sites))
+
+-- for how many keys a run counts
+abbrev pub keys_for : Option KeyReaderData → ℕ
+keys_for None = 0
+keys_for (Some key) = key.counts.keys
 
 -- at the start no row has been handled
-pub run_begins : (delivery : Delivery) (table : TableId) (ring : RingNumbers) (readers : List ReaderState) (before : List RackTells) → Carries delivery ring → AreNew table ring 0 readers → length readers ≡ length delivery.plan.sites
-    → AreIdle (length delivery.plan.sites) before → ((site : ℕ) (told : RackTells) → slice_get before site ≡ Some told → TellsSlots told) → AreSeated delivery before before (fresh_seats delivery.plan delivery.out readers)
-run_begins delivery table ring readers before carries new sites idle slots = record {
-  count = count ∙ sites;
-  each = λ site old new' seat b r s.
-      let inside : site < length delivery.plan.sites = omega (arith, slice_get_within seats site seat s, count, sites) in
-      let fresh = fresh-at delivery.plan delivery.out table ring readers site seat new s in
-      let same : old ≡ new' = same_Some old new' (sym b ∙ r) in
-      subst (λ (x : SeatData). IsSeated delivery site old new' x) (sym fresh)
-      (subst (λ (now : RackTells). IsSeated delivery site old now (record { reader = new_reader_state table ring site; site = Going (fresh_site delivery.plan delivery.out site) })) same
-      (record {
-        home = refl;
-        within = (let e : 0 ≤ ring.total = omega arith in e);
-        left = refl;
-        is = record {
-          job_is = refl;
-          next_is = refl;
-          is = going_at_start delivery.plan delivery.rows delivery.out site (delivery.source site) old.tells carries.plan_is (idle_is old (slots site old b) (idle.each site old inside b)) carries.count carries.are.each;
-          missed = refl;
-          faults = (let e : old.faults ≤ old.faults = omega arith in e);
-        };
-      }));
-} where
-  seats : List SeatData
-  seats = fresh_seats delivery.plan delivery.out readers
+run_begins : (delivery : Delivery) (table : TableId) (ring : RingNumbers) (readers : List ReaderState) (keys : Option KeyReaderData) (before : List RackTells) → Carries delivery ring → readers ≡ map (new_reader_state table ring) (up_to ring.readers)
+    → length readers ≡ length delivery.plan.sites + further_count keys → length before ≡ length delivery.plan.sites → AreFreshKeys delivery.plan keys → AreIdle (length delivery.plan.sites) before → AllTellSlots before
+    → AreSeated (record { delivery = delivery; keys = keys_for keys }) before before (fresh_seats delivery.plan delivery.out readers keys)
+run_begins delivery table ring readers keys before carries are long racks fresh idle slots i seat there =
+    by (fresh_role delivery.plan delivery.out readers keys i seat long there) where
+      work : Work
+      work = record { delivery = delivery; keys = keys_for keys }
 
-  count : length seats ≡ length readers
-  count = length-fresh_seats delivery.plan delivery.out readers
+      reader : seat.reader ≡ new_reader_state table ring i
+      reader = fresh_reader delivery.plan delivery.out table ring readers keys i seat are there
 
--- so each site may take its turn
-pub begin_some : (delivery : Delivery) (writer : WriterState) (ring : RingNumbers) (before : List RackTells) (seats : List SeatData) (more : List ReaderState) → Carries delivery ring → writer.ring ≡ ring → AreEndsOf writer (all_readers seats more)
-    → AreSeated delivery before before seats → AreSomeSeated before seats
-begin_some delivery writer ring before seats more carries is ends are i told seat at there =
-    let end = seat_end writer seats more i seat ends there in
+      seated : (role : Role) → seat.role ≡ role → false ≡ is_out role → IsServed work i ring 0 (slice_get before i) (slice_get before i) role → IsSeated work i (slice_get before i) (slice_get before i) seat
+      seated role is joined served =
+          subst (λ (x : SeatData). IsSeated work i (slice_get before i) (slice_get before i) x)
+          (sym (ap (λ (x : ReaderState). let s : SeatData = record { reader = x; role = seat.role } in s) reader ∙ ap (λ (y : Role). let s : SeatData = record { reader = new_reader_state table ring i; role = y } in s) is))
+          (record { home = refl; within = (let e : 0 ≤ ring.total = omega arith in e); left = joined; is = served })
+
+      site : (told : RackTells) → slice_get before i ≡ Some told → i < length delivery.plan.sites → IsServed work i ring 0 (slice_get before i) (slice_get before i) (Going (fresh_site delivery.plan delivery.out i))
+      site told at less =
+          subst (λ (o : Option RackTells). IsServed work i ring 0 o o (Going (fresh_site delivery.plan delivery.out i))) (sym at)
+          (record {
+            job_is = refl;
+            next_is = refl;
+            is = going_at_start delivery.plan delivery.rows delivery.out i (delivery.source i) told.tells carries.plan_is (idle_is told (slots i told at) (idle.each i told less at)) carries.count carries.are.each;
+            missed = refl;
+            faults = (let e : told.faults ≤ told.faults = omega arith in e);
+          })
+
+      none : (o : Option RackTells) → slice_get before i ≡ o → length delivery.plan.sites ≤ i → o ≡ None
+      none None at more = refl
+      none (Some told) at more = absurd (omega (arith, slice_get_within before i told at, racks, more))
+
+      counting : (keys' : Option KeyReaderData) (key : KeyReaderData) → keys' ≡ Some key → AreFreshKeys delivery.plan keys' → IsCounting (record { delivery = delivery; keys = keys_for keys' }) ring 0 key
+      counting keys' key is fresh' =
+          subst (λ (o : Option KeyReaderData). IsCounting (record { delivery = delivery; keys = keys_for o }) ring 0 key) (sym is)
+          (counting_first (record { delivery = delivery; keys = key.counts.keys }) ring key (subst (λ (o : Option KeyReaderData). AreFreshKeys delivery.plan o) is fresh') refl)
+
+      by : IsFirst delivery.plan delivery.out keys i seat.role → IsSeated work i (slice_get before i) (slice_get before i) seat
+      by (inl (less, is)) =
+          let any : RackTells = record { tells = record { finished = None; working = None; begun = []; taken = None }; missed = None; faults = 0 } in
+          seated (Going (fresh_site delivery.plan delivery.out i)) is refl (site (get_or before i any) (slice_get-get_or before i any (omega (arith, less, racks))) less)
+      by (inr (more, key, keys-is, is)) = seated (Counting key) is refl (none (slice_get before i) refl more, counting keys key keys-is fresh)
+
+-- so each reader may take its turn
+begin_some : (work : Work) (writer : WriterState) (ring : RingNumbers) (before : List RackTells) (seats : List SeatData) → Carries work.delivery ring → writer.ring ≡ ring → AreEndsOf writer seats → AreSeated work before before seats → AreSomeSeated before seats
+begin_some work writer ring before seats carries is ends are i seat there =
+    let end = ends.each i seat there in
     record {
-      delivery = delivery;
-      before = told;
-      carries = subst (λ (r : RingNumbers). Carries delivery r) (sym (end.ring ∙ is)) carries;
-      is = subst (λ (n : ℕ). IsSeated delivery n told told seat) (sym end.number) (are.each i told told seat at at there);
+      work = work;
+      before = slice_get before i;
+      carries = subst (λ (r : RingNumbers). Carries work.delivery r) (sym (end.ring ∙ is)) carries;
+      is = subst (λ (n : ℕ). IsSeated work n (slice_get before i) (slice_get before i) seat) (sym end.number) (are i seat there);
     }
 
--- after the last round each site is seated, as at the start
-pub end_seated : (delivery : Delivery) (writer : WriterState) (ring : RingNumbers) (before now : List RackTells) (were are : List SeatData) (more : List ReaderState) → Carries delivery ring → writer.ring ≡ ring → AreEndsOf writer (all_readers were more)
-    → length were ≡ length are → length before ≡ length were → AreSeated delivery before before were → StaySeated before now were are → AreSeated delivery before now are
-end_seated delivery writer ring before now were are more carries is ends same racks seated stay = record {
-  count = sym same ∙ seated.count;
-  each = λ site old new seat b r s.
-      let within = slice_get_within are site seat s in
-      let was : SeatData = get_or were site seat in
-      let was-at : slice_get were site ≡ Some was = slice_get-get_or were site seat (omega (arith, within, same)) in
-      stay delivery site old old new was seat (subst (λ (x : RingNumbers). Carries delivery x) (sym ((seat_end writer were more site was ends was-at).ring ∙ is)) carries) b r was-at s (seated.each site old old was b b was-at);
-}
+-- after the last round each reader is seated, as at the start
+end_seated : (work : Work) (writer : WriterState) (ring : RingNumbers) (before now : List RackTells) (were are : List SeatData) → Carries work.delivery ring → writer.ring ≡ ring → AreEndsOf writer were → length were ≡ length are → AreSeated work before before were
+    → StaySeated before now were are → AreSeated work before now are
+end_seated work writer ring before now were are carries is ends same seated stay i seat there =
+    let within = slice_get_within are i seat there in
+    let was : SeatData = get_or were i seat in
+    let was-at : slice_get were i ≡ Some was = slice_get-get_or were i seat (omega (arith, within, same)) in
+    stay work i (slice_get before i) was seat (subst (λ (x : RingNumbers). Carries work.delivery x) (sym ((ends.each i was was-at).ring ∙ is)) carries) was-at there (seated i was was-at)
 
 -- ---- the end
 
 -- the end of a site, where there is one, is that of a site that didn't run out of memory
-told_end : (plan : PlanData) (site : ℕ) (state : RunSite) (end : SiteEnd) → Some end ≡ end_of plan site state → is_stopped state ≡ false
+told_end : (plan : PlanData) (site : ℕ) (role : Role) (end : SiteEnd) → Some end ≡ end_of plan site role → is_stopped role ≡ false
 told_end plan site (Going going) end is = refl
 told_end plan site (Left cause) end is = refl
 told_end plan site Stopped end is = absurd (none is) where
   none : Some end ≡ None → ⊥
   none e = cc
+told_end plan site (Counting key) end is = refl
 
-end_fits : (delivery : Delivery) (ring : RingNumbers) (site n : ℕ) (before now : RackTells) (state : RunSite) (end : SiteEnd) → Carries delivery ring → is_out state ≡ true ⊎ (n ≡ length (row_places delivery.plan))
-    → IsServed delivery site n before now state → Some end ≡ end_of delivery.plan site state → FitsEnd delivery site before now end
-end_fits delivery ring site n before now (Going going) end carries (inl out) at is = absurd (let e : false ≡ true = out in cc)
-end_fits delivery ring site n before now (Going going) end carries (inr all) at is =
-    subst (λ (e : SiteEnd). FitsEnd delivery site before now e) (sym (same_Some end (Finished (length (site_plates delivery.plan site)) (kept_rows delivery.plan site)) is))
-    (finishes delivery ring site before now going carries (subst (λ (m : ℕ). GoesOnAt delivery site m before now going) all at))
-end_fits delivery ring site n before now (Left cause) end carries over left is =
-    subst (λ (e : SiteEnd). FitsEnd delivery site before now e) (sym (same_Some end (Ended.Left cause) is)) left.fits
-end_fits delivery ring site n before now Stopped end carries over stopped is = absurd (none is) where
+end_fits : (work : Work) (ring own : RingNumbers) (site n : ℕ) (before now : RackTells) (role : Role) (end : SiteEnd) → Carries work.delivery ring → is_out role ≡ true ⊎ (n ≡ length (row_places work.delivery.plan))
+    → IsServed work site own n (Some before) (Some now) role → Some end ≡ end_of work.delivery.plan site role → FitsEnd work.delivery site before now end
+end_fits work ring own site n before now (Going going) end carries (inl out) at is = absurd (let e : false ≡ true = out in cc)
+end_fits work ring own site n before now (Going going) end carries (inr all) at is =
+    subst (λ (e : SiteEnd). FitsEnd work.delivery site before now e) (sym (same_Some end (Finished (length (site_plates work.delivery.plan site)) (kept_rows work.delivery.plan site)) is))
+    (finishes work.delivery ring site before now going carries (subst (λ (m : ℕ). GoesOnAt work.delivery site m before now going) all at))
+end_fits work ring own site n before now (Left cause) end carries over left is =
+    subst (λ (e : SiteEnd). FitsEnd work.delivery site before now e) (sym (same_Some end (Ended.Left cause) is)) left.fits
+end_fits work ring own site n before now Stopped end carries over stopped is = absurd (none is) where
+  none : Some end ≡ None → ⊥
+  none e = cc
+end_fits work ring own site n before now (Counting key) end carries over counting is = absurd (none is) where
   none : Some end ≡ None → ⊥
   none e = cc
 
 -- a joined reader that doesn't continue is at the end of the last row
-over_at : (seat : SeatData) → is_going seat.reader ≡ false → seat.reader.cursor ≤ seat.reader.ring.total → seat.reader.left ≡ is_out seat.site → is_out seat.site ≡ true ⊎ (seat.reader.cursor ≡ seat.reader.ring.total)
+over_at : (seat : SeatData) → is_going seat.reader ≡ false → seat.reader.cursor ≤ seat.reader.ring.total → seat.reader.left ≡ is_out seat.role → is_out seat.role ≡ true ⊎ (seat.reader.cursor ≡ seat.reader.ring.total)
 over_at seat none within left = by seat.reader.left (nat_lt seat.reader.cursor seat.reader.ring.total) refl left none where
-  by : (out more : Bool) → more ≡ nat_lt seat.reader.cursor seat.reader.ring.total → out ≡ is_out seat.site → (not out && more) ≡ false → is_out seat.site ≡ true ⊎ (seat.reader.cursor ≡ seat.reader.ring.total)
+  by : (out more : Bool) → more ≡ nat_lt seat.reader.cursor seat.reader.ring.total → out ≡ is_out seat.role → (not out && more) ≡ false → is_out seat.role ≡ true ⊎ (seat.reader.cursor ≡ seat.reader.ring.total)
   by true more m o e = inl (sym o)
   by false true m o e = absurd (let f : true ≡ false = e in cc)
   by false false m o e = inr (let low : seat.reader.ring.total ≤ seat.reader.cursor = ltb-false seat.reader.cursor seat.reader.ring.total (sym m) in omega (arith, low, within))
 
--- the same for a joined reader by itself
-pub over_end : (reader : ReaderState) → is_going reader ≡ false → reader.left ≡ false → reader.cursor ≤ reader.ring.total → reader.cursor ≡ reader.ring.total
-over_end reader none joined within = by reader.left (nat_lt reader.cursor reader.ring.total) refl joined none where
-  by : (out more : Bool) → more ≡ nat_lt reader.cursor reader.ring.total → out ≡ false → (not out && more) ≡ false → reader.cursor ≡ reader.ring.total
-  by true more m o e = absurd (let f : true ≡ false = o in cc)
-  by false true m o e = absurd (let f : true ≡ false = e in cc)
-  by false false m o e = let low : reader.ring.total ≤ reader.cursor = ltb-false reader.cursor reader.ring.total (sym m) in omega (arith, low, within)
-
-none_all : (seats : List SeatData) → ((i : ℕ) (seat : SeatData) → slice_get seats i ≡ Some seat → is_stopped seat.site ≡ false) → list_any (λ seat. is_stopped seat.site) seats ≡ false
+none_all : (seats : List SeatData) → ((i : ℕ) (seat : SeatData) → slice_get seats i ≡ Some seat → is_stopped seat.role ≡ false) → list_any (λ seat. is_stopped seat.role) seats ≡ false
 none_all [] each = refl
-none_all (seat ∷ seats) each = ap (λ b. b || list_any (λ s. is_stopped s.site) seats) (each 0 seat refl) ∙ none_all seats (λ i s. each (suc i) s)
+none_all (seat ∷ seats) each = ap (λ b. b || list_any (λ s. is_stopped s.role) seats) (each 0 seat refl) ∙ none_all seats (λ i s. each (suc i) s)
 
 -- the end returned for a site
-told_at : (plan : PlanData) (seats : List SeatData) (ends : List SiteEnd) → map Some ends ≡ ends_in plan seats → (site : ℕ) (end : SiteEnd) (seat : SeatData) → slice_get ends site ≡ Some end → slice_get seats site ≡ Some seat → Some end ≡ end_of plan site seat.site
+told_at : (plan : PlanData) (seats : List SeatData) (ends : List SiteEnd) → map Some ends ≡ ends_in plan seats → (site : ℕ) (end : SiteEnd) (seat : SeatData) → slice_get ends site ≡ Some end → slice_get seats site ≡ Some seat → Some end ≡ end_of plan site seat.role
 told_at plan seats ends ends-are site end seat e there =
     let inside : site < length seats = slice_get_within seats site seat there in
     sym (get_or-map Some ends site end None (slice_get_within ends site end e) ∙ ap Some (get_or_from_slice_get ends site end end e))
     ∙ ap (λ list. get_or list site None) ends-are
-    ∙ get_or-map (λ pair. end_of plan pair.0 pair.1.site) (enumerate_from 0 seats) site (0, seat) None (omega (arith, inside, length-enumerate_from 0 seats))
-    ∙ ap (λ (pair : ℕ × SeatData). end_of plan pair.0 pair.1.site)
+    ∙ get_or-map (λ pair. end_of plan pair.0 pair.1.role) (enumerate_from 0 seats) site (0, seat) None (omega (arith, inside, length-enumerate_from 0 seats))
+    ∙ ap (λ (pair : ℕ × SeatData). end_of plan pair.0 pair.1.role)
     (get_or-enumerate_from 0 seats site (0, seat) inside ∙ ap (λ k. (k, get_or seats site seat)) (zero-add site) ∙ ap (λ (x : SeatData). (site, x)) (get_or_from_slice_get seats site seat seat there))
 
 told_count : (plan : PlanData) (seats : List SeatData) (ends : List SiteEnd) → map Some ends ≡ ends_in plan seats → length ends ≡ length seats
 told_count plan seats ends ends-are = sym (length-map ends Some) ∙ ap length ends-are ∙ length-map (enumerate_from 0 seats) _ ∙ length-enumerate_from 0 seats
 
+-- a reader without a rack is a key reader
+alone : (work : Work) (site : ℕ) (ring : RingNumbers) (n : ℕ) (before now : Option RackTells) (role : Role) → now ≡ None → IsServed work site ring n before now role → (key : KeyReaderData) × (role ≡ Counting key) × IsCounting work ring n key
+alone work site ring n before now role none served = by role before (subst (λ (o : Option RackTells). IsServed work site ring n before o role) none served) where
+  by : (role' : Role) (first : Option RackTells) → IsServed work site ring n first None role' → (key : KeyReaderData) × (role' ≡ Counting key) × IsCounting work ring n key
+  by (Going going) None served' = absurd served'
+  by (Going going) (Some first) served' = absurd served'
+  by (Left cause) None served' = absurd served'
+  by (Left cause) (Some first) served' = absurd served'
+  by Stopped None served' = absurd served'
+  by Stopped (Some first) served' = absurd served'
+  by (Counting key) first served' = (key, refl, served'.1)
+
+-- the readers of a run after its last round
+pub record AreOver (work : Work) (before now : List RackTells) (seats : List SeatData) (ring : RingNumbers) : Type 0 where
+  pub any : SeatData
+  pub carries : Carries work.delivery ring
+  pub olds : length before ≡ length work.delivery.plan.sites
+  pub news : length now ≡ length work.delivery.plan.sites
+  pub enough : length work.delivery.plan.sites ≤ length seats
+  pub rings : (i : ℕ) (seat : SeatData) → slice_get seats i ≡ Some seat → seat.reader.ring ≡ ring
+  pub seated : AreSeated work before now seats
+  pub over : are_going seats ≡ false
+
 -- where ends are returned and the readers don't continue, none of them does
-pub none_left : (plan : PlanData) (seats : List SeatData) (more : List ReaderState) (ends : List SiteEnd) → map Some ends ≡ ends_in plan seats → are_going seats more ≡ false → list_any is_going (all_readers seats more) ≡ false
-none_left plan seats more ends ends-are over = none_going seats more over
-    (none_all seats (λ i seat there.
-    let inside : i < length ends = omega (arith, slice_get_within seats i seat there, told_count plan seats ends ends-are) in
-    let d : SiteEnd = Ended.Left (record { plates = 0; row = 0; call = Begin; path = [] }) in
-    told_end plan i seat.site (get_or ends i d) (told_at plan seats ends ends-are i (get_or ends i d) seat (slice_get-get_or ends i d inside) there)))
+none_left : (work : Work) (before now : List RackTells) (seats : List SeatData) (ring : RingNumbers) (ends : List SiteEnd) → AreOver work before now seats ring → map Some ends ≡ ends_in work.delivery.plan (take (length work.delivery.plan.sites) seats)
+    → (i : ℕ) (seat : SeatData) → slice_get seats i ≡ Some seat → is_going seat.reader ≡ false
+none_left work before now seats ring ends are ends-are i seat there =
+    none_at (λ (s : SeatData). is_going s.reader) seats i seat (none_going seats are.over (none_all seats (λ k s at. each k s at))) there where
+      plan : PlanData
+      plan = work.delivery.plan
+
+      each : (k : ℕ) (s : SeatData) → slice_get seats k ≡ Some s → is_stopped s.role ≡ false
+      each k s at =
+          ⊎_elim
+          (λ (less : k < length plan.sites).
+          let count = told_count plan (take (length plan.sites) seats) ends ends-are in
+          let long = length-take-le (length plan.sites) seats are.enough in
+          let inside : k < length ends = omega (arith, less, count, long) in
+          let d : SiteEnd = Ended.Left (record { plates = 0; row = 0; call = Begin; path = [] }) in
+          told_end plan k s.role (get_or ends k d) (told_at plan (take (length plan.sites) seats) ends ends-are k (get_or ends k d) s (slice_get-get_or ends k d inside) (slice_get-take (length plan.sites) seats k less ∙ at)))
+          (λ (more : length plan.sites ≤ k).
+          let news = are.news in
+          let key = alone work k s.reader.ring s.reader.cursor (slice_get before k) (slice_get now k) s.role (slice_get_past now k (omega (arith, news, more))) (are.seated k s at).is in
+          ap is_stopped key.1)
+          (cases_lt k (length plan.sites))
 
 -- each site's end fits
-pub run_fits : (delivery : Delivery) (writer : WriterState) (ring : RingNumbers) (before now : List RackTells) (seats : List SeatData) (more : List ReaderState) (ends : List SiteEnd) → Carries delivery ring → writer.ring ≡ ring
-    → AreEndsOf writer (all_readers seats more) → are_going seats more ≡ false → AreSeated delivery before now seats → map Some ends ≡ ends_in delivery.plan seats → RunFits delivery before now ends
-run_fits delivery writer ring before now seats more ends carries ring-is at over are ends-are = record {
-  count = count ∙ are.count;
+run_fits : (work : Work) (before now : List RackTells) (seats : List SeatData) (ring : RingNumbers) (ends : List SiteEnd) → AreOver work before now seats ring → map Some ends ≡ ends_in work.delivery.plan (take (length work.delivery.plan.sites) seats)
+    → RunFits work.delivery before now ends
+run_fits work before now seats ring ends are ends-are = record {
+  count = count;
   each = λ site old new end b r e.
-      let inside : site < length seats = omega (arith, slice_get_within ends site end e, count) in
-      let seat : SeatData = get_or seats site any in
-      let there : slice_get seats site ≡ Some seat = slice_get-get_or seats site any inside in
-      let seated = are.each site old new seat b r there in
-      let here = seat_end writer seats more site seat at there in
-      let total : seat.reader.ring.total ≡ length (row_places delivery.plan) = ap (λ (x : RingNumbers). x.total) (here.ring ∙ ring-is) ∙ total_is delivery ring carries in
-      end_fits delivery ring site seat.reader.cursor old new seat.site end carries
-      (⊎_elim (λ (out : is_out seat.site ≡ true). inl out) (λ (all : seat.reader.cursor ≡ seat.reader.ring.total). inr (all ∙ total))
-      (over_at seat (none_at is_going (all_readers seats more) site seat.reader (none_left delivery.plan seats more ends ends-are over) (seat_in seats more site seat there)) seated.within seated.left))
-      seated.is (told_at delivery.plan seats ends ends-are site end seat e there);
+      let less : site < length plan.sites = omega (arith, slice_get_within ends site end e, count) in
+      let enough = are.enough in
+      let seat : SeatData = get_or seats site are.any in
+      let there : slice_get seats site ≡ Some seat = slice_get-get_or seats site are.any (omega (arith, less, enough)) in
+      let seated = subst (λ (o : Option RackTells). IsSeated work site o (Some new) seat) b (subst (λ (o : Option RackTells). IsSeated work site (slice_get before site) o seat) r (are.seated site seat there)) in
+      let total : seat.reader.ring.total ≡ length (row_places plan) = ap (λ (x : RingNumbers). x.total) (are.rings site seat there) ∙ total_is work.delivery ring are.carries in
+      end_fits work ring seat.reader.ring site seat.reader.cursor old new seat.role end are.carries
+      (⊎_elim (λ (out : is_out seat.role ≡ true). inl out) (λ (all : seat.reader.cursor ≡ seat.reader.ring.total). inr (all ∙ total))
+      (over_at seat (none_left work before now seats ring ends are ends-are site seat there) seated.within seated.left))
+      seated.is (told_at plan (take (length plan.sites) seats) ends ends-are site end seat e (slice_get-take (length plan.sites) seats site less ∙ there));
 } where
-  any : SeatData
-  any = record {
-    reader = new_reader_state writer.table writer.ring 0;
-    site = Stopped;
-  }
+  plan : PlanData
+  plan = work.delivery.plan
 
-  count : length ends ≡ length seats
-  count = told_count delivery.plan seats ends ends-are
+  count : length ends ≡ length plan.sites
+  count = told_count plan (take (length plan.sites) seats) ends ends-are ∙ length-take-le (length plan.sites) seats are.enough
+
+-- the counts of the key reader fit, where the run has one
+counts_are : (work : Work) (before now : List RackTells) (seats : List SeatData) (ring : RingNumbers) (ends : List SiteEnd) (keys : Option KeyReaderData) → AreOver work before now seats ring
+    → map Some ends ≡ ends_in work.delivery.plan (take (length work.delivery.plan.sites) seats) → length seats ≡ length work.delivery.plan.sites + further_count keys → work.keys ≡ keys_for keys
+    → CountsFit work.delivery.plan work.delivery.rows keys (counts_at (length work.delivery.plan.sites) seats)
+counts_are work before now seats ring ends None are ends-are long keys-are = ap (option_and_then (λ (s : SeatData). counts_in s.role)) (slice_get_past seats (length work.delivery.plan.sites) (omega (arith, long)))
+counts_are work before now seats ring ends (Some key) are ends-are long keys-are =
+    let n : ℕ = length work.delivery.plan.sites in
+    let seat : SeatData = get_or seats n are.any in
+    let there : slice_get seats n ≡ Some seat = slice_get-get_or seats n are.any (omega (arith, long)) in
+    let seated = are.seated n seat there in
+    let news = are.news in
+    let own = alone work n seat.reader.ring seat.reader.cursor (slice_get before n) (slice_get now n) seat.role (slice_get_past now n (omega (arith, news))) seated.is in
+    let cursor : seat.reader.cursor ≡ seat.reader.ring.total =
+    ⊎_elim (λ (out : is_out seat.role ≡ true). absurd (let e : false ≡ true = sym (ap is_out own.1) ∙ out in cc)) (λ (all : seat.reader.cursor ≡ seat.reader.ring.total). all)
+    (over_at seat (none_left work before now seats ring ends are ends-are n seat there) seated.within seated.left) in
+    let whole : IsCounting work ring ring.total own.0 =
+    subst (λ (r : RingNumbers). IsCounting work r r.total own.0) (are.rings n seat there) (subst (λ (m : ℕ). IsCounting work seat.reader.ring m own.0) cursor own.2) in
+    subst (λ (o : Option CountsData). CountsFit work.delivery.plan work.delivery.rows (Some key) o) (sym (ap (option_and_then (λ (s : SeatData). counts_in s.role)) there ∙ ap counts_in own.1))
+    (subst (λ (k : ℕ). KeysFit work.delivery.plan work.delivery.rows k own.0.counts) keys-are (counts_fit work ring own.0 are.carries whole))
 
 -- ---- out of memory
 
 -- what a site leaves at any time is a part
-stopped : (delivery : Delivery) (ring : RingNumbers) (site n : ℕ) (before now : RackTells) (state : RunSite) → Carries delivery ring → n ≤ length (row_places delivery.plan) → IsServed delivery site n before now state
-    → LeavesPart delivery site before now
-stopped delivery ring site n before now (Going going) carries within at = record {
-  part = going_part delivery ring site n before now going carries within at;
+stopped : (work : Work) (ring own : RingNumbers) (site n : ℕ) (before now : RackTells) (role : Role) → Carries work.delivery ring → n ≤ length (row_places work.delivery.plan) → IsServed work site own n (Some before) (Some now) role
+    → LeavesPart work.delivery site before now
+stopped work ring own site n before now (Going going) carries within at = record {
+  part = going_part work.delivery ring site n before now going carries within at;
   faults = at.faults;
 }
-stopped delivery ring site n before now (Left cause) carries within left = record { part = left.part; faults = left.faults }
-stopped delivery ring site n before now Stopped carries within left = record { part = left.part; faults = left.faults }
+stopped work ring own site n before now (Left cause) carries within left = record { part = left.part; faults = left.faults }
+stopped work ring own site n before now Stopped carries within left = record { part = left.part; faults = left.faults }
+stopped work ring own site n before now (Counting key) carries within counting = absurd (none counting.0) where
+  none : Some now ≡ None → ⊥
+  none e = cc
 
-pub are_stopped : (delivery : Delivery) (writer : WriterState) (ring : RingNumbers) (before now : List RackTells) (seats : List SeatData) (more : List ReaderState) → Carries delivery ring → writer.ring ≡ ring → AreEndsOf writer (all_readers seats more) → AreSeated delivery before now seats
-    → AreStopped delivery before now
-are_stopped delivery writer ring before now seats more carries is ends are = record {
+are_stopped : (work : Work) (before now : List RackTells) (seats : List SeatData) (ring : RingNumbers) → AreOver work before now seats ring → AreStopped work.delivery before now
+are_stopped work before now seats ring are = record {
   each = λ site old new less b r.
-      let any : SeatData = record {
-        reader = new_reader_state writer.table writer.ring 0;
-        site = Stopped;
-      } in
-      let seat : SeatData = get_or seats site any in
-      let there : slice_get seats site ≡ Some seat = slice_get-get_or seats site any (let count = are.count in omega (arith, less, count)) in
-      let seated = are.each site old new seat b r there in
-      let total : seat.reader.ring.total ≡ length (row_places delivery.plan) = ap (λ (x : RingNumbers). x.total) ((seat_end writer seats more site seat ends there).ring ∙ is) ∙ total_is delivery ring carries in
+      let seat : SeatData = get_or seats site are.any in
+      let enough = are.enough in
+      let there : slice_get seats site ≡ Some seat = slice_get-get_or seats site are.any (omega (arith, less, enough)) in
+      let seated = subst (λ (o : Option RackTells). IsSeated work site o (Some new) seat) b (subst (λ (o : Option RackTells). IsSeated work site (slice_get before site) o seat) r (are.seated site seat there)) in
+      let total : seat.reader.ring.total ≡ length (row_places work.delivery.plan) = ap (λ (x : RingNumbers). x.total) (are.rings site seat there) ∙ total_is work.delivery ring are.carries in
       let within = seated.within in
-      stopped delivery ring site seat.reader.cursor old new seat.site carries (omega (arith, within, total)) seated.is;
+      stopped work ring seat.reader.ring site seat.reader.cursor old new seat.role are.carries (omega (arith, within, total)) seated.is;
 }
 
-pub all_part : (delivery : Delivery) (before now : List RackTells) → AreStopped delivery before now → RunPart delivery before now
+all_part : (delivery : Delivery) (before now : List RackTells) → AreStopped delivery before now → RunPart delivery before now
 all_part delivery before now are = record { each = λ site old new less b r. (are.each site old new less b r).part }
 
 grown-nothing : {X : Type 0} (list : Option (List X)) → list ≡ grown [] list
@@ -294,14 +390,14 @@ none_part delivery before = record {
 }
 
 -- so it is for what is left where nothing was made because memory ran out
-pub none_leaves : {E : Type 0} (delivery : Delivery) (before : List RackTells) (answer : Result Outcome E) → IsErr answer → RunLeaves delivery before before answer
-none_leaves delivery before (Ok outcome) is = absurd (let no : false ≡ true = is in cc)
-none_leaves delivery before (Err fault) is = record { fits = tt; part = none_part delivery before; counts = counts_stay before }
+pub none_leaves : {E : Type 0} (delivery : Delivery) (keys : Option KeyReaderData) (before : List RackTells) (answer : Result (Outcome × Option CountsData) E) → IsErr answer → RunLeaves delivery keys before before answer
+none_leaves delivery keys before (Ok pair) is = absurd (let no : false ≡ true = is in cc)
+none_leaves delivery keys before (Err fault) is = record { fits = tt; counts_fit = tt; part = none_part delivery before; counts = counts_stay before }
 
 -- ---- counts
 
 -- the counts of all sites, from what holds of each
-pub counts_keep : (delivery : Delivery) (before now : List RackTells) → AreStopped delivery before now → length now ≤ length delivery.plan.sites → KeepCounts before now
+counts_keep : (delivery : Delivery) (before now : List RackTells) → AreStopped delivery before now → length now ≤ length delivery.plan.sites → KeepCounts before now
 counts_keep delivery before now are few = record {
   each = λ site old new b r. (are.each site old new (omega (arith, slice_get_within now site new r, few)) b r).faults;
 }
@@ -334,42 +430,101 @@ enumerate-more (y ∷ xs) x k =
     ∙ ap (λ n. (k, y) ∷ (enumerate_from (k + 1) xs ++ (n, x) ∷ [])) (let e : (k + 1) + length xs ≡ k + suc (length xs) = omega arith in e)
 
 -- one more site's end
-pub ends_more : (plan : PlanData) (seats : List SeatData) (seat : SeatData) → ends_in plan (seats ++ seat ∷ []) ≡ ends_in plan seats ++ end_of plan (length seats) seat.site ∷ []
+pub ends_more : (plan : PlanData) (seats : List SeatData) (seat : SeatData) → ends_in plan (seats ++ seat ∷ []) ≡ ends_in plan seats ++ end_of plan (length seats) seat.role ∷ []
 ends_more plan seats seat =
-    ap (map (λ pair. end_of plan pair.0 pair.1.site)) (enumerate-more seats seat 0)
-    ∙ map-append (λ pair. end_of plan pair.0 pair.1.site) (enumerate_from 0 seats) ((0 + length seats, seat) ∷ [])
-    ∙ ap (λ n. ends_in plan seats ++ end_of plan n seat.site ∷ []) (zero-add (length seats))
+    ap (map (λ pair. end_of plan pair.0 pair.1.role)) (enumerate-more seats seat 0)
+    ∙ map-append (λ pair. end_of plan pair.0 pair.1.role) (enumerate_from 0 seats) ((0 + length seats, seat) ∷ [])
+    ∙ ap (λ n. ends_in plan seats ++ end_of plan n seat.role ∷ []) (zero-add (length seats))
 
 pub length-ends_in : (plan : PlanData) (seats : List SeatData) → length (ends_in plan seats) ≡ length seats
 length-ends_in plan seats = length-map (enumerate_from 0 seats) _ ∙ length-enumerate_from 0 seats
 
 -- one more seat
-pub seats_more : (plan : PlanData) (out : List ℕ) (readers : List ReaderState) (reader : ReaderState) → fresh_seats plan out (readers ++ reader ∷ []) ≡ fresh_seats plan out readers ++ fresh_seat plan out (length readers, reader) ∷ []
+pub seats_more : (plan : PlanData) (out : List ℕ) (readers : List ReaderState) (reader : ReaderState) → site_seats plan out (readers ++ reader ∷ []) ≡ site_seats plan out readers ++ site_seat plan out (length readers, reader) ∷ []
 seats_more plan out readers reader =
-    ap (map (fresh_seat plan out)) (enumerate-more readers reader 0)
-    ∙ map-append (fresh_seat plan out) (enumerate_from 0 readers) ((0 + length readers, reader) ∷ [])
-    ∙ ap (λ n. fresh_seats plan out readers ++ fresh_seat plan out (n, reader) ∷ []) (zero-add (length readers))
+    ap (map (site_seat plan out)) (enumerate-more readers reader 0)
+    ∙ map-append (site_seat plan out) (enumerate_from 0 readers) ((0 + length readers, reader) ∷ [])
+    ∙ ap (λ n. site_seats plan out readers ++ site_seat plan out (n, reader) ∷ []) (zero-add (length readers))
 
--- a list split in two parts of these lengths
-pub split_at : {X : Type 0} (all front back : List X) (at n k : ℕ) → at ≡ n → front ≡ take at all → back ≡ drop at all → length all ≡ n + k → (front ++ back ≡ all) × (length front ≡ n) × (length back ≡ k)
-split_at all front back at n k at-is front-is back-is long =
-    let whole : front ++ back ≡ all = ap (λ list. list ++ back) front-is ∙ ap (λ list. take at all ++ list) back-is ∙ take-append-drop at all in
-    let first : length front ≡ n = ap length front-is ∙ length-take-le at all (omega (arith, at-is, long)) ∙ at-is in
-    let both = length-append front back in
-    let same = ap length whole in
-    (whole, first, omega (arith, first, both, same, long))
+-- the key reader at the last of the ends
+pub fresh_more : (plan : PlanData) (out : List ℕ) (readers front : List ReaderState) (last : ReaderState) (key : KeyReaderData) → readers ≡ front ++ last ∷ [] → length front ≡ length plan.sites
+    → fresh_seats plan out readers (Some key) ≡ site_seats plan out front ++ record { reader = last; role = Counting key } ∷ []
+fresh_more plan out readers front last key is long =
+    let first : take (length plan.sites) readers ≡ front = ap (take (length plan.sites)) is ∙ ap (λ n. take n (front ++ last ∷ [])) (sym long) ∙ take-append_seam front (last ∷ []) in
+    let rest : drop (length plan.sites) readers ≡ last ∷ [] = ap (drop (length plan.sites)) is ∙ ap (λ n. drop n (front ++ last ∷ [])) (sym long) ∙ drop-append_seam front (last ∷ []) in
+    ap (λ list. site_seats plan out list ++ map (λ reader. record { reader = reader; role = Counting key }) (drop (length plan.sites) readers)) first
+    ∙ ap (λ list. site_seats plan out front ++ map (λ reader. record { reader = reader; role = Counting key }) list) rest
 
--- ---- the first seats, for racks of any type
+-- the counts of the last reader
+pub last_counts : (seats front : List SeatData) (last : SeatData) (n : ℕ) → seats ≡ front ++ last ∷ [] → length front ≡ n → counts_at n seats ≡ counts_in last.role
+last_counts seats front last n is long =
+    ap (counts_at n) is
+    ∙ ap (option_and_then (λ (s : SeatData). counts_in s.role))
+    (slice_get-behind front (last ∷ []) n (omega (arith, long)) ∙ ap (slice_get (last ∷ [])) (let e : n - length front ≡ 0 = omega (arith, long) in e))
 
--- a run begins at the ends of a newly opened ring, the first of which are the sites'
-pub run_opens : {X : Type 0} (tell : X → RackTells) (delivery : Delivery) (table : TableId) (ring : RingNumbers) (writer : WriterState) (front back : List ReaderState) (seats : List SeatData) (racks : List X) → writer ≡ new_writer_state table ring
-    → front ++ back ≡ map (new_reader_state table ring) (up_to ring.readers) → seats ≡ fresh_seats delivery.plan delivery.out front → length front ≡ length delivery.plan.sites → Carries delivery ring
-    → AreIdle (length delivery.plan.sites) (map tell racks) → AllTellSlots (map tell racks)
-    → AreEndsOf writer (all_readers seats back) × AreSeated delivery (map tell racks) (map tell racks) seats × AreSomeSeated (map tell racks) seats
-run_opens tell delivery table ring writer front back seats racks writer-is readers-are seats-are sites carries idle slots =
-    let ends : AreEndsOf writer (all_readers seats back) =
-    subst (λ (s : List SeatData). AreEndsOf writer (all_readers s back)) (sym seats-are) (fresh_ends delivery.plan delivery.out table ring writer front back writer-is readers-are) in
-    let seated : AreSeated delivery (map tell racks) (map tell racks) seats =
-    subst (λ (s : List SeatData). AreSeated delivery (map tell racks) (map tell racks) s) (sym seats-are)
-    (run_begins delivery table ring front (map tell racks) carries (front_new table ring ring.readers front back readers-are) sites idle slots) in
-    (ends, seated, begin_some delivery writer ring (map tell racks) seats back carries (ap (λ (w : WriterState). w.ring) writer-is) ends seated)
+-- ---- a run over a newly opened ring
+
+pub record Opens (delivery : Delivery) (writer : WriterState) (keys : Option KeyReaderData) (before : List RackTells) (seats : List SeatData) : Type 0 where
+  pub ends : AreEndsOf writer seats
+  pub seated : AreSeated (record { delivery = delivery; keys = keys_for keys }) before before seats
+  pub some : AreSomeSeated before seats
+  pub long : length seats ≡ length delivery.plan.sites + further_count keys
+
+-- it begins at the ends of the ring, the first of which are the sites'
+pub run_opens : (delivery : Delivery) (table : TableId) (ring : RingNumbers) (writer : WriterState) (readers : List ReaderState) (keys : Option KeyReaderData) (seats : List SeatData) (before : List RackTells) → writer ≡ new_writer_state table ring
+    → readers ≡ map (new_reader_state table ring) (up_to ring.readers) → seats ≡ fresh_seats delivery.plan delivery.out readers keys → ring.readers ≡ length delivery.plan.sites + further_count keys → Carries delivery ring → AreFreshKeys delivery.plan keys
+    → length before ≡ length delivery.plan.sites → AreIdle (length delivery.plan.sites) before → AllTellSlots before → Opens delivery writer keys before seats
+run_opens delivery table ring writer readers keys seats before writer-is are seats-are count carries fresh racks idle slots =
+    let long : length readers ≡ length delivery.plan.sites + further_count keys = ap length are ∙ length-map (up_to ring.readers) (new_reader_state table ring) ∙ length_up ring.readers ∙ count in
+    let ends = fresh_ends delivery.plan delivery.out table ring writer readers keys writer-is are in
+    let seated = run_begins delivery table ring readers keys before carries are long racks fresh idle slots in
+    subst (λ (s : List SeatData). Opens delivery writer keys before s) (sym seats-are)
+    (record {
+      ends = ends;
+      seated = seated;
+      some = begin_some (record { delivery = delivery; keys = keys_for keys }) writer ring before (fresh_seats delivery.plan delivery.out readers keys) carries (ap (λ (w : WriterState). w.ring) writer-is) ends seated;
+      long = length-fresh_seats delivery.plan delivery.out readers keys ∙ long;
+    })
+
+-- and leaves what a run leaves
+pub run_leaves : {E : Type 0} (delivery : Delivery) (ring : RingNumbers) (writer writer' : WriterState) (keys : Option KeyReaderData) (before now : List RackTells) (seats seats' : List SeatData) (answer : Result (Outcome × Option CountsData) E) → Carries delivery ring
+    → writer.ring ≡ ring → Opens delivery writer keys before seats → length before ≡ length delivery.plan.sites → length now ≡ length before → length seats' ≡ length seats → writer'.ring ≡ writer.ring → AreEndsOf writer' seats' → are_going seats' ≡ false
+    → StaySeated before now seats seats' → IfOk answer (λ pair. map Some pair.0.sites.items ≡ ends_in delivery.plan (take (length delivery.plan.sites) seats')) → IfOk answer (λ pair. pair.1 ≡ counts_at (length delivery.plan.sites) seats')
+    → RunLeaves delivery keys before now answer
+run_leaves {E} delivery ring writer writer' keys before now seats seats' answer carries ring-is opens olds news same ring-stays ends over stay ends-are counts-are = by answer ends-are counts-are where
+  work : Work
+  work = record { delivery = delivery; keys = keys_for keys }
+
+  long : length seats' ≡ length delivery.plan.sites + further_count keys
+  long = same ∙ opens.long
+
+  are : AreOver work before now seats' ring
+  are = record {
+    any = record {
+      reader = new_reader_state writer.table ring 0;
+      role = Stopped;
+    };
+    carries = carries;
+    olds = olds;
+    news = news ∙ olds;
+    enough = (let l = long in omega (arith, l));
+    rings = λ i seat there. (ends.each i seat there).ring ∙ ring-stays ∙ ring-is;
+    seated = end_seated work writer ring before now seats seats' carries ring-is opens.ends (sym same) opens.seated stay;
+    over = over;
+  }
+
+  stopped' : AreStopped delivery before now
+  stopped' = are_stopped work before now seats' ring are
+
+  keep : KeepCounts before now
+  keep = counts_keep delivery before now stopped' (omega (arith, news, olds))
+
+  by : (result : Result (Outcome × Option CountsData) E) → IfOk result (λ pair. map Some pair.0.sites.items ≡ ends_in delivery.plan (take (length delivery.plan.sites) seats')) → IfOk result (λ pair. pair.1 ≡ counts_at (length delivery.plan.sites) seats')
+      → RunLeaves delivery keys before now result
+  by (Ok pair) is counts = record {
+    fits = run_fits work before now seats' ring pair.0.sites.items are is;
+    counts_fit = subst (λ (o : Option CountsData). CountsFit delivery.plan delivery.rows keys o) (sym counts) (counts_are work before now seats' ring pair.0.sites.items keys are is long refl);
+    part = tt;
+    counts = keep;
+  }
+  by (Err fault) is counts = record { fits = tt; counts_fit = tt; part = all_part delivery before now stopped'; counts = keep }

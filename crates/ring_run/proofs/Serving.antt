@@ -1,4 +1,4 @@
--- A site of a run and its turn: the site continues, it leaves, or it runs out of memory.
+-- A reader of a run and its turn: a site continues, leaves, or runs out of memory; a key reader counts.
 use Rattle.std.proofs.Common.{◌≡◌, ℕ, ◌+◌, ◌-◌, ◌<◌, ◌≤◌, inl, inr, Bool, true, false, if◌then◌else◌, List, length, map, take, Option, Some, None, IfSome, refl, sym, ap, subst, ◌∙◌, arith}
 use Rattle.std.specs.Prelude.{is_some}
 use Rattle.std.specs.Option.{option_map}
@@ -15,7 +15,10 @@ use Rattle.pr_rack.specs.Rack.{Plate}
 use Rattle.pr_rack.specs.Told.{RackTells, Tells}
 use Rattle.plan_json.specs.Data.{plate_width}
 use Rattle.plan_rows.specs.Plates.{site_plates}
-use Rattle.plan_rows.specs.Rows.{row_places}
+use Rattle.plan_rows.specs.Rows.{RowPlanData, places_in, row_places, rows_of}
+use Rattle.ink_keys.specs.Counts.{CountsData, IsBounded}
+use Rattle.ink_keys.specs.Turn.{AreRowsOf, CountsRows, KeyReaderData}
+use Rattle.ink_keys.proofs.Turning.{counted-both}
 use Rattle.site_agent.specs.declared.kept.LeftCause.{LeftCause}
 use Rattle.site_agent.specs.Given.{finished_count, is_kept}
 use Rattle.site_agent.specs.Going.{IsGoing}
@@ -36,9 +39,10 @@ use Rattle.site_agent.proofs.Runs.{files_are, site_at_end}
 use Rattle.site_agent.proofs.Steps.{is_kept-row}
 use Rattle.site_agent.proofs.Taken.{taken_first, taken_in_part, taken_up_to}
 use Rattle.ring_run.specs.Fits.{Delivery, FitsCause, FitsFinished, FitsPart, files_for, kept_rows}
-use Rattle.ring_run.specs.declared.site.RunSite.TheVariants.{Going, Left, Stopped}
+use Rattle.ring_run.specs.declared.role.Role.{Role}
+use Rattle.ring_run.specs.declared.role.Role.TheVariants.{Going, Left, Stopped, Counting}
 use Rattle.ring_run.specs.Seat.{SeatData}
-use Rattle.ring_run.specs.Served.{Carries, GoesOnAt, HasLeft, HasStopped, IsSeated, SomeSeated, Turned, is_out, to_take}
+use Rattle.ring_run.specs.Served.{Carries, GoesOnAt, HasLeft, HasStopped, IsSeated, IsServed, SomeSeated, TakesOn, Turned, Work, first_counts, is_out, to_take}
 
 -- ---- the rows of a ring
 
@@ -48,6 +52,13 @@ rows_are delivery ring carries = AreFrames-rows (row_size (plate_width delivery.
 
 pub total_is : (delivery : Delivery) (ring : RingNumbers) → Carries delivery ring → ring.total ≡ length (row_places delivery.plan)
 total_is delivery ring carries = carries.total ∙ AreFrames-length (row_size (plate_width delivery.plan)) delivery.rows ring.rows carries.are ∙ carries.count
+
+-- they are frames of the plates' width
+pub rows_of_ring : (delivery : Delivery) (ring : RingNumbers) → Carries delivery ring → AreRowsOf (plate_width delivery.plan) ring
+rows_of_ring delivery ring carries = record {
+  count = sym carries.total;
+  frames = subst (λ (rows : List (List ℕ)). AreFrames (row_size (plate_width delivery.plan)) rows ring.rows) (sym (rows_are delivery ring carries)) carries.are;
+}
 
 -- a site that continues does so with the rows of its reader
 going_by : (delivery : Delivery) (reader : ReaderState) (before now : Tells) (going : SiteData) → Carries delivery reader.ring → IsGoing delivery.rows (delivery.source reader.number) before now going → IsGoingBy reader before now going
@@ -196,102 +207,138 @@ less old new ring joined grows within = by new.left old.left joined where
 
 -- ---- a turn
 
--- a site that takes no row
-pub idle : (told : RackTells) (seat : SeatData) → (seat.reader.left ≡ false → seat.reader.cursor < seat.reader.seen → ⊥) → Turned told told seat seat
+-- a reader that takes no row
+pub idle : (told : Option RackTells) (seat : SeatData) → (seat.reader.left ≡ false → seat.reader.cursor < seat.reader.seen → ⊥) → Turned told told seat seat
 idle told seat none = record {
   end = record {
     stays = refl;
     fewer = (let e : to_take seat.reader ≤ to_take seat.reader = omega arith in e);
     gets_on = λ joined more. absurd (none joined more);
   };
-  seated = λ delivery before carries seated. seated;
+  seated = λ work before carries seated. seated;
 }
 
 -- a site that has left, or ran out of memory, takes no row
-pub idle_out : (told : RackTells) (seat : SeatData) → SomeSeated told seat → is_out seat.site ≡ true → Turned told told seat seat
+pub idle_out : (told : Option RackTells) (seat : SeatData) → SomeSeated told seat → is_out seat.role ≡ true → Turned told told seat seat
 idle_out told seat some out = idle told seat (λ joined more. let both : false ≡ true = sym joined ∙ some.is.left ∙ out in cc)
 
 -- what is unchanged of a reader's end in a turn
 abbrev pub StaysBut : ReaderState → ReaderState → Type 0
 StaysBut old new = new ≡ record old { cursor = new.cursor; left = new.left; seen = new.seen; loads = new.loads }
 
-going_at : (delivery : Delivery) (before told : RackTells) (reader : ReaderState) (going : SiteData) → IsSeated delivery reader.number before told (record { reader = reader; site = Going going }) → GoesOnAt delivery reader.number reader.cursor before told going
-going_at delivery before told reader going seated = seated.is
+takes_on : (was is : ReaderState) → StaysBut was is → was.left ≡ false → was.cursor ≤ is.cursor → is.cursor ≤ was.ring.total → (was.cursor < was.seen → was.cursor < is.cursor) → TakesOn was is
+takes_on was is stays joined grows within gets_on =
+    let ring : is.ring ≡ was.ring = ap (λ (x : ReaderState). x.ring) stays in
+    record {
+      stays = stays;
+      fewer = fewer was is ring joined grows;
+      gets_on = λ e more. less was is ring joined (gets_on more) within;
+    }
+
+-- what a site is asked for, where it has a rack
+going_at : (work : Work) (before : Option RackTells) (told : RackTells) (reader : ReaderState) (going : SiteData) → IsSeated work reader.number before (Some told) (record { reader = reader; role = Going going })
+    → (first : RackTells) × (before ≡ Some first) × GoesOnAt work.delivery reader.number reader.cursor first told going
+going_at work before told reader going seated = by before seated.is where
+  by : (o : Option RackTells) → IsServed work reader.number reader.ring reader.cursor o (Some told) (Going going) → (first : RackTells) × (o ≡ Some first) × GoesOnAt work.delivery reader.number reader.cursor first told going
+  by None is = absurd is
+  by (Some first) is = (first, refl, is)
+
+-- the site that may take its turn
+pub some_going_at : (told : RackTells) (reader : ReaderState) (going : SiteData) (some : SomeSeated (Some told) (record { reader = reader; role = Going going }))
+    → (first : RackTells) × GoesOnAt some.work.delivery reader.number reader.cursor first told going
+some_going_at told reader going some = let at = going_at some.work some.before told reader going some.is in (at.0, at.2)
+
+-- each state of a site after a turn, from what holds in each run for what its rack reported at first
+turned_to : (old new : RackTells) (was is : ReaderState) (going : SiteData) (next : Role) → StaysBut was is → was.left ≡ false → is.left ≡ is_out next → is.cursor ≤ was.ring.total → TakesOn was is
+    → ((work : Work) (first : RackTells) → Carries work.delivery was.ring → GoesOnAt work.delivery was.number was.cursor first old going → IsServed work was.number is.ring is.cursor (Some first) (Some new) next)
+    → Turned (Some old) (Some new) (record { reader = was; role = Going going }) (record { reader = is; role = next })
+turned_to old new was is going next stays joined left within takes serves = record {
+  end = takes;
+  seated = λ work before carries seated.
+      let at = going_at work before old was going seated in
+      record {
+        home = ap (λ (x : ReaderState). x.held) stays ∙ seated.home;
+        within = subst (λ (r : RingNumbers). is.cursor ≤ r.total) (sym (ap (λ (x : ReaderState). x.ring) stays)) within;
+        left = left;
+        is = subst (λ (o : Option RackTells). IsServed work was.number is.ring is.cursor o (Some new) next) (sym at.1) (serves work at.0 carries at.2);
+      };
+}
 
 -- the site continues
 pub turned_on : (old new : RackTells) (was is : ReaderState) (going next : SiteData) → StaysBut was is → is.left ≡ false → was.left ≡ false → was.cursor ≤ is.cursor → is.cursor ≤ was.ring.total → (was.cursor < was.seen → was.cursor < is.cursor)
     → GoesOnBy was going next old new → GoesOnTo going next is.cursor → new.missed ≡ old.missed → old.faults ≤ new.faults
-    → Turned old new (record { reader = was; site = Going going }) (record { reader = is; site = Going next })
+    → Turned (Some old) (Some new) (record { reader = was; role = Going going }) (record { reader = is; role = Going next })
 turned_on old new was is going next stays joined' joined grows within gets_on stands goes missed faults =
-    let ring : is.ring ≡ was.ring = ap (λ (x : ReaderState). x.ring) stays in
-    record {
-      seated = λ delivery before carries seated.
-          let at = going_at delivery before old was going seated in
-          record {
-            home = ap (λ (x : ReaderState). x.held) stays ∙ seated.home;
-            within = subst (λ (r : RingNumbers). is.cursor ≤ r.total) (sym ring) within;
-            left = joined';
-            is = record {
-              job_is = goes.job ∙ at.job_is;
-              next_is = goes.next;
-              is = going_for delivery was before.tells new.tells next carries (stands before.tells (going_by delivery was before.tells old.tells going carries at.is));
-              missed = missed ∙ at.missed;
-              faults = (let since = at.faults in omega (arith, since, faults));
-            };
-          };
-      end = record {
-        stays = stays;
-        fewer = fewer was is ring joined grows;
-        gets_on = λ e more. less was is ring joined (gets_on more) within;
-      };
-    }
+    turned_to old new was is going (Going next) stays joined joined' within (takes_on was is stays joined grows within gets_on)
+    (λ work first carries at. record {
+      job_is = goes.job ∙ at.job_is;
+      next_is = goes.next;
+      is = going_for work.delivery was first.tells new.tells next carries (stands first.tells (going_by work.delivery was first.tells old.tells going carries at.is));
+      missed = missed ∙ at.missed;
+      faults = (let since = at.faults in omega (arith, since, faults));
+    })
 
 -- the site leaves
 pub turned_left : (old new : RackTells) (was is : ReaderState) (going : SiteData) (cause : LeftCause) → StaysBut was is → is.left ≡ true → was.left ≡ false → was.cursor < is.cursor → is.cursor ≤ was.ring.total
     → IsCauseAt going.job cause.row cause → cause.row + 1 ≡ is.cursor → Rose old.faults new.faults → IfSome new.missed (λ last. last ≡ Some (cause.call, cause.path))
     → LeavesBy was going old new cause → old.faults ≤ new.faults
-    → Turned old new (record { reader = was; site = Going going }) (record { reader = is; site = Left cause })
+    → Turned (Some old) (Some new) (record { reader = was; role = Going going }) (record { reader = is; role = Left cause })
 turned_left old new was is going cause stays out joined grows within by row rose missed leaves' faults =
-    let ring : is.ring ≡ was.ring = ap (λ (x : ReaderState). x.ring) stays in
-    record {
-      seated = λ delivery before carries seated.
-          let at = going_at delivery before old was going seated in
-          let total = total_is delivery was.ring carries in
-          record {
-            home = ap (λ (x : ReaderState). x.held) stays ∙ seated.home;
-            within = subst (λ (r : RingNumbers). is.cursor ≤ r.total) (sym ring) within;
-            left = out;
-            is = leaves delivery was was.cursor before old new going cause carries (omega (arith, total, row, within)) at by rose missed
-                (leaves' before.tells (going_by delivery was before.tells old.tells going carries at.is)) faults;
-          };
-      end = record {
-        stays = stays;
-        fewer = fewer was is ring joined (omega (arith, grows));
-        gets_on = λ e more. less was is ring joined grows within;
-      };
-    }
+    turned_to old new was is going (Left cause) stays joined out within (takes_on was is stays joined (omega (arith, grows)) within (λ more. grows))
+    (λ work first carries at.
+    let total = total_is work.delivery was.ring carries in
+    leaves work.delivery was was.cursor first old new going cause carries (omega (arith, total, row, within)) at by rose missed
+    (leaves' first.tells (going_by work.delivery was first.tells old.tells going carries at.is)) faults)
 
 -- the site runs out of memory
 pub turned_out : (old new : RackTells) (was is : ReaderState) (going : SiteData) → StaysBut was is → is.left ≡ true → was.left ≡ false → was.cursor < is.cursor → is.cursor ≤ was.ring.total
     → ((n : ℕ) → n + 1 ≡ is.cursor → StopsBy was going old new n) → new.missed ≡ old.missed → old.faults ≤ new.faults
-    → Turned old new (record { reader = was; site = Going going }) (record { reader = is; site = Stopped })
+    → Turned (Some old) (Some new) (record { reader = was; role = Going going }) (record { reader = is; role = Stopped })
 turned_out old new was is going stays out joined grows within stops' missed faults =
-    let ring : is.ring ≡ was.ring = ap (λ (x : ReaderState). x.ring) stays in
     let last : (is.cursor - 1) + 1 ≡ is.cursor = omega (arith, grows) in
+    turned_to old new was is going Stopped stays joined out within (takes_on was is stays joined (omega (arith, grows)) within (λ more. grows))
+    (λ work first carries at.
+    let total = total_is work.delivery was.ring carries in
+    stops work.delivery was was.cursor (is.cursor - 1) first old new going carries (omega (arith, total, last, within)) at
+    (stops' (is.cursor - 1) last first.tells (going_by work.delivery was first.tells old.tells going carries at.is)) missed faults)
+
+-- ---- a key reader
+
+-- what its turn asks: the rows of the ring are those of its row plan, and frames of the plates' width
+pub counting_at : (work : Work) (before told : Option RackTells) (reader : ReaderState) (key : KeyReaderData) → Carries work.delivery reader.ring → IsSeated work reader.number before told (record { reader = reader; role = Counting key })
+    → (reader.ring.total ≡ length (places_in key.rows)) × AreRowsOf key.counts.width reader.ring × IsBounded key.counts reader.cursor
+counting_at work before told reader key carries seated =
+    let is = seated.is.1 in
+    let width : key.counts.width ≡ plate_width work.delivery.plan = ap (λ (c : CountsData). c.width) is.counted.same in (
+      total_is work.delivery reader.ring carries ∙ ap (λ (p : RowPlanData). length (places_in p)) (sym is.rows),
+      subst (λ (n : ℕ). AreRowsOf n reader.ring) (sym width) (rows_of_ring work.delivery reader.ring carries),
+      is.bounded,
+    )
+
+-- it counts rows
+pub turned_counting : (was is : ReaderState) (old new : KeyReaderData) → was.left ≡ false → new.rows ≡ old.rows → CountsRows old.rows was.ring was.cursor is.cursor old.counts new.counts → IsBounded new.counts is.cursor
+    → is ≡ record was { cursor = is.cursor; seen = is.seen; loads = is.loads } → was.cursor ≤ is.cursor → is.cursor ≤ was.ring.total → (was.cursor < was.seen → was.cursor < is.cursor)
+    → Turned None None (record { reader = was; role = Counting old }) (record { reader = is; role = Counting new })
+turned_counting was is old new joined rows counts bounded stays grows within gets_on =
+    let ring : is.ring ≡ was.ring = ap (λ (x : ReaderState). x.ring) stays in
+    let left : is.left ≡ was.left = ap (λ (x : ReaderState). x.left) stays in
     record {
-      seated = λ delivery before carries seated.
-          let at = going_at delivery before old was going seated in
-          let total = total_is delivery was.ring carries in
+      end = takes_on was is (stays ∙ ap {A = Bool} (λ l. record was { cursor = is.cursor; left = l; seen = is.seen; loads = is.loads }) (sym left)) joined grows within gets_on;
+      seated = λ work before carries seated.
+          let at = seated.is.1 in
           record {
             home = ap (λ (x : ReaderState). x.held) stays ∙ seated.home;
             within = subst (λ (r : RingNumbers). is.cursor ≤ r.total) (sym ring) within;
-            left = out;
-            is = stops delivery was was.cursor (is.cursor - 1) before old new going carries (omega (arith, total, last, within)) at
-                (stops' (is.cursor - 1) last before.tells (going_by delivery was before.tells old.tells going carries at.is)) missed faults;
+            left = left ∙ joined;
+            is = (
+              refl,
+              record {
+                rows = rows ∙ at.rows;
+                bounded = bounded;
+                counted = subst (λ (r : RingNumbers). CountsRows (rows_of work.delivery.plan) r 0 is.cursor (first_counts work.delivery.plan work.keys) new.counts) (sym ring)
+                    (counted-both (rows_of work.delivery.plan) was.ring 0 was.cursor is.cursor (first_counts work.delivery.plan work.keys) old.counts new.counts (let e : 0 ≤ was.cursor = omega arith in e) grows at.counted
+                    (subst (λ (p : RowPlanData). CountsRows p was.ring was.cursor is.cursor old.counts new.counts) at.rows counts));
+              },
+            );
           };
-      end = record {
-        stays = stays;
-        fewer = fewer was is ring joined (omega (arith, grows));
-        gets_on = λ e more. less was is ring joined grows within;
-      };
     }

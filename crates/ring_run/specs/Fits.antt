@@ -1,6 +1,6 @@
 -- What a run leaves on the racks of its sites, by what each rack reports before and after.
-use Rattle.std.specs.Prelude.{◌≡◌, ℕ, ◌<◌, ◌⊎◌, false, List, length, map, take, count_by, Some, IfSome, IfOk}
-use Rattle.std.specs.Prelude.{OnErr, Result, slice_get}
+use Rattle.std.specs.Prelude.{◌≡◌, ℕ, ◌<◌, ◌⊎◌, false, List, length, map, take, count_by, Some, IfSome}
+use Rattle.std.specs.Prelude.{slice_get}
 use Rattle.std.specs.List.{range_with_len}
 use Rattle.pr_base.specs.Count.{Rose}
 use Rattle.ring_rule.specs.declared.view.RingNumbers.{RingNumbers}
@@ -16,9 +16,7 @@ use Rattle.press_job.specs.Job.{JobData}
 use Rattle.press_job.specs.Rows.{plate_rows}
 use Rattle.site_agent.specs.declared.kept.LeftCause.{LeftCause}
 use Rattle.site_agent.specs.Plan.{drawn_rows, rows_up_to, FitsLeft}
-use Rattle.site_agent.specs.Racks.{KeepCounts}
 use Rattle.site_agent.specs.Stands.{grown}
-use Rattle.ring_run.specs.declared.site_end.Outcome.{Outcome}
 use Rattle.ring_run.specs.declared.site_end.SiteEnd.{SiteEnd}
 use Rattle.ring_run.specs.declared.site_end.SiteEnd.TheVariants.{Finished, Left}
 
@@ -119,13 +117,3 @@ pub record RunFits (delivery : Delivery) (before now : List RackTells) (ends : L
 pub record RunPart (delivery : Delivery) (before now : List RackTells) : Type 0 where
   pub each : (site : ℕ) (old new : RackTells) → site < length delivery.plan.sites
       → slice_get before site ≡ Some old → slice_get now site ≡ Some new → FitsPart delivery site old new
-
--- what a run leaves on the racks of its sites, by its result
-pub record RunLeaves {E : Type 0} (delivery : Delivery) (before now : List RackTells)
-    (answer : Result Outcome E) : Type 0 where
-  -- each site's end fits what its rack has in addition to before
-  pub fits : IfOk answer (λ outcome. RunFits delivery before now outcome.sites.items)
-  -- out of memory: each rack has, in addition, the first of its site's files and the first of its rows
-  pub part : OnErr answer (RunPart delivery before now)
-  -- no count of failures falls, on any outcome
-  pub counts : KeepCounts before now

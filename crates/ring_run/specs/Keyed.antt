@@ -1,5 +1,5 @@
 -- The key counts of a job's plates, as a run leaves them.
-use Rattle.std.specs.Prelude.{◌≡◌, ℕ, List, length, slice_get, Some}
+use Rattle.std.specs.Prelude.{◌≡◌, ℕ, List, Option, length, None, Some}
 use Rattle.plan_json.specs.Data.{PlanData, plate_width}
 use Rattle.plan_rows.specs.Groups.{groups_of}
 use Rattle.plan_rows.specs.Rows.{rows_of}
@@ -20,11 +20,18 @@ pub record IsFreshKey (plan : PlanData) (key : KeyReaderData) : Type 0 where
   pub rows_are : key.rows ≡ rows_of plan
   pub zeros : key.counts ≡ no_counts (length (groups_of plan)) (plate_width plan) key.counts.keys
 
--- the same for each key reader
-abbrev pub AreFreshKeys : PlanData → List KeyReaderData → Type 0
-AreFreshKeys plan keys = (i : ℕ) (key : KeyReaderData) → slice_get keys i ≡ Some key → IsFreshKey plan key
+-- the same for the key reader of a run, if it has one
+abbrev pub AreFreshKeys : PlanData → Option KeyReaderData → Type 0
+AreFreshKeys plan None = Unit {0}
+AreFreshKeys plan (Some key) = IsFreshKey plan key
 
--- the counts of each key reader fit
-abbrev pub AllKeysFit : PlanData → List (List ℕ) → List KeyReaderData → List KeyReaderData → Type 0
-AllKeysFit plan rows olds news = (i : ℕ) (old new : KeyReaderData) → slice_get olds i ≡ Some old
-    → slice_get news i ≡ Some new → KeysFit plan rows old.counts.keys new.counts
+-- how many readers a run has after its sites
+abbrev pub further_count : Option KeyReaderData → ℕ
+further_count None = 0
+further_count (Some key) = 1
+
+-- the counts of a run fit where it has a key reader; otherwise it has none
+abbrev pub CountsFit : PlanData → List (List ℕ) → Option KeyReaderData → Option CountsData → Type 0
+CountsFit plan rows None counts = counts ≡ None
+CountsFit plan rows (Some key) (Some counts) = KeysFit plan rows key.counts.keys counts
+CountsFit plan rows (Some key) None = ⊥

@@ -3,6 +3,5 @@ pub mod Served
 pub mod Seat
 pub mod Round
 pub mod Again
-pub mod Counting
 pub mod Keyed
 pub mod JobRun

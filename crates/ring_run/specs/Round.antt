@@ -1,13 +1,13 @@
 -- A round of a run: the ends of the ring exchange notes, and then the writer and the readers take their
 -- turns. This is the contract of private calls.
-use Rattle.std.specs.Prelude.{◌≡◌, ℕ, ◌+◌, ◌-◌, ◌<◌, ◌≤◌, true, List, [], ◌∷◌, length, slice_get, Some, None}
+use Rattle.std.specs.Prelude.{◌≡◌, ℕ, ◌+◌, ◌-◌, ◌<◌, ◌≤◌, true, List, [], ◌∷◌, length, slice_get}
+use Rattle.std.specs.Prelude.{Option, Some, None}
 use Rattle.std.specs.List.{list_any}
 use Rattle.ring_lanes.specs.Reader.{ReaderState}
 use Rattle.ring_lanes.specs.Writer.{WriterState, cursor_known}
 use Rattle.pr_rack.specs.Told.{RackTells}
-use Rattle.ring_run.specs.Fits.{Delivery}
 use Rattle.ring_run.specs.Seat.{SeatData, is_going}
-use Rattle.ring_run.specs.Served.{Carries, IsSeated, to_take}
+use Rattle.ring_run.specs.Served.{Carries, IsSeated, Work, to_take}
 
 -- reader i of the writer's ring
 pub record IsEndOf (writer : WriterState) (i : ℕ) (reader : ReaderState) : Type 0 where
@@ -16,22 +16,23 @@ pub record IsEndOf (writer : WriterState) (i : ℕ) (reader : ReaderState) : Typ
   pub number : reader.number ≡ i
 
 -- the readers' ends of the writer's ring, in order
-pub record AreEndsOf (writer : WriterState) (readers : List ReaderState) : Type 0 where
-  pub count : length readers ≡ writer.ring.readers
-  pub each : (i : ℕ) (reader : ReaderState) → slice_get readers i ≡ Some reader → IsEndOf writer i reader
+pub record AreEndsOf (writer : WriterState) (seats : List SeatData) : Type 0 where
+  pub count : length seats ≡ writer.ring.readers
+  pub each : (i : ℕ) (seat : SeatData) → slice_get seats i ≡ Some seat → IsEndOf writer i seat.reader
 
--- each of these has an end of the writer's ring
-abbrev pub AreAtTable : {X : Type 0} → (X → ReaderState) → WriterState → List X → Type 0
-AreAtTable {X} end writer xs = (i : ℕ) (x : X) → slice_get xs i ≡ Some x → (end x).table ≡ writer.table
+-- each has an end of the writer's ring
+abbrev pub AreAtTable : WriterState → List SeatData → Type 0
+AreAtTable writer seats = (i : ℕ) (seat : SeatData) → slice_get seats i ≡ Some seat
+    → seat.reader.table ≡ writer.table
 
 -- what the writer knows of a reader isn't below what the reader reported: that it left, or its cursor
 pub record Knows (known : List ℕ) (reader : ReaderState) : Type 0 where
   pub left : reader.left ≡ true → cursor_known known reader.number ≡ None
   pub cursor : (k : ℕ) → cursor_known known reader.number ≡ Some k → reader.cursor ≤ k
 
--- the writer knows the end of each of these
-abbrev pub KnowsAll : {X : Type 0} → (X → ReaderState) → List ℕ → List X → Type 0
-KnowsAll {X} end known xs = (i : ℕ) (x : X) → slice_get xs i ≡ Some x → Knows known (end x)
+-- the writer knows the end of each
+abbrev pub KnowsAll : List ℕ → List SeatData → Type 0
+KnowsAll known seats = (i : ℕ) (seat : SeatData) → slice_get seats i ≡ Some seat → Knows known seat.reader
 
 -- no known cursor falls, and a reader that is known to have left remains so
 abbrev pub KnowsMore : List ℕ → List ℕ → Type 0
@@ -40,37 +41,32 @@ KnowsMore old new = (r k : ℕ) → cursor_known new r ≡ Some k
 
 -- a note of the writer reached a reader that continues: the reader knows the head, and the writer knows that
 -- the reader is joined
-pub record IsTold (w : WriterState) (was is : ReaderState) : Type 0 where
-  pub stays : is ≡ record was { seen = is.seen; loads = is.loads }
-  pub head : is_going was ≡ true → w.head ≤ is.seen
-  pub joined : is_going was ≡ true → (k : ℕ) × (cursor_known w.known was.number ≡ Some k)
-
--- a note of the writer reached the reader of a site
-pub record IsSeatTold (w : WriterState) (was is : SeatData) : Type 0 where
-  pub site : is.site ≡ was.site
-  pub end : IsTold w was.reader is.reader
+pub record IsTold (w : WriterState) (was is : SeatData) : Type 0 where
+  pub role : is.role ≡ was.role
+  pub stays : is.reader ≡ record was.reader { seen = is.reader.seen; loads = is.reader.loads }
+  pub head : is_going was.reader ≡ true → w.head ≤ is.reader.seen
+  pub joined : is_going was.reader ≡ true → (k : ℕ) × (cursor_known w.known was.reader.number ≡ Some k)
 
 -- a note of the writer reached each of these
-abbrev pub AreTold : {X : Type 0} → (WriterState → X → X → Type 0) → WriterState → List X → List X → Type 0
-AreTold {X} told w were are = (i : ℕ) (was is : X) → slice_get were i ≡ Some was
-    → slice_get are i ≡ Some is → told w was is
+abbrev pub AreTold : WriterState → List SeatData → List SeatData → Type 0
+AreTold w were are = (i : ℕ) (was is : SeatData) → slice_get were i ≡ Some was → slice_get are i ≡ Some is
+    → IsTold w was is
 
 -- the number of rows that the readers have yet to take
-unfoldable pub all_to_take : List ReaderState → ℕ
+unfoldable pub all_to_take : List SeatData → ℕ
 all_to_take [] = 0
-all_to_take (reader ∷ readers) = to_take reader + all_to_take readers
+all_to_take (seat ∷ seats) = to_take seat.reader + all_to_take seats
 
 -- the measure of a run: the number of rows that are yet to be published or to be taken
-abbrev pub to_do : WriterState → List ReaderState → ℕ
-to_do writer readers = (writer.ring.total - writer.head) + all_to_take readers
+abbrev pub to_do : WriterState → List SeatData → ℕ
+to_do writer seats = (writer.ring.total - writer.head) + all_to_take seats
 
 -- the measure falls, where some reader continues
-abbrev pub Falls : WriterState → List ReaderState → WriterState → List ReaderState → Type 0
-Falls was readers now behind = list_any is_going readers ≡ true → to_do now behind < to_do was readers
+abbrev pub Falls : WriterState → List SeatData → WriterState → List SeatData → Type 0
+Falls was were now are = list_any (λ seat. is_going seat.reader) were ≡ true → to_do now are < to_do was were
 
--- in each run, the sites remain seated after the round
+-- in each run, the readers remain seated after the round
 abbrev pub StaySeated : List RackTells → List RackTells → List SeatData → List SeatData → Type 0
-StaySeated old new were are = (delivery : Delivery) (i : ℕ) (before told now : RackTells) (was is : SeatData)
-    → Carries delivery was.reader.ring
-    → slice_get old i ≡ Some told → slice_get new i ≡ Some now → slice_get were i ≡ Some was
-    → slice_get are i ≡ Some is → IsSeated delivery i before told was → IsSeated delivery i before now is
+StaySeated old new were are = (work : Work) (i : ℕ) (before : Option RackTells) (was is : SeatData)
+    → Carries work.delivery was.reader.ring → slice_get were i ≡ Some was → slice_get are i ≡ Some is
+    → IsSeated work i before (slice_get old i) was → IsSeated work i before (slice_get new i) is

@@ -1,6 +1,6 @@
--- The progress of a run's sites. This is the contract of private calls.
+-- The progress of a run's readers. This is the contract of private calls.
 use Rattle.std.specs.Prelude.{◌≡◌, ℕ, ◌-◌, ◌<◌, ◌≤◌, if◌then◌else◌, Bool, true, false, List, length, map}
-use Rattle.std.specs.Prelude.{filter, slice_get, Option, Some, None}
+use Rattle.std.specs.Prelude.{◌++◌, drop, filter, slice_get, take, Option, Some, None}
 use Rattle.std.specs.List.{enumerate_from, flat_map}
 use Rattle.pr_base.specs.Row.{row_size}
 use Rattle.ring_rule.specs.declared.view.RingNumbers.{RingNumbers}
@@ -13,17 +13,20 @@ use Rattle.plan_json.specs.Plan.{IsPlan}
 use Rattle.plan_rows.specs.declared.group.Group.{Group}
 use Rattle.plan_rows.specs.Inks.{has_site}
 use Rattle.plan_rows.specs.Plates.{PlateOf, group_plates, site_plates}
-use Rattle.plan_rows.specs.Rows.{row_places}
+use Rattle.plan_rows.specs.Groups.{groups_of}
+use Rattle.plan_rows.specs.Rows.{row_places, rows_of}
+use Rattle.ink_keys.specs.Counts.{CountsData, IsBounded, no_counts}
+use Rattle.ink_keys.specs.Turn.{CountsRows, KeyReaderData}
 use Rattle.site_agent.specs.declared.kept.LeftCause.{LeftCause}
 use Rattle.site_agent.specs.Going.{IsGoing}
 use Rattle.site_agent.specs.Plan.{fresh_site, job_of}
 use Rattle.site_agent.specs.Site.{SiteData}
-use Rattle.ring_run.specs.declared.site.RunSite.{RunSite}
-use Rattle.ring_run.specs.declared.site.RunSite.TheVariants.{Going, Left, Stopped}
+use Rattle.ring_run.specs.declared.role.Role.{Role}
+use Rattle.ring_run.specs.declared.role.Role.TheVariants.{Going, Left, Stopped, Counting}
 use Rattle.ring_run.specs.declared.site_end.SiteEnd.{SiteEnd}
 use Rattle.ring_run.specs.declared.site_end.SiteEnd.TheVariants.{Finished}
 use Rattle.ring_run.specs.declared.site_end.SiteEnd.TheVariants as Ended
-use Rattle.ring_run.specs.Fits.{Delivery, FitsCause, FitsPart, RunFits, kept_rows}
+use Rattle.ring_run.specs.Fits.{Delivery, FitsCause, FitsPart, kept_rows}
 use Rattle.ring_run.specs.Seat.{SeatData}
 
 -- the frames of the rows to deliver pass through a ring
@@ -33,6 +36,11 @@ pub record Carries (delivery : Delivery) (ring : RingNumbers) : Type 0 where
   pub count : length delivery.rows ≡ length (row_places delivery.plan)
   pub total : ring.total ≡ length ring.rows
   pub source_is : (site : ℕ) → delivery.source site ≡ Ring site ring.readers ring.places
+
+-- the task of a run's readers: the sites make a delivery, and a key reader counts for this many keys
+pub record Work : Type 0 where
+  pub delivery : Delivery
+  pub keys : ℕ
 
 -- ---- one site
 
@@ -58,34 +66,56 @@ pub record HasStopped (delivery : Delivery) (site : ℕ) (before now : RackTells
   pub missed : now.missed ≡ before.missed
   pub faults : before.faults ≤ now.faults
 
--- a site has handled the rows below row n, or has left, or ran out of memory
-abbrev pub IsServed : Delivery → ℕ → ℕ → RackTells → RackTells → RunSite → Type 0
-IsServed delivery site n before now (Going going) = GoesOnAt delivery site n before now going
-IsServed delivery site n before now (Left cause) = HasLeft delivery site before now cause
-IsServed delivery site n before now Stopped = HasStopped delivery site before now
+-- ---- a key reader
 
--- ---- a site at its reader's end
+-- the counts of a plan's plates before the first row
+abbrev pub first_counts : PlanData → ℕ → CountsData
+first_counts plan keys = no_counts (length (groups_of plan)) (plate_width plan) keys
+
+-- a key reader has counted the rows of a ring below row n
+pub record IsCounting (work : Work) (ring : RingNumbers) (n : ℕ) (key : KeyReaderData) : Type 0 where
+  pub rows : key.rows ≡ rows_of work.delivery.plan
+  pub bounded : IsBounded key.counts n
+  pub counted : CountsRows (rows_of work.delivery.plan) ring 0 n (first_counts work.delivery.plan work.keys)
+      key.counts
+
+-- ---- a reader, with the rack of a site before the run and now
+
+-- P of a rack, which a site has
+abbrev pub OnRack : (RackTells → RackTells → Type 0) → Option RackTells → Option RackTells → Type 0
+OnRack P (Some before) (Some now) = P before now
+OnRack P (Some before) None = ⊥
+OnRack P None now = ⊥
+
+-- a reader has handled the rows of a ring below row n, or it is a site that has left or ran out of memory
+abbrev pub IsServed : Work → ℕ → RingNumbers → ℕ → Option RackTells → Option RackTells → Role → Type 0
+IsServed work site ring n before now (Going going) =
+    OnRack (λ old new. GoesOnAt work.delivery site n old new going) before now
+IsServed work site ring n before now (Left cause) =
+    OnRack (λ old new. HasLeft work.delivery site old new cause) before now
+IsServed work site ring n before now Stopped = OnRack (HasStopped work.delivery site) before now
+IsServed work site ring n before now (Counting key) = (now ≡ None) × IsCounting work ring n key
 
 -- a site that doesn't continue has left the ring
-abbrev pub is_out : RunSite → Bool
+abbrev pub is_out : Role → Bool
 is_out (Going going) = false
 is_out (Left cause) = true
 is_out Stopped = true
+is_out (Counting key) = false
 
--- a site has handled the rows below its reader's cursor, or has left the ring
-pub record IsSeated (delivery : Delivery) (site : ℕ) (before now : RackTells) (seat : SeatData)
-    : Type 0 where
+-- a reader has handled the rows below its cursor, or has left the ring
+pub record IsSeated (work : Work) (site : ℕ) (before now : Option RackTells) (seat : SeatData) : Type 0 where
   pub home : seat.reader.held ≡ false
   pub within : seat.reader.cursor ≤ seat.reader.ring.total
-  pub left : seat.reader.left ≡ is_out seat.site
-  pub is : IsServed delivery site seat.reader.cursor before now seat.site
+  pub left : seat.reader.left ≡ is_out seat.role
+  pub is : IsServed work site seat.reader.ring seat.reader.cursor before now seat.role
 
--- in some run, a site is seated so
-pub record SomeSeated (now : RackTells) (seat : SeatData) : Type 0 where
-  pub delivery : Delivery
-  pub before : RackTells
-  pub carries : Carries delivery seat.reader.ring
-  pub is : IsSeated delivery seat.reader.number before now seat
+-- in some run, a reader is seated so
+pub record SomeSeated (now : Option RackTells) (seat : SeatData) : Type 0 where
+  pub work : Work
+  pub before : Option RackTells
+  pub carries : Carries work.delivery seat.reader.ring
+  pub is : IsSeated work seat.reader.number before now seat
 
 -- ---- a turn
 
@@ -100,26 +130,23 @@ pub record TakesOn (was is : ReaderState) : Type 0 where
   pub fewer : to_take is ≤ to_take was
   pub gets_on : was.left ≡ false → was.cursor < was.seen → to_take is < to_take was
 
--- a turn of a site at its reader's end: in each run the site remains seated
-pub record Turned (old new : RackTells) (was is : SeatData) : Type 0 where
+-- a turn of a reader at its end: in each run it remains seated
+pub record Turned (old new : Option RackTells) (was is : SeatData) : Type 0 where
   pub end : TakesOn was.reader is.reader
-  pub seated : (delivery : Delivery) (before : RackTells) → Carries delivery was.reader.ring
-      → IsSeated delivery was.reader.number before old was → IsSeated delivery was.reader.number before new is
+  pub seated : (work : Work) (before : Option RackTells) → Carries work.delivery was.reader.ring
+      → IsSeated work was.reader.number before old was → IsSeated work was.reader.number before new is
 
--- ---- all sites
+-- ---- all readers
 
--- each site may take its turn
+-- each may take its turn
 abbrev pub AreSomeSeated : List RackTells → List SeatData → Type 0
-AreSomeSeated now seats = (i : ℕ) (told : RackTells) (seat : SeatData) → slice_get now i ≡ Some told
-    → slice_get seats i ≡ Some seat → SomeSeated told seat
+AreSomeSeated now seats = (i : ℕ) (seat : SeatData) → slice_get seats i ≡ Some seat
+    → SomeSeated (slice_get now i) seat
 
--- each site is seated so
-pub record AreSeated (delivery : Delivery) (before now : List RackTells) (seats : List SeatData)
-    : Type 0 where
-  pub count : length seats ≡ length delivery.plan.sites
-  pub each : (site : ℕ) (old new : RackTells) (seat : SeatData) → slice_get before site ≡ Some old
-      → slice_get now site ≡ Some new → slice_get seats site ≡ Some seat
-      → IsSeated delivery site old new seat
+-- each is seated so
+abbrev pub AreSeated : Work → List RackTells → List RackTells → List SeatData → Type 0
+AreSeated work before now seats = (i : ℕ) (seat : SeatData) → slice_get seats i ≡ Some seat
+    → IsSeated work i (slice_get before i) (slice_get now i) seat
 
 -- what a site leaves at any time is a part
 pub record LeavesPart (delivery : Delivery) (site : ℕ) (before now : RackTells) : Type 0 where
@@ -133,36 +160,31 @@ pub record AreStopped (delivery : Delivery) (before now : List RackTells) : Type
 
 -- ---- the first and the last
 
--- the seats of a plan's sites before the first row, at these ends
-abbrev pub fresh_seat : PlanData → List ℕ → ℕ × ReaderState → SeatData
-fresh_seat plan out (site, reader) = record { reader = reader; site = Going (fresh_site plan out site) }
+-- the sites of a plan before the first row, at these ends
+abbrev pub site_seat : PlanData → List ℕ → ℕ × ReaderState → SeatData
+site_seat plan out (site, reader) = record { reader = reader; role = Going (fresh_site plan out site) }
 
-abbrev pub fresh_seats : PlanData → List ℕ → List ReaderState → List SeatData
-fresh_seats plan out readers = map (fresh_seat plan out) (enumerate_from 0 readers)
+abbrev pub site_seats : PlanData → List ℕ → List ReaderState → List SeatData
+site_seats plan out readers = map (site_seat plan out) (enumerate_from 0 readers)
+
+-- followed by the key reader, if there is one, at the end at its index
+abbrev pub fresh_seats : PlanData → List ℕ → List ReaderState → Option KeyReaderData → List SeatData
+fresh_seats plan out readers None = site_seats plan out readers
+fresh_seats plan out readers (Some key) =
+    site_seats plan out (take (length plan.sites) readers)
+    ++ map (λ reader. record { reader = reader; role = Counting key }) (drop (length plan.sites) readers)
 
 -- the plates of a site from these groups
 abbrev pub plates_in : List Group → ℕ → List PlateOf
 plates_in groups site = flat_map group_plates (filter (λ group. has_site group site) groups)
 
--- the end of a site in this state after the last row; none where it ran out of memory
-abbrev pub end_of : PlanData → ℕ → RunSite → Option SiteEnd
+-- the end of a site in this state after the last row; none where it ran out of memory, or is no site
+abbrev pub end_of : PlanData → ℕ → Role → Option SiteEnd
 end_of plan site (Going going) = Some (Finished (length (site_plates plan site)) (kept_rows plan site))
 end_of plan site (Left cause) = Some (Ended.Left cause)
 end_of plan site Stopped = None
+end_of plan site (Counting key) = None
 
 -- the ends of all sites
 abbrev pub ends_in : PlanData → List SeatData → List (Option SiteEnd)
-ends_in plan seats = map (λ pair. end_of plan pair.0 pair.1.site) (enumerate_from 0 seats)
-
--- ---- a run
-
--- in each run whose sites are before the first row, each site's end fits
-abbrev pub FitsFrom : PlanData → RingNumbers → List RackTells → List RackTells → List SeatData → List SiteEnd
-    → Type 0
-FitsFrom plan ring old new seats ends = (delivery : Delivery) → delivery.plan ≡ plan → Carries delivery ring
-    → AreSeated delivery old old seats → RunFits delivery old new ends
-
--- in each such run, what the sites leave is at least a part
-abbrev pub StopsFrom : PlanData → RingNumbers → List RackTells → List RackTells → List SeatData → Type 0
-StopsFrom plan ring old new seats = (delivery : Delivery) → delivery.plan ≡ plan → Carries delivery ring
-    → AreSeated delivery old old seats → AreStopped delivery old new
+ends_in plan seats = map (λ pair. end_of plan pair.0 pair.1.role) (enumerate_from 0 seats)

@@ -3,20 +3,15 @@
 // site ended. A key reader may count the ink keys of the plates at the same time.
 #![tactic(auto)]
 
-mod all_rounds;
-mod at_end;
-mod banded;
-mod counting;
 mod ends;
 mod job_run;
+mod role;
 mod round;
 mod rows;
 mod seat;
-mod seats;
-mod site;
 mod site_end;
+mod writer;
 
-pub use counting::RunKeyReader;
 pub use job_run::run_fed;
 pub use ring_turns::{FeedEnd, feed_turn};
 pub use rows::Run;

@@ -1,100 +1,121 @@
-// A round of a run: the ends of the ring exchange notes, and then the writer and the readers take their turns
-// in parallel.
-ghost use Rattle.std.specs.Prelude.{◌≡◌, ◌<◌, length};
+// The rounds of a run: in each the ends of the ring exchange notes, and then the writer and the readers take
+// their turns in parallel.
+ghost use Rattle.std.specs.Prelude.{◌≡◌, ◌<◌, false, length};
+ghost use Rattle.std.specs.List.{list_any};
 ghost use Rattle.pr_rack.specs.Told.{all_told};
 ghost use Rattle.ring_turns.specs.Feeding.{MayFeed};
-ghost use Rattle.ring_turns.specs.Pairs.{MayAllTurn};
-ghost use Rattle.ring_run.specs.Counting.{AreSameKeys, IsCounting};
 ghost use Rattle.ring_run.specs.Round.{AreAtTable, AreEndsOf, AreTold, KnowsAll, KnowsMore};
 ghost use Rattle.ring_run.specs.Round.{Falls, StaySeated};
-ghost use Rattle.ring_run.specs.Seat.{all_readers};
+ghost use Rattle.ring_run.specs.Seat.{are_going as are_going_lem, is_going, is_stopped};
 ghost use Rattle.ring_run.specs.Served.{AreSomeSeated};
 
-use crate::at_end::AtEnd;
-use crate::banded::Banded;
-use crate::counting::RunKeyReader;
 use crate::seat::Seat;
+use crate::writer::RunWriter;
 use pr_base::Deal;
 use pr_rack::Rack;
 use press_job::BandFeed;
-use ring_lanes::{Reader, Writer};
-use ring_turns::{Pace, Pairs, turn_all};
+use ring_lanes::Writer;
+use ring_turns::{Pace, turn_all};
 use std::thread::Threads;
 use std::time::Clock;
 
 /// Hands a note of each reader to the writer, even of one that has left.
-fn tell_writer<D: Deal, E: AtEnd<D>>(writer: &mut Writer<'_, D>, ends: &mut [E])
-    requires table { AreAtTable E.end writer.old ends.old }
-    ensures knows { KnowsAll E.end writer.new.known ends.new }
-    ensures ends { ends.new ≡ ends.old }
+fn tell_writer<D: Deal>(writer: &mut Writer<'_, D>, seats: &mut [Seat<'_, '_, D>])
+    requires table { AreAtTable writer.old seats.old }
+    ensures knows { KnowsAll writer.new.known seats.new }
+    ensures seats { seats.new ≡ seats.old }
     ensures more { KnowsMore writer.old.known writer.new.known }
     ensures same { writer.new ≡ record writer.old { known = writer.new.known; loads = writer.new.loads } }
 {
-    for i in 0..ends.len() {
-        let note = ends[i].note();
+    for i in 0..seats.len() {
+        let note = seats[i].note();
         writer.learn(note);
     }
 }
 
 /// Hands a note of the writer to each reader that continues.
-fn tell_readers<D: Deal, E: AtEnd<D>>(writer: &mut Writer<'_, D>, ends: &mut [E])
-    requires table { AreAtTable E.end writer.old ends.old }
-    ensures told { AreTold E.heard writer.old ends.old ends.new }
+fn tell_readers<D: Deal>(writer: &mut Writer<'_, D>, seats: &mut [Seat<'_, '_, D>])
+    requires table { AreAtTable writer.old seats.old }
+    ensures told { AreTold writer.old seats.old seats.new }
     ensures same { writer.new ≡ writer.old }
 {
-    for i in 0..ends.len() {
-        ends[i].hear(writer);
+    for i in 0..seats.len() {
+        seats[i].hear(writer);
     }
 }
 
 /// Runs a round. Where a reader continues, fewer rows are yet to be published or to be taken afterwards.
-pub(crate) fn round<T: Threads + Clock + Sync, D: Deal + Sync, F: BandFeed + Send, R: Rack + Send>(
+fn round<T: Threads + Clock + Sync, F: BandFeed + Send, D: Deal + Sync, R: Rack + Send>(
     rt: &T,
-    writer: &mut Writer<'_, D>,
-    feed: &mut Banded<'_, '_, T, F>,
-    sites: Pairs<'_, Seat<'_, D>, R>,
-    further: Pairs<'_, Reader<'_, D>, RunKeyReader<'_>>,
+    writer: &mut RunWriter<'_, '_, '_, T, F, D>,
+    seats: &mut [Seat<'_, '_, D>],
+    racks: &mut [R],
     pace: Pace,
 )
-    requires feed { MayFeed (F.left feed.old.feed.now) writer.old }
-    requires places { 0 < writer.old.ring.places }
-    requires ends { AreEndsOf writer.old (all_readers sites.all.now further.all.now) }
-    requires count { length sites.all.now ≡ length sites.others.now }
-    requires some { AreSomeSeated (all_told R.Rack sites.others.now) sites.all.now }
-    requires more { length further.all.now ≡ length further.others.now }
-    requires counting { MayAllTurn IsCounting further.all.now further.others.now }
+    requires feed { MayFeed (F.left writer.old.feed.now) writer.old.end }
+    requires places { 0 < writer.old.end.ring.places }
+    requires ends { AreEndsOf writer.old.end seats.old }
+    requires some { AreSomeSeated (all_told R.Rack racks.old) seats.old }
     requires patience { 0 < pace.patience }
-    ensures feed { MayFeed (F.left feed.new.feed.now) writer.new }
-    ensures ring { writer.new.ring ≡ writer.old.ring }
-    ensures ends { AreEndsOf writer.new (all_readers sites.exit.0.now further.exit.0.now) }
-    ensures seated { StaySeated
-        (all_told R.Rack sites.entry.others.now) (all_told R.Rack sites.exit.1.0.now)
-        sites.entry.all.now sites.exit.0.now }
-    ensures counting { MayAllTurn IsCounting further.exit.0.now further.exit.1.0.now }
-    ensures keys { AreSameKeys further.entry.others.now further.exit.1.0.now }
-    ensures falls { Falls
-        writer.old (all_readers sites.entry.all.now further.entry.all.now)
-        writer.new (all_readers sites.exit.0.now further.exit.0.now) }
+    ensures feed { MayFeed (F.left writer.new.feed.now) writer.new.end }
+    ensures ring { writer.new.end.ring ≡ writer.old.end.ring }
+    ensures ends { AreEndsOf writer.new.end seats.new }
+    ensures seated { StaySeated (all_told R.Rack racks.old) (all_told R.Rack racks.new) seats.old seats.new }
+    ensures falls { Falls writer.old.end seats.old writer.new.end seats.new }
 {
-    let Pairs {
-        all: seats,
-        others: racks,
-    } = sites;
-    let Pairs {
-        all: more,
-        others: keys,
-    } = further;
-    tell_writer(writer, seats);
-    tell_writer(writer, more);
-    tell_readers(writer, seats);
-    tell_readers(writer, more);
-    let sites = Pairs {
-        all: seats,
-        others: racks,
-    };
-    let further = Pairs {
-        all: more,
-        others: keys,
-    };
-    turn_all(rt, pace, feed, writer, sites, further);
+    tell_writer(&mut writer.end, seats);
+    tell_readers(&mut writer.end, seats);
+    turn_all(rt, pace, writer, racks, seats);
+}
+
+/// Runs round after round, until each reader has left or has all rows, or until a site runs out of memory.
+pub(crate) fn run_rounds<
+    T: Threads + Clock + Sync,
+    F: BandFeed + Send,
+    D: Deal + Sync,
+    R: Rack + Send,
+>(
+    rt: &T,
+    writer: &mut RunWriter<'_, '_, '_, T, F, D>,
+    seats: &mut [Seat<'_, '_, D>],
+    racks: &mut [R],
+    patience: u32,
+)
+    requires feed { MayFeed (F.left writer.old.feed.now) writer.old.end }
+    requires places { 0 < writer.old.end.ring.places }
+    requires ends { AreEndsOf writer.old.end seats.old }
+    requires some { AreSomeSeated (all_told R.Rack racks.old) seats.old }
+    requires patience { 0 < patience }
+    ensures over { are_going_lem seats.new ≡ false }
+    ensures ring { writer.new.end.ring ≡ writer.old.end.ring }
+    ensures ends { AreEndsOf writer.new.end seats.new }
+    ensures seated { StaySeated (all_told R.Rack racks.old) (all_told R.Rack racks.new) seats.old seats.new }
+{
+    let pace = Pace::of(rt, patience, writer.end.row_len());
+    while are_going(seats) {
+        round(rt, writer, seats, racks, pace);
+    }
+}
+
+/// Returns whether some reader continues, and no site ran out of memory.
+fn are_going<D: Deal>(seats: &[Seat<'_, '_, D>]) -> bool
+    ensures { result ≡ are_going_lem seats.now }
+{
+    let going = some_going(seats);
+    let stopped = some_stopped(seats);
+    going && !stopped
+}
+
+/// Returns whether some reader continues.
+fn some_going<D: Deal>(seats: &[Seat<'_, '_, D>]) -> bool
+    ensures { result ≡ list_any (λ seat. is_going seat.reader) seats.now }
+{
+    seats.iter().any(|seat| seat.goes_on())
+}
+
+/// Returns whether some site ran out of memory.
+fn some_stopped<D: Deal>(seats: &[Seat<'_, '_, D>]) -> bool
+    ensures { result ≡ list_any (λ seat. is_stopped seat.role) seats.now }
+{
+    seats.iter().any(|seat| seat.is_stopped())
 }

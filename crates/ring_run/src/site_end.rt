@@ -2,7 +2,8 @@
 
 use site_agent::LeftCause;
 
-/// How a site ended.
+/// How a site ended. It is no end of a turn (`TurnEnd` of site_agent): where a run returns, no site waits,
+/// and none ran out of memory.
 #[derive(Debug, PartialEq, Eq, Drop)]
 pub enum SiteEnd {
     /// All its plates are finished: `plates` of them, of `rows` rows in total.

@@ -1,3 +1,3 @@
 mod Feeds
-mod Halves
+pub mod Halves
 mod OneThread

@@ -1,3 +1,3 @@
-pub mod Pairs
+pub mod Turns
 pub mod Feeding
 pub mod Again

@@ -1,22 +1,21 @@
 // Turns that are taken in one thread, one after the other and over and over again.
-ghost use Rattle.std.specs.Prelude.{◌≡◌, ◌<◌, ◌/◌, length, max};
-ghost use Rattle.ring_turns.specs.Pairs.{AreTurned, MayAllTurn};
+ghost use Rattle.std.specs.Prelude.{◌≡◌, ◌<◌, ◌≤◌, ◌/◌, length, max};
+ghost use Rattle.ring_turns.specs.Turns.{AreTurned, MayAllTurn};
 
 use crate::pace::Pace;
 use crate::turn::TurnWith;
 use crate::waiting::Vain;
 use std::time::Clock;
 
-/// Takes turns of each end with the value at its index, each until it looked in vain once, until all of them
-/// together looked in vain as often as the patience allows, or none has a row left. The thread waits only
-/// after a pass over all, so no end waits while another one of the thread has rows.
+/// Takes turns of each end with the value at its index, if it has one, each until it looked in vain once,
+/// until all of them together looked in vain as often as the patience allows, or none has a row left. The
+/// thread waits only after a pass over all, so no end waits while another one of the thread has rows.
 pub(crate) fn turns_in_one_thread<T: Clock, X: TurnWith<Y>, Y>(
     rt: &T,
     pace: Pace,
     others: &mut [Y],
     all: &mut [X],
 )
-    requires count { length all.old ≡ length others.old }
     requires may { MayAllTurn X.may all.old others.old }
     requires patience { 0 < pace.patience }
     ensures turned { AreTurned X.turned all.old others.old all.new others.new }
@@ -35,20 +34,15 @@ pub(crate) fn turns_in_one_thread<T: Clock, X: TurnWith<Y>, Y>(
     }
 }
 
-/// Takes turns of one end, each until it looked in vain once, as many as the patience allows, or until it has
-/// no row left.
-pub(crate) fn turns_of_one<T: Clock, X: TurnWith<Y>, Y>(
-    rt: &T,
-    pace: Pace,
-    other: &mut Y,
-    one: &mut X,
-)
-    requires may { X.may one.old other.old }
+/// Takes turns of one end alone, each until it looked in vain once, as many as the patience allows, or until
+/// it has no row left.
+pub(crate) fn turns_of_one<T: Clock, X: TurnWith<Y>, Y>(rt: &T, pace: Pace, one: &mut X)
+    requires may { X.may one.old None }
     requires patience { 0 < pace.patience }
-    ensures turned { X.turned one.old other.old one.new other.new }
+    ensures turned { X.turned one.old None one.new None }
 {
     let mut vain = Vain::new(one.rows());
-    one.turn(other, 1);
+    one.turn_alone(1);
     for look in 1..pace.patience {
         let rows = one.rows();
         if rows.is_none() {
@@ -56,7 +50,7 @@ pub(crate) fn turns_of_one<T: Clock, X: TurnWith<Y>, Y>(
         }
         vain.count(rows);
         vain.wait(rt, pace, look);
-        one.turn(other, 1);
+        one.turn_alone(1);
     }
 }
 
@@ -78,13 +72,16 @@ fn passes(patience: u32, ends: usize) -> u32
     (patience as usize / ends.max(1)) as u32
 }
 
-/// Takes a turn of each end with the value at its index, each until it looked in vain once.
+/// Takes a turn of each end with the value at its index, if it has one, each until it looked in vain once.
 fn ask_each<X: TurnWith<Y>, Y>(others: &mut [Y], all: &mut [X])
-    requires count { length all.old ≡ length others.old }
     requires may { MayAllTurn X.may all.old others.old }
     ensures turned { AreTurned X.turned all.old others.old all.new others.new }
 {
     for i in 0..all.len() {
-        all[i].turn(&mut others[i], 1);
+        if i < others.len() {
+            all[i].turn(&mut others[i], 1);
+            continue;
+        }
+        all[i].turn_alone(1);
     }
 }

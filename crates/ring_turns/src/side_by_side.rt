@@ -1,7 +1,7 @@
 // Turns that are taken side by side, in as many threads as there are processors for them.
-ghost use Rattle.std.specs.Prelude.{◌≡◌, ◌<◌, ℕ, length};
+ghost use Rattle.std.specs.Prelude.{◌≡◌, ◌<◌, ◌≤◌, ℕ, length};
 ghost use Rattle.std.specs.Thread.{IsSync};
-ghost use Rattle.ring_turns.specs.Pairs.{AreTurned, MayAllTurn};
+ghost use Rattle.ring_turns.specs.Turns.{AreTurned, MayAllTurn};
 
 use crate::one_thread::{turns_in_one_thread, turns_of_one};
 use crate::pace::Pace;
@@ -9,16 +9,54 @@ use crate::turn::TurnWith;
 use std::thread::{Threads, join_mut};
 use std::time::Clock;
 
-/// Takes the turn of each end with the value at its index, in as many threads as the pace says. They are
-/// halved until one is left, in which its share of the ends takes turns over and over again.
+/// Takes the turn of one, and alongside it those of all others, each with the value at its index, if it has
+/// one, in as many threads as the pace says.
+pub fn turn_all<T, W, X, Y>(rt: &T, pace: Pace, one: &mut W, others: &mut [Y], all: &mut [X])
+where
+    T: Threads + Clock + Sync,
+    W: TurnWith<Y> + Send,
+    X: TurnWith<Y> + Send,
+    Y: Send,
+    requires may_one { W.may one.old None }
+    requires may { MayAllTurn X.may all.old others.old }
+    requires patience { 0 < pace.patience }
+    ensures one { W.turned one.old None one.new None }
+    ensures turned { AreTurned X.turned all.old others.old all.new others.new }
+{
+    let pace = pace.beside(all.len());
+    // The second closure runs in this thread.
+    join_mut(
+        rt,
+        &mut ||
+            requires sync { IsSync T.row }
+            requires may { MayAllTurn X.may all.now others.now }
+            requires patience { 0 < pace.patience }
+            ensures { AreTurned X.turned all.entry.now others.entry.now all.exit.now others.exit.now }
+        {
+            let pace = pace;
+            turns(rt, pace, others, all)
+        },
+        &mut ||
+            requires sync { IsSync T.row }
+            requires may { W.may one.now None }
+            requires patience { 0 < pace.patience }
+            ensures { W.turned one.entry.now None one.exit.now None }
+        {
+            let pace = pace;
+            turn_of_one::<T, W, Y>(rt, pace, one)
+        },
+    );
+}
+
+/// Takes the turn of each end with the value at its index, if it has one, in as many threads as the pace
+/// says. They are halved until one is left, in which its share of the ends takes turns over and over again.
 #[cycle(halves)]
-pub(crate) fn turns<T: Threads + Clock + Sync, X: TurnWith<Y> + Send, Y: Send>(
+fn turns<T: Threads + Clock + Sync, X: TurnWith<Y> + Send, Y: Send>(
     rt: &T,
     pace: Pace,
     others: &mut [Y],
     all: &mut [X],
 )
-    requires count { length all.old ≡ length others.old }
     requires may { MayAllTurn X.may all.old others.old }
     requires patience { 0 < pace.patience }
     ensures turned { AreTurned X.turned all.old others.old all.new others.new }
@@ -28,7 +66,7 @@ pub(crate) fn turns<T: Threads + Clock + Sync, X: TurnWith<Y> + Send, Y: Send>(
     }
     let half = pace.share(all.len());
     let (a, b) = all.split_at_mut(half);
-    let (c, d) = others.split_at_mut(half);
+    let (c, d) = others.split_at_mut(half.min(others.len()));
     join_halves(rt, pace, a, b, c, d);
 }
 
@@ -44,8 +82,6 @@ fn join_halves<T: Threads + Clock + Sync, X: TurnWith<Y> + Send, Y: Send>(
 )
     requires some_first { 0 < length a.old }
     requires some_last { 0 < length b.old }
-    requires first { length a.old ≡ length c.old }
-    requires last { length b.old ≡ length d.old }
     requires may_first { MayAllTurn X.may a.old c.old }
     requires may_last { MayAllTurn X.may b.old d.old }
     requires patience { 0 < pace.patience }
@@ -58,7 +94,6 @@ fn join_halves<T: Threads + Clock + Sync, X: TurnWith<Y> + Send, Y: Send>(
         rt,
         &mut ||
             requires sync { IsSync T.row }
-            requires count { length a.now ≡ length c.now }
             requires may { MayAllTurn X.may a.now c.now }
             requires patience { 0 < first.patience }
             ensures { AreTurned X.turned a.entry.now c.entry.now a.exit.now c.exit.now }
@@ -68,7 +103,6 @@ fn join_halves<T: Threads + Clock + Sync, X: TurnWith<Y> + Send, Y: Send>(
         },
         &mut ||
             requires sync { IsSync T.row }
-            requires count { length b.now ≡ length d.now }
             requires may { MayAllTurn X.may b.now d.now }
             requires patience { 0 < last.patience }
             ensures { AreTurned X.turned b.entry.now d.entry.now b.exit.now d.exit.now }
@@ -79,77 +113,29 @@ fn join_halves<T: Threads + Clock + Sync, X: TurnWith<Y> + Send, Y: Send>(
     );
 }
 
-/// Takes the turn of one, and alongside it those of all others, in as many threads as the pace says.
-pub(crate) fn turn_beside<T, W, F, X, Y>(
-    rt: &T,
-    pace: Pace,
-    its: &mut F,
-    one: &mut W,
-    others: &mut [Y],
-    all: &mut [X],
-)
-where
-    T: Threads + Clock + Sync,
-    W: TurnWith<F> + Send,
-    F: Send,
-    X: TurnWith<Y> + Send,
-    Y: Send,
-    requires may_one { W.may one.old its.old }
-    requires count { length all.old ≡ length others.old }
-    requires may { MayAllTurn X.may all.old others.old }
-    requires patience { 0 < pace.patience }
-    ensures one { W.turned one.old its.old one.new its.new }
-    ensures turned { AreTurned X.turned all.old others.old all.new others.new }
-{
-    // The second closure runs in this thread.
-    join_mut(
-        rt,
-        &mut ||
-            requires sync { IsSync T.row }
-            requires count { length all.now ≡ length others.now }
-            requires may { MayAllTurn X.may all.now others.now }
-            requires patience { 0 < pace.patience }
-            ensures { AreTurned X.turned all.entry.now others.entry.now all.exit.now others.exit.now }
-        {
-            let pace = pace;
-            turns(rt, pace, others, all)
-        },
-        &mut ||
-            requires sync { IsSync T.row }
-            requires may { W.may one.now its.now }
-            requires patience { 0 < pace.patience }
-            ensures { W.turned one.entry.now its.entry.now one.exit.now its.exit.now }
-        {
-            let pace = pace;
-            turn_of_one(rt, pace, its, one)
-        },
-    );
-}
-
 /// Takes the turn of the one: in this thread, so that its buffers stay in one processor's cache, or in a
 /// thread of its own while this one rests, so that each thread that it started begins at once.
-pub(crate) fn turn_of_one<T, W, F>(rt: &T, pace: Pace, its: &mut F, one: &mut W)
+fn turn_of_one<T, W, Y>(rt: &T, pace: Pace, one: &mut W)
 where
     T: Threads + Clock + Sync,
-    W: TurnWith<F> + Send,
-    F: Send,
-    requires may { W.may one.old its.old }
+    W: TurnWith<Y> + Send,
+    requires may { W.may one.old None }
     requires patience { 0 < pace.patience }
-    ensures { W.turned one.old its.old one.new its.new }
+    ensures { W.turned one.old None one.new None }
 {
     if !pace.apart {
-        turns_of_one(rt, pace, its, one);
+        turns_of_one::<T, W, Y>(rt, pace, one);
         return;
     }
     join_mut(
         rt,
         &mut ||
-            requires may { W.may one.now its.now }
+            requires may { W.may one.now None }
             requires patience { 0 < pace.patience }
-            ensures { W.turned one.entry.now its.entry.now one.exit.now its.exit.now }
+            ensures { W.turned one.entry.now None one.exit.now None }
         {
             let pace = pace;
-            turns_of_one(rt, pace, its, one)
+            turns_of_one::<T, W, Y>(rt, pace, one)
         },
         &mut || {},
     );

@@ -6,11 +6,12 @@ ghost use Rattle.site_agent.specs.Racks.{AreIdle, KeepCounts};
 ghost use Rattle.ring_run.specs.Fits.{RunFits, RunPart, by_job};
 ghost use Rattle.ring_run.specs.JobRun.{JobLeaves, MayRun};
 
+use ink_keys::{Counts, KeyReader};
 use pr_base::NoMemory;
 use pr_rack::Rack;
 use press_feed::Feed;
 use press_job::Job;
-use ring_run::{Outcome, Run, RunKeyReader, run_fed};
+use ring_run::{Outcome, Run, run_fed};
 use std::alloc::Global;
 use std::thread::Threads;
 use std::time::Clock;
@@ -56,21 +57,22 @@ pub fn run_job<T: Threads + Clock + Sync, R: Rack + Send>(
         ring,
         patience,
     };
-    run_all(rt, &run, job, racks, &mut [])
+    let (outcome, _counts) = run_all(rt, &run, job, racks, None)?;
+    Ok(outcome)
 }
 
-/// Runs a job as `run_job` does, with key readers that count the rows. This is the only function that drops a
-/// feed, because the prover checks what a function drops once for each of its paths.
+/// Runs a job as `run_job` does, with a key reader that counts the rows, if there is one. This is the only
+/// function that drops a feed, because the prover checks what a function drops once for each of its paths.
 pub(crate) fn run_all<T: Threads + Clock + Sync, R: Rack + Send>(
     rt: &T,
     run: &Run<'_>,
     job: &Job,
     racks: &mut [R],
-    keys: &mut [RunKeyReader<'_>],
-) -> Result<Outcome, NoMemory>
-    requires may { MayRun R.Rack run.now keys.old racks.old }
+    keys: Option<KeyReader<'_>>,
+) -> Result<(Outcome, Option<Counts>), NoMemory>
+    requires may { MayRun R.Rack run.now keys racks.old }
     requires plan { run.now.plan.now ≡ job.now.plan }
-    ensures leaves { JobLeaves R.Rack job.now run.now keys.old keys.new racks.old racks.new result }
+    ensures leaves { JobLeaves R.Rack job.now run.now keys.entry racks.old racks.new result }
 {
     let mut feed = Feed::open_wide(rt, run.alloc, job)?;
     run_fed(rt, run, job, &mut feed, racks, keys)

@@ -1,20 +1,18 @@
 // A run that also counts the ink keys of all plates, through one further reader of its ring.
-ghost use Rattle.std.specs.Prelude.{◌≡◌, ◌+◌, ◌<◌, ◌≤◌, [], ◌∷◌, IfOk, OnErr, Some, drop, length, slice_get};
+ghost use Rattle.std.specs.Prelude.{◌≡◌, ◌+◌, ◌≤◌, IfOk, OnErr, drop, length};
 ghost use Rattle.pr_rack.specs.Told.{all_told};
 ghost use Rattle.pr_base.specs.Number.{IsWithin};
 ghost use Rattle.press_job.specs.Rows.{plate_rows};
-ghost use Rattle.ink_keys.specs.Turn.{KeyReaderData};
 ghost use Rattle.site_agent.specs.Racks.{AreIdle, KeepCounts};
 ghost use Rattle.ring_run.specs.Fits.{RunFits, RunPart, by_job};
 ghost use Rattle.ring_run.specs.Keyed.{KeysFit};
 
 use crate::job_run::run_all;
 use ink_keys::{Counts, KeyReader};
-use plan_rows::RowPlan;
 use pr_base::NoMemory;
 use pr_rack::Rack;
 use press_job::Job;
-use ring_run::{Outcome, Run, RunKeyReader};
+use ring_run::{Outcome, Run};
 use std::alloc::Global;
 use std::thread::Threads;
 use std::time::Clock;
@@ -57,7 +55,6 @@ pub fn run_keys<T: Threads + Clock + Sync, R: Rack + Send>(
     let plan = job.plan();
     let rows = job.rows();
     let counts = Counts::new(alloc, rows, job.shape().width, keys)?;
-    let mut readers = one_reader(alloc, rows, counts)?;
     let run = Run {
         alloc,
         plan,
@@ -67,33 +64,10 @@ pub fn run_keys<T: Threads + Clock + Sync, R: Rack + Send>(
         ring,
         patience,
     };
-    let outcome = run_all(rt, &run, job, racks, readers.as_mut_slice())?;
-    Ok((outcome, counts_of(readers)))
-}
-
-/// Returns a list of one key reader, which adds the rows of this row plan to these counts.
-fn one_reader<'p>(
-    alloc: Global,
-    rows: &'p RowPlan,
-    counts: Counts,
-) -> Result<Vec<RunKeyReader<'p>>, NoMemory>
-    requires { counts.groups ≡ length rows.now.groups }
-    ensures { IfOk result (λ readers.
-        readers.items ≡ record { rows = rows.now; counts = counts } ∷ []) }
-{
-    let mut readers = Vec::new(alloc);
-    readers.push(RunKeyReader::new(KeyReader::new(rows, counts)))?;
-    Ok(readers)
-}
-
-/// Returns the counts of the only key reader of a list.
-fn counts_of(mut readers: Vec<RunKeyReader<'_>>) -> Counts
-    requires one { length readers.items ≡ 1 }
-    ensures its { (key : KeyReaderData) → slice_get readers.entry.items 0 ≡ Some key
-        → result ≡ key.counts }
-{
-    let Some(key) = readers.pop() else {
+    let reader = Some(KeyReader::new(rows, counts));
+    let (outcome, counts) = run_all(rt, &run, job, racks, reader)?;
+    let Some(counts) = counts else {
         unreachable!()
     };
-    key.into_counts()
+    Ok((outcome, counts))
 }

@@ -11,14 +11,14 @@ pub learn-requires : goal.learn-requires
 learn-requires g c =
     let it = c.loop-i.invariant in
     let i = c.loop-i.i in
-    let less : i < length c.loop-i.ends = omega arith in
-    let end = get_or c.loop-i.ends i c.index-ends-i.result in
-    let there = ap (λ (list : _). slice_get list i) (sym it.ends) ∙ slice_get-get_or c.loop-i.ends i c.index-ends-i.result less in
+    let less : i < length c.loop-i.seats = omega arith in
+    let end = get_or c.loop-i.seats i c.index-seats-i.result in
+    let there = ap (λ (list : _). slice_get list i) (sym it.seats) ∙ slice_get-get_or c.loop-i.seats i c.index-seats-i.result less in
     ap (λ (n : CursorNoteState). n.table) c.note-note.ensures.note ∙ c.requires.table i end there ∙ sym (ap (λ (w : WriterState). w.table) it.same)
 
 pub loop-i-init : goal.loop-i-init
 loop-i-init g c = record {
-  ends = refl;
+  seats = refl;
   same = refl;
   more = more_same c.args.writer.now.known;
   knows = λ j x less. absurd (omega (arith, less));
@@ -28,20 +28,20 @@ pub loop-i-preserved : goal.loop-i-preserved
 loop-i-preserved g c =
     let it = c.loop-i.invariant in
     let i = c.loop-i.i in
-    let end = get_or c.loop-i.ends i c.index-ends-i.result in
-    let less : i < length c.loop-i.ends = omega arith in
-    let there = ap (λ (list : _). slice_get list i) (sym it.ends) ∙ slice_get-get_or c.loop-i.ends i c.index-ends-i.result less in
+    let end = get_or c.loop-i.seats i c.index-seats-i.result in
+    let less : i < length c.loop-i.seats = omega arith in
+    let there = ap (λ (list : _). slice_get list i) (sym it.seats) ∙ slice_get-get_or c.loop-i.seats i c.index-seats-i.result less in
     let more = noted_more c.loop-i.writer c.learn.new.self c.note-note.result.number c.learn.ensures.loaded c.learn.ensures.others in
     record {
-      ends = ap (λ (s : _). set c.loop-i.ends i s) c.note-note.ensures.same ∙ set-get_or c.loop-i.ends i c.index-ends-i.result ∙ it.ends;
+      seats = ap (λ (s : _). set c.loop-i.seats i s) c.note-note.ensures.same ∙ set-get_or c.loop-i.seats i c.index-seats-i.result ∙ it.seats;
       same = c.learn.ensures.same ∙ ap {A = WriterState} (λ w. record w { known = c.learn.new.self.known; loads = c.learn.new.self.loads }) it.same;
       more = more_again c.args.writer.now.known c.loop-i.writer.known c.learn.new.self.known it.more more;
-      knows = knows_more g.E.AtEnd.end c.loop-i.writer c.learn.new.self c.args.ends.now i end c.note-note.result there c.note-note.ensures.note c.learn.ensures.cursor c.learn.ensures.left more it.knows;
+      knows = knows_more c.loop-i.writer c.learn.new.self c.args.seats.now i end c.note-note.result there c.note-note.ensures.note c.learn.ensures.cursor c.learn.ensures.left more it.knows;
     }
 
 pub returns-clause-knows : goal.returns-clause-knows
 returns-clause-knows g c =
     λ i x there.
-    let at = ap (λ (list : _). slice_get list i) (sym c.loop-i.invariant.ends) ∙ there in
-    let within = slice_get_within c.loop-i.ends i x there in
+    let at = ap (λ (list : _). slice_get list i) (sym c.loop-i.invariant.seats) ∙ there in
+    let within = slice_get_within c.loop-i.seats i x there in
     c.loop-i.invariant.knows i x (omega (arith, within)) at

@@ -5,8 +5,8 @@ use Rattle.ring_run.proofs.round.tell_writer.Given as goal
 
 abbrev pub invariant-loop-i : goal.invariant-loop-i
 invariant-loop-i g l = record {
-  ends : l.ends ≡ l.initial.ends;
+  seats : l.seats ≡ l.initial.seats;
   same : l.writer ≡ record l.initial.writer { known = l.writer.known; loads = l.writer.loads };
   more : KnowsMore l.initial.writer.known l.writer.known;
-  knows : KnowsUpTo g.E.AtEnd.end l.writer.known l.initial.ends l.i;
+  knows : KnowsUpTo l.writer.known l.initial.seats l.i;
 }

@@ -1,4 +1,4 @@
-use Rattle.ring_turns.specs.Pairs.{AreTurned, MayAllTurn}
+use Rattle.ring_turns.specs.Turns.{AreTurned, MayAllTurn}
 use Rattle.ring_turns.proofs.one_thread.turns_in_one_thread.Given as goal
 
 abbrev pub invariant-loop-pass : goal.invariant-loop-pass

@@ -2,27 +2,16 @@ use Rattle.std.proofs.Common.{map, ap, sym, subst, ◌∙◌}
 use Rattle.ring_rule.specs.Marks.{TableMark}
 use Rattle.ring_rule.specs.declared.view.RingNumbers.{RingNumbers}
 use Rattle.pr_rack.specs.Told.{RackTells, told}
-use Rattle.ring_run.specs.Counting.{HaveCounted, MayAllCount}
-use Rattle.ring_run.specs.Fits.{RunLeaves, on_ring}
-use Rattle.site_agent.proofs.Results.{if_ok}
+use Rattle.ring_run.specs.Fits.{on_ring}
+use Rattle.ring_run.specs.JobRun.{RunLeaves}
 use Rattle.ring_run.proofs.Running.{none_leaves}
 use Rattle.ring_run.proofs.rows.Run.run_rows.Goals as goal
 
 pub returns-in_err-table-clause-leaves : goal.returns-in_err-table-clause-leaves
-returns-in_err-table-clause-leaves g c = none_leaves _ _ c.from_residual.result c.from_residual.ensures.0
-
-pub run_on-requires-clause-zeros : goal.run_on-requires-clause-zeros
-run_on-requires-clause-zeros g c κs within =
-    let is = ap {A = TableMark} (λ t. t.ring) c.set_pauses.ensures ∙ c.in_ok-table.ensures.ring in
-    subst (λ (r : RingNumbers). MayAllCount r c.args.keys.now) (sym is) c.requires.zeros
+returns-in_err-table-clause-leaves g c = none_leaves _ _ _ c.from_residual.result c.from_residual.ensures.0
 
 pub returns-clause-leaves : goal.returns-clause-leaves
 returns-clause-leaves g c =
     let tell : g.row.R.Denot → RackTells = told g.R.Rack in
     let is = ap {A = TableMark} (λ t. t.ring) c.set_pauses.ensures ∙ c.in_ok-table.ensures.ring in
-    subst (λ (r : RingNumbers). RunLeaves (on_ring c.args.self.now.plan.now c.args.self.now.out.now r) (map tell c.args.racks.now) (map tell c.run_on.new.racks) c.run_on.result) is c.run_on.ensures.leaves
-
-pub returns-clause-counted : goal.returns-clause-counted
-returns-clause-counted g c =
-    let is = ap {A = TableMark} (λ t. t.ring) c.set_pauses.ensures ∙ c.in_ok-table.ensures.ring in
-    if_ok c.run_on.result _ _ (λ outcome have. subst (λ (r : RingNumbers). HaveCounted r c.args.keys.now c.run_on.new.keys) is have) c.run_on.ensures.counted
+    subst (λ (r : RingNumbers). RunLeaves (on_ring c.args.self.now.plan.now c.args.self.now.out.now r) c.args.keys (map tell c.args.racks.now) (map tell c.run_on.new.racks) c.run_on.result) is c.run_on.ensures.leaves

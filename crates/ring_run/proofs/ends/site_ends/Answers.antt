@@ -2,7 +2,7 @@ use Rattle.std.proofs.Common.{◌≡◌, ◌+◌, ◌∙◌, ◌++◌, ◌∷◌
 use Rattle.std.proofs.lemmas.List.{append_assoc, length-append, length-map, map-append}
 use Rattle.ring_run.specs.Served.{end_of, ends_in}
 use Rattle.ring_run.proofs.Running.{ends_more, length-ends_in}
-use Rattle.ring_run.proofs.ends.ends_of.Goals as goal
+use Rattle.ring_run.proofs.ends.site_ends.Goals as goal
 
 pub end_at-requires-clause-index : goal.end_at-requires-clause-index
 end_at-requires-clause-index g c =
@@ -22,8 +22,8 @@ loop-seat-preserved g c =
     let is = c.len.ensures in
     let ok = c.loop-seat.ends.ok.0 in
     let index : c.len.result ≡ length done = omega (arith, ends, is, ok) in
-    let end : Some c.in_ok-end.end ≡ end_of plan (length done) c.in-Some.seat.site =
-    sym c.in_ok-end.ensures.ok_part ∙ c.end_at.ensures ∙ ap (λ n. end_of plan n c.into_site.result) index ∙ ap (λ site. end_of plan (length done) site) c.into_site.ensures in (
+    let end : Some c.in_ok-end.end ≡ end_of plan (length done) c.in-Some.seat.role =
+    sym c.in_ok-end.ensures.ok_part ∙ c.end_at.ensures ∙ ap (λ n. end_of plan n c.into_role.result) index ∙ ap (λ role. end_of plan (length done) role) c.into_role.ensures in (
       ap (λ list. map Some list) c.in_ok-push.ensures.items
           ∙ map-append Some c.loop-seat.ends.items (c.in_ok-end.end ∷ [])
           ∙ ap (λ list. list ++ Some c.in_ok-end.end ∷ []) c.loop-seat.invariant.0

@@ -2,14 +2,14 @@ use Rattle.std.proofs.Common.{◌≡◌, ◌+◌, ◌∙◌, ◌++◌, ◌∷◌
 use Rattle.std.proofs.lemmas.List.{append_assoc, length-append}
 use Rattle.site_agent.specs.Plan.{fresh_site}
 use Rattle.site_agent.specs.Site.{SiteData}
-use Rattle.ring_run.specs.declared.site.RunSite.TheVariants.{Going}
-use Rattle.ring_run.specs.Served.{fresh_seat, fresh_seats}
-use Rattle.ring_run.proofs.Running.{length-fresh_seats, seats_more}
-use Rattle.ring_run.proofs.ends.seats_of.Goals as goal
+use Rattle.ring_run.specs.declared.role.Role.TheVariants.{Going}
+use Rattle.ring_run.specs.Served.{site_seat, site_seats}
+use Rattle.ring_run.proofs.Running.{length-site_seats, seats_more}
+use Rattle.ring_run.proofs.ends.site_seats.Goals as goal
 
 pub new-requires-clause-site : goal.new-requires-clause-site
 new-requires-clause-site g c =
-    let seats : length c.loop-reader.seats.items ≡ length c.loop-reader.yielded = ap length c.loop-reader.invariant.0 ∙ length-fresh_seats c.args.plan.now c.args.out.now c.loop-reader.yielded in
+    let seats : length c.loop-reader.seats.items ≡ length c.loop-reader.yielded = ap length c.loop-reader.invariant.0 ∙ length-site_seats c.args.plan.now c.args.out.now c.loop-reader.yielded in
     let all : length c.loop-reader.yielded + length c.loop-reader.reader-iterator.rest.items ≡ length c.args.readers.items = sym (length-append c.loop-reader.yielded c.loop-reader.reader-iterator.rest.items) ∙ ap length c.loop-reader.invariant.1 in
     let some : length c.loop-reader.reader-iterator.rest.items ≡ length (c.in-Some.reader ∷ c.next.new.self.rest.items) = ap length c.in-Some.ensures.steps.0 in
     let is = c.len.ensures in
@@ -22,15 +22,15 @@ loop-reader-preserved g c =
     let plan = c.args.plan.now in
     let out = c.args.out.now in
     let done = c.loop-reader.yielded in
-    let seats : length c.loop-reader.seats.items ≡ length done = ap length c.loop-reader.invariant.0 ∙ length-fresh_seats plan out done in
+    let seats : length c.loop-reader.seats.items ≡ length done = ap length c.loop-reader.invariant.0 ∙ length-site_seats plan out done in
     let is = c.len.ensures in
     let ok = c.loop-reader.seats.ok.0 in
     let index : c.len.result ≡ length done = omega (arith, seats, is, ok) in
-    let seat : c.new-in-loop-reader.result ≡ fresh_seat plan out (length done, c.in-Some.reader) =
-    c.new-in-loop-reader.ensures ∙ ap (λ (site : SiteData). record { reader = c.in-Some.reader; site = Going site }) (c.in_ok-site.ensures ∙ ap (fresh_site plan out) index) in (
+    let seat : c.new-in-loop-reader.result ≡ site_seat plan out (length done, c.in-Some.reader) =
+    c.new-in-loop-reader.ensures ∙ ap (λ (site : SiteData). record { reader = c.in-Some.reader; role = Going site }) (c.in_ok-site.ensures ∙ ap (fresh_site plan out) index) in (
       c.in_ok-push.ensures.items
           ∙ ap (λ list. list ++ c.new-in-loop-reader.result ∷ []) c.loop-reader.invariant.0
-          ∙ ap (λ s. fresh_seats plan out done ++ s ∷ []) seat
+          ∙ ap (λ s. site_seats plan out done ++ s ∷ []) seat
           ∙ sym (seats_more plan out done c.in-Some.reader),
       append_assoc done (c.in-Some.reader ∷ []) c.next.new.self.rest.items ∙ ap (λ list. done ++ list) (sym c.in-Some.ensures.steps.0) ∙ c.loop-reader.invariant.1,
     )
