@@ -8,15 +8,14 @@ use std::thread::{Threads, available_parallelism};
 const LONG_ROW: usize = 512;
 
 /// How the turns of a round are taken: how many looks of each may be in vain, in how many threads those of
-/// all ends but one are taken, whether a thread pauses after a look in vain, whether it sleeps after the
-/// first of them, and whether the one takes its turn in a thread of its own.
+/// all ends but one are taken, whether a thread pauses after a look in vain, and whether it sleeps after the
+/// first of them.
 #[derive(Clone, Copy)]
 pub struct Pace {
     pub patience: u32,
     pub threads: usize,
     pub pauses: bool,
     pub sleeps: bool,
-    pub apart: bool,
 }
 
 impl Pace {
@@ -36,7 +35,6 @@ impl Pace {
             threads: processors.saturating_sub(1).max(2),
             pauses: processors > 1,
             sleeps: processors < 2 || row_len >= LONG_ROW,
-            apart: false,
         }
     }
 
@@ -49,21 +47,6 @@ impl Pace {
             threads,
             pauses: self.pauses,
             sleeps: self.sleeps,
-            apart: self.apart,
-        }
-    }
-
-    /// Returns the same pace alongside this many ends. If there are several, the one takes its turn in a
-    /// thread of its own. That costs one more thread a round, and with one other end more than it gains.
-    pub(crate) fn beside(self, ends: usize) -> Pace
-        ensures { result.patience ≡ self.patience }
-    {
-        Pace {
-            patience: self.patience,
-            threads: self.threads,
-            pauses: self.pauses,
-            sleeps: self.sleeps,
-            apart: self.pauses && ends > 1,
         }
     }
 

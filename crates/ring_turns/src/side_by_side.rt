@@ -23,8 +23,7 @@ where
     ensures one { W.turned one.old None one.new None }
     ensures turned { AreTurned X.turned all.old others.old all.new others.new }
 {
-    let pace = pace.beside(all.len());
-    // The second closure runs in this thread.
+    // The second closure runs in this thread, so that the buffers of the one stay in one processor's cache.
     join_mut(
         rt,
         &mut ||
@@ -43,7 +42,7 @@ where
             ensures { W.turned one.entry.now None one.exit.now None }
         {
             let pace = pace;
-            turn_of_one::<T, W, Y>(rt, pace, one)
+            turns_of_one::<T, W, Y>(rt, pace, one)
         },
     );
 }
@@ -110,33 +109,5 @@ fn join_halves<T: Threads + Clock + Sync, X: TurnWith<Y> + Send, Y: Send>(
             let last = last;
             turns(rt, last, d, b)
         },
-    );
-}
-
-/// Takes the turn of the one: in this thread, so that its buffers stay in one processor's cache, or in a
-/// thread of its own while this one rests, so that each thread that it started begins at once.
-fn turn_of_one<T, W, Y>(rt: &T, pace: Pace, one: &mut W)
-where
-    T: Threads + Clock + Sync,
-    W: TurnWith<Y> + Send,
-    requires may { W.may one.old None }
-    requires patience { 0 < pace.patience }
-    ensures { W.turned one.old None one.new None }
-{
-    if !pace.apart {
-        turns_of_one::<T, W, Y>(rt, pace, one);
-        return;
-    }
-    join_mut(
-        rt,
-        &mut ||
-            requires may { W.may one.now None }
-            requires patience { 0 < pace.patience }
-            ensures { W.turned one.entry.now None one.exit.now None }
-        {
-            let pace = pace;
-            turns_of_one::<T, W, Y>(rt, pace, one)
-        },
-        &mut || {},
     );
 }

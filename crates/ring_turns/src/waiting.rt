@@ -6,7 +6,7 @@ use std::time::{Clock, Duration};
 
 /// How many looks in vain after a row are followed by a sleep. More of them would make the end of each round,
 /// in which nobody makes progress, longer.
-const SLEEPS: u32 = 2;
+const SLEEPS: u32 = 4;
 
 /// How long a sleep is to last, in nanoseconds. Linux makes it some fifty thousand, in which the other ends
 /// deal with ten rows or more, so that one look serves for all of them.
