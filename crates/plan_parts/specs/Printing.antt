@@ -73,7 +73,8 @@ unfoldable pub screen : List (List ℕ) → Reader Screen
 screen names path d = text path d >>= screen_named names path
 
 unfoldable pub screens : Bool → List TileData → Reader (List Screen)
-screens spot tiles path d = object_with (ink_keys spot) path d >>= each_ink (Bayer 8) (screen (tile_names tiles)) path
+screens spot tiles path d =
+    object_with (ink_keys spot) path d >>= each_ink (Bayer 8) (screen (tile_names tiles)) path
 
 -- ---- curves
 

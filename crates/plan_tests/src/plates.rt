@@ -53,8 +53,7 @@ fn marks_are_set_and_all_else_stays(rt: HostRuntime) {
 
 fn expect_row(rt: &impl Abort, plan: &Plan, ink: Ink, y: u32, wanted: [u8; 4]) {
     let shape = plate_shape(plan);
-    assert!(rt; shape == SHAPE);
-    assert!(rt; y < 5);
+    assert!(rt; shape == SHAPE && y < 5);
     let mut row = [0x80, 0x00, 0x00, 0x01];
     mark_row(plan, ink, y, &mut row);
     assert!(rt; row == wanted, "row {y} of {ink:?}");

@@ -152,8 +152,7 @@ fn expect_path<R: Abort + AllocGlobal>(
     path: &str,
 ) {
     let section = group.section as usize;
-    assert!(rt; site < plan.sites.len());
-    assert!(rt; section < plan.sections.len());
+    assert!(rt; site < plan.sites.len() && section < plan.sections.len());
     let made = plate_path(rt.alloc(), plan, "OUT", site, group, ink).expect(rt, "memory");
     assert!(rt; made.as_str() == path, "{path}");
 }

@@ -1,6 +1,6 @@
 // A plan 1 without optional keys in its top object: the result of reading it, and its single changes.
 use crate::faults::{check_changes, quoted};
-use plan_json::{Page, PlanLayer, Screen, read_plan};
+use plan_json::{Page, Plan, PlanLayer, Screen, read_plan};
 use pr_base::PathText;
 use std::process::Abort;
 
@@ -41,9 +41,15 @@ fn each_change_of_a_plan_1_has_its_fault(rt: HostRuntime) {
 fn a_small_plan_is_read(rt: HostRuntime) {
     let text = quoted(&rt, SMALL);
     let plan = read_plan(rt.alloc(), text.as_bytes()).expect(&rt, "no plan");
-    assert!(rt; joined(&rt, plan.files()).as_str() == "b a c ");
-    assert!(rt; plan.limit == 1020 && plan.screens[4] == Screen::Bayer(8));
-    assert!(rt; is_page(&plan.pages[0]));
+    assert!(rt; is_small(&rt, &plan));
+}
+
+// Returns whether a plan has the files, the default limit and screen, and the first page of the small plan.
+fn is_small<R: Abort + AllocGlobal>(rt: &R, plan: &Plan) -> bool {
+    joined(rt, plan.files()).as_str() == "b a c "
+        && plan.limit == 1020
+        && plan.screens[4] == Screen::Bayer(8)
+        && is_page(&plan.pages[0])
 }
 
 // Joins names, with a space after each.
