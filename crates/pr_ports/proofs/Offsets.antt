@@ -3,7 +3,7 @@ use Rattle.std.proofs.Common.{◌≡◌, ℕ, ◌+◌, ◌<◌, ◌≤◌, List,
 use Rattle.std.specs.Option.{option_map}
 use Rattle.std.specs.Io.KnownBytes.{Consumes, IsAtEnd}
 use Rattle.std.proofs.Math.Seq.{take-add, take-append-add}
-use Rattle.std.proofs.lemmas.List.{drop-drop, drop_all, length-take-le, take_all, take-append-drop, take-append-le}
+use Rattle.std.proofs.lemmas.List.{drop-drop, drop_all, length-take-le, take_all, take-append-drop}
 use Rattle.pr_ports.specs.Offset.{HasFront, IsReadAt}
 
 -- two runs of bytes that a reader delivered, one after the other
@@ -31,11 +31,6 @@ pub front_more : (whole : Option (List ℕ)) (offset : ℕ) (before after : List
 front_more None offset before after at count front kept more = tt
 front_more (Some all) offset before after at count front kept more =
     take-add at count after ∙ ap₂ ◌++◌ (kept ∙ front) (more ∙ ap (take count) (sym (drop-drop at offset all))) ∙ sym (take-add at count (drop offset all))
-
--- a front of the front share
-pub front_alone : (whole : Option (List ℕ)) (offset : ℕ) (front back : List ℕ) (one : ℕ) → one ≤ length front → HasFront whole offset front one → HasFront whole offset (front ++ back) one
-front_alone None offset front back one within read = tt
-front_alone (Some all) offset front back one within read = take-append-le one front back within ∙ read
 
 -- the whole front share, and a front of the share behind it
 pub both_read : (whole : Option (List ℕ)) (offset middle half : ℕ) (front back : List ℕ) (one other : ℕ) → length front ≡ half → middle ≡ offset + half → one ≡ half

@@ -21,6 +21,7 @@ fn read_behind_at<F: OffsetRead>(file: &F, into: &mut [u8], at: usize, offset: u
 
 /// Fills `into` with the file's bytes from `offset` on. Returns how many of them were read before the end of
 /// the file or a read that failed.
+#[tactic(auto, using(crate::proofs::Offsets::front_more))]
 pub(crate) fn fill_share<F: OffsetRead>(file: &F, into: &mut [u8], offset: u64) -> usize
     requires { offset + length into.old < 2 ^ 64 }
     ensures within { result ≤ length into.new }
@@ -38,6 +39,7 @@ pub(crate) fn fill_share<F: OffsetRead>(file: &F, into: &mut [u8], offset: u64) 
 
 /// Does the same by at most `threads` threads, each of which fills a share of `into`.
 #[cycle(shares)]
+#[tactic(auto, using(crate::proofs::Offsets::both_read))]
 pub(crate) fn fill_wide<T: Threads + Sync, F: OffsetRead + Sync>(
     rt: &T,
     threads: usize,
