@@ -11,8 +11,8 @@ pub(crate) enum Samples<'a> {
     Packed(PackedSamples<'a>),
 }
 
-/// Packed samples. Those that are skipped are only counted until samples behind them are read, so that nothing
-/// of a strip is gone over behind the last sample that is wanted.
+/// Packed samples. Those that are skipped are only counted until samples behind them are read, so nothing of a
+/// strip is gone over behind the last sample that is wanted.
 #[derive(Debug, Drop)]
 pub(crate) struct PackedSamples<'a> {
     unpacker: Unpacker<'a>,
