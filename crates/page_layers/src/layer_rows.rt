@@ -167,7 +167,8 @@ impl<'a> LayerRows<'a> {
         (from, from + self.admitted.len())
     }
 
-    // Takes the inks in which the next paint is made. If they are others than before, the image is read again.
+    // Takes the inks in which the next paint is made. If they differ from those before, the image is read
+    // again.
     fn turn_to(&mut self, inks: PageInks)
         ensures state { self.new ≡ record self.old { read = self.new.read; inks = inks } }
         ensures read { self.new.read ≤ self.old.read }
@@ -261,7 +262,8 @@ fn read_row(
     ensures part { bare_art art.now ≡ false → Holds image.new crop room.new }
     ensures wide { HasWidth paint.new (length paint.old.cyan) }
     ensures fixed { paint.new ≡ with_fixed art.now (length paint.old.cyan) paint.new }
-    ensures paint { IsPaint (painted_inks inks) art.now crop.x scale (image.new.next - 1) (length paint.old.cyan) paint.new }
+    ensures paint { IsPaint (painted_inks inks) art.now crop.x scale (image.new.next - 1)
+        (length paint.old.cyan) paint.new }
 {
     if let Art::Contone(_) = art
         && scale == 1
@@ -294,7 +296,8 @@ fn paint_row(
     requires fixed { paint.old ≡ with_fixed art.now (length paint.old.cyan) paint.old }
     ensures wide { HasWidth paint.new (length paint.old.cyan) }
     ensures fixed { paint.new ≡ with_fixed art.now (length paint.old.cyan) paint.new }
-    ensures paint { IsPaint (painted_inks inks) art.now crop.x scale (image.now.next - 1) (length paint.old.cyan) paint.new }
+    ensures paint { IsPaint (painted_inks inks) art.now crop.x scale (image.now.next - 1)
+        (length paint.old.cyan) paint.new }
 {
     if let Art::Contone(contone) = art {
         // Called for its clause: four samples a pixel.

@@ -1,18 +1,23 @@
 -- The planes of a strip, and pixels interleaved from four of them.
-use Rattle.std.specs.Prelude.{◌≡◌, ℕ, ◌+◌, ◌*◌, ◌<◌, List, [], ◌∷◌, map, slice_index, slice_index_or}
+use Rattle.std.specs.Prelude.{◌≡◌, ℕ, ◌+◌, ◌*◌, ◌<◌, List, [], ◌∷◌, drop, map, slice_index, slice_index_or}
 use Rattle.std.specs.List.{range_with_len}
 use Rattle.tif_strips.specs.declared.planes.Inks.{Inks}
 use Rattle.tif_strips.specs.declared.planes.Planes.{Planes}
 use Rattle.tif_strips.specs.declared.planes.Planes.TheVariants.{One, Four}
+use Rattle.tif_strips.specs.declared.samples.PackedSamples.{PackedSamples}
 use Rattle.tif_strips.specs.declared.samples.Samples.{Samples}
 use Rattle.tif_strips.specs.declared.samples.Samples.TheVariants.{Plain, Packed}
 use Rattle.tif_strips.specs.declared.shape.Shape.{Shape}
 use Rattle.tif_strips.specs.Strips.{planes, samples_in, stored_bytes, strips_per_plane}
 
+-- the samples still to come of packed ones
+abbrev pub packed_ahead : PackedSamples → List ℕ
+packed_ahead samples = drop samples.skipped samples.unpacker
+
 -- the samples still to come
 abbrev pub ahead_of : Samples → List ℕ
 ahead_of (Plain stored) = stored.now
-ahead_of (Packed unpacker) = unpacker
+ahead_of (Packed samples) = packed_ahead samples
 
 -- the samples still to come of each ink
 abbrev pub inks_of : Inks → List (List ℕ)

@@ -8,7 +8,16 @@ use tif_packbits::Unpacker;
 #[derive(Debug, Drop)]
 pub(crate) enum Samples<'a> {
     Plain(&'a [u8]),
-    Packed(Unpacker<'a>),
+    Packed(PackedSamples<'a>),
+}
+
+/// Packed samples. Those that are skipped are only counted until samples behind them are read, so nothing of a
+/// strip is gone over behind the last sample that is wanted.
+#[derive(Debug, Drop)]
+pub(crate) struct PackedSamples<'a> {
+    unpacker: Unpacker<'a>,
+    /// How many of the unpacker's samples were skipped.
+    skipped: usize,
 }
 
 impl<'a> Samples<'a> {
@@ -19,7 +28,10 @@ impl<'a> Samples<'a> {
         ensures { ahead_of result ≡ samples_in packed stored.now }
     {
         if packed {
-            Samples::Packed(Unpacker::new(stored))
+            Samples::Packed(PackedSamples {
+                unpacker: Unpacker::new(stored),
+                skipped: 0,
+            })
         } else {
             Samples::Plain(stored)
         }
@@ -37,11 +49,7 @@ impl<'a> Samples<'a> {
                 into.copy_from_slice(front);
                 *stored = rest;
             }
-            Samples::Packed(unpacker) => {
-                let Ok(()) = unpacker.fill(into) else {
-                    unreachable!()
-                };
-            }
+            Samples::Packed(samples) => samples.fill(into),
         }
     }
 
@@ -65,13 +73,51 @@ impl<'a> Samples<'a> {
     {
         match self {
             Samples::Plain(stored) => *stored = &stored[n..],
-            Samples::Packed(unpacker) => {
-                let Ok(()) = unpacker.skip(n as u64) else {
-                    unreachable!()
-                };
-            }
+            Samples::Packed(samples) => samples.skip(n),
         }
     }
+}
+
+impl<'a> PackedSamples<'a> {
+    ghost use Rattle.tif_strips.specs.Planes.{packed_ahead};
+
+    // Fills `into` with the next samples.
+    fn fill(&mut self, into: &mut [u8])
+        requires { length into.old ≤ length (packed_ahead self.old) }
+        ensures given { into.new ≡ take (length into.old) (packed_ahead self.old) }
+        ensures left { packed_ahead self.new ≡ drop (length into.old) (packed_ahead self.old) }
+    {
+        if into.is_empty() {
+            return;
+        }
+        pass(&mut self.unpacker, self.skipped);
+        self.skipped = 0;
+        let Ok(()) = self.unpacker.fill(into) else {
+            unreachable!()
+        };
+    }
+
+    // Skips the next `n` samples. The two counts never wrap in a file: if they did, the samples would be gone
+    // over at once.
+    fn skip(&mut self, n: usize)
+        requires { n ≤ length (packed_ahead self.old) }
+        ensures { packed_ahead self.new ≡ drop n (packed_ahead self.old) }
+    {
+        match self.skipped.checked_add(n) {
+            Some(sum) => self.skipped = sum,
+            None => pass(&mut self.unpacker, n),
+        }
+    }
+}
+
+// Goes over the next `n` samples.
+fn pass(unpacker: &mut Unpacker<'_>, n: usize)
+    requires { n ≤ length unpacker.old }
+    ensures { unpacker.new ≡ drop n unpacker.old }
+{
+    let Ok(()) = unpacker.skip(n as u64) else {
+        unreachable!()
+    };
 }
 
 /// Returns whether these bytes hold at least `n` bytes of samples.
