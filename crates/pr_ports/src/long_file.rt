@@ -18,14 +18,15 @@ const LONG_FILE: u64 = 8 << 20;
 /// The most threads that load a file.
 const MOST_THREADS: usize = 8;
 
-/// Returns how many threads load a file of `size` bytes.
+/// Returns how many threads load a file of `size` bytes. Two gain nothing over one, which reads each piece
+/// while its zeros are still in the cache.
 pub(crate) fn threads_for<T: Threads>(rt: &T, size: u64) -> usize {
     if size < LONG_FILE {
         return 1;
     }
     match available_parallelism(rt) {
-        Ok(processors) => processors.get().min(MOST_THREADS),
-        Err(_) => 1,
+        Ok(processors) if processors.get() > 2 => processors.get().min(MOST_THREADS),
+        _ => 1,
     }
 }
 
