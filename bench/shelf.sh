@@ -23,7 +23,7 @@ LIST
 #![tactic(auto)]
 
 use anyhow::Result;
-use pr_ports::{HostShelf, Shelf};
+use pr_ports::{FileLoader, HostShelf, Shelf};
 use std::env;
 use std::time::{CpuClock, Duration};
 
@@ -34,8 +34,10 @@ fn nanoseconds(start: Duration, end: Duration) -> u64 {
     }
 }
 
-fn load_all(rt: &HostRuntime, path: &str, count: u64) -> Result<u64> {
-    let mut shelf = HostShelf::new(rt.clone()?);
+fn load_all<L: FileLoader + Drop>(rt: &HostRuntime, files: L, path: &str, count: u64) -> Result<u64>
+    requires { L.may }
+{
+    let mut shelf = HostShelf::new(files);
     let start = rt.process_cpu_time()?;
     for _turn in 0..count {
         let _ = shelf.load(path, 536_870_912);
@@ -48,7 +50,7 @@ fn main(rt: HostRuntime) -> Result<()> {
     for pair in words.as_slice().chunks_exact(2) {
         if let [path, count] = pair {
             let count = count.as_str().parse::<u64>().unwrap_or(1).max(1);
-            let took = load_all(&rt, path.as_str(), count)?;
+            let took = load_all(&rt, rt.clone()?, path.as_str(), count)?;
             println!(rt; "{path} {}", took / count)?;
         }
     }
