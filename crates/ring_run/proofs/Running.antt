@@ -8,7 +8,7 @@ use Rattle.ink_keys.specs.Turn.{KeyReaderData}
 use Rattle.ring_turns.proofs.Halves.{slice_get-take}
 use Rattle.std.proofs.Math.Seq.{drop-append_seam, take-append_seam}
 use Rattle.std.proofs.lemmas.Bool.{cases_lt, ltb-false}
-use Rattle.std.proofs.lemmas.List.{take-append-drop, length-append, length-take-le, get_or-append_right, get_or_append_left, get_or-map, length-map, map-append}
+use Rattle.std.proofs.lemmas.List.{take-append-drop, length-take-le, get_or-append_right, get_or_append_left, get_or-map, length-map, map-append}
 use Rattle.std.proofs.lemmas.List.FromFn.{get_or-enumerate_from, length-enumerate_from}
 use Rattle.std.proofs.lemmas.Option.{get_or_from_slice_get, same_Some, slice_get-get_or, slice_get-map, slice_get_past, slice_get_within}
 use Rattle.atomic_table.specs.Seated.{TableId}

@@ -64,10 +64,8 @@ pub fn run_keys<T: Threads + Clock + Sync, R: Rack + Send>(
         ring,
         patience,
     };
-    let reader = Some(KeyReader::new(rows, counts));
-    let (outcome, counts) = run_all(rt, &run, job, racks, reader)?;
-    let Some(counts) = counts else {
-        unreachable!()
-    };
+    let reader = KeyReader::new(rows, counts);
+    let (outcome, counts) = run_all(rt, &run, job, racks, Some(reader))?;
+    let Some(counts) = counts else { unreachable!() };
     Ok((outcome, counts))
 }

@@ -4,7 +4,6 @@ use Rattle.ring_lanes.specs.Writer.{WriterState}
 use Rattle.pr_rack.specs.Told.{RackTells, told}
 use Rattle.ring_turns.specs.Feeding.{Fed, HasRows, MayFeed}
 use Rattle.ring_run.specs.Round.{AreTold, KnowsAll}
-use Rattle.ring_run.specs.Seat.{SeatData}
 use Rattle.ring_run.proofs.Rounds.{feed_noted, may_turn, round_leaves, seats_at}
 use Rattle.ring_run.proofs.round.round.Goals as goal
 

@@ -1,4 +1,4 @@
-use Rattle.std.proofs.Common.{◌≡◌, ℕ, None, length, map, subst, rules}
+use Rattle.std.proofs.Common.{◌≡◌, ℕ, length, map, subst, rules}
 use Rattle.pr_rack.specs.Told.{RackTells, told}
 use Rattle.site_agent.proofs.Results.{on_err}
 use Rattle.ring_run.specs.Fits.{RunFits, RunPart, by_job}
@@ -19,7 +19,7 @@ returns-clause-fits g c =
     let tell : g.row.R.Denot → RackTells = told g.R.Rack in
     let job = c.args.job.now in
     let readers : c.len.result ≡ length job.plan.sites = search rules in
-    subst (λ (n : ℕ). RunFits (by_job job c.args.out.now n c.args.ring) (map tell c.args.racks.now) (map tell c.run_all.new.racks) c.in_ok-outcome.field-0.0.sites.items) readers c.in_ok-outcome.ensures.leaves.told.fits
+    subst (λ (n : ℕ). RunFits (by_job job c.args.out.now n c.args.ring) (map tell c.args.racks.now) (map tell c.run_all.new.racks) c.in_ok-outcome.outcome.sites.items) readers c.in_ok-outcome.ensures.leaves.told.fits
 
 pub returns-clause-counts : goal.returns-clause-counts
 returns-clause-counts g c = c.in_ok-outcome.ensures.leaves.told.counts

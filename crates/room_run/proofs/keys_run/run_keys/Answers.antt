@@ -27,7 +27,7 @@ run_all-requires-clause-may g c κs within =
     let readers : c.len.result ≡ length c.plan-plan.result.now.sites = search rules in
     let width : c.shape.result.width ≡ plate_width plan = search rules in
     let key : KeyReaderData = record { rows = c.rows-rows.result.now; counts = c.in_ok-counts.counts } in
-    let fresh = (fresh_key plan c.rows-rows.result.now c.shape.result.width c.args.keys c.in_ok-counts.counts key c.new.ensures c.rows-rows.ensures c.in_ok-counts.ensures.zero width) in
+    let fresh = (fresh_key plan c.rows-rows.result.now c.shape.result.width c.args.keys c.in_ok-counts.counts key refl c.rows-rows.ensures c.in_ok-counts.ensures.zero width) in
     record {
       run_is = record {
         plan_is = subst {A = PlanData} IsPlan same c.plan-plan.ensures.valid;
@@ -36,7 +36,7 @@ run_all-requires-clause-may g c κs within =
         some = omega arith;
       };
       readers_are = omega (arith, readers);
-      fresh = subst (λ (p : PlanData). IsFreshKey p key) same fresh;
+      fresh = subst (λ (k : KeyReaderData). IsFreshKey c.plan-plan.result.now k) (sym c.new-reader.ensures) (subst (λ (p : PlanData). IsFreshKey p key) same fresh);
       enough = omega (arith, sites, enough);
       idle = subst (λ (p : PlanData). AreIdle (length p.sites) (all_told g.R.Rack c.args.racks.now)) same c.requires.idle;
     }
@@ -57,7 +57,7 @@ returns-clause-keys g c =
     let plan = c.args.job.now.plan in
     let rows = plate_rows plan c.args.job.now.files in
     let key : KeyReaderData = record { rows = c.rows-rows.result.now; counts = c.in_ok-counts.counts } in
-    let fit : CountsFit plan rows (Some key) c.in_ok-outcome.field-0.1 = subst (λ (k : KeyReaderData). CountsFit plan rows (Some k) c.in_ok-outcome.field-0.1) c.new.ensures c.in_ok-outcome.ensures.leaves.told.counts_fit in
+    let fit : CountsFit plan rows (Some key) c.in_ok-outcome.counts = subst (λ (k : KeyReaderData). CountsFit plan rows (Some k) c.in_ok-outcome.counts) c.new-reader.ensures c.in_ok-outcome.ensures.leaves.told.counts_fit in
     subst (λ (n : ℕ). KeysFit plan rows n c.in-Some.counts) (ap (λ (x : CountsData). x.keys) c.in_ok-counts.ensures.zero)
     (subst (λ (o : Option CountsData). CountsFit plan rows (Some key) o) c.in-Some.is fit)
 
@@ -66,7 +66,7 @@ returns-clause-fits g c =
     let tell : g.row.R.Denot → RackTells = told g.R.Rack in
     let job = c.args.job.now in
     let readers : c.len.result ≡ length job.plan.sites = search rules in
-    subst (λ (n : ℕ). RunFits (by_job job c.args.out.now (n + 1) c.args.ring) (map tell c.args.racks.now) (map tell c.run_all.new.racks) c.in_ok-outcome.field-0.0.sites.items) readers c.in_ok-outcome.ensures.leaves.told.fits
+    subst (λ (n : ℕ). RunFits (by_job job c.args.out.now (n + 1) c.args.ring) (map tell c.args.racks.now) (map tell c.run_all.new.racks) c.in_ok-outcome.outcome.sites.items) readers c.in_ok-outcome.ensures.leaves.told.fits
 
 pub returns-clause-counts : goal.returns-clause-counts
 returns-clause-counts g c = c.in_ok-outcome.ensures.leaves.told.counts
