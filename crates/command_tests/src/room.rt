@@ -1,6 +1,6 @@
 // Commands with a shelf, racks and sinks in memory.
 ghost use Rattle.std.specs.Prelude.{◌≡◌, ◌≤◌, length};
-ghost use Rattle.room_base.specs.Seen.{AreIdle};
+ghost use Rattle.cmd_base.specs.Seen.{AreIdle};
 
 use plate_room::plate_main;
 use pr_base::PathText;

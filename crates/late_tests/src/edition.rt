@@ -1,7 +1,7 @@
 // An edition that is made and, after a change, remade with `replate`, compared with the new edition made at
 // once.
 ghost use Rattle.std.specs.Prelude.{◌≤◌, length};
-ghost use Rattle.room_base.specs.Seen.{AreIdle};
+ghost use Rattle.cmd_base.specs.Seen.{AreIdle};
 
 use crate::desk::{File, Held};
 use crate::room::{CALM, Case, REPLATE, prints, racks};

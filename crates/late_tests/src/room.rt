@@ -1,7 +1,7 @@
 // Commands with a desk, racks and sinks in memory.
 ghost use Rattle.std.specs.Prelude.{◌≡◌, ◌≤◌, is_some, length, map};
 ghost use Rattle.pr_rack.specs.Rack.{none_begun};
-ghost use Rattle.room_base.specs.Seen.{AreIdle};
+ghost use Rattle.cmd_base.specs.Seen.{AreIdle};
 
 use crate::desk::{Desk, File};
 use crate::files::{Kept, have};

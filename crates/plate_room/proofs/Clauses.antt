@@ -2,20 +2,20 @@
 use Rattle.std.proofs.Common.{◌≡◌, ◌≢◌, ◌⊎◌, ℕ, List, [], Option, Some, None, IfSome, false, refl, sym, subst, ◌∙◌, ap, inl, inr, arith}
 use Rattle.pr_ports.specs.Sink.{Grew}
 use Rattle.pr_rack.specs.declared.rack.Rack.{Ghosts}
-use Rattle.room_base.specs.declared.refusal.Refusal.{Refusal}
-use Rattle.room_base.specs.declared.refusal.Refusal.TheVariants.{Words, LongPlan, Plan, File, Shelf}
+use Rattle.cmd_base.specs.declared.refusal.Refusal.{Refusal}
+use Rattle.cmd_base.specs.declared.refusal.Refusal.TheVariants.{Words, LongPlan, Plan, File, Shelf}
 use Rattle.plate_room.specs.Command.{AsksDrill, AsksVerify, Command, command_of}
-use Rattle.room_base.specs.Line.{memory_line}
-use Rattle.room_base.specs.Refusal.{status_of, line_of}
-use Rattle.room_base.specs.Task.{IsPart, PrintsFront}
+use Rattle.cmd_base.specs.Line.{memory_line}
+use Rattle.cmd_base.specs.Refusal.{status_of, line_of}
+use Rattle.cmd_base.specs.Task.{IsPart, PrintsFront}
 use Rattle.plate_room.specs.Tasks.{IsCut, IsDone, IsEnd, IsUnprinted, Meets, makes_of, rules_of, verdict_for, verdict_of}
-use Rattle.room_base.specs.Status.{IsCutShort, IsDoneStatus, IsRefusal, IsStatus}
+use Rattle.cmd_base.specs.Status.{IsCutShort, IsDoneStatus, IsRefusal, IsStatus}
 use Rattle.plate_room.specs.End.{IsMet, IsUnnoted, NoneFailed, Tells, TellsVerdict, TellsOfMemory, TellsPart}
 use Rattle.plate_room.specs.Ending.{Ending, IsFinished, IsStopped, Done, Refused, Untold, NotNoted, Wanted, NotPrinted}
-use Rattle.room_base.specs.Loads.{AllLoaded, names_load}
-use Rattle.room_base.specs.Seen.{Seen, SinkSeen, Files, IsSilent, IsUntouched, LoadFailed, PutFailed, RackFailed}
-use Rattle.room_base.proofs.Grow.{grew_nothing, second_front}
-use Rattle.room_base.proofs.Owed.{Owes}
+use Rattle.cmd_base.specs.Loads.{AllLoaded, names_load}
+use Rattle.cmd_base.specs.Seen.{Seen, SinkSeen, Files, IsSilent, IsUntouched, LoadFailed, PutFailed, RackFailed}
+use Rattle.cmd_base.proofs.Grow.{grew_nothing, second_front}
+use Rattle.cmd_base.proofs.Owed.{Owes}
 use Rattle.plate_room.proofs.Owed.{drill_unmet, drill_zero, eight_looks, look_begins, look_leaves, look_not_one, owes}
 
 -- ---- statuses

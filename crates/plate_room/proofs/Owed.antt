@@ -1,17 +1,17 @@
 -- The obligations of all commands, with one case for each command.
 use Rattle.std.proofs.Common.{◌≡◌, ◌⊎◌, ℕ, List, Some, arith}
 use Rattle.pr_rack.specs.declared.rack.Rack.{Ghosts}
-use Rattle.room_base.specs.declared.refusal.Refusal.{Refusal}
+use Rattle.cmd_base.specs.declared.refusal.Refusal.{Refusal}
 use Rattle.plate_room.specs.Command.{AsksDrill, AsksVerify, Command, Drill, Keys, One, Replate, Run, Verify}
-use Rattle.room_run.specs.Edition.{none_further}
-use Rattle.room_run.specs.Keys.{further_keys}
-use Rattle.room_base.specs.Seen.{ShelfSeen}
+use Rattle.cmd_run.specs.Edition.{none_further}
+use Rattle.cmd_run.specs.Keys.{further_keys}
+use Rattle.cmd_base.specs.Seen.{ShelfSeen}
 use Rattle.plate_room.specs.Tasks.{makes_of, rules_of}
-use Rattle.room_base.proofs.Owed.{Owes}
-use Rattle.room_one.proofs.Owed.{one_owes}
-use Rattle.room_run.proofs.Owed.{drill_owes, run_status, run_owes}
-use Rattle.room_verify.proofs.Owed.{check_status, check_owes}
-use Rattle.room_replate.proofs.Owed.{remade_status, change_owes}
+use Rattle.cmd_base.proofs.Owed.{Owes}
+use Rattle.cmd_one.proofs.Owed.{one_owes}
+use Rattle.cmd_run.proofs.Owed.{drill_owes, run_status, run_owes}
+use Rattle.cmd_verify.proofs.Owed.{check_status, check_owes}
+use Rattle.cmd_replate.proofs.Owed.{remade_status, change_owes}
 
 pub owes : {R : Type 0} (g : Ghosts R) (command : Command) → Owes g (rules_of command) (makes_of g command)
 owes g (One file) = one_owes g file

@@ -1,15 +1,15 @@
 -- How a run ends, derived from the contracts of its steps.
 use Rattle.std.proofs.Common.{◌≡◌, ℕ, Some, Result, Ok, Err, refl, inl, inr}
 use Rattle.pr_rack.specs.declared.rack.Rack.{Ghosts}
-use Rattle.room_base.specs.declared.refusal.Refusal.{Refusal}
-use Rattle.room_base.specs.declared.refusal.Stop.{Stop}
-use Rattle.room_base.specs.declared.refusal.Stop.TheVariants as stop
-use Rattle.room_base.specs.Note.{TellsRefusal, TellsStop}
+use Rattle.cmd_base.specs.declared.refusal.Refusal.{Refusal}
+use Rattle.cmd_base.specs.declared.refusal.Stop.{Stop}
+use Rattle.cmd_base.specs.declared.refusal.Stop.TheVariants as stop
+use Rattle.cmd_base.specs.Note.{TellsRefusal, TellsStop}
 use Rattle.plate_room.specs.Command.{Command, command_of}
 use Rattle.plate_room.specs.Ending.{Answered, Ending, IsStopped, Refused, Untold, NotNoted, Wanted, NotPrinted}
-use Rattle.room_base.specs.Loads.{Loads}
-use Rattle.room_base.specs.Seen.{Seen, SinkSeen}
-use Rattle.room_base.specs.Task.{Answers}
+use Rattle.cmd_base.specs.Loads.{Loads}
+use Rattle.cmd_base.specs.Seen.{Seen, SinkSeen}
+use Rattle.cmd_base.specs.Task.{Answers}
 use Rattle.plate_room.specs.Tasks.{makes_of, rules_of}
 
 -- a refusal with a line of its own

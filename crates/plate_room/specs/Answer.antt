@@ -4,13 +4,13 @@ use Rattle.pr_base.specs.Number.{IsWithin}
 use Rattle.plate_room.specs.Command as line
 use Rattle.plate_room.specs.declared.command.Command as asked_type
 use Rattle.plate_room.specs.declared.command.Command.TheVariants as asked
-use Rattle.room_verify.specs.declared.check.Asked.{Asked}
-use Rattle.room_replate.specs.declared.change.Change.{Change}
-use Rattle.room_run.specs.declared.edition.Edition.{Edition}
-use Rattle.room_run.specs.declared.drill.Drill.{Drill}
-use Rattle.room_run.specs.Edition.{Edition as EditionMeant, edition_told}
-use Rattle.room_verify.specs.Check.{Asked as AskedMeant, asked_told}
-use Rattle.room_replate.specs.Change.{Change as ChangeMeant, change_told}
+use Rattle.cmd_verify.specs.declared.check.Asked.{Asked}
+use Rattle.cmd_replate.specs.declared.change.Change.{Change}
+use Rattle.cmd_run.specs.declared.edition.Edition.{Edition}
+use Rattle.cmd_run.specs.declared.drill.Drill.{Drill}
+use Rattle.cmd_run.specs.Edition.{Edition as EditionMeant, edition_told}
+use Rattle.cmd_verify.specs.Check.{Asked as AskedMeant, asked_told}
+use Rattle.cmd_replate.specs.Change.{Change as ChangeMeant, change_told}
 
 -- the numbers of an edition are in their ranges
 pub record HasNumbers (edition : Edition) : Type 0 where

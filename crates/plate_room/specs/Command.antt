@@ -3,9 +3,9 @@ use Rattle.std.specs.Prelude.{ℕ, if◌then◌else◌, ◌&&◌, not, ◌==◌,
 use Rattle.std.specs.Prelude.{option_map, option_and_then, codes, map, length, nat_eq, String, string_bytes}
 use Rattle.std.specs.Cmp.Lexicographic.{pointwise}
 use Rattle.plate_room.specs.Number.{number_within}
-use Rattle.room_run.specs.Edition.{Edition}
-use Rattle.room_verify.specs.Check.{Asked}
-use Rattle.room_replate.specs.Change.{Change}
+use Rattle.cmd_run.specs.Edition.{Edition}
+use Rattle.cmd_verify.specs.Check.{Asked}
+use Rattle.cmd_replate.specs.Change.{Change}
 
 -- the command that a command line asks for
 pub data Command : Type 0 where

@@ -2,14 +2,14 @@
 use Rattle.std.specs.Prelude.{◌≡◌, ℕ, ◌⊎◌, List, [], Some, None, false}
 use Rattle.pr_ports.specs.Sink.{Grew, GrewByPrefix}
 use Rattle.pr_rack.specs.declared.rack.Rack.{Ghosts}
-use Rattle.room_base.specs.Line.{memory_line}
-use Rattle.room_base.specs.declared.refusal.Refusal.{Refusal}
-use Rattle.room_base.specs.Refusal.{status_of, line_of}
+use Rattle.cmd_base.specs.Line.{memory_line}
+use Rattle.cmd_base.specs.declared.refusal.Refusal.{Refusal}
+use Rattle.cmd_base.specs.Refusal.{status_of, line_of}
 use Rattle.plate_room.specs.Tasks.{IsEnd, Meets, verdict_of}
-use Rattle.room_base.specs.Loads.{AllLoaded, names_load}
-use Rattle.room_base.specs.Seen.{Files, IsSilent, LoadFailed, PutFailed, RackFailed, ShelfSeen, SinkSeen}
-use Rattle.room_base.specs.Note.{GrewByTwo}
-use Rattle.room_base.specs.Status.{IsCutShort}
+use Rattle.cmd_base.specs.Loads.{AllLoaded, names_load}
+use Rattle.cmd_base.specs.Seen.{Files, IsSilent, LoadFailed, PutFailed, RackFailed, ShelfSeen, SinkSeen}
+use Rattle.cmd_base.specs.Note.{GrewByTwo}
+use Rattle.cmd_base.specs.Status.{IsCutShort}
 
 -- the note received the complete line of a refusal that has this status and that the arguments met
 pub record Tells (words : List (List ℕ)) (shelf : ShelfSeen) (note : SinkSeen) (status : ℕ) : Type 0 where

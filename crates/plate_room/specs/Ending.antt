@@ -2,16 +2,16 @@
 use Rattle.std.specs.Prelude.{◌≡◌, ℕ, List, Some, Result, Ok, Err, false}
 use Rattle.pr_ports.specs.Sink.{Grew, GrewByPrefix}
 use Rattle.pr_rack.specs.declared.rack.Rack.{Ghosts}
-use Rattle.room_base.specs.declared.refusal.Refusal.{Refusal}
-use Rattle.room_base.specs.declared.refusal.Stop.{Stop}
-use Rattle.room_base.specs.declared.refusal.Stop.TheVariants as stop
+use Rattle.cmd_base.specs.declared.refusal.Refusal.{Refusal}
+use Rattle.cmd_base.specs.declared.refusal.Stop.{Stop}
+use Rattle.cmd_base.specs.declared.refusal.Stop.TheVariants as stop
 use Rattle.plate_room.specs.Command.{Command, command_of}
-use Rattle.room_base.specs.Line.{memory_line}
-use Rattle.room_base.specs.Refusal.{status_of, line_of}
+use Rattle.cmd_base.specs.Line.{memory_line}
+use Rattle.cmd_base.specs.Refusal.{status_of, line_of}
 use Rattle.plate_room.specs.Tasks.{IsCut, IsDone, IsUnprinted, Meets}
-use Rattle.room_base.specs.Note.{GrewByTwo}
-use Rattle.room_base.specs.Loads.{AllLoaded, names_load}
-use Rattle.room_base.specs.Seen.{Seen, ShelfSeen, SinkSeen, IsSilent, PutFailed}
+use Rattle.cmd_base.specs.Note.{GrewByTwo}
+use Rattle.cmd_base.specs.Loads.{AllLoaded, names_load}
+use Rattle.cmd_base.specs.Seen.{Seen, ShelfSeen, SinkSeen, IsSilent, PutFailed}
 
 -- the arguments are a command
 abbrev pub IsAsked : List (List ℕ) → Type 0

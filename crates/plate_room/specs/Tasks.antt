@@ -1,18 +1,18 @@
 -- All commands: the rules of each, what it produces, and what a call therefore satisfies.
 use Rattle.std.specs.Prelude.{◌≡◌, ℕ, ◌⊎◌, List, Option, Some, None}
 use Rattle.pr_rack.specs.declared.rack.Rack.{Ghosts}
-use Rattle.room_base.specs.declared.refusal.Refusal.{Refusal}
-use Rattle.room_base.specs.declared.refusal.Refusal.TheVariants as refused
+use Rattle.cmd_base.specs.declared.refusal.Refusal.{Refusal}
+use Rattle.cmd_base.specs.declared.refusal.Refusal.TheVariants as refused
 use Rattle.plate_room.specs.Command.{Command, Drill, Keys, One, Replate, Run, Verify, command_of}
-use Rattle.room_replate.specs.Change.{change_makes, change_rules}
-use Rattle.room_verify.specs.Check.{PrintsFound, check_rules}
-use Rattle.room_run.specs.Drill.{PrintsDrill, drill_rules}
-use Rattle.room_run.specs.Edition.{run_makes, run_rules}
-use Rattle.room_run.specs.Keys.{keys_makes}
-use Rattle.room_one.specs.OneFile.{PrintsPlate, one_rules}
-use Rattle.room_base.specs.Loads.{AllLoaded}
-use Rattle.room_base.specs.Seen.{Files, IsUntouched, PutFailed, ShelfSeen, SinkSeen}
-use Rattle.room_base.specs.Task.{IsNothing, IsPart, Makes, PrintsFront, PrintsWhole, Rules, telling}
+use Rattle.cmd_replate.specs.Change.{change_makes, change_rules}
+use Rattle.cmd_verify.specs.Check.{PrintsFound, check_rules}
+use Rattle.cmd_run.specs.Drill.{PrintsDrill, drill_rules}
+use Rattle.cmd_run.specs.Edition.{run_makes, run_rules}
+use Rattle.cmd_run.specs.Keys.{keys_makes}
+use Rattle.cmd_one.specs.OneFile.{PrintsPlate, one_rules}
+use Rattle.cmd_base.specs.Loads.{AllLoaded}
+use Rattle.cmd_base.specs.Seen.{Files, IsUntouched, PutFailed, ShelfSeen, SinkSeen}
+use Rattle.cmd_base.specs.Task.{IsNothing, IsPart, Makes, PrintsFront, PrintsWhole, Rules, telling}
 
 -- the rules of a command
 abbrev pub rules_of : Command → Rules

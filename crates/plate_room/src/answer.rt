@@ -1,17 +1,17 @@
 // Running a command.
 ghost use Rattle.plate_room.specs.Command.{AsksDrill, command_of as meant, words_of};
 ghost use Rattle.plate_room.specs.Ending.{Answered, seen_of};
-ghost use Rattle.room_base.specs.Seen.{AreIdle, shelf_seen, sink_seen};
+ghost use Rattle.cmd_base.specs.Seen.{AreIdle, shelf_seen, sink_seen};
 ghost use Rattle.std.specs.Prelude.{◌≡◌, ◌≤◌, length};
 
 use crate::command::{Command, command_of};
+use cmd_base::{Refusal, Stop};
+use cmd_one::print_one;
+use cmd_replate::print_change;
+use cmd_run::{print_drill, run_edition, run_with_keys};
+use cmd_verify::print_check;
 use pr_ports::{Shelf, Sink};
 use pr_rack::Rack;
-use room_base::{Refusal, Stop};
-use room_one::print_one;
-use room_replate::print_change;
-use room_run::{print_drill, run_edition, run_with_keys};
-use room_verify::print_check;
 use std::alloc::Global;
 use std::thread::Threads;
 use std::time::Clock;

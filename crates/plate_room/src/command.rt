@@ -10,9 +10,9 @@ ghost use Rattle.plate_room.specs.Answer.{HasNumbers, HasTurns, IfRun, IsAskedFo
 ghost use Rattle.plate_room.specs.Answer.{IsDrill, IsEdition};
 
 use crate::number::number_within;
-use room_replate::Change;
-use room_run::{Drill, Edition};
-use room_verify::Asked;
+use cmd_replate::Change;
+use cmd_run::{Drill, Edition};
+use cmd_verify::Asked;
 
 /// The command that the arguments ask for.
 #[derive(Clone, Copy)]

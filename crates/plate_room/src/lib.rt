@@ -7,7 +7,7 @@ mod command;
 mod main_call;
 mod number;
 
+pub use cmd_base::{Refusal, Whose};
+pub use cmd_run::{generated_jobs_pass, run_job, run_keys};
 pub use main_call::plate_main;
 pub use ring_run::{FeedEnd, Outcome, SiteEnd, feed_turn};
-pub use room_base::{Refusal, Whose};
-pub use room_run::{generated_jobs_pass, run_job, run_keys};

@@ -1,19 +1,19 @@
 // The entry point of the command line.
 ghost use Rattle.std.specs.Prelude.{◌≡◌, ◌≤◌, ◌⊎◌, ◌≢◌, None, Some, IfSome, length};
 ghost use Rattle.plate_room.specs.Command.{AsksDrill, AsksVerify, command_of, words_of};
-ghost use Rattle.room_base.specs.Status.{IsCutShort, IsDoneStatus, IsRefusal, IsStatus};
+ghost use Rattle.cmd_base.specs.Status.{IsCutShort, IsDoneStatus, IsRefusal, IsStatus};
 ghost use Rattle.plate_room.specs.End.{FailsByOut, IsComplete, IsToldThere, IsUnnoted, Tells};
 ghost use Rattle.plate_room.specs.End.{TellsOfMemory, TellsPart, TellsVerdict};
 ghost use Rattle.plate_room.specs.Ending.{Ending, seen_of};
-ghost use Rattle.room_base.specs.Loads.{AllLoaded};
-ghost use Rattle.room_base.specs.Seen.{AreIdle, Files, IsUntouched, RackFailed, shelf_seen};
-ghost use Rattle.room_base.specs.Seen.{sink_seen};
+ghost use Rattle.cmd_base.specs.Loads.{AllLoaded};
+ghost use Rattle.cmd_base.specs.Seen.{AreIdle, Files, IsUntouched, RackFailed, shelf_seen};
+ghost use Rattle.cmd_base.specs.Seen.{sink_seen};
 ghost use Rattle.plate_room.specs.Tasks.{IsCut, IsDone, IsUnprinted, verdict_of};
 
 use crate::answer::answer;
+use cmd_base::tell;
 use pr_ports::{Shelf, Sink};
 use pr_rack::Rack;
-use room_base::tell;
 use std::alloc::Global;
 use std::thread::Threads;
 use std::time::Clock;

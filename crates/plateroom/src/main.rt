@@ -3,8 +3,8 @@
 #![tactic(auto)]
 
 ghost use Rattle.std.specs.Prelude.{◌≡◌, ◌≤◌, IfOk, length};
-ghost use Rattle.room_base.specs.Seen.{AreIdle};
-ghost use Rattle.room_base.specs.Status.{IsRefusal, IsStatus};
+ghost use Rattle.cmd_base.specs.Seen.{AreIdle};
+ghost use Rattle.cmd_base.specs.Status.{IsRefusal, IsStatus};
 
 use plate_room::plate_main;
 use pr_ports::{FileLoader, HostShelf, Sink, WriterSink};

@@ -2,7 +2,7 @@
 ghost use Rattle.std.specs.Prelude.{◌≡◌, ◌≤◌, ◌++◌, ◌∷◌, [], is_some, length, map};
 ghost use Rattle.pr_ports.specs.Mem.{files_of};
 ghost use Rattle.pr_rack.specs.Rack.{none_begun};
-ghost use Rattle.room_base.specs.Seen.{AreIdle};
+ghost use Rattle.cmd_base.specs.Seen.{AreIdle};
 
 use crate::files::{have_plates, took};
 use plate_room::plate_main;

@@ -2,7 +2,7 @@
 // has begun.
 ghost use Rattle.std.specs.Prelude.{refl, ◌≡◌, Some, ◌≤◌, is_some, length, map};
 ghost use Rattle.pr_rack.specs.Rack.{none_begun};
-ghost use Rattle.room_base.specs.Seen.{AreIdle};
+ghost use Rattle.cmd_base.specs.Seen.{AreIdle};
 
 use crate::room::{RACKS, command, shelf, sink};
 use pr_rack::{MemRack, Rack, RackFault};

@@ -1,6 +1,6 @@
 // Commands with a desk, racks and sinks in memory.
 ghost use Rattle.std.specs.Prelude.{◌≡◌, ◌≤◌, length};
-ghost use Rattle.room_base.specs.Seen.{AreIdle};
+ghost use Rattle.cmd_base.specs.Seen.{AreIdle};
 
 use crate::desk::{Desk, Held, Plate};
 use plate_room::plate_main;

@@ -1,7 +1,7 @@
 use Rattle.std.proofs.Common.{refl}
-use Rattle.room_run.specs.Drill.{PrintsDrill, drill_rules}
+use Rattle.cmd_run.specs.Drill.{PrintsDrill, drill_rules}
 use Rattle.plate_room.proofs.Told.{answered}
-use Rattle.room_base.proofs.Told.{told_answers}
+use Rattle.cmd_base.proofs.Told.{told_answers}
 use Rattle.plate_room.proofs.answer.answer.Goals as goal
 
 pub returns-in-Some-Drill-clause-answered : goal.returns-in-Some-Drill-clause-answered

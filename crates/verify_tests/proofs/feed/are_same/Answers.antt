@@ -1,4 +1,4 @@
-use Rattle.room_base.proofs.Rows.{frames_in, total_in}
+use Rattle.cmd_base.proofs.Rows.{frames_in, total_in}
 use Rattle.verify_tests.proofs.feed.are_same.Goals as goal
 
 pub verify-requires-clause-frames : goal.verify-requires-clause-frames

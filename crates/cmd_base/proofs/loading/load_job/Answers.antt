@@ -1,0 +1,4 @@
+use Rattle.cmd_base.proofs.loading.load_job.Goals as goal
+
+pub returns-in-Err-clause-refused : goal.returns-in-Err-clause-refused
+returns-in-Err-clause-refused g c = c.in-Err.ensures.refused c.args.folder.now

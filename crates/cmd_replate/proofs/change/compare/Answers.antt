@@ -1,0 +1,35 @@
+use Rattle.std.proofs.Common.{◌≡◌, List, length, ap, sym, subst, ◌∙◌}
+use Rattle.std.specs.Prelude.{All}
+use Rattle.plan_rows.specs.Groups.{groups_of}
+use Rattle.replate.specs.Inputs.{JobData}
+use Rattle.replate.specs.Picks.{dropped_of}
+use Rattle.replate.specs.Plates.{PlateAt}
+use Rattle.cmd_replate.specs.Change.{IsPlaced}
+use Rattle.cmd_replate.specs.Remade.{dropped_lines}
+use Rattle.cmd_replate.proofs.Changing.{dropped_placed, picks_are}
+use Rattle.cmd_replate.proofs.change.compare.Goals as goal
+
+pub dropped_lines-requires : goal.dropped_lines-requires
+dropped_lines-requires c =
+    let before = c.args.before.now.plan in
+    let after = c.args.job.plan in
+    let is : c.dropped-plates.result.now ≡ dropped_of before after =
+    c.dropped-plates.ensures ∙ c.in_ok-picks.ensures.dropped
+    ∙ ap (λ (j : JobData). dropped_of j.plan c.inputs_of-news.result.plan) c.inputs_of-olds.ensures.job
+    ∙ ap (λ (j : JobData). dropped_of before j.plan) c.inputs_of-news.ensures.job in
+    subst (λ (list : List PlateAt). All (IsPlaced before) list) (sym is) (dropped_placed before after)
+
+pub returns-clause-late : goal.returns-clause-late
+returns-clause-late c =
+    let before = c.args.before.now.plan in
+    let after = c.args.job.plan in
+    let is : c.dropped-plates.result.now ≡ dropped_of before after =
+    c.dropped-plates.ensures ∙ c.in_ok-picks.ensures.dropped
+    ∙ ap (λ (j : JobData). dropped_of j.plan c.inputs_of-news.result.plan) c.inputs_of-olds.ensures.job
+    ∙ ap (λ (j : JobData). dropped_of before j.plan) c.inputs_of-news.ensures.job in
+    record {
+      are_picks = picks_are c.args.before.now c.args.job c.inputs_of-olds.result c.inputs_of-news.result
+          c.in_ok-picks.picks c.inputs_of-olds.ensures.job c.inputs_of-news.ensures.job c.in_ok-picks.ensures.made;
+      groups = c.in_ok-picks.ensures.groups ∙ ap (λ (j : JobData). length (groups_of j.plan)) c.inputs_of-news.ensures.job;
+      dropped = c.in_ok-dropped.ensures ∙ ap (dropped_lines before c.args.out.now) is;
+    }

@@ -1,0 +1,22 @@
+use Rattle.std.proofs.Common.{refl}
+use Rattle.std.proofs.lemmas.Result.{err_from_is_err_and}
+use Rattle.cmd_base.proofs.Loads.{all_behind, loads_behind}
+use Rattle.cmd_replate.proofs.change.load_late.Goals as goal
+
+pub returns-in_err-before-clause-loads : goal.returns-in_err-before-clause-loads
+returns-in_err-before-clause-loads g c =
+    let p = err_from_is_err_and c.from_residual.result c.from_residual.ensures.1 in
+    rw (p.1, p.2) c.in_err-before.ensures.loads
+
+pub returns-in_err-job-clause-loads : goal.returns-in_err-job-clause-loads
+returns-in_err-job-clause-loads g c =
+    let p = err_from_is_err_and c.from_residual-in_err-job.result c.from_residual-in_err-job.ensures.1 in
+    rw (p.1, p.2) (loads_behind g.H.Shelf _ _ _ _ (c.in_ok-before.ensures.loads refl) c.in_err-job.ensures.loads)
+
+pub returns-in_default-clause-loads : goal.returns-in_default-clause-loads
+returns-in_default-clause-loads g c = λ done.
+    all_behind g.H.Shelf _ _ _ (c.in_ok-before.ensures.loads refl) (c.in_ok-job.ensures.loads refl)
+
+pub returns-clause-loads : goal.returns-clause-loads
+returns-clause-loads g c = λ done.
+    all_behind g.H.Shelf _ _ _ (c.in_ok-before.ensures.loads refl) (c.in_ok-job.ensures.loads refl)

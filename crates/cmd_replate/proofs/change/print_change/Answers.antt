@@ -1,0 +1,70 @@
+use Rattle.std.proofs.Common.{◌∙◌, refl, ap, inl, inr}
+use Rattle.std.proofs.lemmas.Result.{err_from_is_err_and}
+use Rattle.cmd_replate.specs.Change.{change_told, change_makes, change_rules}
+use Rattle.cmd_replate.specs.Remade.{remade_text, status_of_remade}
+use Rattle.cmd_base.specs.Status.{number_of}
+use Rattle.cmd_replate.proofs.Changing.{text_is}
+use Rattle.cmd_base.proofs.Grow.{grew_nothing}
+use Rattle.cmd_base.proofs.Told.{put_makes}
+use Rattle.cmd_replate.proofs.change.print_change.Goals as goal
+
+pub returns-in_default-remade_text-clause-answered : goal.returns-in_default-remade_text-clause-answered
+returns-in_default-remade_text-clause-answered g c =
+    let late = c.in_ok-late.ensures.loaded in
+    inr (inl (record {
+      text = remade_text late.before.plan c.in_ok-late.late.job.plan c.args.change.out.now c.in-Ok.remade.items;
+      status = status_of_remade c.in-Ok.remade.items;
+      prints = record {
+        before = late.before;
+        job = c.in_ok-late.late.job;
+        picks = c.in_ok-late.late.picks;
+        compared_are = record {
+          old_prepared = late.old_prepared;
+          prepared = late.prepared;
+          are_picks = late.is.are_picks;
+        };
+        ends = c.in-Ok.remade.items;
+        delivers = c.in-Ok.ensures.delivers;
+        text_is = refl;
+        status_is = refl;
+      };
+      grew = (0, grew_nothing _ _ refl);
+    }))
+
+pub returns-clause-answered : goal.returns-clause-answered
+returns-clause-answered g c =
+    let late = c.in_ok-late.ensures.loaded in
+    put_makes (change_rules (change_told c.args.change)) (change_makes g.R.Rack (change_told c.args.change)) _ c.args.racks.now
+    c.make_late.new.racks _ c.as_bytes.result.now (number_of c.status_of.result) c.put_text.result
+    (record {
+      before = late.before;
+      job = c.in_ok-late.late.job;
+      picks = c.in_ok-late.late.picks;
+      compared_are = record {
+        old_prepared = late.old_prepared;
+        prepared = late.prepared;
+        are_picks = late.is.are_picks;
+      };
+      ends = c.in-Ok.remade.items;
+      delivers = c.in-Ok.ensures.delivers;
+      text_is = c.as_bytes.ensures.value ∙ c.in-Ok-remade_text.ensures
+          ∙ text_is late.before.plan c.in_ok-late.late.job.plan c.plan-plan.result.now c.args.change.out.now
+          c.as_slice-ends.result.now c.in-Ok.remade.items c.as_str-dropped.result.now c.plan-plan.ensures.plan c.as_slice-ends.ensures.value
+          (c.as_str-dropped.ensures.value ∙ late.is.dropped);
+      status_is = c.status_of.ensures ∙ ap status_of_remade c.as_slice-ends.ensures.value;
+    })
+    c.put_text.ensures
+
+pub returns-in_err-late-clause-loads : goal.returns-in_err-late-clause-loads
+returns-in_err-late-clause-loads g c =
+    let p = err_from_is_err_and c.from_residual.result c.from_residual.ensures.1 in
+    rw (p.1, p.2) c.in_err-late.ensures.loads
+
+pub returns-in_default-clause-loads : goal.returns-in_default-clause-loads
+returns-in_default-clause-loads g c = λ done. c.in_ok-late.ensures.loads refl
+
+pub returns-in_default-remade_text-clause-loads : goal.returns-in_default-remade_text-clause-loads
+returns-in_default-remade_text-clause-loads g c = λ done. c.in_ok-late.ensures.loads refl
+
+pub returns-clause-loads : goal.returns-clause-loads
+returns-clause-loads g c = λ done. c.in_ok-late.ensures.loads refl

@@ -1,0 +1,178 @@
+// The command `replate`: makes the plates of an edition that changed, and only these.
+ghost use Rattle.std.specs.Prelude.{◌≡◌, ◌≤◌, IfErr, IfOk, OnErr, length};
+ghost use Rattle.plan_json.specs.Plan.{IsPlan};
+ghost use Rattle.plan_rows.specs.Groups.{groups_of};
+ghost use Rattle.press_job.specs.Rows.{plate_frames};
+ghost use Rattle.cmd_replate.specs.Change.{AnswersChange, change_told, ChangeRefused, DeliversPicked};
+ghost use Rattle.cmd_replate.specs.Change.{DeliversPickedPart, IsLate, IsLoadedLate, compared};
+ghost use Rattle.cmd_base.specs.Loads.{Loads};
+ghost use Rattle.cmd_base.specs.Seen.{AreIdle, shelf_seen, sink_seen};
+
+use crate::remade::{dropped_lines, remade_text, status_of};
+use cmd_base::{Stop, Whose, load_job, put_text};
+use pr_base::{NoMemory, RowFeed};
+use pr_ports::{Shelf, Sink};
+use pr_rack::Rack;
+use press_feed::{BandMaker, ByThreads, Job, WideFeed};
+use replate::{Inputs, Picks, RemadeEnd, deliver};
+use std::alloc::Global;
+use std::thread::Threads;
+
+/// An edition whose changed plates are made.
+#[derive(Clone, Copy)]
+pub struct Change<'a> {
+    /// The path of the plan made before this edition.
+    pub old_plan: &'a str,
+    /// The folder of that plan's files.
+    pub old_files: &'a str,
+    /// The path of the plan.
+    pub plan: &'a str,
+    /// The folder of the plan's files.
+    pub files: &'a str,
+    /// The folder of the plates.
+    pub out: &'a str,
+}
+
+/// A new job, the picks of its plates that must be made given an old job, and the lines of dropped old
+/// plates.
+#[derive(Drop)]
+pub(crate) struct Late {
+    job: Job,
+    picks: Picks,
+    dropped: String,
+}
+
+/// Makes the changed plates of an edition, prints how its sites ended, and returns the exit status.
+pub fn print_change<T: Threads + Sync, H: Shelf, R: Rack, S: Sink>(
+    rt: &T,
+    alloc: Global,
+    change: Change<'_>,
+    shelf: &mut H,
+    racks: &mut [R],
+    out: &mut S,
+) -> Result<u8, Stop>
+    requires racks { 16 ≤ length racks.old }
+    requires idle { AreIdle R.Rack racks.old }
+    ensures answered { AnswersChange R.Rack (change_told change.entry)
+        (shelf_seen H.Shelf shelf.old shelf.new)
+        racks.old racks.new (sink_seen S.Sink out.old out.new) result }
+    ensures held { H.held shelf.new ≡ H.held shelf.old }
+    ensures loads { Loads (shelf_seen H.Shelf shelf.old shelf.new) result }
+{
+    let late = load_late(rt, alloc, change, shelf)?;
+    let Ok(remade) = make_late(&ByThreads { rt }, alloc, change, &late, racks) else {
+        return Err(Stop::Memory);
+    };
+    let ends = remade.as_slice();
+    let plan = late.job.plan();
+    let dropped = late.dropped.as_str();
+    let Ok(text) = remade_text(alloc, plan, ends, dropped) else {
+        return Err(Stop::Memory);
+    };
+    put_text(text.as_bytes(), status_of(ends), out)
+}
+
+/// Loads the old job and then the new one, and compares them. The old job is freed on return.
+fn load_late<T: Threads + Sync, H: Shelf>(
+    rt: &T,
+    alloc: Global,
+    change: Change<'_>,
+    shelf: &mut H,
+) -> Result<Late, Stop>
+    ensures loaded { IfOk result (IsLoadedLate (change_told change.entry) (H.held shelf.old)) }
+    ensures refused { IfErr result
+        (ChangeRefused (change_told change.entry) (shelf_seen H.Shelf shelf.old shelf.new)) }
+    ensures held { H.held shelf.new ≡ H.held shelf.old }
+    ensures loads { Loads (shelf_seen H.Shelf shelf.old shelf.new) result }
+{
+    let before = load_job(
+        rt,
+        alloc,
+        Whose::Old,
+        change.old_plan,
+        change.old_files,
+        shelf,
+    )?;
+    let job = load_job(rt, alloc, Whose::New, change.plan, change.files, shelf)?;
+    let Ok(late) = compare(alloc, &before, job, change.out) else {
+        return Err(Stop::Memory);
+    };
+    Ok(late)
+}
+
+/// Compares an old job with a new one.
+fn compare(alloc: Global, before: &Job, job: Job, out: &str) -> Result<Late, NoMemory>
+    ensures late { IfOk result (IsLate before.now out.now) }
+    ensures job { IfOk result (λ late. late.job ≡ job) }
+{
+    let olds = inputs_of(before);
+    let news = inputs_of(&job);
+    let picks = Picks::of(alloc, &olds, &news)?;
+    let plates = picks.dropped();
+    let dropped = dropped_lines(alloc, before, out, plates)?;
+    Ok(Late {
+        job,
+        picks,
+        dropped,
+    })
+}
+
+/// Returns a job as the comparison takes it.
+fn inputs_of(job: &Job) -> Inputs<'_>
+    ensures job { result ≡ compared job.now }
+    ensures plan { IsPlan job.now.plan }
+{
+    Inputs::new(job.plan(), job.rows(), job.files())
+}
+
+/// Makes the plates that must be made. `maker` makes the bands of their rows.
+fn make_late<M: BandMaker, R: Rack>(
+    maker: &M,
+    alloc: Global,
+    change: Change<'_>,
+    late: &Late,
+    racks: &mut [R],
+) -> Result<Vec<RemadeEnd>, NoMemory>
+    requires may { M.may }
+    requires racks { 16 ≤ length racks.old }
+    requires idle { AreIdle R.Rack racks.old }
+    requires groups { length late.now.picks.kept ≡ length (groups_of late.now.job.plan) }
+    ensures delivers { IfOk result (λ ends. DeliversPicked R.Rack (change_told change.entry) late.now.job
+        late.now.picks racks.old racks.new ends.items) }
+    ensures part { OnErr result (DeliversPickedPart R.Rack (change_told change.entry) late.now.job
+        late.now.picks racks.old racks.new) }
+{
+    let feed = WideFeed::open(maker, alloc, &late.job)?;
+    make_fed(alloc, change, late, feed, racks)
+}
+
+/// Does the same with a feed from which no row has been taken yet, and drops the feed: a function that is
+/// generic over it is proved without the parts of one.
+fn make_fed<F: RowFeed + Drop, R: Rack>(
+    alloc: Global,
+    change: Change<'_>,
+    late: &Late,
+    feed: F,
+    racks: &mut [R],
+) -> Result<Vec<RemadeEnd>, NoMemory>
+    requires feed { F.left feed ≡ plate_frames late.now.job.plan late.now.job.files }
+    requires racks { 16 ≤ length racks.old }
+    requires idle { AreIdle R.Rack racks.old }
+    requires groups { length late.now.picks.kept ≡ length (groups_of late.now.job.plan) }
+    ensures delivers { IfOk result (λ ends. DeliversPicked R.Rack (change_told change.entry) late.now.job
+        late.now.picks racks.old racks.new ends.items) }
+    ensures part { OnErr result (DeliversPickedPart R.Rack (change_told change.entry) late.now.job
+        late.now.picks racks.old racks.new) }
+{
+    let inputs = inputs_of(&late.job);
+    let mut feed = feed;
+    deliver(
+        alloc,
+        &late.job,
+        &mut feed,
+        &inputs,
+        &late.picks,
+        change.out,
+        racks,
+    )
+}

@@ -1,0 +1,93 @@
+-- The outcome of verifying the plates of a job, from the contract of `plate_verify`'s `verify`.
+use Rattle.std.proofs.Common.{◌≡◌, ◌≤◌, ℕ, List, map, Option, IfSome, Result, Ok, Err, refl, subst, arith}
+use Rattle.pr_base.specs.Count.{Rose}
+use Rattle.pr_ports.specs.declared.shelf.Shelf.{Ghosts}
+use Rattle.tif_packbits.specs.Frame.{framed_row}
+use Rattle.plan_json.specs.Data.{PlanData}
+use Rattle.plan_json.specs.Plan.{IsPlan}
+use Rattle.press_job.specs.Job.{JobData}
+use Rattle.press_job.specs.Rows.{plate_frames, plate_rows}
+use Rattle.plate_verify.specs.declared.checked.Checked.{Checked}
+use Rattle.plate_verify.specs.declared.checked.Checked.TheVariants.{Same, Differs, Long}
+use Rattle.plate_verify.specs.Looking.{FailsAt, IfLong, NoneWrong, shelf_told, told}
+use Rattle.plate_verify.specs.Order.{plates_in_order}
+use Rattle.plate_verify.specs.Wrong.{first_wrong}
+use Rattle.cmd_base.specs.declared.refusal.Refusal.TheVariants.{Shelf}
+use Rattle.cmd_base.specs.declared.refusal.Stop.{Stop}
+use Rattle.cmd_base.specs.declared.refusal.Stop.TheVariants as stop
+use Rattle.cmd_verify.specs.Check.{IsFound, IsLost, Looks, wrong_of}
+use Rattle.cmd_base.specs.Seen.{Files, shelf_seen}
+use Rattle.cmd_base.proofs.Rows.{over_job}
+
+-- ---- verifying a job
+
+module _ {H : Type 0} (g : Ghosts H) (a b : H) (own : PlanData) (job : JobData) (left : List (List ℕ)) (out : List ℕ) where
+  pub looks_found : (checked : Checked) → own ≡ job.plan → IsPlan job.plan → left ≡ plate_frames job.plan job.files
+      → IfSome (g.held a) (λ held. first_wrong own (map framed_row left) out held ≡ told checked)
+      → IfLong checked (Rose (g.longs a) (g.longs b)) → IsFound job out (shelf_seen g a b) checked
+  looks_found checked same is feeds found long = record {
+    first = over_job own job left same is feeds
+        (λ plan rows. IfSome (g.held a) (λ held. first_wrong plan rows out held ≡ told checked)) found;
+    long = long;
+  }
+
+  pub looks_lost : (path : List ℕ) → own ≡ job.plan → IsPlan job.plan → left ≡ plate_frames job.plan job.files
+      → FailsAt own (map framed_row left) out (plates_in_order own) (shelf_told g a) (shelf_told g b) path
+      → (named : List ℕ) × (Shelf path ≡ Shelf named) × IsLost job out (shelf_seen g a b) named
+  looks_lost path same is feeds fails =
+      let f : FailsAt job.plan (plate_rows job.plan job.files) out (plates_in_order job.plan) (shelf_told g a) (shelf_told g b) path =
+      over_job own job left same is feeds
+      (λ plan rows. FailsAt plan rows out (plates_in_order plan) (shelf_told g a) (shelf_told g b) path) fails in (
+        path,
+        refl,
+        record {
+          before = f.before;
+          at = f.at;
+          behind = f.behind;
+          are = f.are;
+          named = f.named;
+          right = f.right;
+          missed = record { counted = f.counted; last = f.missed };
+        },
+      )
+
+-- ---- verifying after the job is loaded
+
+-- a count that did not fall and then rose has risen overall
+pub rose_behind : (a b c : ℕ) → a ≤ b → Rose b c → Rose a c
+rose_behind a b c less rose = grind arith
+
+long_behind : (checked : Checked) (a b c : ℕ) → a ≤ b → IfLong checked (Rose b c) → IfLong checked (Rose a c)
+long_behind (Same plates) a b c less long = long
+long_behind (Differs path at row) a b c less long = long
+long_behind (Long path) a b c less long = rose_behind a b c less long
+
+module _ {H : Type 0} (g : Ghosts H) (a b c : H) (held : g.held b ≡ g.held a) (faults : g.faults a ≤ g.faults b)
+    (longs : g.longs a ≤ g.longs b) (job : JobData) (out : List ℕ) where
+  pub found_behind : (checked : Checked) → IsFound job out (shelf_seen g b c) checked → IsFound job out (shelf_seen g a c) checked
+  found_behind checked found = record {
+    first = subst (λ (h : Option Files). IfSome h (λ files. wrong_of job out files ≡ told checked)) held found.first;
+    long = long_behind checked (g.longs a) (g.longs b) (g.longs c) longs found.long;
+  }
+
+  lost_behind : (path : List ℕ) → IsLost job out (shelf_seen g b c) path → IsLost job out (shelf_seen g a c) path
+  lost_behind path lost = record {
+    before = lost.before;
+    at = lost.at;
+    behind = lost.behind;
+    are = lost.are;
+    named = lost.named;
+    right = subst (λ (h : Option Files). NoneWrong job.plan (plate_rows job.plan job.files) out h lost.before) held lost.right;
+    missed = record {
+      counted = rose_behind (g.faults a) (g.faults b) (g.faults c) faults lost.missed.counted;
+      last = lost.missed.last;
+    };
+  }
+
+  -- the outcome of verifying, over the whole time since before the job was loaded
+  pub looks_behind : (result : Result Checked Stop) → Looks job out (shelf_seen g b c) result
+      → Looks job out (shelf_seen g a c) result
+  looks_behind (Ok checked) found = found_behind checked found
+  looks_behind (Err (stop.Refused refusal)) (path, is, lost) = (path, is, lost_behind path lost)
+  looks_behind (Err stop.Memory) h = h
+  looks_behind (Err stop.Printing) h = h

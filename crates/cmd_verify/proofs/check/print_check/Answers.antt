@@ -1,0 +1,48 @@
+use Rattle.std.proofs.Common.{◌∙◌, ap, refl}
+use Rattle.std.proofs.lemmas.Result.{err_from_is_err_and}
+use Rattle.plate_verify.specs.Looking.{told}
+use Rattle.cmd_verify.specs.Check.{asked_told, PrintsFound, check_rules, found_line}
+use Rattle.cmd_base.specs.Status.{number_of}
+use Rattle.cmd_verify.proofs.Looking.{found_behind}
+use Rattle.cmd_base.proofs.Loads.{all_behind, loads_behind}
+use Rattle.cmd_base.proofs.Told.{put_tells}
+use Rattle.cmd_verify.proofs.check.print_check.Goals as goal
+
+pub returns-clause-told : goal.returns-clause-told
+returns-clause-told g c =
+    put_tells (check_rules (asked_told c.args.asked)) (PrintsFound (asked_told c.args.asked)) _ _ c.as_bytes.result.now
+    (number_of c.status_of.result) c.put_text.result
+    (record {
+      job = c.in_ok-job.job;
+      prepared = c.in_ok-job.ensures.prepared;
+      checked = c.in_ok-checked.checked;
+      found = found_behind g.H.Shelf c.args.shelf.now c.load_job.new.shelf c.check_plates.new.shelf
+          c.load_job.ensures.held c.load_job.ensures.faults_stay c.load_job.ensures.longs_stay
+          c.in_ok-job.job c.args.asked.out.now c.in_ok-checked.checked c.in_ok-checked.ensures.looks;
+      text_is = c.as_bytes.ensures.value ∙ c.in-Ok.ensures
+          ∙ ap (λ sites. found_line sites (told c.in_ok-checked.checked)) c.site_count.ensures;
+      status_is = c.status_of.ensures;
+    })
+    c.put_text.ensures
+
+pub returns-in_err-job-clause-loads : goal.returns-in_err-job-clause-loads
+returns-in_err-job-clause-loads g c =
+    let p = err_from_is_err_and c.from_residual.result c.from_residual.ensures.1 in
+    rw (p.1, p.2) c.in_err-job.ensures.loads
+
+pub returns-in_err-checked-clause-loads : goal.returns-in_err-checked-clause-loads
+returns-in_err-checked-clause-loads g c =
+    let p = err_from_is_err_and c.from_residual-in_err-checked.result c.from_residual-in_err-checked.ensures.1 in
+    rw (p.1, p.2)
+    (loads_behind g.H.Shelf c.args.shelf.now c.load_job.new.shelf c.check_plates.new.shelf _ (c.in_ok-job.ensures.loads refl)
+    c.in_err-checked.ensures.loads)
+
+pub returns-in_default-clause-loads : goal.returns-in_default-clause-loads
+returns-in_default-clause-loads g c = λ done.
+    all_behind g.H.Shelf c.args.shelf.now c.load_job.new.shelf c.check_plates.new.shelf (c.in_ok-job.ensures.loads refl)
+    (c.in_ok-checked.ensures.loads refl)
+
+pub returns-clause-loads : goal.returns-clause-loads
+returns-clause-loads g c = λ done.
+    all_behind g.H.Shelf c.args.shelf.now c.load_job.new.shelf c.check_plates.new.shelf (c.in_ok-job.ensures.loads refl)
+    (c.in_ok-checked.ensures.loads refl)

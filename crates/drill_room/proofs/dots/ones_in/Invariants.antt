@@ -1,6 +1,0 @@
-use Rattle.tif_packbits.specs.Packbits.{expansion}
-use Rattle.drill_room.proofs.Counting.{HasCounted}
-use Rattle.drill_room.proofs.dots.ones_in.Given as goal
-
-abbrev pub invariant-loop-index : goal.invariant-loop-index
-invariant-loop-index l = HasCounted (expansion l.packed) l.bytes l._index l.ones

@@ -1,6 +1,0 @@
-use Rattle.room_base.specs.Line.{memory_line}
-use Rattle.room_base.proofs.Grow.{put_front}
-use Rattle.room_base.proofs.note.tell_memory.Goals as goal
-
-pub returns-clause-note : goal.returns-clause-note
-returns-clause-note g c = put_front c.put.result _ _ memory_line c.put.ensures.taken c.put.ensures.refused
