@@ -3,7 +3,7 @@ ghost use Rattle.std.specs.Prelude.{◌≡◌, ◌-◌, ◌<◌, ◌≤◌, [], 
 ghost use Rattle.page_layers.specs.Inks.{HasWidth};
 ghost use Rattle.page_layers.specs.Layer.{IsLayer, shape_of};
 
-use page_layers::{Art, Crop, InkRow, Layer, PageRows};
+use page_layers::{Art, Crop, InkRow, Layer, PageInks, PageRows};
 use pr_base::Ink;
 use std::process::Abort;
 use tif_image::{Bilevel, BilevelUse, Contone};
@@ -91,12 +91,35 @@ const BEFORE: Laid = Laid {
     overprint: true,
 };
 
+const BLACK: PageInks = PageInks {
+    colour: false,
+    spot: false,
+};
+
+const SPOT: PageInks = PageInks {
+    colour: false,
+    spot: true,
+};
+
+const COLOUR: PageInks = PageInks {
+    colour: true,
+    spot: false,
+};
+
+// The inks in which rows are asked for, by how many rows are left, modulo 3.
+const INKS: [[PageInks; 3]; 4] = [
+    [PageInks::ALL; 3],
+    [BLACK; 3],
+    [SPOT, COLOUR, BLACK],
+    [COLOUR, BLACK, PageInks::ALL],
+];
+
 /// Whether a row repeats the one above it, and its cyan, magenta, yellow, black and spot. A row without
 /// values is skipped.
 pub type Row<const W: usize> = (bool, Option<[[u8; W]; 5]>);
 
-/// Asserts that the page of these layers, the first at the bottom, gives these rows, in buffers that another
-/// page used before. The page is restarted after each turn.
+/// Asserts that the page of these layers, the first at the bottom, gives these rows, in all inks and in some,
+/// in buffers that another page used before. The page is restarted after each turn.
 pub fn assert_page<const W: usize, R: Abort + AllocGlobal>(
     rt: &R,
     layers: &[Laid],
@@ -127,8 +150,24 @@ fn assert_turns<'a, const W: usize, R: Abort + AllocGlobal>(
     let mut room = InkRow::new(rt.alloc(), W as u32).expect(rt, "memory");
     let mut page = used_page(rt, before, layers.len(), W as u32, height, &mut room);
     put_all(&mut page, layers);
+    for inks in &INKS {
+        assert_in_inks(rt, &mut page, &mut room, height, turns, inks);
+    }
+}
+
+fn assert_in_inks<const W: usize>(
+    rt: &impl Abort,
+    page: &mut PageRows<'_>,
+    room: &mut InkRow,
+    height: u32,
+    turns: &[&[Row<W>]],
+    inks: &[PageInks; 3],
+)
+    requires { HasWidth room.old page.old.width }
+    ensures { HasWidth room.new page.new.width }
+{
     for rows in turns {
-        assert_rows(rt, &mut page, &mut room, height, rows);
+        assert_rows(rt, page, room, height, rows, inks);
         page.restart();
     }
 }
@@ -178,6 +217,7 @@ fn assert_rows<const W: usize>(
     room: &mut InkRow,
     height: u32,
     rows: &[Row<W>],
+    inks: &[PageInks; 3],
 )
     requires { HasWidth room.old page.old.width }
     ensures { HasWidth room.new page.new.width }
@@ -186,7 +226,7 @@ fn assert_rows<const W: usize>(
     for (repeats, row) in rows {
         assert!(rt; left > 0);
         assert_stands(rt, page, left, *repeats);
-        assert_next(rt, page, room, row);
+        assert_next(rt, page, room, row, inks[left as usize % 3]);
         left -= 1;
     }
     assert!(rt; page.left() == left);
@@ -204,6 +244,7 @@ fn assert_next<const W: usize>(
     page: &mut PageRows<'_>,
     room: &mut InkRow,
     row: &Option<[[u8; W]; 5]>,
+    inks: PageInks,
 )
     requires left { page.old.next < page.old.height }
     requires width { HasWidth room.old page.old.width }
@@ -213,16 +254,21 @@ fn assert_next<const W: usize>(
         page.pass();
         return;
     };
-    page.next(room);
-    assert_plane(rt, room, Ink::C, cyan);
-    assert_plane(rt, room, Ink::M, magenta);
-    assert_plane(rt, room, Ink::Y, yellow);
-    assert_plane(rt, room, Ink::K, black);
-    assert_plane(rt, room, Ink::S, spot);
+    page.next_in(inks, room);
+    assert_plane(rt, room, inks, Ink::C, cyan);
+    assert_plane(rt, room, inks, Ink::M, magenta);
+    assert_plane(rt, room, inks, Ink::Y, yellow);
+    assert_plane(rt, room, inks, Ink::K, black);
+    assert_plane(rt, room, inks, Ink::S, spot);
 }
 
-fn assert_plane(rt: &impl Abort, room: &InkRow, ink: Ink, values: &[u8]) {
-    assert!(rt; room.plane(ink) == values);
+fn assert_plane(rt: &impl Abort, room: &InkRow, inks: PageInks, ink: Ink, values: &[u8]) {
+    let is_painted = match ink {
+        Ink::C | Ink::M | Ink::Y => inks.colour,
+        Ink::K => true,
+        Ink::S => inks.spot,
+    };
+    assert!(rt; !is_painted || room.plane(ink) == values);
 }
 
 // Makes layers of these files.
