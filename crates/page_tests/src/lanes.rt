@@ -136,8 +136,8 @@ fn is_drawn(diffuser: &mut BlockDiffuser, errors: &mut Errors, width: usize, fir
     same
 }
 
-/// Diffuses three blocks of a page, and returns whether each row has the pixels that the plain code draws. The
-/// third block has four rows of the page, and four past its end.
+/// Diffuses three blocks of a page, and returns whether each row has the pixels that the plain code draws.
+/// The third block has four rows of the page, and four past its end.
 fn are_blocks_drawn(diffuser: &mut BlockDiffuser, width: usize) -> bool
     requires width { diffuser.old.front.width ≡ width }
     requires eight { length diffuser.old.held ≡ 8 }
@@ -180,4 +180,29 @@ fn four_by_two_in_each_lane(rt: HostRuntime) {
     let mut diffusers = Diffusers::new(rt.alloc(), 4).expect(&rt, "memory");
     assert!(rt; are_fours(&mut diffusers, 0xA0));
     assert!(rt; are_fours(&mut diffusers, 0x50));
+}
+
+/// Diffuses a block of rows of four values of 128, and returns whether its first two rows have these bits.
+fn is_four(diffuser: &mut BlockDiffuser, want: &[u8; 2]) -> bool
+    requires width { diffuser.old.front.width ≡ 4 }
+    requires eight { length diffuser.old.held ≡ 8 }
+{
+    for k in 0..8 {
+        diffuser.put(k, &[128; 4]);
+    }
+    diffuser.advance();
+    let mut same = true;
+    for k in 0..2 {
+        let mut bits = [0];
+        diffuser.draw(k, &mut bits, 0);
+        same &= bits[0] == want[k];
+    }
+    same
+}
+
+// The same page as above, in one chain.
+#[test]
+fn four_by_two_in_a_block(rt: HostRuntime) {
+    let mut diffuser = BlockDiffuser::new(rt.alloc(), 4).expect(&rt, "memory");
+    assert!(rt; is_four(&mut diffuser, &[0xA0, 0x50]));
 }
