@@ -1,12 +1,13 @@
 // What `one` reports of its arguments, of its file, and of a shelf and sinks that fail.
 ghost use Rattle.std.specs.Prelude.{None};
 
-use crate::files::{PLATE, patch, plain};
+use crate::files::{patch, plain};
 use crate::room::{CALM, ONE, Want, check, does, shelf, sink, tells};
 use pr_ports::{LoadFault, Shelf, Sink, SinkFault};
 use std::process::Abort;
 use std::thread::Threads;
 use std::time::Clock;
+use test_room::PLATE;
 
 // Arguments that are not a command.
 const WORDS: Want<'static> = Want {

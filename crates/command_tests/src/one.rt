@@ -1,9 +1,10 @@
 // The plates that `one` prints, byte for byte.
-use crate::files::{FORM, PLATE, append, blacks, four_by_one, image, patch, plain, plate_of};
+use crate::files::{append, blacks, four_by_one, image, patch, plain, plate_of};
 use crate::room::{CALM, ONE, Want, does};
 use std::process::Abort;
 use std::thread::Threads;
 use std::time::Clock;
+use test_room::{FORM, PLATE};
 use tif_make::{Compression, ImageForm, Order, Planar};
 
 // Asserts that `one` prints this plate of this file, and reports nothing.

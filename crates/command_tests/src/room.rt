@@ -2,14 +2,13 @@
 ghost use Rattle.std.specs.Prelude.{◌≡◌, ◌≤◌, length};
 ghost use Rattle.cmd_base.specs.Seen.{AreIdle};
 
-use plate_room::plate_main;
 use pr_base::PathText;
 use pr_ports::{MemShelf, MemSink, Shelf, Sink};
 use pr_rack::{MemRack, Rack};
-use std::alloc::Global;
 use std::process::Abort;
 use std::thread::Threads;
 use std::time::Clock;
+use test_room::{are_empty, calls_of};
 
 /// The arguments that print the plate of a.tif.
 pub const ONE: [&str; 2] = ["one", "a.tif"];
@@ -17,18 +16,9 @@ pub const ONE: [&str; 2] = ["one", "a.tif"];
 /// The failing calls of the shelf, the output and the error output: none.
 pub const CALM: [Option<u64>; 3] = [None; 3];
 
-// Returns the number of a call as a list, which is empty for None.
-fn calls<R: Abort + AllocGlobal>(rt: &R, call: Option<u64>) -> Vec<u64> {
-    let mut calls = Vec::new(rt.alloc());
-    if let Some(call) = call {
-        calls.push(call).expect(rt, "memory");
-    }
-    calls
-}
-
 /// Returns a sink whose call with this number fails.
 pub fn sink<R: Abort + AllocGlobal>(rt: &R, failing: Option<u64>) -> MemSink {
-    MemSink::new(rt.alloc(), calls(rt, failing))
+    test_room::sink(rt.alloc(), failing).expect(rt, "memory")
 }
 
 /// Returns a shelf with the single file a.tif, whose call with this number fails.
@@ -37,49 +27,16 @@ pub fn shelf<R: Abort + AllocGlobal>(rt: &R, file: &[u8], failing: Option<u64>) 
     let bytes = file.to_vec(rt.alloc()).expect(rt, "memory");
     let mut files = Vec::new(rt.alloc());
     files.push((path, bytes)).expect(rt, "memory");
-    MemShelf::new(rt.alloc(), files, calls(rt, failing))
+    let calls = calls_of(rt.alloc(), failing).expect(rt, "memory");
+    MemShelf::new(rt.alloc(), files, calls)
 }
-
-// The most sites that an edition has.
-const RACKS: usize = 16;
 
 /// Returns sixteen racks, none of which fails.
 pub fn racks<R: Abort + AllocGlobal>(rt: &R) -> Vec<MemRack>
     ensures count { length result.items ≡ 16 }
     ensures idle { AreIdle ⟦<MemRack as Rack>⟧ result.items }
 {
-    let mut racks = Vec::new(rt.alloc());
-    for _i in 0..RACKS {
-        let rack = MemRack::new(rt.alloc(), Vec::new(rt.alloc()));
-        racks.push(rack).expect(rt, "memory");
-    }
-    racks
-}
-
-// Returns the arguments of a command line.
-fn texts<R: Abort + AllocGlobal>(rt: &R, words: &[&str]) -> Vec<String> {
-    let mut texts = Vec::new(rt.alloc());
-    for word in words {
-        let text = String::from_str(rt.alloc(), word).expect(rt, "memory");
-        texts.push(text).expect(rt, "memory");
-    }
-    texts
-}
-
-// Runs the program. Tests see only its status.
-fn answer<T: Threads + Clock + Sync, H: Shelf, R: Rack + Send, S: Sink, E: Sink>(
-    rt: &T,
-    alloc: Global,
-    words: &[String],
-    shelf: &mut H,
-    racks: &mut [R],
-    out: &mut S,
-    note: &mut E,
-) -> u8
-    requires racks { 16 ≤ length racks.old }
-    requires idle { AreIdle R.Rack racks.old }
-{
-    plate_main(rt, alloc, words, shelf, racks, out, note)
+    test_room::racks(rt.alloc(), [None; 2]).expect(rt, "memory")
 }
 
 /// Runs a command with these arguments, and returns its status.
@@ -94,15 +51,7 @@ pub fn command<T: Abort + AllocGlobal + Threads + Clock + Sync, H: Shelf, S: Sin
     requires racks { 16 ≤ length racks.old }
     requires idle { AreIdle ⟦<MemRack as Rack>⟧ racks.old }
 {
-    let words = texts(rt, words);
-    answer(rt, rt.alloc(), words.as_slice(), shelf, racks, out, note)
-}
-
-/// Whether no rack took a row or has a file.
-fn are_empty(racks: &[MemRack]) -> bool {
-    racks
-        .iter()
-        .all(|rack| rack.files().is_empty() && rack.taken().is_empty())
+    test_room::command(rt, rt.alloc(), words, shelf, racks, out, note).expect(rt, "memory")
 }
 
 /// Whether a command with these arguments ends with this status and this line, and leaves the racks

@@ -1,10 +1,10 @@
 // Replates of an edition that changed, in which no call fails.
-use crate::desk::{File, Held};
-use crate::files::{Kept, Plate, TWO_PAGES};
+use crate::files::Kept;
 use crate::room::{CALM, Case, REPLATE, check, does};
 use std::process::Abort;
 use std::thread::Threads;
 use std::time::Clock;
+use test_room::{File, Held, PAIR, Plate, TWO_PAGES, ZONED};
 
 // The two pages with another screen.
 pub const EIGHTH: &str =
@@ -34,14 +34,6 @@ const OTHER_SITES: &str =
 {"name":"p","inks":"K","layers":[{"kind":"contone","file":"a.tif","scale":2}]}],
 "sections":[{"name":"A","pages":["w","w","p","w"]}],"sites":[{"name":"NEW"},{"name":"OSLO"}]}"#;
 
-// Four empty pages for two sites. BERGEN has the image as page 3.
-const ZONED: &str = r#"{"plan":1,"edition":"E1","dpi":1200,"page":[8,2],"screens":{"K":"bayer4"},
-"pages":[{"name":"w","inks":"K","layers":[]},
-{"name":"p","inks":"K","layers":[{"kind":"contone","file":"a.tif","scale":2}]}],
-"sections":[{"name":"A","pages":["w","w","w","w"]}],
-"zones":[{"name":"Z","replace":[{"section":"A","page":3,"with":"p"}]}],
-"sites":[{"name":"OSLO"},{"name":"BERGEN","zone":"Z"}]}"#;
-
 // The image with a black of 254 instead of 1. With the thresholds 0 127 31 159 and 191 63 223 95 its rows are
 // EB and D3, and those of the image itself are AB and 13.
 const OTHER: Held<'static> = Held::Changed(133, 254);
@@ -67,7 +59,8 @@ const CHANGES: [Change<'static>; 6] = [
         &[(
             &[Plate {
                 path: "OUT/OSLO/E1-A-001-K.tif",
-                rows: [1, 0xAB, 0, 1, 0x13, 0],
+                rows: &[1, 0xAB, 0, 1, 0x13, 0],
+                changes: &PAIR,
             }],
             &[0, 1],
         )],
@@ -81,14 +74,16 @@ const CHANGES: [Change<'static>; 6] = [
             (
                 &[Plate {
                     path: "OUT/OSLO/E1-A-002-K.tif",
-                    rows: [1, 0, 0xEB, 1, 0, 0xD3],
+                    rows: &[1, 0, 0xEB, 1, 0, 0xD3],
+                    changes: &PAIR,
                 }],
                 &[2, 3],
             ),
             (
                 &[Plate {
                     path: "OUT/BERGEN/E1-A-002-K.tif",
-                    rows: [1, 0, 0xEB, 1, 0, 0xD3],
+                    rows: &[1, 0, 0xEB, 1, 0, 0xD3],
+                    changes: &PAIR,
                 }],
                 &[2, 3],
             ),
@@ -102,7 +97,8 @@ const CHANGES: [Change<'static>; 6] = [
         &[(
             &[Plate {
                 path: "OUT/OSLO/E2-A-001-K.tif",
-                rows: [1, 0xAB, 0, 1, 0x13, 0],
+                rows: &[1, 0xAB, 0, 1, 0x13, 0],
+                changes: &PAIR,
             }],
             &[0, 1],
         )],
@@ -118,7 +114,8 @@ const CHANGES: [Change<'static>; 6] = [
             (
                 &[Plate {
                     path: "OUT/BERGEN/E1-A-002-K.tif",
-                    rows: [1, 0, 0xEB, 1, 0, 0xD3],
+                    rows: &[1, 0, 0xEB, 1, 0, 0xD3],
+                    changes: &PAIR,
                 }],
                 &[4, 5],
             ),
@@ -134,11 +131,13 @@ const CHANGES: [Change<'static>; 6] = [
             &[
                 Plate {
                     path: "OUT/NEW/E1-A-001-K.tif",
-                    rows: [1, 0, 0, 1, 0, 0],
+                    rows: &[1, 0, 0, 1, 0, 0],
+                    changes: &PAIR,
                 },
                 Plate {
                     path: "OUT/NEW/E1-A-002-K.tif",
-                    rows: [1, 0, 0xAB, 1, 0, 0x13],
+                    rows: &[1, 0, 0xAB, 1, 0, 0x13],
+                    changes: &PAIR,
                 },
             ],
             &[0, 1, 2, 3],

@@ -3,12 +3,12 @@
 ghost use Rattle.std.specs.Prelude.{◌≤◌, length};
 ghost use Rattle.cmd_base.specs.Seen.{AreIdle};
 
-use crate::desk::{File, Held};
 use crate::room::{CALM, Case, REPLATE, prints, racks};
 use pr_rack::{MemRack, Rack};
 use std::process::Abort;
 use std::thread::Threads;
 use std::time::Clock;
+use test_room::{File, Held};
 
 // Two sections for two sites. Page 3 is in four inks. BERGEN has another page 3, in black.
 const BEFORE: &str = r#"{"plan":1,"edition":"E1","dpi":1200,"page":[8,2],"screens":{"K":"bayer4"},

@@ -1,11 +1,10 @@
 // What `replate` reports of its arguments, of two jobs, and of a shelf that fails.
 use crate::changes::EIGHTH;
-use crate::desk::{File, Held};
-use crate::files::TWO_PAGES;
 use crate::room::{CALM, Case, Failing, REPLATE, check, does};
 use std::process::Abort;
 use std::thread::Threads;
 use std::time::Clock;
+use test_room::{File, Held, TWO_PAGES};
 
 // Whether a command with these arguments and files, of which the load with this number fails, prints and
 // makes nothing, and ends with this status and this line.

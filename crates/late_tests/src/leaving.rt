@@ -1,11 +1,11 @@
 // Sites that drop out because their racks fail, and an output that fails.
 use crate::changes::{EIGHTH, SECOND};
-use crate::desk::{File, Held};
-use crate::files::{Kept, Plate, TWO_PAGES};
+use crate::files::Kept;
 use crate::room::{CALM, Case, Failing, REPLATE, check, does};
 use std::process::Abort;
 use std::thread::Threads;
 use std::time::Clock;
+use test_room::{File, Held, PAIR, Plate, TWO_PAGES};
 
 // Six pages for two sites. The image is pages 1 and 3, which are in the first and the third pair.
 const SIX_PAGES: &str =
@@ -54,11 +54,13 @@ const WHOLE: Kept<'static> = (
     &[
         Plate {
             path: "OUT/OSLO/E1-A-001-K.tif",
-            rows: [1, 0, 0xEB, 1, 0, 0xD3],
+            rows: &[1, 0, 0xEB, 1, 0, 0xD3],
+            changes: &PAIR,
         },
         Plate {
             path: "OUT/OSLO/E1-A-003-K.tif",
-            rows: [1, 0, 0xEB, 1, 0, 0xD3],
+            rows: &[1, 0, 0xEB, 1, 0, 0xD3],
+            changes: &PAIR,
         },
     ],
     &[0, 1, 4, 5],
@@ -67,12 +69,14 @@ const WHOLE: Kept<'static> = (
 // The plates of BERGEN.
 const FIRST: Plate<'static> = Plate {
     path: "OUT/BERGEN/E1-A-001-K.tif",
-    rows: [1, 0, 0xEB, 1, 0, 0xD3],
+    rows: &[1, 0, 0xEB, 1, 0, 0xD3],
+    changes: &PAIR,
 };
 
 const THIRD: Plate<'static> = Plate {
     path: "OUT/BERGEN/E1-A-003-K.tif",
-    rows: [1, 0, 0xEB, 1, 0, 0xD3],
+    rows: &[1, 0, 0xEB, 1, 0, 0xD3],
+    changes: &PAIR,
 };
 
 // The call of the second rack that fails, the expected output, and the expected contents of both racks. A

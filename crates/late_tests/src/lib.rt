@@ -4,8 +4,6 @@
 #[cfg(test)]
 mod changes;
 #[cfg(test)]
-mod desk;
-#[cfg(test)]
 mod edition;
 #[cfg(test)]
 mod faults;

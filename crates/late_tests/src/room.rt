@@ -1,17 +1,14 @@
 // Commands with a desk, racks and sinks in memory.
-ghost use Rattle.std.specs.Prelude.{◌≡◌, ◌≤◌, is_some, length, map};
-ghost use Rattle.pr_rack.specs.Rack.{none_begun};
+ghost use Rattle.std.specs.Prelude.{◌≡◌, ◌≤◌, length};
 ghost use Rattle.cmd_base.specs.Seen.{AreIdle};
 
-use crate::desk::{Desk, File};
 use crate::files::{Kept, have};
-use plate_room::plate_main;
 use pr_ports::{MemSink, Shelf, Sink};
 use pr_rack::{MemRack, Rack};
-use std::alloc::Global;
 use std::process::Abort;
 use std::thread::Threads;
 use std::time::Clock;
+use test_room::{Desk, File};
 
 /// The arguments that make what changed between the job of old.json and that of plan.json.
 pub const REPLATE: [&str; 6] = ["replate", "old.json", "OLD", "plan.json", "FILES", "OUT"];
@@ -44,32 +41,9 @@ pub struct Case<'a> {
     pub kept: &'a [Kept<'a>],
 }
 
-// Returns the number of a call as a list, which is empty for None.
-fn calls<R: Abort + AllocGlobal>(rt: &R, call: Option<u64>) -> Vec<u64> {
-    let mut calls = Vec::new(rt.alloc());
-    if let Some(call) = call {
-        calls.push(call).expect(rt, "memory");
-    }
-    calls
-}
-
 // Returns a sink whose call with this number fails.
 fn sink<R: Abort + AllocGlobal>(rt: &R, failing: Option<u64>) -> MemSink {
-    MemSink::new(rt.alloc(), calls(rt, failing))
-}
-
-// The most sites that an edition has.
-const RACKS: usize = 16;
-
-// Returns the rack of a site, whose call with this number fails.
-fn rack<R: Abort + AllocGlobal>(rt: &R, site: usize, failing: [Option<u64>; 2]) -> MemRack
-    ensures { map is_some result.slots ≡ none_begun }
-{
-    let call = match failing.get(site) {
-        Some(call) => *call,
-        None => None,
-    };
-    MemRack::new(rt.alloc(), calls(rt, call))
+    test_room::sink(rt.alloc(), failing).expect(rt, "memory")
 }
 
 /// Returns sixteen racks, of which these calls fail.
@@ -77,37 +51,7 @@ pub fn racks<R: Abort + AllocGlobal>(rt: &R, failing: [Option<u64>; 2]) -> Vec<M
     ensures count { length result.items ≡ 16 }
     ensures idle { AreIdle ⟦<MemRack as Rack>⟧ result.items }
 {
-    let mut racks = Vec::new(rt.alloc());
-    for site in 0..RACKS {
-        racks.push(rack(rt, site, failing)).expect(rt, "memory");
-    }
-    racks
-}
-
-// Returns the arguments of a command line.
-fn texts<R: Abort + AllocGlobal>(rt: &R, words: &[&str]) -> Vec<String> {
-    let mut texts = Vec::new(rt.alloc());
-    for word in words {
-        let text = String::from_str(rt.alloc(), word).expect(rt, "memory");
-        texts.push(text).expect(rt, "memory");
-    }
-    texts
-}
-
-// Runs the program. Tests see only its status.
-fn answer<T: Threads + Clock + Sync, H: Shelf, R: Rack + Send, S: Sink, E: Sink>(
-    rt: &T,
-    alloc: Global,
-    words: &[String],
-    shelf: &mut H,
-    racks: &mut [R],
-    out: &mut S,
-    note: &mut E,
-) -> u8
-    requires racks { 16 ≤ length racks.old }
-    requires idle { AreIdle R.Rack racks.old }
-{
-    plate_main(rt, alloc, words, shelf, racks, out, note)
+    test_room::racks(rt.alloc(), failing).expect(rt, "memory")
 }
 
 // Runs a command with these arguments, and returns its status.
@@ -122,8 +66,7 @@ fn command<T: Abort + AllocGlobal + Threads + Clock + Sync, H: Shelf, S: Sink, E
     requires racks { 16 ≤ length racks.old }
     requires idle { AreIdle ⟦<MemRack as Rack>⟧ racks.old }
 {
-    let words = texts(rt, words);
-    answer(rt, rt.alloc(), words.as_slice(), shelf, racks, out, note)
+    test_room::command(rt, rt.alloc(), words, shelf, racks, out, note).expect(rt, "memory")
 }
 
 // Whether a command with these arguments ends with the expected status and line.
@@ -157,6 +100,8 @@ pub fn prints<R: Abort + AllocGlobal + Threads + Clock + Sync>(
     let mut desk = Desk {
         alloc: rt.alloc(),
         files: case.files,
+        plates: &[],
+        wrong: &[],
         failing: case.failing.shelf,
         loads: 0,
         faults: 0,
@@ -175,7 +120,7 @@ pub fn does<R: Abort + AllocGlobal + Threads + Clock + Sync>(
     case: &Case<'_>,
 ) -> bool {
     let mut racks = racks(rt, case.failing.racks);
-    prints(rt, words, racks.as_mut_slice(), case) && have(racks.as_slice(), case.kept)
+    prints(rt, words, racks.as_mut_slice(), case) && have(rt, racks.as_slice(), case.kept)
 }
 
 /// Asserts that row `n` of a table holds.

@@ -1,26 +1,12 @@
 // Small editions: their plates byte for byte, and the rows that the racks of their sites took.
-use crate::files::{FORM, PAIR, four_by_one, image, pixel};
-use crate::room::{CALM, Plate, RUN, Want, runs};
+use crate::files::{four_by_one, image, pixel};
+use crate::room::{CALM, RUN, Want, runs};
 use ring_lanes::Source;
+use test_room::{FORM, PAIR, Plate, TWO_PAGES, ZONED};
 use tif_make::{ImageForm, Kind};
-
-/// Two pages, the second with one image at scale 2, for one site.
-pub const TWO_PAGES: &str =
-    r#"{"plan":1,"edition":"E1","dpi":1200,"page":[8,2],"screens":{"K":"bayer4"},
-"pages":[{"name":"w","inks":"K","layers":[]},
-{"name":"p","inks":"K","layers":[{"kind":"contone","file":"a.tif","scale":2}]}],
-"sections":[{"name":"A","pages":["w","p"]}],"sites":[{"name":"OSLO"}]}"#;
 
 /// The report of a run of the two pages.
 pub const ONE_SITE: &str = "site OSLO finished plates 1 rows 2\ntotal rows 2 sites 1\n";
-
-// Four pages for two sites, all empty except page 3 of BERGEN.
-const ZONED: &str = r#"{"plan":1,"edition":"E1","dpi":1200,"page":[8,2],"screens":{"K":"bayer4"},
-"pages":[{"name":"w","inks":"K","layers":[]},
-{"name":"p","inks":"K","layers":[{"kind":"contone","file":"a.tif","scale":2}]}],
-"sections":[{"name":"A","pages":["w","w","w","w"]}],
-"zones":[{"name":"Z","replace":[{"section":"A","page":3,"with":"p"}]}],
-"sites":[{"name":"OSLO"},{"name":"BERGEN","zone":"Z"}]}"#;
 
 /// A page with a spot ink, from linework.
 pub const SPOT: &str = r#"{"plan":2,"edition":"E1","dpi":1200,"page":[8,2],

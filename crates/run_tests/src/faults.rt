@@ -1,10 +1,11 @@
 // What a run reports of its arguments, its plan and its files, and of a shelf and sinks that fail.
-use crate::editions::{ONE_SITE, TWO_PAGES, TWO_PAGES_PLATE};
-use crate::files::{FORM, four_by_one, image, patch};
+use crate::editions::{ONE_SITE, TWO_PAGES_PLATE};
+use crate::files::{four_by_one, image, patch};
 use crate::room::{CALM, Failing, RUN, Want, check, runs};
 use std::process::Abort;
 use std::thread::Threads;
 use std::time::Clock;
+use test_room::{FORM, TWO_PAGES};
 use tif_make::{ImageForm, Kind};
 
 // Arguments of a run of one plate, with the least and the greatest ring size and patience.

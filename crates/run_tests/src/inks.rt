@@ -1,10 +1,11 @@
 // Runs of one pair of pages of 2 by 1 pixels, in one ink or four: what remains of each ink after curves,
 // limit and paint.
 use crate::files::pixel;
-use crate::room::{CALM, Plate, RUN, Want, runs};
+use crate::room::{CALM, RUN, Want, runs};
 use std::process::Abort;
 use std::thread::Threads;
 use std::time::Clock;
+use test_room::Plate;
 
 const FOUR: &str = "site OSLO finished plates 4 rows 4\ntotal rows 4 sites 1\n";
 

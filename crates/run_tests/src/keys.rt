@@ -1,12 +1,13 @@
 // Runs that count ink keys: the lines after the report, whether or not sites drop out.
-use crate::editions::{SPOT, TWO_PAGES, TWO_PAGES_PLATE};
-use crate::files::{FORM, four_by_one, image};
+use crate::editions::{SPOT, TWO_PAGES_PLATE};
+use crate::files::{four_by_one, image};
 use crate::leaving::EMPTY;
 use crate::room::{CALM, Failing, Want, check, runs};
 use ring_lanes::Source;
 use std::process::Abort;
 use std::thread::Threads;
 use std::time::Clock;
+use test_room::{FORM, TWO_PAGES};
 use tif_make::{ImageForm, Kind};
 
 const FOUR: Want<'static> = Want {

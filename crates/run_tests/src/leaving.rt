@@ -1,8 +1,9 @@
 // Sites that drop out because their racks fail.
-use crate::room::{CALM, Failing, Plate, RUN, Want, check, runs};
+use crate::room::{CALM, Failing, RUN, Want, check, runs};
 use std::process::Abort;
 use std::thread::Threads;
 use std::time::Clock;
+use test_room::Plate;
 
 /// Four empty pages for two sites.
 pub const EMPTY: &str = r#"{"plan":1,"edition":"E1","dpi":1200,"page":[8,2],

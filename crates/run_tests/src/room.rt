@@ -1,19 +1,16 @@
 // Runs with a shelf, racks and sinks in memory.
-ghost use Rattle.std.specs.Prelude.{◌≡◌, ◌≤◌, ◌++◌, ◌∷◌, [], is_some, length, map};
+ghost use Rattle.std.specs.Prelude.{◌≡◌, ◌≤◌, ◌++◌, ◌∷◌, [], length, map};
 ghost use Rattle.pr_ports.specs.Mem.{files_of};
-ghost use Rattle.pr_rack.specs.Rack.{none_begun};
 ghost use Rattle.cmd_base.specs.Seen.{AreIdle};
 
-use crate::files::{have_plates, took};
-use plate_room::plate_main;
 use pr_base::PathText;
-use pr_ports::{MemShelf, MemSink, Shelf, Sink};
+use pr_ports::{MemShelf, MemSink};
 use pr_rack::{MemRack, Rack};
 use ring_lanes::Source;
-use std::alloc::Global;
 use std::process::Abort;
 use std::thread::Threads;
 use std::time::Clock;
+use test_room::{Plate, calls_of, have_plates, took};
 
 /// The default arguments of a run.
 pub const RUN: [&str; 4] = ["run", "plan.json", "FILES", "OUT"];
@@ -35,18 +32,9 @@ pub const CALM: Failing = Failing {
     note: None,
 };
 
-// Returns the number of a call as a list, which is empty for None.
-fn calls<R: Abort + AllocGlobal>(rt: &R, call: Option<u64>) -> Vec<u64> {
-    let mut calls = Vec::new(rt.alloc());
-    if let Some(call) = call {
-        calls.push(call).expect(rt, "memory");
-    }
-    calls
-}
-
 /// Returns a sink whose call with this number fails.
 pub fn sink<R: Abort + AllocGlobal>(rt: &R, failing: Option<u64>) -> MemSink {
-    MemSink::new(rt.alloc(), calls(rt, failing))
+    test_room::sink(rt.alloc(), failing).expect(rt, "memory")
 }
 
 // Returns files with one more appended.
@@ -78,21 +66,8 @@ pub fn shelf<R: Abort + AllocGlobal>(
     let one = with_file(rt, none, "plan.json", plan.as_bytes());
     let two = with_file(rt, one, "FILES/a.tif", first);
     let three = with_file(rt, two, "FILES/b.tif", second);
-    MemShelf::new(rt.alloc(), three, calls(rt, failing))
-}
-
-/// The most sites that an edition has.
-pub const RACKS: usize = 16;
-
-// Returns the rack of a site, whose call with this number fails.
-fn rack<R: Abort + AllocGlobal>(rt: &R, site: usize, failing: [Option<u64>; 2]) -> MemRack
-    ensures { map is_some result.slots ≡ none_begun }
-{
-    let call = match failing.get(site) {
-        Some(call) => *call,
-        None => None,
-    };
-    MemRack::new(rt.alloc(), calls(rt, call))
+    let calls = calls_of(rt.alloc(), failing).expect(rt, "memory");
+    MemShelf::new(rt.alloc(), three, calls)
 }
 
 /// Returns sixteen racks, of which these calls fail.
@@ -100,37 +75,7 @@ pub fn racks<R: Abort + AllocGlobal>(rt: &R, failing: [Option<u64>; 2]) -> Vec<M
     ensures count { length result.items ≡ 16 }
     ensures idle { AreIdle ⟦<MemRack as Rack>⟧ result.items }
 {
-    let mut racks = Vec::new(rt.alloc());
-    for site in 0..RACKS {
-        racks.push(rack(rt, site, failing)).expect(rt, "memory");
-    }
-    racks
-}
-
-// Returns the arguments of a command line.
-fn texts<R: Abort + AllocGlobal>(rt: &R, words: &[&str]) -> Vec<String> {
-    let mut texts = Vec::new(rt.alloc());
-    for word in words {
-        let text = String::from_str(rt.alloc(), word).expect(rt, "memory");
-        texts.push(text).expect(rt, "memory");
-    }
-    texts
-}
-
-// Runs the program. Tests see only its status.
-fn answer<T: Threads + Clock + Sync, H: Shelf, R: Rack + Send, S: Sink, E: Sink>(
-    rt: &T,
-    alloc: Global,
-    words: &[String],
-    shelf: &mut H,
-    racks: &mut [R],
-    out: &mut S,
-    note: &mut E,
-) -> u8
-    requires racks { 16 ≤ length racks.old }
-    requires idle { AreIdle R.Rack racks.old }
-{
-    plate_main(rt, alloc, words, shelf, racks, out, note)
+    test_room::racks(rt.alloc(), failing).expect(rt, "memory")
 }
 
 /// Runs a command with these arguments, and returns its status.
@@ -145,16 +90,7 @@ pub fn command<T: Abort + AllocGlobal + Threads + Clock + Sync, R: Rack + Send>(
     requires racks { 16 ≤ length racks.old }
     requires idle { AreIdle R.Rack racks.old }
 {
-    let words = texts(rt, words);
-    answer(rt, rt.alloc(), words.as_slice(), shelf, racks, out, note)
-}
-
-/// An expected plate of a rack: its path, its packed rows, and the changes to the other bytes of `PLATE`.
-#[derive(Clone, Copy)]
-pub struct Plate<'a> {
-    pub path: &'a str,
-    pub rows: &'a [u8],
-    pub changes: &'a [(usize, u8)],
+    test_room::command(rt, rt.alloc(), words, shelf, racks, out, note).expect(rt, "memory")
 }
 
 /// The expected result of a run: its status, its report, its line on the error output, and, for racks from
@@ -217,7 +153,7 @@ pub fn runs<R: Abort + AllocGlobal + Threads + Clock + Sync>(
     let mut shelf = shelf(rt, plan, first, second, failing.shelf);
     let mut racks = racks(rt, failing.racks);
     reports(rt, words, &mut shelf, racks.as_mut_slice(), failing, want)
-        && have_plates(rt, racks.as_slice(), want.plates)
+        && have_plates(rt.alloc(), racks.as_slice(), want.plates).expect(rt, "memory")
         && took(racks.as_slice(), want.taken)
 }
 

@@ -4,7 +4,7 @@ ghost use Rattle.std.specs.Prelude.{refl, ◌≡◌, Some, ◌≤◌, is_some, l
 ghost use Rattle.pr_rack.specs.Rack.{none_begun};
 ghost use Rattle.cmd_base.specs.Seen.{AreIdle};
 
-use crate::room::{RACKS, command, shelf, sink};
+use crate::room::{command, shelf, sink};
 use pr_rack::{MemRack, Rack, RackFault};
 use ring_lanes::{Held, Source};
 use std::alloc::Global;
@@ -13,6 +13,7 @@ use std::process::Abort;
 use std::sync::atomic::{AtomicU64, Ordering};
 use std::thread::Threads;
 use std::time::Clock;
+use test_room::RACKS;
 
 /// What a rack does in one of its row calls.
 #[derive(Clone, Copy)]

@@ -1,13 +1,13 @@
 // What `verify` reports of its arguments, its plan and its image, and of a shelf and sinks that fail.
-use crate::desk::Plate;
-use crate::files::{TWO_PAGES, TWO_PAGES_PLATE};
+use crate::files::TWO_PAGES_PLATE;
 use crate::room::{CALM, Case, VERIFY, check, does};
 use std::process::Abort;
 use std::thread::Threads;
 use std::time::Clock;
+use test_room::{Right, TWO_PAGES};
 
 // The plate of the two pages.
-const PLATES: [Plate<'static>; 1] = [Plate {
+const PLATES: [Right<'static>; 1] = [Right {
     path: "OUT/OSLO/E1-A-001-K.tif",
     bytes: &TWO_PAGES_PLATE,
 }];

@@ -3,8 +3,6 @@
 ghost use Rattle.std.specs.Prelude.{◌≡◌};
 ghost use Rattle.press_job.specs.Rows.{plate_frames};
 
-use crate::desk::Desk;
-use crate::files::ZONED;
 use crate::order::GROUPS;
 use crate::room::check;
 use plan_json::read_plan;
@@ -15,6 +13,7 @@ use press_feed::{Feed, Job, prepare};
 use std::alloc::Global;
 use std::process::Abort;
 use std::thread::Threads;
+use test_room::{Desk, Held, ZONED};
 
 // Whether `verify` finds the four plates of a job below OUT to be the same.
 fn are_same<F: RowFeed, H: Shelf>(alloc: Global, job: &Job, feed: &mut F, shelf: &mut H) -> bool
@@ -63,7 +62,10 @@ fn looks_at_plan<R: Abort + AllocGlobal + Threads + Sync, H: Shelf>(
 fn looks_at_the_plates_of_a_job(rt: HostRuntime) {
     let mut desk = Desk {
         alloc: rt.alloc(),
-        plan: ZONED,
+        files: &[
+            ("plan.json", Held::Plan(ZONED)),
+            ("FILES/a.tif", Held::Image),
+        ],
         plates: &GROUPS,
         wrong: &[],
         failing: None,

@@ -2,8 +2,6 @@
 #![tactic(auto)]
 
 #[cfg(test)]
-mod desk;
-#[cfg(test)]
 mod faults;
 #[cfg(test)]
 mod feed;

@@ -1,68 +1,68 @@
 // Plates of two sites, and which of the wrong ones is reported. The order is group, ink, site.
-use crate::desk::{Held, Plate};
-use crate::files::{EMPTY_PLATE, FOUR_INKS, RIGHT_PLATE, ZONED};
+use crate::files::{EMPTY_PLATE, FOUR_INKS, RIGHT_PLATE};
 use crate::room::{CALM, Case, VERIFY, check, does};
 use std::process::Abort;
 use std::thread::Threads;
 use std::time::Clock;
+use test_room::{File, Held, Right, ZONED};
 
-const INKS: [Plate<'static>; 8] = [
-    Plate {
+const INKS: [Right<'static>; 8] = [
+    Right {
         path: "OUT/OSLO/E1-A-001-C.tif",
         bytes: &EMPTY_PLATE,
     },
-    Plate {
+    Right {
         path: "OUT/BERGEN/E1-A-001-C.tif",
         bytes: &EMPTY_PLATE,
     },
-    Plate {
+    Right {
         path: "OUT/OSLO/E1-A-001-M.tif",
         bytes: &EMPTY_PLATE,
     },
-    Plate {
+    Right {
         path: "OUT/BERGEN/E1-A-001-M.tif",
         bytes: &EMPTY_PLATE,
     },
-    Plate {
+    Right {
         path: "OUT/OSLO/E1-A-001-Y.tif",
         bytes: &EMPTY_PLATE,
     },
-    Plate {
+    Right {
         path: "OUT/BERGEN/E1-A-001-Y.tif",
         bytes: &EMPTY_PLATE,
     },
-    Plate {
+    Right {
         path: "OUT/OSLO/E1-A-001-K.tif",
         bytes: &EMPTY_PLATE,
     },
-    Plate {
+    Right {
         path: "OUT/BERGEN/E1-A-001-K.tif",
         bytes: &EMPTY_PLATE,
     },
 ];
 
 /// Two pairs at two sites. The sites share the first pair.
-pub const GROUPS: [Plate<'static>; 4] = [
-    Plate {
+pub const GROUPS: [Right<'static>; 4] = [
+    Right {
         path: "OUT/OSLO/E1-A-001-K.tif",
         bytes: &EMPTY_PLATE,
     },
-    Plate {
+    Right {
         path: "OUT/BERGEN/E1-A-001-K.tif",
         bytes: &EMPTY_PLATE,
     },
-    Plate {
+    Right {
         path: "OUT/OSLO/E1-A-002-K.tif",
         bytes: &EMPTY_PLATE,
     },
-    Plate {
+    Right {
         path: "OUT/BERGEN/E1-A-002-K.tif",
         bytes: &RIGHT_PLATE,
     },
 ];
 
 // The wrong plates, the status, the output, the line of the error output, and the number of loads.
-type Row<'a> = (&'a [(&'a str, Held)], u8, &'a str, &'a str, u64);
+type Row<'a> = (&'a [File<'a>], u8, &'a str, &'a str, u64);
 
 // One pair in four inks at two sites: eight plates, loaded after the plan.
 const INK_ROWS: [Row<'static>; 7] = [
@@ -160,7 +160,7 @@ const GROUP_ROWS: [Row<'static>; 4] = [
 fn ends<R: Abort + AllocGlobal + Threads + Clock + Sync>(
     rt: &R,
     plan: &str,
-    plates: &[Plate<'_>],
+    plates: &[Right<'_>],
     row: &Row<'_>,
 ) -> bool {
     let case = Case {

@@ -1,10 +1,10 @@
 // One plate: where it differs, and in which row.
-use crate::desk::{Held, Plate};
-use crate::files::{ONE_ROW, ONE_ROW_PLATE, TWO_PAGES, TWO_PAGES_PLATE};
+use crate::files::{ONE_ROW, ONE_ROW_PLATE, TWO_PAGES_PLATE};
 use crate::room::{CALM, Case, VERIFY, check, does};
 use std::process::Abort;
 use std::thread::Threads;
 use std::time::Clock;
+use test_room::{Held, Right, TWO_PAGES};
 
 const PATH: &str = "OUT/OSLO/E1-A-001-K.tif";
 
@@ -15,12 +15,12 @@ fn finds<R: Abort + AllocGlobal + Threads + Clock + Sync>(
     rt: &R,
     plan: &str,
     plate: &[u8],
-    held: Held,
+    held: Held<'_>,
     status: u8,
     text: &str,
 ) -> bool {
     let (out, line) = if status == 5 { ("", text) } else { (text, "") };
-    let plates = [Plate {
+    let plates = [Right {
         path: PATH,
         bytes: plate,
     }];
@@ -41,7 +41,7 @@ fn finds<R: Abort + AllocGlobal + Threads + Clock + Sync>(
 // What is in the place of the plate of two rows, the status and the text. The rows are the bytes 8 to 10 and
 // 11 to 13; the bytes before and after belong to no row. A truncated plate differs in the row that the first
 // missing byte belongs to.
-const TWO_ROWS: [(Held, u8, &str); 15] = [
+const TWO_ROWS: [(Held<'static>, u8, &str); 15] = [
     (Held::Right, 0, "same plates 1 sites 1\n"),
     (
         Held::Missing,
@@ -120,7 +120,7 @@ fn finds_the_first_byte_and_its_row(rt: HostRuntime) {
 }
 
 // The row of the plate of one row is the bytes 8 to 10. A pad byte follows, then the directory.
-const PADDED: [(Held, u8, &str); 5] = [
+const PADDED: [(Held<'static>, u8, &str); 5] = [
     (Held::Right, 0, "same plates 1 sites 1\n"),
     (
         Held::Turned(10),

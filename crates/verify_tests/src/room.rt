@@ -2,14 +2,12 @@
 ghost use Rattle.std.specs.Prelude.{◌≡◌, ◌≤◌, length};
 ghost use Rattle.cmd_base.specs.Seen.{AreIdle};
 
-use crate::desk::{Desk, Held, Plate};
-use plate_room::plate_main;
 use pr_ports::{MemSink, Shelf, Sink};
 use pr_rack::{MemRack, Rack};
-use std::alloc::Global;
 use std::process::Abort;
 use std::thread::Threads;
 use std::time::Clock;
+use test_room::{Desk, File, Held, Right, are_empty};
 
 /// The arguments that verify the plates.
 pub const VERIFY: [&str; 4] = ["verify", "plan.json", "FILES", "OUT"];
@@ -19,8 +17,8 @@ pub const VERIFY: [&str; 4] = ["verify", "plan.json", "FILES", "OUT"];
 #[derive(Clone, Copy)]
 pub struct Case<'a> {
     pub plan: &'a str,
-    pub plates: &'a [Plate<'a>],
-    pub wrong: &'a [(&'a str, Held)],
+    pub plates: &'a [Right<'a>],
+    pub wrong: &'a [File<'a>],
     pub failing: [Option<u64>; 3],
     pub status: u8,
     pub out: &'a str,
@@ -33,53 +31,15 @@ pub const CALM: [Option<u64>; 3] = [None; 3];
 
 // Returns a sink whose call with this number fails.
 fn sink<R: Abort + AllocGlobal>(rt: &R, failing: Option<u64>) -> MemSink {
-    let mut calls = Vec::new(rt.alloc());
-    if let Some(call) = failing {
-        calls.push(call).expect(rt, "memory");
-    }
-    MemSink::new(rt.alloc(), calls)
+    test_room::sink(rt.alloc(), failing).expect(rt, "memory")
 }
-
-// The most sites that an edition has.
-const RACKS: usize = 16;
 
 // Returns sixteen racks, none of which fails.
 fn racks<R: Abort + AllocGlobal>(rt: &R) -> Vec<MemRack>
     ensures count { length result.items ≡ 16 }
     ensures idle { AreIdle ⟦<MemRack as Rack>⟧ result.items }
 {
-    let mut racks = Vec::new(rt.alloc());
-    for _i in 0..RACKS {
-        let rack = MemRack::new(rt.alloc(), Vec::new(rt.alloc()));
-        racks.push(rack).expect(rt, "memory");
-    }
-    racks
-}
-
-// Returns the arguments of a command line.
-fn texts<R: Abort + AllocGlobal>(rt: &R, words: &[&str]) -> Vec<String> {
-    let mut texts = Vec::new(rt.alloc());
-    for word in words {
-        let text = String::from_str(rt.alloc(), word).expect(rt, "memory");
-        texts.push(text).expect(rt, "memory");
-    }
-    texts
-}
-
-// Runs the program. Tests see only its status.
-fn answer<T: Threads + Clock + Sync, H: Shelf, R: Rack + Send, S: Sink, E: Sink>(
-    rt: &T,
-    alloc: Global,
-    words: &[String],
-    shelf: &mut H,
-    racks: &mut [R],
-    out: &mut S,
-    note: &mut E,
-) -> u8
-    requires racks { 16 ≤ length racks.old }
-    requires idle { AreIdle R.Rack racks.old }
-{
-    plate_main(rt, alloc, words, shelf, racks, out, note)
+    test_room::racks(rt.alloc(), [None; 2]).expect(rt, "memory")
 }
 
 // Runs a command with these arguments, and returns its status.
@@ -94,15 +54,7 @@ fn command<T: Abort + AllocGlobal + Threads + Clock + Sync, H: Shelf, S: Sink, E
     requires racks { 16 ≤ length racks.old }
     requires idle { AreIdle ⟦<MemRack as Rack>⟧ racks.old }
 {
-    let words = texts(rt, words);
-    answer(rt, rt.alloc(), words.as_slice(), shelf, racks, out, note)
-}
-
-// Whether no rack took a row or has a file.
-fn are_empty(racks: &[MemRack]) -> bool {
-    racks
-        .iter()
-        .all(|rack| rack.files().is_empty() && rack.taken().is_empty())
+    test_room::command(rt, rt.alloc(), words, shelf, racks, out, note).expect(rt, "memory")
 }
 
 // Whether a command with these arguments ends with the expected status and line, and leaves the racks
@@ -130,7 +82,10 @@ pub fn does<R: Abort + AllocGlobal + Threads + Clock + Sync>(
     let [desk_call, out_call, _] = case.failing;
     let mut desk = Desk {
         alloc: rt.alloc(),
-        plan: case.plan,
+        files: &[
+            ("plan.json", Held::Plan(case.plan)),
+            ("FILES/a.tif", Held::Image),
+        ],
         plates: case.plates,
         wrong: case.wrong,
         failing: desk_call,

@@ -1,0 +1,96 @@
+// A call of the program with racks and sinks in memory.
+ghost use Rattle.std.specs.Prelude.{◌≡◌, ◌≤◌, IfOk, is_some, length, map};
+ghost use Rattle.pr_rack.specs.Rack.{none_begun};
+ghost use Rattle.cmd_base.specs.Seen.{AreIdle};
+
+use plate_room::plate_main;
+use pr_base::NoMemory;
+use pr_ports::{MemSink, Shelf, Sink};
+use pr_rack::{MemRack, Rack};
+use std::alloc::Global;
+use std::thread::Threads;
+use std::time::Clock;
+
+/// The most sites that an edition has.
+pub const RACKS: usize = 16;
+
+/// Returns the number of a call as a list, which is empty for None.
+pub fn calls_of(alloc: Global, call: Option<u64>) -> Result<Vec<u64>, NoMemory> {
+    let mut calls = Vec::new(alloc);
+    if let Some(call) = call {
+        calls.push(call)?;
+    }
+    Ok(calls)
+}
+
+/// Returns a sink whose call with this number fails.
+pub fn sink(alloc: Global, failing: Option<u64>) -> Result<MemSink, NoMemory> {
+    let calls = calls_of(alloc, failing)?;
+    Ok(MemSink::new(alloc, calls))
+}
+
+/// Returns the rack of a site, whose call with this number fails.
+fn rack(alloc: Global, site: usize, failing: [Option<u64>; 2]) -> Result<MemRack, NoMemory>
+    ensures { IfOk result (λ rack. map is_some rack.slots ≡ none_begun) }
+{
+    let call = match failing.get(site) {
+        Some(call) => *call,
+        None => None,
+    };
+    let calls = calls_of(alloc, call)?;
+    Ok(MemRack::new(alloc, calls))
+}
+
+/// Returns sixteen racks, of the first two of which these calls fail.
+pub fn racks(alloc: Global, failing: [Option<u64>; 2]) -> Result<Vec<MemRack>, NoMemory>
+    ensures count { IfOk result (λ racks. length racks.items ≡ 16) }
+    ensures idle { IfOk result (λ racks. AreIdle ⟦<MemRack as Rack>⟧ racks.items) }
+{
+    let mut racks = Vec::new(alloc);
+    for site in 0..RACKS {
+        racks.push(rack(alloc, site, failing)?)?;
+    }
+    Ok(racks)
+}
+
+/// Returns the arguments of a command line.
+fn texts(alloc: Global, words: &[&str]) -> Result<Vec<String>, NoMemory> {
+    let mut texts = Vec::new(alloc);
+    for word in words {
+        texts.push(String::from_str(alloc, word)?)?;
+    }
+    Ok(texts)
+}
+
+/// Runs a command with these arguments, and returns its status.
+pub fn command<T: Threads + Clock + Sync, H: Shelf, R: Rack + Send, S: Sink, E: Sink>(
+    rt: &T,
+    alloc: Global,
+    words: &[&str],
+    shelf: &mut H,
+    racks: &mut [R],
+    out: &mut S,
+    note: &mut E,
+) -> Result<u8, NoMemory>
+    requires racks { 16 ≤ length racks.old }
+    requires idle { AreIdle R.Rack racks.old }
+{
+    let words = texts(alloc, words)?;
+    Ok(answer(rt, alloc, words.as_slice(), shelf, racks, out, note))
+}
+
+/// Does the same with arguments that are texts. Callers see only the status.
+fn answer<T: Threads + Clock + Sync, H: Shelf, R: Rack + Send, S: Sink, E: Sink>(
+    rt: &T,
+    alloc: Global,
+    words: &[String],
+    shelf: &mut H,
+    racks: &mut [R],
+    out: &mut S,
+    note: &mut E,
+) -> u8
+    requires racks { 16 ≤ length racks.old }
+    requires idle { AreIdle R.Rack racks.old }
+{
+    plate_main(rt, alloc, words, shelf, racks, out, note)
+}
