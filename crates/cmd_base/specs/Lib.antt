@@ -3,6 +3,7 @@ pub mod Status
 pub mod Line
 pub mod Refusal
 pub mod Loads
+pub mod Writes
 pub mod Note
 pub mod Task
 pub mod Job

@@ -1,6 +1,6 @@
 -- What a call of `plate_main` observed of its shelf, its racks and its sinks: their state before and after.
-use Rattle.std.specs.Prelude.{ℕ, ◌≡◌, List, All, Option, Some, slice_get}
-use Rattle.pr_base.specs.Count.{Rose}
+use Rattle.std.specs.Prelude.{ℕ, ◌≡◌, ◌⊎◌, List, All, Option, Some, slice_get}
+use Rattle.pr_base.specs.Count.{Rose, count_after}
 use Rattle.pr_ports.specs.declared.shelf.Shelf as shelf
 use Rattle.pr_ports.specs.declared.sink.Sink as sink
 use Rattle.pr_rack.specs.Rack.{none_begun}
@@ -67,6 +67,10 @@ LoadFailed shelf = Rose shelf.faults shelf.faults'
 -- a write failed
 abbrev pub PutFailed : SinkSeen → Type 0
 PutFailed sink = Rose sink.faults sink.faults'
+
+-- at most one write failed
+abbrev pub FailsOnce : SinkSeen → Type 0
+FailsOnce sink = (sink.faults' ≡ sink.faults) ⊎ (sink.faults' ≡ count_after sink.faults)
 
 -- a sink took nothing, and no write failed
 pub record IsSilent (sink : SinkSeen) : Type 0 where

@@ -1,7 +1,7 @@
 // Loading a job: its plan, and then the files that the plan names.
 ghost use Rattle.std.specs.Prelude.{◌≡◌, ◌≤◌, ℕ, List, IfErr, IfOk};
 ghost use Rattle.cmd_base.specs.Job.{JobRefused, IsPlanned, IsPrepared};
-ghost use Rattle.cmd_base.specs.Loads.{Loads};
+ghost use Rattle.cmd_base.specs.Loads.{Lengths, Loads};
 ghost use Rattle.cmd_base.specs.Seen.{shelf_seen};
 
 use crate::refusal::{Refusal, Stop, Whose};
@@ -29,6 +29,7 @@ pub fn load_job<T: Threads + Sync, H: Shelf>(
         (JobRefused whose path.now folder.now (shelf_seen H.Shelf shelf.old shelf.new)) }
     ensures held { H.held shelf.new ≡ H.held shelf.old }
     ensures loads { Loads (shelf_seen H.Shelf shelf.old shelf.new) result }
+    ensures lengths { Lengths (shelf_seen H.Shelf shelf.old shelf.new) result }
     ensures faults_stay { H.faults shelf.old ≤ H.faults shelf.new }
     ensures longs_stay { H.longs shelf.old ≤ H.longs shelf.new }
 {
@@ -51,6 +52,7 @@ fn load_plan<H: Shelf>(alloc: Global, whose: Whose, path: &str, shelf: &mut H) -
         JobRefused whose path.now folder (shelf_seen H.Shelf shelf.old shelf.new) stop) }
     ensures held { H.held shelf.new ≡ H.held shelf.old }
     ensures loads { Loads (shelf_seen H.Shelf shelf.old shelf.new) result }
+    ensures lengths { Lengths (shelf_seen H.Shelf shelf.old shelf.new) result }
     ensures faults_stay { H.faults shelf.old ≤ H.faults shelf.new }
     ensures longs_stay { H.longs shelf.old ≤ H.longs shelf.new }
 {

@@ -5,7 +5,7 @@ ghost use Rattle.cmd_base.specs.Line.{file_line as file_line_lem, job_word as jo
 ghost use Rattle.cmd_base.specs.Line.{plan_line as plan_line_lem, plan_line_at as line_at};
 ghost use Rattle.cmd_base.specs.Refusal.{line_of};
 ghost use Rattle.cmd_base.specs.Note.{TellsRefusal, TellsStop};
-ghost use Rattle.cmd_base.specs.Seen.{sink_seen};
+ghost use Rattle.cmd_base.specs.Seen.{FailsOnce, sink_seen};
 
 use crate::refusal::{Refusal, Stop, Whose};
 use crate::status::Status;
@@ -91,6 +91,7 @@ fn plan_line_at(
 fn tell_memory<E: Sink>(note: &mut E) -> u8
     ensures status { result ≡ 6 }
     ensures note { GrewByPrefix (E.given note.old) (E.given note.new) memory_line }
+    ensures once { FailsOnce (sink_seen E.Sink note.old note.new) }
 {
     let _ = note.put(MEMORY_LINE);
     Status::Memory.number()

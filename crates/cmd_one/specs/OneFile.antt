@@ -92,3 +92,10 @@ Printed bytes out (Err plate.Memory) =
 Printed bytes out (Err plate.Printing) =
     (shape : Shape) × (contone_shape bytes ≡ Ok shape)
     × GrewByPrefix out.given out.given' (black_plate shape bytes) × PutFailed out
+
+-- no write to the output failed, unless the result is that it did
+abbrev pub PlateWrites : SinkSeen → Result (Unit {0}) PlateFault → Type 0
+PlateWrites out (Ok done) = out.faults' ≡ out.faults
+PlateWrites out (Err (plate.Refused fault)) = out.faults' ≡ out.faults
+PlateWrites out (Err plate.Memory) = out.faults' ≡ out.faults
+PlateWrites out (Err plate.Printing) = Unit {0}

@@ -1,9 +1,10 @@
 // The command `one`: the black plate of one file.
 ghost use Rattle.std.specs.Prelude.{◌≡◌};
 ghost use Rattle.cmd_one.specs.OneFile.{PrintsPlate, named, one_rules, too_long as too_long_fault};
-ghost use Rattle.cmd_base.specs.Loads.{Loads};
+ghost use Rattle.cmd_base.specs.Loads.{Lengths, Loads};
 ghost use Rattle.cmd_base.specs.Seen.{shelf_seen, sink_seen};
 ghost use Rattle.cmd_base.specs.Task.{Told};
+ghost use Rattle.cmd_base.specs.Writes.{Writes};
 
 use crate::plate::{PlateFault, print_plate};
 use cmd_base::{Refusal, Status, Stop, Whose};
@@ -25,6 +26,8 @@ pub fn print_one<H: Shelf, S: Sink>(
         (shelf_seen H.Shelf shelf.old shelf.new) (sink_seen S.Sink out.old out.new) result }
     ensures held { H.held shelf.new ≡ H.held shelf.old }
     ensures loads { Loads (shelf_seen H.Shelf shelf.old shelf.new) result }
+    ensures lengths { Lengths (shelf_seen H.Shelf shelf.old shelf.new) result }
+    ensures writes { Writes (sink_seen S.Sink out.old out.new) result }
 {
     let Ok(name) = PathText::of(alloc, file) else {
         return Err(Stop::Memory);

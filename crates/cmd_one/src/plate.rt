@@ -5,7 +5,7 @@ ghost use Rattle.scr_tile.specs.AnyTile.{threshold_of};
 ghost use Rattle.plate_bytes.specs.Made.{so_far};
 ghost use Rattle.tif_strips.specs.Strips.{row_length};
 ghost use Rattle.cmd_one.specs.One.{black_plate, black_rows};
-ghost use Rattle.cmd_one.specs.OneFile.{Printed};
+ghost use Rattle.cmd_one.specs.OneFile.{PlateWrites, Printed};
 ghost use Rattle.cmd_one.specs.Room.{FitsRow};
 ghost use Rattle.cmd_base.specs.Seen.{sink_seen};
 
@@ -40,7 +40,8 @@ pub(crate) fn print_plate<S: Sink>(
     bytes: &[u8],
     out: &mut S,
 ) -> Result<(), PlateFault>
-    ensures { Printed bytes.now (sink_seen S.Sink out.old out.new) result }
+    ensures printed { Printed bytes.now (sink_seen S.Sink out.old out.new) result }
+    ensures writes { PlateWrites (sink_seen S.Sink out.old out.new) result }
 {
     let image = match Contone::check(bytes) {
         Ok(image) => image,

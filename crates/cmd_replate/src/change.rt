@@ -5,8 +5,9 @@ ghost use Rattle.plan_rows.specs.Groups.{groups_of};
 ghost use Rattle.press_job.specs.Rows.{plate_frames};
 ghost use Rattle.cmd_replate.specs.Change.{AnswersChange, change_told, ChangeRefused, DeliversPicked};
 ghost use Rattle.cmd_replate.specs.Change.{DeliversPickedPart, IsLate, IsLoadedLate, compared};
-ghost use Rattle.cmd_base.specs.Loads.{Loads};
+ghost use Rattle.cmd_base.specs.Loads.{Lengths, Loads};
 ghost use Rattle.cmd_base.specs.Seen.{AreIdle, shelf_seen, sink_seen};
+ghost use Rattle.cmd_base.specs.Writes.{Writes};
 
 use crate::remade::{dropped_lines, remade_text, status_of};
 use cmd_base::{Stop, Whose, load_job, put_text};
@@ -58,6 +59,8 @@ pub fn print_change<T: Threads + Sync, H: Shelf, R: Rack, S: Sink>(
         racks.old racks.new (sink_seen S.Sink out.old out.new) result }
     ensures held { H.held shelf.new ≡ H.held shelf.old }
     ensures loads { Loads (shelf_seen H.Shelf shelf.old shelf.new) result }
+    ensures lengths { Lengths (shelf_seen H.Shelf shelf.old shelf.new) result }
+    ensures writes { Writes (sink_seen S.Sink out.old out.new) result }
 {
     let late = load_late(rt, alloc, change, shelf)?;
     let Ok(remade) = make_late(&ByThreads { rt }, alloc, change, &late, racks) else {
@@ -84,6 +87,7 @@ fn load_late<T: Threads + Sync, H: Shelf>(
         (ChangeRefused (change_told change.entry) (shelf_seen H.Shelf shelf.old shelf.new)) }
     ensures held { H.held shelf.new ≡ H.held shelf.old }
     ensures loads { Loads (shelf_seen H.Shelf shelf.old shelf.new) result }
+    ensures lengths { Lengths (shelf_seen H.Shelf shelf.old shelf.new) result }
 {
     let before = load_job(
         rt,

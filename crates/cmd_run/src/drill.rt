@@ -12,6 +12,7 @@ ghost use Rattle.cmd_run.specs.Drill.{HaveRun, IsDrilled, PrintsDrill, drill_job
 ghost use Rattle.cmd_run.specs.Drill.{finished_ends};
 ghost use Rattle.cmd_base.specs.Seen.{ShelfSeen, sink_seen};
 ghost use Rattle.cmd_base.specs.Task.{Told};
+ghost use Rattle.cmd_base.specs.Writes.{Writes};
 
 use crate::dots::told;
 use crate::job_run::run_job;
@@ -64,8 +65,9 @@ pub fn print_drill<T: Threads + Clock + Sync, S: Sink>(
 ) -> Result<u8, Stop>
     requires ring { IsWithin 1 1024 drill.ring }
     requires patience { IsWithin 1 65536 drill.patience }
-    ensures { (shelf : ShelfSeen) → Told drill_rules (PrintsDrill drill.number drill.ring)
+    ensures told { (shelf : ShelfSeen) → Told drill_rules (PrintsDrill drill.number drill.ring)
         shelf (sink_seen S.Sink out.old out.new) result }
+    ensures writes { Writes (sink_seen S.Sink out.old out.new) result }
 {
     let Ok(text) = drill_text(rt, alloc, drill) else {
         return Err(Stop::Memory);

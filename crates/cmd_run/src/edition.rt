@@ -3,10 +3,11 @@ ghost use Rattle.std.specs.Prelude.{◌≡◌, ◌≤◌, length};
 ghost use Rattle.pr_base.specs.Number.{IsWithin};
 ghost use Rattle.cmd_run.specs.Edition.{edition_told, Delivered, none_further, run_makes, run_rules};
 ghost use Rattle.cmd_run.specs.Report.{is_finished as is_finished_lem, status_of_ends};
-ghost use Rattle.cmd_base.specs.Loads.{Loads};
+ghost use Rattle.cmd_base.specs.Loads.{Lengths, Loads};
 ghost use Rattle.cmd_base.specs.Seen.{AreIdle, shelf_seen, sink_seen};
 ghost use Rattle.cmd_base.specs.Status.{number_of};
 ghost use Rattle.cmd_base.specs.Task.{Answers};
+ghost use Rattle.cmd_base.specs.Writes.{Writes};
 
 use crate::job_run::run_job;
 use crate::report::report;
@@ -53,6 +54,8 @@ pub fn run_edition<T: Threads + Clock + Sync, H: Shelf, R: Rack + Send, S: Sink>
         racks.old racks.new (sink_seen S.Sink out.old out.new) result }
     ensures held { H.held shelf.new ≡ H.held shelf.old }
     ensures loads { Loads (shelf_seen H.Shelf shelf.old shelf.new) result }
+    ensures lengths { Lengths (shelf_seen H.Shelf shelf.old shelf.new) result }
+    ensures writes { Writes (sink_seen S.Sink out.old out.new) result }
 {
     let job = load_job(rt, alloc, Whose::New, edition.plan, edition.files, shelf)?;
     deliver(rt, alloc, edition, &job, racks, out)
@@ -71,8 +74,9 @@ fn deliver<T: Threads + Clock + Sync, R: Rack + Send, S: Sink>(
     requires idle { AreIdle R.Rack racks.old }
     requires ring { IsWithin 1 1024 edition.ring }
     requires patience { IsWithin 1 65536 edition.patience }
-    ensures { Delivered R.Rack (edition_told edition.entry) none_further job.now
+    ensures delivered { Delivered R.Rack (edition_told edition.entry) none_further job.now
         racks.old racks.new (sink_seen S.Sink out.old out.new) result }
+    ensures writes { Writes (sink_seen S.Sink out.old out.new) result }
 {
     let plan = job.plan();
     // Called for its contract, which states what holds of every plan that was read.

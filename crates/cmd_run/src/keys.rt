@@ -10,8 +10,9 @@ ghost use Rattle.cmd_run.specs.Keys.{KeysAnswers, further_keys, group_lines, key
 ghost use Rattle.cmd_run.specs.Keys.{keys_lines, lines_with, numbers_at, numbers_for};
 ghost use Rattle.cmd_run.specs.Keys.{plate_line as plate_line_lem};
 ghost use Rattle.cmd_run.specs.Report.{report_of};
-ghost use Rattle.cmd_base.specs.Loads.{Loads};
+ghost use Rattle.cmd_base.specs.Loads.{Lengths, Loads};
 ghost use Rattle.cmd_base.specs.Seen.{AreIdle, shelf_seen, sink_seen};
+ghost use Rattle.cmd_base.specs.Writes.{Writes};
 
 use crate::edition::{Edition, status_of};
 use crate::keys_run::run_keys;
@@ -50,6 +51,8 @@ pub fn run_with_keys<T: Threads + Clock + Sync, H: Shelf, R: Rack + Send, S: Sin
         racks.old racks.new (sink_seen S.Sink out.old out.new) result }
     ensures held { H.held shelf.new ≡ H.held shelf.old }
     ensures loads { Loads (shelf_seen H.Shelf shelf.old shelf.new) result }
+    ensures lengths { Lengths (shelf_seen H.Shelf shelf.old shelf.new) result }
+    ensures writes { Writes (sink_seen S.Sink out.old out.new) result }
 {
     let job = load_job(rt, alloc, Whose::New, edition.plan, edition.files, shelf)?;
     deliver(rt, alloc, edition, keys, &job, racks, out)
@@ -70,8 +73,9 @@ fn deliver<T: Threads + Clock + Sync, R: Rack + Send, S: Sink>(
     requires keys { IsWithin 1 64 keys }
     requires ring { IsWithin 1 1024 edition.ring }
     requires patience { IsWithin 1 65536 edition.patience }
-    ensures { Delivered R.Rack (edition_told edition.entry) (further_keys keys) job.now
+    ensures delivered { Delivered R.Rack (edition_told edition.entry) (further_keys keys) job.now
         racks.old racks.new (sink_seen S.Sink out.old out.new) result }
+    ensures writes { Writes (sink_seen S.Sink out.old out.new) result }
 {
     let plan = job.plan();
     // Called for its contract, which states what holds of every plan that was read.

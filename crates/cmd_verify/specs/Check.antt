@@ -6,7 +6,8 @@ use Rattle.pr_base.specs.Count.{Rose}
 use Rattle.press_job.specs.Job.{JobData}
 use Rattle.press_job.specs.Rows.{plate_rows}
 use Rattle.plate_verify.specs.declared.checked.Checked.{Checked}
-use Rattle.plate_verify.specs.Looking.{IfLong, NoneWrong, path_at, told}
+use Rattle.plate_verify.specs.declared.checked.Checked.TheVariants.{Long}
+use Rattle.plate_verify.specs.Looking.{IfLong, NoneWrong, UnlessLong, path_at, told}
 use Rattle.plate_verify.specs.Order.{SitePlate, plates_in_order}
 use Rattle.plate_verify.specs.Wrong.{Found, AllRight, OtherAt, TooMany, NotHeld, first_wrong}
 use Rattle.cmd_base.specs.declared.refusal.Whose.TheVariants.{New}
@@ -15,6 +16,7 @@ use Rattle.cmd_base.specs.declared.refusal.Refusal.TheVariants.{Shelf}
 use Rattle.cmd_base.specs.declared.refusal.Stop.{Stop}
 use Rattle.cmd_base.specs.declared.refusal.Stop.TheVariants.{Refused, Memory, Printing}
 use Rattle.cmd_base.specs.Job.{HasMissed, IsPrepared, JobMeets, verdict_on_job}
+use Rattle.cmd_base.specs.Loads.{NoneLong, UnlessLong as UnlessRefused}
 use Rattle.cmd_base.specs.Seen.{Files, ShelfSeen}
 use Rattle.cmd_base.specs.Task.{Rules}
 use Rattle.cmd_verify.specs.declared.check.Asked as coded
@@ -69,10 +71,11 @@ abbrev pub wrong_of : JobData → List ℕ → Files → Found
 wrong_of job out files = first_wrong job.plan (plate_rows job.plan job.files) out files
 
 -- the result for the plates of a job: the first wrong one, where the shelf's contents are known; a plate is
--- reported as too long only where the shelf counted that
+-- reported as too long only where the shelf counted that, and with any other result it counted no such file
 pub record IsFound (job : JobData) (out : List ℕ) (shelf : ShelfSeen) (checked : Checked) : Type 0 where
   pub first : IfSome shelf.held (λ files. wrong_of job out files ≡ told checked)
   pub long : IfLong checked (Rose shelf.longs shelf.longs')
+  pub short : UnlessLong checked (NoneLong shelf)
 
 -- the text is the line of the result for the prepared job
 pub record PrintsFound (asked : Asked) (shelf : ShelfSeen) (text : List ℕ) (status : ℕ) : Type 0 where
@@ -82,6 +85,25 @@ pub record PrintsFound (asked : Asked) (shelf : ShelfSeen) (text : List ℕ) (st
   pub found : IsFound job asked.out shelf checked
   pub text_is : text ≡ found_line (length job.plan.sites) (told checked)
   pub status_is : status ≡ found_status (told checked)
+
+-- the job was prepared, and the plate at this path is too long
+pub record FindsLong (asked : Asked) (shelf : ShelfSeen) : Type 0 where
+  pub job : JobData
+  pub prepared : IsPrepared shelf.held asked.plan asked.files job
+  pub path : List ℕ
+  pub found : IsFound job asked.out shelf (Long path)
+
+-- no file was counted as too long, or a plate of the prepared job is
+abbrev pub MayFindLong : Asked → ShelfSeen → Type 0
+MayFindLong asked shelf = NoneLong shelf ⊎ FindsLong asked shelf
+
+-- no file was counted as too long, unless it is what the result reports: a refusal of the job, or a plate,
+-- whose line the output took whole, in part, or not at all
+abbrev pub CheckLengths : Asked → ShelfSeen → Result ℕ Stop → Type 0
+CheckLengths asked shelf (Ok status) = MayFindLong asked shelf
+CheckLengths asked shelf (Err (Refused refusal)) = UnlessRefused refusal (NoneLong shelf)
+CheckLengths asked shelf (Err Memory) = MayFindLong asked shelf
+CheckLengths asked shelf (Err Printing) = MayFindLong asked shelf
 
 -- ---- refusals
 
@@ -94,6 +116,8 @@ pub record IsLost (job : JobData) (out : List ℕ) (shelf : ShelfSeen) (path : L
   pub named : path ≡ path_at job.plan out at
   pub right : NoneWrong job.plan (plate_rows job.plan job.files) out shelf.held before
   pub missed : HasMissed shelf path
+  -- no file was counted as too long
+  pub longs : NoneLong shelf
 
 -- the job was prepared, and one of its plates failed to load
 pub record LosesPlate (asked : Asked) (shelf : ShelfSeen) (refusal : Refusal) : Type 0 where
@@ -128,5 +152,5 @@ abbrev pub Looks : JobData → List ℕ → ShelfSeen → Result Checked Stop �
 Looks job out shelf (Ok checked) = IsFound job out shelf checked
 Looks job out shelf (Err (Refused refusal)) =
     (path : List ℕ) × (refusal ≡ Shelf path) × IsLost job out shelf path
-Looks job out shelf (Err Memory) = Unit {0}
+Looks job out shelf (Err Memory) = NoneLong shelf
 Looks job out shelf (Err Printing) = ⊥

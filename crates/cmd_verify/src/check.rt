@@ -2,13 +2,15 @@
 ghost use Rattle.std.specs.Prelude.{◌≡◌, IfOk, length, string_bytes};
 ghost use Rattle.press_job.specs.Rows.{plate_frames};
 ghost use Rattle.plate_verify.specs.Looking.{told as found_of};
-ghost use Rattle.cmd_verify.specs.Check.{asked_told, Looks, PrintsFound, byte_line as byte_line_lem};
+ghost use Rattle.cmd_verify.specs.Check.{CheckLengths, asked_told, Looks, PrintsFound};
+ghost use Rattle.cmd_verify.specs.Check.{byte_line as byte_line_lem};
 ghost use Rattle.cmd_verify.specs.Check.{check_rules, found_line, found_status, row_line as row_line_lem};
 ghost use Rattle.cmd_verify.specs.Check.{same_line as same_line_lem};
 ghost use Rattle.cmd_base.specs.Loads.{Loads};
 ghost use Rattle.cmd_base.specs.Seen.{shelf_seen, sink_seen};
 ghost use Rattle.cmd_base.specs.Status.{number_of};
 ghost use Rattle.cmd_base.specs.Task.{Told};
+ghost use Rattle.cmd_base.specs.Writes.{Writes};
 
 use cmd_base::{Refusal, Status, Stop, Whose, load_job, put_text};
 use plate_verify::{Checked, VerifyFault, verify};
@@ -41,6 +43,9 @@ pub fn print_check<T: Threads + Sync, H: Shelf, S: Sink>(
         (shelf_seen H.Shelf shelf.old shelf.new) (sink_seen S.Sink out.old out.new) result }
     ensures held { H.held shelf.new ≡ H.held shelf.old }
     ensures loads { Loads (shelf_seen H.Shelf shelf.old shelf.new) result }
+    ensures lengths { CheckLengths (asked_told asked.entry)
+        (shelf_seen H.Shelf shelf.old shelf.new) result }
+    ensures writes { Writes (sink_seen S.Sink out.old out.new) result }
 {
     let job = load_job(rt, alloc, Whose::New, asked.plan, asked.files, shelf)?;
     let checked = check_plates(&ByThreads { rt }, alloc, &job, asked.out, shelf)?;

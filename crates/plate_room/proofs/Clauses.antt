@@ -1,20 +1,18 @@
 -- What each way to end implies for the clauses of `plate_main`.
 use Rattle.std.proofs.Common.{◌≡◌, ◌≢◌, ◌⊎◌, ℕ, List, [], Option, Some, None, IfSome, false, refl, sym, subst, ◌∙◌, ap, inl, inr, arith}
-use Rattle.pr_ports.specs.Sink.{Grew}
 use Rattle.pr_rack.specs.declared.rack.Rack.{Ghosts}
 use Rattle.cmd_base.specs.declared.refusal.Refusal.{Refusal}
 use Rattle.cmd_base.specs.declared.refusal.Refusal.TheVariants.{Words, LongPlan, Plan, File, Shelf}
 use Rattle.plate_room.specs.Command.{AsksDrill, AsksVerify, Command, command_of}
-use Rattle.cmd_base.specs.Line.{memory_line}
 use Rattle.cmd_base.specs.Refusal.{status_of, line_of}
 use Rattle.cmd_base.specs.Task.{IsPart, PrintsFront}
-use Rattle.plate_room.specs.Tasks.{IsCut, IsDone, IsEnd, IsUnprinted, Meets, makes_of, rules_of, verdict_for, verdict_of}
+use Rattle.plate_room.specs.Tasks.{IsCut, IsDone, IsEnd, IsShort, IsUnprinted, Meets, makes_of, rules_of, verdict_for, verdict_of}
 use Rattle.cmd_base.specs.Status.{IsCutShort, IsDoneStatus, IsRefusal, IsStatus}
 use Rattle.plate_room.specs.End.{IsMet, IsUnnoted, NoneFailed, Tells, TellsVerdict, TellsOfMemory, TellsPart}
-use Rattle.plate_room.specs.Ending.{Ending, IsFinished, IsStopped, Done, Refused, Untold, NotNoted, Wanted, NotPrinted}
+use Rattle.plate_room.specs.Ending.{Ending, IsFinished, IsNoted, IsStopped, Done, Refused, Untold, NotNoted, Wanted, NotPrinted}
 use Rattle.cmd_base.specs.Loads.{AllLoaded, names_load}
-use Rattle.cmd_base.specs.Seen.{Seen, SinkSeen, Files, IsSilent, IsUntouched, LoadFailed, PutFailed, RackFailed}
-use Rattle.cmd_base.proofs.Grow.{grew_nothing, second_front}
+use Rattle.cmd_base.specs.Seen.{Seen, SinkSeen, Files, FailsOnce, IsSilent, IsUntouched, LoadFailed, PutFailed, RackFailed}
+use Rattle.cmd_base.proofs.Grow.{grew_nothing}
 use Rattle.cmd_base.proofs.Owed.{Owes}
 use Rattle.plate_room.proofs.Owed.{drill_unmet, drill_zero, eight_looks, look_begins, look_leaves, look_not_one, owes}
 
@@ -70,7 +68,7 @@ pub record HasRefused {R : Type 0} (seen : Seen R) (note : SinkSeen) (status : �
   pub refusal : Refusal
   pub is : status ≡ status_of refusal
   pub stopped : IsStopped seen refusal
-  pub line : Grew note.given note.given' (line_of refusal)
+  pub line : IsNoted note (line_of refusal)
 
 module _ {R : Type 0} (g : Ghosts R) (seen : Seen R) where
   -- the verdict on a command that is done is a pass
@@ -152,6 +150,9 @@ module _ {R : Type 0} (g : Ghosts R) (seen : Seen R) (note : SinkSeen) (status :
   pub done_loads : Ending g seen note status → IsDoneStatus status → AllLoaded seen.shelf
   done_loads e h = (finished_at e h).0.loads
 
+  pub done_longs : Ending g seen note status → IsDoneStatus status → IsShort seen.words seen.shelf
+  done_longs e h = (finished_at e h).0.longs
+
   pub one_left : Ending g seen note status → status ≡ 1 → RackFailed g seen.racks seen.racks'
   one_left e h =
       let done = done_made e (inr (inl h)) in
@@ -167,7 +168,20 @@ module _ {R : Type 0} (g : Ghosts R) (seen : Seen R) (note : SinkSeen) (status :
 
   refused_tells : Ending g seen note status → IsRefusal status → Tells seen.words seen.shelf note status
   refused_tells e h =
-      let r = refused_at e h in record { refusal = r.refusal; is = sym r.is; met = r.stopped.met; line = r.line }
+      let r = refused_at e h in
+      record { refusal = r.refusal; is = sym r.is; met = r.stopped.met; line = r.line.grew; longs = r.stopped.longs }
+
+  -- the note's count of failures
+  pub refused_note : Ending g seen note status → IsRefusal status → note.faults' ≡ note.faults
+  refused_note e h = (refused_at e h).line.faults
+
+  pub memory_once : Ending g seen note status → status ≡ 6 → FailsOnce note
+  memory_once (Done f s) h = absurd (done_or_cut status (done_status g seen status f.made) (inl h))
+  memory_once (Refused r is stopped line) h = absurd (refused_or_cut status (refuses status r is) (inl h))
+  memory_once (Untold r is stopped two) h = two.once
+  memory_once (NotNoted r is stopped rose line) h = absurd (six_or_seven status h is)
+  memory_once (Wanted is broken front) h = front.once
+  memory_once (NotPrinted is spoilt same) h = absurd (six_or_seven status h is)
 
   -- the same at one of the four statuses
   pub tells_at : (own : ℕ) → IsRefusal own → Ending g seen note status → status ≡ own → Tells seen.words seen.shelf note own
@@ -208,14 +222,6 @@ module _ {R : Type 0} (g : Ghosts R) (seen : Seen R) (note : SinkSeen) (status :
   words_there (Wanted is broken line) none = inr (inl is)
   words_there (NotPrinted is spoilt same) none = inr (inr is)
 
-  pub words_shelf : Ending g seen note status → command_of seen.words ≡ None → IsUntouched seen.shelf
-  words_shelf (Done f s) none = absurd (none_asked seen.words f.made.command none f.made.asked)
-  words_shelf (Refused r is stopped line) none = (none_met r none stopped.met).1
-  words_shelf (Untold r is stopped line) none = (none_met r none stopped.met).1
-  words_shelf (NotNoted r is stopped rose line) none = (none_met r none stopped.met).1
-  words_shelf (Wanted is broken line) none = absurd (none_asked seen.words broken.asked.0 none broken.asked.1)
-  words_shelf (NotPrinted is spoilt same) none = absurd (none_asked seen.words spoilt.command none spoilt.asked)
-
   -- ---- the verdict
 
   verdict_met : (files : Files) (refusal : Refusal) → seen.shelf.held ≡ Some files → IsStopped seen refusal
@@ -230,7 +236,7 @@ module _ {R : Type 0} (g : Ghosts R) (seen : Seen R) (note : SinkSeen) (status :
 
     by : (verdict_of seen.words files ≡ Some r.refusal) ⊎ ((status_of r.refusal ≡ 5) × LoadFailed seen.shelf)
         → TellsVerdict seen.words files note status
-    by (inl verdict) = record { refusal = r.refusal; verdict = verdict; is = sym r.is; line = r.line }
+    by (inl verdict) = record { refusal = r.refusal; verdict = verdict; is = sym r.is; line = r.line.grew }
     by (inr (five, failed)) = absurd (other (r.is ∙ five))
 
   -- if no load failed, a refusal that was met is the verdict
@@ -264,7 +270,7 @@ module _ {R : Type 0} (g : Ghosts R) (seen : Seen R) (note : SinkSeen) (status :
 
   -- the refusal that stopped a command was met, and no load failed, unless it names the load
   met_at : (refusal : Refusal) → IsStopped seen refusal → IsMet seen.words seen.shelf refusal
-  met_at refusal stopped = record { met = stopped.met; loads = stopped.loads }
+  met_at refusal stopped = record { met = stopped.met; loads = stopped.loads; longs = stopped.longs }
 
   -- ---- printing
 
@@ -326,9 +332,9 @@ module _ {R : Type 0} (g : Ghosts R) (seen : Seen R) (note : SinkSeen) (status :
   pub memory_note : Ending g seen note status → status ≡ 6 → TellsOfMemory seen.words seen.shelf note
   memory_note (Done f s) h = absurd (done_or_cut status (done_status g seen status f.made) (inl h))
   memory_note (Refused r is stopped line) h = absurd (refused_or_cut status (refuses status r is) (inl h))
-  memory_note (Untold r is stopped two) h = (line_of r, inr (r, met_at r stopped, refl), two)
+  memory_note (Untold r is stopped two) h = (line_of r, inr (r, met_at r stopped, refl), two.grew)
   memory_note (NotNoted r is stopped rose line) h = absurd (six_or_seven status h is)
-  memory_note (Wanted is broken front) h = ([], inl (refl, broken.loads), second_front note.given note.given' [] memory_line front)
+  memory_note (Wanted is broken front) h = ([], inl (refl, broken.loads, broken.longs), front.grew)
   memory_note (NotPrinted is spoilt same) h = absurd (six_or_seven status h is)
 
   pub printing_note : Ending g seen note status → status ≡ 7 → TellsPart seen.words seen.shelf note
@@ -337,7 +343,7 @@ module _ {R : Type 0} (g : Ghosts R) (seen : Seen R) (note : SinkSeen) (status :
   printing_note (Untold r is stopped line) h = absurd (six_or_seven status is h)
   printing_note (NotNoted r is stopped rose front) h = (line_of r, inr (r, met_at r stopped, refl), front)
   printing_note (Wanted is broken line) h = absurd (six_or_seven status is h)
-  printing_note (NotPrinted is spoilt same) h = ([], inl (refl, spoilt.loads), (0, grew_nothing note.given note.given' same))
+  printing_note (NotPrinted is spoilt same) h = ([], inl (refl, spoilt.loads, spoilt.longs), (0, grew_nothing note.given note.given' same))
 
   -- ---- a drill
 

@@ -5,8 +5,8 @@ use Rattle.pr_rack.specs.declared.rack.Rack.{Ghosts}
 use Rattle.cmd_base.specs.Line.{memory_line}
 use Rattle.cmd_base.specs.declared.refusal.Refusal.{Refusal}
 use Rattle.cmd_base.specs.Refusal.{status_of, line_of}
-use Rattle.plate_room.specs.Tasks.{IsEnd, Meets, verdict_of}
-use Rattle.cmd_base.specs.Loads.{AllLoaded, names_load}
+use Rattle.plate_room.specs.Tasks.{IsEnd, IsShort, Meets, verdict_of}
+use Rattle.cmd_base.specs.Loads.{AllLoaded, NoneLong, UnlessLong, names_load}
 use Rattle.cmd_base.specs.Seen.{Files, IsSilent, LoadFailed, PutFailed, RackFailed, ShelfSeen, SinkSeen}
 use Rattle.cmd_base.specs.Note.{GrewByTwo}
 use Rattle.cmd_base.specs.Status.{IsCutShort}
@@ -17,6 +17,8 @@ pub record Tells (words : List (List ℕ)) (shelf : ShelfSeen) (note : SinkSeen)
   pub is : status_of refusal ≡ status
   pub met : Meets words shelf refusal
   pub line : Grew note.given note.given' (line_of refusal)
+  -- no file was counted as too long, unless the refusal reports it
+  pub longs : UnlessLong refusal (NoneLong shelf)
 
 -- the verdict is a refusal with this status, and the note received its complete line
 pub record TellsVerdict (words : List (List ℕ)) (files : Files) (note : SinkSeen) (status : ℕ) : Type 0 where
@@ -25,16 +27,18 @@ pub record TellsVerdict (words : List (List ℕ)) (files : Files) (note : SinkSe
   pub is : status_of refusal ≡ status
   pub line : Grew note.given note.given' (line_of refusal)
 
--- the arguments met this refusal, and no load failed, unless the refusal names it
+-- the arguments met this refusal, and no load failed, unless the refusal names it, nor was a file counted as
+-- too long, unless the refusal reports it
 pub record IsMet (words : List (List ℕ)) (shelf : ShelfSeen) (refusal : Refusal) : Type 0 where
   pub met : Meets words shelf refusal
   pub loads : names_load refusal ≡ false → AllLoaded shelf
+  pub longs : UnlessLong refusal (NoneLong shelf)
 
 -- the line that a command which was cut short may have begun to write: that of the refusal it met, or none,
--- where no load failed
+-- where no load failed, and no file was counted as too long but a plate that a verification found
 abbrev pub MayTell : List (List ℕ) → ShelfSeen → List ℕ → Type 0
 MayTell words shelf line =
-    ((line ≡ []) × AllLoaded shelf)
+    ((line ≡ []) × AllLoaded shelf × IsShort words shelf)
     ⊎ ((refusal : Refusal) × IsMet words shelf refusal × (line ≡ line_of refusal))
 
 -- the arguments met a refusal, and the note failed at its line. The command produced nothing

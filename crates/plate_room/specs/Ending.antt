@@ -1,5 +1,5 @@
 -- How a run of `plate_main` ends. This is the contract of a private function.
-use Rattle.std.specs.Prelude.{◌≡◌, ℕ, List, Some, Result, Ok, Err, false}
+use Rattle.std.specs.Prelude.{◌≡◌, ℕ, List, [], Some, Result, Ok, Err, false}
 use Rattle.pr_ports.specs.Sink.{Grew, GrewByPrefix}
 use Rattle.pr_rack.specs.declared.rack.Rack.{Ghosts}
 use Rattle.cmd_base.specs.declared.refusal.Refusal.{Refusal}
@@ -8,10 +8,10 @@ use Rattle.cmd_base.specs.declared.refusal.Stop.TheVariants as stop
 use Rattle.plate_room.specs.Command.{Command, command_of}
 use Rattle.cmd_base.specs.Line.{memory_line}
 use Rattle.cmd_base.specs.Refusal.{status_of, line_of}
-use Rattle.plate_room.specs.Tasks.{IsCut, IsDone, IsUnprinted, Meets}
+use Rattle.plate_room.specs.Tasks.{IsCut, IsDone, IsShort, IsUnprinted, Meets}
 use Rattle.cmd_base.specs.Note.{GrewByTwo}
-use Rattle.cmd_base.specs.Loads.{AllLoaded, names_load}
-use Rattle.cmd_base.specs.Seen.{Seen, ShelfSeen, SinkSeen, IsSilent, PutFailed}
+use Rattle.cmd_base.specs.Loads.{AllLoaded, NoneLong, UnlessLong, names_load}
+use Rattle.cmd_base.specs.Seen.{Seen, ShelfSeen, SinkSeen, FailsOnce, IsSilent, PutFailed}
 
 -- the arguments are a command
 abbrev pub IsAsked : List (List ℕ) → Type 0
@@ -33,18 +33,32 @@ pub record IsStopped {R : Type 0} (seen : Seen R) (refusal : Refusal) : Type 0 w
   pub racks : seen.racks' ≡ seen.racks
   pub silent : IsSilent seen.out
   pub loads : names_load refusal ≡ false → AllLoaded seen.shelf
+  pub longs : UnlessLong refusal (NoneLong seen.shelf)
+
+-- the note took the whole line of a refusal, and no write failed
+pub record IsNoted (note : SinkSeen) (line : List ℕ) : Type 0 where
+  pub grew : Grew note.given note.given' line
+  pub faults : note.faults' ≡ note.faults
+
+-- the note took a prefix of the line of a refusal, and then one of the line on memory; at most one write
+-- failed
+pub record IsNotedInPart (note : SinkSeen) (line : List ℕ) : Type 0 where
+  pub grew : GrewByTwo note.given note.given' line memory_line
+  pub once : FailsOnce note
 
 module _ {R : Type 0} (g : Ghosts R) where
   -- the command is done, and no load failed
   pub record IsFinished (seen : Seen R) (status : ℕ) : Type 0 where
     pub made : IsDone g seen.words seen.shelf seen.racks seen.racks' seen.out status
     pub loads : AllLoaded seen.shelf
+    pub longs : IsShort seen.words seen.shelf
 
   -- the command was cut short, and no load failed
   pub record IsBroken (seen : Seen R) : Type 0 where
     pub asked : IsAsked seen.words
     pub cut : IsCut g seen.words seen.shelf seen.racks seen.racks' seen.out
     pub loads : AllLoaded seen.shelf
+    pub longs : IsShort seen.words seen.shelf
 
   -- the command produced everything but its complete text
   abbrev pub IsSpoilt : Seen R → Type 0
@@ -60,15 +74,14 @@ module _ {R : Type 0} (g : Ghosts R) where
   pub data Ending (seen : Seen R) (note : SinkSeen) (status : ℕ) : Type 0 where
     Done : IsFinished seen status → IsSilent note → Ending seen note status
     Refused : (refusal : Refusal) → status ≡ status_of refusal → IsStopped seen refusal
-        → Grew note.given note.given' (line_of refusal) → Ending seen note status
+        → IsNoted note (line_of refusal) → Ending seen note status
     -- memory ran out while the refusal was reported
     Untold : (refusal : Refusal) → status ≡ 6 → IsStopped seen refusal
-        → GrewByTwo note.given note.given' (line_of refusal) memory_line → Ending seen note status
+        → IsNotedInPart note (line_of refusal) → Ending seen note status
     -- the note failed
     NotNoted : (refusal : Refusal) → status ≡ 7 → IsStopped seen refusal → PutFailed note
         → GrewByPrefix note.given note.given' (line_of refusal) → Ending seen note status
     -- memory ran out in the command
-    Wanted : status ≡ 6 → IsBroken seen → GrewByPrefix note.given note.given' memory_line
-        → Ending seen note status
+    Wanted : status ≡ 6 → IsBroken seen → IsNotedInPart note [] → Ending seen note status
     -- the output failed
     NotPrinted : status ≡ 7 → IsSpoilt seen → note.given' ≡ note.given → Ending seen note status

@@ -1,16 +1,17 @@
 -- All commands: the rules of each, what it produces, and what a call therefore satisfies.
-use Rattle.std.specs.Prelude.{◌≡◌, ℕ, ◌⊎◌, List, Option, Some, None}
+use Rattle.std.specs.Prelude.{◌≡◌, ℕ, ◌⊎◌, List, Option, Some, None, Result}
 use Rattle.pr_rack.specs.declared.rack.Rack.{Ghosts}
 use Rattle.cmd_base.specs.declared.refusal.Refusal.{Refusal}
 use Rattle.cmd_base.specs.declared.refusal.Refusal.TheVariants as refused
 use Rattle.plate_room.specs.Command.{Command, Drill, Keys, One, Replate, Run, Verify, command_of}
 use Rattle.cmd_replate.specs.Change.{change_makes, change_rules}
-use Rattle.cmd_verify.specs.Check.{PrintsFound, check_rules}
+use Rattle.cmd_verify.specs.Check.{Asked, CheckLengths, FindsLong, PrintsFound, check_rules}
 use Rattle.cmd_run.specs.Drill.{PrintsDrill, drill_rules}
 use Rattle.cmd_run.specs.Edition.{run_makes, run_rules}
 use Rattle.cmd_run.specs.Keys.{keys_makes}
 use Rattle.cmd_one.specs.OneFile.{PrintsPlate, one_rules}
-use Rattle.cmd_base.specs.Loads.{AllLoaded}
+use Rattle.cmd_base.specs.declared.refusal.Stop.{Stop}
+use Rattle.cmd_base.specs.Loads.{AllLoaded, Lengths, NoneLong}
 use Rattle.cmd_base.specs.Seen.{Files, IsUntouched, PutFailed, ShelfSeen, SinkSeen}
 use Rattle.cmd_base.specs.Task.{IsNothing, IsPart, Makes, PrintsFront, PrintsWhole, Rules, telling}
 
@@ -29,6 +30,21 @@ abbrev pub Meets : List (List ℕ) → ShelfSeen → Refusal → Type 0
 Meets words shelf refusal =
     ((command_of words ≡ None) × (refusal ≡ refused.Words) × IsUntouched shelf)
     ⊎ ((command : Command) × (command_of words ≡ Some command) × (rules_of command).Meets shelf refusal)
+
+-- no file was counted as too long, unless it is what this result of a command reports
+abbrev pub LengthsOf : Command → ShelfSeen → Result ℕ Stop → Type 0
+LengthsOf (One file) shelf result = Lengths shelf result
+LengthsOf (Run edition) shelf result = Lengths shelf result
+LengthsOf (Keys edition keys) shelf result = Lengths shelf result
+LengthsOf (Drill number ring patience) shelf result = Lengths shelf result
+LengthsOf (Verify asked) shelf result = CheckLengths asked shelf result
+LengthsOf (Replate change) shelf result = Lengths shelf result
+
+-- no file was counted as too long, or the arguments verify plates, of which one is too long
+abbrev pub IsShort : List (List ℕ) → ShelfSeen → Type 0
+IsShort words shelf =
+    NoneLong shelf
+    ⊎ ((asked : Asked) × (command_of words ≡ Some (Verify asked)) × FindsLong asked shelf)
 
 -- the verdict on a command: its refusal, or none
 abbrev pub verdict_for : Option Command → Files → Option Refusal
@@ -63,7 +79,7 @@ module _ {R : Type 0} (g : Ghosts R) where
     pub made : PrintsWhole (makes_of command) shelf racks racks' out status
 
   -- the arguments are a command that produced everything but its complete text: the output failed after a
-  -- prefix of it. No load failed
+  -- prefix of it. No load failed, and no file was counted as too long but a plate that a verification found
   pub record IsUnprinted (words : List (List ℕ)) (shelf : ShelfSeen) (racks racks' : List R) (out : SinkSeen)
       : Type 0 where
     pub command : Command
@@ -71,6 +87,7 @@ module _ {R : Type 0} (g : Ghosts R) where
     pub made : PrintsFront (makes_of command) shelf racks racks' out
     pub rose : PutFailed out
     pub loads : AllLoaded shelf
+    pub longs : IsShort words shelf
 
   -- the arguments are a command that was cut short
   pub record IsBegun (words : List (List ℕ)) (shelf : ShelfSeen) (racks racks' : List R) (out : SinkSeen)

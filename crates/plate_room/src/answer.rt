@@ -2,7 +2,8 @@
 ghost use Rattle.plate_room.specs.Command.{AsksDrill, command_of as meant, words_of};
 ghost use Rattle.plate_room.specs.Ending.{Answered, seen_of};
 ghost use Rattle.cmd_base.specs.Seen.{AreIdle, shelf_seen, sink_seen};
-ghost use Rattle.std.specs.Prelude.{◌≡◌, ◌≤◌, length};
+ghost use Rattle.cmd_base.specs.Writes.{Writes};
+ghost use Rattle.std.specs.Prelude.{◌≡◌, ◌≤◌, None, length};
 
 use crate::command::{Command, command_of};
 use cmd_base::{Refusal, Stop};
@@ -31,6 +32,8 @@ pub(crate) fn answer<T: Threads + Clock + Sync, H: Shelf, R: Rack + Send, S: Sin
         (seen_of (words_of words.now) (shelf_seen H.Shelf shelf.old shelf.new)
         racks.old racks.new (sink_seen S.Sink out.old out.new)) result }
     ensures held { H.held shelf.new ≡ H.held shelf.old }
+    ensures writes { Writes (sink_seen S.Sink out.old out.new) result }
+    ensures words_shelf { meant (words_of words.now) ≡ None → shelf.new ≡ shelf.old }
     ensures drill_shelf { AsksDrill (meant (words_of words.now)) → shelf.new ≡ shelf.old }
     ensures drill_racks { AsksDrill (meant (words_of words.now)) → racks.new ≡ racks.old }
 {

@@ -6,9 +6,9 @@ ghost use Rattle.plate_room.specs.End.{FailsByOut, IsComplete, IsToldThere, IsUn
 ghost use Rattle.plate_room.specs.End.{TellsOfMemory, TellsPart, TellsVerdict};
 ghost use Rattle.plate_room.specs.Ending.{Ending, seen_of};
 ghost use Rattle.cmd_base.specs.Loads.{AllLoaded};
-ghost use Rattle.cmd_base.specs.Seen.{AreIdle, Files, IsUntouched, RackFailed, shelf_seen};
+ghost use Rattle.cmd_base.specs.Seen.{AreIdle, FailsOnce, Files, RackFailed, shelf_seen};
 ghost use Rattle.cmd_base.specs.Seen.{sink_seen};
-ghost use Rattle.plate_room.specs.Tasks.{IsCut, IsDone, IsUnprinted, verdict_of};
+ghost use Rattle.plate_room.specs.Tasks.{IsCut, IsDone, IsShort, IsUnprinted, verdict_of};
 
 use crate::answer::answer;
 use cmd_base::tell;
@@ -102,15 +102,19 @@ pub fn plate_main<T: Threads + Clock + Sync, H: Shelf, R: Rack + Send, S: Sink, 
         (shelf_seen H.Shelf shelf.old shelf.new) (sink_seen E.Sink note.old note.new) }
 
     // Counters: arguments that aren't a command load nothing. No load failed in a command that is done, nor
-    // in one that is refused with a status other than 5. A command that is done doesn't change the failure
-    // count of `note`, nor a refused one that of `out`.
-    ensures words_shelf { command_of (words_of words.now) ≡ None
-        → IsUntouched (shelf_seen H.Shelf shelf.old shelf.new) }
+    // in one that is refused with a status other than 5. A command that is done counted no file as too long,
+    // except a plate that a verification found. A command that is done or refused doesn't change the failure
+    // count of `note`, and at status 6 at most one write to it failed. That of `out` changes only at 7.
+    ensures words_shelf { command_of (words_of words.now) ≡ None → shelf.new ≡ shelf.old }
     ensures done_loads { IsDoneStatus result → AllLoaded (shelf_seen H.Shelf shelf.old shelf.new) }
     ensures refused_loads { IsRefusal result → result ≢ 5 →
         AllLoaded (shelf_seen H.Shelf shelf.old shelf.new) }
+    ensures done_longs { IsDoneStatus result → IsShort (words_of words.now)
+        (shelf_seen H.Shelf shelf.old shelf.new) }
     ensures done_note_faults { IsDoneStatus result → E.faults note.new ≡ E.faults note.old }
-    ensures refused_out_faults { IsRefusal result → S.faults out.new ≡ S.faults out.old }
+    ensures refused_note_faults { IsRefusal result → E.faults note.new ≡ E.faults note.old }
+    ensures memory_note_faults { result ≡ 6 → FailsOnce (sink_seen E.Sink note.old note.new) }
+    ensures out_faults { result ≢ 7 → S.faults out.new ≡ S.faults out.old }
 
     // A drill is done, or cut short by an allocation failure or a failed sink. It doesn't change the shelf or
     // the racks.
@@ -148,6 +152,8 @@ fn run<T: Threads + Clock + Sync, H: Shelf, R: Rack + Send, S: Sink, E: Sink>(
         racks.old racks.new (sink_seen S.Sink out.old out.new))
         (sink_seen E.Sink note.old note.new) result }
     ensures held { H.held shelf.new ≡ H.held shelf.old }
+    ensures writes { result ≢ 7 → S.faults out.new ≡ S.faults out.old }
+    ensures words_shelf { command_of (words_of words.now) ≡ None → shelf.new ≡ shelf.old }
     ensures drill_shelf { AsksDrill (command_of (words_of words.now)) → shelf.new ≡ shelf.old }
     ensures drill_racks { AsksDrill (command_of (words_of words.now)) → racks.new ≡ racks.old }
 {

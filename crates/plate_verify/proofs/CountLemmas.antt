@@ -82,12 +82,14 @@ after_all plan rows out old new (Ok None) right = record {
   first = if_held old.held (λ files. filter_map (wrong_at plan rows out files) (plates_in_order plan) ≡ []) (λ files. first_wrong plan rows out files ≡ AllRight (length (plates_in_order plan))) right.right
       (λ files none. first_none plan rows out files none);
   long = tt;
+  short = right.longs;
 }
 after_all plan rows out old new (Ok (Some found)) wrong = record {
   quiet = wrong.quiet;
   first = if_held old.held (λ files. slice_get (filter_map (wrong_at plan rows out files) (plates_in_order plan)) 0 ≡ Some (told found)) (λ files. first_wrong plan rows out files ≡ told found) wrong.first
       (λ files first. ap (λ (o : Option Found). unwrap_or o (AllRight (length (plates_in_order plan)))) first);
   long = wrong.long;
+  short = wrong.short;
 }
 after_all plan rows out old new (Err (Shelf path)) fails = fails
 after_all plan rows out old new (Err Memory) quiet = quiet

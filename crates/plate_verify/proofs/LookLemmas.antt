@@ -18,7 +18,7 @@ use Rattle.plate_verify.specs.declared.checked.VerifyFault.TheVariants.{Shelf, M
 use Rattle.plate_verify.specs.Difference.{difference_of}
 use Rattle.plate_verify.specs.Order.{SitePlate}
 use Rattle.plate_verify.specs.Wrong.{Found, OtherAt, TooMany, wrong_with, wrong_at}
-use Rattle.plate_verify.specs.Looking.{told, IfLong, ShelfTold, Stays, IsQuiet, NoneWrong, path_at, AreRight, FindsWrong, FailsAt, Looked, IsMade}
+use Rattle.plate_verify.specs.Looking.{told, IfLong, UnlessLong, ShelfTold, Stays, IsQuiet, NoneWrong, path_at, AreRight, FindsWrong, FailsAt, Looked, IsMade}
 
 -- ---- one load
 
@@ -64,12 +64,18 @@ not_long path (Differs p at row) f d P e = tt
 not_long path (Long p) f None P e = cc
 not_long path (Long p) f (Some k) P e = cc
 
+-- the same, where a file that is too long would have no condition
+unless_long : (found : Checked) (P : Type 0) → P → UnlessLong found P
+unless_long (Same n) P h = h
+unless_long (Differs p at row) P h = h
+unless_long (Long p) P h = tt
+
 -- the bytes were loaded and compared
 pub looked_loaded : (plan : PlanData) (rows : List (List ℕ)) (out : List ℕ) (at : SitePlate) (old new : ShelfTold) (path : List ℕ) (made : PlateState) (bytes : List ℕ) (found : Option Checked)
-    → path ≡ path_at plan out at → IsHeldAt old.held path bytes → length bytes ≤ 600000000 → IsQuiet old new → IsMade plan rows at.1 made
+    → path ≡ path_at plan out at → IsHeldAt old.held path bytes → length bytes ≤ 600000000 → IsQuiet old new → new.longs ≡ old.longs → IsMade plan rows at.1 made
     → option_map told found ≡ option_map (λ k. OtherAt path k (row_holding (plate_rows plan rows at.1) k)) (difference_of made.bytes bytes)
     → Looked plan rows out (at ∷ []) old new (Ok found)
-looked_loaded plan rows out at old new path made bytes found named held short still is found_is = by_found found found_is
+looked_loaded plan rows out at old new path made bytes found named held short still longs is found_is = by_found found found_is
   where
     wrong : (files : List (List ℕ × List ℕ)) → held_at files path ≡ Some bytes → wrong_at plan rows out files at ≡ option_map (λ k. OtherAt path k (row_holding (plate_rows plan rows at.1) k)) (difference_of made.bytes bytes)
     wrong files there =
@@ -80,6 +86,7 @@ looked_loaded plan rows out at old new path made bytes found named held short st
         → Looked plan rows out (at ∷ []) old new (Ok found)
     by_found None e = record {
       quiet = still;
+      longs = longs;
       right = if_held old.held (λ files. held_at files path ≡ Some bytes) (λ files. filter_map (wrong_at plan rows out files) (at ∷ []) ≡ []) held
           (λ files there. ap (λ (o : Option Found). cons_option o []) (wrong files there ∙ sym e));
     }
@@ -88,6 +95,7 @@ looked_loaded plan rows out at old new path made bytes found named held short st
       first = if_held old.held (λ files. held_at files path ≡ Some bytes) (λ files. slice_get (filter_map (wrong_at plan rows out files) (at ∷ [])) 0 ≡ Some (told x)) held
           (λ files there. ap (λ (o : Option Found). slice_get (cons_option o []) 0) (wrong files there ∙ sym e));
       long = not_long path x (λ k. row_holding (plate_rows plan rows at.1) k) (difference_of made.bytes bytes) (Rose old.longs new.longs) e;
+      short = unless_long x (new.longs ≡ old.longs) longs;
     }
 
 -- there were too many bytes
@@ -99,6 +107,7 @@ looked_long plan rows out at old new path named longer rose still = record {
   first = if_held old.held (λ files. IsSomeAnd (held_at files path) (λ bytes. 600000000 < length bytes)) (λ files. slice_get (filter_map (wrong_at plan rows out files) (at ∷ [])) 0 ≡ Some (TooMany path)) longer
       (λ files there. ap (λ (o : Option Found). slice_get (cons_option o []) 0) (wrong files (held_at files path) refl there));
   long = rose;
+  short = tt;
 }
   where
     wrong : (files : List (List ℕ × List ℕ)) (o : Option (List ℕ)) → held_at files path ≡ o → IsSomeAnd o (λ bytes. 600000000 < length bytes)
@@ -112,9 +121,10 @@ looked_long plan rows out at old new path named longer rose still = record {
 
 -- the load failed
 pub looked_failed : (plan : PlanData) (rows : List (List ℕ)) (out : List ℕ) (at : SitePlate) (old new : ShelfTold) (path : List ℕ)
-    → path ≡ path_at plan out at → Rose old.faults new.faults → new.missed ≡ missed_after true path old.missed → Stays old new → FailsAt plan rows out (at ∷ []) old new path
-looked_failed plan rows out at old new path named rose missed stays = record {
+    → path ≡ path_at plan out at → Rose old.faults new.faults → new.missed ≡ missed_after true path old.missed → Stays old new → new.longs ≡ old.longs → FailsAt plan rows out (at ∷ []) old new path
+looked_failed plan rows out at old new path named rose missed stays longs = record {
   stays = stays;
+  longs = longs;
   counted = rose;
   missed = missed-told path old.missed new.missed missed;
   before = [];
@@ -160,6 +170,7 @@ pub then_looked : (plan : PlanData) (rows : List (List ℕ)) (out : List ℕ) (x
     → AreRight plan rows out xs a b → Looked plan rows out ys b c r → Looked plan rows out (xs ++ ys) a c r
 then_looked plan rows out xs ys a b c (Ok None) p q = record {
   quiet = quiet-then a b c p.quiet q.quiet;
+  longs = q.longs ∙ p.longs;
   right = none-then plan rows out a.held xs ys p.right (subst {A = Option (List (List ℕ × List ℕ))} (λ h. NoneWrong plan rows out h ys) p.quiet.stays.held q.right);
 }
 then_looked plan rows out xs ys a b c (Ok (Some found)) p q = record {
@@ -169,14 +180,21 @@ then_looked plan rows out xs ys a b c (Ok (Some found)) p q = record {
       (subst {A = Option (List (List ℕ × List ℕ))} (λ h. IfSome h (λ files. slice_get (filter_map (wrong_at plan rows out files) ys) 0 ≡ Some (told found))) p.quiet.stays.held q.first)
       (λ files none first. ap (λ l. slice_get l 0) (filter_map-append (wrong_at plan rows out files) xs ys ∙ ap (λ l. l ++ filter_map (wrong_at plan rows out files) ys) none) ∙ first);
   long = long_later found q.long;
+  short = short_later found q.short;
 }
   where
+    short_later : (found : Checked) → UnlessLong found (c.longs ≡ b.longs) → UnlessLong found (c.longs ≡ a.longs)
+    short_later (Same n) h = h ∙ p.longs
+    short_later (Differs path at row) h = h ∙ p.longs
+    short_later (Long path) h = tt
+
     long_later : (found : Checked) → IfLong found (Rose b.longs c.longs) → IfLong found (Rose a.longs c.longs)
     long_later (Same n) h = tt
     long_later (Differs path at row) h = tt
     long_later (Long path) h = rose-later a.longs b.longs c.longs p.quiet.stays.longs h
 then_looked plan rows out xs ys a b c (Err (Shelf path)) p q = record {
   stays = stays-then a b c p.quiet.stays q.stays;
+  longs = q.longs ∙ p.longs;
   counted = rose-later a.faults b.faults c.faults p.quiet.stays.faults q.counted;
   missed = q.missed;
   before = xs ++ q.before;
@@ -186,7 +204,7 @@ then_looked plan rows out xs ys a b c (Err (Shelf path)) p q = record {
   named = q.named;
   right = none-then plan rows out a.held xs q.before p.right (subst {A = Option (List (List ℕ × List ℕ))} (λ h. NoneWrong plan rows out h q.before) p.quiet.stays.held q.right);
 }
-then_looked plan rows out xs ys a b c (Err Memory) p q = quiet-then a b c p.quiet q
+then_looked plan rows out xs ys a b c (Err Memory) p (q, longs) = (quiet-then a b c p.quiet q, longs ∙ p.longs)
 
 -- a result at which verifying stops
 abbrev pub IsStopped : Result (Option Checked) VerifyFault → Type 0
@@ -203,6 +221,7 @@ looked_before plan rows out xs ys a b (Ok (Some found)) p s = record {
   first = if_held a.held (λ files. slice_get (filter_map (wrong_at plan rows out files) xs) 0 ≡ Some (told found)) (λ files. slice_get (filter_map (wrong_at plan rows out files) (xs ++ ys)) 0 ≡ Some (told found)) p.first
       (λ files first. ap (λ l. slice_get l 0) (filter_map-append (wrong_at plan rows out files) xs ys) ∙ front (filter_map (wrong_at plan rows out files) xs) (filter_map (wrong_at plan rows out files) ys) (told found) first);
   long = p.long;
+  short = p.short;
 }
   where
     front : (xs ys : List Found) (x : Found) → slice_get xs 0 ≡ Some x → slice_get (xs ++ ys) 0 ≡ Some x
@@ -210,6 +229,7 @@ looked_before plan rows out xs ys a b (Ok (Some found)) p s = record {
     front (y ∷ xs) ys x e = e
 looked_before plan rows out xs ys a b (Err (Shelf path)) p s = record {
   stays = p.stays;
+  longs = p.longs;
   counted = p.counted;
   missed = p.missed;
   before = p.before;
@@ -224,7 +244,7 @@ looked_before plan rows out xs ys a b (Err Memory) p s = p
 -- ---- a loop over parts that have plates
 
 pub none_looked : (plan : PlanData) (rows : List (List ℕ)) (out : List ℕ) (told' : ShelfTold) → AreRight plan rows out [] told' told'
-none_looked plan rows out s = record { quiet = record { stays = record { held = refl; faults = omega arith; longs = omega arith }; missed = refl; faults = refl }; right = nothing s.held }
+none_looked plan rows out s = record { quiet = record { stays = record { held = refl; faults = omega arith; longs = omega arith }; missed = refl; faults = refl }; longs = refl; right = nothing s.held }
   where
     nothing : (held : Option (List (List ℕ × List ℕ))) → NoneWrong plan rows out held []
     nothing None = tt

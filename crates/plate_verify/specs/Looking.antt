@@ -30,6 +30,12 @@ IfLong (Same plates) P = Unit {0}
 IfLong (Differs path at row) P = Unit {0}
 IfLong (Long path) P = P
 
+-- P unless a plate is reported as too long
+abbrev pub UnlessLong : Checked → Type 0 → Type 0
+UnlessLong (Same plates) P = P
+UnlessLong (Differs path at row) P = P
+UnlessLong (Long path) P = Unit {0}
+
 -- what contracts see of a shelf
 pub record ShelfTold : Type 0 where
   pub held : Option (List (List ℕ × List ℕ))
@@ -62,10 +68,11 @@ NoneWrong plan rows out held plates = IfSome held (λ files. filter_map
 abbrev pub path_at : PlanData → List ℕ → SitePlate → List ℕ
 path_at plan out (site, plate) = path_of plan out site plate.0 plate.1
 
--- all match
+-- all match, and no file was counted as too long
 pub record AreRight (plan : PlanData) (rows : List (List ℕ)) (out : List ℕ) (plates : List SitePlate)
     (old new : ShelfTold) : Type 0 where
   pub quiet : IsQuiet old new
+  pub longs : new.longs ≡ old.longs
   pub right : NoneWrong plan rows out old.held plates
 
 -- the first plate that does not match is reported
@@ -75,11 +82,13 @@ pub record FindsWrong (plan : PlanData) (rows : List (List ℕ)) (out : List ℕ
   pub first : IfSome old.held (λ files. slice_get (filter_map
       (wrong_at plan rows out files) plates) 0 ≡ Some (told found))
   pub long : IfLong found (Rose old.longs new.longs)
+  pub short : UnlessLong found (new.longs ≡ old.longs)
 
 -- the load of one plate failed, and those before it match
 pub record FailsAt (plan : PlanData) (rows : List (List ℕ)) (out : List ℕ) (plates : List SitePlate)
     (old new : ShelfTold) (path : List ℕ) : Type 0 where
   pub stays : Stays old new
+  pub longs : new.longs ≡ old.longs
   pub counted : Rose old.faults new.faults
   pub missed : IfSome new.missed (λ last. last ≡ Some path)
   pub before : List SitePlate
@@ -95,7 +104,7 @@ abbrev pub Looked : PlanData → List (List ℕ) → List ℕ → List SitePlate
 Looked plan rows out plates old new (Ok None) = AreRight plan rows out plates old new
 Looked plan rows out plates old new (Ok (Some found)) = FindsWrong plan rows out plates old new found
 Looked plan rows out plates old new (Err (Shelf path)) = FailsAt plan rows out plates old new path
-Looked plan rows out plates old new (Err Memory) = IsQuiet old new
+Looked plan rows out plates old new (Err Memory) = IsQuiet old new × (new.longs ≡ old.longs)
 
 -- a plate was made from its rows
 abbrev pub IsMade : PlanData → List (List ℕ) → PlateOf → PlateState → Type 0
@@ -122,9 +131,10 @@ pub record Verified (plan : PlanData) (rows : List (List ℕ)) (out : List ℕ) 
   pub quiet : IsQuiet old new
   pub first : IfSome old.held (λ files. first_wrong plan rows out files ≡ told checked)
   pub long : IfLong checked (Rose old.longs new.longs)
+  pub short : UnlessLong checked (new.longs ≡ old.longs)
 
 abbrev pub AfterAll : PlanData → List (List ℕ) → List ℕ → ShelfTold → ShelfTold
     → Result Checked VerifyFault → Type 0
 AfterAll plan rows out old new (Ok checked) = Verified plan rows out old new checked
 AfterAll plan rows out old new (Err (Shelf path)) = FailsAt plan rows out (plates_in_order plan) old new path
-AfterAll plan rows out old new (Err Memory) = IsQuiet old new
+AfterAll plan rows out old new (Err Memory) = IsQuiet old new × (new.longs ≡ old.longs)

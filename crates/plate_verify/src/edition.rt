@@ -9,7 +9,8 @@ ghost use Rattle.plan_json.specs.Data.{plate_height, plate_width};
 ghost use Rattle.plan_json.specs.Plan.{IsPlan};
 ghost use Rattle.plan_rows.specs.Groups.{groups_of};
 ghost use Rattle.plan_rows.specs.Rows.{row_total, rows_of};
-ghost use Rattle.plate_verify.specs.Looking.{AfterAll, FailsAt, IfLong, Looked, shelf_told, told};
+ghost use Rattle.plate_verify.specs.Looking.{AfterAll, FailsAt, IfLong, Looked, UnlessLong};
+ghost use Rattle.plate_verify.specs.Looking.{shelf_told, told};
 ghost use Rattle.plate_verify.specs.Making.{HaveSides, Sides};
 ghost use Rattle.plate_verify.specs.Order.{plates_in_order};
 ghost use Rattle.plate_verify.specs.Verify.{CanBeLooked, FedFrom, IfShelf, answer_of};
@@ -181,6 +182,7 @@ pub fn verify<F: RowFeed, H: Shelf>(
     ensures found { IfOk result (λ checked. IfSome (H.held shelf.old) (λ held.
         first_wrong plan.now (map framed_row (F.left feed.old)) out.now held ≡ told checked)) }
     ensures long { IfOk result (λ checked. IfLong checked (Rose (H.longs shelf.old) (H.longs shelf.new))) }
+    ensures short { IfOk result (λ checked. UnlessLong checked (H.longs shelf.new ≡ H.longs shelf.old)) }
     // The failed load was counted, for the path of a plate before which all plates match.
     ensures failed { IfShelf result (FailsAt plan.now (map framed_row (F.left feed.old)) out.now
         (plates_in_order plan.now) (shelf_told H.Shelf shelf.old) (shelf_told H.Shelf shelf.new)) }
@@ -188,6 +190,7 @@ pub fn verify<F: RowFeed, H: Shelf>(
     ensures memory_missed { IsErrOf result VerifyFault.Memory → H.missed shelf.new ≡ H.missed shelf.old }
     ensures ok_faults { OnOk result (H.faults shelf.new ≡ H.faults shelf.old) }
     ensures memory_faults { IsErrOf result VerifyFault.Memory → H.faults shelf.new ≡ H.faults shelf.old }
+    ensures memory_longs { IsErrOf result VerifyFault.Memory → H.longs shelf.new ≡ H.longs shelf.old }
     ensures held { H.held shelf.new ≡ H.held shelf.old }
     ensures faults_stay { H.faults shelf.old ≤ H.faults shelf.new }
     ensures longs_stay { H.longs shelf.old ≤ H.longs shelf.new }

@@ -28,6 +28,13 @@ has_failed (Err Failed) = true
 has_failed (Err (TooLong limit)) = false
 has_failed (Err Memory) = false
 
+-- whether the call returned TooLong
+abbrev pub is_too_long : {T : Type 0} → Result T LoadFault → Bool
+is_too_long (Ok value) = false
+is_too_long (Err Failed) = false
+is_too_long (Err (TooLong limit)) = true
+is_too_long (Err Memory) = false
+
 -- P holds of the limit in a TooLong error; no condition on any other result
 abbrev pub IfTooLong : {T : Type 0} → Result T LoadFault → (ℕ → Type 0) → Type 0
 IfTooLong (Ok value) P = Unit {0}

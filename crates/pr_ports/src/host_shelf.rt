@@ -4,7 +4,7 @@ ghost use Rattle.std.specs.Prelude.{drop, false, if◌then◌else◌, is_some, l
 ghost use Rattle.std.specs.Io.KnownBytes.{Keeps};
 ghost use Rattle.pr_base.specs.Count.{Rose, count_unless};
 ghost use Rattle.pr_base.specs.Stream.{ReadsSome};
-ghost use Rattle.pr_ports.specs.Shelf.{has_failed, GaveAtMost, HasCome, IfTooLong};
+ghost use Rattle.pr_ports.specs.Shelf.{has_failed, is_too_long, GaveAtMost, HasCome, IfTooLong};
 ghost use Rattle.pr_ports.specs.Mem.{Counts, counts_after};
 
 use crate::host_file::FileLoader;
@@ -172,6 +172,7 @@ impl<R: FileLoader> Shelf for HostShelf<R> {
         ensures within { IfOk result (λ bytes. length bytes.items ≤ limit) }
         ensures too_long { IfTooLong result (λ told. told ≡ limit) }
         ensures long_counted { IfTooLong result (λ _. Rose self.old.longs self.new.longs) }
+        ensures long_uncounted { is_too_long result ≡ false → self.new.longs ≡ self.old.longs }
         ensures counted { IsErrOf result LoadFault.Failed → Rose self.old.faults self.new.faults }
         ensures uncounted { has_failed result ≡ false → self.new.faults ≡ self.old.faults }
         ensures faults_stay { self.old.faults ≤ self.new.faults }

@@ -7,6 +7,7 @@ ghost use Rattle.std.specs.Option.{option_copied};
 ghost use Rattle.pr_base.specs.Count.{Rose};
 ghost use Rattle.pr_ports.specs.Mem.{ShelfState, files_of, shelf_after, Misses};
 ghost use Rattle.pr_ports.specs.Shelf.{IsHeldAt, IsLongerAt, held_at, missed_after, has_failed, IfTooLong};
+ghost use Rattle.pr_ports.specs.Shelf.{is_too_long};
 
 use crate::{LoadFault, Shelf};
 use pr_base::{PathText, raised};
@@ -109,6 +110,7 @@ impl Shelf for MemShelf {
         ensures too_long { IfTooLong result (λ told. told ≡ limit) }
         ensures longer { IfTooLong result (λ _. IsLongerAt (Some self.old.files) path.now limit) }
         ensures long_counted { IfTooLong result (λ _. Rose self.old.longs self.new.longs) }
+        ensures long_uncounted { is_too_long result ≡ false → self.new.longs ≡ self.old.longs }
         ensures counted { IsErrOf result LoadFault.Failed → Rose self.old.faults self.new.faults }
         ensures uncounted { has_failed result ≡ false → self.new.faults ≡ self.old.faults }
         ensures missed { Some self.new.missed

@@ -1,8 +1,9 @@
 // A sink in memory, with known contents, that fails at chosen calls.
 ghost use Rattle.std.specs.Prelude.{◌≡◌, ◌≤◌, [], List, ℕ, Some, Contains, OnOk, OnErr, IsErrOf};
-ghost use Rattle.pr_base.specs.Count.{Rose};
+ghost use Rattle.std.specs.Prelude.{false, true};
+ghost use Rattle.pr_base.specs.Count.{Rose, count_after};
 ghost use Rattle.pr_ports.specs.Mem.{SinkState, sink_after};
-ghost use Rattle.pr_ports.specs.Sink.{Grew, GrewByPrefix};
+ghost use Rattle.pr_ports.specs.Sink.{Grew, GrewByPrefix, has_failed};
 
 use crate::{Sink, SinkFault};
 use pr_base::raised;
@@ -56,6 +57,8 @@ impl Sink for MemSink {
         ensures taken { OnOk result (Grew (Some self.old.bytes) (Some self.new.bytes) bytes.now) }
         ensures refused { OnErr result (GrewByPrefix (Some self.old.bytes) (Some self.new.bytes) bytes.now) }
         ensures counted { IsErrOf result SinkFault.Failed → Rose self.old.faults self.new.faults }
+        ensures once { has_failed result ≡ true → self.new.faults ≡ count_after self.old.faults }
+        ensures uncounted { has_failed result ≡ false → self.new.faults ≡ self.old.faults }
         ensures faults_stay { self.old.faults ≤ self.new.faults }
 
         ensures fails { IsErrOf result SinkFault.Failed → Contains self.old.failing self.old.calls }

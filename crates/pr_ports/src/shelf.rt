@@ -1,7 +1,8 @@
 // The source of input files.
 ghost use Rattle.std.specs.Prelude.{◌≡◌, ◌≤◌, ℕ, List, Option, Bool, false, IfOk, IsErrOf, length};
 ghost use Rattle.pr_base.specs.Count.{Rose};
-ghost use Rattle.pr_ports.specs.Shelf.{IsHeldAt, IsLongerAt, missed_after, has_failed, IfTooLong};
+ghost use Rattle.pr_ports.specs.Shelf.{IsHeldAt, IsLongerAt, missed_after, has_failed, is_too_long};
+ghost use Rattle.pr_ports.specs.Shelf.{IfTooLong};
 
 use thiserror::Error;
 
@@ -24,7 +25,9 @@ pub enum LoadFault {
 /// path of the last failed call, if one failed; either may be unknown (`None`). `faults` counts the calls
 /// that returned `Failed`, and `longs` those that returned `TooLong`; both saturate at 2^64 - 1.
 ///
-/// Callers learn from a failure that `faults` rose in that call, which they cannot cause themselves.
+/// Callers learn from a failure that `faults` rose in that call, which they cannot cause themselves. A call
+/// that returns anything else leaves `faults` unchanged, and one that does not return `TooLong` leaves
+/// `longs` unchanged.
 pub trait Shelf {
     /// Each file's path and bytes, where known.
     ghost held: { Self → Option (List (List ℕ × List ℕ)) };
@@ -45,6 +48,7 @@ pub trait Shelf {
         ensures too_long { IfTooLong result (λ told. told ≡ limit) }
         ensures longer { IfTooLong result (λ _. IsLongerAt (held self.old) path.now limit) }
         ensures long_counted { IfTooLong result (λ _. Rose (longs self.old) (longs self.new)) }
+        ensures long_uncounted { is_too_long result ≡ false → longs self.new ≡ longs self.old }
         ensures counted { IsErrOf result LoadFault.Failed → Rose (faults self.old) (faults self.new) }
         ensures uncounted { has_failed result ≡ false → faults self.new ≡ faults self.old }
         ensures missed { missed self.new ≡ missed_after (has_failed result) path.now (missed self.old) }

@@ -1,7 +1,7 @@
 // The destination of text and plates.
-ghost use Rattle.std.specs.Prelude.{◌≡◌, ◌≤◌, ℕ, List, Option, OnOk, OnErr, IsErrOf};
-ghost use Rattle.pr_base.specs.Count.{Rose};
-ghost use Rattle.pr_ports.specs.Sink.{Grew, GrewByPrefix};
+ghost use Rattle.std.specs.Prelude.{◌≡◌, ◌≤◌, ℕ, List, Option, OnOk, OnErr, IsErrOf, false, true};
+ghost use Rattle.pr_base.specs.Count.{Rose, count_after};
+ghost use Rattle.pr_ports.specs.Sink.{Grew, GrewByPrefix, has_failed};
 
 use thiserror::Error;
 
@@ -20,8 +20,8 @@ pub enum SinkFault {
 /// Implementers define `given`, all bytes accepted so far, which may be unknown (`None`), and `faults`, the
 /// number of calls that returned `Failed`, which saturates at 2^64 - 1.
 ///
-/// Callers learn that of a refused piece only a prefix was accepted, and that `faults` rose in a call that
-/// failed, which they cannot cause themselves.
+/// Callers learn that of a refused piece only a prefix was accepted, and that `faults` rose by one in a call
+/// that failed, which they cannot cause themselves. Any other call leaves it unchanged.
 pub trait Sink {
     /// All bytes accepted so far, where known.
     ghost given: { Self → Option (List ℕ) };
@@ -34,5 +34,7 @@ pub trait Sink {
         ensures taken { OnOk result (Grew (given self.old) (given self.new) bytes.now) }
         ensures refused { OnErr result (GrewByPrefix (given self.old) (given self.new) bytes.now) }
         ensures counted { IsErrOf result SinkFault.Failed → Rose (faults self.old) (faults self.new) }
+        ensures once { has_failed result ≡ true → faults self.new ≡ count_after (faults self.old) }
+        ensures uncounted { has_failed result ≡ false → faults self.new ≡ faults self.old }
         ensures faults_stay { faults self.old ≤ faults self.new };
 }

@@ -1,7 +1,7 @@
 // A sink over an operating-system writer.
-ghost use Rattle.std.specs.Prelude.{◌≡◌, ◌≤◌, IfErr, IsErrOf, OnErr, OnOk, is_ok};
-ghost use Rattle.pr_base.specs.Count.{Rose, count_unless};
-ghost use Rattle.pr_ports.specs.Sink.{Grew, GrewByPrefix};
+ghost use Rattle.std.specs.Prelude.{◌≡◌, ◌≤◌, IfErr, IsErrOf, OnErr, OnOk, false, is_ok, true};
+ghost use Rattle.pr_base.specs.Count.{Rose, count_after, count_unless};
+ghost use Rattle.pr_ports.specs.Sink.{Grew, GrewByPrefix, has_failed};
 
 use crate::{Sink, SinkFault};
 use pr_base::Counted;
@@ -44,6 +44,8 @@ impl<W: Write> Sink for WriterSink<W> {
         ensures taken { OnOk result (Grew self.old.given self.new.given bytes.now) }
         ensures refused { OnErr result (GrewByPrefix self.old.given self.new.given bytes.now) }
         ensures counted { IsErrOf result SinkFault.Failed → Rose self.old.faults self.new.faults }
+        ensures once { has_failed result ≡ true → self.new.faults ≡ count_after self.old.faults }
+        ensures uncounted { has_failed result ≡ false → self.new.faults ≡ self.old.faults }
         ensures faults_stay { self.old.faults ≤ self.new.faults }
 
         ensures count { self.new.faults ≡ count_unless (is_ok result) self.old.faults }

@@ -1,5 +1,5 @@
 -- What holds of the shelf after a call that loads files of a plan, whatever its result.
-use Rattle.std.specs.Prelude.{◌≡◌, ◌≤◌, Contains, IfSome, IsErrOf, OnOk, Result, Some}
+use Rattle.std.specs.Prelude.{◌≡◌, ◌≢◌, ◌≤◌, Contains, IfSome, IsErrOf, OnOk, Result, Some}
 use Rattle.pr_base.specs.declared.fault.FaultKind.TheVariants.{TooLong}
 use Rattle.pr_base.specs.Count.{Rose}
 use Rattle.pr_ports.specs.declared.shelf.Shelf as shelf
@@ -23,6 +23,11 @@ pub record TellsShelf {H T : Type 0} (g : shelf.Ghosts H) (plan : PlanData) (old
   pub done_faults : OnOk result (g.faults new ≡ g.faults old)
   pub file_faults : IfFile result (λ fault. g.faults new ≡ g.faults old)
   pub memory_faults : IsErrOf result Memory → g.faults new ≡ g.faults old
+  -- no file was counted as too long, unless the result refuses it as such
+  pub done_longs : OnOk result (g.longs new ≡ g.longs old)
+  pub file_longs : IfFile result (λ fault. fault.kind ≢ TooLong → g.longs new ≡ g.longs old)
+  pub shelf_longs : IfShelf result (λ path. g.longs new ≡ g.longs old)
+  pub memory_longs : IsErrOf result Memory → g.longs new ≡ g.longs old
   -- the contents of the shelf are unchanged, and no count decreases
   pub held : g.held new ≡ g.held old
   pub faults_stay : g.faults old ≤ g.faults new

@@ -91,13 +91,12 @@ fn load_file<T: Threads + Sync, H: Shelf>(
     ensures shelf { TellsShelf H.Shelf plan.now shelf.old shelf.new result }
 {
     let path = file_path(alloc, plan, folder, file)?;
+    // Made before the load: once the shelf has counted a file as too long, no allocation can hide it.
+    let long = fault_of(alloc, plan, file, 0, FaultKind::TooLong)?;
     let bytes = match shelf.load(path.as_str(), limit) {
         Ok(bytes) => bytes,
         Err(LoadFault::Failed) => return Err(Refusal::Shelf(path)),
-        Err(LoadFault::TooLong { .. }) => {
-            let fault = fault_of(alloc, plan, file, 0, FaultKind::TooLong)?;
-            return Err(Refusal::File(fault));
-        }
+        Err(LoadFault::TooLong { .. }) => return Err(Refusal::File(long)),
         Err(LoadFault::Memory) => return Err(Refusal::Memory),
     };
     if let Err(fault) = test_file(rt, plan, file, bytes.as_slice()) {

@@ -118,6 +118,7 @@ finishes delivery ring site before now going carries at =
       finished = site_at_end delivery.plan delivery.rows delivery.out site (delivery.source site) before.tells now.tells going.counts carries.plan_is stands;
       taken = stands.rack.taken ∙ ap (λ rows. grown rows before.tells.taken) (drawn_at_end delivery.plan delivery.out site (delivery.source site) carries.plan_is);
       begun = λ slot less. stands.rack.begun slot less ∙ ap (λ plate. Some (is_some plate)) (none job slot (job_is delivery.plan delivery.out site carries.plan_is));
+      missed = at.missed;
     } where
       none : (job : SiteJob) (slot : ℕ) → IsJob job → plate_below job delivery.rows job.total slot ≡ None
       none job slot is = ap (option_map _) (closed job job.total slot (λ j d less same. closed-cases job.height job.total (plate_at job j d) (inr (given-all job.height job.total (plate_at job j d) (let high = is.height in omega arith) (is.within j d less)))))

@@ -62,7 +62,7 @@ kept_rows plan site = count_by (keeps_row plan site) (range_with_len 0 (length (
 -- ---- the end of a site
 
 -- a site that finished with this many plates and rows: its rack has all its files and all its rows in
--- addition, and no slot of the rack is begun
+-- addition, no slot of the rack is begun, and its last failed call is that of before
 pub record FitsFinished (delivery : Delivery) (site : ℕ) (before now : RackTells) (plates rows' : ℕ)
     : Type 0 where
   pub plates_are : plates ≡ length (site_plates delivery.plan site)
@@ -70,6 +70,7 @@ pub record FitsFinished (delivery : Delivery) (site : ℕ) (before now : RackTel
   pub finished : now.tells.finished ≡ grown (files_for delivery site) before.tells.finished
   pub taken : now.tells.taken ≡ grown (drawn_for delivery site) before.tells.taken
   pub begun : (slot : ℕ) → slot < 5 → slice_get now.tells.begun slot ≡ Some false
+  pub missed : now.missed ≡ before.missed
 
 -- the files of a site that were finished when it left
 abbrev pub files_by : Delivery → ℕ → LeftCause → List Plate

@@ -1,6 +1,6 @@
-use Rattle.std.proofs.Common.{refl}
+use Rattle.std.proofs.Common.{refl, ◌∙◌}
 use Rattle.std.proofs.lemmas.Result.{err_from_is_err_and}
-use Rattle.cmd_base.proofs.Loads.{all_behind, loads_behind}
+use Rattle.cmd_base.proofs.Loads.{all_behind, lengths_behind, loads_behind}
 use Rattle.cmd_replate.proofs.change.load_late.Goals as goal
 
 pub returns-in_err-before-clause-loads : goal.returns-in_err-before-clause-loads
@@ -20,3 +20,19 @@ returns-in_default-clause-loads g c = λ done.
 pub returns-clause-loads : goal.returns-clause-loads
 returns-clause-loads g c = λ done.
     all_behind g.H.Shelf _ _ _ (c.in_ok-before.ensures.loads refl) (c.in_ok-job.ensures.loads refl)
+
+pub returns-in_err-before-clause-lengths : goal.returns-in_err-before-clause-lengths
+returns-in_err-before-clause-lengths g c =
+    let p = err_from_is_err_and c.from_residual.result c.from_residual.ensures.1 in
+    rw (p.1, p.2) c.in_err-before.ensures.lengths
+
+pub returns-in_err-job-clause-lengths : goal.returns-in_err-job-clause-lengths
+returns-in_err-job-clause-lengths g c =
+    let p = err_from_is_err_and c.from_residual-in_err-job.result c.from_residual-in_err-job.ensures.1 in
+    rw (p.1, p.2) (lengths_behind g.H.Shelf _ _ _ _ c.in_ok-before.ensures.lengths c.in_err-job.ensures.lengths)
+
+pub returns-in_default-clause-lengths : goal.returns-in_default-clause-lengths
+returns-in_default-clause-lengths g c = c.in_ok-job.ensures.lengths ∙ c.in_ok-before.ensures.lengths
+
+pub returns-clause-lengths : goal.returns-clause-lengths
+returns-clause-lengths g c = c.in_ok-job.ensures.lengths ∙ c.in_ok-before.ensures.lengths

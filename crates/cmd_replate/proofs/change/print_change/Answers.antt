@@ -5,6 +5,7 @@ use Rattle.cmd_replate.specs.Remade.{remade_text, status_of_remade}
 use Rattle.cmd_base.specs.Status.{number_of}
 use Rattle.cmd_replate.proofs.Changing.{text_is}
 use Rattle.cmd_base.proofs.Grow.{grew_nothing}
+use Rattle.cmd_base.proofs.Loads.{none_lengths}
 use Rattle.cmd_base.proofs.Told.{put_makes}
 use Rattle.cmd_replate.proofs.change.print_change.Goals as goal
 
@@ -53,7 +54,7 @@ returns-clause-answered g c =
           (c.as_str-dropped.ensures.value ∙ late.is.dropped);
       status_is = c.status_of.ensures ∙ ap status_of_remade c.as_slice-ends.ensures.value;
     })
-    c.put_text.ensures
+    c.put_text.ensures.puts
 
 pub returns-in_err-late-clause-loads : goal.returns-in_err-late-clause-loads
 returns-in_err-late-clause-loads g c =
@@ -68,3 +69,17 @@ returns-in_default-remade_text-clause-loads g c = λ done. c.in_ok-late.ensures.
 
 pub returns-clause-loads : goal.returns-clause-loads
 returns-clause-loads g c = λ done. c.in_ok-late.ensures.loads refl
+
+pub returns-in_err-late-clause-lengths : goal.returns-in_err-late-clause-lengths
+returns-in_err-late-clause-lengths g c =
+    let p = err_from_is_err_and c.from_residual.result c.from_residual.ensures.1 in
+    rw (p.1, p.2) c.in_err-late.ensures.lengths
+
+pub returns-clause-lengths : goal.returns-clause-lengths
+returns-clause-lengths g c = none_lengths _ c.put_text.result c.in_ok-late.ensures.lengths
+
+pub returns-in_err-late-clause-writes : goal.returns-in_err-late-clause-writes
+returns-in_err-late-clause-writes g c = λ done. refl
+
+pub returns-clause-writes : goal.returns-clause-writes
+returns-clause-writes g c = c.put_text.ensures.writes

@@ -3,11 +3,14 @@ use Rattle.cmd_base.proofs.Told.{put_tells}
 use Rattle.cmd_run.specs.Drill.{IsDrilled, PrintsDrill, drill_rules}
 use Rattle.cmd_run.proofs.drill.print_drill.Goals as goal
 
-pub returns : goal.returns
-returns g c = λ shelf.
+pub returns-clause-told : goal.returns-clause-told
+returns-clause-told g c = λ shelf.
     put_tells drill_rules (PrintsDrill c.args.drill.number c.args.drill.ring) shelf _ c.as_bytes.result.now 0 c.put_text.result
     (record {
       drilled = subst (λ (text : List ℕ). IsDrilled c.args.drill.number c.args.drill.ring text) (sym c.as_bytes.ensures.value) c.in-Ok.ensures;
       zero = refl;
     })
-    c.put_text.ensures
+    c.put_text.ensures.puts
+
+pub returns-clause-writes : goal.returns-clause-writes
+returns-clause-writes g c = c.put_text.ensures.writes

@@ -12,8 +12,8 @@ use Rattle.cmd_run.proofs.edition.deliver.Goals as goal
 pub run_job-requires-clause-idle : goal.run_job-requires-clause-idle
 run_job-requires-clause-idle g c κs within = record { each = λ site tells below at. idle_at g.R.Rack c.args.racks.now site tells c.requires.idle at }
 
-pub returns-in_default-report : goal.returns-in_default-report
-returns-in_default-report g c = inl (record {
+pub returns-in_default-report-clause-delivered : goal.returns-in_default-report-clause-delivered
+returns-in_default-report-clause-delivered g c = inl (record {
   text = report_of c.args.job.now.plan c.in-Ok.outcome.sites.items;
   status = status_of_ends c.in-Ok.outcome.sites.items;
   reports = reports_are g.R.Rack (edition_told c.args.edition) none_further c.args.job.now c.args.racks.now c.run_job.new.racks _ _
@@ -24,8 +24,8 @@ returns-in_default-report g c = inl (record {
   grew = (0, grew_nothing _ _ refl);
 })
 
-pub returns : goal.returns
-returns g c =
+pub returns-clause-delivered : goal.returns-clause-delivered
+returns-clause-delivered g c =
     put_delivers g.R.Rack (edition_told c.args.edition) none_further c.args.job.now c.args.racks.now c.run_job.new.racks _
     c.as_bytes.result.now (number_of c.status_of.result) c.put_text.result
     (reports_are g.R.Rack (edition_told c.args.edition) none_further c.args.job.now c.args.racks.now c.run_job.new.racks _ _
@@ -35,4 +35,7 @@ returns g c =
     (c.as_bytes.ensures.value ∙ c.in-Ok-report.ensures ∙ ap (report_of c.plan-plan.result.now) c.as_slice-ends.ensures.value
     ∙ ap (λ plan. report_of plan c.in-Ok.outcome.sites.items) c.plan-plan.ensures.plan ∙ sym (append-nil _))
     (c.status_of.ensures ∙ ap status_of_ends c.as_slice-ends.ensures.value))
-    c.put_text.ensures
+    c.put_text.ensures.puts
+
+pub returns-clause-writes : goal.returns-clause-writes
+returns-clause-writes g c = c.put_text.ensures.writes

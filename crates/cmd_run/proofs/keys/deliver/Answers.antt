@@ -12,8 +12,8 @@ use Rattle.cmd_run.proofs.keys.deliver.Goals as goal
 pub run_keys-requires-clause-idle : goal.run_keys-requires-clause-idle
 run_keys-requires-clause-idle g c κs within = record { each = λ site tells below at. idle_at g.R.Rack c.args.racks.now site tells c.requires.idle at }
 
-pub returns-in_default-counted_text : goal.returns-in_default-counted_text
-returns-in_default-counted_text g c = inl (record {
+pub returns-in_default-counted_text-clause-delivered : goal.returns-in_default-counted_text-clause-delivered
+returns-in_default-counted_text-clause-delivered g c = inl (record {
   text = report_of c.args.job.now.plan c.in-Ok.outcome.sites.items ++ keys_lines c.args.keys c.args.job.now;
   status = status_of_ends c.in-Ok.outcome.sites.items;
   reports = reports_are g.R.Rack (edition_told c.args.edition) (further_keys c.args.keys) c.args.job.now c.args.racks.now
@@ -23,8 +23,8 @@ returns-in_default-counted_text g c = inl (record {
   grew = (0, grew_nothing _ _ refl);
 })
 
-pub returns : goal.returns
-returns g c =
+pub returns-clause-delivered : goal.returns-clause-delivered
+returns-clause-delivered g c =
     put_delivers g.R.Rack (edition_told c.args.edition) (further_keys c.args.keys) c.args.job.now c.args.racks.now c.run_keys.new.racks _
     c.as_bytes.result.now (number_of c.status_of.result) c.put_text.result
     (reports_are g.R.Rack (edition_told c.args.edition) (further_keys c.args.keys) c.args.job.now c.args.racks.now c.run_keys.new.racks
@@ -35,4 +35,7 @@ returns g c =
     ∙ ap (λ ends. report_of c.args.job.now.plan ends ++ keys_lines c.in-Ok.counts.keys c.args.job.now) c.as_slice-ends.ensures.value
     ∙ ap (λ (k : ℕ). report_of c.args.job.now.plan c.in-Ok.outcome.sites.items ++ keys_lines k c.args.job.now) c.in-Ok.ensures.keys.keys_are)
     (c.status_of.ensures ∙ ap status_of_ends c.as_slice-ends.ensures.value))
-    c.put_text.ensures
+    c.put_text.ensures.puts
+
+pub returns-clause-writes : goal.returns-clause-writes
+returns-clause-writes g c = c.put_text.ensures.writes

@@ -11,7 +11,7 @@ verify-requires-clause-total g c = total_in c.args.job.now _ c.rows.result.now c
 pub returns-in-Ok-clause-looks : goal.returns-in-Ok-clause-looks
 returns-in-Ok-clause-looks g c =
     looks_found g.H.Shelf c.args.shelf.now c.verify.new.shelf c.plan.result.now c.args.job.now _ c.args.out.now c.in-Ok.checked
-    c.plan.ensures.plan c.plan.ensures.valid c.requires.feed c.in-Ok.ensures.found c.in-Ok.ensures.long
+    c.plan.ensures.plan c.plan.ensures.valid c.requires.feed c.in-Ok.ensures.found c.in-Ok.ensures.long c.in-Ok.ensures.short
 
 pub returns-in-Err-Shelf-clause-looks : goal.returns-in-Err-Shelf-clause-looks
 returns-in-Err-Shelf-clause-looks g c =

@@ -3,8 +3,8 @@ use Rattle.std.proofs.lemmas.Result.{err_from_is_err_and}
 use Rattle.plate_verify.specs.Looking.{told}
 use Rattle.cmd_verify.specs.Check.{asked_told, PrintsFound, check_rules, found_line}
 use Rattle.cmd_base.specs.Status.{number_of}
-use Rattle.cmd_verify.proofs.Looking.{found_behind}
-use Rattle.cmd_base.proofs.Loads.{all_behind, loads_behind}
+use Rattle.cmd_verify.proofs.Looking.{found_behind, found_short, looks_lengths, put_lengths, stop_lengths}
+use Rattle.cmd_base.proofs.Loads.{all_behind, lengths_behind, loads_behind}
 use Rattle.cmd_base.proofs.Told.{put_tells}
 use Rattle.cmd_verify.proofs.check.print_check.Goals as goal
 
@@ -17,13 +17,13 @@ returns-clause-told g c =
       prepared = c.in_ok-job.ensures.prepared;
       checked = c.in_ok-checked.checked;
       found = found_behind g.H.Shelf c.args.shelf.now c.load_job.new.shelf c.check_plates.new.shelf
-          c.load_job.ensures.held c.load_job.ensures.faults_stay c.load_job.ensures.longs_stay
+          c.load_job.ensures.held c.load_job.ensures.faults_stay c.in_ok-job.ensures.lengths
           c.in_ok-job.job c.args.asked.out.now c.in_ok-checked.checked c.in_ok-checked.ensures.looks;
       text_is = c.as_bytes.ensures.value ∙ c.in-Ok.ensures
           ∙ ap (λ sites. found_line sites (told c.in_ok-checked.checked)) c.site_count.ensures;
       status_is = c.status_of.ensures;
     })
-    c.put_text.ensures
+    c.put_text.ensures.puts
 
 pub returns-in_err-job-clause-loads : goal.returns-in_err-job-clause-loads
 returns-in_err-job-clause-loads g c =
@@ -46,3 +46,40 @@ pub returns-clause-loads : goal.returns-clause-loads
 returns-clause-loads g c = λ done.
     all_behind g.H.Shelf c.args.shelf.now c.load_job.new.shelf c.check_plates.new.shelf (c.in_ok-job.ensures.loads refl)
     (c.in_ok-checked.ensures.loads refl)
+
+pub returns-in_err-job-clause-lengths : goal.returns-in_err-job-clause-lengths
+returns-in_err-job-clause-lengths g c =
+    let p = err_from_is_err_and c.from_residual.result c.from_residual.ensures.1 in
+    rw (p.1, p.2) (stop_lengths (asked_told c.args.asked) _ _ c.in_err-job.ensures.lengths)
+
+pub returns-in_err-checked-clause-lengths : goal.returns-in_err-checked-clause-lengths
+returns-in_err-checked-clause-lengths g c =
+    let p = err_from_is_err_and c.from_residual-in_err-checked.result c.from_residual-in_err-checked.ensures.1 in
+    rw (p.1, p.2)
+    (stop_lengths (asked_told c.args.asked) _ _
+    (lengths_behind g.H.Shelf c.args.shelf.now c.load_job.new.shelf c.check_plates.new.shelf _ c.in_ok-job.ensures.lengths
+    (looks_lengths c.in_ok-job.job c.args.asked.out.now _ _ c.in_err-checked.ensures.looks)))
+
+pub returns-in_default-clause-lengths : goal.returns-in_default-clause-lengths
+returns-in_default-clause-lengths g c =
+    found_short (asked_told c.args.asked) _ c.in_ok-job.job c.in_ok-checked.checked c.in_ok-job.ensures.prepared
+    (found_behind g.H.Shelf c.args.shelf.now c.load_job.new.shelf c.check_plates.new.shelf c.load_job.ensures.held
+    c.load_job.ensures.faults_stay c.in_ok-job.ensures.lengths c.in_ok-job.job c.args.asked.out.now c.in_ok-checked.checked
+    c.in_ok-checked.ensures.looks)
+
+pub returns-clause-lengths : goal.returns-clause-lengths
+returns-clause-lengths g c =
+    put_lengths (asked_told c.args.asked) _ _ _ _ c.put_text.result c.put_text.ensures.puts
+    (found_short (asked_told c.args.asked) _ c.in_ok-job.job c.in_ok-checked.checked c.in_ok-job.ensures.prepared
+    (found_behind g.H.Shelf c.args.shelf.now c.load_job.new.shelf c.check_plates.new.shelf c.load_job.ensures.held
+    c.load_job.ensures.faults_stay c.in_ok-job.ensures.lengths c.in_ok-job.job c.args.asked.out.now c.in_ok-checked.checked
+    c.in_ok-checked.ensures.looks))
+
+pub returns-in_err-job-clause-writes : goal.returns-in_err-job-clause-writes
+returns-in_err-job-clause-writes g c = λ done. refl
+
+pub returns-in_err-checked-clause-writes : goal.returns-in_err-checked-clause-writes
+returns-in_err-checked-clause-writes g c = λ done. refl
+
+pub returns-clause-writes : goal.returns-clause-writes
+returns-clause-writes g c = c.put_text.ensures.writes

@@ -1,5 +1,5 @@
 use Rattle.std.proofs.Common.{refl, inl, inr}
-use Rattle.plate_room.proofs.Clauses.{complete, cut_left, done_loads, done_made, done_note, done_verdict, drill_status, eight_asked, look_never_one, look_racks, memory_note, one_left, printing_note, printing_out, printing_rose, refused_loads, refused_out, refused_racks, status_is, stays, tells_at, verdict_there, verdict_told, words_none, words_shelf, words_there}
+use Rattle.plate_room.proofs.Clauses.{complete, cut_left, done_loads, done_longs, done_made, done_note, done_verdict, drill_status, eight_asked, look_never_one, look_racks, memory_note, memory_once, one_left, printing_note, printing_out, printing_rose, refused_loads, refused_note, refused_out, refused_racks, status_is, stays, tells_at, verdict_there, verdict_told, words_none, words_there}
 use Rattle.plate_room.proofs.main_call.plate_main.Goals as goal
 
 pub returns-clause-statuses : goal.returns-clause-statuses
@@ -68,9 +68,6 @@ returns-clause-memory_note g c = memory_note g.R.Rack _ _ c.run.result c.run.ens
 pub returns-clause-printing_note : goal.returns-clause-printing_note
 returns-clause-printing_note g c = printing_note g.R.Rack _ _ c.run.result c.run.ensures.ending
 
-pub returns-clause-words_shelf : goal.returns-clause-words_shelf
-returns-clause-words_shelf g c = words_shelf g.R.Rack _ _ c.run.result c.run.ensures.ending
-
 pub returns-clause-done_loads : goal.returns-clause-done_loads
 returns-clause-done_loads g c = done_loads g.R.Rack _ _ c.run.result c.run.ensures.ending
 
@@ -80,8 +77,14 @@ returns-clause-refused_loads g c = refused_loads g.R.Rack _ _ c.run.result c.run
 pub returns-clause-done_note_faults : goal.returns-clause-done_note_faults
 returns-clause-done_note_faults g c = λ h. (done_note g.R.Rack _ _ c.run.result c.run.ensures.ending h).faults
 
-pub returns-clause-refused_out_faults : goal.returns-clause-refused_out_faults
-returns-clause-refused_out_faults g c = λ h. (refused_out g.R.Rack _ _ c.run.result c.run.ensures.ending h).faults
+pub returns-clause-done_longs : goal.returns-clause-done_longs
+returns-clause-done_longs g c = done_longs g.R.Rack _ _ c.run.result c.run.ensures.ending
+
+pub returns-clause-refused_note_faults : goal.returns-clause-refused_note_faults
+returns-clause-refused_note_faults g c = refused_note g.R.Rack _ _ c.run.result c.run.ensures.ending
+
+pub returns-clause-memory_note_faults : goal.returns-clause-memory_note_faults
+returns-clause-memory_note_faults g c = memory_once g.R.Rack _ _ c.run.result c.run.ensures.ending
 
 pub returns-clause-complete : goal.returns-clause-complete
 returns-clause-complete g c = complete g.R.Rack _ _ c.run.result c.run.ensures.ending

@@ -14,6 +14,7 @@ returns-in-Ok-load g c = λ rows made.
     (subst {A = List ℕ} (λ p. IsHeldAt (g.H.Shelf.held c.args.shelf.now) p c.in-Ok-load.bytes.items) c.as_str.ensures ends.bytes)
     ends.within
     (quiet (shelf_told g.H.Shelf c.args.shelf.now) (shelf_told g.H.Shelf c.load.new.self) c.as_str.result.now ends.missed ends.held (ends.uncounted refl) ends.faults_stay ends.longs_stay)
+    (ends.long_uncounted refl)
     made
     (rw c.deref.ensures.value at (c.compare.ensures (plate_rows c.args.plan.now rows (c.args.group.now, c.args.ink)) (made_ends c.args.plan.now rows (c.args.group.now, c.args.ink) c.args.made.now made)))
 
@@ -26,6 +27,7 @@ returns-in-Err-Failed g c = λ rows made.
     (ends.counted refl)
     (ends.missed ∙ ap {A = List ℕ} (λ p. missed_after true p (g.H.Shelf.missed c.args.shelf.now)) c.as_str.ensures)
     (record { held = ends.held; faults = ends.faults_stay; longs = ends.longs_stay })
+    (ends.long_uncounted refl)
 
 pub returns-in-Err-TooLong : goal.returns-in-Err-TooLong
 returns-in-Err-TooLong g c = λ rows made.

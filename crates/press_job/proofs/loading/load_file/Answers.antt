@@ -14,7 +14,7 @@ returns-in-Err-TooLong-clause-found g c =
     let held = g.H.Shelf.held c.args.shelf.now in
     let at : c.as_str.result.now ≡ path_of c.args.plan.now c.args.folder.now c.args.file = search rules in
     let P : List ℕ → Type 0 = λ path. IsLongerAt held path c.args.limit in
-    long_found c.args.plan.now c.args.folder.now (g.H.Shelf.held c.args.shelf.now) c.args.limit c.args.file c.in_ok-fault-in-Err-TooLong.fault (subst P at (rw c.in-Err-TooLong.field-0-is at c.in-Err-TooLong.ensures.longer)) c.in_ok-fault-in-Err-TooLong.ensures
+    long_found c.args.plan.now c.args.folder.now (g.H.Shelf.held c.args.shelf.now) c.args.limit c.args.file c.in_ok-long.fault (subst P at (rw c.in-Err-TooLong.field-0-is at c.in-Err-TooLong.ensures.longer)) c.in_ok-long.ensures
 
 pub returns-in-Err-clause-found : goal.returns-in-Err-clause-found
 returns-in-Err-clause-found g c =
@@ -35,6 +35,10 @@ returns-in-Err-clause-shelf g c =
       done_faults = search rules;
       file_faults = search rules;
       memory_faults = search rules;
+      done_longs = search rules;
+      file_longs = search rules;
+      shelf_longs = search rules;
+      memory_longs = search rules;
       held = search rules;
       faults_stay = search rules;
       longs_stay = search rules;

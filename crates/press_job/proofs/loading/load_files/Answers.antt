@@ -16,7 +16,7 @@ loop-file-init g c = record {
   missed = refl;
   faults = refl;
   faults_stay = omega arith;
-  longs_stay = omega arith;
+  longs = refl;
 }
 
 pub loop-file-preserved : goal.loop-file-preserved
@@ -33,7 +33,7 @@ loop-file-preserved g c =
       missed = c.in_ok-bytes.ensures.shelf.done_missed ∙ all.missed;
       faults = c.in_ok-bytes.ensures.shelf.done_faults ∙ all.faults;
       faults_stay = omega (arith, c.in_ok-bytes.ensures.shelf.faults_stay, all.faults_stay);
-      longs_stay = omega (arith, c.in_ok-bytes.ensures.shelf.longs_stay, all.longs_stay);
+      longs = c.in_ok-bytes.ensures.shelf.done_longs ∙ all.longs;
     }
 
 pub returns-in_err-bytes-clause-refused : goal.returns-in_err-bytes-clause-refused

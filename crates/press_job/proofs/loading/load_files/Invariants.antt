@@ -11,5 +11,5 @@ invariant-loop-file g l = record {
   missed : g.H.Shelf.missed l.shelf ≡ g.H.Shelf.missed l.initial.shelf;
   faults : g.H.Shelf.faults l.shelf ≡ g.H.Shelf.faults l.initial.shelf;
   faults_stay : g.H.Shelf.faults l.initial.shelf ≤ g.H.Shelf.faults l.shelf;
-  longs_stay : g.H.Shelf.longs l.initial.shelf ≤ g.H.Shelf.longs l.shelf;
+  longs : g.H.Shelf.longs l.shelf ≡ g.H.Shelf.longs l.initial.shelf;
 }
