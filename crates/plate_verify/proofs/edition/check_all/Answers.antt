@@ -18,7 +18,7 @@ returns g c =
     let rows : List (List ℕ) = map framed_row (g.F.RowFeed.left c.args.feed.now) in
     let sides : c.plate_sides-sides.result ≡ plate_sides c.args.plan.now = c.plate_sides-sides.ensures.sides in
     let fed : FedFrom c.args.plan.now rows 0 c.deref_mut.result.now (g.F.RowFeed.left c.args.feed.now) (length c.deref_mut-2.result.now) = record {
-      have = subst {A = List PlateState} (λ l. HaveSides (plate_sides c.args.plan.now) l) (sym c.deref_mut.ensures.value) (subst {A = Sides} (λ s. HaveSides s _) sides c.in-Ok.ensures.sides);
+      have = subst {A = List PlateState} (λ l. HaveSides (plate_sides c.args.plan.now) l) (sym c.deref_mut.ensures.value) (subst {A = Sides} (λ s. HaveSides s c.in-Ok.plates.items) sides c.in-Ok.ensures.sides);
       five = omega (arith, ap {A = List PlateState} length c.deref_mut.ensures.value, c.in-Ok.ensures.five);
       feeds = c.requires.frames.are;
       each = c.requires.frames.each;
