@@ -1,5 +1,5 @@
 // The command `verify`: checks whether the plates on a shelf are those of an edition.
-ghost use Rattle.std.specs.Prelude.{◌≡◌, IfOk, length, string_bytes};
+ghost use Rattle.std.specs.Prelude.{◌≡◌, IfOk, string_bytes};
 ghost use Rattle.press_job.specs.Rows.{plate_frames};
 ghost use Rattle.plate_verify.specs.Looking.{told as found_of};
 ghost use Rattle.cmd_verify.specs.Check.{CheckLengths, asked_told, Looks, PrintsFound};
@@ -49,18 +49,11 @@ pub fn print_check<T: Threads + Sync, H: Shelf, S: Sink>(
 {
     let job = load_job(rt, alloc, Whose::New, asked.plan, asked.files, shelf)?;
     let checked = check_plates(&ByThreads { rt }, alloc, &job, asked.out, shelf)?;
-    let Ok(line) = line_of(alloc, site_count(&job), &checked) else {
+    let plan = job.plan();
+    let Ok(line) = line_of(alloc, plan.site_count(), &checked) else {
         return Err(Stop::Memory);
     };
     put_text(line.as_bytes(), status_of(&checked), out)
-}
-
-/// Returns the number of sites of a job.
-fn site_count(job: &Job) -> usize
-    ensures { result ≡ length job.now.plan.sites }
-{
-    let plan = job.plan();
-    plan.sites.len()
 }
 
 /// Verifies the plates of a job below the folder `out`. `maker` makes the bands of its rows.

@@ -10,14 +10,11 @@ ghost use Rattle.ink_keys.specs.Counts.{AddsRow, keys_before, no_counts, number_
 use crate::dots::{dots_in, room_for};
 use crate::key::first_of;
 use plan_rows::{RowPlace, RowPlan};
-use pr_base::{Ink, NoMemory, row_bytes};
+use pr_base::{INKS, Ink, NoMemory, row_bytes};
 use ring_lanes::Held;
 use std::alloc::Global;
 use std::marker::Model;
 use tif_packbits::{Unpacker, framed};
-
-/// The slots of a group: one for each ink.
-const SLOTS: usize = 5;
 
 /// How many pixels are 1 at each key, for each group and ink of a row plan. All memory is allocated when it
 /// is made. Contracts see the number of groups that it was made for, the width, the number of keys and the
@@ -61,7 +58,7 @@ impl Counts {
         ensures zero { IfOk result (λ counts. counts ≡ no_counts (length rows.now.groups) width keys) }
     {
         let groups = rows.groups().len();
-        let numbers = zeros(alloc, groups * SLOTS * keys as usize)?;
+        let numbers = zeros(alloc, groups * INKS * keys as usize)?;
         let firsts = firsts_of(alloc, width, keys)?;
         let row = room(alloc, width)?;
         Ok(Counts {
@@ -106,7 +103,7 @@ impl Counts {
         ensures within { result + self.now.keys ≤ length self.now.numbers }
     {
         let keys = self.keys as usize;
-        (group * SLOTS + ink.slot()) * keys
+        (group * INKS + ink.slot()) * keys
     }
 }
 

@@ -45,7 +45,8 @@ impl Model for Plan {
 }
 
 impl Plan {
-    ghost use Rattle.std.specs.Prelude.{◌≡◌};
+    ghost use Rattle.std.specs.Prelude.{◌≡◌, length};
+    ghost use Rattle.pr_base.specs.Number.{IsWithin};
     ghost use Rattle.plan_json.specs.Plan.{IsPlan};
 
     /// Returns the distinct files in order of first mention: by page, then by layer, the image before the
@@ -55,5 +56,14 @@ impl Plan {
         ensures plan { IsPlan self.now }
     {
         &self.files
+    }
+
+    /// Returns the number of sites.
+    pub fn site_count(&self) -> usize
+        ensures count { result ≡ length self.now.sites }
+        ensures within { IsWithin 1 16 result }
+        ensures plan { IsPlan self.now }
+    {
+        self.sites.len()
     }
 }

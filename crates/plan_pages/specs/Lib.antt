@@ -1,4 +1,3 @@
-pub mod Ink
 pub mod Pages
 pub mod Plate
 pub mod Span

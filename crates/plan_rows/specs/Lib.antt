@@ -4,3 +4,4 @@ pub mod Paths
 pub mod Plates
 pub mod Rows
 pub mod Spot
+pub mod Sides

@@ -1,18 +1,10 @@
-// The numbers of sites, sections and pages of a plan.
+// The numbers of sections and pages of a plan.
 ghost use Rattle.std.specs.Prelude.{◌≡◌, ◌<◌, ◌%◌, length};
 ghost use Rattle.pr_base.specs.Number.{IsWithin};
 ghost use Rattle.plan_json.specs.Plan.{IsPlan};
 ghost use Rattle.plan_pages.specs.Pages.{page_count, section_pages};
 
 use plan_json::Plan;
-
-/// Returns the number of sites.
-pub(crate) fn site_count(plan: &Plan) -> usize
-    ensures count { result ≡ length plan.now.sites }
-    ensures within { IsWithin 1 16 result }
-{
-    plan.sites.len()
-}
 
 /// Returns the number of sections.
 pub(crate) fn section_count(plan: &Plan) -> u32

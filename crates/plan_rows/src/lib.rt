@@ -9,9 +9,11 @@ mod parting;
 mod path;
 mod place;
 mod row_plan;
+mod sides;
 
 pub use group::Group;
 pub use laws::spot_law;
 pub use path::{plate_name, plate_path, section_name, site_name};
 pub use place::RowPlace;
 pub use row_plan::RowPlan;
+pub use sides::plate_sides;

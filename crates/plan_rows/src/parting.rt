@@ -6,12 +6,10 @@ ghost use Rattle.plan_rows.specs.Groups.{group_of as group_in, is_first as is_fi
 ghost use Rattle.plan_rows.specs.Groups.{same_pages as alike, site_bit, site_pages as pages_of_sites};
 
 use crate::Group;
-use crate::counts::{pages_in, site_count};
+use crate::counts::pages_in;
 use plan_json::Plan;
 use plan_pages::{chosen, pair as pair_at};
-
-/// The most sites that a plan may have.
-pub(crate) const SITES: usize = 16;
+use pr_base::SITES;
 
 /// Returns the left and the right page that each site prints as this pair, from 1, of a section.
 #[tactic(auto, unfolding(crate::specs::Groups::site_pages))]
@@ -28,7 +26,7 @@ pub(crate) fn site_pages(plan: &Plan, section: usize, pair: u32) -> [(usize, usi
 {
     let (left, right) = pair_at(pages_in(plan, section), pair);
     let mut pages = [(0, 0); SITES];
-    for site in 0..site_count(plan) {
+    for site in 0..plan.site_count() {
         pages[site] = (
             chosen(plan, site, section, left),
             chosen(plan, site, section, right),

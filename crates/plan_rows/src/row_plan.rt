@@ -1,12 +1,12 @@
 // All rows of a plan, by number.
 ghost use Rattle.std.specs.Prelude.{◌≡◌, ◌<◌, ◌≤◌, ◌+◌, ◌*◌, [], ◌∷◌, length, slice_get, Some, IfOk, OnOk};
 
-use crate::counts::{pages_in, section_count, site_count};
-use crate::parting::{SITES, group_of, is_first, site_pages};
+use crate::counts::{pages_in, section_count};
+use crate::parting::{group_of, is_first, site_pages};
 use crate::{Group, RowPlace};
 use plan_json::Plan;
 use plan_pages::plate_shape;
-use pr_base::NoMemory;
+use pr_base::{NoMemory, SITES};
 use std::alloc::Global;
 use std::marker::Model;
 
@@ -91,7 +91,7 @@ impl RowPlan {
     {
         prove!(self.groups.len() + SITES <= MOST_GROUPS);
         let pages = site_pages(plan, section as usize, pair);
-        let sites = site_count(plan);
+        let sites = plan.site_count();
         let pages = &pages[..sites];
         for site in 0..sites {
             if is_first(pages, site) {

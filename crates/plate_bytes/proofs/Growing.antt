@@ -1,5 +1,5 @@
 -- A plate that grows row by row, and its completion.
-use Rattle.std.proofs.Common.{◌≡◌, ℕ, ◌+◌, ◌/◌, ◌<◌, ◌≤◌, List, [], ◌∷◌, ◌++◌, length, sum, get_or, set, replicate, sym, ap, ◌∙◌, append_assoc, arith}
+use Rattle.std.proofs.Common.{◌≡◌, ℕ, ◌+◌, ◌/◌, ◌≤◌, List, [], ◌∷◌, ◌++◌, length, replicate, refl, sym, ap, ◌∙◌, append_assoc, arith}
 use Rattle.std.specs.List.{All, flat_map}
 use Rattle.std.proofs.lemmas.List.{append-nil, length-append}
 use Rattle.std.proofs.lemmas.List.Elements.{All-append, All-cons, All-nil}
@@ -10,9 +10,11 @@ use Rattle.tif_packbits.specs.Packbits.{packing}
 use Rattle.tif_plate.specs.Plate.{rows_each, strip_count, strip_counts, plate_file}
 use Rattle.tif_plate.specs.Tail.{IsPlaceable, counts_so_far, front_bytes, tail_bytes, tail_place}
 use Rattle.tif_plate.proofs.Finish.{finishes}
-use Rattle.tif_plate.proofs.Growth.{IsPlaceable-so_far, counts_so_far-more, counts_so_far-all, counts_so_far-none, count-fits, strip-in_plate, sum-counts_so_far}
+use Rattle.tif_plate.proofs.Growth.{IsPlaceable-so_far, counts_so_far-all, counts_so_far-none, length-counts_so_far, sum-counts_so_far}
 use Rattle.plate_bytes.specs.Made.{PlateState, so_far, whole, HasRows, TakesRow, HasAllRows, IsAlike, IsPlate}
 use Rattle.plate_bytes.specs.Places.{row_ends}
+use Rattle.plate_bytes.specs.Strips.{counted}
+use Rattle.plate_bytes.proofs.Counts.{counted-row}
 use Rattle.plate_bytes.proofs.Seams.{length-row_ends, row_ends-more}
 
 -- a plate without rows
@@ -80,26 +82,12 @@ end-fits plate rows row packed is takes =
       sum-counts_so_far plate.width plate.height (rows ++ row ∷ []) (omega (arith, takes.more)),
     )
 
--- the strip of the next row exists, and its byte count fits in 32 bits
-pub strip-there : (plate : PlateState) (rows : List (List ℕ)) (row packed : List ℕ) → IsPlate plate → TakesRow plate rows row packed → length plate.ends / rows_each plate.width < length plate.counts
-strip-there plate rows row packed is takes =
-    let p : HasParts plate rows = parts plate rows takes.has in
-    let here : length rows / rows_each plate.width < strip_count plate.width plate.height = strip-in_plate plate.width plate.height (length rows) takes.more in
-    rw (p.many) (omega (arith, is.strips, here))
-
-pub count-there : (plate : PlateState) (rows : List (List ℕ)) (row packed : List ℕ) → IsPlate plate → TakesRow plate rows row packed
-    → get_or plate.counts (length plate.ends / rows_each plate.width) 0 + length packed ≤ 4000000000
-count-there plate rows row packed is takes =
-    let p : HasParts plate rows = parts plate rows takes.has in
-    let fits : _ = count-fits plate.width plate.height rows row is.width is.height takes.more takes.has.each takes.size in
-    rw (p.many, p.counts, takes.is) fits
-
 -- the plate after one more row
-pub so_far-more : (plate new : PlateState) (rows : List (List ℕ)) (row packed : List ℕ) (strip : ℕ) → TakesRow plate rows row packed → IsAlike plate new
-    → new.bytes ≡ plate.bytes ++ packed → new.ends ≡ plate.ends ++ length (plate.bytes ++ packed) ∷ [] → strip ≡ length plate.ends / rows_each plate.width
-    → new.counts ≡ set plate.counts strip (get_or plate.counts strip 0 + length packed) → new ≡ so_far plate.width plate.height plate.dpi (rows ++ row ∷ [])
+pub so_far-more : (plate new : PlateState) (rows : List (List ℕ)) (row packed : List ℕ) → TakesRow plate rows row packed → IsAlike plate new
+    → new.bytes ≡ plate.bytes ++ packed → new.ends ≡ plate.ends ++ length (plate.bytes ++ packed) ∷ []
+    → new.counts ≡ counted (length plate.ends) (length plate.ends / rows_each plate.width) (length packed) plate.counts → new ≡ so_far plate.width plate.height plate.dpi (rows ++ row ∷ [])
 unfolding so_far
-so_far-more plate new rows row packed strip takes sides bytes ends here counts =
+so_far-more plate new rows row packed takes sides bytes ends counts =
     let p : HasParts plate rows = parts plate rows takes.has in
     let joined : front_bytes ++ (flat_map packing rows ++ packing row) ≡ plate.bytes ++ packed =
     sym (append_assoc front_bytes (flat_map packing rows) (packing row)) ∙ ap (λ l. l ++ packing row) (sym p.bytes) ∙ ap (λ l. plate.bytes ++ l) (sym takes.is) in
@@ -109,19 +97,12 @@ so_far-more plate new rows row packed strip takes sides bytes ends here counts =
     made new plate.width plate.height plate.dpi (front_bytes ++ flat_map packing (rows ++ row ∷ [])) (counts_so_far plate.width plate.height (rows ++ row ∷ [])) (row_ends (rows ++ row ∷ []))
     sides.width sides.height sides.dpi
     (bytes ∙ sym joined ∙ ap (λ l. front_bytes ++ l) (sym all))
-    (counts ∙ ap (λ i. set plate.counts i (get_or plate.counts i 0 + length packed)) (here ∙ ap (λ n. n / rows_each plate.width) p.many)
-    ∙ ap (λ l. set l (length rows / rows_each plate.width) (get_or l (length rows / rows_each plate.width) 0 + length packed)) p.counts
-    ∙ ap (λ l. set (counts_so_far plate.width plate.height rows) (length rows / rows_each plate.width) (get_or (counts_so_far plate.width plate.height rows) (length rows / rows_each plate.width) 0 + length l)) takes.is
-    ∙ sym (counts_so_far-more plate.width plate.height rows row takes.more))
+    (counts ∙ ap (λ n. counted n (n / rows_each plate.width) (length packed) plate.counts) p.many
+    ∙ ap (λ l. counted (length rows) (length rows / rows_each plate.width) (length l) plate.counts) takes.is
+    ∙ counted-row plate.width plate.height (length rows) rows row plate.counts refl takes.more (ap length p.counts ∙ length-counts_so_far plate.width plate.height rows) (λ some. p.counts))
     (ends ∙ ap (λ l. l ++ length (plate.bytes ++ packed) ∷ []) p.ends ∙ ap (λ n. row_ends rows ++ n ∷ []) (sym last) ∙ sym (row_ends-more rows row))
 
--- every offset in the complete plate fits in 32 bits
-pub placeable : (plate : PlateState) (rows : List (List ℕ)) → IsPlate plate → HasAllRows plate rows → IsPlaceable plate.counts
-placeable plate rows is has =
-    let p : HasParts plate rows = parts plate rows has.has in
-    let fits : IsPlaceable (counts_so_far plate.width plate.height rows) = IsPlaceable-so_far plate.width plate.height rows is.width is.height (omega (arith, has.all)) has.has.each in
-    omega (arith, ap sum p.counts, fits)
-
+-- the front is there
 pub front-there : (plate : PlateState) (rows : List (List ℕ)) → HasRows plate rows → 8 ≤ length plate.bytes
 front-there plate rows has = (let p : HasParts plate rows = parts plate rows has in omega (arith, ap length p.bytes, length-append front_bytes (flat_map packing rows)))
 

@@ -1,3 +1,4 @@
+pub mod Counts
 pub mod Growing
 pub mod Seams
 pub mod Worked

@@ -1,19 +1,17 @@
 // A plate in memory: the front and the packed rows as they arrive, then the bytes after them.
 ghost use Rattle.std.specs.Prelude.{◌≡◌, ◌+◌, ◌^◌, ◌<◌, ◌≤◌, ◌∷◌, [], ◌++◌, ℕ, List, IfOk, OnOk, OnErr};
-ghost use Rattle.std.specs.Prelude.{length, slice_index, slice_set};
-ghost use Rattle.tif_plate.specs.Plate.{IsSide, IsDpi, strip_count};
-ghost use Rattle.tif_plate.specs.Tail.{IsPlaceable, tail_bytes, tail_place, tail_room};
+ghost use Rattle.std.specs.Prelude.{length};
+ghost use Rattle.tif_plate.specs.Plate.{IsSide, IsDpi};
+ghost use Rattle.tif_plate.specs.Tail.{tail_bytes, tail_place};
 ghost use Rattle.pr_base.specs.Place.{with_place};
 ghost use Rattle.plate_bytes.specs.Places.{IsSeam};
 
+use crate::PlateStrips;
 use byteorder::{ByteOrder, LittleEndian};
 use pr_base::NoMemory;
 use std::alloc::Global;
 use std::marker::Model;
-use tif_plate::{plate_front, plate_tail, rows_per_strip, strips};
-
-/// The maximum length of the bytes after a plate's rows, without the eight bytes per strip.
-const MOST_TAIL: usize = 167;
+use tif_plate::{Sides, plate_front};
 
 /// The bytes before the first row.
 const FRONT: u64 = 8;
@@ -24,42 +22,35 @@ const FRONT: u64 = 8;
 /// reused for a plate of the same size.
 #[derive(Debug, Drop)]
 pub struct PlateBytes {
-    width: u32,
-    height: u32,
-    dpi: u32,
+    strips: PlateStrips,
     bytes: Vec<u8>,
-    /// The byte count of each strip so far.
-    counts: Vec<u32>,
     /// The offset of the end of each packed row.
     ends: Vec<u32>,
-    /// Space for the bytes after the rows.
-    tail: Vec<u8>,
 }
 
 impl Model for PlateBytes {
-    ghost use Rattle.std.specs.Prelude.{◌≤◌, length};
-    ghost use Rattle.tif_plate.specs.Tail.{tail_room};
+    ghost use Rattle.std.specs.Prelude.{◌≡◌, ◌<◌, length};
     ghost use Rattle.plate_bytes.specs.Made.{IsPlate, PlateState};
 
     ghost Value = { PlateState };
 
     ghost view = { λ p. record {
-      width = p.width;
-      height = p.height;
-      dpi = p.dpi;
+      width = p.strips.sides.width;
+      height = p.strips.sides.height;
+      dpi = p.strips.sides.dpi;
       bytes = p.bytes.items;
-      counts = p.counts.items;
+      counts = p.strips.counts;
       ends = p.ends.items;
     } };
 
     ghost invariant = { λ p. IsPlate (record {
-      width = p.width;
-      height = p.height;
-      dpi = p.dpi;
+      width = p.strips.sides.width;
+      height = p.strips.sides.height;
+      dpi = p.strips.sides.dpi;
       bytes = p.bytes.items;
-      counts = p.counts.items;
+      counts = p.strips.counts;
       ends = p.ends.items;
-    }) × (tail_room p.width p.height ≤ length p.tail.items) };
+    }) × (length p.ends.items < p.strips.sides.height → p.strips.next ≡ length p.ends.items) };
 }
 
 impl PlateBytes {
@@ -73,19 +64,13 @@ impl PlateBytes {
         requires dpi { IsDpi dpi }
         ensures { IfOk result (λ plate. plate ≡ so_far width height dpi []) }
     {
-        let strips = strips(width, height) as usize;
         let mut bytes = Vec::new(alloc);
         bytes.extend_from_slice(&plate_front())?;
-        let counts = vec![in alloc; 0; strips]?;
-        let tail = vec![in alloc; 0; MOST_TAIL + 8 * strips]?;
+        let strips = PlateStrips::new(alloc, Sides { width, height, dpi })?;
         Ok(PlateBytes {
-            width,
-            height,
-            dpi,
+            strips,
             bytes,
-            counts,
             ends: Vec::new(alloc),
-            tail,
         })
     }
 
@@ -97,7 +82,7 @@ impl PlateBytes {
     {
         self.bytes.clear();
         self.bytes.extend_from_slice(&plate_front())?;
-        self.counts.fill(0);
+        self.strips.clear();
         self.ends.clear();
         Ok(())
     }
@@ -110,9 +95,8 @@ impl PlateBytes {
             self.new ≡ so_far self.old.width self.old.height self.old.dpi (rows ++ row ∷ [])) }
         ensures sides { IsAlike self.old self.new }
     {
-        let strip = self.ends.len() / rows_per_strip(self.width) as usize;
         append(&mut self.bytes, &mut self.ends, packed)?;
-        count(&mut self.counts, strip, packed.len());
+        self.strips.count(packed.len());
         Ok(())
     }
 
@@ -123,14 +107,7 @@ impl PlateBytes {
             self.new ≡ whole self.old.width self.old.height self.old.dpi rows) }
         ensures sides { IsAlike self.old self.new }
     {
-        close(
-            self.width,
-            self.height,
-            self.dpi,
-            &self.counts,
-            &mut self.tail,
-            &mut self.bytes,
-        )?;
+        close(&mut self.strips, &mut self.bytes)?;
         Ok(())
     }
 
@@ -173,37 +150,16 @@ fn append(bytes: &mut Vec<u8>, ends: &mut Vec<u32>, packed: &[u8]) -> Result<(),
     Ok(())
 }
 
-/// Adds the length of a packed row to the byte count of its strip.
-fn count(counts: &mut Vec<u32>, strip: usize, len: usize)
-    requires strip { strip < length counts.old.items }
-    requires len { slice_index counts.old.items strip + len ≤ 4000000000 }
-    ensures { counts.new.items
-        ≡ slice_set counts.old.items strip (slice_index counts.old.items strip + len) }
+/// Appends the bytes after the rows and writes the offset of the directory.
+fn close(strips: &mut PlateStrips, bytes: &mut Vec<u8>) -> Result<(), NoMemory>
+    requires { 8 ≤ length bytes.old.items }
+    ensures bytes { OnOk result (bytes.new.items ≡ with_place (tail_place strips.old.counts)
+        (bytes.old.items ++ tail_bytes strips.old.sides.width strips.old.sides.height strips.old.sides.dpi
+        strips.old.counts)) }
+    ensures strips { strips.new ≡ record strips.old { room = strips.new.room } }
 {
-    counts[strip] += len as u32;
-}
-
-/// Appends the bytes after the rows, which are built in `room`, and writes the offset of the directory.
-fn close(
-    width: u32,
-    height: u32,
-    dpi: u32,
-    counts: &[u32],
-    room: &mut [u8],
-    bytes: &mut Vec<u8>,
-) -> Result<(), NoMemory>
-    requires width { IsSide width }
-    requires height { IsSide height }
-    requires dpi { IsDpi dpi }
-    requires counts { length counts.now ≡ strip_count width height }
-    requires sum { IsPlaceable counts.now }
-    requires room { tail_room width height ≤ length room.old }
-    requires front { 8 ≤ length bytes.old.items }
-    ensures { OnOk result (bytes.new.items ≡ with_place (tail_place counts.now)
-        (bytes.old.items ++ tail_bytes width height dpi counts.now)) }
-{
-    let tail = plate_tail(width, height, dpi, counts, room);
-    bytes.extend_from_slice(&room[..tail.len])?;
+    let tail = strips.write_tail();
+    bytes.extend_from_slice(strips.tail(tail.len))?;
     put_place(bytes, tail.at);
     Ok(())
 }

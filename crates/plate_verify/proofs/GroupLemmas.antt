@@ -17,8 +17,10 @@ use Rattle.plan_rows.proofs.Places.{ink_place-at}
 use Rattle.plan_rows.proofs.RowLemmas.{ink_count-within}
 use Rattle.plate_bytes.specs.Made.{PlateState, whole}
 use Rattle.plate_verify.specs.Looking.{AreMade}
-use Rattle.plate_verify.specs.Making.{Sides, HaveSides, AreWhole, AreFed, turn_rows}
-use Rattle.plate_verify.specs.Verify.{FedFrom, FedGroup, sides_of}
+use Rattle.plate_verify.specs.Making.{HaveSides, AreWhole, AreFed, turn_rows}
+use Rattle.tif_plate.specs.declared.sides.Sides.{Sides}
+use Rattle.plate_verify.specs.Verify.{FedFrom, FedGroup}
+use Rattle.plan_rows.specs.Sides.{plate_sides}
 use Rattle.plate_verify.proofs.MakeLemmas.{drops}
 
 pub on_ok_always : {T E : Type 0} (r : Result T E) (P : Type 0) → P → OnOk r P
@@ -33,11 +35,11 @@ get_or-take (suc k) (p ∷ plates) (suc i) d below = get_or-take k plates i d (o
 
 -- the first plates receive the rows of the group
 pub group_fed : (plan : PlanData) (rows : List (List ℕ)) (group : Group) (plates : List PlateState) (left : List (List ℕ)) (len k : ℕ) → FedGroup plan rows group plates left len → k ≡ ink_count group → k ≤ length plates
-    → AreFed (take k plates) left len (sides_of plan) (drop group.first rows)
+    → AreFed (take k plates) left len (plate_sides plan) (drop group.first rows)
 group_fed plan rows group plates left len k g is few =
     let many : length (take k plates) ≡ k = length-take-le k plates few in
     let counted : plate_height plan * length (take k plates) ≡ plate_height plan * ink_count group = ap (λ n. plate_height plan * n) (many ∙ is) in
-    let have : HaveSides (sides_of plan) plates = g.fed.have in
+    let have : HaveSides (plate_sides plan) plates = g.fed.have in
     record {
       have = record {
         width = λ i d below. ap {A = PlateState} (λ p. p.width) (get_or-take k plates i d below) ∙ have.width i d (omega arith);
@@ -74,7 +76,7 @@ turn_is plan rows group i ink is =
 
 -- so the plates are made
 pub group_made : (plan : PlanData) (rows : List (List ℕ)) (group : Group) (k height : ℕ) (made : List PlateState) → k ≡ ink_count group → height ≡ plate_height plan
-    → AreWhole (sides_of plan) (turn_rows k (drop group.first rows) height) made → AreMade plan rows group made
+    → AreWhole (plate_sides plan) (turn_rows k (drop group.first rows) height) made → AreMade plan rows group made
 group_made plan rows group k height made is high all = record {
   each = λ i ink plate inked there.
       let at : (i < length made) × (get_or made i plate ≡ plate) = at_index made i plate there in
@@ -90,7 +92,7 @@ whole_sides sides plate rows e = (ap {A = PlateState} (λ p. p.width) e, ap {A =
 
 -- the next group follows in the feed
 pub fed_after : (plan : PlanData) (rows : List (List ℕ)) (group : Group) (plates made : List PlateState) (left left' : List (List ℕ)) (len len' k height : ℕ) (turn : ℕ → List (List ℕ))
-    → FedGroup plan rows group plates left len → k ≡ ink_count group → height ≡ plate_height plan → length made ≡ length (take k plates) → AreWhole (sides_of plan) turn made
+    → FedGroup plan rows group plates left len → k ≡ ink_count group → height ≡ plate_height plan → length made ≡ length (take k plates) → AreWhole (plate_sides plan) turn made
     → left' ≡ map frame_of (drop (height * length (take k plates)) (drop group.first rows)) → len' ≡ len
     → FedFrom plan rows (group.first + plate_height plan * ink_count group) (made ++ drop k plates) left' len'
 fed_after plan rows group plates made left left' len len' k height turn g is high many all feeds same =
@@ -98,13 +100,13 @@ fed_after plan rows group plates made left left' len len' k height turn g is hig
     let taken : length (take k plates) ≡ k = length-take-le k plates few in
     let own : length made ≡ k = many ∙ taken in
     let whole_length : length (made ++ drop k plates) ≡ length plates = length-append made (drop k plates) ∙ omega (arith, own, length-drop k plates) in
-    let have : HaveSides (sides_of plan) plates = g.fed.have in
+    let have : HaveSides (plate_sides plan) plates = g.fed.have in
     let rows_taken : height * length (take k plates) ≡ plate_height plan * ink_count group = ap (λ n. height * n) (taken ∙ is) ∙ ap (λ n. n * ink_count group) high in
     record {
       have = record {
-        width = λ i d below. field (λ p. p.width) (plate_width plan) own few (λ j e w. (whole_sides (sides_of plan) (get_or made j e) (turn j) (all.are j e w)).0) have.width i d (omega (arith, whole_length));
-        height = λ i d below. field (λ p. p.height) (plate_height plan) own few (λ j e w. (whole_sides (sides_of plan) (get_or made j e) (turn j) (all.are j e w)).1) have.height i d (omega (arith, whole_length));
-        dpi = λ i d below. field (λ p. p.dpi) plan.dpi own few (λ j e w. (whole_sides (sides_of plan) (get_or made j e) (turn j) (all.are j e w)).2) have.dpi i d (omega (arith, whole_length));
+        width = λ i d below. field (λ p. p.width) (plate_width plan) own few (λ j e w. (whole_sides (plate_sides plan) (get_or made j e) (turn j) (all.are j e w)).0) have.width i d (omega (arith, whole_length));
+        height = λ i d below. field (λ p. p.height) (plate_height plan) own few (λ j e w. (whole_sides (plate_sides plan) (get_or made j e) (turn j) (all.are j e w)).1) have.height i d (omega (arith, whole_length));
+        dpi = λ i d below. field (λ p. p.dpi) plan.dpi own few (λ j e w. (whole_sides (plate_sides plan) (get_or made j e) (turn j) (all.are j e w)).2) have.dpi i d (omega (arith, whole_length));
       };
       five = omega (arith, whole_length, g.fed.five);
       feeds = feeds ∙ ap (λ n. map frame_of (drop n (drop group.first rows))) rows_taken ∙ ap (map frame_of) (drops group.first (plate_height plan * ink_count group) rows);

@@ -12,7 +12,8 @@ use Rattle.tif_packbits.specs.Frame.{frame_of, frame_size, packed_in, IsFrame}
 use Rattle.tif_packbits.proofs.Frames.{length-frame_of, packed_in-frame_of, IsFrame-frame_of}
 use Rattle.plan_rows.proofs.Held.{below_next}
 use Rattle.plate_bytes.specs.Made.{PlateState, HasRows, TakesRow, HasAllRows, so_far, whole}
-use Rattle.plate_verify.specs.Making.{Sides, HaveSides, HaveRows, AreWhole, AreFull, TakesNext, EachTakes, AreFed, turn_rows}
+use Rattle.plate_verify.specs.Making.{HaveSides, HaveRows, AreWhole, AreFull, TakesNext, EachTakes, AreFed, turn_rows}
+use Rattle.tif_plate.specs.declared.sides.Sides.{Sides}
 
 pub on_ok : {T E : Type 0} (r : Result T E) (P Q : Type 0) → OnOk r P → (P → Q) → OnOk r Q
 on_ok (Ok x) P Q p gives = gives p

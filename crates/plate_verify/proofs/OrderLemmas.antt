@@ -22,7 +22,8 @@ use Rattle.plate_verify.specs.declared.checked.Checked.{Checked}
 use Rattle.plate_verify.specs.declared.checked.VerifyFault.{VerifyFault}
 use Rattle.plate_verify.specs.Order.{SitePlate, plate_sites, plates_in_order}
 use Rattle.plate_verify.specs.Looking.{ShelfTold, AreRight, Looked, group_sites}
-use Rattle.plate_verify.specs.Making.{Sides, HaveSides}
+use Rattle.plate_verify.specs.Making.{HaveSides}
+use Rattle.tif_plate.specs.declared.sides.Sides.{Sides}
 use Rattle.plate_verify.specs.Verify.{FedFrom, FedGroup}
 use Rattle.plate_verify.proofs.LookLemmas.{IsStopped, none_looked, looked_more, looked_stops, looked_all}
 

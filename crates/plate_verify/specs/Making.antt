@@ -3,13 +3,8 @@ use Rattle.std.specs.Prelude.{◌≡◌, ℕ, ◌+◌, ◌*◌, ◌<◌, ◌≤�
 use Rattle.std.specs.List.{range_with_len}
 use Rattle.pr_base.specs.Row.{row_size}
 use Rattle.tif_packbits.specs.Frame.{frame_of, frame_size}
+use Rattle.tif_plate.specs.declared.sides.Sides.{Sides}
 use Rattle.plate_bytes.specs.Made.{PlateState, HasRows, so_far, whole}
-
--- the sides and the resolution of plates
-pub record Sides : Type 0 where
-  pub width : ℕ
-  pub height : ℕ
-  pub dpi : ℕ
 
 -- each of these plates has these sides
 pub record HaveSides (sides : Sides) (plates : List PlateState) : Type 0 where

@@ -7,23 +7,20 @@ use Rattle.plan_json.specs.Data.{PlanData, plate_width, plate_height}
 use Rattle.plan_rows.specs.declared.group.Group.{Group}
 use Rattle.plan_rows.specs.Inks.{ink_count}
 use Rattle.plan_rows.specs.Rows.{row_total, rows_of}
+use Rattle.plan_rows.specs.Sides.{plate_sides}
 use Rattle.plate_bytes.specs.Made.{PlateState}
 use Rattle.plate_verify.specs.declared.checked.VerifyFault.{VerifyFault}
 use Rattle.plate_verify.specs.declared.checked.VerifyFault.TheVariants.{Shelf, Memory}
 use Rattle.plate_verify.specs.declared.checked.Checked.{Checked}
 use Rattle.plate_verify.specs.declared.checked.Checked.TheVariants.{Same}
 use Rattle.plate_verify.specs.Order.{plates_in_order}
-use Rattle.plate_verify.specs.Making.{Sides, HaveSides}
-
--- the sides of the plates of a plan
-abbrev pub sides_of : PlanData → Sides
-sides_of plan = record { width = plate_width plan; height = plate_height plan; dpi = plan.dpi }
+use Rattle.plate_verify.specs.Making.{HaveSides}
 
 -- plates in memory for the plates of a plan; the frames of these rows, from this number on, are the next of a
 -- feed
 pub record FedFrom (plan : PlanData) (rows : List (List ℕ)) (number : ℕ) (plates : List PlateState)
     (left : List (List ℕ)) (len : ℕ) : Type 0 where
-  pub have : HaveSides (sides_of plan) plates
+  pub have : HaveSides (plate_sides plan) plates
   pub five : 5 ≤ length plates
   pub feeds : left ≡ map frame_of (drop number rows)
   pub each : All (λ row. length row ≡ row_size (plate_width plan)) rows

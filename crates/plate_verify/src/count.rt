@@ -6,8 +6,8 @@ ghost use Rattle.plan_rows.specs.Rows.{rows_of};
 ghost use Rattle.plate_verify.specs.Looking.{group_sites};
 ghost use Rattle.plate_verify.specs.Order.{plates_in_order};
 
-use crate::edition::{group_at, group_number};
-use crate::look::{ink_number, site_count};
+use crate::edition::{group_at, group_count};
+use crate::look::ink_number;
 use plan_json::Plan;
 use plan_rows::{Group, RowPlan};
 
@@ -27,11 +27,11 @@ fn sites_of(group: &Group, sites: usize) -> u32
 }
 
 /// The number of plates of a group at all its sites.
-fn group_count(plan: &Plan, group: &Group) -> u32
+fn plate_count(plan: &Plan, group: &Group) -> u32
     ensures count { result ≡ length (group_sites plan.now group.now) }
     ensures within { result ≤ 80 }
 {
-    ink_number(group) as u32 * sites_of(group, site_count(plan))
+    ink_number(group) as u32 * sites_of(group, plan.site_count())
 }
 
 /// The number of plates of all sites.
@@ -40,8 +40,8 @@ pub(crate) fn count_plates(plan: &Plan, rows: &RowPlan) -> u32
     ensures { result ≡ length (plates_in_order plan.now) }
 {
     let mut plates = 0;
-    for index in 0..group_number(plan, rows) {
-        plates += group_count(plan, group_at(plan, rows, index));
+    for index in 0..group_count(plan, rows) {
+        plates += plate_count(plan, group_at(plan, rows, index));
     }
     plates
 }

@@ -11,7 +11,7 @@ ghost use Rattle.plan_rows.specs.Groups.{groups_of};
 ghost use Rattle.plan_rows.specs.Rows.{row_total, rows_of};
 ghost use Rattle.plate_verify.specs.Looking.{AfterAll, FailsAt, IfLong, Looked, UnlessLong};
 ghost use Rattle.plate_verify.specs.Looking.{shelf_told, told};
-ghost use Rattle.plate_verify.specs.Making.{HaveSides, Sides};
+ghost use Rattle.plate_verify.specs.Making.{HaveSides};
 ghost use Rattle.plate_verify.specs.Order.{plates_in_order};
 ghost use Rattle.plate_verify.specs.Verify.{CanBeLooked, FedFrom, IfShelf, answer_of};
 ghost use Rattle.plate_verify.specs.Wrong.{first_wrong};
@@ -20,29 +20,25 @@ use crate::count::count_plates;
 use crate::group::check_group;
 use crate::{Checked, VerifyFault};
 use plan_json::Plan;
-use plan_pages::plate_shape;
-use plan_rows::{Group, RowPlan};
+use plan_rows::{Group, RowPlan, plate_sides};
 use plate_bytes::PlateBytes;
-use pr_base::{NoMemory, RowFeed, row_bytes};
+use pr_base::{INKS, NoMemory, RowFeed, row_bytes};
 use pr_ports::Shelf;
 use std::alloc::Global;
 use tif_packbits::frame_len;
-
-/// The largest number of inks in a group.
-const INKS: usize = 5;
+use tif_plate::Sides;
 
 /// Returns plates in memory for a group.
-fn plates_for(alloc: Global, width: u32, height: u32, dpi: u32) -> Result<Vec<PlateBytes>, NoMemory>
-    requires width { IsSide width }
-    requires height { IsSide height }
-    requires dpi { IsDpi dpi }
-    ensures sides { IfOk result (λ plates. (sides : Sides) → width ≡ sides.width → height ≡ sides.height →
-        dpi ≡ sides.dpi → HaveSides sides plates.items) }
+fn plates_for(alloc: Global, sides: Sides) -> Result<Vec<PlateBytes>, NoMemory>
+    requires width { IsSide sides.width }
+    requires height { IsSide sides.height }
+    requires dpi { IsDpi sides.dpi }
+    ensures sides { IfOk result (λ plates. HaveSides sides plates.items) }
     ensures five { IfOk result (λ plates. length plates.items ≡ 5) }
 {
     let mut plates = Vec::new(alloc);
     for _i in 0..INKS {
-        plates.push(PlateBytes::new(alloc, width, height, dpi)?)?;
+        plates.push(PlateBytes::new(alloc, sides.width, sides.height, sides.dpi)?)?;
     }
     Ok(plates)
 }
@@ -57,7 +53,7 @@ fn frame_room(alloc: Global, width: u32) -> Result<Vec<u8>, NoMemory>
 }
 
 /// The number of groups of a plan.
-pub(crate) fn group_number(plan: &Plan, rows: &RowPlan) -> usize
+pub(crate) fn group_count(plan: &Plan, rows: &RowPlan) -> usize
     requires { rows.now ≡ rows_of plan.now }
     ensures { result ≡ length (groups_of plan.now) }
 {
@@ -97,7 +93,7 @@ fn check_groups<F: RowFeed, H: Shelf>(
         Looked plan.now all out.now (plates_in_order plan.now)
         (shelf_told H.Shelf shelf.old) (shelf_told H.Shelf shelf.new) result }
 {
-    for index in 0..group_number(plan, rows) {
+    for index in 0..group_count(plan, rows) {
         let group = group_at(plan, rows, index);
         match check_group(alloc, plan, out, group, height, plates, frame, feed, shelf) {
             Ok(None) => {}
@@ -124,11 +120,11 @@ fn check_all<F: RowFeed, H: Shelf>(
     ensures { AfterAll plan.now (map framed_row (F.left feed.old)) out.now
         (shelf_told H.Shelf shelf.old) (shelf_told H.Shelf shelf.new) result }
 {
-    let shape = plate_shape(plan);
-    let Ok(mut plates) = plates_for(alloc, shape.width, shape.height, plan.dpi) else {
+    let sides = plate_sides(plan);
+    let Ok(mut plates) = plates_for(alloc, sides) else {
         return Err(VerifyFault::Memory);
     };
-    let Ok(mut frame) = frame_room(alloc, shape.width) else {
+    let Ok(mut frame) = frame_room(alloc, sides.width) else {
         return Err(VerifyFault::Memory);
     };
     let looked = check_groups(
@@ -136,7 +132,7 @@ fn check_all<F: RowFeed, H: Shelf>(
         plan,
         rows,
         out,
-        shape.height,
+        sides.height,
         &mut plates,
         &mut frame,
         feed,

@@ -63,14 +63,6 @@ fn look_at<H: Shelf>(
     }
 }
 
-/// The number of sites.
-pub(crate) fn site_count(plan: &Plan) -> usize
-    ensures count { result ≡ length plan.now.sites }
-    ensures within { result ≤ 16 }
-{
-    plan.sites.len()
-}
-
 /// Verifies a plate at a site, if the site has it.
 fn look_at_site<H: Shelf>(
     alloc: Global,
@@ -110,7 +102,7 @@ fn look_at_sites<H: Shelf>(
         Looked plan.now rows out.now (plate_sites plan.now (group.now, ink))
         (shelf_told H.Shelf shelf.old) (shelf_told H.Shelf shelf.new) result }
 {
-    for site in 0..site_count(plan) {
+    for site in 0..plan.site_count() {
         match look_at_site(alloc, plan, out, group, ink, site, made, shelf) {
             Ok(None) => {}
             Ok(Some(found)) => return Ok(Some(found)),

@@ -4,7 +4,8 @@ ghost use Rattle.std.specs.Prelude.{slice_index_or};
 ghost use Rattle.tif_packbits.specs.Frame.{frame_of};
 ghost use Rattle.plate_bytes.specs.Made.{so_far};
 ghost use Rattle.plate_verify.specs.Making.{AreFed, AreFull, AreWhole, CanBeFed, CanFinish, CanTakeAll};
-ghost use Rattle.plate_verify.specs.Making.{CanTakeNext, EachCanTake, EachTakes, HaveRows, HaveSides, Sides};
+ghost use Rattle.plate_verify.specs.Making.{CanTakeNext, EachCanTake, EachTakes, HaveRows, HaveSides};
+ghost use Rattle.tif_plate.specs.declared.sides.Sides.{Sides};
 ghost use Rattle.plate_verify.specs.Making.{TakesNext, turn_rows};
 
 use plate_bytes::PlateBytes;

@@ -5,7 +5,7 @@ use Rattle.std.specs.List.{list_any}
 use Rattle.std.proofs.lemmas.Bool.{and_from, and_parts, both_ways, cases_Bool, not-true, not_from_false}
 use Rattle.pr_base.proofs.Inks.{slot_below}
 use Rattle.plan_json.specs.Plan.{IsPlan}
-use Rattle.plan_pages.specs.Ink.{slot_of}
+use Rattle.pr_base.specs.Ink.{slot_of}
 use Rattle.plan_rows.specs.Groups.{groups_of, page_colour, page_spot}
 use Rattle.plan_rows.specs.Inks.{has_ink, inks_of}
 use Rattle.plan_rows.proofs.GroupLemmas.{inks_by}

@@ -2,7 +2,7 @@
 use Rattle.std.specs.Prelude.{◌≡◌, ℕ, Bool, false, not, ◌&&◌, List, [], filter, slice_index_or}
 use Rattle.pr_base.specs.declared.ink.Ink.{Ink}
 use Rattle.plan_json.specs.Data.{PlanData}
-use Rattle.plan_pages.specs.Ink.{slot_of}
+use Rattle.pr_base.specs.Ink.{slot_of}
 use Rattle.replate.specs.Inputs.{JobData}
 use Rattle.replate.specs.Plates.{PlateAt, IsPlateOf, group_at, all_plates, has_path, path_below}
 use Rattle.replate.specs.Recipe.{Recipe, recipe_of}

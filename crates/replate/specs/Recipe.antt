@@ -7,7 +7,7 @@ use Rattle.plan_parts.specs.declared.printing.Screen.{Screen}
 use Rattle.plan_parts.specs.declared.printing.Screen.TheVariants as screens
 use Rattle.plan_parts.specs.Data.{CurveData, LayerData, MarkData, TileData}
 use Rattle.plan_json.specs.Data.{PlanData}
-use Rattle.plan_pages.specs.Ink.{slot_of}
+use Rattle.pr_base.specs.Ink.{slot_of}
 use Rattle.plan_rows.specs.Groups.{page_colour, page_spot}
 
 -- ---- screens

@@ -7,7 +7,6 @@ ghost use Rattle.site_agent.specs.Racks.{AreIdle, KeepCounts};
 ghost use Rattle.replate.specs.Remade.{AreRowsOf, RemadeFits, RemadePart, by_picks};
 
 use crate::remaking::Remaking;
-use crate::standing::site_count;
 use crate::{Inputs, Picks, RemadeEnd};
 use pr_base::{Deal, NoMemory, RowFeed};
 use pr_rack::Rack;
@@ -43,7 +42,8 @@ pub fn deliver<D: Deal, F: RowFeed, R: Rack>(
     ensures others { drop (length after.now.plan.sites) racks.new
         ≡ drop (length after.now.plan.sites) racks.old }
 {
-    let sites = site_count(after);
+    let plan = after.plan();
+    let sites = plan.site_count();
     let (racks, _others) = racks.split_at_mut(sites);
     let remaking = Remaking {
         alloc,

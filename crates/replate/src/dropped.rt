@@ -9,7 +9,7 @@ ghost use Rattle.replate.specs.Plates.{group_at, ink_plates, plates_in, plates_o
 ghost use Rattle.replate.specs.Standing.{StandsFor};
 
 use crate::alike::same_edition;
-use crate::standing::{counterpart, group_count, group_with, site_count};
+use crate::standing::{counterpart, group_count, group_with};
 use crate::{Inputs, OldPlate};
 use pr_base::NoMemory;
 use std::alloc::Global;
@@ -24,7 +24,8 @@ pub(crate) fn dropped_plates(
     ensures plan { IsPlan before.now.plan }
 {
     let mut plates = Vec::new(alloc);
-    for site in 0..site_count(before) {
+    let plan = before.plan();
+    for site in 0..plan.site_count() {
         add_site(&mut plates, before, after, site)?;
     }
     Ok(plates)

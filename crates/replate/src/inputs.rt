@@ -25,6 +25,7 @@ impl<'a> Model for Inputs<'a> {
 
 impl<'a> Inputs<'a> {
     ghost use Rattle.std.specs.Prelude.{◌≡◌, length};
+    ghost use Rattle.plan_json.specs.Plan.{IsPlan};
     ghost use Rattle.plan_rows.specs.Rows.{rows_of};
     ghost use Rattle.replate.specs.Inputs.{AreInputs, bytes_of};
 
@@ -40,7 +41,10 @@ impl<'a> Inputs<'a> {
     pub fn plan(&self) -> &'a Plan
         ensures plan { result.now ≡ self.now.plan }
         ensures count { length result.now.files ≡ length self.now.files }
+        ensures valid { IsPlan self.now.plan }
     {
+        // Reading the plan makes its invariant available to the proof.
+        let _files = self.plan.files();
         self.plan
     }
 

@@ -12,14 +12,11 @@ ghost use Rattle.replate.specs.Standing.{AreAllKept, AreKept, IsOfPlan, SamePage
 use crate::Inputs;
 use crate::alike::same_page;
 use crate::classes::Classes;
-use crate::standing::{counterpart, group_count, group_with, site_count};
+use crate::standing::{counterpart, group_count, group_with};
 use plan_json::Page;
 use plan_rows::Group;
-use pr_base::NoMemory;
+use pr_base::{NoMemory, SITES};
 use std::alloc::Global;
-
-/// The largest number of sites in a plan.
-pub(crate) const SITES: usize = 16;
 
 /// Returns, for each new group and each site, whether the old job has the same two pages at its place.
 pub(crate) fn kept_groups(
@@ -34,7 +31,8 @@ pub(crate) fn kept_groups(
         AreAllKept before.now after.now (length (groups_of after.now.plan)) kept.items) }
     ensures plan { IsPlan after.now.plan }
 {
-    let sites = site_count(after);
+    let plan = after.plan();
+    let sites = plan.site_count();
     let mut kept = Vec::new(alloc);
     for index in 0..group_count(after) {
         let group = group_with(after, index);

@@ -5,21 +5,18 @@ ghost use Rattle.replate.specs.Standing.{IsAlike};
 use crate::alike::{same_edition, same_screen, same_settings};
 use crate::classes::Classes;
 use crate::dropped::dropped_plates;
-use crate::kept::{SITES, kept_groups};
+use crate::kept::kept_groups;
 use crate::{Inputs, OldPlate};
 use plan_json::Plan;
-use pr_base::{Ink, NoMemory};
+use pr_base::{INKS, Ink, NoMemory, SITES};
 use std::alloc::Global;
 use std::marker::Model;
-
-/// The number of ink slots.
-const SLOTS: usize = 5;
 
 /// Which plates of a new job must be made, compared with an old job, and which old plates are dropped. They
 /// take one byte for each site that a plan may have, for each group of the new plan.
 #[derive(Debug, Drop)]
 pub struct Picks {
-    alike: [bool; SLOTS],
+    alike: [bool; INKS],
     kept: Vec<[bool; SITES]>,
     dropped: Vec<OldPlate>,
 }
@@ -76,12 +73,12 @@ impl Picks {
 }
 
 /// Returns, for each ink, whether both plans have the same edition and settings, and screen it alike.
-fn alike_inks(before: &Plan, after: &Plan) -> [bool; SLOTS]
+fn alike_inks(before: &Plan, after: &Plan) -> [bool; INKS]
     ensures { (slot : ℕ) → slot < 5
         → IsTrue (slice_index_or result slot false) ↔ IsAlike before.now after.now slot }
 {
-    let mut alike = [false; SLOTS];
-    for slot in 0..SLOTS {
+    let mut alike = [false; INKS];
+    for slot in 0..INKS {
         alike[slot] = is_alike(before, after, slot);
     }
     alike

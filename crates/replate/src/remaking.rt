@@ -5,7 +5,7 @@ ghost use Rattle.tif_packbits.specs.Frame.{framed_row};
 ghost use Rattle.pr_rack.specs.Told.{all_told, told};
 ghost use Rattle.plan_json.specs.Plan.{IsPlan};
 ghost use Rattle.plan_rows.specs.Groups.{groups_of};
-ghost use Rattle.site_agent.specs.Racks.{AllTellSlots, AreIdle, KeepCounts};
+ghost use Rattle.site_agent.specs.Racks.{AreIdle, KeepCounts};
 ghost use Rattle.replate.specs.declared.maker.Maker.{Maker as MakerData};
 ghost use Rattle.replate.specs.Making.{AllMade, AllSomeServed, AllStopped, IsUp, fresh_maker, fresh_makers};
 ghost use Rattle.replate.specs.Making.{is_making as is_making_lem};
@@ -17,7 +17,7 @@ use crate::{Inputs, Picks, RemadeEnd};
 use pr_base::{Deal, NoMemory, RowFeed};
 use pr_rack::Rack;
 use ring_lanes::Deck;
-use site_agent::Site;
+use site_agent::{Site, tell_slots};
 use std::alloc::Global;
 
 /// What is constant during a delivery: the new job, which of its plates must be made, and the folder of the
@@ -136,13 +136,6 @@ fn end_of(wanted: &[bool]) -> RemadeEnd
         made: made as u32,
         kept: (wanted.len() - made) as u32,
     }
-}
-
-/// States that a rack reports of its slots what it reports of the begun ones.
-fn tell_slots<R: Rack>(racks: &[R])
-    ensures { AllTellSlots (all_told R.Rack racks.now) }
-{
-    let _ = racks;
 }
 
 /// Returns whether some site has plates left to make.

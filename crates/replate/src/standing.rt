@@ -1,5 +1,5 @@
 // The site and group of another plan that the path of a plate names.
-ghost use Rattle.std.specs.Prelude.{◌≡◌, ◌<◌, ◌≤◌, ◌↔◌, ℕ, IsTrue, IfSome, IfNone, length};
+ghost use Rattle.std.specs.Prelude.{◌≡◌, ◌<◌, ◌↔◌, ℕ, IsTrue, IfSome, IfNone, length};
 ghost use Rattle.plan_json.specs.Plan.{IsPlan};
 ghost use Rattle.plan_rows.specs.Groups.{groups_of};
 ghost use Rattle.plan_rows.specs.Inks.{has_site as is_of_site};
@@ -11,6 +11,7 @@ ghost use Rattle.replate.specs.Standing.{IsGroupOf, IsOfPlan, StandsFor};
 use crate::Inputs;
 use plan_json::Plan;
 use plan_rows::{Group, RowPlan, section_name, site_name};
+use pr_base::SITES;
 
 /// Returns the site and the group of another plan whose plates have, except for the edition, the paths of the
 /// plates of this group at this site.
@@ -48,8 +49,9 @@ pub(crate) fn group_with<'a>(job: &Inputs<'a>, index: usize) -> &'a Group
     ensures of_plan { IsOfPlan job.now.plan result.now }
     ensures plan { IsPlan job.now.plan }
 {
-    let sites = site_count(job);
-    prove!(sites <= 16);
+    let plan = job.plan();
+    let sites = plan.site_count();
+    prove!(sites <= SITES);
     &job.rows().groups()[index]
 }
 
@@ -58,15 +60,6 @@ pub(crate) fn group_count(job: &Inputs<'_>) -> usize
     ensures { result ≡ length (groups_of job.now.plan) }
 {
     job.rows().groups().len()
-}
-
-/// Returns the number of sites of a job's plan.
-pub(crate) fn site_count(job: &Inputs<'_>) -> usize
-    ensures count { result ≡ length job.now.plan.sites }
-    ensures most { result ≤ 16 }
-    ensures plan { IsPlan job.now.plan }
-{
-    job.plan().sites.len()
 }
 
 /// Returns the group of a section, a pair and a site.

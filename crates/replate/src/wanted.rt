@@ -6,7 +6,7 @@ ghost use Rattle.plan_rows.specs.Inks.{inks_of};
 ghost use Rattle.replate.specs.Plates.{group_at, ink_plates, plates_in};
 ghost use Rattle.replate.specs.Remade.{is_picked, picked_bits};
 
-use crate::standing::{group_count, group_with, site_count};
+use crate::standing::{group_count, group_with};
 use crate::{Inputs, Picks};
 use pr_base::{Ink, NoMemory};
 use std::alloc::Global;
@@ -23,7 +23,8 @@ pub(crate) fn wanted_of(
     ensures bits { IfOk result (λ bits. bits.items ≡ picked_bits picks.now after.now.plan site) }
     ensures plan { IsPlan after.now.plan }
 {
-    let sites = site_count(after);
+    let plan = after.plan();
+    let sites = plan.site_count();
     prove!(site < sites);
     let mut bits = Vec::new(alloc);
     for index in 0..group_count(after) {

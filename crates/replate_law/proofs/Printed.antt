@@ -24,7 +24,7 @@ use Rattle.plan_parts.specs.declared.printing.Screen.TheVariants as screens
 use Rattle.plan_parts.specs.Data.{LayerData}
 use Rattle.plan_json.specs.Data.{PlanData, height_over, plate_height, plate_width, width_over}
 use Rattle.plan_json.specs.Plan.{IsPlan}
-use Rattle.plan_pages.specs.Ink.{slot_of}
+use Rattle.pr_base.specs.Ink.{slot_of}
 use Rattle.plan_pages.specs.Plate.{covers, has_ink, is_marked_at}
 use Rattle.plan_pages.specs.Span.{in_span}
 use Rattle.plan_rows.specs.declared.group.Group.{Group}

@@ -2,7 +2,7 @@
 use Rattle.std.specs.Prelude.{◌≡◌, ◌<◌, ◌≤◌, ◌*◌, ℕ, length}
 use Rattle.pr_base.specs.declared.ink.Ink.{Ink}
 use Rattle.plan_json.specs.Plan.{IsPlan}
-use Rattle.plan_pages.specs.Ink.{slot_of}
+use Rattle.pr_base.specs.Ink.{slot_of}
 use Rattle.plan_pages.specs.Pages.{page_count}
 use Rattle.plan_rows.specs.Groups.{pages_at}
 use Rattle.plan_rows.specs.Paths.{site_name, section_name}

@@ -3,7 +3,7 @@ ghost use Rattle.std.specs.Prelude.{◌≡◌, ◌+◌, ◌<◌, ◌≤◌, leng
 ghost use Rattle.tif_packbits.specs.Frame.{framed_row};
 ghost use Rattle.pr_rack.specs.Told.{all_told};
 ghost use Rattle.ring_rule.specs.Views.{ring_of};
-ghost use Rattle.site_agent.specs.Racks.{AllTellSlots, AreIdle};
+ghost use Rattle.site_agent.specs.Racks.{AreIdle};
 ghost use Rattle.ring_turns.specs.Feeding.{HasRows};
 ghost use Rattle.ring_run.specs.Fits.{by_ring, on_ring};
 ghost use Rattle.ring_run.specs.JobRun.{IsRun, MayRun, RunLeaves};
@@ -22,16 +22,10 @@ use pr_rack::Rack;
 use press_job::BandFeed;
 use ring_lanes::{Ends, Ring, open_ring};
 use ring_turns::Pace;
+use site_agent::tell_slots;
 use std::alloc::Global;
 use std::thread::Threads;
 use std::time::Clock;
-
-/// States that a rack reports of its slots what it reports of the begun ones.
-fn tell_slots<R: Rack>(racks: &[R])
-    ensures { AllTellSlots (all_told R.Rack racks.now) }
-{
-    let _ = racks;
-}
 
 /// What is constant during a run: its plan and the order of its rows, the folder of the plates, the numbers
 /// of readers and places of the ring, and how often a turn looks in vain.

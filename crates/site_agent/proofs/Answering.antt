@@ -11,7 +11,7 @@ use Rattle.tif_packbits.specs.Frame.{packed_in}
 use Rattle.tif_plate.specs.Tail.{front_bytes, tail_bytes, tail_place}
 use Rattle.pr_rack.specs.Told.{Tells}
 use Rattle.site_agent.specs.declared.plate.SitePlate.{SitePlate}
-use Rattle.site_agent.specs.Job.{Shape}
+use Rattle.tif_plate.specs.declared.sides.Sides.{Sides}
 use Rattle.site_agent.specs.Tells.{begun_at, with_begin, with_taken, with_closed, with_finish, finished_at}
 use Rattle.site_agent.specs.Stands.{path_and_length, IsAsLong}
 
@@ -29,18 +29,18 @@ of_ok (Ok y) x P is p = p
 of_ok (Err f) x P is p = absurd (cc)
 
 -- a plate with this tail is finished if this was its last row
-pub finishes-at : (shape : Shape) (y place : ℕ) (plate : SitePlate) (counts tail : List ℕ) (old new : Tells) → y + 1 ≡ shape.height
-    → tail ≡ tail_bytes shape.width shape.height shape.dpi counts → place ≡ tail_place counts
-    → new ≡ with_closed plate.slot tail place old → new ≡ finished_at shape y plate counts old
-finishes-at shape y place plate counts tail old new last is there closed =
+pub finishes-at : (sides : Sides) (y place : ℕ) (plate : SitePlate) (counts tail : List ℕ) (old new : Tells) → y + 1 ≡ sides.height
+    → tail ≡ tail_bytes sides.width sides.height sides.dpi counts → place ≡ tail_place counts
+    → new ≡ with_closed plate.slot tail place old → new ≡ finished_at sides y plate counts old
+finishes-at sides y place plate counts tail old new last is there closed =
     closed
     ∙ ap (λ t. with_closed plate.slot t place old) is
-    ∙ ap (λ p. with_closed plate.slot (tail_bytes shape.width shape.height shape.dpi counts) p old) there
-    ∙ sym (cond-true (y + 1 == shape.height) (with_finish shape plate.slot counts old) old (eq-eqb (y + 1) shape.height last))
+    ∙ ap (λ p. with_closed plate.slot (tail_bytes sides.width sides.height sides.dpi counts) p old) there
+    ∙ sym (cond-true (y + 1 == sides.height) (with_finish sides plate.slot counts old) old (eq-eqb (y + 1) sides.height last))
 
-pub stays-open : (shape : Shape) (y : ℕ) (plate : SitePlate) (counts : List ℕ) (old : Tells) → y + 1 < shape.height → old ≡ finished_at shape y plate counts old
-stays-open shape y plate counts old more =
-    sym (cond-false (y + 1 == shape.height) (with_finish shape plate.slot counts old) old (ne_eqb (y + 1) shape.height (omega arith)))
+pub stays-open : (sides : Sides) (y : ℕ) (plate : SitePlate) (counts : List ℕ) (old : Tells) → y + 1 < sides.height → old ≡ finished_at sides y plate counts old
+stays-open sides y plate counts old more =
+    sym (cond-false (y + 1 == sides.height) (with_finish sides plate.slot counts old) old (ne_eqb (y + 1) sides.height (omega arith)))
 
 -- ---- the content of a plate's slot
 

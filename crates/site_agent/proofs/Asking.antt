@@ -12,12 +12,14 @@ use Rattle.tif_plate.specs.Tail.{front_bytes}
 use Rattle.tif_plate.proofs.Growth.{strip-in_plate}
 use Rattle.pr_rack.specs.Told.{Tells}
 use Rattle.site_agent.specs.declared.plate.SitePlate.{SitePlate}
-use Rattle.site_agent.specs.Job.{Shape, SiteJob, shape_of, IsJob}
+use Rattle.tif_plate.specs.declared.sides.Sides.{Sides}
+use Rattle.plate_bytes.specs.Strips.{counted}
+use Rattle.plate_bytes.proofs.Counts.{sum-counted}
+use Rattle.site_agent.specs.Job.{SiteJob, sides_of, IsJob}
 use Rattle.site_agent.specs.Given.{open_in, IsRowOf, IsNoRow}
 use Rattle.site_agent.specs.Stands.{AreAsLong, AreBegun, IsAsLong, path_and_length}
-use Rattle.site_agent.specs.Tells.{after_row, begun_at, counted, with_begin, with_finish, with_taken}
+use Rattle.site_agent.specs.Tells.{after_row, begun_at, with_begin, with_finish, with_taken}
 use Rattle.site_agent.proofs.Answering.{stands-begun, stands-taken}
-use Rattle.site_agent.proofs.Counting.{sum-counted}
 use Rattle.site_agent.proofs.Holding.{get-set_same, get-set_other}
 use Rattle.site_agent.proofs.Opens.{plate_at}
 use Rattle.site_agent.proofs.Steps.{fresh-before, last-after, open-after, open-before, open-none, open-other}
@@ -55,10 +57,10 @@ empties (Some slots) slot =
 
 -- ---- a row of a plate, at another slot
 
-other-shows : (shape : Shape) (plate : SitePlate) (y n : ℕ) (frame : List ℕ) (source : Source) (counts : List ℕ) (old : Tells) (s : ℕ) (is : Bool) (long : Length) → s ≢ plate.slot
-    → Shows s is long old → Shows s is long (after_row shape plate y n frame source counts old)
-other-shows shape plate y n frame source counts old s is long apart shows =
-    either (Shows s is long) (y + 1 == shape.height) (with_finish shape plate.slot counts taken) taken
+other-shows : (sides : Sides) (plate : SitePlate) (y n : ℕ) (frame : List ℕ) (source : Source) (counts : List ℕ) (old : Tells) (s : ℕ) (is : Bool) (long : Length) → s ≢ plate.slot
+    → Shows s is long old → Shows s is long (after_row sides plate y n frame source counts old)
+other-shows sides plate y n frame source counts old s is long apart shows =
+    either (Shows s is long) (y + 1 == sides.height) (with_finish sides plate.slot counts taken) taken
     (record {
       begun = get-set_other taken.begun plate.slot s false is apart in-taken.begun;
       working = keeps-plate taken.working plate.slot s None long apart in-taken.working;
@@ -95,24 +97,24 @@ begun-own plate y old was =
     (λ (some : y ≢ 0). subst P (sym (cond-false (y == 0) (with_begin plate old) old (ne_eqb y 0 some))) (was ∙ ap Some (lt-ltb 0 y (omega arith))))
     (cases_eq y 0)
 
-own-open : (shape : Shape) (plate : SitePlate) (y n len : ℕ) (frame : List ℕ) (source : Source) (counts : List ℕ) (old : Tells) → y + 1 < shape.height
+own-open : (sides : Sides) (plate : SitePlate) (y n len : ℕ) (frame : List ℕ) (source : Source) (counts : List ℕ) (old : Tells) → y + 1 < sides.height
     → slice_get old.begun plate.slot ≡ Some (nat_lt 0 y) → IfSome old.working (λ slots. old.begun ≡ map is_some slots) → (0 < y → IfSome old.working (IsAsLong plate len)) → (y ≡ 0 → len ≡ 8)
-    → Shows plate.slot true (Some (plate.path, len + length (packed_in frame))) (after_row shape plate y n frame source counts old)
-own-open shape plate y n len frame source counts old more was told stands first =
+    → Shows plate.slot true (Some (plate.path, len + length (packed_in frame))) (after_row sides plate y n frame source counts old)
+own-open sides plate y n len frame source counts old more was told stands first =
     let taken : Tells = with_taken plate.slot n frame source (begun_at y plate old) in
     subst (Shows plate.slot true (Some (plate.path, len + length (packed_in frame))))
-    (sym (cond-false (y + 1 == shape.height) (with_finish shape plate.slot counts taken) taken (ne_eqb (y + 1) shape.height (omega arith))))
+    (sym (cond-false (y + 1 == sides.height) (with_finish sides plate.slot counts taken) taken (ne_eqb (y + 1) sides.height (omega arith))))
     (record {
       begun = begun-own plate y old was;
       working = stands-taken plate len n frame source (begun_at y plate old) taken refl (stands-begun y len plate old (begun_at y plate old) refl was told stands first);
     })
 
-own-closed : (shape : Shape) (plate : SitePlate) (y n : ℕ) (frame : List ℕ) (source : Source) (counts : List ℕ) (old : Tells) → y + 1 ≡ shape.height
-    → slice_get old.begun plate.slot ≡ Some (nat_lt 0 y) → Shows plate.slot false None (after_row shape plate y n frame source counts old)
-own-closed shape plate y n frame source counts old last was =
+own-closed : (sides : Sides) (plate : SitePlate) (y n : ℕ) (frame : List ℕ) (source : Source) (counts : List ℕ) (old : Tells) → y + 1 ≡ sides.height
+    → slice_get old.begun plate.slot ≡ Some (nat_lt 0 y) → Shows plate.slot false None (after_row sides plate y n frame source counts old)
+own-closed sides plate y n frame source counts old last was =
     let taken : Tells = with_taken plate.slot n frame source (begun_at y plate old) in
     subst (Shows plate.slot false None)
-    (sym (cond-true (y + 1 == shape.height) (with_finish shape plate.slot counts taken) taken (eq-eqb (y + 1) shape.height last)))
+    (sym (cond-true (y + 1 == sides.height) (with_finish sides plate.slot counts taken) taken (eq-eqb (y + 1) sides.height last)))
     (record {
       begun = get-set_same taken.begun plate.slot false true (begun-own plate y old was);
       working = empties taken.working plate.slot;
@@ -152,7 +154,7 @@ pub asks-kept : (job : SiteJob) (source : Source) (n k y slot : ℕ) (old now : 
     → length (slice_index_or counts slot []) ≡ strip_count job.width job.height
     → slice_index_or after slot [] ≡ counted y (y / rows_each job.width) (length (packed_in frame)) (slice_index_or counts slot [])
     → ((s : ℕ) → s < 5 → s ≢ slot → slice_index_or after s [] ≡ slice_index_or counts s [])
-    → now ≡ after_row (shape_of job) (plate_at job k d) y n frame source (slice_index_or after slot []) old
+    → now ≡ after_row (sides_of job) (plate_at job k d) y n frame source (slice_index_or after slot []) old
     → Asks job (n + 1) after now
 asks-kept job source n k y slot old now counts after d frame is row there asks told size own others told_now = record {
   begun = record { each = λ s less. (shows s less).begun };
@@ -165,7 +167,7 @@ asks-kept job source n k y slot old now counts after d frame is row there asks t
   inside = (is.each k d row.within).slot
 
   row-now : Tells
-  row-now = after_row (shape_of job) plate y n frame source (slice_index_or after slot []) old
+  row-now = after_row (sides_of job) plate y n frame source (slice_index_or after slot []) old
 
   was : slice_get old.begun plate.slot ≡ Some (nat_lt 0 y)
   was =
@@ -209,11 +211,11 @@ asks-kept job source n k y slot old now counts after d frame is row there asks t
       subst (λ (p : Option SitePlate). Shown plate.slot p row-now) (sym (open-after job n k y d is row open'))
       (subst (λ (m : ℕ). Shows plate.slot true (Some (plate.path, m)) row-now)
       (more ∙ ap (λ s. 8 + sum (slice_index_or after s [])) (sym there))
-      (own-open (shape_of job) plate y n (8 + before) frame source (slice_index_or after slot []) old open' was told stands first)))
+      (own-open (sides_of job) plate y n (8 + before) frame source (slice_index_or after slot []) old open' was told stands first)))
       (λ (most : job.height ≤ y + 1).
       let last : y + 1 ≡ job.height = omega arith in
       subst (λ (p : Option SitePlate). Shown plate.slot p row-now) (sym (last-after job n k y d is row last))
-      (own-closed (shape_of job) plate y n frame source (slice_index_or after slot []) old last was))
+      (own-closed (sides_of job) plate y n frame source (slice_index_or after slot []) old last was))
       (cases_lt (y + 1) job.height)
 
   other : (s : ℕ) → s < 5 → s ≢ plate.slot → Shown s (open_in job (n + 1) s) row-now
@@ -221,7 +223,7 @@ asks-kept job source n k y slot old now counts after d frame is row there asks t
       subst (λ (p : Option SitePlate). Shown s p row-now) (sym (open-other job n k y s d is row apart))
       (subst (λ (list : List ℕ). Shows s (is_some (open_in job n s)) (option_map (λ q. (q.path, 8 + sum list)) (open_in job n s)) row-now)
       (sym (others s less (λ same. apart (same ∙ sym there))))
-      (other-shows (shape_of job) plate y n frame source (slice_index_or after slot []) old s (is_some (open_in job n s)) (counted_at job n counts s) apart
+      (other-shows (sides_of job) plate y n frame source (slice_index_or after slot []) old s (is_some (open_in job n s)) (counted_at job n counts s) apart
       (record { begun = asks.begun.each s less; working = at-each job n counts old.working s less asks.working })))
 
   shows : (s : ℕ) → s < 5 → Shown s (open_in job (n + 1) s) now

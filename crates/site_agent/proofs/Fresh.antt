@@ -10,8 +10,8 @@ use Rattle.plan_rows.specs.declared.group.Group.{Group}
 use Rattle.plan_rows.specs.Groups.{group_of, is_first, site_pages, groups_of, section_groups, pair_groups, numbered, row_count}
 use Rattle.plan_rows.proofs.GroupLemmas.{all_pieces}
 use Rattle.tif_plate.specs.Plate.{strip_count}
-use Rattle.site_agent.specs.declared.slot.Slot.{Slot}
-use Rattle.site_agent.specs.Job.{SiteJob, IsJob}
+use Rattle.plate_bytes.specs.Strips.{StripState}
+use Rattle.site_agent.specs.Job.{SiteJob, sides_of, IsJob}
 use Rattle.site_agent.specs.Given.{given, open_rows}
 use Rattle.site_agent.specs.Site.{AreFresh, IsCounting}
 use Rattle.site_agent.proofs.Givens.{given-none}
@@ -51,7 +51,7 @@ open-start job slot =
     ap (λ p. option_map_or (λ q. given job.height q 0) p 0)
     (closed job 0 slot (λ j d less same. closed-cases job.height 0 (plate_at job j d) (inl (given-none job.height 0 (plate_at job j d) (omega arith)))))
 
-pub counts-fresh : (job : SiteJob) (slots : List Slot) → IsJob job → AreFresh (strip_count job.width job.height) slots → IsCounting job 0 0 slots
+pub counts-fresh : (job : SiteJob) (slots : List StripState) → IsJob job → AreFresh (sides_of job) slots → IsCounting job 0 0 slots
 counts-fresh job slots is fresh = record {
   is = is;
   within = omega arith;
@@ -59,13 +59,13 @@ counts-fresh job slots is fresh = record {
   slots = five;
   each = λ s d less.
       let inside : s < length slots = omega (arith, five) in
-      let none : (get_or slots s d).rows ≡ 0 = fresh.rows s d inside in
+      let none : (get_or slots s d).next ≡ 0 = fresh.rows s d inside in
       record {
         rows = none ∙ sym (open-start job s);
-        strips = ap length (sym (get_or-map (λ slot. slot.counts.items) slots s d [] inside) ∙ ap (λ list. get_or list s []) fresh.counts ∙ get_or-replicate 5 s (replicate (strip_count job.width job.height) 0) [] less)
+        strips = ap length (sym (get_or-map (λ slot. slot.counts) slots s d [] inside) ∙ ap (λ list. get_or list s []) fresh.counts ∙ get_or-replicate 5 s (replicate (strip_count job.width job.height) 0) [] less)
             ∙ length-replicate {A = ℕ} (strip_count job.width job.height) 0;
-        sum = λ some. absurd (omega arith);
+        sides = fresh.sides s d inside;
       };
 } where
   five : length slots ≡ 5
-  five = sym (length-map slots (λ slot. slot.counts.items)) ∙ ap length fresh.counts ∙ length-replicate {A = List ℕ} 5 (replicate (strip_count job.width job.height) 0)
+  five = sym (length-map slots (λ slot. slot.counts)) ∙ ap length fresh.counts ∙ length-replicate {A = List ℕ} 5 (replicate (strip_count job.width job.height) 0)

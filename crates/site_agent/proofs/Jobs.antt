@@ -13,7 +13,7 @@ use Rattle.std.proofs.lemmas.Simd.{map-map}
 use Rattle.plan_json.specs.Data.{PlanData, plate_height}
 use Rattle.pr_base.specs.Number.{IsWithin}
 use Rattle.plan_json.specs.Plan.{IsPlan}
-use Rattle.plan_pages.specs.Ink.{slot_of}
+use Rattle.pr_base.specs.Ink.{slot_of}
 use Rattle.plan_rows.specs.declared.group.Group.{Group}
 use Rattle.plan_rows.specs.Inks.{inks_of, ink_count, ink_place, has_site}
 use Rattle.plan_rows.specs.Groups.{groups_of, section_groups, numbered, row_count}

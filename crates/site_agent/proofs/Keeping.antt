@@ -11,16 +11,16 @@ use Rattle.pr_rack.specs.declared.rack.RackFault.{RackFault}
 use Rattle.pr_rack.specs.declared.rack.RackFault.TheVariants.{Failed, Memory}
 use Rattle.pr_rack.specs.Told.{Tells}
 use Rattle.site_agent.specs.declared.plate.SitePlate.{SitePlate}
-use Rattle.site_agent.specs.declared.slot.Slot.{Slot}
 use Rattle.site_agent.specs.declared.kept.Kept.{Kept}
 use Rattle.site_agent.specs.declared.kept.LeftCause.{LeftCause}
-use Rattle.site_agent.specs.Job.{SiteJob, shape_of, IsJob}
+use Rattle.site_agent.specs.Job.{SiteJob, sides_of, IsJob}
 use Rattle.site_agent.specs.Given.{IsRowOf}
 use Rattle.site_agent.specs.Kept.{OnDone, IfLeft, OnMemory, OnEnd, TakenOnce, kept_of}
 use Rattle.site_agent.specs.Refused.{taken_at}
 use Rattle.site_agent.specs.Site.{IsCounting, counts_of}
 use Rattle.site_agent.specs.Stands.{StandsAfter}
-use Rattle.site_agent.specs.Tells.{counted, after_row}
+use Rattle.plate_bytes.specs.Strips.{StripState, counted}
+use Rattle.site_agent.specs.Tells.{after_row}
 use Rattle.site_agent.proofs.Holding.{FinishedTold}
 use Rattle.site_agent.proofs.Opens.{plate_at}
 use Rattle.site_agent.proofs.Standing.{row_kept}
@@ -55,9 +55,9 @@ taken-once Finish number source old new is = inr is
 
 -- ---- the site and its rack
 
-pub strips-of : (job : SiteJob) (n finished : ℕ) (slots : List Slot) (s : ℕ) → IsCounting job n finished slots → s < 5 → s < length slots → length (slice_index_or (counts_of slots) s []) ≡ strip_count job.width job.height
+pub strips-of : (job : SiteJob) (n finished : ℕ) (slots : List StripState) (s : ℕ) → IsCounting job n finished slots → s < 5 → s < length slots → length (slice_index_or (counts_of slots) s []) ≡ strip_count job.width job.height
 strips-of job n finished [] s counting less within = absurd (omega arith)
-strips-of job n finished (d ∷ slots) s counting less within = ap length (get_or-map (λ slot. slot.counts.items) (d ∷ slots) s d [] within) ∙ (counting.each s d less).strips
+strips-of job n finished (d ∷ slots) s counting less within = ap length (get_or-map (λ slot. slot.counts) (d ∷ slots) s d [] within) ∙ (counting.each s d less).strips
 
 -- one row of a plate, which is in this slot
 pub row_kept-slot : (job : SiteJob) (rows : List (List ℕ)) (source : Source) (n k y slot : ℕ) (before old now : Tells) (counts after : List (List ℕ)) (d : SitePlate) (frame : List ℕ) → IsJob job → IsRowOf job n k y
@@ -65,11 +65,11 @@ pub row_kept-slot : (job : SiteJob) (rows : List (List ℕ)) (source : Source) (
     → length (slice_index_or counts slot []) ≡ strip_count job.width job.height
     → slice_index_or after slot [] ≡ counted y (y / rows_each job.width) (length (packed_in frame)) (slice_index_or counts slot [])
     → ((s : ℕ) → s < 5 → s ≢ slot → slice_index_or after s [] ≡ slice_index_or counts s [])
-    → now ≡ after_row (shape_of job) (plate_at job k d) y n frame source (slice_index_or after slot []) old
+    → now ≡ after_row (sides_of job) (plate_at job k d) y n frame source (slice_index_or after slot []) old
     → StandsAfter job rows source (n + 1) before now after
 row_kept-slot job rows source n k y slot before old now counts after d frame is row there stands told framed here size own others told_now =
     row_kept job rows source n k y before old now counts after d frame is row stands told framed here
     (ap (λ i. length (slice_index_or counts i [])) there ∙ size)
     (ap (λ i. slice_index_or after i []) there ∙ own ∙ ap (λ i. counted y (y / rows_each job.width) (length (packed_in frame)) (slice_index_or counts i [])) (sym there))
     (λ s less apart. others s less (λ same. apart (same ∙ sym there)))
-    (told_now ∙ ap (λ i. after_row (shape_of job) (plate_at job k d) y n frame source (slice_index_or after i []) old) (sym there))
+    (told_now ∙ ap (λ i. after_row (sides_of job) (plate_at job k d) y n frame source (slice_index_or after i []) old) (sym there))

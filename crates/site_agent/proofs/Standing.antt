@@ -1,5 +1,5 @@
 -- The state of a site and its rack after one more row.
-use Rattle.std.proofs.Common.{◌≡◌, ◌≢◌, ℕ, ◌+◌, ◌/◌, ◌<◌, ◌≤◌, if◌then◌else◌, List, [], ◌∷◌, ◌++◌, length, map, take, get_or, set, replicate, Option, Some, None, refl, sym, ap, subst, ◌∙◌, ⊎_elim, arith}
+use Rattle.std.proofs.Common.{◌≡◌, ◌≢◌, ℕ, ◌+◌, ◌/◌, ◌<◌, ◌≤◌, if◌then◌else◌, List, [], ◌∷◌, ◌++◌, length, map, take, Option, Some, None, refl, sym, ap, subst, ◌∙◌, ⊎_elim, arith}
 use Rattle.std.specs.Prelude.{◌==◌, slice_get, slice_index_or, IfSome}
 use Rattle.std.specs.List.{flat_map}
 use Rattle.std.specs.Option.{option_map}
@@ -14,13 +14,15 @@ use Rattle.tif_packbits.proofs.Frames.{packed_in-frame}
 use Rattle.tif_plate.specs.Plate.{rows_each, strip_count, strip_counts}
 use Rattle.tif_plate.specs.Tail.{front_bytes, tail_bytes, tail_place, counts_so_far}
 use Rattle.tif_plate.proofs.Finish.{finishes as plate-finishes}
-use Rattle.tif_plate.proofs.Growth.{counts_so_far-none, counts_so_far-more, counts_so_far-all}
+use Rattle.tif_plate.proofs.Growth.{counts_so_far-all}
+use Rattle.plate_bytes.specs.Strips.{counted}
+use Rattle.plate_bytes.proofs.Counts.{counted-row}
 use Rattle.pr_rack.specs.Rack.{Plate, Slots, closed, plate_in, with_plate}
 use Rattle.pr_rack.specs.Told.{Tells}
 use Rattle.site_agent.specs.declared.plate.SitePlate.{SitePlate}
-use Rattle.site_agent.specs.Job.{SiteJob, shape_of, IsJob, number_in}
+use Rattle.site_agent.specs.Job.{SiteJob, sides_of, IsJob, number_in}
 use Rattle.site_agent.specs.Given.{given, rows_of, open_in, kept_below, IsRowOf, IsNoRow}
-use Rattle.site_agent.specs.Tells.{counted, with_begin, with_taken, with_finish, after_row}
+use Rattle.site_agent.specs.Tells.{with_begin, with_taken, with_finish, after_row}
 use Rattle.site_agent.specs.Stands.{file_of, files_of, files_below, rows_below, begun_plate, plate_below, taken_below, Holds, AreCounts, StandsAfter}
 use Rattle.site_agent.proofs.Givens.{given-stays}
 use Rattle.site_agent.proofs.Opens.{plate_at, StandsAs, open_in-plate}
@@ -81,43 +83,20 @@ pub counts-row : (job : SiteJob) (rows : List (List ℕ)) (source : Source) (n k
     → length (slice_index_or counts (plate_at job k d).slot []) ≡ strip_count job.width job.height
     → counted y (y / rows_each job.width) (length (packed_in frame)) (slice_index_or counts (plate_at job k d).slot []) ≡ counts_so_far job.width job.height (rows_of rows (plate_at job k d) (y + 1))
 counts-row job rows source n k y before now counts d frame is row stands framed here size =
-    let len : length first ≡ y = length-rows_of rows plate y in
-    let below : y < job.height = row.below in
-    let more = counts_so_far-more job.width job.height first (framed_row frame) (omega arith) in
-    ap (λ list. set list (y / each) (get_or list (y / each) 0 + length (packed_in frame))) base-is
-    ∙ ap (λ packed. set so_far (y / each) (get_or so_far (y / each) 0 + length packed)) (packed_in-frame frame framed)
-    ∙ ap (λ i. set so_far (i / each) (get_or so_far (i / each) 0 + length (packing (framed_row frame)))) (sym len)
-    ∙ sym more
-    ∙ ap (counts_so_far job.width job.height) (sym (rows-more rows plate y n (row.number d) ∙ ap (λ last. first ++ last ∷ []) (get_or_from_slice_get rows n (framed_row frame) [] here))) where
+    ap (λ packed. counted y (y / rows_each job.width) (length packed) held) (packed_in-frame frame framed)
+    ∙ counted-row job.width job.height y (rows_of rows plate y) (framed_row frame) held (length-rows_of rows plate y) row.below size known
+    ∙ ap (counts_so_far job.width job.height) (sym (rows-more rows plate y n (row.number d) ∙ ap (λ last. rows_of rows plate y ++ last ∷ []) (get_or_from_slice_get rows n (framed_row frame) [] here))) where
       plate : SitePlate
       plate = plate_at job k d
-
-      each : ℕ
-      each = rows_each job.width
-
-      first : List (List ℕ)
-      first = rows_of rows plate y
-
-      so_far : List ℕ
-      so_far = counts_so_far job.width job.height first
 
       held : List ℕ
       held = slice_index_or counts plate.slot []
 
-      base-is : (if y == 0 then replicate (length held) 0 else held) ≡ so_far
-      base-is =
-          ⊎_elim
-          (λ (none : y ≡ 0).
-          cond-true (y == 0) (replicate (length held) 0) held (eq-eqb y 0 none)
-          ∙ ap (λ m. replicate m 0) size
-          ∙ sym (counts_so_far-none job.width job.height)
-          ∙ ap (counts_so_far job.width job.height) (sym (rows-none rows plate) ∙ ap (rows_of rows plate) (sym none)))
-          (λ (some : y ≢ 0).
-          cond-false (y == 0) (replicate (length held) 0) held (ne_eqb y 0 some)
-          ∙ (let P : Option SitePlate → Type 0 = λ p. IfSome p (λ q. held ≡ counts_so_far job.width job.height (rows_below job rows n q)) in
+      known : y ≢ 0 → held ≡ counts_so_far job.width job.height (rows_of rows plate y)
+      known some =
+          (let P : Option SitePlate → Type 0 = λ p. IfSome p (λ q. held ≡ counts_so_far job.width job.height (rows_below job rows n q)) in
           subst P (open-before job n k y d is row (omega arith)) (stands.strips plate.slot (is.each k d row.within).slot))
-          ∙ ap (λ g. counts_so_far job.width job.height (rows_of rows plate g)) (row-given job n k y d is row))
-          (cases_eq y 0)
+          ∙ ap (λ g. counts_so_far job.width job.height (rows_of rows plate g)) (row-given job n k y d is row)
 
 -- the content of the row's slot once its plate is begun
 row-begun : (job : SiteJob) (rows : List (List ℕ)) (source : Source) (n k y : ℕ) (before old : Tells) (counts : List (List ℕ)) (d : SitePlate) → IsJob job → IsRowOf job n k y
@@ -231,7 +210,7 @@ pub row_kept : (job : SiteJob) (rows : List (List ℕ)) (source : Source) (n k y
     → length (slice_index_or counts (plate_at job k d).slot []) ≡ strip_count job.width job.height
     → slice_index_or after (plate_at job k d).slot [] ≡ counted y (y / rows_each job.width) (length (packed_in frame)) (slice_index_or counts (plate_at job k d).slot [])
     → ((s : ℕ) → s < 5 → s ≢ (plate_at job k d).slot → slice_index_or after s [] ≡ slice_index_or counts s [])
-    → now ≡ after_row (shape_of job) (plate_at job k d) y n frame source (slice_index_or after (plate_at job k d).slot []) old
+    → now ≡ after_row (sides_of job) (plate_at job k d) y n frame source (slice_index_or after (plate_at job k d).slot []) old
     → StandsAfter job rows source (n + 1) before now after
 row_kept job rows source n k y before old now counts after d frame is row stands told framed here size own others told_now =
     record {
@@ -283,7 +262,7 @@ row_kept job rows source n k y before old now counts after d frame is row stands
       by_more : y + 1 < job.height → Holds (files_below job rows (n + 1)) (taken_below job source (n + 1)) (plate_below job rows (n + 1)) before now
       by_more more =
           let P : Tells → Type 0 = Holds (files_below job rows (n + 1)) (taken_below job source (n + 1)) (plate_below job rows (n + 1)) before in
-          subst P (sym (told_now ∙ cond-false (y + 1 == job.height) (with_finish (shape_of job) slot (slice_index_or after slot []) taken) taken (ne_eqb (y + 1) job.height (omega arith))))
+          subst P (sym (told_now ∙ cond-false (y + 1 == job.height) (with_finish (sides_of job) slot (slice_index_or after slot []) taken) taken (ne_eqb (y + 1) job.height (omega arith))))
           (alike files (files_below job rows (n + 1)) (listed ++ (n, source) ∷ []) (taken_below job source (n + 1)) open-2 (plate_below job rows (n + 1)) before taken held
           (ap (λ m. take m (files_of job rows)) (sym (finished-open job n k y is row more)))
           (taken-row job source n k y d row)
@@ -303,9 +282,9 @@ row_kept job rows source n k y before old now counts after d frame is row stands
           let P : Tells → Type 0 = Holds (files_below job rows (n + 1)) (taken_below job source (n + 1)) (plate_below job rows (n + 1)) before in
           let tail : List ℕ = tail_bytes job.width job.height job.dpi (slice_index_or after slot []) in
           let place : ℕ = tail_place (slice_index_or after slot []) in
-          subst P (sym (told_now ∙ cond-true (y + 1 == job.height) (with_finish (shape_of job) slot (slice_index_or after slot []) taken) taken (eq-eqb (y + 1) job.height last)))
-          (alike (files ++ closed tail place (plate.path, bytes ++ packed_in frame) ∷ []) (files_below job rows (n + 1)) (listed ++ (n, source) ∷ []) (taken_below job source (n + 1)) (put slot None open-2) (plate_below job rows (n + 1)) before (with_finish (shape_of job) slot (slice_index_or after slot []) taken)
-          (finishes files (listed ++ (n, source) ∷ []) open-2 before taken (with_finish (shape_of job) slot (slice_index_or after slot []) taken) slot place tail (plate.path, bytes ++ packed_in frame) held (told-taken slot n frame source begun (told-begun plate y old told)) in_rack (put-same slot (Some (plate.path, bytes ++ packed_in frame)) open-1 slot refl) refl)
+          subst P (sym (told_now ∙ cond-true (y + 1 == job.height) (with_finish (sides_of job) slot (slice_index_or after slot []) taken) taken (eq-eqb (y + 1) job.height last)))
+          (alike (files ++ closed tail place (plate.path, bytes ++ packed_in frame) ∷ []) (files_below job rows (n + 1)) (listed ++ (n, source) ∷ []) (taken_below job source (n + 1)) (put slot None open-2) (plate_below job rows (n + 1)) before (with_finish (sides_of job) slot (slice_index_or after slot []) taken)
+          (finishes files (listed ++ (n, source) ∷ []) open-2 before taken (with_finish (sides_of job) slot (slice_index_or after slot []) taken) slot place tail (plate.path, bytes ++ packed_in frame) held (told-taken slot n frame source begun (told-begun plate y old told)) in_rack (put-same slot (Some (plate.path, bytes ++ packed_in frame)) open-1 slot refl) refl)
           (ap (λ list. files ++ closed tail place (plate.path, list) ∷ []) (packed-more rows plate y n frame (row.number d) framed here)
           ∙ ap (λ f. files ++ f ∷ []) (closed-is job rows plate (y + 1) (slice_index_or after slot []) last counts-are)
           ∙ files-last job rows n k y d is row last)

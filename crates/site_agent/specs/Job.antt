@@ -1,6 +1,7 @@
 -- A site's job: its plates, and which of all rows belong to them.
 use Rattle.std.specs.Prelude.{◌≡◌, ◌≢◌, ℕ, ◌+◌, ◌-◌, ◌*◌, ◌^◌, ◌<◌, List, length, All, AllPairs}
 use Rattle.tif_plate.specs.Plate.{IsSide, IsDpi}
+use Rattle.tif_plate.specs.declared.sides.Sides.{Sides}
 use Rattle.site_agent.specs.declared.plate.SitePlate.{SitePlate}
 
 -- the number of row y of a plate among all rows
@@ -11,17 +12,6 @@ number_in plate y = plate.first + y * plate.step
 abbrev pub last_in : ℕ → SitePlate → ℕ
 last_in height plate = number_in plate (height - 1)
 
--- the sides of a plate in pixels, and its resolution
-pub record Shape : Type 0 where
-  pub width : ℕ
-  pub height : ℕ
-  pub dpi : ℕ
-
--- the writer of plate tails of one shape, and its buffer
-pub record TailsData : Type 0 where
-  pub shape : Shape
-  pub room : List ℕ
-
 -- the plates of a site in the order of their files, their sides in pixels and their resolution, and the
 -- number of all rows
 pub record SiteJob : Type 0 where
@@ -31,8 +21,8 @@ pub record SiteJob : Type 0 where
   pub dpi : ℕ
   pub total : ℕ
 
-abbrev pub shape_of : SiteJob → Shape
-shape_of job = record { width = job.width; height = job.height; dpi = job.dpi }
+abbrev pub sides_of : SiteJob → Sides
+sides_of job = record { width = job.width; height = job.height; dpi = job.dpi }
 
 -- a plate of this height precedes another in the order of their rows
 pub record IsBefore (height : ℕ) (plate next : SitePlate) : Type 0 where

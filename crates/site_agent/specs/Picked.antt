@@ -1,11 +1,8 @@
 -- A site of some of its plates: the picked ones, one bit per plate in the order of its files.
-use Rattle.std.specs.Prelude.{ℕ, Bool, false, if◌then◌else◌, List, [], ◌∷◌, length, replicate}
-use Rattle.tif_plate.specs.Plate.{strip_count}
+use Rattle.std.specs.Prelude.{ℕ, Bool, if◌then◌else◌, List, [], ◌∷◌}
 use Rattle.pr_rack.specs.Rack.{Plate}
-use Rattle.plan_json.specs.Data.{PlanData, plate_width, plate_height}
+use Rattle.plan_json.specs.Data.{PlanData}
 use Rattle.plan_rows.specs.Plates.{site_files}
-use Rattle.plan_rows.specs.Rows.{row_places}
-use Rattle.site_agent.specs.declared.plate.SitePlate.{SitePlate}
 use Rattle.site_agent.specs.Job.{SiteJob}
 use Rattle.site_agent.specs.Plan.{fresh_site, job_of}
 use Rattle.site_agent.specs.Site.{SiteData}
@@ -31,24 +28,3 @@ picked_site plan out site bits = record (fresh_site plan out site) { job = picke
 -- the files of the picked plates
 abbrev pub picked_files : PlanData → List (List ℕ) → List ℕ → ℕ → List Bool → List Plate
 picked_files plan rows out site bits = kept_where bits (site_files plan rows out site)
-
--- ---- any plates
-
--- the job of these plates of a plan
-abbrev pub job_over : PlanData → List SitePlate → SiteJob
-job_over plan plates = record {
-  plates = plates;
-  width = plate_width plan;
-  height = plate_height plan;
-  dpi = plan.dpi;
-  total = length (row_places plan);
-}
-
--- the site of these plates before the first row
-abbrev pub site_over : PlanData → List SitePlate → SiteData
-site_over plan plates = record {
-  job = job_over plan plates;
-  next = 0;
-  counts = replicate 5 (replicate (strip_count (plate_width plan) (plate_height plan)) 0);
-  ended = false;
-}

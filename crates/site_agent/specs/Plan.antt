@@ -8,7 +8,7 @@ use Rattle.pr_rack.specs.declared.rack.RackCall.{RackCall}
 use Rattle.pr_rack.specs.declared.rack.RackCall.TheVariants.{Begin, Row, Finish}
 use Rattle.pr_rack.specs.Rack.{Plate}
 use Rattle.plan_json.specs.Data.{PlanData, plate_width, plate_height}
-use Rattle.plan_pages.specs.Ink.{slot_of}
+use Rattle.pr_base.specs.Ink.{slot_of}
 use Rattle.plan_rows.specs.Inks.{ink_count, ink_place}
 use Rattle.plan_rows.specs.Paths.{path_of}
 use Rattle.plan_rows.specs.Plates.{PlateOf, site_plates, site_files, plates_done}
@@ -27,24 +27,32 @@ plate_of plan out site plate = record {
   slot = slot_of plate.1;
 }
 
--- the job of a site of a plan, with paths below the folder `out`
-abbrev pub job_of : PlanData → List ℕ → ℕ → SiteJob
-job_of plan out site = record {
-  plates = map (plate_of plan out site) (site_plates plan site);
+-- the job of these plates of a plan
+abbrev pub job_over : PlanData → List SitePlate → SiteJob
+job_over plan plates = record {
+  plates = plates;
   width = plate_width plan;
   height = plate_height plan;
   dpi = plan.dpi;
   total = length (row_places plan);
 }
 
--- a site before the first row
-abbrev pub fresh_site : PlanData → List ℕ → ℕ → SiteData
-fresh_site plan out site = record {
-  job = job_of plan out site;
+-- the job of a site of a plan, with paths below the folder `out`
+abbrev pub job_of : PlanData → List ℕ → ℕ → SiteJob
+job_of plan out site = job_over plan (map (plate_of plan out site) (site_plates plan site))
+
+-- the site of these plates before the first row
+abbrev pub site_over : PlanData → List SitePlate → SiteData
+site_over plan plates = record {
+  job = job_over plan plates;
   next = 0;
   counts = replicate 5 (replicate (strip_count (plate_width plan) (plate_height plan)) 0);
   ended = false;
 }
+
+-- a site before the first row
+abbrev pub fresh_site : PlanData → List ℕ → ℕ → SiteData
+fresh_site plan out site = site_over plan (map (plate_of plan out site) (site_plates plan site))
 
 -- the rows that a site keeps, taken from this source
 abbrev pub drawn_rows : PlanData → ℕ → Source → List (ℕ × Source)

@@ -1,11 +1,12 @@
 -- What contracts see of a site, and what the site keeps.
-use Rattle.std.specs.Prelude.{◌≡◌, ℕ, ◌*◌, ◌<◌, ◌≤◌, Bool, List, All, length, map, replicate, sum}
+use Rattle.std.specs.Prelude.{◌≡◌, ℕ, ◌<◌, ◌≤◌, Bool, List, All, length, map, replicate}
 use Rattle.std.specs.Prelude.{slice_index_or}
 use Rattle.tif_plate.specs.Plate.{strip_count}
+use Rattle.tif_plate.specs.declared.sides.Sides.{Sides}
+use Rattle.plate_bytes.specs.Strips.{StripState}
 use Rattle.site_agent.specs.declared.plate.SitePlate.{SitePlate}
-use Rattle.site_agent.specs.declared.slot.Slot.{Slot}
 use Rattle.site_agent.specs.declared.place.Place.{Place}
-use Rattle.site_agent.specs.Job.{Shape, SiteJob, IsJob}
+use Rattle.site_agent.specs.Job.{SiteJob, sides_of, IsJob}
 use Rattle.site_agent.specs.Given.{open_rows, finished_count, IsRowOf}
 
 -- a site: its job, the number of the next row, the byte counts of the strips of the plate in each slot, and
@@ -16,37 +17,37 @@ pub record SiteData : Type 0 where
   pub counts : List (List ℕ)
   pub ended : Bool
 
-abbrev pub job_with : List SitePlate → Shape → ℕ → SiteJob
-job_with plates shape total = record {
+abbrev pub job_with : List SitePlate → Sides → ℕ → SiteJob
+job_with plates sides total = record {
   plates = plates;
-  width = shape.width;
-  height = shape.height;
-  dpi = shape.dpi;
+  width = sides.width;
+  height = sides.height;
+  dpi = sides.dpi;
   total = total;
 }
 
-abbrev pub counts_of : List Slot → List (List ℕ)
-counts_of slots = map (λ slot. slot.counts.items) slots
+abbrev pub counts_of : List StripState → List (List ℕ)
+counts_of slots = map (λ strips. strips.counts) slots
 
--- a slot counts the rows of its plate below row n
-pub record IsCounted (job : SiteJob) (n slot' : ℕ) (slot : Slot) : Type 0 where
-  pub rows : slot.rows ≡ open_rows job n slot'
-  pub strips : length slot.counts.items ≡ strip_count job.width job.height
-  -- no packed row has more than 8256 bytes
-  pub sum : 0 < slot.rows → sum slot.counts.items ≤ slot.rows * 8256
+-- the strips of a slot have counted the rows of its plate below row n
+pub record IsCounted (job : SiteJob) (n slot : ℕ) (strips' : StripState) : Type 0 where
+  pub sides : strips'.sides ≡ sides_of job
+  pub rows : strips'.next ≡ open_rows job n slot
+  pub strips : length strips'.counts ≡ strip_count job.width job.height
 
 -- a site counts the rows below the next one
-pub record IsCounting (job : SiteJob) (next finished' : ℕ) (slots' : List Slot) : Type 0 where
+pub record IsCounting (job : SiteJob) (next finished' : ℕ) (slots' : List StripState) : Type 0 where
   pub is : IsJob job
   pub within : next ≤ job.total
   pub finished : finished' ≡ finished_count job next
   pub slots : length slots' ≡ 5
-  pub each : (s : ℕ) (d : Slot) → s < 5 → IsCounted job next s (slice_index_or slots' s d)
+  pub each : (s : ℕ) (d : StripState) → s < 5 → IsCounted job next s (slice_index_or slots' s d)
 
--- five slots, each with this many zero counts
-pub record AreFresh (strips : ℕ) (slots' : List Slot) : Type 0 where
-  pub counts : counts_of slots' ≡ replicate 5 (replicate strips 0)
-  pub rows : All (λ slot. slot.rows ≡ 0) slots'
+-- the strips of five plates of these sides, none of which has a row
+pub record AreFresh (sides' : Sides) (slots' : List StripState) : Type 0 where
+  pub counts : counts_of slots' ≡ replicate 5 (replicate (strip_count sides'.width sides'.height) 0)
+  pub rows : All (λ strips. strips.next ≡ 0) slots'
+  pub sides : All (λ strips. strips.sides ≡ sides') slots'
 
 -- the place of row n
 pub record IsPlaceOf (job : SiteJob) (n : ℕ) (place : Place) : Type 0 where

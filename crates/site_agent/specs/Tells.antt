@@ -1,26 +1,18 @@
 -- The effect of the calls for one row on what contracts see of a rack.
 use Rattle.std.specs.Prelude.{◌≡◌, ℕ, ◌+◌, ◌/◌, ◌==◌, true, false, if◌then◌else◌, List, [], Some, None}
-use Rattle.std.specs.Prelude.{length, replicate, slice_index, slice_index_or, slice_set}
+use Rattle.std.specs.Prelude.{length, slice_index_or, slice_set}
 use Rattle.ring_lanes.specs.Held.{HeldRow}
 use Rattle.ring_lanes.specs.declared.source.Source.{Source}
 use Rattle.tif_packbits.specs.Frame.{packed_in}
 use Rattle.tif_plate.specs.Plate.{rows_each}
 use Rattle.tif_plate.specs.Tail.{front_bytes, tail_bytes, tail_place}
+use Rattle.tif_plate.specs.declared.sides.Sides.{Sides}
+use Rattle.plate_bytes.specs.Strips.{counted}
 use Rattle.pr_rack.specs.Rack.{with_plate, with_more, with_row, finished_with}
 use Rattle.pr_rack.specs.Told.{Tells}
 use Rattle.site_agent.specs.declared.place.Place.{Place}
 use Rattle.site_agent.specs.declared.plate.SitePlate.{SitePlate}
-use Rattle.site_agent.specs.Job.{Shape, SiteJob, shape_of}
-
--- the byte counts of a plate's strips after its row y was added to a strip; a plate begins with zeros
-abbrev pub counted : ℕ → ℕ → ℕ → List ℕ → List ℕ
-counted y strip bytes counts =
-    let old = if y == 0 then replicate (length counts) 0 else counts in
-    slice_set old strip (slice_index old strip + bytes)
-
--- the number of rows that a slot counts after row y: none if the plate is finished
-abbrev pub rows_after : ℕ → ℕ → ℕ
-rows_after height y = if y + 1 == height then 0 else y + 1
+use Rattle.site_agent.specs.Job.{SiteJob, sides_of}
 
 -- the number of finished plates after row y of one
 abbrev pub finished_after : ℕ → ℕ → ℕ → ℕ
@@ -49,29 +41,29 @@ with_closed slot tail place old = record old {
 }
 
 -- the plate in a slot, whose strips have these byte counts, is finished
-abbrev pub with_finish : Shape → ℕ → List ℕ → Tells → Tells
-with_finish shape slot counts old =
-    with_closed slot (tail_bytes shape.width shape.height shape.dpi counts) (tail_place counts) old
+abbrev pub with_finish : Sides → ℕ → List ℕ → Tells → Tells
+with_finish sides slot counts old =
+    with_closed slot (tail_bytes sides.width sides.height sides.dpi counts) (tail_place counts) old
 
 -- the plate of row y is begun
 abbrev pub begun_at : ℕ → SitePlate → Tells → Tells
 begun_at y plate old = if y == 0 then with_begin plate old else old
 
 -- a plate with its row y is finished if this is its last row
-abbrev pub finished_at : Shape → ℕ → SitePlate → List ℕ → Tells → Tells
-finished_at shape y plate counts old =
-    if y + 1 == shape.height then with_finish shape plate.slot counts old else old
+abbrev pub finished_at : Sides → ℕ → SitePlate → List ℕ → Tells → Tells
+finished_at sides y plate counts old =
+    if y + 1 == sides.height then with_finish sides plate.slot counts old else old
 
 -- row y of a plate, with this number and frame, was processed; `counts` includes this row
-abbrev pub after_row : Shape → SitePlate → ℕ → ℕ → List ℕ → Source → List ℕ → Tells → Tells
-after_row shape plate y number frame source counts old =
-    finished_at shape y plate counts (with_taken plate.slot number frame source (begun_at y plate old))
+abbrev pub after_row : Sides → SitePlate → ℕ → ℕ → List ℕ → Source → List ℕ → Tells → Tells
+after_row sides plate y number frame source counts old =
+    finished_at sides y plate counts (with_taken plate.slot number frame source (begun_at y plate old))
 
 -- ---- the row at a place of a job
 
 -- the rack shows what it showed before and this row, where the strips have these byte counts
 abbrev pub TellsRow : SiteJob → Place → HeldRow → List (List ℕ) → Tells → Tells → Type 0
-TellsRow job place held counts old new = (d : SitePlate) → new ≡ after_row (shape_of job)
+TellsRow job place held counts old new = (d : SitePlate) → new ≡ after_row (sides_of job)
     (slice_index_or job.plates place.plate d) place.y held.number held.bytes held.source
     (slice_index_or counts place.slot []) old
 

@@ -3,8 +3,7 @@ ghost use Rattle.std.specs.Prelude.{◌≡◌, ◌+◌, ◌-◌, ◌<◌, ◌≤
 ghost use Rattle.std.specs.Prelude.{slice_get, slice_index_or, sum, true};
 ghost use Rattle.std.specs.Option.{option_map};
 ghost use Rattle.tif_packbits.specs.Frame.{IsFrame, packed_in};
-ghost use Rattle.tif_plate.specs.Plate.{strip_count};
-ghost use Rattle.tif_plate.specs.Tail.{IsPlaceable, strips_end};
+ghost use Rattle.tif_plate.specs.Tail.{strips_end};
 ghost use Rattle.pr_rack.specs.Rack.{IsBehind, path_in, plate_in};
 ghost use Rattle.pr_rack.specs.Told.{told};
 ghost use Rattle.site_agent.specs.Refused.{IsRefused, IsStopped};
@@ -12,7 +11,7 @@ ghost use Rattle.site_agent.specs.Stands.{IsAsLong};
 ghost use Rattle.site_agent.specs.Tells.{after_row, begun_at, finished_at, with_closed, with_taken};
 
 use crate::plate::SitePlate;
-use crate::tails::Tails;
+use plate_bytes::PlateStrips;
 use pr_rack::{Rack, RackCall, RackFault};
 use ring_lanes::Held;
 use tif_plate::plate_front;
@@ -101,69 +100,64 @@ fn finish<R: Rack>(plate: &SitePlate, tail: &[u8], at: u32, rack: &mut R) -> Res
     }
 }
 
-/// Finishes the begun plate, whose strips have these byte counts, if `y` is its last row.
+/// Finishes the begun plate, whose strips are these, if `y` is its last row.
 fn end<R: Rack>(
     plate: &SitePlate,
     y: u32,
-    counts: &[u32],
-    tails: &mut Tails,
+    strips: &mut PlateStrips,
     rack: &mut R,
 ) -> Result<(), Refusal>
-    requires y { y < tails.old.shape.height }
-    requires counts { length counts.now ≡ strip_count tails.old.shape.width tails.old.shape.height }
-    requires sum { IsPlaceable counts.now }
+    requires y { y < strips.old.sides.height }
     requires begun { slice_get (R.begun rack.old) plate.now.slot ≡ Some true }
-    requires stands { IfSome (R.working rack.old) (IsAsLong plate.now (strips_end counts.now)) }
+    requires stands { IfSome (R.working rack.old) (IsAsLong plate.now (strips_end strips.old.counts)) }
     ensures ok { OnOk result (
         (told R.Rack rack.new).tells
-        ≡ finished_at tails.old.shape y plate.now counts.now
+        ≡ finished_at strips.old.sides y plate.now strips.old.counts
         (told R.Rack rack.old).tells) }
-    ensures last { IfErr result (λ _. y + 1 ≡ tails.old.shape.height) }
+    ensures last { IfErr result (λ _. y + 1 ≡ strips.old.sides.height) }
     ensures err { IfErr result (
         IsRefused RackCall.Finish plate.now.path
         (told R.Rack rack.old) (told R.Rack rack.new)) }
     ensures missed_stay { OnOk result (R.missed rack.new ≡ R.missed rack.old) }
     ensures faults_stay { R.faults rack.old ≤ R.faults rack.new }
-    ensures shape { tails.new.shape ≡ tails.old.shape }
+    ensures strips { strips.new ≡ record strips.old { room = strips.new.room } }
 {
-    if y < tails.height() - 1 {
+    if y < strips.sides().height - 1 {
         return Ok(());
     }
-    let tail = tails.write(counts);
-    finish(plate, tails.bytes(tail.len), tail.at, rack)
+    let tail = strips.write_tail();
+    finish(plate, strips.tail(tail.len), tail.at, rack)
 }
 
 /// Processes row `y` of a plate: begins the plate if this is its first row, appends the row, and finishes the
-/// plate if this is its last. `counts` are the byte counts of its strips including this row.
+/// plate if this is its last. `strips` has counted the row.
 pub(crate) fn deliver<R: Rack>(
     plate: &SitePlate,
     y: u32,
-    counts: &[u32],
-    tails: &mut Tails,
+    strips: &mut PlateStrips,
     held: &Held,
     rack: &mut R,
 ) -> Result<(), Refusal>
-    requires y { y < tails.old.shape.height }
-    requires counts { length counts.now ≡ strip_count tails.old.shape.width tails.old.shape.height }
-    requires sum { IsPlaceable counts.now }
+    requires y { y < strips.old.sides.height }
     requires frame { IsFrame held.now.bytes }
     requires begun { slice_get (R.begun rack.old) plate.now.slot ≡ Some (nat_lt 0 y) }
-    requires fits { length (packed_in held.now.bytes) ≤ sum counts.now }
-    requires first { y ≡ 0 → sum counts.now ≡ length (packed_in held.now.bytes) }
+    requires fits { length (packed_in held.now.bytes) ≤ sum strips.old.counts }
+    requires first { y ≡ 0 → sum strips.old.counts ≡ length (packed_in held.now.bytes) }
     requires stands { 0 < y → IfSome (R.working rack.old)
-        (IsAsLong plate.now (strips_end counts.now - length (packed_in held.now.bytes))) }
+        (IsAsLong plate.now (strips_end strips.old.counts - length (packed_in held.now.bytes))) }
     ensures ok { OnOk result (
         (told R.Rack rack.new).tells
-        ≡ after_row tails.old.shape plate.now y held.now.number held.now.bytes held.now.source counts.now
+        ≡ after_row strips.old.sides plate.now y held.now.number held.now.bytes held.now.source
+        strips.old.counts
         (told R.Rack rack.old).tells) }
     ensures err { IfErr result (
-        IsStopped tails.old.shape.height y held.now.number held.now.source plate.now.path
+        IsStopped strips.old.sides.height y held.now.number held.now.source plate.now.path
         (told R.Rack rack.old) (told R.Rack rack.new)) }
     ensures missed_stay { OnOk result (R.missed rack.new ≡ R.missed rack.old) }
     ensures faults_stay { R.faults rack.old ≤ R.faults rack.new }
-    ensures shape { tails.new.shape ≡ tails.old.shape }
+    ensures strips { strips.new ≡ record strips.old { room = strips.new.room } }
 {
     begin(plate, y, rack)?;
     take(plate, held, rack)?;
-    end(plate, y, counts, tails, rack)
+    end(plate, y, strips, rack)
 }

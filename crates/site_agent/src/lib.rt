@@ -8,11 +8,11 @@ mod place;
 mod plate;
 mod plates;
 mod site;
-mod slot;
-mod tails;
+mod slots;
 mod turn;
 mod turn_end;
 
 pub use kept::{Kept, LeftCause};
 pub use site::Site;
+pub use slots::tell_slots;
 pub use turn_end::TurnEnd;

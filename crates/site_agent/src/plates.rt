@@ -1,23 +1,22 @@
 // The plates of a site, derived from a plan.
 ghost use Rattle.std.specs.Prelude.{◌≡◌, ◌+◌, ◌++◌, ◌∷◌, ◌<◌, ◌≤◌, ◌^◌, [], if◌then◌else◌, IfOk, OnOk};
-ghost use Rattle.std.specs.Prelude.{length, map, replicate};
+ghost use Rattle.std.specs.Prelude.{length, map};
 ghost use Rattle.plan_json.specs.Plan.{IsPlan};
 ghost use Rattle.plan_rows.specs.Inks.{has_site, ink_place};
 ghost use Rattle.plan_rows.specs.Plates.{group_plates, site_plates};
 ghost use Rattle.plan_rows.specs.Rows.{rows_of};
+ghost use Rattle.tif_plate.specs.Plate.{IsDpi, IsSide};
 ghost use Rattle.site_agent.specs.Picked.{kept_where};
 ghost use Rattle.site_agent.specs.Plan.{plate_of};
 ghost use Rattle.site_agent.specs.Site.{AreFresh};
 
 use crate::plate::SitePlate;
-use crate::slot::Slot;
 use plan_json::Plan;
 use plan_rows::{Group, RowPlan, plate_path};
-use pr_base::{Ink, NoMemory};
+use plate_bytes::PlateStrips;
+use pr_base::{INKS, Ink, NoMemory};
 use std::alloc::Global;
-
-/// The number of slots.
-const SLOTS: u32 = 5;
+use tif_plate::Sides;
 
 /// Returns the plates of a site, group by group and ink by ink.
 #[tactic(auto, unfolding(plan_rows::specs::Plates::site_plates))]
@@ -147,16 +146,16 @@ fn add_wanted(plates: &mut Vec<SitePlate>, plate: SitePlate, wanted: bool) -> Re
     Ok(())
 }
 
-/// Returns empty slots, each with this many strip counts.
-pub(crate) fn empty_slots(alloc: Global, strips: usize) -> Result<Vec<Slot>, NoMemory>
-    ensures { IfOk result (λ slots. AreFresh strips slots.items) }
+/// Returns the strips of the plates in the slots, none of which has a row.
+pub(crate) fn empty_slots(alloc: Global, sides: Sides) -> Result<Vec<PlateStrips>, NoMemory>
+    requires width { IsSide sides.width }
+    requires height { IsSide sides.height }
+    requires dpi { IsDpi sides.dpi }
+    ensures { IfOk result (λ slots. AreFresh sides slots.items) }
 {
     let mut slots = Vec::new(alloc);
-    for _i in 0..SLOTS {
-        slots.push(Slot {
-            rows: 0,
-            counts: vec![in alloc; 0; strips]?,
-        })?;
+    for _i in 0..INKS {
+        slots.push(PlateStrips::new(alloc, sides)?)?;
     }
     Ok(slots)
 }

@@ -1,5 +1,5 @@
 // A print site and how it keeps rows.
-ghost use Rattle.std.specs.Prelude.{◌≡◌, ◌≢◌, ◌==◌, ◌<◌, ◌≤◌, ℕ, [], Some, false, true, IfErr, IfNone, IfOk};
+ghost use Rattle.std.specs.Prelude.{◌≡◌, ◌≢◌, ◌==◌, ◌+◌, ◌<◌, ◌≤◌, ◌^◌, ℕ, [], Some, false, true, IfErr, IfNone, IfOk};
 ghost use Rattle.std.specs.Prelude.{IfSome, OnErr, OnOk, length, slice_index_or};
 ghost use Rattle.pr_base.specs.Row.{row_size};
 ghost use Rattle.tif_packbits.specs.Frame.{IsFrame, framed_row};
@@ -12,40 +12,38 @@ ghost use Rattle.site_agent.specs.Kept.{GoesOn, IfLeft, IsCauseAt, KeepsRow, OnD
 ghost use Rattle.site_agent.specs.Kept.{TakenOnce, kept_of};
 ghost use Rattle.plan_json.specs.Plan.{IsPlan};
 ghost use Rattle.plan_rows.specs.Rows.{rows_of};
-ghost use Rattle.site_agent.specs.Picked.{job_over, site_over};
+ghost use Rattle.site_agent.specs.Plan.{job_over, site_over};
 ghost use Rattle.site_agent.specs.Refused.{IsStoppedAt, taken_at};
 ghost use Rattle.site_agent.specs.Site.{IsPlaceOf};
 ghost use Rattle.site_agent.specs.Stands.{AreAsLong, AreBegun};
-ghost use Rattle.site_agent.specs.Tells.{CountsRow, TellsRow};
+ghost use Rattle.site_agent.specs.Tells.{CountsRow, TellsRow, finished_after};
 
 use crate::calls::{Refusal, deliver};
 use crate::place::Place;
 use crate::plate::SitePlate;
 use crate::plates::empty_slots;
-use crate::slot::{Slot, finished_with};
-use crate::tails::Tails;
 use crate::{Kept, LeftCause};
 use plan_json::Plan;
-use plan_pages::plate_shape;
-use plan_rows::RowPlan;
+use plan_rows::{RowPlan, plate_sides};
+use plate_bytes::PlateStrips;
 use pr_base::NoMemory;
 use pr_rack::{Rack, RackFault};
 use ring_lanes::Held;
 use std::alloc::Global;
 use std::marker::Model;
 use tif_packbits::framed;
-use tif_plate::strips;
+use tif_plate::Sides;
 
 /// A print site, which builds its plates row by row on its rack. All memory is allocated when the site is
-/// made: the paths of its plates, the strip counts of each slot, and a buffer for the tail of a plate.
+/// made: the paths of its plates, and the strips of the plate in each slot.
 #[derive(Debug, Drop)]
 pub struct Site {
     plates: Vec<SitePlate>,
-    tails: Tails,
+    sides: Sides,
     total: u64,
     next: u64,
     finished: u32,
-    slots: Vec<Slot>,
+    slots: Vec<PlateStrips>,
     ended: bool,
 }
 
@@ -56,14 +54,14 @@ impl Model for Site {
     ghost Value = { SiteData };
 
     ghost view = { λ s. record {
-      job = job_with s.plates.items s.tails.shape s.total;
+      job = job_with s.plates.items s.sides s.total;
       next = s.next;
       counts = counts_of s.slots.items;
       ended = s.ended;
     } };
 
     ghost invariant = { λ s. s.ended ≡ false
-        → IsCounting (job_with s.plates.items s.tails.shape s.total) s.next s.finished s.slots.items };
+        → IsCounting (job_with s.plates.items s.sides s.total) s.next s.finished s.slots.items };
 }
 
 impl Site {
@@ -78,13 +76,11 @@ impl Site {
         requires job { IsPlan job_plan.now → IsJob (job_over job_plan.now plates.items) }
         ensures { IfOk result (λ made. made ≡ site_over job_plan.now plates.items) }
     {
-        let dpi = job_plan.dpi;
-        let shape = plate_shape(job_plan);
-        let tails = Tails::of(alloc, shape.width, shape.height, dpi)?;
-        let slots = empty_slots(alloc, strips(shape.width, shape.height) as usize)?;
+        let sides = plate_sides(job_plan);
+        let slots = empty_slots(alloc, sides)?;
         Ok(Site {
             plates,
-            tails,
+            sides,
             total: rows.total(),
             next: 0,
             finished: 0,
@@ -112,7 +108,7 @@ impl Site {
             if plate.first > self.next {
                 return None;
             }
-            let y = self.slots[plate.slot].rows;
+            let y = self.slots[plate.slot].next_row();
             if plate.first + y as u64 * plate.step as u64 == self.next {
                 return Some(Place {
                     plate: i,
@@ -150,20 +146,11 @@ impl Site {
     {
         // The site has ended unless all calls succeed.
         self.ended = true;
-        let height = self.tails.height();
-        let packed = framed(held.bytes()).len() as u32;
         let slot = &mut self.slots[place.slot];
-        slot.count(place.y, height, self.tails.strip_of(place.y), packed);
+        slot.count(framed(held.bytes()).len());
         let plate = &self.plates[place.plate];
-        deliver(
-            plate,
-            place.y,
-            slot.counts.as_slice(),
-            &mut self.tails,
-            held,
-            rack,
-        )?;
-        self.finished = finished_with(self.finished, place.y, height);
+        deliver(plate, place.y, slot, held, rack)?;
+        self.finished = finished_with(self.finished, place.y, self.sides.height);
         self.next += 1;
         self.ended = false;
         Ok(())
@@ -246,5 +233,18 @@ impl Site {
             Ok(()) => Kept::Done,
             Err(refusal) => self.refused(place, plates, held.number(), refusal),
         }
+    }
+}
+
+/// Returns the number of finished plates after row `y` of one.
+fn finished_with(finished: u32, y: u32, height: u32) -> u32
+    requires y { y < height }
+    requires fits { finished + 1 < 2 ^ 32 }
+    ensures { result ≡ finished_after height y finished }
+{
+    if y == height - 1 {
+        finished + 1
+    } else {
+        finished
     }
 }

@@ -7,8 +7,10 @@ mod entry;
 mod front;
 mod put;
 mod shape;
+mod sides;
 mod tail;
 
 pub use front::plate_front;
 pub use shape::{rows_per_strip, strips};
+pub use sides::Sides;
 pub use tail::{Tail, plate_tail};

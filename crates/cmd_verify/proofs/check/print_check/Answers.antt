@@ -1,4 +1,4 @@
-use Rattle.std.proofs.Common.{◌∙◌, ap, refl}
+use Rattle.std.proofs.Common.{◌∙◌, length, ap, refl}
 use Rattle.std.proofs.lemmas.Result.{err_from_is_err_and}
 use Rattle.plate_verify.specs.Looking.{told}
 use Rattle.cmd_verify.specs.Check.{asked_told, PrintsFound, check_rules, found_line}
@@ -20,7 +20,7 @@ returns-clause-told g c =
           c.load_job.ensures.held c.load_job.ensures.faults_stay c.in_ok-job.ensures.lengths
           c.in_ok-job.job c.args.asked.out.now c.in_ok-checked.checked c.in_ok-checked.ensures.looks;
       text_is = c.as_bytes.ensures.value ∙ c.in-Ok.ensures
-          ∙ ap (λ sites. found_line sites (told c.in_ok-checked.checked)) c.site_count.ensures;
+          ∙ ap (λ sites. found_line sites (told c.in_ok-checked.checked)) (c.site_count.ensures.count ∙ ap (λ p. length p.sites) c.plan-plan.ensures.plan);
       status_is = c.status_of.ensures;
     })
     c.put_text.ensures.puts

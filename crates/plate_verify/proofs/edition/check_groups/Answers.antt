@@ -11,7 +11,7 @@ loop-index-init g c = λ all fed many. looked_to-none c.args.plan.now all c.args
 pub check_group-requires-clause-fed : goal.check_group-requires-clause-fed
 check_group-requires-clause-fed g c =
     let r = c.requires.fed in
-    let below : c.loop-index.index < length (groups_of c.args.plan.now) = omega (arith, c.group_number-index-end.ensures) in
+    let below : c.loop-index.index < length (groups_of c.args.plan.now) = omega (arith, c.group_count-index-end.ensures) in
     record {
       rows = r.rows;
       fed = fed_group c.args.plan.now r.rows c.args.out.now c.loop-index.index c.group_at-group.result.now (shelf_told g.H.Shelf c.args.shelf.now) (shelf_told g.H.Shelf c.loop-index.shelf) c.loop-index.plates _ _
@@ -21,7 +21,7 @@ check_group-requires-clause-fed g c =
 
 pub loop-index-preserved : goal.loop-index-preserved
 loop-index-preserved g c = λ all fed many.
-    let below : c.loop-index.index < length (groups_of c.args.plan.now) = omega (arith, c.group_number-index-end.ensures) in
+    let below : c.loop-index.index < length (groups_of c.args.plan.now) = omega (arith, c.group_count-index-end.ensures) in
     let to = c.loop-index.invariant all fed many in
     let each = rw c.in-Ok-None.field-0-is at c.in-Ok-None.ensures in
     let own = fed_group c.args.plan.now all c.args.out.now c.loop-index.index c.group_at-group.result.now (shelf_told g.H.Shelf c.args.shelf.now) (shelf_told g.H.Shelf c.loop-index.shelf) c.loop-index.plates _ _
@@ -31,7 +31,7 @@ loop-index-preserved g c = λ all fed many.
 
 pub returns-in-Ok-Some : goal.returns-in-Ok-Some
 returns-in-Ok-Some g c = λ all fed many.
-    let below : c.loop-index.index < length (groups_of c.args.plan.now) = omega (arith, c.group_number-index-end.ensures) in
+    let below : c.loop-index.index < length (groups_of c.args.plan.now) = omega (arith, c.group_count-index-end.ensures) in
     let to = c.loop-index.invariant all fed many in
     let each = rw c.in-Ok-Some.field-0-is at c.in-Ok-Some.ensures in
     let own = fed_group c.args.plan.now all c.args.out.now c.loop-index.index c.group_at-group.result.now (shelf_told g.H.Shelf c.args.shelf.now) (shelf_told g.H.Shelf c.loop-index.shelf) c.loop-index.plates _ _
@@ -41,7 +41,7 @@ returns-in-Ok-Some g c = λ all fed many.
 
 pub returns-in-Err : goal.returns-in-Err
 returns-in-Err g c = λ all fed many.
-    let below : c.loop-index.index < length (groups_of c.args.plan.now) = omega (arith, c.group_number-index-end.ensures) in
+    let below : c.loop-index.index < length (groups_of c.args.plan.now) = omega (arith, c.group_count-index-end.ensures) in
     let to = c.loop-index.invariant all fed many in
     let own = fed_group c.args.plan.now all c.args.out.now c.loop-index.index c.group_at-group.result.now (shelf_told g.H.Shelf c.args.shelf.now) (shelf_told g.H.Shelf c.loop-index.shelf) c.loop-index.plates _ _
     c.group_at-group.ensures.plan (many ∙ ap {A = RowPlanData} row_total c.requires.rows) below c.group_at-group.ensures.is to in
@@ -50,5 +50,5 @@ returns-in-Err g c = λ all fed many.
 
 pub returns : goal.returns
 returns g c = λ all fed many.
-    let past : length (groups_of c.args.plan.now) ≤ c.loop-index.index = omega (arith, c.group_number-index-end.ensures) in
+    let past : length (groups_of c.args.plan.now) ≤ c.loop-index.index = omega (arith, c.group_count-index-end.ensures) in
     looked_to-all c.args.plan.now all c.args.out.now c.loop-index.index (shelf_told g.H.Shelf c.args.shelf.now) (shelf_told g.H.Shelf c.loop-index.shelf) c.loop-index.plates _ _ past (c.loop-index.invariant all fed many)

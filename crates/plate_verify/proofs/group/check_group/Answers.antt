@@ -1,7 +1,7 @@
 use Rattle.std.proofs.Common.{◌≤◌, length, take, drop, ◌∙◌, arith}
 use Rattle.std.proofs.lemmas.List.{length-take-le}
 use Rattle.plan_rows.proofs.RowLemmas.{ink_count-within}
-use Rattle.plate_verify.specs.Verify.{sides_of}
+use Rattle.plan_rows.specs.Sides.{plate_sides}
 use Rattle.plate_verify.proofs.GroupLemmas.{on_ok_always, group_fed, group_made, fed_after}
 use Rattle.plate_verify.proofs.group.check_group.Goals as goal
 
@@ -9,7 +9,7 @@ pub make_plates-requires : goal.make_plates-requires
 make_plates-requires g c =
     let few : c.ink_number.result ≤ length c.args.plates.now = omega (arith, c.ink_number.ensures.count, c.requires.fed.fed.fed.five, ink_count-within c.args.group.now) in
     record {
-      sides = sides_of c.args.plan.now;
+      sides = plate_sides c.args.plan.now;
       next = drop c.args.group.now.first c.requires.fed.rows;
       fed = group_fed c.args.plan.now c.requires.fed.rows c.args.group.now c.args.plates.now _ _ c.ink_number.result c.requires.fed.fed c.ink_number.ensures.count few;
       high = c.requires.height;
@@ -18,7 +18,7 @@ make_plates-requires g c =
 pub returns-clause-looked : goal.returns-clause-looked
 returns-clause-looked g c = λ rows fed.
     let few : c.ink_number.result ≤ length c.args.plates.now = omega (arith, c.ink_number.ensures.count, fed.fed.five, ink_count-within c.args.group.now) in
-    let whole_ones = c.in-Ok.ensures.plates (sides_of c.args.plan.now) (drop c.args.group.now.first rows)
+    let whole_ones = c.in-Ok.ensures.plates (plate_sides c.args.plan.now) (drop c.args.group.now.first rows)
     (group_fed c.args.plan.now rows c.args.group.now c.args.plates.now _ _ c.ink_number.result fed c.ink_number.ensures.count few) c.requires.height in
     c.look_at_group.ensures rows
     (group_made c.args.plan.now rows c.args.group.now (length (take c.ink_number.result c.args.plates.now)) c.args.height c.make_plates.new.plates (length-take-le c.ink_number.result c.args.plates.now few ∙ c.ink_number.ensures.count) c.requires.height whole_ones)
@@ -28,5 +28,5 @@ returns-clause-fed g c = on_ok_always c.look_at_group.result _ (λ rows fed.
     let few : c.ink_number.result ≤ length c.args.plates.now = omega (arith, c.ink_number.ensures.count, fed.fed.five, ink_count-within c.args.group.now) in
     let own = group_fed c.args.plan.now rows c.args.group.now c.args.plates.now _ _ c.ink_number.result fed c.ink_number.ensures.count few in
     fed_after c.args.plan.now rows c.args.group.now c.args.plates.now c.make_plates.new.plates _ _ _ _ c.ink_number.result c.args.height _ fed c.ink_number.ensures.count c.requires.height c.make_plates.auto.plates
-    (c.in-Ok.ensures.plates (sides_of c.args.plan.now) (drop c.args.group.now.first rows) own c.requires.height)
-    (c.in-Ok.ensures.feed (sides_of c.args.plan.now) (drop c.args.group.now.first rows) own c.requires.height) c.make_plates.auto.frame)
+    (c.in-Ok.ensures.plates (plate_sides c.args.plan.now) (drop c.args.group.now.first rows) own c.requires.height)
+    (c.in-Ok.ensures.feed (plate_sides c.args.plan.now) (drop c.args.group.now.first rows) own c.requires.height) c.make_plates.auto.frame)

@@ -1,5 +1,6 @@
 use Rattle.std.proofs.Common.{List, ℕ}
-use Rattle.plate_verify.specs.Making.{AreFull, Sides}
+use Rattle.plate_verify.specs.Making.{AreFull}
+use Rattle.tif_plate.specs.declared.sides.Sides.{Sides}
 use Rattle.plate_verify.proofs.MakeLemmas.{FinishedTo}
 use Rattle.plate_verify.proofs.making.finish_all.Given as goal
 

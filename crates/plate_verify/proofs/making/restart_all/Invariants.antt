@@ -1,4 +1,5 @@
-use Rattle.plate_verify.specs.Making.{HaveSides, Sides}
+use Rattle.plate_verify.specs.Making.{HaveSides}
+use Rattle.tif_plate.specs.declared.sides.Sides.{Sides}
 use Rattle.plate_verify.proofs.MakeLemmas.{RestartedTo}
 use Rattle.plate_verify.proofs.making.restart_all.Given as goal
 

@@ -1,5 +1,6 @@
 use Rattle.std.proofs.Common.{◌≡◌, List, [], ℕ, length}
-use Rattle.plate_verify.specs.Making.{AreFed, HaveRows, Sides}
+use Rattle.plate_verify.specs.Making.{AreFed, HaveRows}
+use Rattle.tif_plate.specs.declared.sides.Sides.{Sides}
 use Rattle.plate_verify.proofs.MakeLemmas.{TookRows}
 use Rattle.plate_verify.proofs.making.take_all.Given as goal
 

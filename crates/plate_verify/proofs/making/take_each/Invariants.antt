@@ -1,5 +1,6 @@
 use Rattle.std.proofs.Common.{List, ℕ, length}
-use Rattle.plate_verify.specs.Making.{EachTakes, Sides}
+use Rattle.plate_verify.specs.Making.{EachTakes}
+use Rattle.tif_plate.specs.declared.sides.Sides.{Sides}
 use Rattle.plate_verify.proofs.MakeLemmas.{TookUpTo}
 use Rattle.plate_verify.proofs.making.take_each.Given as goal
 

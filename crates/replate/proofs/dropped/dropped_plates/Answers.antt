@@ -1,4 +1,4 @@
-use Rattle.std.proofs.Common.{◌≤◌, ◌<◌, ◌++◌, [], ℕ, Bool, List, length, take, ap, sym, zero-add, ◌∙◌, arith}
+use Rattle.std.proofs.Common.{◌≡◌, ◌≤◌, ◌<◌, ◌++◌, [], ℕ, Bool, List, length, take, ap, sym, zero-add, ◌∙◌, arith}
 use Rattle.std.specs.Prelude.{filter}
 use Rattle.std.specs.List.{flat_map, range_with_len}
 use Rattle.std.proofs.lemmas.List.{take_all}
@@ -16,7 +16,7 @@ loop-site-preserved c =
     let count = length plan.sites in
     let sites : List ℕ = range_with_len 0 count in
     let seen : List PlateAt = filter test (flat_map (plates_of plan) (take site sites)) in
-    let is = c.site_count-site-end.ensures.count in
+    let is : c.site_count-site-end.result ≡ count = c.site_count-site-end.ensures.count ∙ ap (λ p. length p.sites) c.plan-plan.ensures.plan in
     let low = c.loop-site-test.true in
     let within : site < count = omega arith in
     c.in_ok-add_site.ensures ∙ ap (λ l. l ++ filter test (plates_of plan site)) c.loop-site.invariant
@@ -30,6 +30,6 @@ returns-clause-dropped c =
     let test : PlateAt → Bool = is_dropped plan c.args.after.now.plan in
     let count = length plan.sites in
     let sites : List ℕ = range_with_len 0 count in
-    let is = c.site_count-site-end.ensures.count in
+    let is : c.site_count-site-end.result ≡ count = c.site_count-site-end.ensures.count ∙ ap (λ p. length p.sites) c.plan-plan.ensures.plan in
     let end : length sites ≤ c.loop-site.site = (let past = c.loop-site-test.false in omega (arith, length-range_with_len 0 count)) in
     c.loop-site.invariant ∙ ap (λ l. filter test (flat_map (plates_of plan) l)) (take_all c.loop-site.site sites end)

@@ -11,4 +11,4 @@ pub returns-clause-of_plan : goal.returns-clause-of_plan
 returns-clause-of_plan c =
     let groups : c.groups.result.now ≡ groups_of c.args.job.now.plan = c.groups.ensures.groups ∙ ap {A = RowPlanData} (λ rows. rows.groups) c.rows.ensures in
     let Of : List Group → Type 0 = λ all. IsOfPlan c.args.job.now.plan (group_in all c.args.index) in
-    subst Of (sym groups) (group_of_plan c.args.job.now.plan c.args.index c.site_count-sites.ensures.plan c.requires)
+    subst Of (sym groups) (group_of_plan c.args.job.now.plan c.args.index c.plan-plan.ensures.valid c.requires)

@@ -9,13 +9,13 @@ use Rattle.site_agent.proofs.calls.deliver.Goals as goal
 pub end-requires-clause-stands : goal.end-requires-clause-stands
 end-requires-clause-stands g c =
     let packed : ℕ = length (packed_in c.args.held.now.bytes) in
-    let len : ℕ = strips_end c.args.counts.now - packed in
+    let len : ℕ = strips_end c.args.strips.now.counts - packed in
     let old : Tells = (told g.R.Rack c.args.rack.now).tells in
     let begun : Tells = (told g.R.Rack c.begin.new.rack).tells in
     let taken : Tells = (told g.R.Rack c.take.new.rack).tells in
     let P : ℕ → Type 0 = λ n. IfSome (g.R.Rack.working c.take.new.rack) (IsAsLong c.args.plate.now n) in
     let fits = c.requires.fits in
-    let whole : len + packed ≡ strips_end c.args.counts.now = omega (arith, fits) in
+    let whole : len + packed ≡ strips_end c.args.strips.now.counts = omega (arith, fits) in
     subst P whole
     (stands-taken c.args.plate.now len c.args.held.now.number c.args.held.now.bytes c.args.held.now.source begun taken c.in_ok-take.ensures.ok
     (stands-begun c.args.y len c.args.plate.now old begun c.in_ok-begin.ensures.ok c.requires.begun (g.met.R.Rack.begun_told c.args.rack.now) c.requires.stands

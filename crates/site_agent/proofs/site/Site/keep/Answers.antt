@@ -7,7 +7,7 @@ use Rattle.site_agent.specs.declared.calls.Refusal.{Refusal}
 use Rattle.site_agent.specs.declared.kept.LeftCause.{LeftCause}
 use Rattle.site_agent.specs.declared.place.Place.{Place}
 use Rattle.site_agent.specs.Given.{IsNoRow, finished_count, is_kept}
-use Rattle.site_agent.specs.Job.{IsJob, SiteJob, shape_of}
+use Rattle.site_agent.specs.Job.{IsJob, SiteJob, sides_of}
 use Rattle.site_agent.specs.Kept.{IsCauseAt, kept_of}
 use Rattle.site_agent.specs.Refused.{taken_at}
 use Rattle.site_agent.specs.Site.{SiteData, IsCounting, IsPlaceOf, job_with}
@@ -22,7 +22,7 @@ use Rattle.site_agent.proofs.site.Site.keep.Goals as goal
 
 pub invariant_of-self : goal.invariant_of-self
 invariant_of-self g c =
-    λ open'. counts-past (job_with c.self.inside.plates.items c.self.inside.tails.shape c.self.inside.total) c.self.inside.next c.self.inside.finished c.self.inside.slots.items (c.self.invariant open')
+    λ open'. counts-past (job_with c.self.inside.plates.items c.self.inside.sides c.self.inside.total) c.self.inside.next c.self.inside.finished c.self.inside.slots.items (c.self.invariant open')
     (subst (λ (s : SiteData). IsNoRow s.job s.next) (sym c.self.view_is) c.in_default.ensures.none)
     (subst (λ (s : SiteData). s.next < s.job.total) (sym c.self.view_is) c.requires.within)
 
@@ -31,7 +31,7 @@ returns-in_default-clause-keeps g c =
     let job : SiteJob = c.args.self.now.job in
     let n : ℕ = c.args.self.now.next in
     let going : c.self.inside.ended ≡ false = ap (λ s. s.ended) c.self.view_is ∙ c.requires.going in
-    let counting : IsCounting (job_with c.self.inside.plates.items c.self.inside.tails.shape c.self.inside.total) c.self.inside.next c.self.inside.finished c.self.inside.slots.items = c.self.invariant going in
+    let counting : IsCounting (job_with c.self.inside.plates.items c.self.inside.sides c.self.inside.total) c.self.inside.next c.self.inside.finished c.self.inside.slots.items = c.self.invariant going in
     let is : IsJob job = subst (λ (s : SiteData). IsJob s.job) c.self.view_is counting.is in
     λ rows before here stands.
     subst (λ (s : SiteData). StandsAfter job rows c.args.held.now.source (n + 1) before (told g.R.Rack c.args.rack.now).tells s.counts) (sym c.self.view_is)
@@ -42,7 +42,7 @@ returns-in-Ok-clause-keeps g c =
     let job : SiteJob = c.args.self.now.job in
     let n : ℕ = c.args.self.now.next in
     let going : c.self.inside.ended ≡ false = ap (λ s. s.ended) c.self.view_is ∙ c.requires.going in
-    let counting : IsCounting (job_with c.self.inside.plates.items c.self.inside.tails.shape c.self.inside.total) c.self.inside.next c.self.inside.finished c.self.inside.slots.items = c.self.invariant going in
+    let counting : IsCounting (job_with c.self.inside.plates.items c.self.inside.sides c.self.inside.total) c.self.inside.next c.self.inside.finished c.self.inside.slots.items = c.self.invariant going in
     let is : IsJob job = subst (λ (s : SiteData). IsJob s.job) c.self.view_is counting.is in
     let place : Place = c.in-Some.place in
     let there : IsPlaceOf job n place = c.in-Some.ensures.found in
@@ -50,12 +50,12 @@ returns-in-Ok-clause-keeps g c =
     let five : length c.self.inside.slots.items ≡ 5 = counting.slots in
     let size : length (slice_index_or c.args.self.now.counts place.slot []) ≡ strip_count job.width job.height =
     subst (λ (s : SiteData). length (slice_index_or s.counts place.slot []) ≡ strip_count s.job.width s.job.height) c.self.view_is
-    (strips-of (job_with c.self.inside.plates.items c.self.inside.tails.shape c.self.inside.total) c.self.inside.next c.self.inside.finished c.self.inside.slots.items place.slot counting inside (omega arith)) in
+    (strips-of (job_with c.self.inside.plates.items c.self.inside.sides c.self.inside.total) c.self.inside.next c.self.inside.finished c.self.inside.slots.items place.slot counting inside (omega arith)) in
     λ rows before here stands.
     row_kept-slot job rows c.args.held.now.source n place.plate place.y place.slot before (told g.R.Rack c.args.rack.now).tells (told g.R.Rack c.give.new.rack).tells c.args.self.now.counts c.give.new.self.counts any c.args.held.now.bytes is there.row (there.slot any) stands
     (g.met.R.Rack.finished_told c.args.rack.now) c.requires.frame here size c.in-Ok.ensures.own c.in-Ok.ensures.others
     (c.in-Ok.ensures.rack any
-    ∙ ap (λ m. after_row (shape_of job) (slice_index_or job.plates place.plate any) place.y m c.args.held.now.bytes c.args.held.now.source (slice_index_or c.give.new.self.counts place.slot []) (told g.R.Rack c.args.rack.now).tells) c.requires.next)
+    ∙ ap (λ m. after_row (sides_of job) (slice_index_or job.plates place.plate any) place.y m c.args.held.now.bytes c.args.held.now.source (slice_index_or c.give.new.self.counts place.slot []) (told g.R.Rack c.args.rack.now).tells) c.requires.next)
 
 pub returns-in-Ok-clause-leaves_alone : goal.returns-in-Ok-clause-leaves_alone
 returns-in-Ok-clause-leaves_alone g c =
@@ -107,7 +107,7 @@ returns-in-Err-clause-left g c =
     let job : SiteJob = c.args.self.now.job in
     let n : ℕ = c.args.self.now.next in
     let going : c.self.inside.ended ≡ false = ap (λ s. s.ended) c.self.view_is ∙ c.requires.going in
-    let counting : IsCounting (job_with c.self.inside.plates.items c.self.inside.tails.shape c.self.inside.total) c.self.inside.next c.self.inside.finished c.self.inside.slots.items = c.self.invariant going in
+    let counting : IsCounting (job_with c.self.inside.plates.items c.self.inside.sides c.self.inside.total) c.self.inside.next c.self.inside.finished c.self.inside.slots.items = c.self.invariant going in
     let place : Place = c.in-Some.place in
     let there : IsPlaceOf job n place = c.in-Some.ensures.found in
     let refusal : Refusal = c.in-Err.refusal in
@@ -209,7 +209,7 @@ returns-in-Ok-clause-begun_on g c =
     let job : SiteJob = c.args.self.now.job in
     let n : ℕ = c.args.self.now.next in
     let going : c.self.inside.ended ≡ false = ap (λ s. s.ended) c.self.view_is ∙ c.requires.going in
-    let counting : IsCounting (job_with c.self.inside.plates.items c.self.inside.tails.shape c.self.inside.total) c.self.inside.next c.self.inside.finished c.self.inside.slots.items = c.self.invariant going in
+    let counting : IsCounting (job_with c.self.inside.plates.items c.self.inside.sides c.self.inside.total) c.self.inside.next c.self.inside.finished c.self.inside.slots.items = c.self.invariant going in
     let is : IsJob job = subst (λ (s : SiteData). IsJob s.job) c.self.view_is counting.is in
     let place : Place = c.in-Some.place in
     let there : IsPlaceOf job n place = c.in-Some.ensures.found in
@@ -217,12 +217,12 @@ returns-in-Ok-clause-begun_on g c =
     let five : length c.self.inside.slots.items ≡ 5 = counting.slots in
     let size : length (slice_index_or c.args.self.now.counts place.slot []) ≡ strip_count job.width job.height =
     subst (λ (s : SiteData). length (slice_index_or s.counts place.slot []) ≡ strip_count s.job.width s.job.height) c.self.view_is
-    (strips-of (job_with c.self.inside.plates.items c.self.inside.tails.shape c.self.inside.total) c.self.inside.next c.self.inside.finished c.self.inside.slots.items place.slot counting inside (omega arith)) in
+    (strips-of (job_with c.self.inside.plates.items c.self.inside.sides c.self.inside.total) c.self.inside.next c.self.inside.finished c.self.inside.slots.items place.slot counting inside (omega arith)) in
     let asks : Asks job (n + 1) c.give.new.self.counts (told g.R.Rack c.give.new.rack).tells =
     asks-kept job c.args.held.now.source n place.plate place.y place.slot (told g.R.Rack c.args.rack.now).tells (told g.R.Rack c.give.new.rack).tells c.args.self.now.counts c.give.new.self.counts any c.args.held.now.bytes is there.row (there.slot any) (record { begun = c.requires.begun; working = c.requires.working })
     (g.met.R.Rack.begun_told c.args.rack.now) size c.in-Ok.ensures.own c.in-Ok.ensures.others
     (c.in-Ok.ensures.rack any
-    ∙ ap (λ m. after_row (shape_of job) (slice_index_or job.plates place.plate any) place.y m c.args.held.now.bytes c.args.held.now.source (slice_index_or c.give.new.self.counts place.slot []) (told g.R.Rack c.args.rack.now).tells) c.requires.next) in
+    ∙ ap (λ m. after_row (sides_of job) (slice_index_or job.plates place.plate any) place.y m c.args.held.now.bytes c.args.held.now.source (slice_index_or c.give.new.self.counts place.slot []) (told g.R.Rack c.args.rack.now).tells) c.requires.next) in
     subst (λ (j : SiteJob). AreBegun j c.give.new.self.next (g.R.Rack.begun c.give.new.rack)) (sym c.in-Ok.ensures.goes_on.job) (subst (λ (m : ℕ). AreBegun job m (g.R.Rack.begun c.give.new.rack)) (sym c.in-Ok.ensures.goes_on.next) asks.begun)
 
 pub returns-in-Ok-clause-working_on : goal.returns-in-Ok-clause-working_on
@@ -230,7 +230,7 @@ returns-in-Ok-clause-working_on g c =
     let job : SiteJob = c.args.self.now.job in
     let n : ℕ = c.args.self.now.next in
     let going : c.self.inside.ended ≡ false = ap (λ s. s.ended) c.self.view_is ∙ c.requires.going in
-    let counting : IsCounting (job_with c.self.inside.plates.items c.self.inside.tails.shape c.self.inside.total) c.self.inside.next c.self.inside.finished c.self.inside.slots.items = c.self.invariant going in
+    let counting : IsCounting (job_with c.self.inside.plates.items c.self.inside.sides c.self.inside.total) c.self.inside.next c.self.inside.finished c.self.inside.slots.items = c.self.invariant going in
     let is : IsJob job = subst (λ (s : SiteData). IsJob s.job) c.self.view_is counting.is in
     let place : Place = c.in-Some.place in
     let there : IsPlaceOf job n place = c.in-Some.ensures.found in
@@ -238,12 +238,12 @@ returns-in-Ok-clause-working_on g c =
     let five : length c.self.inside.slots.items ≡ 5 = counting.slots in
     let size : length (slice_index_or c.args.self.now.counts place.slot []) ≡ strip_count job.width job.height =
     subst (λ (s : SiteData). length (slice_index_or s.counts place.slot []) ≡ strip_count s.job.width s.job.height) c.self.view_is
-    (strips-of (job_with c.self.inside.plates.items c.self.inside.tails.shape c.self.inside.total) c.self.inside.next c.self.inside.finished c.self.inside.slots.items place.slot counting inside (omega arith)) in
+    (strips-of (job_with c.self.inside.plates.items c.self.inside.sides c.self.inside.total) c.self.inside.next c.self.inside.finished c.self.inside.slots.items place.slot counting inside (omega arith)) in
     let asks : Asks job (n + 1) c.give.new.self.counts (told g.R.Rack c.give.new.rack).tells =
     asks-kept job c.args.held.now.source n place.plate place.y place.slot (told g.R.Rack c.args.rack.now).tells (told g.R.Rack c.give.new.rack).tells c.args.self.now.counts c.give.new.self.counts any c.args.held.now.bytes is there.row (there.slot any) (record { begun = c.requires.begun; working = c.requires.working })
     (g.met.R.Rack.begun_told c.args.rack.now) size c.in-Ok.ensures.own c.in-Ok.ensures.others
     (c.in-Ok.ensures.rack any
-    ∙ ap (λ m. after_row (shape_of job) (slice_index_or job.plates place.plate any) place.y m c.args.held.now.bytes c.args.held.now.source (slice_index_or c.give.new.self.counts place.slot []) (told g.R.Rack c.args.rack.now).tells) c.requires.next) in
+    ∙ ap (λ m. after_row (sides_of job) (slice_index_or job.plates place.plate any) place.y m c.args.held.now.bytes c.args.held.now.source (slice_index_or c.give.new.self.counts place.slot []) (told g.R.Rack c.args.rack.now).tells) c.requires.next) in
     subst (λ (j : SiteJob). IfSome (g.R.Rack.working c.give.new.rack) (AreAsLong j c.give.new.self.next c.give.new.self.counts)) (sym c.in-Ok.ensures.goes_on.job) (subst (λ (m : ℕ). IfSome (g.R.Rack.working c.give.new.rack) (AreAsLong job m c.give.new.self.counts)) (sym c.in-Ok.ensures.goes_on.next) asks.working)
 
 pub returns-in-Err-clause-begun_on : goal.returns-in-Err-clause-begun_on

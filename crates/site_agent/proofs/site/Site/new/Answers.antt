@@ -1,7 +1,7 @@
 use Rattle.std.proofs.Common.{List, sym, subst}
 use Rattle.site_agent.specs.declared.plate.SitePlate.{SitePlate}
 use Rattle.site_agent.specs.Job.{IsJob}
-use Rattle.site_agent.specs.Picked.{job_over}
+use Rattle.site_agent.specs.Plan.{job_over}
 use Rattle.site_agent.proofs.Jobs.{job_is}
 use Rattle.site_agent.proofs.site.Site.new.Goals as goal
 

@@ -3,7 +3,8 @@ use Rattle.std.proofs.lemmas.List.{length-map}
 use Rattle.plan_rows.specs.Plates.{site_plates}
 use Rattle.site_agent.specs.declared.plate.SitePlate.{SitePlate}
 use Rattle.site_agent.specs.Job.{IsJob}
-use Rattle.site_agent.specs.Picked.{job_over, kept_where}
+use Rattle.site_agent.specs.Picked.{kept_where}
+use Rattle.site_agent.specs.Plan.{job_over}
 use Rattle.site_agent.specs.Plan.{plate_of}
 use Rattle.site_agent.proofs.Parts.{picked_is}
 use Rattle.site_agent.proofs.site.Site.of_picked.Goals as goal

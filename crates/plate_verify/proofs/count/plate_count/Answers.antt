@@ -3,7 +3,7 @@ use Rattle.std.specs.Prelude.{count_by}
 use Rattle.std.specs.List.{range_with_len}
 use Rattle.plan_rows.specs.Inks.{has_site, ink_count}
 use Rattle.plate_verify.proofs.CountLemmas.{group-count}
-use Rattle.plate_verify.proofs.count.group_count.Goals as goal
+use Rattle.plate_verify.proofs.count.plate_count.Goals as goal
 
 pub returns-clause-count : goal.returns-clause-count
 returns-clause-count c =

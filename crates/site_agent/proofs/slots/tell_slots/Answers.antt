@@ -1,7 +1,7 @@
 use Rattle.pr_rack.specs.Told.{RackTells, told}
 use Rattle.site_agent.specs.Racks.{TellsSlots}
 use Rattle.site_agent.proofs.Racks.{all_tell}
-use Rattle.replate.proofs.remaking.tell_slots.Goals as goal
+use Rattle.site_agent.proofs.slots.tell_slots.Goals as goal
 
 pub returns : goal.returns
 returns g c =

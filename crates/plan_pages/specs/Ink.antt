@@ -1,2 +1,0 @@
--- The position of an ink among the five, for the crates above.
-pub use Rattle.pr_base.specs.Ink.{slot_of}
