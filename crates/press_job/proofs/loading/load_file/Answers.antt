@@ -14,7 +14,7 @@ returns-in-Err-TooLong-clause-found g c =
     let held = g.H.Shelf.held c.args.shelf.now in
     let at : c.as_str.result.now ≡ path_of c.args.plan.now c.args.folder.now c.args.file = search rules in
     let P : List ℕ → Type 0 = λ path. IsLongerAt held path c.args.limit in
-    long_found c.args.plan.now c.args.folder.now (g.H.Shelf.held c.args.shelf.now) c.args.limit c.args.file c.in_ok-long.fault (subst P at (rw c.in-Err-TooLong.field-0-is at c.in-Err-TooLong.ensures.longer)) c.in_ok-long.ensures
+    long_found c.args.plan.now c.args.folder.now (g.H.Shelf.held c.args.shelf.now) c.args.limit c.args.file c.in_ok-long.long (subst P at (rw c.in-Err-TooLong.field-0-is at c.in-Err-TooLong.ensures.longer)) c.in_ok-long.ensures
 
 pub returns-in-Err-clause-found : goal.returns-in-Err-clause-found
 returns-in-Err-clause-found g c =
