@@ -2,6 +2,7 @@ use Rattle.std.proofs.Common.{◌∙◌, refl, ap, inl, inr}
 use Rattle.std.proofs.lemmas.Result.{err_from_is_err_and}
 use Rattle.cmd_replate.specs.Change.{change_told, change_makes, change_rules}
 use Rattle.cmd_replate.specs.Remade.{remade_text, status_of_remade}
+use Rattle.cmd_base.specs.Seen.{shelf_seen}
 use Rattle.cmd_base.specs.Status.{number_of}
 use Rattle.cmd_replate.proofs.Changing.{text_is}
 use Rattle.cmd_base.proofs.Grow.{grew_nothing}
@@ -76,7 +77,7 @@ returns-in_err-late-clause-lengths g c =
     rw (p.1, p.2) c.in_err-late.ensures.lengths
 
 pub returns-clause-lengths : goal.returns-clause-lengths
-returns-clause-lengths g c = none_lengths _ c.put_text.result c.in_ok-late.ensures.lengths
+returns-clause-lengths g c = none_lengths (shelf_seen g.H.Shelf c.args.shelf.now c.load_late.new.shelf) c.put_text.result c.in_ok-late.ensures.lengths
 
 pub returns-in_err-late-clause-writes : goal.returns-in_err-late-clause-writes
 returns-in_err-late-clause-writes g c = λ done. refl

@@ -1,5 +1,6 @@
 use Rattle.std.proofs.Common.{refl}
 use Rattle.std.proofs.lemmas.Result.{err_from_is_err_and}
+use Rattle.cmd_base.specs.Seen.{shelf_seen}
 use Rattle.cmd_base.proofs.Loads.{none_lengths}
 use Rattle.cmd_run.proofs.keys.run_with_keys.Goals as goal
 
@@ -17,7 +18,7 @@ returns-in_err-job-clause-lengths g c =
     rw (p.1, p.2) c.in_err-job.ensures.lengths
 
 pub returns-clause-lengths : goal.returns-clause-lengths
-returns-clause-lengths g c = none_lengths _ c.deliver.result c.in_ok-job.ensures.lengths
+returns-clause-lengths g c = none_lengths (shelf_seen g.H.Shelf c.args.shelf.now c.load_job.new.shelf) c.deliver.result c.in_ok-job.ensures.lengths
 
 pub returns-in_err-job-clause-writes : goal.returns-in_err-job-clause-writes
 returns-in_err-job-clause-writes g c = λ done. refl
