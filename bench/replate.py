@@ -1,6 +1,9 @@
-"""Measures `plateroom replate` on one processor: of a pair where one page changed, and where none did.
+"""Measures `plateroom replate`: of a pair where one page changed, where one ink has another screen, and where
+nothing changed.
 
-usage: bench/replate.py FOLDER PROGRAM [PART]
+usage: bench/replate.py [--processors N] FOLDER PROGRAM [PART]
+
+It runs on one processor, or on N.
 
 FOLDER takes the images and the plates, some 4 GB; use a folder in memory. The pairs are the large one for
 four sites, and one for one site whose two images have half a GB each, the longest that a file may be. It
@@ -8,11 +11,13 @@ makes the following in turn, prints the best of three (of the second pair one), 
 `replate` with those of the run:
 
 - a run of the new job; - `replate` where the left image has another last byte, so that each plate must be
-made; - `replate` where nothing changed; - the loading of both jobs: `replate` where the new plan names one
+made; - `replate` where the old plan screens black by another tile, so that the black plates must be made; -
+`replate` where nothing changed; - the loading of both jobs: `replate` where the new plan names one
 more image after all others, which is missing.
 
 With PART widths and lengths are divided by it, for a quick test.
 """
+import argparse
 import json
 import os
 import shutil
@@ -42,9 +47,10 @@ class Pair:
             byte, = file.read(1)
             file.seek(-1, os.SEEK_END)
             file.write(bytes([byte ^ 255]))
-        plan, more = (self.job([scale * width, scale * length], scale) for _ in range(2))
+        plan, more, screen = (self.job([scale * width, scale * length], scale) for _ in range(3))
         more["pages"][-1]["layers"].append({"kind": "contone", "file": "none.tif"})
-        for name, job in (("plan", plan), ("more", more)):
+        screen["screens"]["K"] = "bayer4"
+        for name, job in (("plan", plan), ("more", more), ("screen", screen)):
             with open(self.path(f"{name}.json"), "w") as file:
                 json.dump(job, file)
 
@@ -68,6 +74,8 @@ class Pair:
             "run of the new job": lambda: self.measure(run_it, ["plan.json", "new"], "out"),
             "replate, one page changed": lambda: self.measure(
                 replate, ["plan.json", "old", "plan.json", "new"], "made"),
+            "replate, another screen for black": lambda: self.measure(
+                replate, ["screen.json", "new", "plan.json", "new"], "black"),
             "replate, nothing changed": lambda: self.measure(
                 replate, ["plan.json", "old", "plan.json", "old"], "same"),
             "loading of both jobs": lambda: self.measure(
@@ -83,6 +91,9 @@ class Pair:
                   f"{memory} KiB", flush=True)
         for site in range(self.count):
             sites.same_plates(self.path("out", f"S{site}"), self.path("made", f"S{site}"))
+            sites.same_plates(self.path("black", f"S{site}"), self.path("out", f"S{site}"))
+            if any(name[-5] != "K" for name in os.listdir(self.path("black", f"S{site}"))):
+                sys.exit("more than the black plates are made")
         if os.path.lexists(self.path("same")):
             sys.exit("plates are made where nothing changed")
         files = sum(os.path.getsize(self.path("new", name)) for name in os.listdir(self.path("new"))) // 1024
@@ -91,9 +102,14 @@ class Pair:
 
 
 def main():
-    folder, program = sys.argv[1:3]
-    part = int(sys.argv[3]) if len(sys.argv) > 3 else 1
-    os.sched_setaffinity(0, [min(os.sched_getaffinity(0))])
+    words = argparse.ArgumentParser(description=__doc__, formatter_class=argparse.RawDescriptionHelpFormatter)
+    words.add_argument("--processors", type=int, default=1)
+    words.add_argument("folder")
+    words.add_argument("program")
+    words.add_argument("part", type=int, nargs="?", default=1)
+    words = words.parse_args()
+    folder, program, part = words.folder, words.program, words.part
+    os.sched_setaffinity(0, sorted(os.sched_getaffinity(0))[:words.processors])
     for title, width, length, scale, count, runs in (
         ("the large pair, four sites", run.WIDTH, run.LENGTH, run.SCALE, 4, RUNS),
         ("two images of half a GB each, one site", 11500, 11500, 1, 1, 1),

@@ -27,8 +27,9 @@ exec {clang} "$@"
 FLAGS = ["--target=x86_64-unknown-linux-gnu", "-march=x86-64", "-ffunction-sections", "-fdata-sections", "-fPIE",
          "-fintegrated-cc1", "--no-default-config"]
 
-# The calls by which a checked run stops at an overflow and its kin, and the bytes that it fills fresh values with.
-CHECK = re.compile(r'  call void @"rattle-llvm-checks::(?!Unreachable)')
+# The calls by which a checked run stops at an overflow and its kin, the stop at a bad index, which leaves code that
+# is never reached, and the bytes that it fills fresh values with.
+CHECK = re.compile(r'  call void @("rattle-llvm-checks::(?!Unreachable)|llvm\.trap\(\))')
 FILL = re.compile(r"  call void @llvm\.memset\.p0\.i64\(ptr %r\d+, i8 -86,")
 
 

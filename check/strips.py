@@ -1,4 +1,4 @@
-"""Packed images in strips of 1, 3, 64 and all rows, chunky and planar: their plates, and the first of their
+"""Packed images in strips of 1, 3, 64, 200 and all rows, chunky and planar: their plates, and the first of their
 faults, on one processor, two and, where the machine has them, four, and where no thread can be started.
 
 All files of a picture hold the same pixels, so their pages have the same plates. The definitions make these
@@ -17,7 +17,7 @@ from tiff import Image
 from trial import told
 
 # How the samples are stored, and the rows of a strip. 0 is all rows.
-FORMS = [(planar, rows) for planar in (False, True) for rows in (1, 3, 64, 0)]
+FORMS = [(planar, rows) for planar in (False, True) for rows in (1, 3, 64, 200, 0)]
 
 # Pictures by name: width, length and seed. A packed file of `large` has more than a megabyte, so that several
 # threads test its strips.
@@ -70,7 +70,7 @@ def write_images(tried, files):
 
 
 def left_page(image):
-    """The large picture, cropped in the middle of a strip of 3 and of 64 rows; a part at scale 2."""
+    """The large picture, cropped in the middle of a strip of 3, of 64 and of 200 rows; a part at scale 2."""
     large = {"kind": "contone", "file": image("large")}
     return [dict(large, crop=[1, 331, 330, 400]),
             dict(large, crop=[90, 70, 21, 66], x=13, y=250, scale=2)]
@@ -90,17 +90,18 @@ def plan(name, images, page, screens):
              for number, image in enumerate(images) for side, layers in (("l", left_page), ("r", right_page))]
     return {"plan": 1, "edition": name, "dpi": 1200, "page": page, "margins": [3, 2, 1, 4], "gutter": 5,
             "screens": screens, "pages": pages, "sites": [{"name": "OSLO"}, {"name": "BERGEN"}],
-            "sections": [{"name": f"F{number}", "pages": [f"r{number}", f"l{number}"]}
-                         for number in range(len(images))]}
+            "sections": [{"name": f"F{first}", "pages": [f"{side}{number}" for number in range(first, len(images))[:2]
+                                                         for side in "rl"]} for first in range(0, len(images), 2)]}
 
 
 def both(name, page, screens):
-    """The plan whose pairs show the packed forms in turn, and the plan of the same plates from the pictures
+    """The plan whose pages show the packed forms in turn, and the plan of the same plates from the pictures
     that aren't packed."""
     forms = [lambda picture, form=form: named(picture, *form) for form in FORMS]
     packed = plan(name, forms, page, screens)
     plain = plan(name, [lambda picture: f"{picture}.tif"], page, screens)
-    plain["sections"] = [dict(section, pages=["r0", "l0"]) for section in packed["sections"]]
+    plain["sections"] = [dict(section, pages=["r0", "l0"] * (len(section["pages"]) // 2))
+                         for section in packed["sections"]]
     return packed, plain
 
 
