@@ -1,3 +1,4 @@
+use Rattle.cmd_base.specs.Seen.{sink_seen}
 use Rattle.plate_room.proofs.Told.{ends, told_writes}
 use Rattle.plate_room.proofs.main_call.run.Goals as goal
 
@@ -7,4 +8,4 @@ returns-in-Err-clause-ending g c =
 
 pub returns-in-Err-clause-writes : goal.returns-in-Err-clause-writes
 returns-in-Err-clause-writes g c =
-    told_writes _ _ c.in-Err.stop c.tell.result c.tell.ensures c.in-Err.ensures.writes
+    told_writes (sink_seen g.S.Sink c.args.out.now c.answer.new.out) _ c.in-Err.stop c.tell.result c.tell.ensures c.in-Err.ensures.writes
