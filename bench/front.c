@@ -1,5 +1,5 @@
 /* Error diffusion in three ways, which have to give the same bits: a plain loop; eight chains at once, a lane
- * each, which is what `Diffusers` of scr_diffuse does; and one chain by a front of eight rows, each two
+ * each, which is what `Diffusers` of scr_diffuse does; and one chain by a front of eight rows, each three
  * pixels behind the one above, which is what `BlockDiffuser` does. Prints million pixels a second of processor
  * time, the best of three runs.
  *
@@ -12,7 +12,7 @@
 #include <string.h>
 #include <time.h>
 
-enum { WIDTH = 16000, ROWS = 800, LAG = 14, ROOM = WIDTH + 64 };
+enum { WIDTH = 16000, ROWS = 800, LAG = 21, ROOM = WIDTH + 64 };
 
 static uint8_t page[ROWS][WIDTH], wanted[ROWS][WIDTH], made[ROWS][WIDTH];
 static int16_t errors[ROOM][8] __attribute__((aligned(16))), above_front[ROOM];
@@ -85,32 +85,41 @@ static void lanes(int y) {
     }
 }
 
-/* Rows y to y + 7 of one chain: at step t lane k stands at pixel t - 2 k of row y + k. */
-static void front(int y) {
-    const uint8_t *rows[8];
-    for (int k = 0; k < 8; k++) {
-        memcpy(shifted[k] + 2 * k, page[y + k], WIDTH);
-        rows[k] = shifted[k];
-    }
-    weave(rows, WIDTH + 16);
-    __m128i zero = _mm_setzero_si128(), left = zero;
-    __m128i above = _mm_insert_epi16(zero, above_front[1], 0), corner = _mm_insert_epi16(zero, above_front[0], 0);
-    for (int t = 0; t < WIDTH + LAG; t++) {
-        __m128i right = _mm_insert_epi16(_mm_slli_si128(left, 2), t < WIDTH ? above_front[t + 2] : 0, 0);
-        left = column(t, left, right, above, corner, &dots[t]);
-        if (t < LAG || t >= WIDTH) {
+/* The errors beside and above the next pixel of each of eight rows, and one pixel further to the left. */
+struct wave { __m128i left, older, above, corner; };
+
+/* Steps of a front. The errors of pixel x of the row above are at x + 22, and those of the last row replace them. */
+static inline struct wave steps(struct wave w, int from, int to, int edge) {
+    for (int t = from; t < to; t++) {
+        __m128i right = _mm_alignr_epi8(w.older, _mm_loadu_si128((const __m128i *)(above_front + t + 16)), 14);
+        __m128i left = column(t, w.left, right, w.above, w.corner, &dots[t]);
+        if (edge) {
             int16_t lane[8];
             _mm_storeu_si128((__m128i *)lane, left);
             for (int k = 0; k < 8; k++)
-                if (t < 2 * k || t - 2 * k >= WIDTH)
+                if (t < 3 * k || t - 3 * k >= WIDTH)
                     lane[k] = 0;
             left = _mm_loadu_si128((__m128i *)lane);
         }
-        if (t >= LAG)
-            above_front[t - LAG + 1] = _mm_extract_epi16(left, 7);
-        corner = above;
-        above = right;
+        above_front[t + 1] = _mm_extract_epi16(left, 7);
+        w = (struct wave){left, w.left, right, w.above};
     }
+    return w;
+}
+
+/* Rows y to y + 7 of one chain: at step t lane k stands at pixel t - 3 k of row y + k. */
+static void front(int y) {
+    const uint8_t *rows[8];
+    for (int k = 0; k < 8; k++) {
+        memcpy(shifted[k] + 3 * k, page[y + k], WIDTH);
+        rows[k] = shifted[k];
+    }
+    weave(rows, WIDTH + 32);
+    __m128i zero = _mm_setzero_si128();
+    struct wave w = {zero, zero, _mm_insert_epi16(zero, above_front[22], 0), zero};
+    w = steps(w, 0, LAG, 1);
+    w = steps(w, LAG, WIDTH, 0);
+    steps(w, WIDTH, WIDTH + LAG, 1);
 }
 
 static void check(const char *which) {
@@ -136,7 +145,7 @@ int main(void) {
         front(y);
         for (int k = 0; k < 8; k++)
             for (int x = 0; x < WIDTH; x++)
-                made[y + k][x] = dots[x + 2 * k] >> k & 1;
+                made[y + k][x] = dots[x + 3 * k] >> k & 1;
     }
     check("front");
     double best[3] = {1e9, 1e9, 1e9};

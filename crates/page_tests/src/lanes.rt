@@ -113,34 +113,48 @@ fn eight_pages_of_each_width(rt: HostRuntime) {
 /// pixels that the plain code draws.
 fn is_drawn(diffuser: &mut BlockDiffuser, errors: &mut Errors, width: usize, first: u32) -> bool
     requires width { diffuser.old.front.width ≡ width }
-    requires eight { length diffuser.old.held ≡ 8 }
     requires narrow { width ≤ 40 }
     requires first { first ≤ 1000 }
-    ensures width { diffuser.new.front.width ≡ width }
-    ensures eight { length diffuser.new.held ≡ 8 }
+    ensures { diffuser.new.front.width ≡ width }
 {
-    for k in 0..8 {
-        let row = row_of(0, first + k);
-        diffuser.put(k as usize, &row[..width]);
-    }
-    diffuser.advance();
+    let rows = block_at(first);
+    let [a, b, c, d, e, f, g, h] = &rows;
+    diffuser.advance_rows(&[
+        &a[..width],
+        &b[..width],
+        &c[..width],
+        &d[..width],
+        &e[..width],
+        &f[..width],
+        &g[..width],
+        &h[..width],
+    ]);
     let mut same = true;
     for k in 0..8 {
-        if first + k < HEIGHT {
+        if first as usize + k < HEIGHT as usize {
             let mut bits = [0; 8];
-            diffuser.draw(k as usize, &mut bits, 0);
-            let row = row_of(0, first + k);
-            same &= u64::from_be_bytes(bits) == plain_row(&row[..width], errors);
+            diffuser.draw(k, &mut bits, 0);
+            same &= u64::from_be_bytes(bits) == plain_row(&rows[k][..width], errors);
         }
     }
     same
+}
+
+/// Returns eight rows of a page, from row `first` on.
+fn block_at(first: u32) -> [[u8; WIDEST]; 8]
+    requires { first ≤ 1000 }
+{
+    let mut rows = [[0; WIDEST]; 8];
+    for k in 0..8 {
+        rows[k] = row_of(0, first + k as u32);
+    }
+    rows
 }
 
 /// Diffuses three blocks of a page, and returns whether each row has the pixels that the plain code draws.
 /// The third block has four rows of the page, and four past its end.
 fn are_blocks_drawn(diffuser: &mut BlockDiffuser, width: usize) -> bool
     requires width { diffuser.old.front.width ≡ width }
-    requires eight { length diffuser.old.held ≡ 8 }
     requires narrow { width ≤ 40 }
 {
     let mut errors = [0; WIDEST + 2];

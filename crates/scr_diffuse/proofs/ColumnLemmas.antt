@@ -1,10 +1,10 @@
 -- One column of eight pages, lane by lane, is the defined one.
-use Rattle.std.proofs.Common.{◌≡◌, ℕ, zero, suc, ◌+◌, ◌<◌, ◌≤◌, Bool, ℤ, pos, ◌≤ℤ◌, ◌+ℤ◌, ◌*ℤ◌, FitsSigned, to_z, of_z, List, [], length, map, get_or, ap, sym, subst, ◌∙◌, inl, inr, arith, add-one, w16}
+use Rattle.std.proofs.Common.{◌≡◌, ℕ, zero, suc, ◌+◌, ◌<◌, ◌≤◌, Bool, ℤ, pos, ◌≤ℤ◌, ◌+ℤ◌, ◌*ℤ◌, FitsSigned, to_z, of_z, List, [], length, map, get_or, refl, ap, sym, subst, ◌∙◌, inl, inr, arith, add-one, w16}
 use Rattle.std.proofs.lemmas.Bool.{cases_eq, cases_lt}
 use Rattle.std.proofs.lemmas.Int.{ints}
 use Rattle.std.proofs.lemmas.List.{get_or-map, get_or_past, length-map}
 use Rattle.scr_diffuse.specs.Diffusers.{AreErrors, AreValues, lane_at, lane_of}
-use Rattle.scr_diffuse.specs.Diffusion.{IsError, error_left, error_of, left_of, prints, v_below}
+use Rattle.scr_diffuse.specs.Diffusion.{IsError, corrected, error_left, error_of, left_of, prints, v_below}
 use Rattle.scr_diffuse.specs.Passes.{errors_in, floor_16, number_at}
 use Rattle.scr_diffuse.proofs.DiffusionLemmas.{corrected-small, error-inside, error-outside}
 use Rattle.scr_diffuse.proofs.LaneLemmas.{kept, kept_is}
@@ -65,14 +65,44 @@ whole v l r a b = (pos 16 *ℤ v) +ℤ (pos 7 *ℤ l) +ℤ (pos 3 *ℤ r) +ℤ (
 whole_fits : (n : ℕ) (l r a b : ℤ) → n ≤ 255 → IsError l → IsError r → IsError a → IsError b → FitsSigned w16 (whole (pos n) l r a b)
 whole_fits n l r a b byte small_l small_r small_a small_b = omega (arith, ints)
 
--- v of a pixel, from its whole sum
-pub column_is : (above : ℕ → ℤ) (row : List ℕ) (x : ℕ) (l r a b : ℤ) → l ≡ error_left above row x → r ≡ above (x + 1) → a ≡ above x → b ≡ left_of above x
-    → floor_16 (whole (pos (get_or row x 0)) l r a b) ≡ v_below above row x
-column_is above row x l r a b left right here corner =
-    let n : ℕ = get_or row x 0 in
+-- the error and the dot of one lane, from its value and the errors beside and above it
+pub record IsLane (n : ℕ) (l r a b e : ℤ) (dot : Bool) : Type 0 where
+  pub error_is : e ≡ error_of (corrected n l r a b)
+  pub small : IsError (error_of (corrected n l r a b))
+  pub dot_is : dot ≡ prints (corrected n l r a b)
+
+pub lane_made : (n k : ℕ) (l r a b : ℤ) (value : ℤ) (sums left : List ℤ) (dots : ℕ → Bool) → k < 8 → n ≤ 255 → value ≡ pos n → IsError l → IsError r → IsError a → IsError b
+    → length sums ≡ 8 → number_at sums k ≡ whole value l r a b
+    → length left ≡ 8 → (FitsSigned w16 (number_at (kept sums) k) → number_at left k ≡ error_of (floor_16 (number_at (kept sums) k)))
+    → (FitsSigned w16 (number_at (kept sums) k) → dots k ≡ prints (floor_16 (number_at (kept sums) k)))
+    → IsLane n l r a b (number_at (kept left) k) (dots k)
+lane_made n k l r a b value sums left dots lanes byte value_is small_l small_r small_a small_b sums_long sums_are left_long left_are dots_are =
+    let z : ℤ = whole (pos n) l r a b in
+    let v : ℤ = corrected n l r a b in
+    let sum : number_at sums k ≡ z = sums_are ∙ ap (λ w. whole w l r a b) value_is in
+    let sum_fits : FitsSigned w16 z = whole_fits n l r a b byte small_l small_r small_a small_b in
+    let kept_sum : number_at (kept sums) k ≡ z = kept_is sums k z sums_long lanes sum sum_fits in
+    let same : floor_16 (number_at (kept sums) k) ≡ v = ap floor_16 kept_sum in
+    let error : number_at left k ≡ error_of v = left_are (rw kept_sum sum_fits) ∙ ap error_of same in
+    let small : IsError (error_of v) = corrected-small n l r a b byte small_l small_r small_a small_b in
+    record {
+      error_is = kept_is left k (error_of v) left_long lanes error (fits_error _ small);
+      small = small;
+      dot_is = dots_are (rw kept_sum sum_fits) ∙ ap prints same;
+    }
+
+-- v of a pixel, from the numbers of its lane
+pub v_is : (above : ℕ → ℤ) (row : List ℕ) (x n : ℕ) (l r a b : ℤ) → n ≡ get_or row x 0 → l ≡ error_left above row x → r ≡ above (x + 1) → a ≡ above x → b ≡ left_of above x
+    → corrected n l r a b ≡ v_below above row x
+v_is above row x n l r a b value left right here corner =
+    let m : ℕ = get_or row x 0 in
     let e : ℤ = error_left above row x in
-    ap (λ z. floor_16 (whole (pos n) z r a b)) left ∙ ap (λ z. floor_16 (whole (pos n) e z a b)) right
-    ∙ ap (λ z. floor_16 (whole (pos n) e (above (x + 1)) z b)) here ∙ ap (λ z. floor_16 (whole (pos n) e (above (x + 1)) (above x) z)) corner
+    ap (λ z. corrected z l r a b) value ∙ ap (λ z. corrected m z r a b) left ∙ ap (λ z. corrected m e z a b) right
+    ∙ ap (λ z. corrected m e (above (x + 1)) z b) here ∙ ap (λ z. corrected m e (above (x + 1)) (above x) z) corner
+
+-- the error of a pixel is that to the left of the next column
+pub next_left : (above : ℕ → ℤ) (row : List ℕ) (x : ℕ) → x < length row → error_of (v_below above row x) ≡ error_left above row (x + 1)
+next_left above row x within = sym (error-inside above row x within) ∙ ap (error_left above row) (sym (add-one x))
 
 -- the error and the dot of a pixel, in one lane of a vector that was passed on
 pub record IsPixel (above : ℕ → ℤ) (row : List ℕ) (x k : ℕ) (left : List ℤ) (dots : ℕ → Bool) : Type 0 where
@@ -90,26 +120,17 @@ pub pixel_is : (over : ℕ → ℤ) (row : List ℕ) (k x : ℕ) (values before 
     → IsPixel over row x k left dots
 pixel_is over row k x values before right above corner sums left dots lanes within byte value_is before_is right_is above_is corner_is small_l small_r small_a small_b
     sums_long sums_are left_long left_are dots_are =
-    let n : ℕ = get_or row x 0 in
     let l : ℤ = number_at before k in
     let r : ℤ = number_at right k in
     let a : ℤ = number_at above k in
     let b : ℤ = number_at corner k in
-    let z : ℤ = whole (pos n) l r a b in
-    let v : ℤ = v_below over row x in
-    let sum : number_at sums k ≡ z = sums_are ∙ ap (λ w. whole w l r a b) value_is in
-    let sum_fits : FitsSigned w16 z = whole_fits n l r a b byte small_l small_r small_a small_b in
-    let kept_sum : number_at (kept sums) k ≡ z = kept_is sums k z sums_long lanes sum sum_fits in
-    let same : floor_16 (number_at (kept sums) k) ≡ v = ap floor_16 kept_sum ∙ column_is over row x l r a b before_is right_is above_is corner_is in
-    let error : number_at left k ≡ error_of v = left_are (rw kept_sum sum_fits) ∙ ap error_of same in
-    let error_small : IsError (error_of v) =
-    corrected-small n (error_left over row x) (over (x + 1)) (over x) (left_of over x) byte (subst IsError before_is small_l)
-    (subst IsError right_is small_r) (subst IsError above_is small_a) (subst IsError corner_is small_b) in
-    let next : error_of v ≡ error_left over row (x + 1) = sym (error-inside over row x within) ∙ ap (error_left over row) (sym (add-one x)) in
+    let lane = lane_made (get_or row x 0) k l r a b (number_at values k) sums left dots lanes byte value_is small_l small_r small_a small_b sums_long sums_are left_long left_are dots_are in
+    let v : corrected (get_or row x 0) l r a b ≡ v_below over row x = v_is over row x (get_or row x 0) l r a b refl before_is right_is above_is corner_is in
+    let next : error_of (corrected (get_or row x 0) l r a b) ≡ error_left over row (x + 1) = ap error_of v ∙ next_left over row x within in
     record {
-      error_is = kept_is left k (error_left over row (x + 1)) left_long lanes (error ∙ next) (fits_error _ (subst IsError next error_small));
-      small = subst IsError next error_small;
-      dot_is = dots_are (rw kept_sum sum_fits) ∙ ap prints same;
+      error_is = lane.error_is ∙ next;
+      small = subst IsError next lane.small;
+      dot_is = lane.dot_is ∙ ap prints v;
     }
 
 -- the number in a lane, from the errors above a pixel

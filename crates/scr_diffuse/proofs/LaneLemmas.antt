@@ -218,3 +218,11 @@ settled_is a result k x long within is fits most made =
     let ex : number_at (kept a) k ≡ x = kept_is a k x long within is fits in
     let now : FitsSigned w16 x → neg_ℤ (pos 2000) ≤ℤ x → number_at result k ≡ x = rw ex at made in
     now fits most
+
+-- the first lane of a vector that was moved up behind numbers of a list
+pub first_lane : (numbers loaded result : List ℤ) (last place : ℕ) → length loaded ≡ 8 → length result ≡ 8 → (FitsSigned w16 (number_at numbers last) → number_at loaded 7 ≡ number_at numbers last)
+    → (FitsSigned w16 (number_at (kept loaded) 7) → number_at result 0 ≡ number_at (kept loaded) 7) → FitsSigned w16 (number_at numbers place) → last ≡ place → number_at (kept result) 0 ≡ number_at numbers place
+first_lane numbers loaded result last place eight long load move fits same =
+    let last_fits : FitsSigned w16 (number_at numbers last) = subst (λ (n : ℕ). FitsSigned w16 (number_at numbers n)) (sym same) fits in
+    let is : number_at (kept loaded) 7 ≡ number_at numbers last = kept_is loaded 7 _ eight (omega arith) (load last_fits) last_fits in
+    kept_is result 0 _ long (omega arith) (move (rw is last_fits) ∙ is) last_fits ∙ ap (number_at numbers) same

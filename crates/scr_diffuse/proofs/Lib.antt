@@ -12,4 +12,5 @@ pub mod SpanLemmas
 pub mod StandLemmas
 pub mod StepLemmas
 pub mod Walks
+pub mod WaveLemmas
 pub mod WeaveLemmas

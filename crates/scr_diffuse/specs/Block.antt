@@ -1,10 +1,10 @@
--- Eight rows of one page at once, each two columns behind the one above it.
+-- Eight rows of one page at once, each three columns behind the one above it.
 use Rattle.std.specs.Prelude.{◌≡◌, ℕ, zero, suc, ◌+◌, ◌-◌, ◌*◌, ◌<◌, ◌≤◌, ℤ, pos, List, [], ◌++◌, length}
 use Rattle.std.specs.Prelude.{slice_index, slice_index_or}
 use Rattle.std.specs.List.{All}
-use Rattle.scr_diffuse.specs.Diffuser.{AreBelow, PageFront}
+use Rattle.scr_diffuse.specs.Diffuser.{PageFront}
 use Rattle.scr_diffuse.specs.Diffusers.{bit_of}
-use Rattle.scr_diffuse.specs.Diffusion.{diffused_bit, error_left, v_below}
+use Rattle.scr_diffuse.specs.Diffusion.{IsError, diffused_bit, error_above, error_left, left_of, v_below}
 use Rattle.scr_diffuse.specs.Passes.{number_at}
 
 -- the rows to take next, and the front of the page that the rows taken before them make
@@ -16,31 +16,37 @@ pub record BlockFront : Type 0 where
 abbrev pub behind_held : BlockFront → BlockFront
 behind_held block = record block { front = record block.front { rows = block.front.rows ++ block.held } }
 
--- the error to the left of column x in the row above row k of a block. `errors` holds those of the row above
--- the block, with a margin of one place
-unfoldable pub block_left : List ℤ → List (List ℕ) → ℕ → ℕ → ℤ
-block_left errors rows zero x = number_at errors x
-block_left errors rows (suc k) x =
-    error_left (λ y. block_left errors rows k (y + 1)) (slice_index_or rows k []) x
+-- the error to the left of column x in the row above row k of a block. `above` gives those of the row above
+-- the block
+unfoldable pub block_left : (ℕ → ℤ) → List (List ℕ) → ℕ → ℕ → ℤ
+block_left above rows zero x = above x
+block_left above rows (suc k) x =
+    error_left (λ y. block_left above rows k (y + 1)) (slice_index_or rows k []) x
 
 -- v in column x of row k of a block
-abbrev pub block_v : List ℤ → List (List ℕ) → ℕ → ℕ → ℤ
-block_v errors rows k x = v_below (λ y. block_left errors rows k (y + 1)) (slice_index_or rows k []) x
+abbrev pub block_v : (ℕ → ℤ) → List (List ℕ) → ℕ → ℕ → ℤ
+block_v above rows k x = v_below (λ y. block_left above rows k (y + 1)) (slice_index_or rows k []) x
 
--- a list holds the errors of the last of these rows, as `AreBelow` says, and only 0 past the row's width
+-- the error to the left of column x, from a list with 21 places before the margin of the row
+abbrev pub left_in : List ℤ → ℕ → ℤ
+left_in errors x = number_at errors (x + 21)
+
+-- a list holds the errors of the last of these rows, that of column x at x + 22, and 0 at all other places. Each
+-- is small enough for the sums made from it
 pub record HoldsBelow (rows : List (List ℕ)) (width : ℕ) (errors : List ℤ) : Type 0 where
-  pub room : length errors ≡ width + 16
-  pub below : AreBelow rows errors
-  pub right : (k : ℕ) → width < k → number_at errors k ≡ pos 0
+  pub room : length errors ≡ width + 44
+  pub below : (x : ℕ) → number_at errors x ≡ left_of (λ y. error_above rows y (length rows)) (x - 21)
+  pub small : (x : ℕ) → IsError (number_at errors x)
+  pub right : (x : ℕ) → width + 21 < x → number_at errors x ≡ pos 0
 
 -- what a `BlockDiffuser` keeps: the eight rows to take next, the errors of the last row taken, and the pixels
--- of the last eight rows taken; row k is in bit k, 2k columns behind
+-- of the last eight rows taken; row k is in bit k, 3k columns behind
 pub record HoldsBlock (rows held : List (List ℕ)) (errors : List ℤ) (dots columns : List ℕ) : Type 0 where
   pub width : ℕ
   pub eight : length held ≡ 8
   pub wide : All (λ row. length row ≡ width) held
-  pub long : length dots ≡ width + 14
+  pub long : length dots ≡ width + 21
   pub room : length columns ≡ 8 * length dots
   pub errors_are : HoldsBelow rows width errors
   pub dots_are : (k x : ℕ) → k < 8 → x < width → 8 ≤ length rows
-      → bit_of (slice_index dots (x + 2 * k)) k ≡ diffused_bit rows x (length rows - 8 + k)
+      → bit_of (slice_index dots (x + 3 * k)) k ≡ diffused_bit rows x (length rows - 8 + k)

@@ -3,4 +3,5 @@ pub mod Diffuser
 pub mod Diffusers
 pub mod Diffusion
 pub mod Passes
+pub mod Steps
 pub mod Weave

@@ -1,10 +1,11 @@
 // Error diffusion of one page, eight rows at a time, with a buffer for the next eight rows.
-ghost use Rattle.std.specs.Prelude.{◌≡◌, ◌+◌, ◌-◌, ◌*◌, ◌<◌, ◌≤◌, IfOk, [], length, slice_set};
+ghost use Rattle.std.specs.Prelude.{◌≡◌, ℕ, ◌+◌, ◌-◌, ◌*◌, ◌<◌, ◌≤◌, IfOk, [], ◌++◌, length, slice_set};
 ghost use Rattle.pr_base.specs.Bits.{SetsBits};
 ghost use Rattle.scr_diffuse.specs.Block.{behind_held};
+ghost use Rattle.scr_diffuse.specs.Diffusers.{row_in, rows_in};
 ghost use Rattle.scr_diffuse.specs.Diffusion.{diffused_bit};
 
-use crate::block::{LAST_LAG, diffuse_block};
+use crate::block::{LAG, LAST_LAG, diffuse_block};
 use crate::dots::set_dots;
 use crate::held_row::{HeldRow, held_rows, values_of};
 use crate::history::{History, Rows};
@@ -21,9 +22,9 @@ use std::marker::Model;
 pub struct BlockDiffuser {
     /// The eight rows to take next, a value for each pixel.
     held: Vec<HeldRow>,
-    /// The error of pixel x of the row above is at x + 1; the places around the errors hold 0.
+    /// The error of pixel x of the row above is at x + 22; the places around the errors hold 0.
     errors: Vec<i16>,
-    /// Bit k of byte x + 2k: whether pixel x of row k prints.
+    /// Bit k of byte x + 3k: whether pixel x of row k prints.
     dots: Vec<u8>,
     /// Scratch space for the values of the rows of a step, interleaved.
     columns: Vec<u8>,
@@ -39,7 +40,7 @@ impl Model for BlockDiffuser {
 
     ghost view = { λ d. record {
       held = d.held.items;
-      front = record { width = length d.dots.items - 14; rows = joined d.rows.steps };
+      front = record { width = length d.dots.items - 21; rows = joined d.rows.steps };
     } };
 
     ghost invariant = { λ d.
@@ -56,7 +57,7 @@ impl BlockDiffuser {
         let len = width as usize + LAST_LAG;
         Ok(BlockDiffuser {
             held: held_rows(alloc, width as usize)?,
-            errors: vec![in alloc; 0; len + 2]?,
+            errors: vec![in alloc; 0; len + LAST_LAG + 2]?,
             dots: vec![in alloc; 0; len]?,
             columns: vec![in alloc; 0; 8 * len]?,
             rows: History::new(),
@@ -97,6 +98,25 @@ impl BlockDiffuser {
         self.rows = self.rows.then(&Rows { values: &values });
     }
 
+    /// Diffuses the next eight rows, each of one value a pixel, from 0, no ink, to 255. Rows past the last one
+    /// of a page may hold anything. The buffered rows are unchanged.
+    pub fn advance_rows(&mut self, values: &[&[u8]; 8])
+        requires width { (k : ℕ) → k < 8 → length (row_in values.now k) ≡ self.old.front.width }
+        ensures { self.new ≡ record self.old {
+          front = record self.old.front {
+            rows = self.old.front.rows ++ rows_in values.now;
+          };
+        } }
+    {
+        diffuse_block(
+            values,
+            &mut self.errors[..],
+            &mut self.dots[..],
+            &mut self.columns[..],
+        );
+        self.rows = self.rows.then(&Rows { values });
+    }
+
     /// Writes the pixels of one of the last eight rows: sets pixel `from + x` of `bits` where the diffusion
     /// prints value `x` of that row, and clears it elsewhere.
     pub fn draw(&self, row: usize, bits: &mut [u8], from: u32)
@@ -107,7 +127,7 @@ impl BlockDiffuser {
             (λ x. diffused_bit self.now.front.rows x (length self.now.front.rows - 8 + row))
             from self.now.front.width bits.old bits.new }
     {
-        let first = 2 * row;
+        let first = LAG * row;
         let width = self.dots.len() - LAST_LAG;
         set_dots(&self.dots[first..first + width], row, bits, from);
     }

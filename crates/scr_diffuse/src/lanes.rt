@@ -71,16 +71,30 @@ pub(crate) fn dots_of(sums: i16x8) -> u8
     sums.simd_ge(i16x8::splat(16 * MIDDLE)).to_bitmask() as u8
 }
 
-/// Moves the numbers up by one lane, and puts `first` into lane 0.
+/// Moves the numbers up by one lane, and puts the last number of `before` into lane 0.
 #[inline(always)]
-pub(crate) fn moved_on(first: i16, a: i16x8) -> i16x8
-    requires { length a ≡ 8 }
+pub(crate) fn moved_on(before: i16x8, a: i16x8) -> i16x8
+    requires before { length before ≡ 8 }
+    requires moved { length a ≡ 8 }
     ensures eight { length result ≡ 8 }
-    ensures first { number_at result 0 ≡ first }
+    ensures first { FitsSigned w16 (number_at before 7) → number_at result 0 ≡ number_at before 7 }
     ensures others { (k : ℕ) → k < 7 → FitsSigned w16 (number_at a k) →
         number_at result (k + 1) ≡ number_at a k }
 {
-    i16x8::splat(first).shuffle(a, [0, 8, 9, 10, 11, 12, 13, 14])
+    before.shuffle(a, [7, 8, 9, 10, 11, 12, 13, 14])
+}
+
+/// Loads the eight errors up to place `last` of a list, of which the last lane is of use. A vector is loaded
+/// in one instruction, and a number that is put into a lane in two.
+#[inline(always)]
+pub(crate) fn errors_to(errors: &[i16], last: usize) -> i16x8
+    requires eight { 7 ≤ last }
+    requires room { last < length errors.now }
+    ensures eight { length result ≡ 8 }
+    ensures last { FitsSigned w16 (number_at errors.now last) →
+        number_at result 7 ≡ number_at errors.now last }
+{
+    i16x8::from_slice(&errors[last - 7..last + 1])
 }
 
 /// Returns the number in the last lane.

@@ -14,7 +14,7 @@ const BLOCK: usize = 16;
 #[inline(always)]
 pub(crate) fn set_columns(rows: &[&[u8]; 8], width: usize, lag: usize, columns: &mut [u8])
     requires rows { (k : ℕ) → k < 8 → length (row_in rows.now k) ≡ width }
-    requires lag { lag ≤ 2 }
+    requires lag { lag ≤ 3 }
     requires room { length columns.old ≡ 8 * (width + 7 * lag) }
     ensures { HasColumns rows.now lag (width + 7 * lag) columns.new }
 {
@@ -97,7 +97,7 @@ fn weave(v: [u8x16; 8]) -> [u8x16; 8]
 
 /// Writes the values of column `x`, after the columns before it.
 fn set_column(rows: &[&[u8]; 8], x: usize, lag: usize, columns: &mut [u8])
-    requires lag { lag ≤ 2 }
+    requires lag { lag ≤ 3 }
     requires room { 8 * x + 8 ≤ length columns.old }
     requires before { HasColumns rows.now lag x columns.old }
     ensures { HasColumns rows.now lag (x + 1) columns.new }

@@ -1,4 +1,4 @@
--- Where every row has the column of the step, all errors are kept; otherwise each is tested.
+-- Each error is kept, or replaced by 0 outside its row.
 use Rattle.std.proofs.Common.{◌≡◌, ◌∙◌, ℤ, pos, FitsSigned, slice_set, to_z, of_z, w16, refl, ap, sym, inl, inr, arith}
 use Rattle.std.proofs.lemmas.Bool.{cases_eq}
 use Rattle.std.proofs.lemmas.Int.{ints, to_z-of_z}
@@ -9,9 +9,6 @@ use Rattle.scr_diffuse.proofs.DiffusionLemmas.{none-small}
 use Rattle.scr_diffuse.proofs.LaneLemmas.{bits_length as numbers_long, kept, kept_at, kept_is}
 use Rattle.scr_diffuse.proofs.StepLemmas.{unwritten, written}
 use Rattle.scr_diffuse.proofs.block.within.Goals as goal
-
-pub returns-then-step-width-clause-inside : goal.returns-then-step-width-clause-inside
-returns-then-step-width-clause-inside c = λ k few from less fits. kept_at c.args.errors k c.requires.eight few fits
 
 pub loop-k-init : goal.loop-k-init
 loop-k-init c = record {

@@ -9,7 +9,7 @@ use Rattle.scr_diffuse.proofs.block_diffuser.BlockDiffuser.new.Goals as goal
 
 pub invariant_of-result : goal.invariant_of-result
 invariant_of-result c =
-    let n = c.args.width + 14 + 2 in
+    let n = c.args.width + 21 + 21 + 2 in
     let items : List ℤ = c.in_ok-vec.field-0.items in
     let size : length items ≡ n = omega (arith, c.in_ok-vec.ensures.len) in
     let zeros : items ≡ replicate n (pos 0) = c.in_ok-vec.ensures.items_if_clones_equal (λ y e. e) in

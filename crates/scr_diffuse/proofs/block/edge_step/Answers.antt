@@ -1,0 +1,47 @@
+-- The errors of rows without a column become 0.
+use Rattle.std.proofs.Common.{◌≡◌, ◌∙◌, ◌+◌, ℤ, List, to_z, of_z, w16, arith}
+use Rattle.scr_diffuse.specs.Diffusers.{AreErrors}
+use Rattle.scr_diffuse.specs.Passes.{number_at}
+use Rattle.scr_diffuse.proofs.ColumnLemmas.{kept_length}
+use Rattle.scr_diffuse.proofs.LaneLemmas.{kept}
+use Rattle.scr_diffuse.proofs.WaveLemmas.{IsMasked, kept_error, kept_errors, masked_is, masked_small, reached_edge, row_within, small_set, stored_last}
+use Rattle.scr_diffuse.proofs.block.edge_step.Goals as goal
+
+pub returns-clause-wave : goal.returns-clause-wave
+returns-clause-wave c =
+    let next = c.whole_step-next.result in
+    let left : List ℤ = kept c.within-left.result in
+    let masked : IsMasked c.args.step c.args.width next.left left =
+    masked_is c.args.step c.args.width next.left c.within-left.result c.whole_step-next.ensures.wave.left c.within-left.ensures.eight c.within-left.ensures.inside c.within-left.ensures.before c.within-left.ensures.behind in
+    let small : AreErrors left = masked_small c.args.step c.args.width next.left left c.whole_step-next.ensures.wave.left masked (kept_length c.within-left.result c.within-left.ensures.eight) in
+    record {
+      left = small;
+      older = kept_errors next.older c.whole_step-next.ensures.wave.older;
+      above = kept_errors next.above c.whole_step-next.ensures.wave.above;
+      above_left = kept_errors next.above_left c.whole_step-next.ensures.wave.above_left;
+    }
+
+pub returns-clause-small : goal.returns-clause-small
+returns-clause-small c =
+    let next = c.whole_step-next.result in
+    let left : List ℤ = kept c.within-left.result in
+    let masked : IsMasked c.args.step c.args.width next.left left =
+    masked_is c.args.step c.args.width next.left c.within-left.result c.whole_step-next.ensures.wave.left c.within-left.ensures.eight c.within-left.ensures.inside c.within-left.ensures.before c.within-left.ensures.behind in
+    let small : AreErrors left = masked_small c.args.step c.args.width next.left left c.whole_step-next.ensures.wave.left masked (kept_length c.within-left.result c.within-left.ensures.eight) in
+    let last : to_z w16 (of_z w16 c.last_of.result) ≡ number_at left 7 = stored_last left c.last_of.result (small.each 7 (omega arith)) c.last_of.ensures in
+    small_set c.whole_step-next.new.errors (c.args.step + 1) (to_z w16 (of_z w16 c.last_of.result)) c.whole_step-next.ensures.small (omega (arith, c.requires.errors)) (rw last (small.each 7 (omega arith)))
+
+pub returns-clause-reached : goal.returns-clause-reached
+returns-clause-reached c = λ above rows values long reached.
+    let next = c.whole_step-next.result in
+    let left : List ℤ = kept c.within-left.result in
+    let masked : IsMasked c.args.step c.args.width next.left left =
+    masked_is c.args.step c.args.width next.left c.within-left.result c.whole_step-next.ensures.wave.left c.within-left.ensures.eight c.within-left.ensures.inside c.within-left.ensures.before c.within-left.ensures.behind in
+    let small : AreErrors left = masked_small c.args.step c.args.width next.left left c.whole_step-next.ensures.wave.left masked (kept_length c.within-left.result c.within-left.ensures.eight) in
+    let last : to_z w16 (of_z w16 c.last_of.result) ≡ number_at left 7 = stored_last left c.last_of.result (small.each 7 (omega arith)) c.last_of.ensures in
+    let past = c.whole_step-next.ensures.past above rows values reached in
+    reached_edge above rows c.args.step next _ c.whole_step-next.new.errors c.whole_step-next.new.dots (to_z w16 (of_z w16 c.last_of.result)) (omega (arith, c.requires.errors))
+    (kept_error next.older c.whole_step-next.ensures.wave.older) (kept_error next.above c.whole_step-next.ensures.wave.above) (kept_error next.above_left c.whole_step-next.ensures.wave.above_left) past
+    (λ k few. row_within above rows k c.args.step c.args.width (number_at left k) (long k few) past.margin
+    (λ from inside. masked.inside k few from inside ∙ c.whole_step-next.ensures.left above rows values reached k few from (omega (arith, long k few))) (masked.before k few) (masked.behind k few))
+    last
