@@ -20,12 +20,13 @@ use Rattle.site_agent.specs.Given.{finished_count, is_kept}
 use Rattle.site_agent.specs.Job.{SiteJob}
 use Rattle.site_agent.specs.Kept.{GoesOn, IsCauseAt, TakenOnce}
 use Rattle.site_agent.specs.Picked.{picked_job}
-use Rattle.site_agent.specs.Refused.{taken_at}
+use Rattle.site_agent.specs.Refused.{OthersStayFor, taken_at}
 use Rattle.site_agent.specs.Site.{SiteData}
-use Rattle.site_agent.specs.Stands.{AreAsLong, AreBegun, StandsAfter, grown, taken_below}
+use Rattle.site_agent.specs.Stands.{AreAsLong, AreBegun, OthersHold, StandsAfter, grown, taken_below}
 use Rattle.site_agent.proofs.Counting.{any}
 use Rattle.site_agent.proofs.Drawing.{Keeps, row-taken}
 use Rattle.site_agent.proofs.Going.{going_further, going_within, going_sides, going_begun, going_working}
+use Rattle.site_agent.proofs.Others.{others-hold_at}
 use Rattle.site_agent.proofs.Parts.{IsLeftAt, picked_below, picked_left}
 use Rattle.site_agent.proofs.Racks.{rose_since}
 use Rattle.site_agent.proofs.Steps.{is_kept-row}
@@ -174,6 +175,7 @@ leaves_at making frames site n before old new held going next made kept' cause c
     let job : SiteJob = picked_job making.plan making.out site (making.bits site) in
     let by : IsCauseAt going.job going.next cause = keeps.left in
     let cause-at : IsCauseAt job n cause = subst (λ (m : ℕ). IsCauseAt job m cause) at.next_is (subst (λ (j : SiteJob). IsCauseAt j going.next cause) at.job_is by) in
+    let stay : OthersStayFor job n old.tells new.tells = subst (λ (m : ℕ). OthersStayFor job m old.tells new.tells) at.next_is (subst (λ (j : SiteJob). OthersStayFor j going.next old.tells new.tells) at.job_is keeps.others_stay) in
     let left : IsLeftAt (files_for making site) cause.plates cause.path = picked_left making.plan making.rows making.out site n (making.bits site) cause carries.plan_is cause-at in
     record {
       fits = record {
@@ -193,6 +195,8 @@ leaves_at making frames site n before old new held going next made kept' cause c
             ∙ ap (taken_at cause.call cause.row Deck)
             ((stands_at making site n before old going made kept' at).rack.taken
             ∙ ap (λ m. grown (taken_below job Deck m) before.tells.taken) (sym cause-at.row));
+        others = subst (λ (m : ℕ). OthersHold job making.rows m new.tells) (sym cause-at.row)
+            (others-hold_at job making.rows Deck n before.tells old.tells new.tells going.counts (stands_at making site n before old going made kept' at) stay);
       };
       faults = (let since = at.faults in let stay = keeps.faults_stay in omega (arith, since, stay));
     }

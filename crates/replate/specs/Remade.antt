@@ -18,7 +18,7 @@ use Rattle.site_agent.specs.Job.{SiteJob}
 use Rattle.site_agent.specs.Kept.{IsCauseAt}
 use Rattle.site_agent.specs.Picked.{picked_files, picked_job}
 use Rattle.site_agent.specs.Refused.{taken_at}
-use Rattle.site_agent.specs.Stands.{grown, taken_below}
+use Rattle.site_agent.specs.Stands.{OthersHold, grown, taken_below}
 use Rattle.replate.specs.declared.remade.RemadeEnd.{RemadeEnd}
 use Rattle.replate.specs.declared.remade.RemadeEnd.TheVariants.{Done, Left}
 use Rattle.replate.specs.Picks.{PicksData, is_made}
@@ -90,7 +90,7 @@ pub record FitsDone (making : Making) (site : ℕ) (before now : RackTells) (mad
 
 -- a site that left: its rack has, in addition, the first `made` of these files, and took the rows of all of
 -- them below the one at which it left. It left because a call failed, which is the last failed call, for one
--- of the other files
+-- of the other files. No further plate was begun
 pub record FitsLeft (making : Making) (site : ℕ) (before now : RackTells) (made : ℕ) (path : List ℕ)
     : Type 0 where
   pub finished : now.tells.finished ≡ grown (take made (files_for making site)) before.tells.finished
@@ -109,6 +109,8 @@ pub record FitsLeft (making : Making) (site : ℕ) (before now : RackTells) (mad
       (record { plates = made; row = row; call = last_call; path = path })
   pub taken : now.tells.taken ≡ taken_at last_call row Deck
       (grown (drawn_below making site row) before.tells.taken)
+  -- the slots but that of the file hold the plates that are open at that row, and no other
+  pub others : OthersHold (job_for making site) making.rows row now.tells
 
 -- a site's end fits what its rack has in addition to before
 abbrev pub FitsEnd : Making → ℕ → RackTells → RackTells → RemadeEnd → Type 0

@@ -155,6 +155,7 @@ leaves delivery reader n before old new going cause carries within at by rose mi
       taken = taken_up_to delivery.plan delivery.out reader.number from cause.row cause before.tells.taken took new.tells.taken carries.plan_is within cause-at refl left'.taken;
       counted = rose_since before.faults old.faults new.faults at.faults rose;
       missed = missed;
+      others = left'.others;
     } in
     record {
       fits = fits-cause;

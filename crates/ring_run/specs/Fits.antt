@@ -15,8 +15,8 @@ use Rattle.plan_rows.specs.Rows.{row_places, keeps_row}
 use Rattle.press_job.specs.Job.{JobData}
 use Rattle.press_job.specs.Rows.{plate_rows}
 use Rattle.site_agent.specs.declared.kept.LeftCause.{LeftCause}
-use Rattle.site_agent.specs.Plan.{drawn_rows, rows_up_to, FitsLeft}
-use Rattle.site_agent.specs.Stands.{grown}
+use Rattle.site_agent.specs.Plan.{drawn_rows, job_of, rows_up_to, FitsLeft}
+use Rattle.site_agent.specs.Stands.{OthersHold, grown}
 use Rattle.ring_run.specs.declared.site_end.SiteEnd.{SiteEnd}
 use Rattle.ring_run.specs.declared.site_end.SiteEnd.TheVariants.{Finished, Left}
 
@@ -81,7 +81,8 @@ abbrev pub drawn_by : Delivery → ℕ → LeftCause → List (ℕ × Source)
 drawn_by delivery site cause = rows_up_to cause.row cause.call (drawn_for delivery site)
 
 -- a site that left: its rack has, in addition, the files that were finished by then, and the rows up to the
--- one at which it left. It left because a call failed, which is the last failed call
+-- one at which it left. It left because a call failed, which is the last failed call. The slots but that of
+-- the row's plate hold the plates that are open at that row, so no further plate was begun
 pub record FitsCause (delivery : Delivery) (site : ℕ) (before now : RackTells) (cause : LeftCause)
     : Type 0 where
   pub cause_fits : FitsLeft delivery.plan delivery.rows delivery.out site cause (files_by delivery site cause)
@@ -89,6 +90,7 @@ pub record FitsCause (delivery : Delivery) (site : ℕ) (before now : RackTells)
   pub taken : now.tells.taken ≡ grown (drawn_by delivery site cause) before.tells.taken
   pub counted : Rose before.faults now.faults
   pub missed : IfSome now.missed (λ last. last ≡ Some (cause.call, cause.path))
+  pub others : OthersHold (job_of delivery.plan delivery.out site) delivery.rows cause.row now.tells
 
 -- a site's end fits what its rack has in addition to before
 abbrev pub FitsEnd : Delivery → ℕ → RackTells → RackTells → SiteEnd → Type 0

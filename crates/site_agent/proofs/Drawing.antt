@@ -21,11 +21,12 @@ use Rattle.site_agent.specs.Draw.{Draws, IsReady, stage}
 use Rattle.site_agent.specs.Given.{is_kept}
 use Rattle.site_agent.specs.Job.{SiteJob}
 use Rattle.site_agent.specs.Kept.{GoesOn, IfLeft, IsCauseAt, KeepsRow, OnDone, OnEnd, OnMemory, TakenOnce}
-use Rattle.site_agent.specs.Refused.{taken_at}
+use Rattle.site_agent.specs.Refused.{OthersStayFor, taken_at}
 use Rattle.site_agent.specs.Site.{SiteData}
-use Rattle.site_agent.specs.Stands.{AreAsLong, AreBegun, StandsAfter, files_below, grown, taken_below}
+use Rattle.site_agent.specs.Stands.{AreAsLong, AreBegun, OthersHold, StandsAfter, files_below, grown, taken_below}
 use Rattle.site_agent.specs.Turn.{AreRowsFor, IsGoingBy, LeavesAt, StopsAt}
 use Rattle.site_agent.proofs.Going.{going_further}
+use Rattle.site_agent.proofs.Others.{others-hold_at}
 
 -- ---- the row
 
@@ -61,6 +62,7 @@ pub record Keeps (site site' : SiteData) (held : HeldRow) (old new : RackTells) 
   pub memory_missed : OnMemory kept (new.missed ≡ old.missed)
   pub memory_taken : OnMemory kept (TakenOnce site.next held.source old.tells.taken new.tells.taken)
   pub finished_stay : OnEnd kept (new.tells.finished ≡ old.tells.finished)
+  pub others_stay : OnEnd kept (OthersStayFor site.job site.next old.tells new.tells)
   pub ended : OnEnd kept (site'.ended ≡ true)
   pub faults_stay : old.faults ≤ new.faults
 
@@ -74,9 +76,9 @@ going-on site site' reader held old new before here from keeps goes going =
     (keeps rows before here (subst (λ (s : Source). StandsAfter site.job rows s site.next before old site.counts) (sym from) stands)))
 
 leaving : (site : SiteData) (reader : ReaderState) (source : Source) (old new before : Tells) (cause : LeftCause) → source ≡ source_of reader → cause.row ≡ site.next → new.finished ≡ old.finished
-    → new.taken ≡ taken_at cause.call site.next source old.taken → IsGoingBy reader before old site
+    → new.taken ≡ taken_at cause.call site.next source old.taken → OthersStayFor site.job site.next old new → IsGoingBy reader before old site
     → LeavesAt site.job (map framed_row reader.ring.rows) (source_of reader) before new cause
-leaving site reader source old new before cause from row finished taken going =
+leaving site reader source old new before cause from row finished taken stay going =
     let rows : List (List ℕ) = map framed_row reader.ring.rows in
     let src : Source = source_of reader in
     record {
@@ -86,12 +88,13 @@ leaving site reader source old new before cause from row finished taken going =
           ∙ ap (λ s. taken_at cause.call site.next s old.taken) from
           ∙ ap (taken_at cause.call site.next src) going.stands.rack.taken
           ∙ ap (λ n. taken_at cause.call n src (grown (taken_below site.job src n) before.taken)) (sym row);
+      others = subst (λ (n : ℕ). OthersHold site.job rows n new) (sym row) (others-hold_at site.job rows src site.next before old new site.counts going.stands stay);
     }
 
 stopping : (site : SiteData) (reader : ReaderState) (source : Source) (old new before : Tells) → is_kept site.job site.next ≡ true → source ≡ source_of reader → reader.cursor ≡ site.next → new.finished ≡ old.finished
-    → TakenOnce site.next source old.taken new.taken → IsGoingBy reader before old site
+    → TakenOnce site.next source old.taken new.taken → OthersStayFor site.job site.next old new → IsGoingBy reader before old site
     → StopsAt site.job (map framed_row reader.ring.rows) (source_of reader) reader.cursor before new
-stopping site reader source old new before kept from next finished taken going =
+stopping site reader source old new before kept from next finished taken stay going =
     let rows : List (List ℕ) = map framed_row reader.ring.rows in
     let src : Source = source_of reader in
     record {
@@ -101,6 +104,7 @@ stopping site reader source old new before kept from next finished taken going =
           subst (λ (n : ℕ). TakenOnce n src (grown (taken_below site.job src n) before.taken) new.taken) (sym next)
           (subst (λ (t : Option (List (ℕ × Source))). TakenOnce site.next src t new.taken) going.stands.rack.taken
           (subst (λ (s : Source). TakenOnce site.next s old.taken new.taken) from taken));
+      others = subst (λ (n : ℕ). OthersHold site.job rows n new) (sym next) (others-hold_at site.job rows src site.next before old new site.counts going.stands stay);
     }
 
 -- for a row that is not the site's the result is Done
@@ -137,7 +141,7 @@ kept-draws site site' reader opened closed held old new (Left cause) ready is se
     record {
       closes = closes-row reader opened closed held ready.home is sees given-back;
       is = subst (λ (n : ℕ). IsCauseAt site.job n cause) (sym ready.next) at;
-      stands = λ before going. leaving site reader held.source old.tells new.tells before cause is.row.source at.row keeps.finished_stay keeps.left_taken going;
+      stands = λ before going. leaving site reader held.source old.tells new.tells before cause is.row.source at.row keeps.finished_stay keeps.left_taken keeps.others_stay going;
       missed = keeps.left_missed;
       counted = keeps.left_counted;
       faults = keeps.faults_stay;
@@ -145,7 +149,7 @@ kept-draws site site' reader opened closed held old new (Left cause) ready is se
     }
 kept-draws site site' reader opened closed held old new Memory ready is sees given-back keeps = record {
   closes = closes-row reader opened closed held ready.home is sees given-back;
-  stands = λ before going. stopping site reader held.source old.tells new.tells before (kept-there (is_kept site.job site.next) Memory keeps.passes (λ done. (cc))) is.row.source ready.next keeps.finished_stay keeps.memory_taken going;
+  stands = λ before going. stopping site reader held.source old.tells new.tells before (kept-there (is_kept site.job site.next) Memory keeps.passes (λ done. (cc))) is.row.source ready.next keeps.finished_stay keeps.memory_taken keeps.others_stay going;
   missed = keeps.memory_missed;
   faults = keeps.faults_stay;
   ended = keeps.ended;

@@ -49,7 +49,7 @@ put-shown f xs slot plate open' s there =
     (cases_eq s slot)
 
 -- the content of each slot, where known
-abbrev Work : (ℕ → Option Plate) → Option Slots → Type 0
+abbrev pub Work : (ℕ → Option Plate) → Option Slots → Type 0
 Work open' working = IfSome working (λ slots. (slot : ℕ) → slot < 5 → slice_get slots slot ≡ Some (open' slot))
 
 put-work : (slot : ℕ) (plate : Option Plate) (open' : ℕ → Option Plate) (working : Option Slots) → Work open' working → Work (put slot plate open') (with_plate slot plate working)

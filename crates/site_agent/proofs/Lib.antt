@@ -3,6 +3,7 @@ pub mod Givens
 pub mod Opens
 pub mod Steps
 pub mod Holding
+pub mod Others
 pub mod Standing
 pub mod Answering
 pub mod Finding

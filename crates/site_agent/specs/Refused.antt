@@ -6,11 +6,12 @@ use Rattle.pr_rack.specs.declared.rack.RackCall.{RackCall}
 use Rattle.pr_rack.specs.declared.rack.RackCall.TheVariants.{Begin, Row, Finish}
 use Rattle.pr_rack.specs.declared.rack.RackFault.TheVariants.{Failed, Memory}
 use Rattle.pr_base.specs.Count.{Rose}
-use Rattle.pr_rack.specs.Rack.{with_row}
-use Rattle.pr_rack.specs.Told.{RackTells}
+use Rattle.pr_rack.specs.Rack.{OthersBegun, OthersStand, with_row}
+use Rattle.pr_rack.specs.Told.{RackTells, Tells}
 use Rattle.site_agent.specs.declared.calls.Refusal.{Refusal}
 use Rattle.site_agent.specs.declared.place.Place.{Place}
 use Rattle.site_agent.specs.declared.plate.SitePlate.{SitePlate}
+use Rattle.site_agent.specs.Given.{IsRowOf}
 use Rattle.site_agent.specs.Job.{SiteJob}
 
 -- this call for the plate at this path was refused
@@ -46,3 +47,18 @@ pub record IsStopped (height y number : ℕ) (source : Source) (path : List ℕ)
 abbrev pub IsStoppedAt : SiteJob → Place → HeldRow → RackTells → RackTells → Refusal → Type 0
 IsStoppedAt job place held old new refusal = (d : SitePlate) → IsStopped job.height place.y held.number
     held.source (slice_index_or job.plates place.plate d).path old new refusal
+
+-- the slots but this one are as before: which of them are begun, and their contents
+pub record OthersStay (slot : ℕ) (old new : Tells) : Type 0 where
+  pub begun : OthersBegun slot old.begun new.begun
+  pub working : OthersStand slot old.working new.working
+
+-- the same for the slot of the plate at this place in a job
+abbrev pub OthersStayAt : SiteJob → Place → Tells → Tells → Type 0
+OthersStayAt job place old new = (d : SitePlate)
+    → OthersStay (slice_index_or job.plates place.plate d).slot old new
+
+-- the same for the slot of row n's plate
+abbrev pub OthersStayFor : SiteJob → ℕ → Tells → Tells → Type 0
+OthersStayFor job n old new = (k y : ℕ) (d : SitePlate) → IsRowOf job n k y
+    → OthersStay (slice_index_or job.plates k d).slot old new

@@ -1,5 +1,5 @@
 -- The state of a site and its rack after the rows below row n.
-use Rattle.std.specs.Prelude.{◌≡◌, ℕ, ◌+◌, ◌<◌, Bool, List, ◌++◌, length, map, sum, take, Option, [], Some}
+use Rattle.std.specs.Prelude.{◌≡◌, ◌≢◌, ℕ, ◌+◌, ◌<◌, Bool, List, ◌++◌, length, map, sum, take, Option, [], Some}
 use Rattle.std.specs.Prelude.{None, IfSome, is_some, slice_get, slice_index_or}
 use Rattle.std.specs.List.{flat_map}
 use Rattle.std.specs.Option.{option_map}
@@ -11,7 +11,7 @@ use Rattle.pr_rack.specs.Rack.{Plate, Slots}
 use Rattle.pr_rack.specs.Told.{Tells}
 use Rattle.site_agent.specs.declared.plate.SitePlate.{SitePlate}
 use Rattle.site_agent.specs.Job.{SiteJob}
-use Rattle.site_agent.specs.Given.{given, rows_of, open_in, finished_count, kept_below}
+use Rattle.site_agent.specs.Given.{given, rows_of, open_in, finished_count, kept_below, IsRowOf}
 
 -- a list with these appended, where known
 abbrev pub grown : {X : Type 0} → List X → Option (List X) → Option (List X)
@@ -65,6 +65,18 @@ pub record StandsAfter (job : SiteJob) (rows : List (List ℕ)) (source : Source
     (counts : List (List ℕ)) : Type 0 where
   pub rack : Holds (files_below job rows n) (taken_below job source n) (plate_below job rows n) before now
   pub strips : (slot : ℕ) → slot < 5 → AreCounts job rows n counts slot
+
+-- a rack's slots but this one have these contents
+pub record HoldsBut (own : ℕ) (open' : ℕ → Option Plate) (now : Tells) : Type 0 where
+  pub begun : (slot : ℕ) → slot < 5 → slot ≢ own → slice_get now.begun slot ≡ Some (is_some (open' slot))
+  pub working : IfSome now.working (λ slots. (slot : ℕ) → slot < 5 → slot ≢ own
+      → slice_get slots slot ≡ Some (open' slot))
+
+-- the slots but that of row n's plate have the plates that are open below row n, with their rows so far, and
+-- the others of them are not begun
+abbrev pub OthersHold : SiteJob → List (List ℕ) → ℕ → Tells → Type 0
+OthersHold job rows n now = (k y : ℕ) (d : SitePlate) → IsRowOf job n k y
+    → HoldsBut (slice_index_or job.plates k d).slot (plate_below job rows n) now
 
 -- ---- what a site requires of its rack
 

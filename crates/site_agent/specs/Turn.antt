@@ -15,7 +15,7 @@ use Rattle.site_agent.specs.Job.{SiteJob}
 use Rattle.site_agent.specs.Kept.{TakenOnce}
 use Rattle.site_agent.specs.Refused.{taken_at}
 use Rattle.site_agent.specs.Site.{SiteData}
-use Rattle.site_agent.specs.Stands.{files_below, grown, taken_below}
+use Rattle.site_agent.specs.Stands.{OthersHold, files_below, grown, taken_below}
 
 -- P if the site continues
 abbrev pub OnGoing : TurnEnd → Type 0 → Type 0
@@ -86,20 +86,23 @@ pub record GoesOnTo (old new : SiteData) (cursor : ℕ) : Type 0 where
 
 -- a site dropped out for this cause, and its rack changed from `before` to `now`: the plates whose last row
 -- is below the cause's row are finished, and the site's rows below it were taken, with that row itself only
--- if the call was to finish its plate
+-- if the call was to finish its plate; no other plate was begun or went on
 pub record LeavesAt (job : SiteJob) (rows : List (List ℕ)) (source : Source) (before now : Tells)
     (cause : LeftCause) : Type 0 where
   pub finished : now.finished ≡ grown (files_below job rows cause.row) before.finished
   pub taken : now.taken
       ≡ taken_at cause.call cause.row source (grown (taken_below job source cause.row) before.taken)
+  pub others : OthersHold job rows cause.row now
 
 -- the rack of a site ran out of memory for its row n: the plates whose last row is below it are finished, and
--- the site's rows below it were taken, and that row either once or not at all
+-- the site's rows below it were taken, and that row either once or not at all; no other plate was begun or
+-- went on
 pub record StopsAt (job : SiteJob) (rows : List (List ℕ)) (source : Source) (n : ℕ) (before now : Tells)
     : Type 0 where
   pub kept : is_kept job n ≡ true
   pub finished : now.finished ≡ grown (files_below job rows n) before.finished
   pub taken : TakenOnce n source (grown (taken_below job source n) before.taken) now.taken
+  pub others : OthersHold job rows n now
 
 -- ---- for every run that a site takes part in, whose rows this reader takes
 

@@ -1,12 +1,12 @@
 // The calls of the rack for one row of a plate.
-ghost use Rattle.std.specs.Prelude.{◌≡◌, ◌+◌, ◌-◌, ◌<◌, ◌≤◌, None, Some, IfErr, IfSome, OnOk, length, nat_lt};
-ghost use Rattle.std.specs.Prelude.{slice_get, slice_index_or, sum, true};
+ghost use Rattle.std.specs.Prelude.{◌≡◌, ◌+◌, ◌-◌, ◌<◌, ◌≤◌, None, Some, IfErr, IfSome, OnErr, OnOk, length};
+ghost use Rattle.std.specs.Prelude.{nat_lt, slice_get, slice_index_or, sum, true};
 ghost use Rattle.std.specs.Option.{option_map};
 ghost use Rattle.tif_packbits.specs.Frame.{IsFrame, packed_in};
 ghost use Rattle.tif_plate.specs.Tail.{strips_end};
 ghost use Rattle.pr_rack.specs.Rack.{IsBehind, path_in, plate_in};
 ghost use Rattle.pr_rack.specs.Told.{told};
-ghost use Rattle.site_agent.specs.Refused.{IsRefused, IsStopped};
+ghost use Rattle.site_agent.specs.Refused.{IsRefused, IsStopped, OthersStay};
 ghost use Rattle.site_agent.specs.Stands.{IsAsLong};
 ghost use Rattle.site_agent.specs.Tells.{after_row, begun_at, finished_at, with_closed, with_taken};
 
@@ -34,6 +34,8 @@ fn begin<R: Rack>(plate: &SitePlate, y: u32, rack: &mut R) -> Result<(), Refusal
     ensures err { IfErr result (
         IsRefused RackCall.Begin plate.now.path
         (told R.Rack rack.old) (told R.Rack rack.new)) }
+    ensures others_stay { OnErr result (OthersStay plate.now.slot
+        (told R.Rack rack.old).tells (told R.Rack rack.new).tells) }
     ensures missed_stay { OnOk result (R.missed rack.new ≡ R.missed rack.old) }
     ensures faults_stay { R.faults rack.old ≤ R.faults rack.new }
 {
@@ -62,6 +64,8 @@ fn take<R: Rack>(plate: &SitePlate, held: &Held, rack: &mut R) -> Result<(), Ref
     ensures err { IfErr result (
         IsRefused RackCall.Row plate.now.path
         (told R.Rack rack.old) (told R.Rack rack.new)) }
+    ensures others_stay { OnErr result (OthersStay plate.now.slot
+        (told R.Rack rack.old).tells (told R.Rack rack.new).tells) }
     ensures missed_stay { OnOk result (R.missed rack.new ≡ R.missed rack.old) }
     ensures faults_stay { R.faults rack.old ≤ R.faults rack.new }
 {
@@ -88,6 +92,8 @@ fn finish<R: Rack>(plate: &SitePlate, tail: &[u8], at: u32, rack: &mut R) -> Res
     ensures err { IfErr result (
         IsRefused RackCall.Finish plate.now.path
         (told R.Rack rack.old) (told R.Rack rack.new)) }
+    ensures others_stay { OnErr result (OthersStay plate.now.slot
+        (told R.Rack rack.old).tells (told R.Rack rack.new).tells) }
     ensures missed_stay { OnOk result (R.missed rack.new ≡ R.missed rack.old) }
     ensures faults_stay { R.faults rack.old ≤ R.faults rack.new }
 {
@@ -118,6 +124,8 @@ fn end<R: Rack>(
     ensures err { IfErr result (
         IsRefused RackCall.Finish plate.now.path
         (told R.Rack rack.old) (told R.Rack rack.new)) }
+    ensures others_stay { OnErr result (OthersStay plate.now.slot
+        (told R.Rack rack.old).tells (told R.Rack rack.new).tells) }
     ensures missed_stay { OnOk result (R.missed rack.new ≡ R.missed rack.old) }
     ensures faults_stay { R.faults rack.old ≤ R.faults rack.new }
     ensures strips { strips.new ≡ record strips.old { room = strips.new.room } }
@@ -153,6 +161,8 @@ pub(crate) fn deliver<R: Rack>(
     ensures err { IfErr result (
         IsStopped strips.old.sides.height y held.now.number held.now.source plate.now.path
         (told R.Rack rack.old) (told R.Rack rack.new)) }
+    ensures others_stay { OnErr result (OthersStay plate.now.slot
+        (told R.Rack rack.old).tells (told R.Rack rack.new).tells) }
     ensures missed_stay { OnOk result (R.missed rack.new ≡ R.missed rack.old) }
     ensures faults_stay { R.faults rack.old ≤ R.faults rack.new }
     ensures strips { strips.new ≡ record strips.old { room = strips.new.room } }

@@ -13,7 +13,7 @@ ghost use Rattle.site_agent.specs.Kept.{TakenOnce, kept_of};
 ghost use Rattle.plan_json.specs.Plan.{IsPlan};
 ghost use Rattle.plan_rows.specs.Rows.{rows_of};
 ghost use Rattle.site_agent.specs.Plan.{job_over, site_over};
-ghost use Rattle.site_agent.specs.Refused.{IsStoppedAt, taken_at};
+ghost use Rattle.site_agent.specs.Refused.{IsStoppedAt, OthersStayAt, OthersStayFor, taken_at};
 ghost use Rattle.site_agent.specs.Site.{IsPlaceOf};
 ghost use Rattle.site_agent.specs.Stands.{AreAsLong, AreBegun};
 ghost use Rattle.site_agent.specs.Tells.{CountsRow, TellsRow, finished_after};
@@ -140,6 +140,8 @@ impl Site {
         ensures missed_stay { OnOk result (R.missed rack.new ≡ R.missed rack.old) }
         ensures stopped { IfErr result (IsStoppedAt self.old.job place held.now
             (told R.Rack rack.old) (told R.Rack rack.new)) }
+        ensures others_stay { OnErr result (OthersStayAt self.old.job place
+            (told R.Rack rack.old).tells (told R.Rack rack.new).tells) }
         ensures ended { OnErr result (self.new.ended ≡ true) }
         ensures job { self.new.job ≡ self.old.job }
         ensures faults_stay { R.faults rack.old ≤ R.faults rack.new }
@@ -219,8 +221,10 @@ impl Site {
         ensures memory_taken { OnMemory result
             (TakenOnce self.old.next held.now.source (R.taken rack.old) (R.taken rack.new)) }
 
-        // Left or Memory: no plate was finished, and the site has ended.
+        // Left or Memory: no plate was finished, no other plate was begun or went on, and the site has ended.
         ensures finished_stay { OnEnd result (R.finished rack.new ≡ R.finished rack.old) }
+        ensures others_stay { OnEnd result (OthersStayFor self.old.job self.old.next
+            (told R.Rack rack.old).tells (told R.Rack rack.new).tells) }
         ensures ended { OnEnd result (self.new.ended ≡ true) }
         ensures faults_stay { R.faults rack.old ≤ R.faults rack.new }
     {

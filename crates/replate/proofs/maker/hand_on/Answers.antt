@@ -93,6 +93,7 @@ returns-in-Done-clause-made g c =
       memory_missed = c.in-Done.ensures.memory_missed;
       memory_taken = c.in-Done.ensures.memory_taken;
       finished_stay = c.in-Done.ensures.finished_stay;
+      others_stay = c.in-Done.ensures.others_stay;
       ended = c.in-Done.ensures.ended;
       faults_stay = c.in-Done.ensures.faults_stay;
     } in
@@ -121,6 +122,7 @@ returns-in-Left-clause-made g c =
       memory_missed = c.in-Left.ensures.memory_missed;
       memory_taken = c.in-Left.ensures.memory_taken;
       finished_stay = c.in-Left.ensures.finished_stay;
+      others_stay = c.in-Left.ensures.others_stay;
       ended = c.in-Left.ensures.ended;
       faults_stay = c.in-Left.ensures.faults_stay;
     } in
@@ -150,6 +152,7 @@ returns-in-Memory-clause-stopped g c =
       memory_missed = c.in-Memory.ensures.memory_missed;
       memory_taken = c.in-Memory.ensures.memory_taken;
       finished_stay = c.in-Memory.ensures.finished_stay;
+      others_stay = c.in-Memory.ensures.others_stay;
       ended = c.in-Memory.ensures.ended;
       faults_stay = c.in-Memory.ensures.faults_stay;
     } in

@@ -28,6 +28,7 @@ returns g c =
       memory_missed = c.keep-kept.ensures.memory_missed;
       memory_taken = c.keep-kept.ensures.memory_taken;
       finished_stay = c.keep-kept.ensures.finished_stay;
+      others_stay = c.keep-kept.ensures.others_stay;
       ended = c.keep-kept.ensures.ended;
       faults_stay = c.keep-kept.ensures.faults_stay;
     })

@@ -15,6 +15,7 @@ use Rattle.site_agent.specs.Stands.{AreAsLong, AreBegun, StandsAfter}
 use Rattle.site_agent.specs.Tells.{after_row}
 use Rattle.site_agent.proofs.Asking.{Asks, asks-kept, asks-passed}
 use Rattle.site_agent.proofs.Counting.{any, counts-past}
+use Rattle.site_agent.proofs.Others.{row-stays}
 use Rattle.site_agent.proofs.Keeping.{done-refused, end-refused, left-refused, memory-only, memory-refused, row_kept-slot, strips-of, taken-once}
 use Rattle.site_agent.proofs.Standing.{row_passed}
 use Rattle.site_agent.proofs.Steps.{is_kept-row, same-plate}
@@ -193,6 +194,21 @@ returns-in-Err-clause-finished_stay g c =
     let answer : c.refused.result ≡ kept_of refusal.fault cause = c.refused.ensures.answer any in
     let stopped = c.in-Err.ensures.stopped any in
     end-refused c.refused.result refusal.fault cause _ answer stopped.finished
+
+pub returns-in-Err-clause-others_stay : goal.returns-in-Err-clause-others_stay
+returns-in-Err-clause-others_stay g c =
+    let job : SiteJob = c.args.self.now.job in
+    let n : ℕ = c.args.self.now.next in
+    let going : c.self.inside.ended ≡ false = ap (λ s. s.ended) c.self.view_is ∙ c.requires.going in
+    let counting : IsCounting (job_with c.self.inside.plates.items c.self.inside.sides c.self.inside.total) c.self.inside.next c.self.inside.finished c.self.inside.slots.items = c.self.invariant going in
+    let is : IsJob job = subst (λ (s : SiteData). IsJob s.job) c.self.view_is counting.is in
+    let place : Place = c.in-Some.place in
+    let there : IsPlaceOf job n place = c.in-Some.ensures.found in
+    let refusal : Refusal = c.in-Err.refusal in
+    let cause : LeftCause = record { plates = c.self.inside.finished; row = c.number.result; call = refusal.call; path = (slice_index_or c.give.new.self.job.plates place.plate any).path } in
+    let answer : c.refused.result ≡ kept_of refusal.fault cause = c.refused.ensures.answer any in
+    end-refused c.refused.result refusal.fault cause _ answer
+    (row-stays job n place.plate place.y any (told g.R.Rack c.args.rack.now).tells (told g.R.Rack c.give.new.rack).tells is there.row (λ e. c.in-Err.ensures.others_stay e))
 
 pub returns-in_default-clause-begun_on : goal.returns-in_default-clause-begun_on
 returns-in_default-clause-begun_on g c =
