@@ -11,11 +11,12 @@ ghost use Rattle.cmd_base.specs.Writes.{Writes};
 
 use crate::remade::{dropped_lines, remade_text, status_of};
 use cmd_base::{Stop, Whose, load_job, put_text};
-use pr_base::{NoMemory, RowFeed};
+use pr_base::NoMemory;
+use pr_feed::PassingFeed;
 use pr_ports::{Shelf, Sink};
 use pr_rack::Rack;
-use press_feed::{BandMaker, ByThreads, Job, WideFeed};
-use replate::{Inputs, Picks, RemadeEnd, deliver};
+use press_feed::{BandMaker, ByThreads, Job, Wanted, WideFeed};
+use replate::{Inputs, Picks, RemadeEnd, deliver, wanted_inks};
 use std::alloc::Global;
 use std::thread::Threads;
 
@@ -146,13 +147,17 @@ fn make_late<M: BandMaker, R: Rack>(
     ensures part { OnErr result (DeliversPickedPart R.Rack (change_told change.entry) late.now.job
         late.now.picks racks.old racks.new) }
 {
-    let feed = WideFeed::open(maker, alloc, &late.job)?;
+    let flags = wanted_inks(alloc, &inputs_of(&late.job), &late.picks)?;
+    let wanted = Wanted {
+        flags: Some(flags.as_slice()),
+    };
+    let feed = WideFeed::open_for(maker, alloc, &late.job, wanted)?;
     make_fed(alloc, change, late, feed, racks)
 }
 
 /// Does the same with a feed from which no row has been taken yet, and drops the feed: a function that is
 /// generic over it is proved without the parts of one.
-fn make_fed<F: RowFeed + Drop, R: Rack>(
+fn make_fed<F: PassingFeed + Drop, R: Rack>(
     alloc: Global,
     change: Change<'_>,
     late: &Late,

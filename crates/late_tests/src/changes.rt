@@ -6,6 +6,19 @@ use std::thread::Threads;
 use std::time::Clock;
 use test_room::{File, Held, PAIR, Plate, TWO_PAGES, ZONED};
 
+// The two pages, the second in four inks.
+const COLOURS: &str = r#"{"plan":1,"edition":"E1","dpi":1200,"page":[8,2],"screens":{"K":"bayer4"},
+"pages":[{"name":"w","inks":"K","layers":[]},
+{"name":"p","inks":"CMYK","layers":[{"kind":"contone","file":"a.tif","scale":2}]}],
+"sections":[{"name":"A","pages":["w","p"]}],"sites":[{"name":"OSLO"}]}"#;
+
+// The same with another screen for black.
+const COLOURS_EIGHTH: &str =
+    r#"{"plan":1,"edition":"E1","dpi":1200,"page":[8,2],"screens":{"K":"bayer8"},
+"pages":[{"name":"w","inks":"K","layers":[]},
+{"name":"p","inks":"CMYK","layers":[{"kind":"contone","file":"a.tif","scale":2}]}],
+"sections":[{"name":"A","pages":["w","p"]}],"sites":[{"name":"OSLO"}]}"#;
+
 // The two pages with another screen.
 pub const EIGHTH: &str =
     r#"{"plan":1,"edition":"E1","dpi":1200,"page":[8,2],"screens":{"K":"bayer8"},
@@ -42,7 +55,7 @@ const OTHER: Held<'static> = Held::Changed(133, 254);
 // unchanged image.
 type Change<'a> = (&'a str, &'a str, Held<'a>, &'a str, &'a [Kept<'a>]);
 
-const CHANGES: [Change<'static>; 6] = [
+const CHANGES: [Change<'static>; 7] = [
     (
         TWO_PAGES,
         TWO_PAGES,
@@ -63,6 +76,21 @@ const CHANGES: [Change<'static>; 6] = [
                 changes: &PAIR,
             }],
             &[0, 1],
+        )],
+    ),
+    // Only the rows of black are made, 3 and 7.
+    (
+        COLOURS,
+        COLOURS_EIGHTH,
+        Held::Image,
+        "site OSLO made 1 kept 3\ntotal made 1\n",
+        &[(
+            &[Plate {
+                path: "OUT/OSLO/E1-A-001-K.tif",
+                rows: &[1, 0xAB, 0, 1, 0x13, 0],
+                changes: &PAIR,
+            }],
+            &[3, 7],
         )],
     ),
     (

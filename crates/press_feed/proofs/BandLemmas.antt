@@ -7,24 +7,24 @@ use Rattle.std.proofs.lemmas.Grind.{get_or-set_at}
 use Rattle.std.proofs.lemmas.List.{get_or-set_other}
 use Rattle.std.proofs.lemmas.Nat.{div-add-mod'}
 use Rattle.std.proofs.lemmas.Option.{get_or_from_slice_get, slice_get_within}
-use Rattle.press_feed.specs.Band.{AreMade, HoldsFrom, IsBand, IsFrameAt, IsShareOf, ShareData}
+use Rattle.press_feed.specs.Band.{AreMade, FrameData, HoldsFrom, IsBand, IsFrameAt, IsShareOf, ShareData}
 use Rattle.press_job.specs.Job.{JobData}
 
 -- ---- the frames of a share
 
 -- the first i of them were made
-pub record MadeUpTo (job : JobData) (first i : ℕ) (frames : List (List ℕ)) : Type 0 where
-  pub each : (k : ℕ) (d : List ℕ) → k < i → IsFrameAt job (first + k) (get_or frames k d)
+pub record MadeUpTo (job : JobData) (first i : ℕ) (frames : List FrameData) : Type 0 where
+  pub each : (k : ℕ) (d : FrameData) → k < i → IsFrameAt job (first + k) (get_or frames k d)
 
-pub made_more : (job : JobData) (first i : ℕ) (frames : List (List ℕ)) (frame : List ℕ) → i < length frames → IsFrameAt job (first + i) frame → MadeUpTo job first i frames
+pub made_more : (job : JobData) (first i : ℕ) (frames : List FrameData) (frame : FrameData) → i < length frames → IsFrameAt job (first + i) frame → MadeUpTo job first i frames
     → MadeUpTo job first (i + 1) (set frames i frame)
 made_more job first i frames frame within own is = record {
   each = λ k d less.
       elim (cases_lt k i) [
-        | inl below ↦ subst {A = List ℕ} (IsFrameAt job (first + k)) (sym (get_or-set_other frames i k frame d (λ e. absurd (omega arith)))) (is.each k d below)
+        | inl below ↦ subst {A = FrameData} (IsFrameAt job (first + k)) (sym (get_or-set_other frames i k frame d (λ e. absurd (omega arith)))) (is.each k d below)
         | inr above ↦
             (let same : k ≡ i = omega arith in
-            subst {A = List ℕ} (IsFrameAt job (first + k)) (sym (get_or-set_at frames i k frame d same within)) (subst {A = ℕ} (λ n. IsFrameAt job (first + n) frame) (sym same) own))
+            subst {A = FrameData} (IsFrameAt job (first + k)) (sym (get_or-set_at frames i k frame d same within)) (subst {A = ℕ} (λ n. IsFrameAt job (first + n) frame) (sym same) own))
       ];
 }
 
@@ -39,7 +39,7 @@ share_within at each count some within =
     ]
 
 -- the frame at its index has the right number
-pub band_frame : (job : JobData) (each first end n : ℕ) (shares : List ShareData) (share : ShareData) (frame : List ℕ) → IsBand job each first end shares → first ≤ n → n < end
+pub band_frame : (job : JobData) (each first end n : ℕ) (shares : List ShareData) (share : ShareData) (frame : FrameData) → IsBand job each first end shares → first ≤ n → n < end
     → share ≡ get_or shares ((n - first) / each) share → slice_get share.frames ((n - first) % each) ≡ Some frame → IsFrameAt job n frame
 band_frame job each first end n shares share frame is low high share_is there =
     let at = n - first in
@@ -51,7 +51,7 @@ band_frame job each first end n shares share frame is low high share_is there =
     let held : HoldsFrom job (first + k * each) share.frames =
     subst {A = ShareData} (λ s. HoldsFrom job (first + k * each) s.frames) (sym share_is) (is.made k share below (omega arith)) in
     let here : IsFrameAt job (first + k * each + i) frame =
-    subst {A = List ℕ} (IsFrameAt job (first + k * each + i)) (get_or_from_slice_get share.frames i frame frame there) (held.each i frame (slice_get_within share.frames i frame there)) in
+    subst {A = FrameData} (IsFrameAt job (first + k * each + i)) (get_or_from_slice_get share.frames i frame frame there) (held.each i frame (slice_get_within share.frames i frame there)) in
     let number : first + k * each + i ≡ n = omega arith in
     subst {A = ℕ} (λ m. IsFrameAt job m frame) number here
 

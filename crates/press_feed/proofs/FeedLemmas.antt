@@ -3,7 +3,7 @@ use Rattle.std.proofs.Common.{zero, suc, ◌≡◌, ℕ, ◌+◌, ◌<◌, List,
 use Rattle.std.specs.Prelude.{Option, Some, slice_get}
 use Rattle.std.specs.List.{All}
 use Rattle.std.specs.Option.{option_map_or}
-use Rattle.std.proofs.lemmas.List.{drop_more, get_or-map, length-map}
+use Rattle.std.proofs.lemmas.List.{drop-drop, drop_more, length-drop, get_or-map, length-map}
 use Rattle.std.proofs.lemmas.List.Elements.{All-get_or, All-head, All-tail}
 use Rattle.std.proofs.lemmas.Option.{get_or_from_slice_get, slice_get-get_or, slice_get_within}
 use Rattle.pr_base.specs.Row.{FitsNext, row_size}
@@ -65,6 +65,14 @@ pub frame_first : (frames : List (List ℕ)) (n : ℕ) (frame : List ℕ) → sl
 frame_first frames n frame there =
     drop_more frames n [] (slice_get_within frames n frame there)
     ∙ ap (λ (first : List ℕ). first ∷ drop (n + 1) frames) (get_or_from_slice_get frames n frame [] there)
+
+-- the frames behind the next one
+pub frames_behind : (frames : List (List ℕ)) (n : ℕ) → drop (n + 1) frames ≡ drop 1 (drop n frames)
+frames_behind frames n = sym (drop-drop 1 n frames)
+
+-- while a frame is left, the next one is in the list
+pub left_within : (plan : PlanData) (files : List (List ℕ)) (n : ℕ) → 0 < length (drop n (plate_frames plan files)) → n < length (row_places plan)
+left_within plan files n some = omega (arith, some, length-drop n (plate_frames plan files), length-plate_frames plan files)
 
 -- a row of bytes fits the next row of a list of such rows
 pub fits_at : (xs : List (List ℕ)) (n size : ℕ) → n < length xs → All (λ row. length row ≡ size) xs → FitsNext (drop n xs) size

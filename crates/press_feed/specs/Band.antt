@@ -1,5 +1,5 @@
 -- A band of consecutive frames in the order of a job's rows.
-use Rattle.std.specs.Prelude.{◌≡◌, ℕ, ◌+◌, ◌*◌, ◌<◌, ◌≤◌, List, length, slice_get, slice_index_or, Some}
+use Rattle.std.specs.Prelude.{◌≡◌, ℕ, ◌+◌, ◌*◌, ◌<◌, ◌≤◌, Bool, true, List, length, slice_get, slice_index_or, Some}
 use Rattle.std.specs.List.{All}
 use Rattle.pr_base.specs.Row.{row_size}
 use Rattle.tif_packbits.specs.Frame.{frame_size}
@@ -11,34 +11,45 @@ use Rattle.press_job.specs.Rows.{plate_frames}
 abbrev pub frame_bytes : JobData → ℕ
 frame_bytes job = frame_size (row_size (plate_width job.plan))
 
--- this is frame n of a job, if the job has it
-abbrev pub IsFrameAt : JobData → ℕ → List ℕ → Type 0
-IsFrameAt job n frame = n < length (plate_frames job.plan job.files)
-    → slice_get (plate_frames job.plan job.files) n ≡ Some frame
+-- ---- a frame of a band
+
+-- the bytes of a buffer, and whether they are those of a frame
+pub record FrameData : Type 0 where
+  pub bytes : List ℕ
+  pub made : Bool
+
+-- if a frame was made here, it is frame n of a job
+abbrev pub IsFrameAt : JobData → ℕ → FrameData → Type 0
+IsFrameAt job n frame = frame.made ≡ true → slice_get (plate_frames job.plan job.files) n ≡ Some frame.bytes
+
+-- this many buffers of this many bytes
+pub record AreFresh (count len : ℕ) (frames : List FrameData) : Type 0 where
+  pub count_is : length frames ≡ count
+  pub long : All (λ frame. length frame.bytes ≡ len) frames
 
 -- ---- a thread's share of a band
 
 -- buffers for some frames of a job
 pub record ShareData : Type 0 where
   pub job : JobData
-  pub frames : List (List ℕ)
+  pub frames : List FrameData
 
 -- each has the length of a frame
-pub record IsShare (job : JobData) (frames : List (List ℕ)) : Type 0 where
-  pub each : All (λ frame. length frame ≡ frame_bytes job) frames
+pub record IsShare (job : JobData) (frames : List FrameData) : Type 0 where
+  pub each : All (λ frame. length frame.bytes ≡ frame_bytes job) frames
 
 -- it has buffers for this many frames of this job
 pub record IsShareOf (job : JobData) (count : ℕ) (share : ShareData) : Type 0 where
   pub job_is : share.job ≡ job
   pub count_is : length share.frames ≡ count
 
--- these are the frames of a job from this one on
-pub record HoldsFrom (job : JobData) (first : ℕ) (frames : List (List ℕ)) : Type 0 where
-  pub each : (i : ℕ) (d : List ℕ) → i < length frames → IsFrameAt job (first + i) (slice_index_or frames i d)
+-- those of these that were made are the frames of a job from this one on
+pub record HoldsFrom (job : JobData) (first : ℕ) (frames : List FrameData) : Type 0 where
+  pub each : (i : ℕ) (d : FrameData) → i < length frames → IsFrameAt job (first + i) (slice_index_or frames i d)
 
 -- ---- a band
 
--- the frames of a job from number `first` to below `end`; `size` is the capacity
+-- buffers for the frames of a job from number `first` to below `end`; `size` is the capacity
 pub record BandData : Type 0 where
   pub job : JobData
   pub size : ℕ

@@ -3,7 +3,9 @@ ghost use Rattle.std.specs.Prelude.{All, ◌≡◌, ℕ, ◌+◌, ◌*◌, ◌<�
 ghost use Rattle.std.specs.Prelude.{slice_index_or};
 ghost use Rattle.press_feed.specs.Band.{AreMade, HoldsFrom, IsShareOf, ShareData};
 
+use crate::frame::BandFrame;
 use crate::share::Share;
+use crate::wanted::Wanted;
 use pr_base::NoMemory;
 use press_job::Job;
 use std::alloc::Global;
@@ -45,6 +47,7 @@ impl<'j> Band<'j> {
     pub(crate) fn open(
         alloc: Global,
         job: &'j Job,
+        wanted: Wanted<'j>,
         threads: usize,
         each: usize,
     ) -> Result<Band<'j>, NoMemory>
@@ -53,7 +56,7 @@ impl<'j> Band<'j> {
         ensures { IfOk result (λ band. band ≡
             record { job = job.now; size = threads * each; first = 0; end = 0 }) }
     {
-        let shares = open_shares(alloc, job, threads, each)?;
+        let shares = open_shares(alloc, job, wanted, threads, each)?;
         Ok(Band {
             job,
             shares,
@@ -63,8 +66,8 @@ impl<'j> Band<'j> {
         })
     }
 
-    /// Makes frames from this number on, as many as the band has room for, as far as the job has them. If a
-    /// thread cannot be started, the calling thread makes its share.
+    /// Makes the wanted ones of the frames from this number on, as many as the band has room for, as far as the
+    /// job has them. If a thread cannot be started, the calling thread makes its share.
     pub(crate) fn make<T: Threads + Sync>(&mut self, rt: &T, first: u64)
         requires { first ≤ 2684313600 }
         ensures { self.new ≡ record self.old { first = first; end = first + self.old.size } }
@@ -74,19 +77,19 @@ impl<'j> Band<'j> {
         self.end = first + (self.shares.len() * self.each) as u64;
     }
 
-    /// Whether frame `n` is in the band.
+    /// Whether the band covers frame `n`.
     pub(crate) fn has(&self, n: u64) -> bool
         ensures { IsTrue result ↔ ((self.now.first ≤ n) × (n < self.now.end)) }
     {
         self.first <= n && n < self.end
     }
 
-    /// Lends frame `n`, which is in the band.
-    pub(crate) fn frame(&self, n: u64) -> &[u8]
+    /// Lends the buffer of frame `n`, which the band covers.
+    pub(crate) fn frame(&self, n: u64) -> &BandFrame
         requires first { self.now.first ≤ n }
         requires end { n < self.now.end }
         ensures frame { IsFrameAt self.now.job n result.now }
-        ensures len { length result.now ≡ frame_bytes self.now.job }
+        ensures len { length result.now.bytes ≡ frame_bytes self.now.job }
     {
         let place = (n - self.first) as usize;
         let share = &self.shares[place / self.each];
@@ -98,6 +101,7 @@ impl<'j> Band<'j> {
 fn open_shares<'j>(
     alloc: Global,
     job: &'j Job,
+    wanted: Wanted<'j>,
     count: usize,
     each: usize,
 ) -> Result<Vec<Share<'j>>, NoMemory>
@@ -106,7 +110,7 @@ fn open_shares<'j>(
 {
     let mut shares = Vec::with_capacity(alloc, count)?;
     for _share in 0..count {
-        shares.push(Share::open(alloc, job, each)?)?;
+        shares.push(Share::open(alloc, job, wanted, each)?)?;
     }
     Ok(shares)
 }

@@ -5,8 +5,11 @@ ghost use Rattle.press_job.specs.Rows.{plate_frames};
 
 use crate::band::Band;
 use crate::row_maker::RowMaker;
+use crate::screener::lone_diffused;
+use crate::wanted::Wanted;
 use plan_json::{Plan, Screen};
 use pr_base::{Deal, NoMemory, RowFeed};
+use pr_feed::PassingFeed;
 use press_job::{BandFeed, Job};
 use std::alloc::Global;
 use std::marker::Model;
@@ -50,7 +53,7 @@ impl<'j> Feed<'j> {
     pub fn open(alloc: Global, job: &'j Job) -> Result<Feed<'j>, NoMemory>
         ensures { IfOk result (λ feed. feed ≡ record { job = job.now; next = 0 }) }
     {
-        Feed::with_threads(alloc, job, 0)
+        Feed::with_threads(alloc, job, Wanted::all(), 0)
     }
 
     /// The same with bands, made by one thread per processor, at most eight. No bands are used on one
@@ -58,16 +61,33 @@ impl<'j> Feed<'j> {
     pub fn open_wide<T: Threads>(rt: &T, alloc: Global, job: &'j Job) -> Result<Feed<'j>, NoMemory>
         ensures { IfOk result (λ feed. feed ≡ record { job = job.now; next = 0 }) }
     {
-        Feed::with_threads(alloc, job, threads_for(rt, job))
+        Feed::open_for(rt, alloc, job, Wanted::all())
+    }
+
+    /// The same where only some plates' rows are requested: the bands have no other rows.
+    pub fn open_for<T: Threads>(
+        rt: &T,
+        alloc: Global,
+        job: &'j Job,
+        wanted: Wanted<'j>,
+    ) -> Result<Feed<'j>, NoMemory>
+        ensures { IfOk result (λ feed. feed ≡ record { job = job.now; next = 0 }) }
+    {
+        Feed::with_threads(alloc, job, wanted, threads_for(rt, job, wanted))
     }
 
     /// The same with bands made by this many threads.
-    fn with_threads(alloc: Global, job: &'j Job, threads: usize) -> Result<Feed<'j>, NoMemory>
+    fn with_threads(
+        alloc: Global,
+        job: &'j Job,
+        wanted: Wanted<'j>,
+        threads: usize,
+    ) -> Result<Feed<'j>, NoMemory>
         requires { threads ≤ 8 }
         ensures { IfOk result (λ feed. feed ≡ record { job = job.now; next = 0 }) }
     {
-        let band = Band::open(alloc, job, threads, share_len(job))?;
-        let maker = RowMaker::open(alloc, job)?;
+        let band = Band::open(alloc, job, wanted, threads, share_len(job))?;
+        let maker = RowMaker::open(alloc, job, wanted)?;
         Ok(Feed {
             job,
             maker,
@@ -84,6 +104,12 @@ impl<'j> RowFeed for Feed<'j> {
 
     fn next(&mut self, row: &mut [u8]) {
         make_row(&mut self.maker, &self.band, self.next, row);
+        self.next += 1;
+    }
+}
+
+impl<'j> PassingFeed for Feed<'j> {
+    fn pass(&mut self) {
         self.next += 1;
     }
 }
@@ -105,24 +131,36 @@ fn make_row(maker: &mut RowMaker<'_>, band: &Band<'_>, n: u64, row: &mut [u8])
     ensures maker { maker.new ≡ maker.old }
 {
     if band.has(n) {
-        row.copy_from_slice(band.frame(n));
-    } else {
-        maker.make(n, row);
+        let frame = band.frame(n);
+        if frame.is_made() {
+            row.copy_from_slice(frame.bytes());
+            return;
+        }
     }
+    maker.make(n, row);
 }
 
 /// Returns the number of threads that make the bands of a job: none if making each row on request is as fast,
-/// as on one processor. If an ink is diffused, each row depends on the row above.
-fn threads_for<T: Threads>(rt: &T, job: &Job) -> usize
+/// as on one processor. If a wanted ink is diffused, each row depends on the row above.
+fn threads_for<T: Threads>(rt: &T, job: &Job, wanted: Wanted<'_>) -> usize
     ensures { result ≤ 8 }
 {
     let bytes = job.total().saturating_mul(job.row_len() as u64);
-    if is_diffused(job.plan()) || bytes < FEW_BYTES {
+    if diffuses(job, wanted) || bytes < FEW_BYTES {
         return 0;
     }
     match available_parallelism(rt) {
         Ok(processors) if processors.get() > 1 => processors.get().min(MOST_THREADS),
         _ => 0,
+    }
+}
+
+/// Whether rows of a job are diffused if only some plates' rows are requested. If several inks are diffused,
+/// they are in each group.
+fn diffuses(job: &Job, wanted: Wanted<'_>) -> bool {
+    match lone_diffused(job.plan()) {
+        Some(ink) => wanted.has_ink(job.rows().groups().len(), ink),
+        None => is_diffused(job.plan()),
     }
 }
 

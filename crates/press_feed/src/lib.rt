@@ -18,8 +18,10 @@ mod share;
 mod sheet;
 mod side;
 mod side_pages;
+mod wanted;
 mod wide;
 
 pub use feed::Feed;
 pub use press_job::{Job, Refusal, prepare, spotless_law};
+pub use wanted::Wanted;
 pub use wide::{BandMaker, ByThreads, WideFeed};

@@ -12,6 +12,7 @@ use crate::block_rows::{BLOCK, diffuse_rows, take_rows};
 use crate::chains::Chains;
 use crate::page_pair::PagePair;
 use crate::sheet::Sheet;
+use crate::wanted::Wanted;
 use plan_rows::Group;
 use pr_base::{Ink, NoMemory, row_bytes};
 use press_job::Job;
@@ -24,6 +25,7 @@ use std::marker::Model;
 pub(crate) struct PageBlocks<'j> {
     job: &'j Job,
     lone: Ink,
+    wanted: Wanted<'j>,
     pages: PagePair<'j>,
     chains: Chains,
     sheet: Sheet,
@@ -49,7 +51,12 @@ impl<'j> Model for PageBlocks<'j> {
 
 impl<'j> PageBlocks<'j> {
     /// Allocates all buffers. No row is drawn.
-    pub(crate) fn open(alloc: Global, job: &'j Job, lone: Ink) -> Result<PageBlocks<'j>, NoMemory>
+    pub(crate) fn open(
+        alloc: Global,
+        job: &'j Job,
+        lone: Ink,
+        wanted: Wanted<'j>,
+    ) -> Result<PageBlocks<'j>, NoMemory>
         requires { IsOnly job.now.plan lone }
         ensures { IfOk result (λ made. made
             ≡ record { job = job.now; lone = lone; group = None; blocks = 0 }) }
@@ -60,6 +67,7 @@ impl<'j> PageBlocks<'j> {
         Ok(PageBlocks {
             job,
             lone,
+            wanted,
             pages,
             chains,
             sheet,
@@ -69,16 +77,17 @@ impl<'j> PageBlocks<'j> {
     }
 
     /// Draws a row of a plate that shows row `y` of the pages of a group: the two pages in an ink of the
-    /// group, and nothing else. Rows in order cost least. A group that does not print the diffused ink needs
-    /// no blocks.
-    pub(crate) fn draw(&mut self, group: &Group, ink: Ink, y: u32, bits: &mut [u8])
+    /// group with this index, and nothing else. Rows in order cost least. A group whose plate in the diffused
+    /// ink does not exist, or is not wanted, needs no blocks for its other inks.
+    pub(crate) fn draw(&mut self, index: usize, group: &Group, ink: Ink, y: u32, bits: &mut [u8])
         requires ink { has_ink group.now ink ≡ true }
         requires within { y < self.old.job.plan.page_height }
         requires row { length bits.old ≡ row_size (plate_width self.old.job.plan) }
         ensures pages { DrawsPages self.old.job group.now ink y bits.new }
         ensures job { self.new.job ≡ self.old.job }
     {
-        if !group.has_ink(self.lone) {
+        let is_diffused = group.has_ink(self.lone) && self.wanted.has(index, self.lone);
+        if ink != self.lone && !is_diffused {
             self.pages.draw_at(group, ink, y, bits);
             return;
         }

@@ -5,6 +5,7 @@ ghost use Rattle.press_feed.specs.Maker.{IsSourceOf};
 use crate::page_blocks::PageBlocks;
 use crate::page_pair::PagePair;
 use crate::screener::lone_diffused;
+use crate::wanted::Wanted;
 use pr_base::NoMemory;
 use press_job::Job;
 use std::alloc::Global;
@@ -18,11 +19,15 @@ pub(crate) enum PageSource<'j> {
 
 impl<'j> PageSource<'j> {
     /// Allocates all buffers.
-    pub(crate) fn open(alloc: Global, job: &'j Job) -> Result<PageSource<'j>, NoMemory>
+    pub(crate) fn open(
+        alloc: Global,
+        job: &'j Job,
+        wanted: Wanted<'j>,
+    ) -> Result<PageSource<'j>, NoMemory>
         ensures { IfOk result (IsSourceOf job.now) }
     {
         match lone_diffused(job.plan()) {
-            Some(ink) => Ok(PageSource::Blocks(PageBlocks::open(alloc, job, ink)?)),
+            Some(ink) => Ok(PageSource::Blocks(PageBlocks::open(alloc, job, ink, wanted)?)),
             None => Ok(PageSource::Rows(PagePair::open(alloc, job, false)?)),
         }
     }

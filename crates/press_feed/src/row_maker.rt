@@ -10,6 +10,7 @@ ghost use Rattle.press_feed.specs.Plates.{ShowsPages, page_row as row_of_pages};
 
 use crate::byte_row::clear;
 use crate::page_source::PageSource;
+use crate::wanted::Wanted;
 use plan_json::Plan;
 use plan_pages::{PlateShape, mark_row};
 use plan_rows::{Group, RowPlace, RowPlan};
@@ -25,6 +26,7 @@ use tif_packbits::frame_row;
 pub(crate) struct RowMaker<'j> {
     job: &'j Job,
     pages: PageSource<'j>,
+    wanted: Wanted<'j>,
     /// A row of a plate, eight pixels per byte.
     bits: Vec<u8>,
 }
@@ -46,12 +48,21 @@ impl<'j> RowMaker<'j> {
     ghost use Rattle.press_job.specs.Rows.{plate_frames};
 
     /// Allocates all buffers.
-    pub(crate) fn open(alloc: Global, job: &'j Job) -> Result<RowMaker<'j>, NoMemory>
+    pub(crate) fn open(
+        alloc: Global,
+        job: &'j Job,
+        wanted: Wanted<'j>,
+    ) -> Result<RowMaker<'j>, NoMemory>
         ensures { IfOk result (λ maker. maker ≡ job.now) }
     {
         let bits = vec![in alloc; 0; row_bytes(job.shape().width)]?;
-        let pages = PageSource::open(alloc, job)?;
-        Ok(RowMaker { job, pages, bits })
+        let pages = PageSource::open(alloc, job, wanted)?;
+        Ok(RowMaker {
+            job,
+            pages,
+            wanted,
+            bits,
+        })
     }
 
     /// The number of frames.
@@ -59,6 +70,18 @@ impl<'j> RowMaker<'j> {
         ensures total { result ≡ length (plate_frames self.now.plan self.now.files) }
     {
         self.job.total()
+    }
+
+    /// Returns whether the job has frame `n`, and rows of its plate are requested.
+    pub(crate) fn is_wanted(&self, n: u64) -> bool
+        ensures { result ≡ true → n < length (plate_frames self.now.plan self.now.files) }
+    {
+        if n >= self.total() {
+            return false;
+        }
+        let rows = self.job.rows();
+        let place = rows.row_at(n);
+        self.wanted.has(place.group, place.ink)
     }
 
     /// Makes frame `n`.
@@ -120,7 +143,7 @@ fn draw_pages(
     };
     match pages {
         PageSource::Rows(pages) => pages.draw_at(group, place.ink, y, bits),
-        PageSource::Blocks(blocks) => blocks.draw(group, place.ink, y, bits),
+        PageSource::Blocks(blocks) => blocks.draw(place.group, group, place.ink, y, bits),
     }
 }
 

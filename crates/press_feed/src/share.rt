@@ -2,8 +2,9 @@
 ghost use Rattle.std.specs.Prelude.{All, ◌≡◌, ◌+◌, ◌<◌, ◌≤◌, ◌^◌, IfOk, Some, length, slice_get};
 ghost use Rattle.press_feed.specs.Band.{HoldsFrom, IsShare, frame_bytes};
 
-use crate::byte_row::{ByteRow, byte_rows};
+use crate::frame::{BandFrame, band_frames};
 use crate::row_maker::RowMaker;
+use crate::wanted::Wanted;
 use pr_base::{Deal, NoMemory};
 use press_job::Job;
 use std::alloc::Global;
@@ -13,7 +14,7 @@ use std::marker::Model;
 #[derive(Drop)]
 pub(crate) struct Share<'j> {
     maker: RowMaker<'j>,
-    frames: Vec<ByteRow>,
+    frames: Vec<BandFrame>,
 }
 
 impl<'j> Model for Share<'j> {
@@ -30,15 +31,20 @@ impl<'j> Share<'j> {
     ghost use Rattle.press_feed.specs.Band.{HoldsFrom, IsShareOf, frame_bytes};
 
     /// Allocates a share of `count` frames.
-    pub(crate) fn open(alloc: Global, job: &'j Job, count: usize) -> Result<Share<'j>, NoMemory>
+    pub(crate) fn open(
+        alloc: Global,
+        job: &'j Job,
+        wanted: Wanted<'j>,
+        count: usize,
+    ) -> Result<Share<'j>, NoMemory>
         ensures { IfOk result (IsShareOf job.now count) }
     {
-        let frames = byte_rows(alloc, count, job.row_len())?;
-        let maker = RowMaker::open(alloc, job)?;
+        let frames = band_frames(alloc, count, job.row_len())?;
+        let maker = RowMaker::open(alloc, job, wanted)?;
         Ok(Share { maker, frames })
     }
 
-    /// Makes the frames from this number on, as far as the job has them.
+    /// Makes the wanted frames from this number on, as far as the job has them.
     pub(crate) fn make_from(&mut self, first: u64)
         requires { first + length self.old.frames < 2 ^ 63 }
         ensures made { HoldsFrom self.old.job first self.new.frames }
@@ -48,18 +54,17 @@ impl<'j> Share<'j> {
     }
 
     /// Lends the frame at an index of the share.
-    pub(crate) fn frame(&self, place: usize) -> &[u8]
+    pub(crate) fn frame(&self, place: usize) -> &BandFrame
         requires { place < length self.now.frames }
         ensures frame { slice_get self.now.frames place ≡ Some result.now }
-        ensures len { length result.now ≡ frame_bytes self.now.job }
+        ensures len { length result.now.bytes ≡ frame_bytes self.now.job }
     {
-        let frame = &self.frames[place];
-        frame.bytes()
+        &self.frames[place]
     }
 }
 
-/// Makes the frames from this number on, as far as the job has them.
-fn make_frames(maker: &mut RowMaker<'_>, first: u64, frames: &mut [ByteRow])
+/// Makes the wanted frames from this number on, as far as the job has them.
+fn make_frames(maker: &mut RowMaker<'_>, first: u64, frames: &mut [BandFrame])
     requires first { first + length frames.old < 2 ^ 63 }
     requires each { IsShare maker.old frames.old }
     ensures made { HoldsFrom maker.old first frames.new }

@@ -4,7 +4,9 @@ ghost use Rattle.std.specs.Thread.{IsSync};
 ghost use Rattle.press_feed.specs.Feed.{FeedData, rows_left};
 
 use crate::feed::Feed;
+use crate::wanted::Wanted;
 use pr_base::{NoMemory, RowFeed};
+use pr_feed::PassingFeed;
 use press_job::{BandFeed, Job};
 use std::alloc::Global;
 use std::marker::Model;
@@ -17,8 +19,13 @@ use std::thread::Threads;
 pub trait BandMaker {
     ghost may: { Type 0 };
 
-    /// Returns the feed of a job, with all its buffers.
-    fn open<'j>(&self, alloc: Global, job: &'j Job) -> Result<Feed<'j>, NoMemory>
+    /// Returns the feed of a job, with all its buffers. `wanted` says which rows are requested.
+    fn open<'j>(
+        &self,
+        alloc: Global,
+        job: &'j Job,
+        wanted: Wanted<'j>,
+    ) -> Result<Feed<'j>, NoMemory>
         ensures { IfOk result (λ feed. feed ≡ record { job = job.now; next = 0 }) };
 
     /// Makes the next rows of a feed, if none is ready.
@@ -36,8 +43,13 @@ pub struct ByThreads<'t, T> {
 impl<'t, T: Threads + Sync> BandMaker for ByThreads<'t, T> {
     ghost may = { IsSync T.row };
 
-    fn open<'j>(&self, alloc: Global, job: &'j Job) -> Result<Feed<'j>, NoMemory> {
-        Feed::open_wide(self.rt, alloc, job)
+    fn open<'j>(
+        &self,
+        alloc: Global,
+        job: &'j Job,
+        wanted: Wanted<'j>,
+    ) -> Result<Feed<'j>, NoMemory> {
+        Feed::open_for(self.rt, alloc, job, wanted)
     }
 
     fn make(&self, feed: &mut Feed<'_>) {
@@ -67,7 +79,20 @@ impl<'m, 'j, M: BandMaker> WideFeed<'m, 'j, M> {
         requires may { M.may }
         ensures { IfOk result (λ feed. feed ≡ record { job = job.now; next = 0 }) }
     {
-        let feed = maker.open(alloc, job)?;
+        WideFeed::open_for(maker, alloc, job, Wanted::all())
+    }
+
+    /// The same where only some plates' rows are requested.
+    pub fn open_for(
+        maker: &'m M,
+        alloc: Global,
+        job: &'j Job,
+        wanted: Wanted<'j>,
+    ) -> Result<WideFeed<'m, 'j, M>, NoMemory>
+        requires may { M.may }
+        ensures { IfOk result (λ feed. feed ≡ record { job = job.now; next = 0 }) }
+    {
+        let feed = maker.open(alloc, job, wanted)?;
         Ok(WideFeed { maker, feed })
     }
 }
@@ -78,5 +103,11 @@ impl<'m, 'j, M: BandMaker> RowFeed for WideFeed<'m, 'j, M> {
     fn next(&mut self, row: &mut [u8]) {
         self.maker.make(&mut self.feed);
         self.feed.next(row);
+    }
+}
+
+impl<'m, 'j, M: BandMaker> PassingFeed for WideFeed<'m, 'j, M> {
+    fn pass(&mut self) {
+        self.feed.pass();
     }
 }

@@ -1,6 +1,6 @@
 // Ink keys: the keys of columns, the counts of a small edition, and the turns of a key reader at a ring with
 // two places.
-ghost use Rattle.std.specs.Prelude.{◌≡◌, ◌+◌, ◌<◌, ◌≤◌, false, IfOk, length, slice_get};
+ghost use Rattle.std.specs.Prelude.{◌≡◌, ◌+◌, ◌<◌, ◌≤◌, false, true, IfOk, length, slice_get};
 ghost use Rattle.plan_rows.specs.Rows.{places_in, rows_of};
 ghost use Rattle.ink_keys.specs.Counts.{IsBounded, no_counts};
 ghost use Rattle.ink_keys.specs.Turn.{IfWaiting};
@@ -99,7 +99,7 @@ fn add_next(deck: &mut Deck<'_, SmallRows>, rows: &RowPlan, counts: &mut Counts,
     requires groups { counts.old.groups ≡ length rows.now.groups }
     requires width { counts.old.width ≡ 16 }
     requires bounded { IsBounded counts.old deck.old.put }
-    ensures deck { deck.new ≡ record deck.old { put = deck.old.put + 1 } }
+    ensures deck { deck.new ≡ record deck.old { put = deck.old.put + 1; there = true } }
     ensures same { counts.new ≡ record counts.old { numbers = counts.new.numbers } }
     ensures bounded { IsBounded counts.new (deck.old.put + 1) }
 {

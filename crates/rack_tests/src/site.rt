@@ -1,5 +1,5 @@
 // A site that takes its rows from a deck.
-ghost use Rattle.std.specs.Prelude.{◌≡◌, ◌+◌, ◌<◌, false, IfOk, length, map};
+ghost use Rattle.std.specs.Prelude.{◌≡◌, ◌+◌, ◌<◌, false, true, IfOk, length, map};
 ghost use Rattle.pr_base.specs.Row.{row_size};
 ghost use Rattle.tif_packbits.specs.Frame.{AreFrames, framed_row};
 ghost use Rattle.plan_json.specs.Data.{plate_width};
@@ -23,6 +23,7 @@ use std::process::Abort;
 // ended takes no more rows.
 fn offer(deck: &mut Deck<'_, Numbered>, last: Kept, site: &mut Site, rack: &mut MemRack) -> Kept
     requires home { deck.old.out ≡ false }
+    requires there { deck.old.there ≡ true }
     requires frames { AreFrames 2 (map framed_row deck.old.rows) deck.old.rows }
     requires takes { OnDone last (Takes deck.old.rows rack.old site.old) }
     requires next { OnDone last (site.old.next + 1 ≡ deck.old.put) }
@@ -43,7 +44,7 @@ fn offer(deck: &mut Deck<'_, Numbered>, last: Kept, site: &mut Site, rack: &mut 
 
 // Puts `count` rows on a deck, one after the other, and gives each to a site. Returns the site's last result.
 fn carry(deck: &mut Deck<'_, Numbered>, count: u8, site: &mut Site, rack: &mut MemRack) -> Kept
-    requires deck { deck.old ≡ record { rows = numbered count; put = 0; out = false } }
+    requires deck { deck.old ≡ record { rows = numbered count; put = 0; there = false; out = false } }
     requires takes { Takes (numbered count) rack.old site.old }
     requires next { site.old.next ≡ 0 }
 {

@@ -94,7 +94,7 @@ makers_begin plan frames out picks before makers carries fresh idle slots = reco
 
 -- ---- plates that are left to make
 
-up_of : (making : Making) (site n : ℕ) (before now : RackTells) (going : SiteData) (end : RemadeEnd) → ServedBy making site n before now going end → UpBy end going
+pub up_of : (making : Making) (site n : ℕ) (before now : RackTells) (going : SiteData) (end : RemadeEnd) → ServedBy making site n before now going end → UpBy end going
 up_of making site n before now going (Done made kept) at = at.is.on
 up_of making site n before now going (Left made path) left = tt
 

@@ -10,4 +10,5 @@ pub mod DoneLemmas
 pub mod RowLemmas
 pub mod DeliveryLemmas
 pub mod WantedLemmas
+pub mod PassLemmas
 mod SmallJobs

@@ -5,4 +5,5 @@ pub mod Picks
 pub mod Classes
 pub mod Standing
 pub mod Remade
+pub mod Wanted
 pub mod Making

@@ -6,7 +6,7 @@ use Rattle.ring_lanes.specs.declared.source.Source.TheVariants.{Deck}
 use Rattle.pr_rack.specs.Told.{RackTells}
 use Rattle.plan_json.specs.Data.{PlanData}
 use Rattle.plan_json.specs.Plan.{IsPlan}
-use Rattle.site_agent.specs.Given.{finished_count}
+use Rattle.site_agent.specs.Given.{finished_count, is_kept}
 use Rattle.site_agent.specs.Going.{IsGoing}
 use Rattle.site_agent.specs.Picked.{picked_job, picked_site}
 use Rattle.site_agent.specs.Site.{SiteData}
@@ -98,6 +98,36 @@ making_by (Left made path) site = false
 -- whether a site continues and has plates left to make
 abbrev pub is_making : Maker → Bool
 is_making maker = making_by maker.end maker.site
+
+-- ---- a row that is passed over
+
+abbrev pub keeps_by : RemadeEnd → SiteData → Bool
+keeps_by (Done made kept) site = is_kept site.job site.next
+keeps_by (Left made path) site = false
+
+-- whether a site continues and the next row is of one of its plates
+abbrev pub keeps_next : Maker → Bool
+keeps_next maker = keeps_by maker.end maker.site
+
+-- a site that continues has a next row
+pub record HasNext (site : SiteData) : Type 0 where
+  pub on : site.ended ≡ false
+  pub within : site.next < site.job.total
+
+abbrev pub NextBy : RemadeEnd → SiteData → Type 0
+NextBy (Done made kept) site = HasNext site
+NextBy (Left made path) site = Unit {0}
+
+abbrev pub IsBeforeRow : Maker → Type 0
+IsBeforeRow maker = NextBy maker.end maker.site
+
+abbrev pub passed_by : RemadeEnd → SiteData → SiteData
+passed_by (Done made kept) site = record site { next = site.next + 1 }
+passed_by (Left made path) site = site
+
+-- a site after a row that it passed over, if it continues
+abbrev pub passed : Maker → Maker
+passed maker = record maker { site = passed_by maker.end maker.site }
 
 -- ---- all sites
 

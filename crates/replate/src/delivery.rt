@@ -8,14 +8,15 @@ ghost use Rattle.replate.specs.Remade.{AreRowsOf, RemadeFits, RemadePart, by_pic
 
 use crate::remaking::Remaking;
 use crate::{Inputs, Picks, RemadeEnd};
-use pr_base::{Deal, NoMemory, RowFeed};
+use pr_base::{Deal, NoMemory};
+use pr_feed::PassingFeed;
 use pr_rack::Rack;
 use std::alloc::Global;
 
 /// Makes the plates of a new job that must be made, each site's on the rack with its number, with paths below
 /// the folder `out`. The feed gives the rows of the deal in order. A site whose rack fails leaves, and the
 /// others continue. Once no site has a plate left to make, no further row is requested.
-pub fn deliver<D: Deal, F: RowFeed, R: Rack>(
+pub fn deliver<D: Deal, F: PassingFeed, R: Rack>(
     alloc: Global,
     deal: &D,
     feed: &mut F,

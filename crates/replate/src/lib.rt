@@ -22,3 +22,4 @@ pub use inputs::Inputs;
 pub use old_plate::OldPlate;
 pub use picks::Picks;
 pub use remade::RemadeEnd;
+pub use wanted::wanted_inks;

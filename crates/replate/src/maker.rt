@@ -1,8 +1,9 @@
 // A site of a delivery.
-ghost use Rattle.std.specs.Prelude.{◌≡◌, ◌-◌, ◌<◌, false, OnErr, OnOk};
+ghost use Rattle.std.specs.Prelude.{◌≡◌, ◌-◌, false, true, OnErr, OnOk};
 ghost use Rattle.pr_rack.specs.Told.{told};
-ghost use Rattle.replate.specs.Making.{IsUp, Made, SomeServed, Stopped, has_left as has_left_lem};
-ghost use Rattle.replate.specs.Making.{is_making as is_making_lem};
+ghost use Rattle.replate.specs.Making.{IsBeforeRow, IsUp, Made, SomeServed, Stopped, passed};
+ghost use Rattle.replate.specs.Making.{has_left as has_left_lem, is_making as is_making_lem};
+ghost use Rattle.replate.specs.Making.{keeps_next as keeps_next_lem};
 
 use crate::RemadeEnd;
 use pr_base::{Deal, NoMemory};
@@ -26,6 +27,29 @@ impl Maker {
         match self.end {
             RemadeEnd::Done { .. } => !self.site.is_finished(),
             RemadeEnd::Left { .. } => false,
+        }
+    }
+
+    /// Returns whether the next row is one of a plate that the site has left to make.
+    pub(crate) fn keeps_next(&self) -> bool
+        requires { IsUp self.now }
+        ensures { result ≡ keeps_next_lem self.now }
+    {
+        match self.end {
+            RemadeEnd::Done { .. } => self.site.keeps_next(),
+            RemadeEnd::Left { .. } => false,
+        }
+    }
+
+    /// Passes over the next row, unless the site has left.
+    pub(crate) fn pass(&mut self)
+        requires next { IsBeforeRow self.old }
+        requires other { keeps_next_lem self.old ≡ false }
+        ensures { self.new ≡ passed self.old }
+    {
+        match self.end {
+            RemadeEnd::Done { .. } => self.site.pass(),
+            RemadeEnd::Left { .. } => {}
         }
     }
 
@@ -54,7 +78,7 @@ pub(crate) fn hand<D: Deal, R: Rack>(
     maker: &mut Maker,
     rack: &mut R,
 ) -> Result<(), NoMemory>
-    requires put { 0 < deck.old.put }
+    requires put { deck.old.there ≡ true }
     requires home { deck.old.out ≡ false }
     requires some { SomeServed deck.old.rows (deck.old.put - 1) (told R.Rack rack.old) maker.old }
     ensures made { OnOk result (Made deck.old.rows (deck.old.put - 1)
@@ -77,7 +101,7 @@ fn hand_on<D: Deal, R: Rack>(
     rack: &mut R,
 ) -> Result<(), NoMemory>
     requires going { has_left_lem maker.old.end ≡ false }
-    requires put { 0 < deck.old.put }
+    requires put { deck.old.there ≡ true }
     requires home { deck.old.out ≡ false }
     requires some { SomeServed deck.old.rows (deck.old.put - 1) (told R.Rack rack.old) maker.old }
     ensures made { OnOk result (Made deck.old.rows (deck.old.put - 1)

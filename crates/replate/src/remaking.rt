@@ -1,20 +1,22 @@
 // Delivery of the plates that must be made, row by row over a deck.
-ghost use Rattle.std.specs.Prelude.{◌≡◌, ◌-◌, ◌<◌, ◌^◌, ℕ, false, true, All, IfOk, OnErr, OnOk, count_by};
-ghost use Rattle.std.specs.Prelude.{length, map, slice_index_or};
+ghost use Rattle.std.specs.Prelude.{◌≡◌, ◌+◌, ◌-◌, ◌<◌, ◌^◌, ℕ, false, true, All, IfOk, OnErr, OnOk, count_by};
+ghost use Rattle.std.specs.Prelude.{drop, length, map, slice_index_or};
 ghost use Rattle.tif_packbits.specs.Frame.{framed_row};
 ghost use Rattle.pr_rack.specs.Told.{all_told, told};
 ghost use Rattle.plan_json.specs.Plan.{IsPlan};
 ghost use Rattle.plan_rows.specs.Groups.{groups_of};
 ghost use Rattle.site_agent.specs.Racks.{AreIdle, KeepCounts};
 ghost use Rattle.replate.specs.declared.maker.Maker.{Maker as MakerData};
-ghost use Rattle.replate.specs.Making.{AllMade, AllSomeServed, AllStopped, IsUp, fresh_maker, fresh_makers};
-ghost use Rattle.replate.specs.Making.{is_making as is_making_lem};
+ghost use Rattle.replate.specs.Making.{AllMade, AllSomeServed, AllStopped, IsBeforeRow, IsUp};
+ghost use Rattle.replate.specs.Making.{fresh_maker, fresh_makers, is_making as is_making_lem};
+ghost use Rattle.replate.specs.Making.{keeps_next as keeps_next_lem, passed};
 ghost use Rattle.replate.specs.Remade.{AreRowsOf, RemadeFits, RemadePart, by_picks};
 
 use crate::maker::{Maker, hand};
 use crate::wanted::wanted_of;
 use crate::{Inputs, Picks, RemadeEnd};
-use pr_base::{Deal, NoMemory, RowFeed};
+use pr_base::{Deal, NoMemory};
+use pr_feed::PassingFeed;
 use pr_rack::Rack;
 use ring_lanes::Deck;
 use site_agent::{Site, tell_slots};
@@ -62,7 +64,7 @@ impl Remaking<'_> {
 
     /// Handles row after row until no site has a plate left to make, and returns how each site ended. `row`
     /// is the buffer for one row.
-    fn make_rows<D: Deal, F: RowFeed, R: Rack>(
+    fn make_rows<D: Deal, F: PassingFeed, R: Rack>(
         &self,
         deck: &mut Deck<'_, D>,
         feed: &mut F,
@@ -90,15 +92,13 @@ impl Remaking<'_> {
         tell_slots(racks);
         let mut makers = self.makers()?;
         while are_making(&makers) {
-            feed.next(row);
-            deck.put(row);
-            hand_row(deck, makers.as_mut_slice(), racks)?;
+            handle_row(deck, feed, row, makers.as_mut_slice(), racks)?;
         }
         ends_of(self.alloc, makers)
     }
 
     /// Does the same over all rows of a deal.
-    pub(crate) fn make_plates<D: Deal, F: RowFeed, R: Rack>(
+    pub(crate) fn make_plates<D: Deal, F: PassingFeed, R: Rack>(
         &self,
         deal: &D,
         feed: &mut F,
@@ -153,13 +153,116 @@ fn are_making(makers: &[Maker]) -> bool
     false
 }
 
+/// Returns whether the next row is one of a plate that some site has left to make.
+fn is_kept(makers: &[Maker]) -> bool
+    requires { All IsUp makers.now }
+    ensures some { result ≡ true → (i : ℕ) × (i < length makers.now)
+        × ((d : MakerData) → keeps_next_lem (slice_index_or makers.now i d) ≡ true) }
+    ensures none { result ≡ false → All (λ maker. keeps_next_lem maker ≡ false) makers.now }
+{
+    for maker in makers {
+        if maker.keeps_next() {
+            return true;
+        }
+    }
+    false
+}
+
+/// Handles the next row: makes it and hands it to each site, or passes over it if no site keeps it. `row` is
+/// the buffer for one row.
+fn handle_row<D: Deal, F: PassingFeed, R: Rack>(
+    deck: &mut Deck<'_, D>,
+    feed: &mut F,
+    row: &mut [u8],
+    makers: &mut [Maker],
+    racks: &mut [R],
+) -> Result<(), NoMemory>
+    requires home { deck.old.out ≡ false }
+    requires below { deck.old.put < length deck.old.rows }
+    requires feed { F.left feed.old ≡ drop deck.old.put deck.old.rows }
+    requires row { All (λ bytes. length bytes ≡ length row.old) deck.old.rows }
+    requires count { length makers.old ≡ length racks.old }
+    requires some { AllSomeServed (told R.Rack) deck.old.rows deck.old.put makers.old racks.old }
+    ensures made { OnOk result (AllMade (told R.Rack) deck.old.rows deck.old.put
+        makers.old racks.old makers.new racks.new) }
+    ensures stopped { OnErr result (AllStopped (told R.Rack) deck.old.rows deck.old.put
+        makers.old racks.old racks.new) }
+    ensures rows { deck.new.rows ≡ deck.old.rows }
+    ensures put { deck.new.put ≡ deck.old.put + 1 }
+    ensures home { deck.new.out ≡ false }
+    ensures feed { F.left feed.new ≡ drop (deck.old.put + 1) deck.old.rows }
+{
+    if is_kept(makers) {
+        return make_row(deck, feed, row, makers, racks);
+    }
+    pass_over(deck, feed, makers);
+    Ok(())
+}
+
+/// Makes the next row and hands it to each site.
+fn make_row<D: Deal, F: PassingFeed, R: Rack>(
+    deck: &mut Deck<'_, D>,
+    feed: &mut F,
+    row: &mut [u8],
+    makers: &mut [Maker],
+    racks: &mut [R],
+) -> Result<(), NoMemory>
+    requires home { deck.old.out ≡ false }
+    requires below { deck.old.put < length deck.old.rows }
+    requires feed { F.left feed.old ≡ drop deck.old.put deck.old.rows }
+    requires row { All (λ bytes. length bytes ≡ length row.old) deck.old.rows }
+    requires count { length makers.old ≡ length racks.old }
+    requires some { AllSomeServed (told R.Rack) deck.old.rows deck.old.put makers.old racks.old }
+    ensures made { OnOk result (AllMade (told R.Rack) deck.old.rows deck.old.put
+        makers.old racks.old makers.new racks.new) }
+    ensures stopped { OnErr result (AllStopped (told R.Rack) deck.old.rows deck.old.put
+        makers.old racks.old racks.new) }
+    ensures rows { deck.new.rows ≡ deck.old.rows }
+    ensures put { deck.new.put ≡ deck.old.put + 1 }
+    ensures home { deck.new.out ≡ false }
+    ensures feed { F.left feed.new ≡ drop (deck.old.put + 1) deck.old.rows }
+{
+    feed.next(row);
+    deck.put(row);
+    hand_row(deck, makers, racks)
+}
+
+/// Passes over the next row, which no site keeps.
+fn pass_over<D: Deal, F: PassingFeed>(deck: &mut Deck<'_, D>, feed: &mut F, makers: &mut [Maker])
+    requires home { deck.old.out ≡ false }
+    requires below { deck.old.put < length deck.old.rows }
+    requires feed { F.left feed.old ≡ drop deck.old.put deck.old.rows }
+    requires next { All IsBeforeRow makers.old }
+    requires others { All (λ maker. keeps_next_lem maker ≡ false) makers.old }
+    ensures makers { makers.new ≡ map passed makers.old }
+    ensures rows { deck.new.rows ≡ deck.old.rows }
+    ensures put { deck.new.put ≡ deck.old.put + 1 }
+    ensures home { deck.new.out ≡ false }
+    ensures feed { F.left feed.new ≡ drop (deck.old.put + 1) deck.old.rows }
+{
+    feed.pass();
+    deck.pass();
+    pass_row(makers);
+}
+
+/// Passes over the next row at each site in turn.
+fn pass_row(makers: &mut [Maker])
+    requires next { All IsBeforeRow makers.old }
+    requires others { All (λ maker. keeps_next_lem maker ≡ false) makers.old }
+    ensures { makers.new ≡ map passed makers.old }
+{
+    for i in 0..makers.len() {
+        makers[i].pass();
+    }
+}
+
 /// Hands the row that was put last to each site in turn.
 fn hand_row<D: Deal, R: Rack>(
     deck: &mut Deck<'_, D>,
     makers: &mut [Maker],
     racks: &mut [R],
 ) -> Result<(), NoMemory>
-    requires put { 0 < deck.old.put }
+    requires put { deck.old.there ≡ true }
     requires home { deck.old.out ≡ false }
     requires count { length makers.old ≡ length racks.old }
     requires some { AllSomeServed (told R.Rack) deck.old.rows (deck.old.put - 1) makers.old racks.old }

@@ -1,5 +1,5 @@
 -- The invariant of a deck after a row is put.
-use Rattle.std.proofs.Common.{◌≡◌, ℕ, ◌+◌, ◌-◌, ◌<◌, List, length, ap, ◌∙◌, Option, Some, slice_get, arith}
+use Rattle.std.proofs.Common.{◌≡◌, ℕ, ◌+◌, ◌-◌, ◌<◌, Bool, true, List, length, ap, ◌∙◌, Option, Some, slice_get, arith}
 use Rattle.std.specs.Global.{Vec}
 use Rattle.std.specs.Vec.{with_items}
 use Rattle.std.proofs.lemmas.List.{with_items_is}
@@ -16,9 +16,9 @@ read_back : (v b : Vec ℕ) (row : List ℕ) → Some v ≡ Some b → v.items �
 read_back v b row is same = cc
 
 -- after the next row is copied into the buffer, the place holds that row
-pub puts : {rows : List (List ℕ)} {size put : ℕ} {place : Option (Vec ℕ)} (row new : List ℕ) (v : Vec ℕ) → place ≡ Some v →
-    slice_get rows put ≡ Some row → new ≡ row → Keeps rows size put place → Keeps rows size (put + 1) (Some (with_items v new))
-puts {rows} {size} {put} row new v is next same kept =
+pub puts : {rows : List (List ℕ)} {size put : ℕ} {there : Bool} {place : Option (Vec ℕ)} (row new : List ℕ) (v : Vec ℕ) → place ≡ Some v →
+    slice_get rows put ≡ Some row → new ≡ row → Keeps rows size put there place → Keeps rows size (put + 1) true (Some (with_items v new))
+puts {rows} {size} {put} {there} row new v is next same kept =
     let within : put < length rows = slice_get_within rows put row next in
     let long : length row ≡ size = rw (get_or_from_slice_get rows put row row next) at (All-get_or (λ row. length row ≡ size) rows put row within kept.sized) in
     let fits : length new ≡ v.len = omega (arith, ap {B = ℕ} length same, long, kept.wide v is, v.ok.0) in
@@ -28,5 +28,6 @@ puts {rows} {size} {put} row new v is next same kept =
       sized = kept.sized;
       among = omega arith;
       wide = λ b is. ap {B = ℕ} length (read_back (with_items v new) b row is now) ∙ long;
-      last = λ b is some. last_put rows put row b.items next (read_back (with_items v new) b row is now);
+      some = λ _. omega arith;
+      last = λ b is there. last_put rows put row b.items next (read_back (with_items v new) b row is now);
     }

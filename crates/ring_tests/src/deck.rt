@@ -34,7 +34,7 @@ fn hands_out_each_row_as_often_as_asked(rt: HostRuntime) {
 
 // Takes the second row twice.
 fn hand_out(rt: &impl Abort, deck: &mut Deck<'_, TwoRows>)
-    requires { deck.old ≡ record { rows = two_rows; put = 0; out = false } }
+    requires { deck.old ≡ record { rows = two_rows; put = 0; there = false; out = false } }
 {
     deck.put(&[3, 0, 1, 0xAB, 0]);
     let held = deck.take();
@@ -46,4 +46,22 @@ fn hand_out(rt: &impl Abort, deck: &mut Deck<'_, TwoRows>)
         assert!(rt; is_row(&held, 1, &[3, 0, 1, 0x13, 0], Source::Deck));
         deck.give(held);
     }
+}
+
+#[test]
+fn gives_the_row_behind_a_passed_one(rt: HostRuntime) {
+    let deal = TwoRows;
+    let mut deck = Deck::open(rt.alloc(), &deal).expect(&rt, "memory");
+    pass_first(&rt, &mut deck);
+}
+
+// Passes over the first row and takes the second.
+fn pass_first(rt: &impl Abort, deck: &mut Deck<'_, TwoRows>)
+    requires { deck.old ≡ record { rows = two_rows; put = 0; there = false; out = false } }
+{
+    deck.pass();
+    deck.put(&[3, 0, 1, 0x13, 0]);
+    let held = deck.take();
+    assert!(rt; is_row(&held, 1, &[3, 0, 1, 0x13, 0], Source::Deck));
+    deck.give(held);
 }

@@ -1,13 +1,16 @@
 -- How one row changes which plates are open and finished.
-use Rattle.std.proofs.Common.{◌≡◌, ◌≢◌, ℕ, ◌+◌, ◌-◌, ◌<◌, ◌≤◌, ◌⊎◌, true, false, cond, List, [], ◌∷◌, ◌++◌, length, map, filter, get_or, Some, None, inl, inr, subst, refl, sym, ap, ◌∙◌, ⊎_elim, arith}
-use Rattle.std.specs.Prelude.{◌==◌}
+use Rattle.std.proofs.Common.{◌≡◌, ◌≢◌, ℕ, ◌+◌, ◌-◌, ◌<◌, ◌≤◌, ◌⊎◌, true, false, cond, List, [], ◌∷◌, ◌++◌, length, map, filter, get_or, Some, None, Option, IfSome, inl, inr, subst, refl, sym, ap, ◌∙◌, ⊎_elim, arith}
+use Rattle.std.specs.Option.{is_some}
+use Rattle.std.specs.Prelude.{◌==◌, IfNone}
 use Rattle.std.specs.List.{list_any, range_with_len}
-use Rattle.std.proofs.lemmas.Bool.{cases_eq, eq-eqb, ne_eqb}
+use Rattle.std.proofs.lemmas.Bool.{both_ways, cases_eq, eq-eqb, ne_eqb}
 use Rattle.std.proofs.lemmas.List.Folds.{list_any_at, list_any_none}
 use Rattle.std.proofs.lemmas.List.FromFn.{length-range_with_len, get_or-range_with_len, length-map-range_with_len, map-range_with_len_more, filter_of_map_range_with_len_more}
 use Rattle.std.proofs.lemmas.List.{append-nil, get_or_default, map-id}
+use Rattle.site_agent.specs.declared.place.Place.{Place}
 use Rattle.site_agent.specs.declared.plate.SitePlate.{SitePlate}
 use Rattle.site_agent.specs.Job.{SiteJob, IsJob, number_in, last_in}
+use Rattle.site_agent.specs.Site.{IsPlaceOf}
 use Rattle.site_agent.specs.Given.{given, rows_of, open_in, finished_count, is_kept, kept_below, IsRowOf, IsNoRow}
 use Rattle.site_agent.proofs.Givens.{number-less, given-at, given-next, given-stays}
 use Rattle.site_agent.proofs.Opens.{plate_at, opened, closed, open_in-alike, StandsAs, open_in-plate, no_other, other-stays, others-closed, closed-cases, finished-is, finished-stays}
@@ -153,6 +156,21 @@ is_kept-none job n row =
     let inside : y < job.height = omega (arith, length-range_with_len 0 job.height) in
     ap (λ z. number_in (plate_at job k d) z == n) (get_or-range_with_len 0 job.height y e inside ∙ omega arith)
     ∙ ne_eqb (number_in (plate_at job k d) y) n (row.none k y d less inside)))
+
+-- so a row that the site doesn't keep belongs to none of its plates
+pub is_kept-not : (job : SiteJob) (n : ℕ) → is_kept job n ≡ false → IsNoRow job n
+is_kept-not job n other = record {
+  none = λ k y d less below same.
+      absurd (both_ways (is_kept job n) other (is_kept-row job n k y d
+      (record { within = less; below = below; number = λ e. ap (λ p. number_in p y) (same-plate job k e d less) ∙ same })));
+}
+
+-- a row is the site's if its place is found
+pub kept-by_place : (job : SiteJob) (n : ℕ) (place : Option Place) → IfSome place (IsPlaceOf job n) → IfNone place (IsNoRow job n) → is_some place ≡ is_kept job n
+kept-by_place job n None found none = sym (is_kept-none job n none)
+kept-by_place job n (Some place) found none = sym (is_kept-row job n place.plate place.y any found.row) where
+  any : SitePlate
+  any = record { path = []; first = 0; step = 0; slot = 0 }
 
 kept-more : (job : SiteJob) (n : ℕ) → kept_below job (n + 1) ≡ kept_below job n ++ cond (is_kept job n) (n ∷ []) []
 unfolding kept_below

@@ -97,6 +97,24 @@ impl Site {
         self.finished as usize == self.plates.len()
     }
 
+    /// Whether the next row is one of the site's.
+    pub fn keeps_next(&self) -> bool
+        requires { self.now.ended ≡ false }
+        ensures { result ≡ is_kept self.now.job self.now.next }
+    {
+        self.place().is_some()
+    }
+
+    /// Passes over the next row, which is not one of the site's.
+    pub fn pass(&mut self)
+        requires going { self.old.ended ≡ false }
+        requires within { self.old.next < self.old.job.total }
+        requires other { is_kept self.old.job self.old.next ≡ false }
+        ensures { self.new ≡ record self.old { next = self.old.next + 1 } }
+    {
+        self.next += 1;
+    }
+
     /// Returns the place of the next row, if the row is one of the site's.
     fn place(&self) -> Option<Place>
         requires { self.now.ended ≡ false }

@@ -6,8 +6,8 @@ use Rattle.replate.specs.Making.{AreServed}
 use Rattle.replate.specs.Remade.{by_picks}
 use Rattle.replate.proofs.remaking.Remaking.make_rows.Given as goal
 
-abbrev pub invariant-loop-feed : goal.invariant-loop-feed
-invariant-loop-feed g l = record {
+abbrev pub invariant-loop-deck : goal.invariant-loop-deck
+invariant-loop-deck g l = record {
   rows : l.deck.rows ≡ l.fn.deck.rows;
   home : l.deck.out ≡ false;
   within : l.deck.put ≤ length l.deck.rows;
@@ -17,5 +17,5 @@ invariant-loop-feed g l = record {
   served : AreServed (by_picks l.self.after.now.plan (map framed_row l.fn.deck.rows) l.self.out.now l.self.picks.now) l.deck.put (all_told g.R.Rack l.fn.racks) (all_told g.R.Rack l.racks) l.makers.items;
 }
 
-abbrev pub decreases-loop-feed : goal.decreases-loop-feed
-decreases-loop-feed g l = length l.deck.rows - l.deck.put
+abbrev pub decreases-loop-deck : goal.decreases-loop-deck
+decreases-loop-deck g l = length l.deck.rows - l.deck.put
