@@ -6,9 +6,11 @@ ghost use Rattle.tif_strips.specs.Strips.{row_length};
 use crate::files::{LINE, changed};
 use crate::strips::assert_rows;
 use pr_base::{FaultKind, TagFault};
+use std::alloc::Global;
 use std::process::Abort;
 use std::test::Fail;
-use tif_image::{Bilevel, BilevelUse};
+use std::thread::Threads;
+use tif_image::{Bilevel, BilevelUse, Usage, test_image};
 use tif_strips::Shape;
 
 // Returns the shape or the fault that the tests of a file give.
@@ -45,8 +47,9 @@ fn marks(image: &Bilevel<'_>, row: [u8; 1]) -> u8
 
 // Asserts that the file with these changes has two rows of the byte AA, and that these of their pixels are
 // marked, also when it is opened again without tests.
-fn assert_image(
-    rt: &impl Abort,
+fn assert_image<T: Abort + Threads + Sync>(
+    rt: &T,
+    alloc: Global,
     changes: &[(usize, u8)],
     usage: BilevelUse,
     marked: u8,
@@ -54,7 +57,10 @@ fn assert_image(
     let bytes = changed(LINE, changes);
     let image = Bilevel::check(&bytes, usage)?;
     assert_shown(rt, &image, marked);
-    assert_shown(rt, &Bilevel::of_tested(&bytes, usage), marked);
+    let Ok(found) = test_image(rt, alloc, &bytes, Usage::Bilevel(usage)) else {
+        rt.abort()
+    };
+    assert_shown(rt, &Bilevel::of_tested(&bytes, usage, &found), marked);
     Ok(())
 }
 
@@ -74,7 +80,7 @@ fn gives_rows_and_marks(rt: HostRuntime) -> Result<(), Fail> {
         (1, BilevelUse::Mask, 0x55),
         (4, BilevelUse::Mask, 0xaa),
     ] {
-        assert_image(&rt, &[(66, photometric)], usage, marked)?;
+        assert_image(&rt, rt.alloc(), &[(66, photometric)], usage, marked)?;
     }
     Ok(())
 }
@@ -156,6 +162,12 @@ fn assert_as_whole(rt: &impl Abort, changes: &[(usize, u8)], usage: BilevelUse) 
 #[test]
 fn takes_one_sample_in_a_plane(rt: HostRuntime) -> Result<(), Fail> {
     // PlanarConfiguration 2 with one sample: one plane.
-    assert_image(&rt, &[(34, 0x1c), (42, 2)], BilevelUse::Line, 0xaa)?;
+    assert_image(
+        &rt,
+        rt.alloc(),
+        &[(34, 0x1c), (42, 2)],
+        BilevelUse::Line,
+        0xaa,
+    )?;
     Ok(())
 }

@@ -3,9 +3,11 @@
 use crate::files::{LEAST_FIRST, MOST_FIRST, PLANES, changed};
 use crate::strips::assert_rows;
 use pr_base::{FaultKind, TagFault};
+use std::alloc::Global;
 use std::process::Abort;
 use std::test::Fail;
-use tif_image::Contone;
+use std::thread::Threads;
+use tif_image::{Contone, Usage, test_image};
 use tif_strips::Shape;
 
 // Packed samples: 16 header bytes that expand to nothing.
@@ -45,10 +47,18 @@ fn assert_refused(rt: &impl Abort, changes: &[(usize, u8)], tag: u16, kind: Faul
 }
 
 // Asserts that an image 4 pixels wide has exactly these rows, also when it is opened again without tests.
-fn assert_image(rt: &impl Abort, bytes: &[u8], rows: &[[u8; 16]]) -> Result<(), TagFault> {
+fn assert_image<T: Abort + Threads + Sync>(
+    rt: &T,
+    alloc: Global,
+    bytes: &[u8],
+    rows: &[[u8; 16]],
+) -> Result<(), TagFault> {
     let image = Contone::check(bytes)?;
     assert_shown(rt, &image, rows);
-    assert_shown(rt, &Contone::of_tested(bytes), rows);
+    let Ok(found) = test_image(rt, alloc, bytes, Usage::Contone) else {
+        rt.abort()
+    };
+    assert_shown(rt, &Contone::of_tested(bytes, &found), rows);
     Ok(())
 }
 
@@ -72,7 +82,7 @@ fn takes_both_orders(rt: HostRuntime) -> Result<(), Fail> {
     let row = [0, 0, 0, 1, 0, 0, 0, 127, 0, 0, 0, 31, 0, 0, 0, 255];
     for bytes in [LEAST_FIRST, MOST_FIRST] {
         assert_eq!(rt; answer(&bytes), Ok(shape));
-        assert_image(&rt, &bytes, &[row])?;
+        assert_image(&rt, rt.alloc(), &bytes, &[row])?;
     }
     Ok(())
 }
@@ -187,7 +197,7 @@ fn takes_packed_samples(rt: HostRuntime) -> Result<(), Fail> {
         &[(54, 5), (55, 0x80), (114, 2), (130, 0x81), (131, 0xff)],
     );
     let front = packed.get(..132).expect(&rt, "a part");
-    assert_image(&rt, front, &[[255; 16]])?;
+    assert_image(&rt, rt.alloc(), front, &[[255; 16]])?;
     Ok(())
 }
 
@@ -225,6 +235,6 @@ fn takes_planes(rt: HostRuntime) -> Result<(), Fail> {
             14, 24, 34, 44, 15, 25, 35, 45, 16, 26, 36, 46, 17, 27, 37, 47,
         ],
     ];
-    assert_image(&rt, &PLANES, &rows)?;
+    assert_image(&rt, rt.alloc(), &PLANES, &rows)?;
     Ok(())
 }

@@ -4,6 +4,7 @@ ghost use Rattle.tif_strips.specs.Strips.{IsStriped, row_length};
 
 use crate::files::changed;
 use pr_base::{FaultKind, TagFault};
+use std::alloc::Global;
 use std::process::Abort;
 use std::test::Fail;
 use std::thread::Threads;
@@ -209,7 +210,8 @@ fn first_fault_of_eight_strips_is_told(rt: HostRuntime) {
 }
 
 // Whether the tests by this many threads find this fault first, or none, in the eight strips with these bytes
-// changed.
+// changed. They are not packed, and have no marks.
+#[tactic(auto, unfolding(tif_strips::specs::Marks::marks_per_strip))]
 fn finds<T: Threads + Sync>(
     rt: &T,
     threads: usize,
@@ -220,7 +222,7 @@ fn finds<T: Threads + Sync>(
     let Ok(dir) = read_dir(&bytes) else {
         return false;
     };
-    let found = match Strips::check_wide(rt, threads, &bytes, &dir, PLANES) {
+    let found = match Strips::check_wide(rt, threads, &bytes, &dir, PLANES, &mut []) {
         Ok(_strips) => None,
         Err(found) => Some(found.kind),
     };
@@ -247,4 +249,62 @@ fn first_fault_is_found_by_several_threads(rt: HostRuntime) {
             );
         }
     }
+}
+
+// One packed strip of 200 rows, each of one byte.
+const LONG: Shape = Shape {
+    length: 200,
+    rows_per_strip: 200,
+    ..BITS
+};
+
+// Asserts that rows 64, 128 and 192 of this strip have these marks, and that rows behind them are read.
+#[tactic(auto, unfolding(tif_strips::specs::Marks::marks_per_strip, tif_strips::specs::Strips::planes, tif_strips::specs::Strips::strip_count, tif_strips::specs::Strips::strips_per_plane))]
+fn assert_marks<T: Abort + Threads + Sync>(
+    rt: &T,
+    alloc: Global,
+    bytes: &[u8],
+    expected: [u32; 3],
+) -> Result<(), TagFault> {
+    let dir = read_dir(bytes)?;
+    let mut marks = [0; 3];
+    let strips = Strips::check_wide(rt, 1, bytes, &dir, LONG, &mut marks)?;
+    assert!(rt; marks == expected);
+    let Ok(extents) = strips.extents(alloc) else {
+        rt.abort()
+    };
+    let mut cursor = Strips::of_tested(bytes, LONG, extents.as_slice(), &marks).rows();
+    cursor.skip_rows(150);
+    let mut row = [0xee];
+    cursor.next_row(&mut row);
+    assert!(rt; row == [150]);
+    Ok(())
+}
+
+#[test]
+fn long_strip_is_marked(rt: HostRuntime) -> Result<(), Fail> {
+    // StripByteCounts is 400.
+    let mut bytes = Vec::from_slice(rt.alloc(), &PACKET[..30])?;
+    bytes.extend_from_slice(&[0x90, 0x01, 0x00, 0x00])?;
+    for y in 0..200 {
+        bytes.extend_from_slice(&[0x00, y])?;
+    }
+    assert_marks(&rt, rt.alloc(), bytes.as_slice(), [128, 256, 384])?;
+    Ok(())
+}
+
+// The first packet has 128 rows, so row 64 begins within it.
+#[test]
+fn row_within_a_packet_has_no_mark(rt: HostRuntime) -> Result<(), Fail> {
+    // StripByteCounts is 273.
+    let mut bytes = Vec::from_slice(rt.alloc(), &PACKET[..30])?;
+    bytes.extend_from_slice(&[0x11, 0x01, 0x00, 0x00, 0x7f])?;
+    for y in 0..128 {
+        bytes.extend_from_slice(&[y])?;
+    }
+    for y in 128..200 {
+        bytes.extend_from_slice(&[0x00, y])?;
+    }
+    assert_marks(&rt, rt.alloc(), bytes.as_slice(), [0, 129, 257])?;
+    Ok(())
 }

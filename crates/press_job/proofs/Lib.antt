@@ -8,3 +8,4 @@ pub mod PlaneLemmas
 pub mod SmallJob
 pub mod SpotlessLemmas
 pub mod UntoldLemmas
+pub mod FindingLemmas

@@ -7,6 +7,7 @@ pub mod Tests
 pub mod Verdict
 pub mod Fit
 pub mod Job
+pub mod Findings
 pub mod Tested
 pub mod Spotless
 pub mod Told

@@ -64,22 +64,30 @@ fault_where found file tag kind = if found then Some (record {
   kind = kind;
 }) else None
 
--- a crop ends within the image: its width is tested first, then its height
-abbrev pub crop_fault : ℕ → List ℕ → Option (List ℕ) → Option Misfit
-crop_fault file bytes None = None
-crop_fault file bytes (Some crop) =
-    option_or (fault_where (nat_lt (width_of bytes)
+-- a crop ends within an image of these sides: its width is tested first, then its height
+abbrev pub crop_outside : ℕ → ℕ → ℕ → Option (List ℕ) → Option Misfit
+crop_outside file width length None = None
+crop_outside file width length (Some crop) =
+    option_or (fault_where (nat_lt width
     (slice_index crop 0 + slice_index crop 2)) file image_width kind.Crop)
-    (fault_where (nat_lt (length_of bytes)
+    (fault_where (nat_lt length
     (slice_index crop 1 + slice_index crop 3)) file image_length kind.Crop)
 
--- a mask has the sides of the whole image: its width is tested first, then its length
-abbrev pub mask_fault : List (List ℕ) → List ℕ → Option ℕ → Option Misfit
-mask_fault files bytes None = None
-mask_fault files bytes (Some mask) =
+-- a crop ends within the image of a file
+abbrev pub crop_fault : ℕ → List ℕ → Option (List ℕ) → Option Misfit
+crop_fault file bytes crop = crop_outside file (width_of bytes) (length_of bytes) crop
+
+-- a mask has the sides of a whole image: its width is tested first, then its length
+abbrev pub mask_unlike : List (List ℕ) → ℕ → ℕ → Option ℕ → Option Misfit
+mask_unlike files width length None = None
+mask_unlike files width length (Some mask) =
     let own = bytes_at files mask in
-    option_or (fault_where (not (width_of own == width_of bytes)) mask image_width kind.MaskSize)
-    (fault_where (not (length_of own == length_of bytes)) mask image_length kind.MaskSize)
+    option_or (fault_where (not (width_of own == width)) mask image_width kind.MaskSize)
+    (fault_where (not (length_of own == length)) mask image_length kind.MaskSize)
+
+-- a mask has the sides of the image in a file
+abbrev pub mask_fault : List (List ℕ) → List ℕ → Option ℕ → Option Misfit
+mask_fault files bytes mask = mask_unlike files (width_of bytes) (length_of bytes) mask
 
 -- the first fault of a layer; a fault of the crop names the image, a fault of the mask names the mask
 unfoldable pub fit_fault : List (List ℕ) → LayerData → Option Misfit

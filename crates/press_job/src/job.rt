@@ -25,13 +25,14 @@ impl Model for Job {
 
     ghost Value = { JobData };
 
-    ghost view = { λ job. record { plan = job.plan; files = job.files } };
+    ghost view = { λ job. record { plan = job.plan; files = job.files.bytes } };
 
     ghost invariant = { λ job. IsJob job.plan job.files job.rows job.shape };
 }
 
 impl Job {
     ghost use Rattle.plan_json.specs.Plan.{IsPlan};
+    ghost use Rattle.press_job.specs.Findings.{HaveLayers};
     ghost use Rattle.press_job.specs.Fit.{ArePlanned};
     ghost use Rattle.press_job.specs.Job.{IsJob};
     ghost use Rattle.plan_pages.specs.Plate.{shape_of_plate};
@@ -41,7 +42,7 @@ impl Job {
     /// tests.
     pub(crate) fn of(plan: Plan, rows: RowPlan, shape: PlateShape, files: Files) -> Job
         requires { IsJob plan files rows shape }
-        ensures { result ≡ record { plan = plan; files = files } }
+        ensures { result ≡ record { plan = plan; files = files.bytes } }
     {
         Job {
             plan,
@@ -51,10 +52,11 @@ impl Job {
         }
     }
 
-    /// Lends the files, which have passed all tests.
+    /// Lends the files, which have passed all tests, with what these found for each layer.
     pub(crate) fn tested_files(&self) -> &Files
-        ensures files { result.now ≡ self.now.files }
+        ensures files { result.now.bytes ≡ self.now.files }
         ensures planned { ArePlanned self.now.plan self.now.files }
+        ensures found { HaveLayers self.now.plan result.now }
     {
         &self.files
     }

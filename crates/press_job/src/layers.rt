@@ -2,10 +2,10 @@
 ghost use Rattle.std.specs.Prelude.{◌≡◌, ◌≤◌, ℕ, None, length, option_map};
 ghost use Rattle.std.specs.Option.{ForSome};
 ghost use Rattle.page_layers.specs.Layer.{shape_of};
-ghost use Rattle.press_job.specs.Fit.{PassesTests};
+ghost use Rattle.press_job.specs.Findings.{HasFound, HasLayer};
 ghost use Rattle.press_job.specs.Layers.{art_in, bilevel_of, bytes_at, crop_of, layer_of, layers_of};
 ghost use Rattle.press_job.specs.Layers.{planned_layers};
-ghost use Rattle.press_job.specs.Tests.{fault_for, use_of};
+ghost use Rattle.press_job.specs.Tests.{use_of};
 ghost use Rattle.tif_image.specs.declared.usage.Usage.TheVariants as uses;
 ghost use Rattle.tif_image.specs.declared.usage.BilevelUse.TheVariants as usages;
 
@@ -14,7 +14,7 @@ use crate::files::Files;
 use crate::usage::layers_on;
 use page_layers::{Art, Crop, Layer, PageRows};
 use plan_json::{Plan, PlanLayer};
-use tif_image::{Bilevel, BilevelUse, Contone};
+use tif_image::{Bilevel, BilevelUse, Contone, Usage};
 
 /// Sets `rows` to a page of a job before its first row, with its layers, their images and their masks, the
 /// bottom layer first. `page` is an index into the plan's pages. The layers have passed their tests and
@@ -56,10 +56,10 @@ fn planned_on(plan: &Plan, page: usize) -> &[PlanLayer]
 
 /// Returns a layer of the plan with its image and its mask.
 fn open_layer<'j>(files: &'j Files, layer: &PlanLayer) -> Layer<'j>
-    requires { PassesTests files.now layer.now }
-    ensures { result ≡ layer_of files.now layer.now }
+    requires { HasLayer files.now layer.now }
+    ensures { result ≡ layer_of files.now.bytes layer.now }
 {
-    let art = open_art(files.bytes(layer.file), layer);
+    let art = open_art(files, layer);
     let crop = shown_part(&art, layer.crop);
     Layer {
         art,
@@ -73,24 +73,34 @@ fn open_layer<'j>(files: &'j Files, layer: &PlanLayer) -> Layer<'j>
 }
 
 /// Returns the image of a layer.
-fn open_art<'j>(bytes: &'j [u8], layer: &PlanLayer) -> Art<'j>
-    requires { fault_for (use_of layer.now) bytes.now ≡ None }
-    ensures { result ≡ art_in bytes.now layer.now }
+fn open_art<'j>(files: &'j Files, layer: &PlanLayer) -> Art<'j>
+    requires { HasFound files.now layer.now.file (use_of layer.now) }
+    ensures { result ≡ art_in (bytes_at files.now.bytes layer.now.file) layer.now }
 {
     if layer.line {
-        Art::Line(Bilevel::of_tested(bytes, BilevelUse::Line), layer.ink)
-    } else {
-        Art::Contone(Contone::of_tested(bytes))
+        let image = open_bilevel(files, layer.file, BilevelUse::Line);
+        return Art::Line(image, layer.ink);
     }
+    let found = files.found(layer.file, Usage::Contone);
+    Art::Contone(Contone::of_tested(files.bytes(layer.file), found))
+}
+
+/// Returns a file as a bilevel image for a use that it has passed.
+fn open_bilevel<'j>(files: &'j Files, file: usize, usage: BilevelUse) -> Bilevel<'j>
+    requires { HasFound files.now file (uses.Bilevel usage) }
+    ensures { result ≡ bilevel_of usage (bytes_at files.now.bytes file) }
+{
+    let found = files.found(file, Usage::Bilevel(usage));
+    Bilevel::of_tested(files.bytes(file), usage, found)
 }
 
 /// Returns the mask of a layer, if it has one.
 fn open_mask<'j>(files: &'j Files, mask: Option<usize>) -> Option<Bilevel<'j>>
-    requires { ForSome mask (λ file. fault_for (uses.Bilevel usages.Mask) (bytes_at files.now file) ≡ None) }
-    ensures { result ≡ option_map (λ file. bilevel_of usages.Mask (bytes_at files.now file)) mask }
+    requires { ForSome mask (λ file. HasFound files.now file (uses.Bilevel usages.Mask)) }
+    ensures { result ≡ option_map (λ file. bilevel_of usages.Mask (bytes_at files.now.bytes file)) mask }
 {
     match mask {
-        Some(file) => Some(Bilevel::of_tested(files.bytes(file), BilevelUse::Mask)),
+        Some(file) => Some(open_bilevel(files, file, BilevelUse::Mask)),
         None => None,
     }
 }

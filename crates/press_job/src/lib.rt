@@ -7,6 +7,7 @@
 mod band_feed;
 mod file_test;
 mod files;
+mod findings;
 mod fit;
 mod job;
 mod laws;

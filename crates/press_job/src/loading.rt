@@ -2,6 +2,7 @@
 ghost use Rattle.std.specs.Prelude.{◌≡◌, ◌+◌, ◌<◌, ◌≤◌, Some, None, IfOk, IfSome, OnOk, length, sum_by};
 ghost use Rattle.plan_json.specs.Plan.{IsPlan};
 ghost use Rattle.pr_ports.specs.Shelf.{IsHeldAt, held_at};
+ghost use Rattle.press_job.specs.Findings.{HasRecords, HaveLayers};
 ghost use Rattle.press_job.specs.Tests.{ArePassed, fault_of_file};
 ghost use Rattle.press_job.specs.Told.{TellsShelf};
 ghost use Rattle.press_job.specs.Verdict.{AreFirst, IfFile, IfShelf, IsMissing, OfFiles, WasFound};
@@ -11,11 +12,13 @@ ghost use Rattle.press_job.specs.Verdict.{verdict_before, verdict_on};
 use crate::Refusal;
 use crate::file_test::test_file;
 use crate::files::Files;
+use crate::findings::Findings;
 use plan_json::Plan;
 use pr_base::{FaultKind, FileFault, NoMemory, PathText};
 use pr_ports::{LoadFault, Shelf};
 use std::alloc::Global;
 use std::thread::Threads;
+use tif_image::TestFault;
 
 /// The largest size of one file in bytes.
 const FILE_LIMIT: u64 = 536_870_912;
@@ -77,12 +80,13 @@ fn load_file<T: Threads + Sync, H: Shelf>(
     limit: u64,
     file: usize,
     shelf: &mut H,
-) -> Result<Vec<u8>, Refusal>
+) -> Result<(Vec<u8>, Findings), Refusal>
     requires { file < length plan.now.files }
-    ensures within { IfOk result (λ bytes. length bytes.items ≤ limit) }
-    ensures bytes { IfOk result (λ bytes. IsHeldAt (H.held shelf.old)
-        (path_of plan.now folder.now file) bytes.items) }
-    ensures passed { IfOk result (λ bytes. fault_of_file plan.now file bytes.items ≡ None) }
+    ensures within { IfOk result (λ loaded. length loaded.0.items ≤ limit) }
+    ensures bytes { IfOk result (λ loaded. IsHeldAt (H.held shelf.old)
+        (path_of plan.now folder.now file) loaded.0.items) }
+    ensures passed { IfOk result (λ loaded. fault_of_file plan.now file loaded.0.items ≡ None) }
+    ensures records { IfOk result (λ loaded. HasRecords plan.now file loaded.0.items loaded.1) }
     ensures refused { IfFile result (λ fault. IfSome (H.held shelf.old) (λ held.
         verdict_on plan.now folder.now limit file (held_at held (path_of plan.now folder.now file))
         ≡ Some (Refusal.File fault))) }
@@ -99,11 +103,14 @@ fn load_file<T: Threads + Sync, H: Shelf>(
         Err(LoadFault::TooLong { .. }) => return Err(Refusal::File(long)),
         Err(LoadFault::Memory) => return Err(Refusal::Memory),
     };
-    if let Err(fault) = test_file(rt, plan, file, bytes.as_slice()) {
-        let fault = fault_of(alloc, plan, file, fault.tag, fault.kind)?;
-        return Err(Refusal::File(fault));
+    match test_file(rt, alloc, plan, file, bytes.as_slice()) {
+        Ok(found) => Ok((bytes, found)),
+        Err(TestFault::Memory) => Err(Refusal::Memory),
+        Err(TestFault::Failed(fault)) => {
+            let fault = fault_of(alloc, plan, file, fault.tag, fault.kind)?;
+            Err(Refusal::File(fault))
+        }
     }
-    Ok(bytes)
 }
 
 /// Loads all files of a plan in order, each tested before the next one is loaded.
@@ -115,13 +122,14 @@ pub(crate) fn load_files<T: Threads + Sync, H: Shelf>(
     shelf: &mut H,
 ) -> Result<Files, Refusal>
     ensures plan { OnOk result (IsPlan plan.now) }
-    ensures count { IfOk result (λ files. length files ≡ length plan.now.files) }
-    ensures passed { IfOk result (ArePassed plan.now) }
-    ensures room { IfOk result (λ files. sum_by length files ≤ 3221225472) }
+    ensures count { IfOk result (λ files. length files.bytes ≡ length plan.now.files) }
+    ensures passed { IfOk result (λ files. ArePassed plan.now files.bytes) }
+    ensures found { IfOk result (HaveLayers plan.now) }
+    ensures room { IfOk result (λ files. sum_by length files.bytes ≤ 3221225472) }
     ensures first { IfOk result (λ files. IfSome (H.held shelf.old)
-        (λ held. AreFirst plan.now folder.now held files)) }
+        (λ held. AreFirst plan.now folder.now held files.bytes)) }
     ensures sound { IfOk result (λ files. OfFiles (H.held shelf.old)
-        (λ held. AreFirst plan.now folder.now held files)) }
+        (λ held. AreFirst plan.now folder.now held files.bytes)) }
     ensures refused { IfFile result (λ fault. IfSome (H.held shelf.old)
         (λ held. verdict_before plan.now folder.now held (length plan.now.files)
         ≡ Some (Refusal.File fault))) }
@@ -136,9 +144,9 @@ pub(crate) fn load_files<T: Threads + Sync, H: Shelf>(
     let mut loaded = 0;
     for file in 0..count {
         let limit = limit_behind(loaded);
-        let bytes = load_file(rt, alloc, plan, folder, limit, file, shelf)?;
+        let (bytes, found) = load_file(rt, alloc, plan, folder, limit, file, shelf)?;
         loaded += bytes.len() as u64;
-        files.push(bytes)?;
+        files.push(bytes, found)?;
     }
     Ok(files)
 }

@@ -1,3 +1,4 @@
 pub mod Values
 pub mod Dots
 pub mod Rows
+pub mod Passes

@@ -1,13 +1,10 @@
 // Bilevel images, one sample of one bit per pixel: linework or a mask (TIFF 6.0, Sections 3 and 8).
-use crate::check::{Checked, check_image, open_image};
+use crate::check::check_image;
+use crate::found::Found;
 use crate::usage::{BilevelUse, Usage};
 use pr_base::TagFault;
 use std::marker::Model;
-use tif_dir::tag;
 use tif_strips::{RowCursor, Shape, Strips};
-
-/// PhotometricInterpretation "BlackIsZero" (Section 8).
-const BLACK_IS_ZERO: u32 = 1;
 
 /// A bilevel image that has passed all tests. Contracts see its use, its shape and the file's bytes.
 #[derive(Debug, Drop)]
@@ -32,10 +29,10 @@ impl<'a> Model for Bilevel<'a> {
 }
 
 impl<'a> Bilevel<'a> {
-    ghost use Rattle.std.specs.Prelude.{◌≡◌, ◌==◌, ◌≤◌, ◌<◌, IfErr, IfOk, None, Ok, length};
-    ghost use Rattle.std.specs.Result.{result_err};
+    ghost use Rattle.std.specs.Prelude.{◌≡◌, ◌==◌, ◌≤◌, ◌<◌, IfErr, IfOk, Ok, length};
     ghost use Rattle.pr_base.specs.Row.{row_size};
     ghost use Rattle.tif_strips.specs.Strips.{row_length};
+    ghost use Rattle.tif_image.specs.Found.{IsFound};
     ghost use Rattle.tif_image.specs.Image.{IsBilevel, bilevel_shape, is_marked, photometric};
 
     /// Tests the header and directory of a file, its fields and its strips, in this order, and returns the
@@ -46,34 +43,25 @@ impl<'a> Bilevel<'a> {
         ensures refused { IfErr result (λ fault. bilevel_shape usage bytes.now ≡ Err fault) }
     {
         let image = check_image(bytes, Usage::Bilevel(usage))?;
-        Ok(Bilevel::of(image, usage))
+        Ok(Bilevel {
+            usage,
+            shape: image.shape,
+            marks_zeros: image.marks_zeros,
+            strips: image.strips,
+        })
     }
 
-    /// Returns the image in a file that is known to pass all tests. Reads the directory and fields, no strip.
-    pub fn of_tested(bytes: &'a [u8], usage: BilevelUse) -> Bilevel<'a>
-        requires { result_err (bilevel_shape usage bytes.now) ≡ None }
+    /// Returns the image in a file that has passed the tests of this use, by what they found. Tests nothing.
+    pub fn of_tested(bytes: &'a [u8], usage: BilevelUse, found: &'a Found) -> Bilevel<'a>
+        requires { IsFound (Usage.Bilevel usage) bytes.now found.now }
         ensures image { (result.bytes ≡ bytes.now) × (result.usage ≡ usage) }
         ensures passed { bilevel_shape usage bytes.now ≡ Ok result.shape }
     {
-        Bilevel::of(open_image(bytes, Usage::Bilevel(usage)), usage)
-    }
-
-    fn of(image: Checked<'a>, usage: BilevelUse) -> Bilevel<'a>
-        requires shape { IsBilevel image.shape }
-        requires passed { bilevel_shape usage image.dir ≡ Ok image.shape }
-        requires strips { image.strips ≡ record { shape = image.shape; bytes = image.dir } }
-        ensures { result ≡ record { usage = usage; shape = image.entry.shape; bytes = image.entry.dir } }
-    {
-        // The tests have read this field already, so it is present.
-        let photometric = image
-            .dir
-            .number(tag::PHOTOMETRIC_INTERPRETATION, 0, 1)
-            .unwrap_or(0);
         Bilevel {
             usage,
-            shape: image.shape,
-            marks_zeros: photometric == BLACK_IS_ZERO,
-            strips: image.strips,
+            shape: found.shape(),
+            marks_zeros: found.marks_zeros(),
+            strips: found.strips(bytes),
         }
     }
 

@@ -1,7 +1,6 @@
 // The tests of an image in order, for every use.
-ghost use Rattle.std.specs.Prelude.{◌≡◌, IfErr, IfOk, None, Ok};
-ghost use Rattle.std.specs.Result.{result_err};
-ghost use Rattle.tif_image.specs.Image.{IsShapeFor, image_fields, ink_fields, shape_of};
+ghost use Rattle.std.specs.Prelude.{◌≡◌, ◌==◌, IfErr, IfOk, Ok};
+ghost use Rattle.tif_image.specs.Image.{IsShapeFor, image_fields, ink_fields, photometric, shape_of};
 
 use crate::fields::{bits_each, full_dot_range, no_tiles, number_among, number_within};
 use crate::usage::Usage;
@@ -18,46 +17,46 @@ const UNCOMPRESSED: u32 = 1;
 /// PackBits (Section 9).
 const PACK_BITS: u32 = 32_773;
 
+/// PhotometricInterpretation "BlackIsZero" (Section 8).
+const BLACK_IS_ZERO: u32 = 1;
+
 /// An image that has passed all tests.
 #[derive(Drop)]
 pub(crate) struct Checked<'a> {
-    pub dir: Dir<'a>,
     pub shape: Shape,
+    pub marks_zeros: bool,
     pub strips: Strips<'a>,
 }
 
 /// Tests a file's header and directory, fields and strips, in this order, and returns the first fault.
 #[tactic(auto, unfolding(crate::specs::Image::shape_of))]
 pub(crate) fn check_image<'a>(bytes: &'a [u8], usage: Usage) -> Result<Checked<'a>, TagFault>
-    ensures dir { IfOk result (λ image. image.dir ≡ bytes.now) }
     ensures passed { IfOk result (λ image. shape_of usage bytes.now ≡ Ok image.shape) }
     ensures shape { IfOk result (λ image. IsShapeFor usage image.shape) }
+    ensures zeros { IfOk result (λ image. image.marks_zeros ≡ (photometric bytes.now == 1)) }
     ensures strips { IfOk result (λ image. image.strips ≡ record { shape = image.shape; bytes = bytes.now }) }
     ensures refused { IfErr result (λ fault. shape_of usage bytes.now ≡ Err fault) }
 {
     let dir = read_dir(bytes)?;
     let shape = image_fields(&dir, usage)?;
     let strips = Strips::check(bytes, &dir, shape)?;
-    Ok(Checked { dir, shape, strips })
+    let marks_zeros = marks_zeros(&dir);
+    Ok(Checked {
+        shape,
+        marks_zeros,
+        strips,
+    })
 }
 
-/// Reads the directory and the fields of a file that is known to pass all tests. Reads no strip.
-#[tactic(auto, unfolding(crate::specs::Image::shape_of))]
-pub(crate) fn open_image<'a>(bytes: &'a [u8], usage: Usage) -> Checked<'a>
-    requires { result_err (shape_of usage bytes.now) ≡ None }
-    ensures dir { result.dir ≡ bytes.now }
-    ensures passed { shape_of usage bytes.now ≡ Ok result.shape }
-    ensures shape { IsShapeFor usage result.shape }
-    ensures strips { result.strips ≡ record { shape = result.shape; bytes = bytes.now } }
+/// Returns whether pixels with bit 0 are the marked ones. In an image that has passed the tests the field is
+/// present.
+pub(crate) fn marks_zeros(dir: &Dir<'_>) -> bool
+    ensures { result ≡ (photometric dir.now == 1) }
 {
-    let Ok(dir) = read_dir(bytes) else {
-        unreachable!()
-    };
-    let Ok(shape) = image_fields(&dir, usage) else {
-        unreachable!()
-    };
-    let strips = Strips::of_tested(bytes, &dir, shape);
-    Checked { dir, shape, strips }
+    let photometric = dir
+        .number(tag::PHOTOMETRIC_INTERPRETATION, 0, 1)
+        .unwrap_or(0);
+    photometric == BLACK_IS_ZERO
 }
 
 /// Tests the fields in order and returns the shape that they give.

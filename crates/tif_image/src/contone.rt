@@ -1,5 +1,6 @@
 // Contone images: four inks with 8 bits per sample (TIFF 6.0, Section 16, "CMYK Images").
-use crate::check::{Checked, check_image, open_image};
+use crate::check::check_image;
+use crate::found::Found;
 use crate::usage::Usage;
 use pr_base::TagFault;
 use std::marker::Model;
@@ -26,9 +27,9 @@ impl<'a> Model for Contone<'a> {
 }
 
 impl<'a> Contone<'a> {
-    ghost use Rattle.std.specs.Prelude.{◌≡◌, ◌≤◌, ◌*◌, IfErr, IfOk, None, Ok};
-    ghost use Rattle.std.specs.Result.{result_err};
+    ghost use Rattle.std.specs.Prelude.{◌≡◌, ◌≤◌, ◌*◌, IfErr, IfOk, Ok};
     ghost use Rattle.tif_strips.specs.Strips.{row_length};
+    ghost use Rattle.tif_image.specs.Found.{IsFound};
     ghost use Rattle.tif_image.specs.Image.{contone_shape, IsContone};
 
     /// Tests a file's header and directory, fields and strips, in this order, and returns the first fault.
@@ -38,27 +39,21 @@ impl<'a> Contone<'a> {
         ensures refused { IfErr result (λ fault. contone_shape bytes.now ≡ Err fault) }
     {
         let image = check_image(bytes, Usage::Contone)?;
-        Ok(Contone::of(image))
+        Ok(Contone {
+            shape: image.shape,
+            strips: image.strips,
+        })
     }
 
-    /// Returns the image in a file that is known to pass all tests. Reads the directory and fields, no strip.
-    pub fn of_tested(bytes: &'a [u8]) -> Contone<'a>
-        requires { result_err (contone_shape bytes.now) ≡ None }
+    /// Returns the image in a file that has passed the tests, by what they found. Tests nothing.
+    pub fn of_tested(bytes: &'a [u8], found: &'a Found) -> Contone<'a>
+        requires { IsFound Usage.Contone bytes.now found.now }
         ensures bytes { result.bytes ≡ bytes.now }
         ensures passed { contone_shape bytes.now ≡ Ok result.shape }
     {
-        Contone::of(open_image(bytes, Usage::Contone))
-    }
-
-    fn of(image: Checked<'a>) -> Contone<'a>
-        requires shape { IsContone image.shape }
-        requires passed { contone_shape image.dir ≡ Ok image.shape }
-        requires strips { image.strips ≡ record { shape = image.shape; bytes = image.dir } }
-        ensures { result ≡ image.entry.strips }
-    {
         Contone {
-            shape: image.shape,
-            strips: image.strips,
+            shape: found.shape(),
+            strips: found.strips(bytes),
         }
     }
 

@@ -2,6 +2,7 @@ pub mod Expansion
 pub mod Nothings
 pub mod Packing
 pub mod Pieces
+pub mod PacketOffsets
 pub mod Few
 pub mod Fronts
 pub mod Pairs

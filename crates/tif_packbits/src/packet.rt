@@ -1,5 +1,5 @@
 // One packet: a header byte, then a literal's bytes or the byte to repeat.
-ghost use Rattle.std.specs.Prelude.{◌≡◌, ◌<◌, ◌++◌, ◌==◌, length, min, take, drop};
+ghost use Rattle.std.specs.Prelude.{◌≡◌, ◌-◌, ◌<◌, ◌↔◌, ◌++◌, ◌==◌, IsTrue, [], length, min, take, drop};
 ghost use Rattle.std.specs.List.{prefix_len};
 ghost use Rattle.tif_packbits.specs.Packbits.{expansion};
 ghost use Rattle.tif_packbits.specs.Packet.{left_of};
@@ -27,6 +27,7 @@ pub fn first_packet(packed: &[u8]) -> (Packet<'_>, &[u8])
     requires { 0 < length packed.now }
     ensures whole { expansion packed.now ≡ left_of result.0 ++ expansion result.1.now }
     ensures shorter { length result.1.now < length packed.now }
+    ensures behind { result.1.now ≡ drop (length packed.now - length result.1.now) packed.now }
 {
     let header = packed[0];
     let data = &packed[1..];
@@ -81,6 +82,16 @@ impl<'a> Packet<'a> {
                 *self = Packet::Repeat(byte, count - n);
                 n
             }
+        }
+    }
+
+    /// Returns whether no byte of the packet remains.
+    pub fn is_over(&self) -> bool
+        ensures { IsTrue result ↔ (left_of self.now ≡ []) }
+    {
+        match *self {
+            Packet::Literal(data) => data.is_empty(),
+            Packet::Repeat(_, count) => count == 0,
         }
     }
 

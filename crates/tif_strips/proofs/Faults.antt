@@ -1,18 +1,16 @@
 -- The tests of the fields and of the strips, in order.
 use Rattle.std.proofs.Common.{◌≡◌, ℕ, zero, suc, ◌+◌, ◌<◌, ◌≤◌, Bool, true, false, nat_lt, if◌then◌else◌, List, [], ◌∷◌, length, map, slice_index, Option, Some, None, refl, sym, ap, ◌∙◌, arith, zero-add}
 use Rattle.std.specs.List.{range_with_len}
-use Rattle.std.specs.Result.{result_unwrap_or}
 use Rattle.std.proofs.lemmas.Bool.Decides.{nat_tests}
 use Rattle.pr_base.specs.declared.fault.FaultKind.TheVariants.{StripPlace, Short}
 use Rattle.pr_base.specs.declared.fault.TagFault.{TagFault}
 use Rattle.tif_dir.specs.Directory.{fault_at}
 use Rattle.tif_dir.specs.Names.{strip_byte_counts, strip_offsets}
-use Rattle.tif_dir.proofs.Fields.{number_at-present}
 use Rattle.tif_strips.specs.declared.shape.Shape.{Shape}
 use Rattle.tif_strips.specs.declared.strip.Strip.{Strip}
 use Rattle.tif_strips.specs.Strips.{Image, fault_of_field, fault_of_strip, first_fault, needed_length, samples_in, stored_bytes, strip_count, strip_fault, strip_offset, strip_size}
 use Rattle.tif_strips.specs.Strip.{bytes_at, fault_in, fault_of, strip_of}
-use Rattle.tif_strips.specs.Table.{HasTable, field_fault}
+use Rattle.tif_strips.specs.Table.{field_fault}
 
 -- ---- lists of tests
 
@@ -121,25 +119,6 @@ strip_fault-none shape bytes fields each =
     ∙ first_fault-all (fault_of_strip shape bytes) 0 (strip_count shape) (λ k below. ap (fault_of_strip shape bytes) (zero-add k) ∙ each k below)
 
 -- ---- the test of a strip
-
--- the values of each field for a strip
-pub strip_offset-known : (image : Image) (offsets sizes : List ℕ) (strip : ℕ) → HasTable image offsets sizes → strip < strip_count image.shape
-    → strip_offset image.shape image.bytes strip ≡ slice_index offsets strip
-unfolding strip_offset
-strip_offset-known image offsets sizes strip table below =
-    ap (λ value. result_unwrap_or value 0) (number_at-present image.bytes strip_offsets strip (strip_count image.shape) offsets table.offsets_are table.offsets_enough)
-
-pub strip_size-known : (image : Image) (offsets sizes : List ℕ) (strip : ℕ) → HasTable image offsets sizes → strip < strip_count image.shape
-    → strip_size image.shape image.bytes strip ≡ slice_index sizes strip
-unfolding strip_size
-strip_size-known image offsets sizes strip table below =
-    ap (λ value. result_unwrap_or value 0) (number_at-present image.bytes strip_byte_counts strip (strip_count image.shape) sizes table.sizes_are table.sizes_enough)
-
--- the values of both fields for a strip
-pub fields_known : (image : Image) (offsets sizes : List ℕ) (strip : ℕ) → HasTable image offsets sizes → strip < strip_count image.shape
-    → strip_of image.shape image.bytes strip ≡ record { offset = slice_index offsets strip; size = slice_index sizes strip; needed = needed_length image.shape strip }
-fields_known image offsets sizes strip table below =
-    rw (strip_offset-known image offsets sizes strip table below, strip_size-known image offsets sizes strip table below) refl
 
 -- the fault of strip i, by the strip's offset, size and needed bytes
 pub fault_of_strip-is : (shape : Shape) (bytes : List ℕ) (i : ℕ) → fault_of_strip shape bytes i ≡ fault_of shape.packed bytes (strip_of shape bytes i)

@@ -1,5 +1,6 @@
 pub mod Shapes
 pub mod Faults
+pub mod Marks
 pub mod Rows
 pub mod Fours
 pub mod Inks
@@ -7,3 +8,4 @@ pub mod Ahead
 pub mod Places
 pub mod Walks
 pub mod Worked
+pub mod Tables

@@ -1,10 +1,11 @@
 -- The rows of a strip that a cursor has still to produce, from the strip's start to its end.
-use Rattle.std.proofs.Common.{◌≡◌, ◌≢◌, ℕ, zero, suc, ◌+◌, ◌-◌, ◌*◌, ◌/◌, ◌<◌, ◌≤◌, List, [], ◌∷◌, length, map, take, drop, get_or, slice_index, None, inl, inr, refl, sym, ap, ◌∙◌, zero-add, arith}
+use Rattle.std.proofs.Common.{◌≡◌, ◌≢◌, ℕ, zero, suc, ◌+◌, ◌-◌, ◌*◌, ◌/◌, ◌%◌, ◌<◌, ◌≤◌, List, [], ◌∷◌, length, map, take, drop, get_or, slice_index, None, inl, inr, refl, sym, ap, ◌∙◌, zero-add, arith}
+use Rattle.std.proofs.Math.Nat.{mul-le-mul_right}
 use Rattle.std.proofs.lemmas.Bool.{cases_eq}
 use Rattle.std.specs.List.{range_with_len}
 use Rattle.std.proofs.lemmas.List.{drop-drop, ext_get_or, get_or-drop, get_or-map, get_or-take, length-drop, length-map, length-take-le}
 use Rattle.std.proofs.lemmas.List.FromFn.{get_or-map-range_with_len, length-map-range_with_len}
-use Rattle.std.proofs.lemmas.Nat.{div-mul-add, mod-mul-add}
+use Rattle.std.proofs.lemmas.Nat.{div-add-mod', div-mul-add, mod_below, mod-mul-add}
 use Rattle.tif_strips.specs.declared.place.Place.{Place}
 use Rattle.tif_strips.specs.declared.planes.Planes.{Planes}
 use Rattle.tif_strips.specs.declared.shape.Shape.{Shape}
@@ -90,6 +91,64 @@ IsPlace-begin image place begun rows is none left samples rows_are =
       },
       omega arith,
     )
+
+-- the strip at the end of another has rows
+pub begun_rows : (image : Image) (place : Place) → IsPlace image place → place.rows ≡ 0 → place.next < image.shape.length → 0 < strip_rows image.shape place.begun
+unfolding strip_rows
+begun_rows image place is none left =
+    let at = at_strip_end image place is none left in
+    let one = is.striped.rows_per_strip in
+    omega arith
+
+-- inside a strip, the rows behind those that were passed come first
+pub IsPlace-inside : (image : Image) (place : Place) (y strip above rows : ℕ) (begun : Planes) → IsPlace image place → y < image.shape.length → strip ≡ y / image.shape.rows_per_strip → above ≡ y % image.shape.rows_per_strip
+    → rows ≡ strip_rows image.shape strip - above → aheads_of begun ≡ map (drop (above * plane_row_length image.shape)) (strip_samples image.shape image.bytes strip)
+    → IsPlace image (record { next = y; begun = strip + 1; rows = rows; planes = begun })
+unfolding strip_rows
+IsPlace-inside image place y strip above rows begun is below strip_is above_is rows_is samples =
+    let shape = image.shape in
+    let sample = λ (plane : ℕ). samples_in shape.packed (stored_bytes shape image.bytes (plane * strips_per_plane shape + strip)) in
+    let some : 0 < shape.rows_per_strip = omega (arith, is.striped.rows_per_strip) in
+    let whole : strip * shape.rows_per_strip + above ≡ y = ap (λ n. n * shape.rows_per_strip + above) strip_is ∙ ap (λ n. y / shape.rows_per_strip * shape.rows_per_strip + n) above_is ∙ div-add-mod' y shape.rows_per_strip in
+    let small : above < shape.rows_per_strip = rw above_is (mod_below y shape.rows_per_strip some) in
+    let within : strip < strips_per_plane shape = rw strip_is (strip_of_row shape y is.striped below) in
+    let next : (strip + 1) * shape.rows_per_strip ≡ strip * shape.rows_per_strip + shape.rows_per_strip = omega arith in
+    let fits : above ≤ strip_rows shape strip = omega arith in
+    record {
+      striped = is.striped;
+      passed = is.passed;
+      to_strip_end = omega arith;
+      all_planes = λ more. ap length samples ∙ length-map (strip_samples shape image.bytes strip) (drop (above * plane_row_length shape)) ∙ length-map-range_with_len sample 0 (planes shape);
+      each = λ plane known.
+          let count : length (strip_samples shape image.bytes strip) ≡ planes shape = length-map-range_with_len sample 0 (planes shape) in
+          let own : get_or (aheads_of begun) plane [] ≡ drop (above * plane_row_length shape) (sample plane) =
+          ap (λ lists. get_or lists plane []) samples ∙ get_or-map (drop (above * plane_row_length shape)) (strip_samples shape image.bytes strip) plane [] [] (omega arith)
+          ∙ ap (drop (above * plane_row_length shape)) (get_or-map-range_with_len sample 0 (planes shape) plane plane [] known (zero-add plane)) in
+          let later = HoldsRows-later image plane (strip * shape.rows_per_strip) (strip_rows shape strip) above (sample plane) (HoldsRows-begin image plane strip is.striped is.passed known within) fits in
+          rw (own, rows_is, ← whole) later;
+    }
+
+-- behind the last row of the image no row is left of the strips that began
+pub IsPlace-end : (image : Image) (place : Place) (y strip above : ℕ) (any : Planes) → IsPlace image place → y ≡ image.shape.length → strip ≡ y / image.shape.rows_per_strip
+    → IsPlace image (record { next = y; begun = strip + 1; rows = 0; planes = any })
+IsPlace-end image place y strip above any is end strip_is =
+    let rows = image.shape.rows_per_strip in
+    let some : 0 < rows = omega (arith, is.striped.rows_per_strip) in
+    let whole = div-add-mod' y rows in
+    let small = mod_below y rows some in
+    let next : (strip + 1) * rows ≡ y / rows * rows + rows = ap (λ n. (n + 1) * rows) strip_is ∙ omega arith in
+    record {
+      striped = is.striped;
+      passed = is.passed;
+      to_strip_end = omega arith;
+      all_planes = λ more. absurd (omega arith);
+      each = λ plane known. record { enough = omega arith; each = λ k under. absurd (omega arith) };
+    }
+
+-- at the first sample of a strip none are passed
+pub map-drop-none : (size : ℕ) (lists : List (List ℕ)) → map (drop (0 * size)) lists ≡ lists
+map-drop-none size [] = refl
+map-drop-none size (list ∷ rest) = (let none : 0 * size ≡ 0 = omega arith in ap (λ n. drop n list ∷ map (drop (0 * size)) rest) none ∙ ap (λ back. list ∷ back) (map-drop-none size rest))
 
 -- `count` rows later
 pub IsPlace-later : (image : Image) (place : Place) (count len : ℕ) (later : Planes) → IsPlace image place → 0 < place.rows → count ≤ place.rows
@@ -192,16 +251,25 @@ ink_part-place image place row first count ink into is some row_is four small wi
     ∙ image_row-ink shape image.bytes place.next (first + x) ink more (omega arith) small
     ∙ sym (get_or-map-range_with_len sample first count x (first + x) 0 inside refl))
 
--- the samples of strip i of each of four planes
-pub strip_samples-four : (shape : Shape) (bytes : List ℕ) (i strips : ℕ) (cyan magenta yellow black : List ℕ) → planes shape ≡ 4 → strips ≡ strips_per_plane shape
-    → cyan ≡ samples_in shape.packed (stored_bytes shape bytes i) → magenta ≡ samples_in shape.packed (stored_bytes shape bytes (strips + i))
-    → yellow ≡ samples_in shape.packed (stored_bytes shape bytes (2 * strips + i)) → black ≡ samples_in shape.packed (stored_bytes shape bytes (3 * strips + i))
-    → cyan ∷ magenta ∷ yellow ∷ black ∷ [] ≡ strip_samples shape bytes i
-strip_samples-four shape bytes i strips cyan magenta yellow black four per_plane c m y k =
-    let own = λ (place : ℕ). samples_in shape.packed (stored_bytes shape bytes place) in
-    let n = strips_per_plane shape in
-    let c_is : cyan ≡ own (0 * n + i) = c ∙ ap own (omega arith) in
-    let m_is : magenta ≡ own (1 * n + i) = m ∙ ap own (omega arith) in
-    let y_is : yellow ≡ own (2 * n + i) = y ∙ ap own (omega arith) in
-    let k_is : black ≡ own (3 * n + i) = k ∙ ap own (omega arith) in
-    rw (four, c_is, m_is, y_is, k_is) refl
+-- the samples from a row of strip i on in each of four planes
+pub strip_samples-four : (shape : Shape) (bytes : List ℕ) (i n : ℕ) (cyan magenta yellow black : List ℕ) → planes shape ≡ 4
+    → cyan ≡ drop n (samples_in shape.packed (stored_bytes shape bytes (0 * strips_per_plane shape + i))) → magenta ≡ drop n (samples_in shape.packed (stored_bytes shape bytes (1 * strips_per_plane shape + i)))
+    → yellow ≡ drop n (samples_in shape.packed (stored_bytes shape bytes (2 * strips_per_plane shape + i))) → black ≡ drop n (samples_in shape.packed (stored_bytes shape bytes (3 * strips_per_plane shape + i)))
+    → cyan ∷ magenta ∷ yellow ∷ black ∷ [] ≡ map (drop n) (strip_samples shape bytes i)
+strip_samples-four shape bytes i n cyan magenta yellow black four c m y k = rw (four, c, m, y, k) refl
+
+-- and in the only plane
+pub strip_samples-one : (shape : Shape) (bytes : List ℕ) (i n : ℕ) (own : List ℕ) → planes shape ≡ 1 → own ≡ drop n (samples_in shape.packed (stored_bytes shape bytes (0 * strips_per_plane shape + i)))
+    → own ∷ [] ≡ map (drop n) (strip_samples shape bytes i)
+strip_samples-one shape bytes i n own one is = rw (one, is) refl
+
+-- the rows above a row of a strip that passes are among its samples
+pub above_enough : (shape : Shape) (bytes : List ℕ) (plane i above : ℕ) → strip_fault shape bytes ≡ None → plane < planes shape → i < strips_per_plane shape → above < strip_rows shape i
+    → above * plane_row_length shape ≤ length (samples_in shape.packed (stored_bytes shape bytes (plane * strips_per_plane shape + i)))
+above_enough shape bytes plane i above passed known below under =
+    let strip = plane * strips_per_plane shape + i in
+    let needed = needed_length-in_plane shape plane i below in
+    let enough = strip_enough-passed shape bytes strip (fault_of_strip-passed shape bytes strip passed (strip_number shape plane i known below)) in
+    let fits : above ≤ strip_rows shape i = omega arith in
+    let scaled : above * plane_row_length shape ≤ strip_rows shape i * plane_row_length shape = mul-le-mul_right (plane_row_length shape) fits in
+    omega arith

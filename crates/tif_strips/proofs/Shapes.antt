@@ -45,6 +45,11 @@ strip_rows-above shape y j below above =
     let scaled : (j + 1) * shape.rows_per_strip ≤ y / shape.rows_per_strip * shape.rows_per_strip = mul-le-mul_right shape.rows_per_strip next in
     omega arith
 
+-- a row of a strip is a row of an image
+pub strip_rows-within : (shape : Shape) (i above : ℕ) → IsStriped shape → above < strip_rows shape i → above ≤ 65535
+unfolding strip_rows
+strip_rows-within shape i above striped below = omega (arith, striped.length.1)
+
 -- strip i of a plane is among all strips
 pub strip_number : (shape : Shape) (plane i : ℕ) → plane < planes shape → i < strips_per_plane shape → plane * strips_per_plane shape + i < strip_count shape
 unfolding strip_count

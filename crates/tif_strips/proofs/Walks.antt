@@ -68,3 +68,22 @@ both_tested image first count half one other found within one_is other_is found_
     let all : half + (count - half) ≡ count = omega arith in
     found_is ∙ ap (λ o. option_or o other) one_is ∙ ap (option_or (fault_among image first half)) other_is
     ∙ sym (among-or image first half (count - half)) ∙ ap (fault_among image first) all
+
+-- no strips have no fault
+pub among-nothing : (image : Image) (first : ℕ) → fault_among image first 0 ≡ None
+unfolding fault_among
+among-nothing image first = refl
+
+-- the fault of one strip
+pub among-one : (image : Image) (i : ℕ) → fault_among image i 1 ≡ fault_of_strip image.shape image.bytes i
+unfolding fault_among
+among-one image i = alone (fault_of_strip image.shape image.bytes i)
+  where
+    alone : (o : Option TagFault) → option_or o None ≡ o
+    alone None = refl
+    alone (Some fault) = refl
+
+-- where nothing was found in either part, nothing was found
+pub both_none : (one other : Option TagFault) → option_or one other ≡ None → (one ≡ None) × (other ≡ None)
+both_none None other none = (refl, none)
+both_none (Some fault) other none = absurd (cc)

@@ -1,5 +1,8 @@
 pub mod Strips
 pub mod Strip
+pub mod Extents
+pub mod Marks
+pub mod Marking
 pub mod Table
 pub mod Planes
 pub mod Place

@@ -5,6 +5,7 @@ ghost use Rattle.tif_strips.specs.Strips.{ink_part, planes, strip_fault};
 
 use crate::planes::Planes;
 use crate::samples::Samples;
+use crate::shape::MARK_ROWS;
 use crate::strip_table::StripTable;
 
 /// A position before a row, in the current strip of each plane. Reading in order starts each strip once.
@@ -104,11 +105,22 @@ impl<'a> Place<'a> {
         ensures place { IsPlace table.now self.new }
         ensures next { self.new.next ≡ self.old.next + count }
     {
-        if count < self.rows {
+        if count < self.rows && !self.leaps(table, count) {
             self.pass(table, count);
         } else {
             self.stand_before(table, self.next + count);
         }
+    }
+
+    // Returns whether a mark in each plane leads to the next row but `count`, in the current strip, sooner
+    // than going over the rows before it.
+    fn leaps(&self, table: &StripTable<'a>, count: u32) -> bool
+        requires place { IsPlace table.now self.now }
+        requires rows { count < self.now.rows }
+    {
+        let y = self.next + count;
+        let strip_rows = table.shape().rows_per_strip;
+        MARK_ROWS <= count && table.is_marked(y / strip_rows, y % strip_rows)
     }
 
     // Moves to just before row `y`, in the strip that contains it.
@@ -118,15 +130,21 @@ impl<'a> Place<'a> {
         ensures place { IsPlace table.now self.new }
         ensures next { self.new.next ≡ y }
     {
-        let strip_rows = table.shape().rows_per_strip;
-        self.begun = y / strip_rows;
+        let shape = table.shape();
+        let strip = y / shape.rows_per_strip;
+        let above = y % shape.rows_per_strip;
+        self.next = y;
         self.rows = 0;
-        self.next = self.begun * strip_rows;
-        let above = y % strip_rows;
-        if above > 0 {
-            self.enter(table);
-            self.pass(table, above);
+        self.begun = strip;
+        if above == 0 {
+            return;
         }
+        self.begun += 1;
+        if y == shape.length {
+            return;
+        }
+        self.planes = table.begin(strip, above);
+        self.rows = shape.strip_rows(strip) - above;
     }
 
     // Skips the next `count` rows of the current strip.
@@ -152,7 +170,7 @@ impl<'a> Place<'a> {
         ensures next { self.new.next ≡ self.old.next }
     {
         if self.rows == 0 {
-            self.planes = table.begin(self.begun);
+            self.planes = table.begin(self.begun, 0);
             self.rows = table.shape().strip_rows(self.begun);
             self.begun += 1;
         }

@@ -1,7 +1,10 @@
 // The samples of a strip, in order.
-ghost use Rattle.std.specs.Prelude.{◌≡◌, ◌+◌, ◌≤◌, ◌↔◌, IsTrue, length, take, drop};
+ghost use Rattle.std.specs.Prelude.{◌≡◌, ◌≢◌, ◌+◌, ◌*◌, ◌/◌, ◌≤◌, ◌↔◌, IsTrue, length, take, drop};
+ghost use Rattle.tif_strips.specs.Marks.{HasMarks, IsMark};
 ghost use Rattle.tif_strips.specs.Strips.{samples_in};
 
+use crate::marking::{mark_packed, unmark};
+use crate::shape::MARK_ROWS;
 use tif_packbits::Unpacker;
 
 /// The samples of a strip still to come. Packed samples are expanded on demand.
@@ -11,8 +14,8 @@ pub(crate) enum Samples<'a> {
     Packed(PackedSamples<'a>),
 }
 
-/// Packed samples. Those that are skipped are only counted until samples behind them are read, so nothing of a
-/// strip is gone over behind the last sample that is wanted.
+/// Packed samples. Those that are skipped are only counted until samples behind them are read, so nothing of
+/// a strip is gone over behind the last sample that is wanted.
 #[derive(Debug, Drop)]
 pub(crate) struct PackedSamples<'a> {
     unpacker: Unpacker<'a>,
@@ -35,6 +38,31 @@ impl<'a> Samples<'a> {
         } else {
             Samples::Plain(stored)
         }
+    }
+
+    /// Starts at row `above` of a strip whose rows are `row` bytes long: from the mark of the last marked row
+    /// above it, if that is not 0, or else from the first sample.
+    pub(crate) fn of_row(
+        stored: &'a [u8],
+        packed: bool,
+        mark: usize,
+        row: usize,
+        above: u32,
+    ) -> Samples<'a>
+        requires mark { IsMark stored.now (above / 64 * (64 * row)) mark }
+        requires packed { mark ≢ 0 → IsTrue packed }
+        requires short { (row ≤ 262140) × (above ≤ 65535) }
+        requires enough { above * row ≤ length (samples_in packed stored.now) }
+        ensures { ahead_of result ≡ drop (above * row) (samples_in packed stored.now) }
+    {
+        if mark == 0 {
+            let mut samples = Samples::new(stored, packed);
+            samples.skip(above as usize * row);
+            return samples;
+        }
+        let mut samples = Samples::new(&stored[mark..], packed);
+        samples.skip((above % MARK_ROWS) as usize * row);
+        samples
     }
 
     /// Fills `into` with the next samples.
@@ -120,13 +148,15 @@ fn pass(unpacker: &mut Unpacker<'_>, n: usize)
     };
 }
 
-/// Returns whether these bytes hold at least `n` bytes of samples.
-pub(crate) fn reach(stored: &[u8], packed: bool, n: usize) -> bool
-    ensures { IsTrue result ↔ (n ≤ length (samples_in packed stored.now)) }
+/// Returns whether these bytes hold at least `n` bytes of samples. If so, sets the marks of the samples each
+/// `step` bytes.
+pub(crate) fn reach(stored: &[u8], packed: bool, n: usize, step: usize, marks: &mut [u32]) -> bool
+    ensures enough { IsTrue result ↔ (n ≤ length (samples_in packed stored.now)) }
+    ensures marks { IsTrue result → HasMarks stored.now step marks.new }
 {
     if packed {
-        Unpacker::new(stored).skip(n as u64).is_ok()
-    } else {
-        n <= stored.len()
+        return mark_packed(stored, n, step, marks);
     }
+    unmark(marks);
+    n <= stored.len()
 }

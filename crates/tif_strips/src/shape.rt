@@ -1,10 +1,14 @@
 // The shape of an image: what the fields of its directory specify about its rows and strips.
-ghost use Rattle.std.specs.Prelude.{◌≡◌, ◌≤◌, ◌<◌};
+ghost use Rattle.std.specs.Prelude.{◌≡◌, ◌+◌, ◌*◌, ◌≤◌, ◌<◌};
 ghost use Rattle.tif_strips.specs.Strips.{IsStriped, needed_length, plane_part_length, plane_place};
 ghost use Rattle.tif_strips.specs.Strips.{plane_row_length, planes, strip_count, strip_rows};
 ghost use Rattle.tif_strips.specs.Strips.{strips_per_plane};
+ghost use Rattle.tif_strips.specs.Marks.{marks_per_strip};
 
 use pr_base::row_bytes;
+
+/// The rows of a strip from one mark to the next.
+pub(crate) const MARK_ROWS: u32 = 64;
 
 /// The shape of an image. Width and length are in pixels. A contone image has four 8-bit samples per pixel,
 /// a bilevel one has a single 1-bit sample.
@@ -98,6 +102,28 @@ impl Shape {
         self.length.div_ceil(self.rows_per_strip)
     }
 
+    // Returns the number of marks of a strip: of its rows 64, 128 and so on, if it is packed and as long.
+    #[tactic(auto, unfolding(crate::specs::Marks::marks_per_strip))]
+    pub(crate) fn marks_per_strip(&self) -> usize
+        requires { IsStriped self.now }
+        ensures marks { result ≡ marks_per_strip self.now }
+        ensures within { result ≤ 1023 }
+    {
+        if !self.packed {
+            return 0;
+        }
+        let rows = self.rows_per_strip.min(self.length);
+        ((rows - 1) / MARK_ROWS) as usize
+    }
+
+    /// Returns the number of marks that an image has room for: `Strips::check_wide` sets them.
+    pub fn mark_count(&self) -> usize
+        requires { IsStriped self.now }
+        ensures { result ≡ strip_count self.now * marks_per_strip self.now }
+    {
+        self.strip_count() as usize * self.marks_per_strip()
+    }
+
     // Returns the number of strips in all planes.
     #[tactic(auto, unfolding(crate::specs::Strips::strip_count))]
     pub(crate) fn strip_count(&self) -> u32
@@ -105,6 +131,18 @@ impl Shape {
         ensures count { result ≡ strip_count self.now }
     {
         self.planes() * self.strips_per_plane()
+    }
+
+    // Returns the number of strip `i` of a plane among the strips of all planes.
+    #[tactic(auto, using(crate::proofs::Shapes::numbers))]
+    pub(crate) fn strip_number(&self, plane: u32, i: u32) -> u32
+        requires striped { IsStriped self.now }
+        requires plane { plane < planes self.now }
+        requires within { i < strips_per_plane self.now }
+        ensures number { result ≡ plane * strips_per_plane self.now + i }
+        ensures within { result < strip_count self.now }
+    {
+        plane * self.strips_per_plane() + i
     }
 
     // Returns the number of rows in strip `i` of a plane.

@@ -1,5 +1,5 @@
 // One strip of a file: its offset, its stored size, and the size of its samples.
-ghost use Rattle.std.specs.Prelude.{◌≡◌};
+ghost use Rattle.std.specs.Prelude.{◌≡◌, IfSome, OnOk};
 ghost use Rattle.std.specs.Option.{option_copied};
 ghost use Rattle.std.specs.Result.{result_err};
 ghost use Rattle.tif_dir.specs.Directory.{fault_at};
@@ -20,6 +20,7 @@ pub(crate) struct Strip {
 }
 
 impl Strip {
+    ghost use Rattle.tif_strips.specs.Marks.{HasMarks};
     ghost use Rattle.tif_strips.specs.Strip.{bytes_at, fault_of};
 
     /// Returns the stored bytes of the strip, or `None` if they extend past the end of the file.
@@ -34,14 +35,23 @@ impl Strip {
         Some(&bytes[offset..offset + size])
     }
 
-    /// Tests that the strip is within the file and has the samples that it needs.
-    pub(crate) fn check(&self, bytes: &[u8], packed: bool) -> Result<(), TagFault>
-        ensures { result_err result ≡ fault_of packed bytes.now self.now }
+    /// Tests that the strip is within the file and has the samples that it needs, and marks where they begin
+    /// each `step` bytes.
+    pub(crate) fn check(
+        &self,
+        bytes: &[u8],
+        packed: bool,
+        step: usize,
+        marks: &mut [u32],
+    ) -> Result<(), TagFault>
+        ensures fault { result_err result ≡ fault_of packed bytes.now self.now }
+        ensures marks { OnOk result
+            (IfSome (bytes_at bytes.now self.now) (λ stored. HasMarks stored step marks.new)) }
     {
         let Some(stored) = self.stored(bytes) else {
             return Err(fault(FaultKind::StripPlace));
         };
-        if !reach(stored, packed, self.needed) {
+        if !reach(stored, packed, self.needed, step, marks) {
             return Err(fault(FaultKind::Short));
         }
         Ok(())

@@ -1,25 +1,31 @@
 // The locations of an image's strips in its file.
-ghost use Rattle.std.specs.Prelude.{◌≡◌, ◌<◌, ◌≤◌, IfOk, length, Ok, Some, None};
+ghost use Rattle.std.specs.Prelude.{◌≡◌, ◌≢◌, ◌+◌, ◌*◌, ◌/◌, ◌<◌, ◌≤◌, IfOk, IfSome, IsTrue, OnOk};
+ghost use Rattle.std.specs.Prelude.{Ok, Some, None, drop, length, map};
 ghost use Rattle.std.specs.Result.{result_err};
 ghost use Rattle.tif_dir.specs.Directory.{fault_at, field_of, number_at};
 ghost use Rattle.tif_dir.specs.Table.{default_of};
 
 use crate::Shape;
+use crate::extents::{Extent, Extents};
+use crate::marking::mark_at;
 use crate::planes::{Inks, Planes};
 use crate::samples::Samples;
+use crate::shape::MARK_ROWS;
 use crate::strip::Strip;
-use pr_base::{FaultKind, TagFault};
+use pr_base::{FaultKind, NoMemory, TagFault};
+use std::alloc::Global;
 use std::marker::Model;
 use tif_dir::tag::{STRIP_BYTE_COUNTS, STRIP_OFFSETS};
 use tif_dir::{Dir, Field};
 
-/// The offsets and sizes of an image's strips, at least one of each per strip. Contracts see the image.
+/// The extents of an image's strips in its file, and their marks. Contracts see the image.
 #[derive(Debug, Drop)]
 pub(crate) struct StripTable<'a> {
     bytes: &'a [u8],
     shape: Shape,
-    offsets: Field<'a>,
-    sizes: Field<'a>,
+    extents: Extents<'a>,
+    /// The marks of each strip in turn, or none.
+    marks: &'a [u32],
 }
 
 impl<'a> Model for StripTable<'a> {
@@ -30,17 +36,20 @@ impl<'a> Model for StripTable<'a> {
 
     ghost view = { λ t. record { shape = t.shape; bytes = t.bytes.now } };
 
-    ghost invariant = { λ t. HasTable (record { shape = t.shape; bytes = t.bytes.now }) t.offsets t.sizes };
+    ghost invariant = { λ t.
+        HasTable (record { shape = t.shape; bytes = t.bytes.now }) t.extents t.marks.now };
 }
 
 impl<'a> StripTable<'a> {
     ghost use Rattle.tif_strips.specs.Strips.{IsStriped, samples_in, stored_bytes, strip_count, strip_fault};
-    ghost use Rattle.tif_strips.specs.Strips.{strips_per_plane};
+    ghost use Rattle.tif_strips.specs.Strips.{plane_row_length, planes, strip_rows, strips_per_plane};
+    ghost use Rattle.tif_strips.specs.Marks.{HasMarks, IsMark, MarksOf};
     ghost use Rattle.tif_strips.specs.Table.{field_fault};
-    ghost use Rattle.tif_strips.specs.Strip.{fault_of, strip_of};
+    ghost use Rattle.tif_strips.specs.Strip.{bytes_at, fault_of, strip_of};
+    ghost use Rattle.tif_strips.specs.Extents.{extents_of};
     ghost use Rattle.tif_strips.specs.Planes.{ahead_of, aheads_of, strip_samples};
 
-    /// Reads the two fields that locate the strips.
+    /// Reads the two fields that locate the strips. There are no marks.
     pub(crate) fn read(
         bytes: &'a [u8],
         dir: &Dir<'a>,
@@ -57,9 +66,29 @@ impl<'a> StripTable<'a> {
         Ok(StripTable {
             bytes,
             shape,
-            offsets,
-            sizes,
+            extents: Extents::Fields(offsets, sizes),
+            marks: &[],
         })
+    }
+
+    /// Returns the table of an image whose extents and marks were kept.
+    pub(crate) fn kept(
+        bytes: &'a [u8],
+        shape: Shape,
+        extents: &'a [Extent],
+        marks: &'a [u32],
+    ) -> StripTable<'a>
+        requires shape { IsStriped shape }
+        requires extents { extents.now ≡ extents_of (record { shape = shape; bytes = bytes.now }) }
+        requires marks { MarksOf (record { shape = shape; bytes = bytes.now }) marks.now }
+        ensures { result ≡ record { shape = shape; bytes = bytes.now } }
+    {
+        StripTable {
+            bytes,
+            shape,
+            extents: Extents::Kept(extents),
+            marks,
+        }
     }
 
     /// Returns a copy of the table, over the same bytes.
@@ -69,8 +98,8 @@ impl<'a> StripTable<'a> {
         StripTable {
             bytes: self.bytes,
             shape: self.shape,
-            offsets: self.offsets.copied(),
-            sizes: self.sizes.copied(),
+            extents: self.extents.copied(),
+            marks: self.marks,
         }
     }
 
@@ -83,54 +112,112 @@ impl<'a> StripTable<'a> {
     }
 
     /// Returns strip `i` of the image.
-    #[tactic(auto, using(crate::proofs::Faults::fields_known))]
+    #[tactic(auto, using(crate::proofs::Tables::strip_known))]
     pub(crate) fn strip(&self, i: u32) -> Strip
         requires { i < strip_count self.now.shape }
         ensures { result ≡ strip_of self.now.shape self.now.bytes i }
     {
+        let extent = self.extents.at(i);
         Strip {
-            offset: self.offsets.at(i),
-            size: self.sizes.at(i),
+            offset: extent.offset,
+            size: extent.size,
             needed: self.shape.needed_len(i),
         }
     }
 
-    /// Tests that a strip lies in the file and has the samples that it needs.
-    pub(crate) fn check(&self, strip: Strip) -> Result<(), TagFault>
-        ensures { result_err result ≡ fault_of self.now.shape.packed self.now.bytes strip }
+    /// Returns the extents of all strips.
+    pub(crate) fn all_extents(&self, alloc: Global) -> Result<Vec<Extent>, NoMemory>
+        ensures { IfOk result (λ extents. extents.items ≡ extents_of self.now) }
     {
-        strip.check(self.bytes, self.shape.packed)
+        let count = self.shape.strip_count();
+        let mut extents = Vec::with_capacity(alloc, count as usize)?;
+        for i in 0..count {
+            extents.push(self.extents.at(i))?;
+        }
+        Ok(extents)
     }
 
-    /// Starts at the first sample of strip `i` of each plane.
-    pub(crate) fn begin(&self, i: u32) -> Planes<'a>
+    /// Tests that a strip lies in the file and has the samples that it needs, and sets its marks.
+    pub(crate) fn check(&self, strip: Strip, marks: &mut [u32]) -> Result<(), TagFault>
+        ensures fault { result_err result ≡ fault_of self.now.shape.packed self.now.bytes strip }
+        ensures marks { OnOk result (IfSome (bytes_at self.now.bytes strip)
+            (λ stored. HasMarks stored (64 * plane_row_length self.now.shape) marks.new)) }
+    {
+        let step = MARK_ROWS as usize * self.shape.plane_row_len();
+        strip.check(self.bytes, self.shape.packed, step, marks)
+    }
+
+    /// Starts at the first sample of row `above` of strip `i` of each plane.
+    pub(crate) fn begin(&self, i: u32, above: u32) -> Planes<'a>
         requires passed { strip_fault self.now.shape self.now.bytes ≡ None }
         requires within { i < strips_per_plane self.now.shape }
-        ensures { aheads_of result ≡ strip_samples self.now.shape self.now.bytes i }
+        requires above { above < strip_rows self.now.shape i }
+        ensures { aheads_of result ≡ map (drop (above * plane_row_length self.now.shape))
+            (strip_samples self.now.shape self.now.bytes i) }
     {
         if self.shape.planes() == 1 {
-            return Planes::One(self.samples(i));
+            return Planes::One(self.samples(0, i, above));
         }
-        let strips = self.shape.strips_per_plane();
         Planes::Four(Inks {
-            cyan: self.samples(i),
-            magenta: self.samples(strips + i),
-            yellow: self.samples(2 * strips + i),
-            black: self.samples(3 * strips + i),
+            cyan: self.samples(0, i, above),
+            magenta: self.samples(1, i, above),
+            yellow: self.samples(2, i, above),
+            black: self.samples(3, i, above),
         })
     }
 
-    // Starts at the first sample of strip `i` of the image.
-    fn samples(&self, i: u32) -> Samples<'a>
-        requires passed { strip_fault self.now.shape self.now.bytes ≡ None }
-        requires within { i < strip_count self.now.shape }
-        ensures { ahead_of result
-            ≡ samples_in self.now.shape.packed (stored_bytes self.now.shape self.now.bytes i) }
+    /// Returns whether row `above` of strip `i` is behind a mark in each plane, so that `begin` goes over
+    /// fewer than 64 rows. Only speed depends on it.
+    pub(crate) fn is_marked(&self, i: u32, above: u32) -> bool
+        requires within { i < strips_per_plane self.now.shape }
+        requires above { above < strip_rows self.now.shape i }
     {
-        let Some(stored) = self.strip(i).stored(self.bytes) else {
+        for plane in 0..self.shape.planes() {
+            if self.mark(plane, i, above) == 0 {
+                return false;
+            }
+        }
+        true
+    }
+
+    // Starts at the first sample of row `above` of strip `i` of a plane.
+    fn samples(&self, plane: u32, i: u32, above: u32) -> Samples<'a>
+        requires passed { strip_fault self.now.shape self.now.bytes ≡ None }
+        requires plane { plane < planes self.now.shape }
+        requires within { i < strips_per_plane self.now.shape }
+        requires above { above < strip_rows self.now.shape i }
+        ensures { ahead_of result ≡ drop (above * plane_row_length self.now.shape)
+            (samples_in self.now.shape.packed (stored_bytes self.now.shape self.now.bytes
+            (plane * strips_per_plane self.now.shape + i))) }
+    {
+        let number = self.shape.strip_number(plane, i);
+        let Some(stored) = self.strip(number).stored(self.bytes) else {
             unreachable!()
         };
-        Samples::new(stored, self.shape.packed)
+        let mark = self.mark(plane, i, above) as usize;
+        let row = self.shape.plane_row_len();
+        Samples::of_row(stored, self.shape.packed, mark, row, above)
+    }
+
+    // Returns the mark of the last marked row up to row `above` of strip `i` of a plane: 0 if it has none.
+    fn mark(&self, plane: u32, i: u32, above: u32) -> u32
+        requires plane { plane < planes self.now.shape }
+        requires within { i < strips_per_plane self.now.shape }
+        requires above { above < strip_rows self.now.shape i }
+        ensures mark { IsMark
+            (stored_bytes self.now.shape self.now.bytes (plane * strips_per_plane self.now.shape + i))
+            (above / 64 * (64 * plane_row_length self.now.shape)) result }
+        ensures packed { result ≢ 0 → IsTrue self.now.shape.packed }
+    {
+        let marked = (above / MARK_ROWS) as usize;
+        if !self.shape.packed || marked == 0 {
+            return 0;
+        }
+        let number = self.shape.strip_number(plane, i) as usize;
+        mark_at(
+            self.marks,
+            number * self.shape.marks_per_strip() + marked - 1,
+        )
     }
 }
 

@@ -4,4 +4,4 @@ use Rattle.press_job.specs.Tests.{fit_fault}
 use Rattle.press_job.proofs.fit.test_fit_of_layers.Given as goal
 
 abbrev pub invariant-loop-layer : goal.invariant-loop-layer
-invariant-loop-layer l = first_some (fit_fault l.files) l.layers ≡ first_some (fit_fault l.files) (drop l.layer-index l.layers)
+invariant-loop-layer l = first_some (fit_fault l.files.bytes) l.layers ≡ first_some (fit_fault l.files.bytes) (drop l.layer-index l.layers)

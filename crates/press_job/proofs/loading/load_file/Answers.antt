@@ -16,17 +16,19 @@ returns-in-Err-TooLong-clause-found g c =
     let P : List ℕ → Type 0 = λ path. IsLongerAt held path c.args.limit in
     long_found c.args.plan.now c.args.folder.now (g.H.Shelf.held c.args.shelf.now) c.args.limit c.args.file c.in_ok-long.long (subst P at (rw c.in-Err-TooLong.field-0-is at c.in-Err-TooLong.ensures.longer)) c.in_ok-long.ensures
 
-pub returns-in-Err-clause-found : goal.returns-in-Err-clause-found
-returns-in-Err-clause-found g c =
-    fault_found c.args.plan.now c.args.folder.now (g.H.Shelf.held c.args.shelf.now) c.args.limit c.args.file c.as_slice.result.now c.in-Err.fault c.in_ok-fault.fault (search rules) (search rules) (sym c.in-Err.ensures) c.in_ok-fault.ensures
+pub returns-clause-found : goal.returns-clause-found
+returns-clause-found g c =
+    let told = rw c.in-Err-Failed-test_file.field-0-is at c.in-Err-Failed-test_file.ensures.first in
+    fault_found c.args.plan.now c.args.folder.now (g.H.Shelf.held c.args.shelf.now) c.args.limit c.args.file c.as_slice.result.now c.in-Err-Failed-test_file.fault c.in_ok-fault-in-Err-Failed-test_file.fault (search rules) (search rules) told c.in_ok-fault-in-Err-Failed-test_file.ensures
 
-pub returns-in-Err-clause-shelf : goal.returns-in-Err-clause-shelf
-returns-in-Err-clause-shelf g c =
-    let never : c.in-Err.fault.kind ≢ TooLong =
-    subst {A = Option TagFault} (λ o. IfSome o (λ fault. fault.kind ≢ TooLong)) (sym c.in-Err.ensures) (file_never_long c.args.plan.now c.args.file c.as_slice.result.now) in
+pub returns-clause-shelf : goal.returns-clause-shelf
+returns-clause-shelf g c =
+    let told = rw c.in-Err-Failed-test_file.field-0-is at c.in-Err-Failed-test_file.ensures.first in
+    let never : c.in-Err-Failed-test_file.fault.kind ≢ TooLong =
+    subst {A = Option TagFault} (λ o. IfSome o (λ fault. fault.kind ≢ TooLong)) told (file_never_long c.args.plan.now c.args.file c.as_slice.result.now) in
     record {
       named = search rules;
-      too_long = λ long. absurd (never (sym (ap {A = FileFault} (λ f. f.kind) c.in_ok-fault.ensures) ∙ long));
+      too_long = λ long. absurd (never (sym (ap {A = FileFault} (λ f. f.kind) c.in_ok-fault-in-Err-Failed-test_file.ensures) ∙ long));
       counted = search rules;
       missed = search rules;
       done_missed = search rules;

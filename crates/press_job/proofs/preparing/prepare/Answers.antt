@@ -11,11 +11,11 @@ use Rattle.press_job.proofs.preparing.prepare.Goals as goal
 
 pub fault_of-requires : goal.fault_of-requires
 fault_of-requires g c =
-    (subst {A = Option Misfit} (λ o. IfSome o (IsMisfit (length c.args.plan.files))) (sym c.in-Err.ensures) (layers_fit c.args.plan c.in_ok-loaded.loaded c.in_ok-loaded.ensures.plan)).within
+    (subst {A = Option Misfit} (λ o. IfSome o (IsMisfit (length c.args.plan.files))) (sym c.in-Err.ensures) (layers_fit c.args.plan c.in_ok-loaded.loaded.bytes c.in_ok-loaded.ensures.plan)).within
 
 pub returns-in-Err-clause-shelf : goal.returns-in-Err-clause-shelf
 returns-in-Err-clause-shelf g c =
-    let misfit = subst {A = Option Misfit} (λ o. IfSome o (IsMisfit (length c.args.plan.files))) (sym c.in-Err.ensures) (layers_fit c.args.plan c.in_ok-loaded.loaded c.in_ok-loaded.ensures.plan) in
+    let misfit = subst {A = Option Misfit} (λ o. IfSome o (IsMisfit (length c.args.plan.files))) (sym c.in-Err.ensures) (layers_fit c.args.plan c.in_ok-loaded.loaded.bytes c.in_ok-loaded.ensures.plan) in
     record {
       named = subst (Contains c.args.plan.files) (sym (ap {A = FileFault} (λ f. f.file) c.in_ok-fault.ensures)) (Contains-get_or c.args.plan.files c.in-Err.misfit.file _ misfit.within);
       too_long = λ long. absurd (misfit.short (sym (ap {A = FileFault} (λ f. f.kind) c.in_ok-fault.ensures) ∙ long));
@@ -39,7 +39,7 @@ returns-in-Err-clause-shelf g c =
 pub returns-clause-sound : goal.returns-clause-sound
 returns-clause-sound g c =
     let held = g.H.Shelf.held c.args.shelf.now in
-    let loaded = c.in_ok-loaded.loaded in
+    let loaded = c.in_ok-loaded.loaded.bytes in
     let job = c.of-2.result in
     let is : loaded ≡ job.files = sym (ap {A = JobData} (λ j. j.files) c.of-2.ensures) in
     let P : List (List ℕ) → Type 0 = λ files. OfFiles held (AreSound c.args.plan c.args.files.now files) in
@@ -47,5 +47,5 @@ returns-clause-sound g c =
 
 pub returns-in-Err-clause-faulty : goal.returns-in-Err-clause-faulty
 returns-in-Err-clause-faulty g c =
-    misfit_of c.args.plan c.args.files.now (g.H.Shelf.held c.args.shelf.now) c.in_ok-loaded.loaded c.in-Err.misfit c.in_ok-fault.fault c.in_ok-loaded.ensures.count c.in_ok-loaded.ensures.sound
+    misfit_of c.args.plan c.args.files.now (g.H.Shelf.held c.args.shelf.now) c.in_ok-loaded.loaded.bytes c.in-Err.misfit c.in_ok-fault.fault c.in_ok-loaded.ensures.count c.in_ok-loaded.ensures.sound
     (sym c.in-Err.ensures) c.in_ok-fault.ensures

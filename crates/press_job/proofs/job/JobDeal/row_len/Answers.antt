@@ -10,4 +10,4 @@ pub returns-clause-each : goal.returns-clause-each
 returns-clause-each c =
     let e : c.frame_len.result ≡ frame_size (row_size (plate_width c.self.inside.plan)) =
     c.frame_len.ensures ∙ ap frame_size (c.row_bytes.ensures ∙ ap (λ (s : PlateShape). row_size s.width) c.self.invariant.shape_is) in
-    rw (← c.self.view_is, e) (each-plate_frames c.self.inside.plan c.self.inside.files)
+    rw (← c.self.view_is, e) (each-plate_frames c.self.inside.plan c.self.inside.files.bytes)

@@ -12,13 +12,13 @@ returns-in_err-table-clause-fault c =
 pub invariant_of-result : goal.invariant_of-result
 invariant_of-result c = rw c.in_ok-table.ensures.table (record {
   striped = c.requires.shape;
-  passed = sym (all_tested c.args.shape c.args.bytes.now c.in_ok-table.table c.strip_count.result None (sym c.in_ok-table.ensures.fault) c.in_ok-table.ensures.table c.strip_count.ensures.count (sym c.in-None.is ∙ c.test.ensures));
+  passed = sym (all_tested c.args.shape c.args.bytes.now c.in_ok-table.table c.strip_count.result None (sym c.in_ok-table.ensures.fault) c.in_ok-table.ensures.table c.strip_count.ensures.count (sym c.in-None.is ∙ c.test.ensures.fault));
 })
 
 pub returns-in-Some-clause-fault : goal.returns-in-Some-clause-fault
 returns-in-Some-clause-fault c =
-    all_tested c.args.shape c.args.bytes.now c.in_ok-table.table c.strip_count.result (Some c.in-Some.fault) (sym c.in_ok-table.ensures.fault) c.in_ok-table.ensures.table c.strip_count.ensures.count (sym c.in-Some.is ∙ c.test.ensures)
+    all_tested c.args.shape c.args.bytes.now c.in_ok-table.table c.strip_count.result (Some c.in-Some.fault) (sym c.in_ok-table.ensures.fault) c.in_ok-table.ensures.table c.strip_count.ensures.count (sym c.in-Some.is ∙ c.test.ensures.fault)
 
 pub returns-in-None-clause-fault : goal.returns-in-None-clause-fault
 returns-in-None-clause-fault c =
-    all_tested c.args.shape c.args.bytes.now c.in_ok-table.table c.strip_count.result None (sym c.in_ok-table.ensures.fault) c.in_ok-table.ensures.table c.strip_count.ensures.count (sym c.in-None.is ∙ c.test.ensures)
+    all_tested c.args.shape c.args.bytes.now c.in_ok-table.table c.strip_count.result None (sym c.in_ok-table.ensures.fault) c.in_ok-table.ensures.table c.strip_count.ensures.count (sym c.in-None.is ∙ c.test.ensures.fault)
