@@ -56,9 +56,7 @@ fn load_plan<H: Shelf>(alloc: Global, whose: Whose, path: &str, shelf: &mut H) -
     ensures faults_stay { H.faults shelf.old ≤ H.faults shelf.new }
     ensures longs_stay { H.longs shelf.old ≤ H.longs shelf.new }
 {
-    let Ok(name) = PathText::of(alloc, path) else {
-        return Err(Stop::Memory);
-    };
+    let name = PathText::of(alloc, path)?;
     let bytes = match shelf.load(path, PLAN_LIMIT) {
         Ok(bytes) => bytes,
         Err(LoadFault::TooLong { .. }) => return Err(Stop::Refused(Refusal::LongPlan(whose))),

@@ -29,9 +29,7 @@ pub fn print_one<H: Shelf, S: Sink>(
     ensures lengths { Lengths (shelf_seen H.Shelf shelf.old shelf.new) result }
     ensures writes { Writes (sink_seen S.Sink out.old out.new) result }
 {
-    let Ok(name) = PathText::of(alloc, file) else {
-        return Err(Stop::Memory);
-    };
+    let name = PathText::of(alloc, file)?;
     let bytes = match shelf.load(file, FILE_LIMIT) {
         Ok(bytes) => bytes,
         Err(LoadFault::TooLong { .. }) => {

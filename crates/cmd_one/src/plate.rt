@@ -6,6 +6,7 @@ ghost use Rattle.plate_bytes.specs.Made.{so_far};
 ghost use Rattle.tif_strips.specs.Strips.{row_length};
 ghost use Rattle.cmd_one.specs.One.{black_plate, black_rows};
 ghost use Rattle.cmd_one.specs.OneFile.{PlateWrites, Printed};
+ghost use Rattle.cmd_one.specs.declared.plate.PlateFault.TheVariants.{Memory};
 ghost use Rattle.cmd_one.specs.Room.{FitsRow};
 ghost use Rattle.cmd_base.specs.Seen.{sink_seen};
 
@@ -24,13 +25,21 @@ const DPI: u32 = 1200;
 /// The side of its Bayer tile, in pixels.
 const SIDE: u8 = 4;
 
-/// Why a plate was not printed completely.
+/// Why a plate was not printed completely: a `Stop` whose refusal does not name its file yet.
 pub(crate) enum PlateFault {
     /// The image was refused before anything was printed.
     Refused(TagFault),
     Memory,
     /// The sink failed.
     Printing,
+}
+
+impl From<NoMemory> for PlateFault {
+    ghost from_gives = { λ _ fault. fault ≡ Memory };
+
+    fn from(_error: NoMemory) -> PlateFault {
+        PlateFault::Memory
+    }
 }
 
 /// Checks an image and prints its black plate. Prints nothing of an image that is refused, and nothing before
@@ -47,9 +56,7 @@ pub(crate) fn print_plate<S: Sink>(
         Ok(image) => image,
         Err(fault) => return Err(PlateFault::Refused(fault)),
     };
-    let Ok(plate) = make_plate(alloc, &image) else {
-        return Err(PlateFault::Memory);
-    };
+    let plate = make_plate(alloc, &image)?;
     match out.put(plate.bytes()) {
         Ok(()) => Ok(()),
         Err(SinkFault::Failed) => Err(PlateFault::Printing),

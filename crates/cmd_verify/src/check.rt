@@ -50,9 +50,7 @@ pub fn print_check<T: Threads + Sync, H: Shelf, S: Sink>(
     let job = load_job(rt, alloc, Whose::New, asked.plan, asked.files, shelf)?;
     let checked = check_plates(&ByThreads { rt }, alloc, &job, asked.out, shelf)?;
     let plan = job.plan();
-    let Ok(line) = line_of(alloc, plan.site_count(), &checked) else {
-        return Err(Stop::Memory);
-    };
+    let line = line_of(alloc, plan.site_count(), &checked)?;
     put_text(line.as_bytes(), status_of(&checked), out)
 }
 
@@ -69,9 +67,7 @@ fn check_plates<M: BandMaker, H: Shelf>(
     ensures held { H.held shelf.new ≡ H.held shelf.old }
     ensures loads { Loads (shelf_seen H.Shelf shelf.old shelf.new) result }
 {
-    let Ok(mut feed) = WideFeed::open(maker, alloc, job) else {
-        return Err(Stop::Memory);
-    };
+    let mut feed = WideFeed::open(maker, alloc, job)?;
     check_fed(alloc, job, &mut feed, out, shelf)
 }
 

@@ -1,6 +1,8 @@
 // The result of verifying the plates of an edition.
+ghost use Rattle.std.specs.Prelude.{◌≡◌};
+ghost use Rattle.plate_verify.specs.declared.checked.VerifyFault.TheVariants.{Memory};
 
-use pr_base::PathText;
+use pr_base::{NoMemory, PathText};
 use thiserror::Error;
 
 /// The state of the held plates.
@@ -31,4 +33,12 @@ pub enum VerifyFault {
     Shelf(PathText),
     #[error("out of memory")]
     Memory,
+}
+
+impl From<NoMemory> for VerifyFault {
+    ghost from_gives = { λ _ fault. fault ≡ Memory };
+
+    fn from(_error: NoMemory) -> VerifyFault {
+        VerifyFault::Memory
+    }
 }

@@ -121,12 +121,8 @@ fn check_all<F: RowFeed, H: Shelf>(
         (shelf_told H.Shelf shelf.old) (shelf_told H.Shelf shelf.new) result }
 {
     let sides = plate_sides(plan);
-    let Ok(mut plates) = plates_for(alloc, sides) else {
-        return Err(VerifyFault::Memory);
-    };
-    let Ok(mut frame) = frame_room(alloc, sides.width) else {
-        return Err(VerifyFault::Memory);
-    };
+    let mut plates = plates_for(alloc, sides)?;
+    let mut frame = frame_room(alloc, sides.width)?;
     let looked = check_groups(
         alloc,
         plan,

@@ -40,8 +40,6 @@ pub(crate) fn check_group<F: RowFeed, H: Shelf>(
         plates.new (F.left feed.new) (length frame.new)) }
 {
     let made = &mut plates[..ink_number(group)];
-    let Ok(()) = make_plates(made, height, feed, frame) else {
-        return Err(VerifyFault::Memory);
-    };
+    make_plates(made, height, feed, frame)?;
     look_at_group(alloc, plan, out, group, made, shelf)
 }

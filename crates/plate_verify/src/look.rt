@@ -52,9 +52,7 @@ fn look_at<H: Shelf>(
         Looked plan.now rows out.now ((site, (group.now, ink)) ∷ [])
         (shelf_told H.Shelf shelf.old) (shelf_told H.Shelf shelf.new) result }
 {
-    let Ok(path) = plate_path(alloc, plan, out, site, group, ink) else {
-        return Err(VerifyFault::Memory);
-    };
+    let path = plate_path(alloc, plan, out, site, group, ink)?;
     match shelf.load(path.as_str(), MOST_BYTES) {
         Ok(bytes) => Ok(compare(path, made, &bytes)),
         Err(LoadFault::Failed) => Err(VerifyFault::Shelf(path)),

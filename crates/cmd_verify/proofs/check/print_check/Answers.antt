@@ -19,7 +19,7 @@ returns-clause-told g c =
       found = found_behind g.H.Shelf c.args.shelf.now c.load_job.new.shelf c.check_plates.new.shelf
           c.load_job.ensures.held c.load_job.ensures.faults_stay c.in_ok-job.ensures.lengths
           c.in_ok-job.job c.args.asked.out.now c.in_ok-checked.checked c.in_ok-checked.ensures.looks;
-      text_is = c.as_bytes.ensures.value ∙ c.in-Ok.ensures
+      text_is = c.as_bytes.ensures.value ∙ c.in_ok-line.ensures
           ∙ ap (λ sites. found_line sites (told c.in_ok-checked.checked)) (c.site_count.ensures.count ∙ ap (λ p. length p.sites) c.plan-plan.ensures.plan);
       status_is = c.status_of.ensures;
     })
@@ -37,8 +37,8 @@ returns-in_err-checked-clause-loads g c =
     (loads_behind g.H.Shelf c.args.shelf.now c.load_job.new.shelf c.check_plates.new.shelf _ (c.in_ok-job.ensures.loads refl)
     c.in_err-checked.ensures.loads)
 
-pub returns-in_default-clause-loads : goal.returns-in_default-clause-loads
-returns-in_default-clause-loads g c = λ done.
+pub returns-in_err-line-clause-loads : goal.returns-in_err-line-clause-loads
+returns-in_err-line-clause-loads g c = λ done.
     all_behind g.H.Shelf c.args.shelf.now c.load_job.new.shelf c.check_plates.new.shelf (c.in_ok-job.ensures.loads refl)
     (c.in_ok-checked.ensures.loads refl)
 
@@ -60,8 +60,8 @@ returns-in_err-checked-clause-lengths g c =
     (lengths_behind g.H.Shelf c.args.shelf.now c.load_job.new.shelf c.check_plates.new.shelf _ c.in_ok-job.ensures.lengths
     (looks_lengths c.in_ok-job.job c.args.asked.out.now _ _ c.in_err-checked.ensures.looks)))
 
-pub returns-in_default-clause-lengths : goal.returns-in_default-clause-lengths
-returns-in_default-clause-lengths g c =
+pub returns-in_err-line-clause-lengths : goal.returns-in_err-line-clause-lengths
+returns-in_err-line-clause-lengths g c =
     found_short (asked_told c.args.asked) _ c.in_ok-job.job c.in_ok-checked.checked c.in_ok-job.ensures.prepared
     (found_behind g.H.Shelf c.args.shelf.now c.load_job.new.shelf c.check_plates.new.shelf c.load_job.ensures.held
     c.load_job.ensures.faults_stay c.in_ok-job.ensures.lengths c.in_ok-job.job c.args.asked.out.now c.in_ok-checked.checked

@@ -18,12 +18,12 @@ returns g c =
     let rows : List (List ℕ) = map framed_row (g.F.RowFeed.left c.args.feed.now) in
     let sides : c.plate_sides-sides.result ≡ plate_sides c.args.plan.now = c.plate_sides-sides.ensures.sides in
     let fed : FedFrom c.args.plan.now rows 0 c.deref_mut.result.now (g.F.RowFeed.left c.args.feed.now) (length c.deref_mut-2.result.now) = record {
-      have = subst {A = List PlateState} (λ l. HaveSides (plate_sides c.args.plan.now) l) (sym c.deref_mut.ensures.value) (subst {A = Sides} (λ s. HaveSides s c.in-Ok.plates.items) sides c.in-Ok.ensures.sides);
-      five = omega (arith, ap {A = List PlateState} length c.deref_mut.ensures.value, c.in-Ok.ensures.five);
+      have = subst {A = List PlateState} (λ l. HaveSides (plate_sides c.args.plan.now) l) (sym c.deref_mut.ensures.value) (subst {A = Sides} (λ s. HaveSides s c.in_ok-plates.plates.items) sides c.in_ok-plates.ensures.sides);
+      five = omega (arith, ap {A = List PlateState} length c.deref_mut.ensures.value, c.in_ok-plates.ensures.five);
       feeds = c.requires.frames.are;
       each = c.requires.frames.each;
       small = c.requires.frames.small;
-      frame = ap length c.deref_mut-2.ensures.value ∙ c.in-Ok-frame_room.ensures ∙ ap {A = Sides} (λ s. frame_size (row_size s.width)) sides;
+      frame = ap length c.deref_mut-2.ensures.value ∙ c.in_ok-frame.ensures ∙ ap {A = Sides} (λ s. frame_size (row_size s.width)) sides;
     } in
     subst {A = Result Checked VerifyFault} (λ r. AfterAll c.args.plan.now rows c.args.out.now (shelf_told g.H.Shelf c.args.shelf.now) (shelf_told g.H.Shelf c.check_groups-looked.new.shelf) r) (sym c.answer.ensures)
     (after_all c.args.plan.now rows c.args.out.now (shelf_told g.H.Shelf c.args.shelf.now) (shelf_told g.H.Shelf c.check_groups-looked.new.shelf) c.check_groups-looked.result

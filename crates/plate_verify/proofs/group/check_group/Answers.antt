@@ -18,7 +18,7 @@ make_plates-requires g c =
 pub returns-clause-looked : goal.returns-clause-looked
 returns-clause-looked g c = λ rows fed.
     let few : c.ink_number.result ≤ length c.args.plates.now = omega (arith, c.ink_number.ensures.count, fed.fed.five, ink_count-within c.args.group.now) in
-    let whole_ones = c.in-Ok.ensures.plates (plate_sides c.args.plan.now) (drop c.args.group.now.first rows)
+    let whole_ones = c.in_ok-make_plates.ensures.plates (plate_sides c.args.plan.now) (drop c.args.group.now.first rows)
     (group_fed c.args.plan.now rows c.args.group.now c.args.plates.now _ _ c.ink_number.result fed c.ink_number.ensures.count few) c.requires.height in
     c.look_at_group.ensures rows
     (group_made c.args.plan.now rows c.args.group.now (length (take c.ink_number.result c.args.plates.now)) c.args.height c.make_plates.new.plates (length-take-le c.ink_number.result c.args.plates.now few ∙ c.ink_number.ensures.count) c.requires.height whole_ones)
@@ -28,5 +28,5 @@ returns-clause-fed g c = on_ok_always c.look_at_group.result _ (λ rows fed.
     let few : c.ink_number.result ≤ length c.args.plates.now = omega (arith, c.ink_number.ensures.count, fed.fed.five, ink_count-within c.args.group.now) in
     let own = group_fed c.args.plan.now rows c.args.group.now c.args.plates.now _ _ c.ink_number.result fed c.ink_number.ensures.count few in
     fed_after c.args.plan.now rows c.args.group.now c.args.plates.now c.make_plates.new.plates _ _ _ _ c.ink_number.result c.args.height _ fed c.ink_number.ensures.count c.requires.height c.make_plates.auto.plates
-    (c.in-Ok.ensures.plates (plate_sides c.args.plan.now) (drop c.args.group.now.first rows) own c.requires.height)
-    (c.in-Ok.ensures.feed (plate_sides c.args.plan.now) (drop c.args.group.now.first rows) own c.requires.height) c.make_plates.auto.frame)
+    (c.in_ok-make_plates.ensures.plates (plate_sides c.args.plan.now) (drop c.args.group.now.first rows) own c.requires.height)
+    (c.in_ok-make_plates.ensures.feed (plate_sides c.args.plan.now) (drop c.args.group.now.first rows) own c.requires.height) c.make_plates.auto.frame)

@@ -5,13 +5,13 @@ use Rattle.plate_verify.specs.Looking.{shelf_told}
 use Rattle.plate_verify.proofs.LookLemmas.{quiet, made_ends, looked_loaded, looked_long, looked_failed}
 use Rattle.plate_verify.proofs.look.look_at.Goals as goal
 
-pub returns-in-Ok-load : goal.returns-in-Ok-load
-returns-in-Ok-load g c = λ rows made.
-    let ends = c.in-Ok-load.ensures in
+pub returns-in-Ok : goal.returns-in-Ok
+returns-in-Ok g c = λ rows made.
+    let ends = c.in-Ok.ensures in
     looked_loaded c.args.plan.now rows c.args.out.now (c.args.site, (c.args.group.now, c.args.ink)) (shelf_told g.H.Shelf c.args.shelf.now) (shelf_told g.H.Shelf c.load.new.self)
-    c.in-Ok.path c.args.made.now c.in-Ok-load.bytes.items c.compare.result
-    c.in-Ok.ensures
-    (subst {A = List ℕ} (λ p. IsHeldAt (g.H.Shelf.held c.args.shelf.now) p c.in-Ok-load.bytes.items) c.as_str.ensures ends.bytes)
+    c.in_ok-path.path c.args.made.now c.in-Ok.bytes.items c.compare.result
+    c.in_ok-path.ensures
+    (subst {A = List ℕ} (λ p. IsHeldAt (g.H.Shelf.held c.args.shelf.now) p c.in-Ok.bytes.items) c.as_str.ensures ends.bytes)
     ends.within
     (quiet (shelf_told g.H.Shelf c.args.shelf.now) (shelf_told g.H.Shelf c.load.new.self) c.as_str.result.now ends.missed ends.held (ends.uncounted refl) ends.faults_stay ends.longs_stay)
     (ends.long_uncounted refl)
@@ -22,8 +22,8 @@ pub returns-in-Err-Failed : goal.returns-in-Err-Failed
 returns-in-Err-Failed g c = λ rows made.
     let ends = rw c.in-Err-Failed.field-0-is at c.in-Err-Failed.ensures in
     looked_failed c.args.plan.now rows c.args.out.now (c.args.site, (c.args.group.now, c.args.ink)) (shelf_told g.H.Shelf c.args.shelf.now) (shelf_told g.H.Shelf c.load.new.self)
-    c.in-Ok.path
-    c.in-Ok.ensures
+    c.in_ok-path.path
+    c.in_ok-path.ensures
     (ends.counted refl)
     (ends.missed ∙ ap {A = List ℕ} (λ p. missed_after true p (g.H.Shelf.missed c.args.shelf.now)) c.as_str.ensures)
     (record { held = ends.held; faults = ends.faults_stay; longs = ends.longs_stay })
@@ -33,8 +33,8 @@ pub returns-in-Err-TooLong : goal.returns-in-Err-TooLong
 returns-in-Err-TooLong g c = λ rows made.
     let ends = rw c.in-Err-TooLong.field-0-is at c.in-Err-TooLong.ensures in
     looked_long c.args.plan.now rows c.args.out.now (c.args.site, (c.args.group.now, c.args.ink)) (shelf_told g.H.Shelf c.args.shelf.now) (shelf_told g.H.Shelf c.load.new.self)
-    c.in-Ok.path
-    c.in-Ok.ensures
+    c.in_ok-path.path
+    c.in_ok-path.ensures
     (subst {A = List ℕ} (λ p. IsLongerAt (g.H.Shelf.held c.args.shelf.now) p 600000000) c.as_str.ensures ends.longer)
     ends.long_counted
     (quiet (shelf_told g.H.Shelf c.args.shelf.now) (shelf_told g.H.Shelf c.load.new.self) c.as_str.result.now ends.missed ends.held (ends.uncounted refl) ends.faults_stay ends.longs_stay)
