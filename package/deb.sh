@@ -1,6 +1,6 @@
 #!/usr/bin/env bash
 # Makes the Debian package of the built program, with pressroom, man pages, documents, completion and
-# examples. Build the program first: (cd crates/plateroom && rt run -- drill 7)
+# examples. Build the program first: rt ci
 # usage: package/deb.sh [PROGRAM]      it leaves package/out/plateroom_VERSION_amd64.deb and prints its path
 # It needs dpkg-deb, git, Debian's python3, scdoc and strip. With these of one release of Debian, one commit
 # and one program give the same package, byte for byte, wherever and whenever it is made. DEBFULLNAME and
