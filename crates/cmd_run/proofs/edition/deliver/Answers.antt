@@ -17,15 +17,15 @@ pub returns-in_err-text-clause-delivered : goal.returns-in_err-text-clause-deliv
 returns-in_err-text-clause-delivered g c =
     let p = err_from_is_err_and c.from_residual-in_err-text.result c.from_residual-in_err-text.ensures.1 in
     rw (p.1, p.2) (inl (record {
-  text = report_of c.args.job.now.plan c.in_ok-outcome.outcome.sites.items;
-  status = status_of_ends c.in_ok-outcome.outcome.sites.items;
-  reports = reports_are g.R.Rack (edition_told c.args.edition) none_further c.args.job.now c.args.racks.now c.run_job.new.racks _ _
-      c.in_ok-outcome.outcome.sites.items
-      (omega (arith, c.requires.racks, c.files-files.ensures.plan.site_count.most, ap (λ (plan : PlanData). length plan.sites) c.plan-plan.ensures.plan))
-      c.run_job.auto.racks (fits_alone (edition_told c.args.edition) c.args.job.now _ _ _ c.in_ok-outcome.ensures.fits) c.run_job.ensures.others
-      (sym (append-nil _)) refl;
-  grew = (0, grew_nothing _ _ refl);
-}))
+      text = report_of c.args.job.now.plan c.in_ok-outcome.outcome.sites.items;
+      status = status_of_ends c.in_ok-outcome.outcome.sites.items;
+      reports = reports_are g.R.Rack (edition_told c.args.edition) none_further c.args.job.now c.args.racks.now c.run_job.new.racks _ _
+          c.in_ok-outcome.outcome.sites.items
+          (omega (arith, c.requires.racks, c.files-files.ensures.plan.site_count.most, ap (λ (plan : PlanData). length plan.sites) c.plan-plan.ensures.plan))
+          c.run_job.auto.racks (fits_alone (edition_told c.args.edition) c.args.job.now _ _ _ c.in_ok-outcome.ensures.fits) c.run_job.ensures.others
+          (sym (append-nil _)) refl;
+      grew = (0, grew_nothing _ _ refl);
+    }))
 
 pub returns-clause-delivered : goal.returns-clause-delivered
 returns-clause-delivered g c =

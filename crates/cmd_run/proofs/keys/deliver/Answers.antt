@@ -17,14 +17,14 @@ pub returns-in_err-text-clause-delivered : goal.returns-in_err-text-clause-deliv
 returns-in_err-text-clause-delivered g c =
     let p = err_from_is_err_and c.from_residual-in_err-text.result c.from_residual-in_err-text.ensures.1 in
     rw (p.1, p.2) (inl (record {
-  text = report_of c.args.job.now.plan c.in_ok-run_keys.outcome.sites.items ++ keys_lines c.args.keys c.args.job.now;
-  status = status_of_ends c.in_ok-run_keys.outcome.sites.items;
-  reports = reports_are g.R.Rack (edition_told c.args.edition) (further_keys c.args.keys) c.args.job.now c.args.racks.now
-      c.run_keys.new.racks _ _ c.in_ok-run_keys.outcome.sites.items
-      (omega (arith, c.requires.racks, c.files-files.ensures.plan.site_count.most, ap (λ (plan : PlanData). length plan.sites) c.plan-plan.ensures.plan))
-      c.run_keys.auto.racks c.in_ok-run_keys.ensures.fits c.run_keys.ensures.others refl refl;
-  grew = (0, grew_nothing _ _ refl);
-}))
+      text = report_of c.args.job.now.plan c.in_ok-run_keys.outcome.sites.items ++ keys_lines c.args.keys c.args.job.now;
+      status = status_of_ends c.in_ok-run_keys.outcome.sites.items;
+      reports = reports_are g.R.Rack (edition_told c.args.edition) (further_keys c.args.keys) c.args.job.now c.args.racks.now
+          c.run_keys.new.racks _ _ c.in_ok-run_keys.outcome.sites.items
+          (omega (arith, c.requires.racks, c.files-files.ensures.plan.site_count.most, ap (λ (plan : PlanData). length plan.sites) c.plan-plan.ensures.plan))
+          c.run_keys.auto.racks c.in_ok-run_keys.ensures.fits c.run_keys.ensures.others refl refl;
+      grew = (0, grew_nothing _ _ refl);
+    }))
 
 pub returns-clause-delivered : goal.returns-clause-delivered
 returns-clause-delivered g c =
