@@ -64,11 +64,15 @@ pub fn print_change<T: Threads + Sync, H: Shelf, R: Rack, S: Sink>(
     ensures writes { Writes (sink_seen S.Sink out.old out.new) result }
 {
     let late = load_late(rt, alloc, change, shelf)?;
-    let remade = make_late(&ByThreads { rt }, alloc, change, &late, racks)?;
+    let Ok(remade) = make_late(&ByThreads { rt }, alloc, change, &late, racks) else {
+        return Err(Stop::Memory);
+    };
     let ends = remade.as_slice();
     let plan = late.job.plan();
     let dropped = late.dropped.as_str();
-    let text = remade_text(alloc, plan, ends, dropped)?;
+    let Ok(text) = remade_text(alloc, plan, ends, dropped) else {
+        return Err(Stop::Memory);
+    };
     put_text(text.as_bytes(), status_of(ends), out)
 }
 
@@ -95,7 +99,9 @@ fn load_late<T: Threads + Sync, H: Shelf>(
         shelf,
     )?;
     let job = load_job(rt, alloc, Whose::New, change.plan, change.files, shelf)?;
-    let late = compare(alloc, &before, job, change.out)?;
+    let Ok(late) = compare(alloc, &before, job, change.out) else {
+        return Err(Stop::Memory);
+    };
     Ok(late)
 }
 

@@ -69,7 +69,9 @@ pub fn print_drill<T: Threads + Clock + Sync, S: Sink>(
         shelf (sink_seen S.Sink out.old out.new) result }
     ensures writes { Writes (sink_seen S.Sink out.old out.new) result }
 {
-    let text = drill_text(rt, alloc, drill)?;
+    let Ok(text) = drill_text(rt, alloc, drill) else {
+        return Err(Stop::Memory);
+    };
     put_text(text.as_bytes(), Status::Done, out)
 }
 

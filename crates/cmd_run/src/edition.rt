@@ -81,7 +81,7 @@ fn deliver<T: Threads + Clock + Sync, R: Rack + Send, S: Sink>(
     let plan = job.plan();
     // Called for its contract, which states what holds of every plan that was read.
     let _files = plan.files();
-    let outcome = run_job(
+    let Ok(outcome) = run_job(
         rt,
         alloc,
         job,
@@ -89,9 +89,13 @@ fn deliver<T: Threads + Clock + Sync, R: Rack + Send, S: Sink>(
         edition.out,
         edition.ring,
         edition.patience,
-    )?;
+    ) else {
+        return Err(Stop::Memory);
+    };
     let ends = outcome.sites.as_slice();
-    let text = report(alloc, plan, job.rows().total(), ends)?;
+    let Ok(text) = report(alloc, plan, job.rows().total(), ends) else {
+        return Err(Stop::Memory);
+    };
     put_text(text.as_bytes(), status_of(ends), out)
 }
 
