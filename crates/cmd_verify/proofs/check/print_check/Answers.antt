@@ -62,10 +62,12 @@ returns-in_err-checked-clause-lengths g c =
 
 pub returns-in_err-line-clause-lengths : goal.returns-in_err-line-clause-lengths
 returns-in_err-line-clause-lengths g c =
-    found_short (asked_told c.args.asked) _ c.in_ok-job.job c.in_ok-checked.checked c.in_ok-job.ensures.prepared
+    let p = err_from_is_err_and c.from_residual-in_err-line.result c.from_residual-in_err-line.ensures.1 in
+    rw (p.1, p.2)
+    (found_short (asked_told c.args.asked) _ c.in_ok-job.job c.in_ok-checked.checked c.in_ok-job.ensures.prepared
     (found_behind g.H.Shelf c.args.shelf.now c.load_job.new.shelf c.check_plates.new.shelf c.load_job.ensures.held
     c.load_job.ensures.faults_stay c.in_ok-job.ensures.lengths c.in_ok-job.job c.args.asked.out.now c.in_ok-checked.checked
-    c.in_ok-checked.ensures.looks)
+    c.in_ok-checked.ensures.looks))
 
 pub returns-clause-lengths : goal.returns-clause-lengths
 returns-clause-lengths g c =
