@@ -1,5 +1,4 @@
 pub mod CountLemmas
-pub mod Differences
 pub mod Stepping
 pub mod Worked
 pub mod Bounds

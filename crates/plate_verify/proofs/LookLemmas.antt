@@ -6,7 +6,7 @@ use Rattle.std.proofs.lemmas.Bool.{cond-true, cond-false, lt-ltb, le-ltb}
 use Rattle.std.proofs.lemmas.Grind.{flat_map-append}
 use Rattle.std.proofs.lemmas.List.{append-nil, take-append-drop, take_more, take_all}
 use Rattle.pr_base.specs.Count.{Rose}
-use Rattle.pr_ports.specs.Shelf.{IsHeldAt, IsLongerAt, held_at, missed_after}
+use Rattle.pr_ports.specs.Shelf.{IsComparedAt, IsLongerAt, held_at, missed_after}
 use Rattle.plan_json.specs.Data.{PlanData}
 use Rattle.plan_rows.specs.Plates.{PlateOf, file_of, plate_rows}
 use Rattle.plate_bytes.specs.Made.{PlateState, whole}
@@ -15,7 +15,7 @@ use Rattle.plate_verify.specs.declared.checked.Checked.{Checked}
 use Rattle.plate_verify.specs.declared.checked.Checked.TheVariants.{Same, Differs, Long}
 use Rattle.plate_verify.specs.declared.checked.VerifyFault.{VerifyFault}
 use Rattle.plate_verify.specs.declared.checked.VerifyFault.TheVariants.{Shelf, Memory}
-use Rattle.plate_verify.specs.Difference.{difference_of}
+use Rattle.pr_ports.specs.Difference.{difference_of}
 use Rattle.plate_verify.specs.Order.{SitePlate}
 use Rattle.plate_verify.specs.Wrong.{Found, OtherAt, TooMany, wrong_with, wrong_at}
 use Rattle.plate_verify.specs.Looking.{told, IfLong, UnlessLong, ShelfTold, Stays, IsQuiet, NoneWrong, path_at, AreRight, FindsWrong, FailsAt, Looked, IsMade}
@@ -70,31 +70,38 @@ unless_long (Same n) P h = h
 unless_long (Differs p at row) P h = h
 unless_long (Long p) P h = tt
 
--- the bytes were loaded and compared
-pub looked_loaded : (plan : PlanData) (rows : List (List ℕ)) (out : List ℕ) (at : SitePlate) (old new : ShelfTold) (path : List ℕ) (made : PlateState) (bytes : List ℕ) (found : Option Checked)
-    → path ≡ path_at plan out at → IsHeldAt old.held path bytes → length bytes ≤ 600000000 → IsQuiet old new → new.longs ≡ old.longs → IsMade plan rows at.1 made
-    → option_map told found ≡ option_map (λ k. OtherAt path k (row_holding (plate_rows plan rows at.1) k)) (difference_of made.bytes bytes)
+-- the plate was compared
+pub looked_compared : (plan : PlanData) (rows : List (List ℕ)) (out : List ℕ) (at : SitePlate) (old new : ShelfTold) (path : List ℕ) (made : PlateState) (apart : Option ℕ) (found : Option Checked)
+    → path ≡ path_at plan out at → IsComparedAt old.held path 600000000 made.bytes apart → IsQuiet old new → new.longs ≡ old.longs → IsMade plan rows at.1 made
+    → option_map told found ≡ option_map (λ k. OtherAt path k (row_holding (plate_rows plan rows at.1) k)) apart
     → Looked plan rows out (at ∷ []) old new (Ok found)
-looked_loaded plan rows out at old new path made bytes found named held short still longs is found_is = by_found found found_is
+looked_compared plan rows out at old new path made apart found named compared still longs is found_is = by_found found found_is
   where
-    wrong : (files : List (List ℕ × List ℕ)) → held_at files path ≡ Some bytes → wrong_at plan rows out files at ≡ option_map (λ k. OtherAt path k (row_holding (plate_rows plan rows at.1) k)) (difference_of made.bytes bytes)
-    wrong files there =
-        wrong_is plan rows out files at made bytes is (ap (held_at files) (sym named) ∙ there) short
-        ∙ ap {A = List ℕ} (λ p. option_map (λ k. OtherAt p k (row_holding (plate_rows plan rows at.1) k)) (difference_of made.bytes bytes)) (sym named)
+    tell : ℕ → Found
+    tell k = OtherAt path k (row_holding (plate_rows plan rows at.1) k)
 
-    by_found : (found : Option Checked) → option_map told found ≡ option_map (λ k. OtherAt path k (row_holding (plate_rows plan rows at.1) k)) (difference_of made.bytes bytes)
-        → Looked plan rows out (at ∷ []) old new (Ok found)
+    Alike : List ℕ → Type 0
+    Alike file = (length file ≤ 600000000) × (apart ≡ difference_of made.bytes file)
+
+    wrong : (files : List (List ℕ × List ℕ)) (o : Option (List ℕ)) → held_at files path ≡ o → IsSomeAnd o Alike → wrong_at plan rows out files at ≡ option_map tell apart
+    wrong files None there held = absurd held
+    wrong files (Some file) there held =
+        wrong_is plan rows out files at made file is (ap (held_at files) (sym named) ∙ there) held.0
+        ∙ ap {A = List ℕ} (λ p. option_map (λ k. OtherAt p k (row_holding (plate_rows plan rows at.1) k)) (difference_of made.bytes file)) (sym named)
+        ∙ ap (option_map tell) (sym held.1)
+
+    by_found : (found : Option Checked) → option_map told found ≡ option_map tell apart → Looked plan rows out (at ∷ []) old new (Ok found)
     by_found None e = record {
       quiet = still;
       longs = longs;
-      right = if_held old.held (λ files. held_at files path ≡ Some bytes) (λ files. filter_map (wrong_at plan rows out files) (at ∷ []) ≡ []) held
-          (λ files there. ap (λ (o : Option Found). cons_option o []) (wrong files there ∙ sym e));
+      right = if_held old.held (λ files. IsSomeAnd (held_at files path) Alike) (λ files. filter_map (wrong_at plan rows out files) (at ∷ []) ≡ []) compared
+          (λ files there. ap (λ (o : Option Found). cons_option o []) (wrong files (held_at files path) refl there ∙ sym e));
     }
     by_found (Some x) e = record {
       quiet = still;
-      first = if_held old.held (λ files. held_at files path ≡ Some bytes) (λ files. slice_get (filter_map (wrong_at plan rows out files) (at ∷ [])) 0 ≡ Some (told x)) held
-          (λ files there. ap (λ (o : Option Found). slice_get (cons_option o []) 0) (wrong files there ∙ sym e));
-      long = not_long path x (λ k. row_holding (plate_rows plan rows at.1) k) (difference_of made.bytes bytes) (Rose old.longs new.longs) e;
+      first = if_held old.held (λ files. IsSomeAnd (held_at files path) Alike) (λ files. slice_get (filter_map (wrong_at plan rows out files) (at ∷ [])) 0 ≡ Some (told x)) compared
+          (λ files there. ap (λ (o : Option Found). slice_get (cons_option o []) 0) (wrong files (held_at files path) refl there ∙ sym e));
+      long = not_long path x (λ k. row_holding (plate_rows plan rows at.1) k) apart (Rose old.longs new.longs) e;
       short = unless_long x (new.longs ≡ old.longs) longs;
     }
 

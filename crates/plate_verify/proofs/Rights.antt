@@ -12,11 +12,11 @@ use Rattle.plan_rows.specs.Groups.{groups_of}
 use Rattle.plan_rows.specs.Inks.{inks_of, has_site}
 use Rattle.plan_rows.specs.Plates.{PlateOf, group_plates, site_plates, file_of, site_files, plate_rows}
 use Rattle.plate_bytes.specs.Places.{row_holding}
-use Rattle.plate_verify.specs.Difference.{difference_of}
+use Rattle.pr_ports.specs.Difference.{difference_of}
 use Rattle.plate_verify.specs.Order.{SitePlate, plate_sites, plates_in_order}
 use Rattle.plate_verify.specs.Wrong.{Found, AllRight, OtherAt, TooMany, NotHeld, wrong_with, wrong_at, wrongs, first_wrong, AreHeld}
 use Rattle.plate_verify.proofs.Bounds.{rows-within}
-use Rattle.plate_verify.proofs.Differences.{difference-same, difference-none}
+use Rattle.pr_ports.proofs.Differences.{difference-same, difference-none}
 use Rattle.plate_verify.proofs.Each.{Each, Each-from_all, all_from_Each, Each-weaker, Each-flat_map, pieces_of_each, Each-map, mapped_each, Each-filter, filtered_each, Each-range, one_of_each, none_found, found_none, Each-swap, Each-found}
 
 -- ---- one plate

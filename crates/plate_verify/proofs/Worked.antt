@@ -2,7 +2,7 @@
 use Rattle.std.proofs.Common.{◌≡◌, [], ◌∷◌, Some, None, refl}
 use Rattle.tif_packbits.specs.Packbits.{packing}
 use Rattle.plate_bytes.specs.Places.{row_holding}
-use Rattle.plate_verify.specs.Difference.{difference_of}
+use Rattle.pr_ports.specs.Difference.{difference_of}
 use Rattle.plate_verify.specs.Wrong.{OtherAt, NotHeld, wrong_with}
 
 no_bytes : difference_of [] [] ≡ None

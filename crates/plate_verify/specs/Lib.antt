@@ -1,4 +1,3 @@
-pub mod Difference
 pub mod Looking
 pub mod Making
 pub mod Order

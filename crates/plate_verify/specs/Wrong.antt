@@ -6,7 +6,7 @@ use Rattle.pr_ports.specs.Shelf.{held_at}
 use Rattle.plan_json.specs.Data.{PlanData}
 use Rattle.plan_rows.specs.Plates.{file_of, plate_rows, site_files}
 use Rattle.plate_bytes.specs.Places.{row_holding}
-use Rattle.plate_verify.specs.Difference.{difference_of}
+use Rattle.pr_ports.specs.Difference.{difference_of}
 use Rattle.plate_verify.specs.Order.{SitePlate, plates_in_order}
 
 -- the state of the held plates of an edition

@@ -3,7 +3,6 @@
 
 mod checked;
 mod count;
-mod difference;
 mod edition;
 mod group;
 mod laws;
@@ -11,6 +10,6 @@ mod look;
 mod making;
 
 pub use checked::{Checked, VerifyFault};
-pub use difference::first_difference;
 pub use edition::verify;
 pub use laws::same_is_a_yes;
+pub use pr_ports::first_difference;

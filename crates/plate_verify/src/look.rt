@@ -1,14 +1,14 @@
 // Compares the held plates of a group with those that were made.
 ghost use Rattle.std.specs.Prelude.{◌≡◌, ◌<◌, ◌≤◌, ◌∷◌, [], ℕ, List, Some, length, option_map, slice_get};
 ghost use Rattle.plate_bytes.specs.Places.{row_ends, row_holding};
-ghost use Rattle.plate_verify.specs.Difference.{difference_of};
+ghost use Rattle.pr_ports.specs.Difference.{difference_of};
 ghost use Rattle.plate_verify.specs.Looking.{AreMade, IsMade, Looked, group_sites, plates_at, shelf_told};
 ghost use Rattle.plate_verify.specs.Looking.{told};
 ghost use Rattle.plan_rows.specs.Inks.{ink_count, inks_of};
 ghost use Rattle.plate_verify.specs.Order.{plate_sites};
 ghost use Rattle.plate_verify.specs.Wrong.{OtherAt};
 
-use crate::{Checked, VerifyFault, first_difference};
+use crate::{Checked, VerifyFault};
 use plan_json::Plan;
 use plan_rows::{Group, plate_path};
 use plate_bytes::PlateBytes;
@@ -16,26 +16,10 @@ use pr_base::{Ink, PathText};
 use pr_ports::{LoadFault, Shelf};
 use std::alloc::Global;
 
-/// The largest number of bytes loaded of a plate. No plate is longer.
+/// The largest number of bytes read of a plate. No plate is longer.
 const MOST_BYTES: u64 = 600_000_000;
 
-/// Returns where the held bytes of a plate differ from the plate, if they do.
-fn compare(path: PathText, made: &PlateBytes, held: &[u8]) -> Option<Checked>
-    ensures { (rows : List (List ℕ)) → made.now.ends ≡ row_ends rows →
-        option_map told result ≡ option_map (λ at. OtherAt path at (row_holding rows at))
-        (difference_of made.now.bytes held.now) }
-{
-    match first_difference(made.bytes(), held) {
-        Some(at) => Some(Checked::Differs {
-            path,
-            at,
-            row: made.row_of(at),
-        }),
-        None => None,
-    }
-}
-
-/// Loads the plate of a site, and compares it with the one that was made.
+/// Compares the plate of a site with the one that was made.
 fn look_at<H: Shelf>(
     alloc: Global,
     plan: &Plan,
@@ -53,8 +37,13 @@ fn look_at<H: Shelf>(
         (shelf_told H.Shelf shelf.old) (shelf_told H.Shelf shelf.new) result }
 {
     let path = plate_path(alloc, plan, out, site, group, ink)?;
-    match shelf.load(path.as_str(), MOST_BYTES) {
-        Ok(bytes) => Ok(compare(path, made, &bytes)),
+    match shelf.compare(path.as_str(), MOST_BYTES, made.bytes()) {
+        Ok(None) => Ok(None),
+        Ok(Some(at)) => Ok(Some(Checked::Differs {
+            path,
+            at,
+            row: made.row_of(at),
+        })),
         Err(LoadFault::Failed) => Err(VerifyFault::Shelf(path)),
         Err(LoadFault::TooLong { .. }) => Ok(Some(Checked::Long { path })),
         Err(LoadFault::Memory) => Err(VerifyFault::Memory),

@@ -1,3 +1,5 @@
 pub mod Distinct
+pub mod Differences
 mod Readers
 mod Offsets
+mod Rests

@@ -1,5 +1,5 @@
 -- Bytes that were read at offsets of a file, or behind others.
-use Rattle.std.proofs.Common.{◌≡◌, ℕ, ◌+◌, ◌<◌, ◌≤◌, List, ◌++◌, length, take, drop, Option, None, Some, ap, ap₂, sym, subst, ◌∙◌, arith, append_assoc}
+use Rattle.std.proofs.Common.{◌≡◌, ℕ, ◌+◌, ◌<◌, ◌≤◌, List, ◌++◌, length, take, drop, Option, None, Some, ap, ap₂, refl, sym, subst, ◌∙◌, arith, append_assoc}
 use Rattle.std.specs.Option.{option_map}
 use Rattle.std.specs.Io.KnownBytes.{Consumes, IsAtEnd}
 use Rattle.std.proofs.Math.Seq.{take-add, take-append-add}
@@ -31,6 +31,16 @@ pub front_more : (whole : Option (List ℕ)) (offset : ℕ) (before after : List
 front_more None offset before after at count front kept more = tt
 front_more (Some all) offset before after at count front kept more =
     take-add at count after ∙ ap₂ ◌++◌ (kept ∙ front) (more ∙ ap (take count) (sym (drop-drop at offset all))) ∙ sym (take-add at count (drop offset all))
+
+-- a buffer's bytes that the file has, and those behind them
+pub front_behind : (whole : Option (List ℕ)) (offset : ℕ) (bytes : List ℕ) (at count : ℕ)
+    → HasFront whole offset bytes at → HasFront whole (offset + at) (drop at bytes) count → HasFront whole offset bytes (at + count)
+front_behind whole offset bytes at count front more = front_more whole offset bytes bytes at count front refl more
+
+-- what was read at an offset, where it is equal to the front of other bytes
+pub front_equal : (whole : Option (List ℕ)) (offset : ℕ) (bytes read : List ℕ) (count : ℕ) → take count bytes ≡ take count read → HasFront whole offset read count → HasFront whole offset bytes count
+front_equal None offset bytes read count same front = tt
+front_equal (Some all) offset bytes read count same front = same ∙ front
 
 -- the whole front share, and a front of the share behind it
 pub both_read : (whole : Option (List ℕ)) (offset middle half : ℕ) (front back : List ℕ) (one other : ℕ) → length front ≡ half → middle ≡ offset + half → one ≡ half

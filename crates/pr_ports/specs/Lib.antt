@@ -1,4 +1,5 @@
 pub mod Shelf
 pub mod Sink
 pub mod Mem
+pub mod Difference
 pub mod Offset

@@ -5,6 +5,7 @@ use Rattle.std.specs.Option.{option_map}
 use Rattle.std.specs.Map.{lookup}
 use Rattle.std.specs.Io.KnownBytes.{Consumes, IsAtEnd}
 use Rattle.std.specs.Cmp.Lexicographic.{pointwise}
+use Rattle.pr_ports.specs.Difference.{difference_of}
 use Rattle.pr_ports.specs.declared.shelf.LoadFault.{LoadFault}
 use Rattle.pr_ports.specs.declared.shelf.LoadFault.TheVariants.{Failed, TooLong, Memory}
 
@@ -20,6 +21,11 @@ IsHeldAt held path bytes = IfSome held (λ files. held_at files path ≡ Some by
 abbrev pub IsLongerAt : Option (List (List ℕ × List ℕ)) → List ℕ → ℕ → Type 0
 IsLongerAt held path limit =
     IfSome held (λ files. IsSomeAnd (held_at files path) (λ bytes. limit < length bytes))
+
+-- where the shelf's files are known, the file at the path has at most limit bytes, and first differs there
+abbrev pub IsComparedAt : Option (List (List ℕ × List ℕ)) → List ℕ → ℕ → List ℕ → Option ℕ → Type 0
+IsComparedAt held path limit bytes at =
+    IfSome held (λ files. IsSomeAnd (held_at files path) (λ file. (length file ≤ limit) × (at ≡ difference_of bytes file)))
 
 -- whether the call returned Failed
 abbrev pub has_failed : {T : Type 0} → Result T LoadFault → Bool

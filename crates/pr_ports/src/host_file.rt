@@ -1,21 +1,24 @@
-// The files of the host, each loaded whole.
+// The files of the host, each loaded or compared whole.
 ghost use Rattle.std.specs.Prelude.{◌≡◌, ◌≤◌, IfOk, length, not};
 ghost use Rattle.std.specs.Thread.{IsSync};
 ghost use Rattle.pr_base.specs.Count.{count_unless};
 ghost use Rattle.pr_ports.specs.Shelf.{has_failed, IfTooLong};
 
-use crate::LoadFault;
+use crate::comparing;
+use crate::comparing::compare_long;
 use crate::host_shelf::read_whole;
 use crate::long_file::{read_long, threads_for};
+use crate::shares::LEAST_SHARE;
+use crate::{LoadFault, first_difference};
 use pr_base::{Counted, raised};
 use std::fs;
 use std::fs::{File, OpenFile};
 use std::rt::Files;
 use std::thread::Threads;
 
-/// Loads files of the host, long ones in several threads. A runtime that permits threads is one.
+/// Loads and compares files of the host, long ones in several threads. A runtime that permits threads is one.
 ///
-/// Implementers define `may`, the condition under which files may be loaded. It is kept here because neither
+/// Implementers define `may`, the condition under which files may be loaded and compared. It is kept here because neither
 /// a struct nor a method of `Shelf` can state that a value may be shared between threads.
 pub trait FileLoader {
     ghost may: { Type 0 };
@@ -28,6 +31,20 @@ pub trait FileLoader {
         ensures within { IfOk result (λ bytes. length bytes.items ≤ limit) }
         ensures count { faults.new ≡ count_unless (not (has_failed result)) faults.old }
         ensures faults_stay { faults.old ≤ faults.new };
+
+    /// Returns where the file at `path`, of at most `limit` bytes, first differs from `bytes`. `faults` counts
+    /// the calls that failed.
+    fn compare_file(
+        &self,
+        path: &str,
+        limit: u64,
+        bytes: &[u8],
+        faults: &mut u64,
+    ) -> Result<Option<u64>, LoadFault>
+        requires { may }
+        ensures told { IfTooLong result (λ told. told ≡ limit) }
+        ensures count { faults.new ≡ count_unless (not (has_failed result)) faults.old }
+        ensures faults_stay { faults.old ≤ faults.new };
 }
 
 impl<R: Files<File = File> + AllocGlobal + Threads + Sync> FileLoader for R {
@@ -36,6 +53,22 @@ impl<R: Files<File = File> + AllocGlobal + Threads + Sync> FileLoader for R {
     fn load_file(&self, path: &str, limit: u64, faults: &mut u64) -> Result<Vec<u8>, LoadFault> {
         match HostFile::open(self, path) {
             Some(file) => file.read(self, limit, faults),
+            None => {
+                *faults = raised(*faults);
+                Err(LoadFault::Failed)
+            }
+        }
+    }
+
+    fn compare_file(
+        &self,
+        path: &str,
+        limit: u64,
+        bytes: &[u8],
+        faults: &mut u64,
+    ) -> Result<Option<u64>, LoadFault> {
+        match HostFile::open(self, path) {
+            Some(file) => file.compare(self, limit, bytes, faults),
             None => {
                 *faults = raised(*faults);
                 Err(LoadFault::Failed)
@@ -63,7 +96,7 @@ impl HostFile {
     }
 }
 
-/// A file that is read whole, in several threads if it is long.
+/// A file that is read or compared whole, in several threads if it is long.
 ///
 /// This is a trait because an `impl` can pass a value of its type parameter on as one that threads may share
 /// only to a method of a trait that requires it.
@@ -78,6 +111,20 @@ trait ReadWide {
         requires { IsSync R.row }
         ensures told { IfTooLong result (λ told. told ≡ limit) }
         ensures within { IfOk result (λ bytes. length bytes.items ≤ limit) }
+        ensures count { faults.new ≡ count_unless (not (has_failed result)) faults.old }
+        ensures faults_stay { faults.old ≤ faults.new };
+
+    /// Returns where the file, of at most `limit` bytes, first differs from `bytes`. `faults` counts the reads
+    /// that failed.
+    fn compare<R: AllocGlobal + Threads + Sync>(
+        self,
+        rt: &R,
+        limit: u64,
+        bytes: &[u8],
+        faults: &mut u64,
+    ) -> Result<Option<u64>, LoadFault>
+        requires { IsSync R.row }
+        ensures told { IfTooLong result (λ told. told ≡ limit) }
         ensures count { faults.new ≡ count_unless (not (has_failed result)) faults.old }
         ensures faults_stay { faults.old ≤ faults.new };
 }
@@ -99,5 +146,24 @@ impl ReadWide for HostFile {
         let result = read_whole(alloc, &mut file, size, limit);
         *faults = file.faults();
         result
+    }
+
+    fn compare<R: AllocGlobal + Threads + Sync>(
+        self,
+        rt: &R,
+        limit: u64,
+        bytes: &[u8],
+        faults: &mut u64,
+    ) -> Result<Option<u64>, LoadFault> {
+        if self.size >= LEAST_SHARE as u64 {
+            let threads = comparing::threads_for(rt, self.size);
+            return compare_long(rt, threads, rt.alloc(), &self.file, limit, bytes, faults);
+        }
+        match self.read(rt, limit, faults) {
+            Ok(file) => Ok(first_difference(bytes, &file)),
+            Err(LoadFault::Failed) => Err(LoadFault::Failed),
+            Err(LoadFault::TooLong { limit }) => Err(LoadFault::TooLong { limit }),
+            Err(LoadFault::Memory) => Err(LoadFault::Memory),
+        }
     }
 }

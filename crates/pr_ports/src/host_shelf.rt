@@ -186,4 +186,22 @@ impl<R: FileLoader> Shelf for HostShelf<R> {
         }
         result
     }
+
+    fn compare(&mut self, path: &str, limit: u64, bytes: &[u8]) -> Result<Option<u64>, LoadFault>
+        ensures too_long { IfTooLong result (λ told. told ≡ limit) }
+        ensures long_counted { IfTooLong result (λ _. Rose self.old.longs self.new.longs) }
+        ensures long_uncounted { is_too_long result ≡ false → self.new.longs ≡ self.old.longs }
+        ensures counted { IsErrOf result LoadFault.Failed → Rose self.old.faults self.new.faults }
+        ensures uncounted { has_failed result ≡ false → self.new.faults ≡ self.old.faults }
+        ensures faults_stay { self.old.faults ≤ self.new.faults }
+        ensures longs_stay { self.old.longs ≤ self.new.longs }
+
+        ensures after { self.new ≡ counts_after self.old result }
+    {
+        let result = self.rt.compare_file(path, limit, bytes, &mut self.faults);
+        if let Err(LoadFault::TooLong { .. }) = &result {
+            self.longs = raised(self.longs);
+        }
+        result
+    }
 }

@@ -3,6 +3,8 @@
 // with a model of its full contents; one works on the host, where only the counts are known to contracts.
 #![tactic(auto)]
 
+mod comparing;
+mod difference;
 mod host_file;
 mod host_shelf;
 mod long_file;
@@ -14,6 +16,7 @@ mod shelf;
 mod sink;
 mod writer_sink;
 
+pub use difference::first_difference;
 pub use host_file::FileLoader;
 pub use host_shelf::HostShelf;
 pub use mem_shelf::MemShelf;

@@ -15,8 +15,18 @@ use std::thread::{Threads, available_parallelism};
 /// The bytes from which a file is loaded by several threads. Below, there is little to gain.
 const LONG_FILE: u64 = 8 << 20;
 
-/// The most threads that load a file.
+/// The most threads that load or compare a file.
 const MOST_THREADS: usize = 8;
+
+/// Returns the number of processors, at most eight.
+pub(crate) fn processors<T: Threads>(rt: &T) -> usize
+    ensures { result ≤ 8 }
+{
+    match available_parallelism(rt) {
+        Ok(processors) => processors.get().min(MOST_THREADS),
+        Err(_) => 1,
+    }
+}
 
 /// Returns how many threads load a file of `size` bytes. Two gain nothing over one, which reads each piece
 /// while its zeros are still in the cache.
@@ -24,9 +34,9 @@ pub(crate) fn threads_for<T: Threads>(rt: &T, size: u64) -> usize {
     if size < LONG_FILE {
         return 1;
     }
-    match available_parallelism(rt) {
-        Ok(processors) if processors.get() > 2 => processors.get().min(MOST_THREADS),
-        _ => 1,
+    match processors(rt) {
+        0..=2 => 1,
+        several => several,
     }
 }
 

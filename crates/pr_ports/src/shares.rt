@@ -7,7 +7,7 @@ use crate::offset::OffsetRead;
 use std::thread::{Threads, join_mut};
 
 /// The least bytes of a share: below, starting a thread takes longer than reading.
-const LEAST_SHARE: usize = 1 << 20;
+pub(crate) const LEAST_SHARE: usize = 1 << 20;
 
 /// Reads into `into` from index `at` on, from byte `offset` of the file on.
 fn read_behind_at<F: OffsetRead>(file: &F, into: &mut [u8], at: usize, offset: u64) -> Option<usize>

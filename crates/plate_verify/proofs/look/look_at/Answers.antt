@@ -1,27 +1,26 @@
 use Rattle.std.proofs.Common.{List, ℕ, ap, subst, ◌∙◌, refl, true}
-use Rattle.pr_ports.specs.Shelf.{IsHeldAt, IsLongerAt, missed_after}
+use Rattle.pr_ports.specs.Shelf.{IsComparedAt, IsLongerAt, missed_after}
 use Rattle.plan_rows.specs.Plates.{plate_rows}
 use Rattle.plate_verify.specs.Looking.{shelf_told}
-use Rattle.plate_verify.proofs.LookLemmas.{quiet, made_ends, looked_loaded, looked_long, looked_failed}
+use Rattle.plate_verify.proofs.LookLemmas.{quiet, made_ends, looked_compared, looked_long, looked_failed}
 use Rattle.plate_verify.proofs.look.look_at.Goals as goal
 
-pub returns-in-Ok : goal.returns-in-Ok
-returns-in-Ok g c = λ rows made.
-    let ends = c.in-Ok.ensures in
-    looked_loaded c.args.plan.now rows c.args.out.now (c.args.site, (c.args.group.now, c.args.ink)) (shelf_told g.H.Shelf c.args.shelf.now) (shelf_told g.H.Shelf c.load.new.self)
-    c.in_ok-path.path c.args.made.now c.in-Ok.bytes.items c.compare.result
+pub returns-in-Ok-None : goal.returns-in-Ok-None
+returns-in-Ok-None g c = λ rows made.
+    let ends = c.in-Ok-None.ensures in
+    looked_compared c.args.plan.now rows c.args.out.now (c.args.site, (c.args.group.now, c.args.ink)) (shelf_told g.H.Shelf c.args.shelf.now) (shelf_told g.H.Shelf c.compare.new.self)
+    c.in_ok-path.path c.args.made.now None None
     c.in_ok-path.ensures
-    (subst {A = List ℕ} (λ p. IsHeldAt (g.H.Shelf.held c.args.shelf.now) p c.in-Ok.bytes.items) c.as_str.ensures ends.bytes)
-    ends.within
-    (quiet (shelf_told g.H.Shelf c.args.shelf.now) (shelf_told g.H.Shelf c.load.new.self) c.as_str.result.now ends.missed ends.held (ends.uncounted refl) ends.faults_stay ends.longs_stay)
+    (subst {A = List ℕ} (λ p. IsComparedAt (g.H.Shelf.held c.args.shelf.now) p 600000000 c.args.made.now.bytes None) c.as_str.ensures ends.compared)
+    (quiet (shelf_told g.H.Shelf c.args.shelf.now) (shelf_told g.H.Shelf c.compare.new.self) c.as_str.result.now ends.missed ends.held (ends.uncounted refl) ends.faults_stay ends.longs_stay)
     (ends.long_uncounted refl)
     made
-    (rw c.deref.ensures.value at (c.compare.ensures (plate_rows c.args.plan.now rows (c.args.group.now, c.args.ink)) (made_ends c.args.plan.now rows (c.args.group.now, c.args.ink) c.args.made.now made)))
+    refl
 
 pub returns-in-Err-Failed : goal.returns-in-Err-Failed
 returns-in-Err-Failed g c = λ rows made.
     let ends = rw c.in-Err-Failed.field-0-is at c.in-Err-Failed.ensures in
-    looked_failed c.args.plan.now rows c.args.out.now (c.args.site, (c.args.group.now, c.args.ink)) (shelf_told g.H.Shelf c.args.shelf.now) (shelf_told g.H.Shelf c.load.new.self)
+    looked_failed c.args.plan.now rows c.args.out.now (c.args.site, (c.args.group.now, c.args.ink)) (shelf_told g.H.Shelf c.args.shelf.now) (shelf_told g.H.Shelf c.compare.new.self)
     c.in_ok-path.path
     c.in_ok-path.ensures
     (ends.counted refl)
@@ -32,9 +31,9 @@ returns-in-Err-Failed g c = λ rows made.
 pub returns-in-Err-TooLong : goal.returns-in-Err-TooLong
 returns-in-Err-TooLong g c = λ rows made.
     let ends = rw c.in-Err-TooLong.field-0-is at c.in-Err-TooLong.ensures in
-    looked_long c.args.plan.now rows c.args.out.now (c.args.site, (c.args.group.now, c.args.ink)) (shelf_told g.H.Shelf c.args.shelf.now) (shelf_told g.H.Shelf c.load.new.self)
+    looked_long c.args.plan.now rows c.args.out.now (c.args.site, (c.args.group.now, c.args.ink)) (shelf_told g.H.Shelf c.args.shelf.now) (shelf_told g.H.Shelf c.compare.new.self)
     c.in_ok-path.path
     c.in_ok-path.ensures
     (subst {A = List ℕ} (λ p. IsLongerAt (g.H.Shelf.held c.args.shelf.now) p 600000000) c.as_str.ensures ends.longer)
     ends.long_counted
-    (quiet (shelf_told g.H.Shelf c.args.shelf.now) (shelf_told g.H.Shelf c.load.new.self) c.as_str.result.now ends.missed ends.held (ends.uncounted refl) ends.faults_stay ends.longs_stay)
+    (quiet (shelf_told g.H.Shelf c.args.shelf.now) (shelf_told g.H.Shelf c.compare.new.self) c.as_str.result.now ends.missed ends.held (ends.uncounted refl) ends.faults_stay ends.longs_stay)

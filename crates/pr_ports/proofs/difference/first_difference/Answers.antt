@@ -1,7 +1,7 @@
 use Rattle.std.proofs.Common.{sym, arith}
-use Rattle.plate_verify.proofs.Differences.{difference-at, difference-whole}
-use Rattle.plate_verify.proofs.difference.first_difference.Goals as goal
-use Rattle.plate_verify.proofs.difference.first_difference.Goals.{else-at-a-via-then-at-a+else-at-b, else-at-a-via-else-at-a}
+use Rattle.pr_ports.proofs.Differences.{difference-at, difference-whole}
+use Rattle.pr_ports.proofs.difference.first_difference.Goals as goal
+use Rattle.pr_ports.proofs.difference.first_difference.Goals.{else-at-a-via-then-at-a+else-at-b, else-at-a-via-else-at-a}
 
 pub returns-then-at-b : goal.returns-then-at-b
 returns-then-at-b c =

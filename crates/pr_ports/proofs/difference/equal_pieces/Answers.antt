@@ -1,6 +1,6 @@
 use Rattle.std.proofs.Common.{arith}
-use Rattle.plate_verify.proofs.Differences.{IsAlikeTo-equal}
-use Rattle.plate_verify.proofs.difference.equal_pieces.Goals as goal
+use Rattle.pr_ports.proofs.Differences.{IsAlikeTo-equal}
+use Rattle.pr_ports.proofs.difference.equal_pieces.Goals as goal
 
 pub loop-at-preserved : goal.loop-at-preserved
 loop-at-preserved c =

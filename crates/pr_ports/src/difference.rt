@@ -1,6 +1,6 @@
 // Where two files first differ. Nothing here allocates memory.
 ghost use Rattle.std.specs.Prelude.{◌≡◌, ◌<◌, ◌≢◌, length, slice_index};
-ghost use Rattle.plate_verify.specs.Difference.{IsAlikeTo, difference_of};
+ghost use Rattle.pr_ports.specs.Difference.{IsAlikeTo, difference_of};
 
 /// The number of bytes compared at a time.
 const PIECE: usize = 4_096;

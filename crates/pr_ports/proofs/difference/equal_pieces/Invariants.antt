@@ -1,6 +1,6 @@
 use Rattle.std.proofs.Common.{◌-◌}
-use Rattle.plate_verify.specs.Difference.{IsAlikeTo}
-use Rattle.plate_verify.proofs.difference.equal_bytes.Given as goal
+use Rattle.pr_ports.specs.Difference.{IsAlikeTo}
+use Rattle.pr_ports.proofs.difference.equal_pieces.Given as goal
 
 abbrev pub invariant-loop-at : goal.invariant-loop-at
 invariant-loop-at l = IsAlikeTo l.a l.b l.at
