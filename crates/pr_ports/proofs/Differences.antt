@@ -104,11 +104,11 @@ difference-at a b n alike some other =
 
 map_zero : (o : Option ℕ) → o ≡ option_map (λ k. 0 + k) o
 map_zero None = refl
-map_zero (Some k) = refl
+map_zero (Some k) = ap {A = ℕ} {B = Option ℕ} (λ z. Some z) (omega arith)
 
 map_suc : (n : ℕ) (o : Option ℕ) → option_map suc (option_map (λ k. n + k) o) ≡ option_map (λ k. suc n + k) o
 map_suc n None = refl
-map_suc n (Some k) = refl
+map_suc n (Some k) = ap {A = ℕ} {B = Option ℕ} (λ z. Some z) (omega arith)
 
 -- behind equal bytes the difference is that of the rests
 pub difference-behind : (a b : List ℕ) (n : ℕ) → n ≤ length a → n ≤ length b → take n a ≡ take n b → difference_of a b ≡ option_map (λ k. n + k) (difference_of (drop n a) (drop n b))
@@ -119,21 +119,6 @@ difference-behind (x ∷ xs) (y ∷ ys) (suc n) p q same =
     heads_same x y (difference_of xs ys) (ap (λ l. get_or l 0 0) same)
     ∙ ap (option_map suc) (difference-behind xs ys n (omega arith) (omega arith) (ap (drop 1) same))
     ∙ map_suc n (difference_of (drop n xs) (drop n ys))
-
-within_more : (o : Option ℕ) (k most : ℕ) → ((j : ℕ) → o ≡ Some j → j ≤ most) → option_map suc o ≡ Some k → k ≤ suc most
-within_more None k most within is = cc
-within_more (Some j) k most within is = let same = unsome (suc j) k is in let low = within j refl in omega (arith, same, low)
-
--- a difference is at most where the first list ends
-pub difference-within : (a b : List ℕ) (k : ℕ) → difference_of a b ≡ Some k → k ≤ length a
-difference-within [] [] k is = cc
-difference-within [] (y ∷ ys) k is = let same = unsome 0 k is in omega (arith, same)
-difference-within (x ∷ xs) [] k is = let same = unsome 0 k is in omega (arith, same)
-difference-within (x ∷ xs) (y ∷ ys) k is =
-    ⊎_elim
-    (λ (same : x ≡ y). within_more (difference_of xs ys) k (length xs) (λ j. difference-within xs ys j) (sym (heads_same x y (difference_of xs ys) same) ∙ is))
-    (λ (apart : x ≡ y → ⊥). let same = unsome 0 k (sym (heads_apart x y (difference_of xs ys) apart) ∙ is) in omega (arith, same))
-    (cases_eq x y)
 
 true_is : true ≡ false → ⊥
 true_is e = cc

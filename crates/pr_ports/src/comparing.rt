@@ -50,47 +50,44 @@ fn compare_share<F: OffsetRead>(file: &F, bytes: &[u8], offset: u64, room: &mut 
     at
 }
 
-/// Does the same by at most `threads` threads, each of which compares a share of `bytes` in its part of `room`.
+/// Does the same by at most as many threads as `room` has pieces, each of which compares a share of `bytes` in its
+/// part of `room`.
 #[cycle(comparing)]
 #[tactic(auto, using(crate::proofs::Offsets::both_read))]
 fn compare_wide<T: Threads + Sync, F: OffsetRead + Sync>(
     rt: &T,
-    threads: usize,
     file: &F,
     offset: u64,
     bytes: &[u8],
     room: &mut [u8],
 ) -> usize
-    requires room { threads ≤ length room.old }
-    requires fits { offset + length bytes.now < 2 ^ 64 }
+    requires { offset + length bytes.now < 2 ^ 64 }
     ensures within { result ≤ length bytes.now }
     ensures front { HasFront (F.whole file.now) offset bytes.now result }
 {
+    let threads = room.len() / PIECE;
     if threads < 2 || bytes.len() / 2 < LEAST_SHARE {
         return compare_share(file, bytes, offset, room);
     }
     let fewer = threads / 2;
-    let more = threads - fewer;
     let half = bytes.len() / threads * fewer;
     let middle = offset + half as u64;
     let (front, back) = bytes.split_at(half);
-    let (one_room, other_room) = room.split_at_mut(room.len() / threads * fewer);
+    let (one_room, other_room) = room.split_at_mut(fewer * PIECE);
     let (one, other) = join_mut(
         rt,
         &mut || -> usize
             requires sync { IsSync T.row × IsSync F.row }
-            requires room { fewer ≤ length one_room.now }
             requires fits { offset + length front.now < 2 ^ 64 }
             ensures { (result ≤ length front.entry.now)
                 × HasFront (F.whole file.entry.now) offset front.entry.now result }
-        { compare_wide(rt, fewer, file, offset, front, one_room) },
+        { compare_wide(rt, file, offset, front, one_room) },
         &mut || -> usize
             requires sync { IsSync T.row × IsSync F.row }
-            requires room { more ≤ length other_room.now }
             requires fits { middle + length back.now < 2 ^ 64 }
             ensures { (result ≤ length back.entry.now)
                 × HasFront (F.whole file.entry.now) middle back.entry.now result }
-        { compare_wide(rt, more, file, middle, back, other_room) },
+        { compare_wide(rt, file, middle, back, other_room) },
     );
     if one < half { one } else { half + other }
 }
@@ -103,13 +100,13 @@ pub(crate) fn threads_for<T: Threads>(rt: &T, size: u64) -> usize
     processors(rt).min(shares).max(1)
 }
 
-/// Moves an offset behind bytes that come before it.
-fn behind(before: usize, at: Option<u64>) -> Option<u64>
-    requires { IfSome at (λ k. before + k < 2 ^ 64) }
-    ensures { result ≡ option_map (λ k. before + k) at }
+/// Returns where `bytes` first differ from others that begin with `alike` of them and go on with `left`.
+fn difference_behind(bytes: &[u8], alike: usize, left: &[u8]) -> Option<u64>
+    requires { alike ≤ length bytes.now }
+    ensures { result ≡ option_map (λ k. alike + k) (difference_of (drop alike bytes.now) left.now) }
 {
-    match at {
-        Some(k) => Some(before as u64 + k),
+    match first_difference(&bytes[alike..], left) {
+        Some(at) => Some(alike as u64 + at),
         None => None,
     }
 }
@@ -138,12 +135,12 @@ pub(crate) fn compare_long<T: Threads + Sync, F: OffsetRead + Sync>(
         return Err(LoadFault::Memory);
     };
     let most = limit.min(bytes.len() as u64) as usize;
-    let alike = compare_wide(rt, threads, file, 0, &bytes[..most], &mut room);
+    let alike = compare_wide(rt, file, 0, &bytes[..most], &mut room);
     let mut rest = Counted::new(FromOffset { file, offset: alike as u64 }, *faults);
     let left = read_on(&mut rest, Vec::new(alloc), limit - alike as u64);
     *faults = rest.faults();
     match left {
-        Ok(left) => Ok(behind(alike, first_difference(&bytes[alike..], &left))),
+        Ok(left) => Ok(difference_behind(bytes, alike, &left)),
         Err(LoadFault::TooLong { .. }) => Err(LoadFault::TooLong { limit }),
         Err(LoadFault::Failed) => Err(LoadFault::Failed),
         Err(LoadFault::Memory) => Err(LoadFault::Memory),

@@ -1,5 +1,5 @@
 // Where two files first differ. Nothing here allocates memory.
-ghost use Rattle.std.specs.Prelude.{◌≡◌, ◌<◌, ◌≢◌, length, slice_index};
+ghost use Rattle.std.specs.Prelude.{◌≡◌, ◌<◌, ◌≢◌, ◌≤◌, IfSome, length, slice_index};
 ghost use Rattle.pr_ports.specs.Difference.{IsAlikeTo, difference_of};
 
 /// The number of bytes compared at a time.
@@ -8,7 +8,8 @@ const PIECE: usize = 4_096;
 /// Returns the first offset at which one file has a byte that differs from the other's, or that the other
 /// lacks; `None` exactly if the files are equal.
 pub fn first_difference(a: &[u8], b: &[u8]) -> Option<u64>
-    ensures { result ≡ difference_of a.now b.now }
+    ensures first { result ≡ difference_of a.now b.now }
+    ensures within { IfSome result (λ at. at ≤ length a.now) }
 {
     let at = equal_bytes(a, b, equal_pieces(a, b));
     if at == a.len() && at == b.len() {
