@@ -1,4 +1,6 @@
-use Rattle.std.proofs.Common.{List, ℕ, ap, subst, ◌∙◌, refl, true}
+use Rattle.std.proofs.Common.{List, ℕ, Option, None, Some, ap, subst, ◌∙◌, refl, true}
+use Rattle.plate_verify.specs.declared.checked.Checked.TheVariants.{Differs}
+use Rattle.plate_verify.specs.Wrong.{Found, OtherAt}
 use Rattle.pr_ports.specs.Shelf.{IsComparedAt, IsLongerAt, missed_after}
 use Rattle.plan_rows.specs.Plates.{plate_rows}
 use Rattle.plate_verify.specs.Looking.{shelf_told}
@@ -7,7 +9,7 @@ use Rattle.plate_verify.proofs.look.look_at.Goals as goal
 
 pub returns-in-Ok-None : goal.returns-in-Ok-None
 returns-in-Ok-None g c = λ rows made.
-    let ends = c.in-Ok-None.ensures in
+    let ends = rw (c.in-Ok-None.field-0-is, c.bytes.ensures) at c.in-Ok-None.ensures in
     looked_compared c.args.plan.now rows c.args.out.now (c.args.site, (c.args.group.now, c.args.ink)) (shelf_told g.H.Shelf c.args.shelf.now) (shelf_told g.H.Shelf c.compare.new.self)
     c.in_ok-path.path c.args.made.now None None
     c.in_ok-path.ensures
@@ -16,6 +18,19 @@ returns-in-Ok-None g c = λ rows made.
     (ends.long_uncounted refl)
     made
     refl
+
+pub returns-in-Ok-Some : goal.returns-in-Ok-Some
+returns-in-Ok-Some g c = λ rows made.
+    let ends = rw (c.in-Ok-Some.field-0-is, c.bytes.ensures) at c.in-Ok-Some.ensures in
+    let row = c.row_of.ensures (plate_rows c.args.plan.now rows (c.args.group.now, c.args.ink)) (made_ends c.args.plan.now rows (c.args.group.now, c.args.ink) c.args.made.now made) in
+    looked_compared c.args.plan.now rows c.args.out.now (c.args.site, (c.args.group.now, c.args.ink)) (shelf_told g.H.Shelf c.args.shelf.now) (shelf_told g.H.Shelf c.compare.new.self)
+    c.in_ok-path.path c.args.made.now (Some c.in-Ok-Some.at) (Some (Differs c.in_ok-path.path c.in-Ok-Some.at c.row_of.result))
+    c.in_ok-path.ensures
+    (subst {A = List ℕ} (λ p. IsComparedAt (g.H.Shelf.held c.args.shelf.now) p 600000000 c.args.made.now.bytes (Some c.in-Ok-Some.at)) c.as_str.ensures ends.compared)
+    (quiet (shelf_told g.H.Shelf c.args.shelf.now) (shelf_told g.H.Shelf c.compare.new.self) c.as_str.result.now ends.missed ends.held (ends.uncounted refl) ends.faults_stay ends.longs_stay)
+    (ends.long_uncounted refl)
+    made
+    (ap {B = Option Found} (λ r. Some (OtherAt c.in_ok-path.path c.in-Ok-Some.at r)) row)
 
 pub returns-in-Err-Failed : goal.returns-in-Err-Failed
 returns-in-Err-Failed g c = λ rows made.
