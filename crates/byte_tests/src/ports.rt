@@ -18,6 +18,17 @@ fn loads<S: Shelf>(shelf: &mut S, path: &str, limit: u64, want: Result<&[u8], Lo
     }
 }
 
+/// Returns whether `compare` with these bytes returns this.
+fn compares<S: Shelf>(
+    shelf: &mut S,
+    path: &str,
+    limit: u64,
+    bytes: &[u8],
+    want: Result<Option<u64>, LoadFault>,
+) -> bool {
+    shelf.compare(path, limit, bytes) == want
+}
+
 #[test]
 fn a_shelf_in_memory_loads_what_it_holds(rt: HostRuntime) {
     let mut shelf = shelf_of(&rt);
@@ -27,6 +38,9 @@ fn a_shelf_in_memory_loads_what_it_holds(rt: HostRuntime) {
         loads(&mut shelf, "in/a.tif", 4, Err(too_long)),
         loads(&mut shelf, "in/b.tif", 5, Err(LoadFault::Failed)),
         loads(&mut shelf, "in/a.tif", 5, Err(LoadFault::Failed)),
+        compares(&mut shelf, "in/a.tif", 5, b"plate", Ok(None)),
+        compares(&mut shelf, "in/a.tif", 5, b"plane", Ok(Some(3))),
+        compares(&mut shelf, "in/a.tif", 4, b"plate", Err(too_long)),
     ];
     check(&rt, &loaded);
 }
@@ -48,29 +62,50 @@ fn own_file(rt: &HostRuntime, name: &str) -> Result<PathBuf, Fail> {
     Ok(env::temp_dir(rt)?.join(rt.alloc(), name)?)
 }
 
+// Returns whether a file of these bytes, which are not short of three, compares with them, with a byte changed in
+// their last third, and with those before that byte.
+fn differs<S: Shelf>(rt: &HostRuntime, shelf: &mut S, path: &str, bytes: &[u8]) -> bool {
+    let limit = bytes.len() as u64;
+    let at = bytes.len() / 3 * 2;
+    let Ok(mut other) = bytes.to_vec(rt.alloc()) else {
+        return false;
+    };
+    let Some(byte) = other.as_mut_slice().get_mut(at) else {
+        return false;
+    };
+    *byte ^= 1;
+    compares(shelf, path, limit, bytes, Ok(None))
+        && compares(shelf, path, limit, &other, Ok(Some(at as u64)))
+        && compares(shelf, path, limit, &bytes[..at], Ok(Some(at as u64)))
+}
+
 // Writes a file of these bytes, and returns whether it loads with its length as the limit, and is too long
-// for a limit of one byte less.
+// for a limit of one byte less, also where it is compared.
 fn reads<S: Shelf>(rt: &HostRuntime, shelf: &mut S, path: &str, bytes: &[u8]) -> bool {
     let limit = bytes.len() as u64;
     let less = limit.saturating_sub(1);
     fs::write(rt, path, bytes).is_ok()
         && loads(shelf, path, limit, Ok(bytes))
         && loads(shelf, path, less, Err(LoadFault::TooLong { limit: less }))
+        && compares(shelf, path, less, bytes, Err(LoadFault::TooLong { limit: less }))
+        && differs(rt, shelf, path, bytes)
 }
 
 // The longer file takes more than one read. The directory / can be opened but not read.
-fn reads_and_refuses<S: Shelf>(rt: &HostRuntime, shelf: &mut S, path: &str) -> [bool; 5] {
+fn reads_and_refuses<S: Shelf>(rt: &HostRuntime, shelf: &mut S, path: &str) -> [bool; 7] {
     [
         reads(rt, shelf, path, b"plate"),
         reads(rt, shelf, path, &[0x4B; 70_000]),
         fs::remove_file(rt, path).is_ok(),
         loads(shelf, path, 5, Err(LoadFault::Failed)),
         loads(shelf, "/", 5, Err(LoadFault::Failed)),
+        compares(shelf, path, 5, b"plate", Err(LoadFault::Failed)),
+        compares(shelf, "/", 5, b"plate", Err(LoadFault::Failed)),
     ]
 }
 
 // What a shelf of the machine reads and refuses at this path.
-fn tries_a_shelf<L: FileLoader + Drop>(rt: &HostRuntime, files: L, path: &str) -> [bool; 5]
+fn tries_a_shelf<L: FileLoader + Drop>(rt: &HostRuntime, files: L, path: &str) -> [bool; 7]
     requires { L.may }
 {
     let mut shelf = HostShelf::new(files);
