@@ -87,7 +87,13 @@ fn reads<S: Shelf>(rt: &HostRuntime, shelf: &mut S, path: &str, bytes: &[u8]) ->
     fs::write(rt, path, bytes).is_ok()
         && loads(shelf, path, limit, Ok(bytes))
         && loads(shelf, path, less, Err(LoadFault::TooLong { limit: less }))
-        && compares(shelf, path, less, bytes, Err(LoadFault::TooLong { limit: less }))
+        && compares(
+            shelf,
+            path,
+            less,
+            bytes,
+            Err(LoadFault::TooLong { limit: less }),
+        )
         && differs(rt, shelf, path, bytes)
 }
 

@@ -136,7 +136,13 @@ pub(crate) fn compare_long<T: Threads + Sync, F: OffsetRead + Sync>(
     };
     let most = limit.min(bytes.len() as u64) as usize;
     let alike = compare_wide(rt, file, 0, &bytes[..most], &mut room);
-    let mut rest = Counted::new(FromOffset { file, offset: alike as u64 }, *faults);
+    let mut rest = Counted::new(
+        FromOffset {
+            file,
+            offset: alike as u64,
+        },
+        *faults,
+    );
     let left = read_on(&mut rest, Vec::new(alloc), limit - alike as u64);
     *faults = rest.faults();
     match left {

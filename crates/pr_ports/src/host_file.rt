@@ -4,12 +4,11 @@ ghost use Rattle.std.specs.Thread.{IsSync};
 ghost use Rattle.pr_base.specs.Count.{count_unless};
 ghost use Rattle.pr_ports.specs.Shelf.{has_failed, IfTooLong};
 
-use crate::comparing;
 use crate::comparing::compare_long;
 use crate::host_shelf::read_whole;
 use crate::long_file::{read_long, threads_for};
 use crate::shares::LEAST_SHARE;
-use crate::{LoadFault, first_difference};
+use crate::{LoadFault, comparing, first_difference};
 use pr_base::{Counted, raised};
 use std::fs;
 use std::fs::{File, OpenFile};
