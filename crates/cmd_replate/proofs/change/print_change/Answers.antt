@@ -15,7 +15,8 @@ returns-in_err-text-clause-answered g c =
     let late = c.in_ok-late.ensures.loaded in
     let p = err_from_is_err_and c.from_residual-in_err-text.result c.from_residual-in_err-text.ensures.1 in
     rw (p.1, p.2) (inr (inl (record {
-      text = remade_text late.before.plan c.in_ok-late.late.job.plan c.args.change.out.now c.in_ok-remade.remade.items;
+      text = remade_text late.before.plan c.in_ok-late.late.job.plan c.args.change.out.now
+          c.in_ok-remade.remade.items;
       status = status_of_remade c.in_ok-remade.remade.items;
       prints = record {
         before = late.before;
@@ -37,8 +38,9 @@ returns-in_err-text-clause-answered g c =
 pub returns-clause-answered : goal.returns-clause-answered
 returns-clause-answered g c =
     let late = c.in_ok-late.ensures.loaded in
-    put_makes (change_rules (change_told c.args.change)) (change_makes g.R.Rack (change_told c.args.change)) _ c.args.racks.now
-    c.make_late.new.racks _ c.as_bytes.result.now (number_of c.status_of.result) c.put_text.result
+    let change = change_told c.args.change in
+    put_makes (change_rules change) (change_makes g.R.Rack change) _ c.args.racks.now c.make_late.new.racks _
+    c.as_bytes.result.now (number_of c.status_of.result) c.put_text.result
     (record {
       before = late.before;
       job = c.in_ok-late.late.job;
@@ -52,7 +54,8 @@ returns-clause-answered g c =
       delivers = c.in_ok-remade.ensures.delivers;
       text_is = c.as_bytes.ensures.value ∙ c.in_ok-text.ensures
           ∙ text_is late.before.plan c.in_ok-late.late.job.plan c.plan-plan.result.now c.args.change.out.now
-          c.as_slice-ends.result.now c.in_ok-remade.remade.items c.as_str-dropped.result.now c.plan-plan.ensures.plan c.as_slice-ends.ensures.value
+          c.as_slice-ends.result.now c.in_ok-remade.remade.items c.as_str-dropped.result.now
+          c.plan-plan.ensures.plan c.as_slice-ends.ensures.value
           (c.as_str-dropped.ensures.value ∙ late.is.dropped);
       status_is = c.status_of.ensures ∙ ap status_of_remade c.as_slice-ends.ensures.value;
     })
@@ -78,13 +81,19 @@ returns-in_err-late-clause-lengths g c =
     rw (p.1, p.2) c.in_err-late.ensures.lengths
 
 pub returns-in_err-remade-clause-lengths : goal.returns-in_err-remade-clause-lengths
-returns-in_err-remade-clause-lengths g c = none_lengths (shelf_seen g.H.Shelf c.args.shelf.now c.load_late.new.shelf) c.from_residual-in_err-remade.result c.in_ok-late.ensures.lengths
+returns-in_err-remade-clause-lengths g c =
+    none_lengths (shelf_seen g.H.Shelf c.args.shelf.now c.load_late.new.shelf)
+    c.from_residual-in_err-remade.result c.in_ok-late.ensures.lengths
 
 pub returns-in_err-text-clause-lengths : goal.returns-in_err-text-clause-lengths
-returns-in_err-text-clause-lengths g c = none_lengths (shelf_seen g.H.Shelf c.args.shelf.now c.load_late.new.shelf) c.from_residual-in_err-text.result c.in_ok-late.ensures.lengths
+returns-in_err-text-clause-lengths g c =
+    none_lengths (shelf_seen g.H.Shelf c.args.shelf.now c.load_late.new.shelf)
+    c.from_residual-in_err-text.result c.in_ok-late.ensures.lengths
 
 pub returns-clause-lengths : goal.returns-clause-lengths
-returns-clause-lengths g c = none_lengths (shelf_seen g.H.Shelf c.args.shelf.now c.load_late.new.shelf) c.put_text.result c.in_ok-late.ensures.lengths
+returns-clause-lengths g c =
+    none_lengths (shelf_seen g.H.Shelf c.args.shelf.now c.load_late.new.shelf) c.put_text.result
+    c.in_ok-late.ensures.lengths
 
 pub returns-in_err-late-clause-writes : goal.returns-in_err-late-clause-writes
 returns-in_err-late-clause-writes g c = λ done. refl
