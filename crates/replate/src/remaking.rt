@@ -119,7 +119,7 @@ impl Remaking<'_> {
             (all_told R.Rack racks.old) (all_told R.Rack racks.new)) }
         ensures counts { KeepCounts (all_told R.Rack racks.old) (all_told R.Rack racks.new) }
     {
-        let mut row = vec![in self.alloc; 0; deal.row_len()].map_err(|_| NoMemory)?;
+        let mut row = vec![in self.alloc; 0; deal.row_len()]?;
         let mut deck = Deck::open(self.alloc, deal)?;
         self.make_rows(&mut deck, feed, row.as_mut_slice(), racks)
     }

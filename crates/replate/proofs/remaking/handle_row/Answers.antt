@@ -1,4 +1,4 @@
-use Rattle.std.proofs.Common.{List, ℕ, length, sym, ◌∙◌, rules}
+use Rattle.std.proofs.Common.{length, sym, ◌∙◌, rules}
 use Rattle.std.specs.Prelude.{OnErr, OnOk}
 use Rattle.pr_rack.specs.Told.{told}
 use Rattle.replate.specs.Making.{AllMade, AllSomeServed, AllStopped}
@@ -34,23 +34,21 @@ put-requires-clause-next g c =
 
 pub hand_row-requires-clause-some : goal.hand_row-requires-clause-some
 hand_row-requires-clause-some g c =
-    as_last
-    (λ (rows : List (List ℕ)) (n : ℕ). AllSomeServed (told g.R.Rack) rows n c.args.makers.now
-    c.args.racks.now)
+    as_last (λ rows n. AllSomeServed (told g.R.Rack) rows n c.args.makers.now c.args.racks.now)
     c.args.deck.now c.put.new.self c.put.ensures c.requires.some
 
 pub returns-clause-made : goal.returns-clause-made
 returns-clause-made g c =
     as_next
-    (λ (rows : List (List ℕ)) (n : ℕ). OnOk c.hand_row.result (AllMade (told g.R.Rack) rows n
-    c.args.makers.now c.args.racks.now c.hand_row.new.makers c.hand_row.new.racks))
+    (λ rows n. OnOk c.hand_row.result (AllMade (told g.R.Rack) rows n c.args.makers.now c.args.racks.now
+    c.hand_row.new.makers c.hand_row.new.racks))
     c.args.deck.now c.put.new.self c.put.ensures c.hand_row.ensures.made
 
 pub returns-clause-stopped : goal.returns-clause-stopped
 returns-clause-stopped g c =
     as_next
-    (λ (rows : List (List ℕ)) (n : ℕ). OnErr c.hand_row.result (AllStopped (told g.R.Rack) rows n
-    c.args.makers.now c.args.racks.now c.hand_row.new.racks))
+    (λ rows n. OnErr c.hand_row.result (AllStopped (told g.R.Rack) rows n c.args.makers.now
+    c.args.racks.now c.hand_row.new.racks))
     c.args.deck.now c.put.new.self c.put.ensures c.hand_row.ensures.stopped
 
 pub returns-clause-feed : goal.returns-clause-feed
