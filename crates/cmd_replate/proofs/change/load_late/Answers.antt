@@ -36,7 +36,7 @@ returns-in_err-job-clause-lengths g c =
 
 pub returns-in_err-late-clause-lengths : goal.returns-in_err-late-clause-lengths
 returns-in_err-late-clause-lengths g c =
-    none_lengths (shelf_seen g.H.Shelf c.args.shelf.now c.load_job-job.new.shelf)
+    none_lengths (shelf_seen g.H.Shelf c.args.shelf.now c.load_job-2.new.shelf)
     c.from_residual-in_err-late.result (c.in_ok-job.ensures.lengths ∙ c.in_ok-before.ensures.lengths)
 
 pub returns-clause-lengths : goal.returns-clause-lengths
