@@ -19,7 +19,7 @@ pub returns-in_err-text-clause-delivered : goal.returns-in_err-text-clause-deliv
 returns-in_err-text-clause-delivered g c =
     let p = err_from_is_err_and c.from_residual-in_err-text.result c.from_residual-in_err-text.ensures.1 in
     let job = c.args.job.now in
-    let ends = c.in_ok-run_keys.outcome.sites.items in
+    let ends = c.in_ok-outcome.outcome.sites.items in
     let few = c.files-files.ensures.plan.site_count.most in
     let sites = ap (λ (plan : PlanData). length plan.sites) c.plan-plan.ensures.plan in
     rw (p.1, p.2) (inl (record {
@@ -27,7 +27,7 @@ returns-in_err-text-clause-delivered g c =
       status = status_of_ends ends;
       reports = reports_are g.R.Rack (edition_told c.args.edition) (further_keys c.args.keys) job
           c.args.racks.now c.run_keys.new.racks _ _ ends (omega (arith, c.requires.racks, few, sites))
-          c.run_keys.auto.racks c.in_ok-run_keys.ensures.fits c.run_keys.ensures.others refl refl;
+          c.run_keys.auto.racks c.in_ok-outcome.ensures.fits c.run_keys.ensures.others refl refl;
       grew = (0, grew_nothing _ _ refl);
     }))
 
@@ -36,18 +36,18 @@ returns-clause-delivered g c =
     let edition = edition_told c.args.edition in
     let further = further_keys c.args.keys in
     let job = c.args.job.now in
-    let ends = c.in_ok-run_keys.outcome.sites.items in
+    let ends = c.in_ok-outcome.outcome.sites.items in
     let few = c.files-files.ensures.plan.site_count.most in
     let sites = ap (λ (plan : PlanData). length plan.sites) c.plan-plan.ensures.plan in
     put_delivers g.R.Rack edition further job c.args.racks.now c.run_keys.new.racks _
     c.as_bytes.result.now (number_of c.status_of.result) c.put_text.result
     (reports_are g.R.Rack edition further job c.args.racks.now c.run_keys.new.racks _ _ ends
-    (omega (arith, c.requires.racks, few, sites)) c.run_keys.auto.racks c.in_ok-run_keys.ensures.fits
+    (omega (arith, c.requires.racks, few, sites)) c.run_keys.auto.racks c.in_ok-outcome.ensures.fits
     c.run_keys.ensures.others
     (c.as_bytes.ensures.value ∙ c.in_ok-text.ensures
-    ∙ ap (λ list. report_of job.plan list ++ keys_lines c.in_ok-run_keys.counts.keys job)
+    ∙ ap (λ list. report_of job.plan list ++ keys_lines c.in_ok-outcome.counts.keys job)
     c.as_slice-ends.ensures.value
-    ∙ ap (λ (k : ℕ). report_of job.plan ends ++ keys_lines k job) c.in_ok-run_keys.ensures.keys.keys_are)
+    ∙ ap (λ (k : ℕ). report_of job.plan ends ++ keys_lines k job) c.in_ok-outcome.ensures.keys.keys_are)
     (c.status_of.ensures ∙ ap status_of_ends c.as_slice-ends.ensures.value))
     c.put_text.ensures.puts
 
