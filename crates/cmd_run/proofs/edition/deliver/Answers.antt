@@ -29,7 +29,7 @@ returns-in_err-text-clause-delivered g c =
       reports = reports_are g.R.Rack edition none_further job c.args.racks.now c.run_job.new.racks _ _ ends
           (omega (arith, c.requires.racks, few, sites)) c.run_job.auto.racks
           (fits_alone edition job _ _ _ c.in_ok-outcome.ensures.fits) c.run_job.ensures.others
-          (sym (append-nil _)) refl;
+          (sym (append-nil (report_of job.plan ends))) refl;
       grew = (0, grew_nothing _ _ refl);
     }))
 
