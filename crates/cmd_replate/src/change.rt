@@ -64,15 +64,11 @@ pub fn print_change<T: Threads + Sync, H: Shelf, R: Rack, S: Sink>(
     ensures writes { Writes (sink_seen S.Sink out.old out.new) result }
 {
     let late = load_late(rt, alloc, change, shelf)?;
-    let Ok(remade) = make_late(&ByThreads { rt }, alloc, change, &late, racks) else {
-        return Err(Stop::Memory);
-    };
+    let remade = make_late(&ByThreads { rt }, alloc, change, &late, racks)?;
     let ends = remade.as_slice();
     let plan = late.job.plan();
     let dropped = late.dropped.as_str();
-    let Ok(text) = remade_text(alloc, plan, ends, dropped) else {
-        return Err(Stop::Memory);
-    };
+    let text = remade_text(alloc, plan, ends, dropped)?;
     put_text(text.as_bytes(), status_of(ends), out)
 }
 
@@ -99,9 +95,7 @@ fn load_late<T: Threads + Sync, H: Shelf>(
         shelf,
     )?;
     let job = load_job(rt, alloc, Whose::New, change.plan, change.files, shelf)?;
-    let Ok(late) = compare(alloc, &before, job, change.out) else {
-        return Err(Stop::Memory);
-    };
+    let late = compare(alloc, &before, job, change.out)?;
     Ok(late)
 }
 

@@ -69,9 +69,7 @@ pub fn print_drill<T: Threads + Clock + Sync, S: Sink>(
         shelf (sink_seen S.Sink out.old out.new) result }
     ensures writes { Writes (sink_seen S.Sink out.old out.new) result }
 {
-    let Ok(text) = drill_text(rt, alloc, drill) else {
-        return Err(Stop::Memory);
-    };
+    let text = drill_text(rt, alloc, drill)?;
     put_text(text.as_bytes(), Status::Done, out)
 }
 

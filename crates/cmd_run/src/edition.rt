@@ -81,7 +81,7 @@ fn deliver<T: Threads + Clock + Sync, R: Rack + Send, S: Sink>(
     let plan = job.plan();
     // Called for its contract, which states what holds of every plan that was read.
     let _files = plan.files();
-    let Ok(outcome) = run_job(
+    let outcome = run_job(
         rt,
         alloc,
         job,
@@ -89,13 +89,9 @@ fn deliver<T: Threads + Clock + Sync, R: Rack + Send, S: Sink>(
         edition.out,
         edition.ring,
         edition.patience,
-    ) else {
-        return Err(Stop::Memory);
-    };
+    )?;
     let ends = outcome.sites.as_slice();
-    let Ok(text) = report(alloc, plan, job.rows().total(), ends) else {
-        return Err(Stop::Memory);
-    };
+    let text = report(alloc, plan, job.rows().total(), ends)?;
     put_text(text.as_bytes(), status_of(ends), out)
 }
 

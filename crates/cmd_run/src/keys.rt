@@ -80,7 +80,7 @@ fn deliver<T: Threads + Clock + Sync, R: Rack + Send, S: Sink>(
     let plan = job.plan();
     // Called for its contract, which states what holds of every plan that was read.
     let _files = plan.files();
-    let Ok((outcome, counts)) = run_keys(
+    let (outcome, counts) = run_keys(
         rt,
         alloc,
         job,
@@ -89,13 +89,9 @@ fn deliver<T: Threads + Clock + Sync, R: Rack + Send, S: Sink>(
         keys,
         edition.ring,
         edition.patience,
-    ) else {
-        return Err(Stop::Memory);
-    };
+    )?;
     let ends = outcome.sites.as_slice();
-    let Ok(text) = counted_text(alloc, job, ends, &counts) else {
-        return Err(Stop::Memory);
-    };
+    let text = counted_text(alloc, job, ends, &counts)?;
     put_text(text.as_bytes(), status_of(ends), out)
 }
 

@@ -1,13 +1,13 @@
--- All sites of a delivery, from the first row to the last.
-use Rattle.std.proofs.Common.{◌≡◌, ℕ, zero, suc, ◌+◌, ◌-◌, ◌<◌, ◌≤◌, Bool, true, false, not, List, [], ◌∷◌, ◌++◌, length, map, get_or, eqb, Option, Some, None, refl, sym, ap, subst, ◌∙◌, zero-add, append-nil, ⊎_elim, inl, arith}
+-- A site of a delivery, from the first row to the last, and the racks of all.
+use Rattle.std.proofs.Common.{◌≡◌, ℕ, zero, suc, ◌+◌, ◌-◌, ◌<◌, ◌≤◌, Bool, true, false, not, List, [], ◌∷◌}
+use Rattle.std.proofs.Common.{◌++◌, length, map, get_or, eqb, Option, Some, None, refl, sym, ap, subst, ◌∙◌}
+use Rattle.std.proofs.Common.{append-nil, ⊎_elim, inl, arith}
 use Rattle.std.specs.Prelude.{All, count_by, drop, slice_get}
-use Rattle.std.specs.List.{range_with_len}
 use Rattle.std.specs.Option.{option_map}
 use Rattle.std.proofs.lemmas.Bool.{cases_lt, eq-eqb, eqb-true, false≢true}
-use Rattle.std.proofs.lemmas.List.{get_or-map, length-map}
-use Rattle.std.proofs.lemmas.List.FromFn.{get_or-range_with_len, length-map-range_with_len, length-range_with_len}
+use Rattle.std.proofs.lemmas.List.{length-map}
 use Rattle.std.proofs.lemmas.List.Sums.{count_by-le-length}
-use Rattle.std.proofs.lemmas.Option.{get_or_from_slice_get, same_Some, slice_get-get_or, slice_get-map, slice_get_within}
+use Rattle.std.proofs.lemmas.Option.{same_Some, slice_get-get_or, slice_get-map, slice_get_within}
 use Rattle.std.proofs.Math.Seq.{drop-cons}
 use Rattle.pr_base.specs.Row.{FitsNext}
 use Rattle.ring_lanes.specs.declared.source.Source.TheVariants.{Deck}
@@ -21,7 +21,7 @@ use Rattle.plan_rows.specs.Rows.{row_places}
 use Rattle.site_agent.specs.Given.{finished_count, kept_below}
 use Rattle.site_agent.specs.Job.{SiteJob, IsJob}
 use Rattle.site_agent.specs.Picked.{picked_job}
-use Rattle.site_agent.specs.Racks.{AllTellSlots, AreIdle, KeepCounts, TellsSlots}
+use Rattle.site_agent.specs.Racks.{TellsSlots}
 use Rattle.site_agent.specs.Site.{SiteData}
 use Rattle.site_agent.specs.Stands.{StandsAfter, grown, taken_below}
 use Rattle.site_agent.proofs.Parts.{length-kept, picked_at_end, picked_at_start, picked_is}
@@ -30,31 +30,32 @@ use Rattle.site_agent.proofs.Runs.{finished-end}
 use Rattle.replate.specs.declared.maker.Maker.{Maker}
 use Rattle.replate.specs.declared.remade.RemadeEnd.{RemadeEnd}
 use Rattle.replate.specs.declared.remade.RemadeEnd.TheVariants.{Done, Left}
-use Rattle.replate.specs.Making.{AllMade, AllSomeServed, AllStopped, AreServed, Carries, HasPart, HaveParts, IsServed, IsUp, ServedBy, UpBy, fresh_maker, fresh_makers, is_making, making_by}
+use Rattle.replate.specs.Making.{AreServed, Carries, HaveParts, IsServed, ServedBy, UpBy, fresh_maker}
+use Rattle.replate.specs.Making.{is_making, making_by}
 use Rattle.replate.specs.Picks.{PicksData}
 use Rattle.replate.specs.Remade.{FitsEnd, FitsPart, Making, RemadeFits, RemadePart, by_picks, picked_bits}
 use Rattle.replate.proofs.DoneLemmas.{none_begun_at, stands_on}
-use Rattle.replate.proofs.MakerLemmas.{served_part, stands_at}
+use Rattle.replate.proofs.MakerLemmas.{stands_at}
 use Rattle.replate.proofs.RowLemmas.{there_is}
 use Rattle.replate.proofs.WantedLemmas.{length-picked_bits}
 
 -- ---- racks
 
 -- the rack that reports this
-rack_at : {R : Type 0} (tell : R → RackTells) (racks : List R) (i : ℕ) (told : RackTells) → slice_get (map tell racks) i ≡ Some told → (rack : R) × (slice_get racks i ≡ Some rack) × (tell rack ≡ told)
+pub rack_at : {R : Type 0} (tell : R → RackTells) (racks : List R) (i : ℕ) (told : RackTells) → slice_get (map tell racks) i ≡ Some told → (rack : R) × (slice_get racks i ≡ Some rack) × (tell rack ≡ told)
 rack_at tell [] i told there = absurd (none there) where
   none : None ≡ Some told → ⊥
   none e = cc
 rack_at tell (rack ∷ racks) zero told there = (rack, refl, same_Some (tell rack) told there)
 rack_at tell (rack ∷ racks) (suc i) told there = rack_at tell racks i told there
 
-tells_at : {R : Type 0} (tell : R → RackTells) (racks : List R) (i : ℕ) (rack : R) → slice_get racks i ≡ Some rack → slice_get (map tell racks) i ≡ Some (tell rack)
+pub tells_at : {R : Type 0} (tell : R → RackTells) (racks : List R) (i : ℕ) (rack : R) → slice_get racks i ≡ Some rack → slice_get (map tell racks) i ≡ Some (tell rack)
 tells_at tell racks i rack there = slice_get-map tell racks i ∙ ap (option_map tell) there
 
 -- ---- the start
 
 -- a site before the first row
-begins_at : (plan : PlanData) (frames : List (List ℕ)) (out : List ℕ) (picks : PicksData) (site : ℕ) (told : RackTells) → Carries (by_picks plan (map framed_row frames) out picks) frames → site < length plan.sites
+pub begins_at : (plan : PlanData) (frames : List (List ℕ)) (out : List ℕ) (picks : PicksData) (site : ℕ) (told : RackTells) → Carries (by_picks plan (map framed_row frames) out picks) frames → site < length plan.sites
     → TellsSlots told → told.tells.begun ≡ none_begun → IsServed (by_picks plan (map framed_row frames) out picks) site 0 told told (fresh_maker plan out picks site)
 begins_at plan frames out picks site told carries within slots idle = record {
   job_is = refl;
@@ -74,24 +75,6 @@ begins_at plan frames out picks site told carries within slots idle = record {
   long : length bits ≡ length (site_files plan rows out site)
   long = length-picked_bits picks plan site ∙ sym (length-map (site_plates plan site) _)
 
-pub makers_begin : (plan : PlanData) (frames : List (List ℕ)) (out : List ℕ) (picks : PicksData) (before : List RackTells) (makers : List Maker) → Carries (by_picks plan (map framed_row frames) out picks) frames
-    → makers ≡ fresh_makers plan out picks → AreIdle (length plan.sites) before → AllTellSlots before → AreServed (by_picks plan (map framed_row frames) out picks) 0 before before makers
-makers_begin plan frames out picks before makers carries fresh idle slots = record {
-  count = ap length fresh ∙ length-map-range_with_len (fresh_maker plan out picks) 0 (length plan.sites);
-  each = λ site old new maker b r m.
-      let m' : slice_get (fresh_makers plan out picks) site ≡ Some maker = ap (λ (list : List Maker). slice_get list site) (sym fresh) ∙ m in
-      let inside : site < length plan.sites = omega (arith, slice_get_within (fresh_makers plan out picks) site maker m', length-map-range_with_len (fresh_maker plan out picks) 0 (length plan.sites)) in
-      let maker-is : maker ≡ fresh_maker plan out picks site =
-      sym (get_or_from_slice_get (fresh_makers plan out picks) site maker maker m')
-      ∙ get_or-map (fresh_maker plan out picks) (range_with_len 0 (length plan.sites)) site 0 maker (omega (arith, inside, length-range_with_len 0 (length plan.sites)))
-      ∙ ap (fresh_maker plan out picks) (get_or-range_with_len 0 (length plan.sites) site 0 inside ∙ zero-add site) in
-      subst (λ (now : RackTells). IsServed making site 0 old now maker) (same_Some old new (sym b ∙ r))
-      (subst (λ (a : Maker). IsServed making site 0 old old a) (sym maker-is)
-      (begins_at plan frames out picks site old carries inside (slots site old b) (idle.each site old inside b)));
-} where
-  making : Making
-  making = by_picks plan (map framed_row frames) out picks
-
 -- ---- plates that are left to make
 
 pub up_of : (making : Making) (site n : ℕ) (before now : RackTells) (going : SiteData) (end : RemadeEnd) → ServedBy making site n before now going end → UpBy end going
@@ -99,17 +82,12 @@ up_of making site n before now going (Done made kept) at = at.is.on
 up_of making site n before now going (Left made path) left = tt
 
 -- a site and its rack
-served_at : (making : Making) (n : ℕ) (before now : List RackTells) (makers : List Maker) (i : ℕ) (d : Maker) → length before ≡ length makers → length now ≡ length makers → AreServed making n before now makers → i < length makers
+pub served_at : (making : Making) (n : ℕ) (before now : List RackTells) (makers : List Maker) (i : ℕ) (d : Maker) → length before ≡ length makers → length now ≡ length makers → AreServed making n before now makers → i < length makers
     → (old : RackTells) × ((new : RackTells) × IsServed making i n old new (get_or makers i d))
 served_at making n before now makers i d olds news served less =
     let old = there_is before i (omega (arith, less, olds)) in
     let new = there_is now i (omega (arith, less, news)) in
     (old.0, (new.0, served.each i old.0 new.0 (get_or makers i d) old.1 new.1 (slice_get-get_or makers i d less)))
-
-pub all_up : (making : Making) (n : ℕ) (before now : List RackTells) (makers : List Maker) → length before ≡ length makers → length now ≡ length makers → AreServed making n before now makers → All IsUp makers
-all_up making n before now makers olds news served i d less =
-    let at = served_at making n before now makers i d olds news served less in
-    up_of making i n at.0 at.1.0 (get_or makers i d).site (get_or makers i d).end at.1.1
 
 -- after the last row no site has plates left to make
 none_left : (making : Making) (site n : ℕ) (before now : RackTells) (going : SiteData) (end : RemadeEnd) → IsPlan making.plan → n ≡ length (row_places making.plan) → ServedBy making site n before now going end → making_by end going ≡ false
@@ -121,7 +99,7 @@ none_left making site n before now going (Done made kept) is last at =
 none_left making site n before now going (Left made path) is last left = refl
 
 -- so a row is left while some site has plates left to make
-row_is_left : (making : Making) (frames : List (List ℕ)) (n : ℕ) (before now : List RackTells) (makers : List Maker) (i : ℕ) (d : Maker) → Carries making frames → length before ≡ length makers → length now ≡ length makers
+pub row_is_left : (making : Making) (frames : List (List ℕ)) (n : ℕ) (before now : List RackTells) (makers : List Maker) (i : ℕ) (d : Maker) → Carries making frames → length before ≡ length makers → length now ≡ length makers
     → AreServed making n before now makers → n ≤ length frames → i < length makers → is_making (get_or makers i d) ≡ true → n < length frames
 row_is_left making frames n before now makers i d carries olds news served most less some =
     ⊎_elim
@@ -132,13 +110,6 @@ row_is_left making frames n before now makers i d carries olds news served most 
     none_left making i n at.0 at.1.0 (get_or makers i d).site (get_or makers i d).end carries.plan_is ((let e : n ≡ length frames = omega (arith, last, most) in e) ∙ carries.rows_are.count) at.1.1 in
     absurd (false≢true (sym none ∙ some)))
     (cases_lt n (length frames))
-
-pub row_left : (making : Making) (frames : List (List ℕ)) (n : ℕ) (before now : List RackTells) (makers list : List Maker) → list ≡ makers → Carries making frames → length before ≡ length makers → length now ≡ length makers
-    → AreServed making n before now makers → n ≤ length frames → (i : ℕ) × (i < length list) × ((d : Maker) → is_making (get_or list i d) ≡ true) → n < length frames
-row_left making frames n before now makers list same carries olds news served most some =
-    let here = there_is list some.0 some.1 in
-    row_is_left making frames n before now makers some.0 here.0 carries olds news served most (subst (λ (l : List Maker). some.0 < length l) same some.1)
-    (subst (λ (l : List Maker). is_making (get_or l some.0 here.0) ≡ true) same (some.2 here.0))
 
 -- ---- the feed
 
@@ -159,57 +130,10 @@ pub fits_next : (rows left : List (List ℕ)) (n size : ℕ) → left ≡ drop n
 fits_next rows left n size is less all =
     subst (λ (l : List (List ℕ)). FitsNext l size) (sym (is ∙ drop-cons rows n [] less)) (sym (all n [] less))
 
--- ---- a row
-
-pub all_some : {R : Type 0} (tell : R → RackTells) (making : Making) (frames : List (List ℕ)) (n : ℕ) (before : List RackTells) (makers : List Maker) (racks : List R) → Carries making frames → length before ≡ length makers
-    → AreServed making n before (map tell racks) makers → AllSomeServed tell frames n makers racks
-all_some tell making frames n before makers racks carries olds served i maker rack m r =
-    let old = there_is before i (omega (arith, slice_get_within makers i maker m, olds)) in
-    record { making = making; site' = i; before = old.0; carries = carries; is = served.each i old.0 (tell rack) maker old.1 (tells_at tell racks i rack r) m }
-
-pub all_made : {R : Type 0} (tell : R → RackTells) (making : Making) (frames : List (List ℕ)) (n : ℕ) (before : List RackTells) (makers : List Maker) (racks : List R) (makers' : List Maker) (racks' : List R) → Carries making frames
-    → length makers' ≡ length makers → length racks' ≡ length racks → AreServed making n before (map tell racks) makers → AllMade tell frames n makers racks makers' racks' → AreServed making (n + 1) before (map tell racks') makers'
-all_made tell making frames n before makers racks makers' racks' carries same same' served made = record {
-  count = same ∙ served.count;
-  each = λ site old new maker' b r m'.
-      let rack' = rack_at tell racks' site new r in
-      let rack = there_is racks site (omega (arith, slice_get_within racks' site rack'.0 rack'.1, same')) in
-      let maker = there_is makers site (omega (arith, slice_get_within makers' site maker' m', same)) in
-      subst (λ (now : RackTells). IsServed making site (n + 1) old now maker') rack'.2
-      ((made site maker.0 maker' rack.0 rack'.0 maker.1 rack.1 m' rack'.1).each making site old carries
-      (served.each site old (tell rack.0) maker.0 b (tells_at tell racks site rack.0 rack.1) maker.1));
-}
-
 -- ---- the end
 
-pub all_stopped : {R : Type 0} (tell : R → RackTells) (making : Making) (frames : List (List ℕ)) (n : ℕ) (before : List RackTells) (makers : List Maker) (racks racks' : List R) → Carries making frames → length racks' ≡ length racks
-    → AreServed making n before (map tell racks) makers → AllStopped tell frames n makers racks racks' → HaveParts making before (map tell racks')
-all_stopped tell making frames n before makers racks racks' carries same' served stopped = record {
-  each = λ site old new less b r.
-      let rack' = rack_at tell racks' site new r in
-      let rack = there_is racks site (omega (arith, slice_get_within racks' site rack'.0 rack'.1, same')) in
-      let count = served.count in
-      let maker = there_is makers site (omega (arith, less, count)) in
-      subst (λ (now : RackTells). HasPart making site old now) rack'.2
-      ((stopped site maker.0 rack.0 rack'.0 maker.1 rack.1 rack'.1).each making site old carries
-      (served.each site old (tell rack.0) maker.0 b (tells_at tell racks site rack.0 rack.1) maker.1));
-}
-
-pub have_parts : (making : Making) (n : ℕ) (before now : List RackTells) (makers : List Maker) → AreServed making n before now makers → HaveParts making before now
-have_parts making n before now makers served = record {
-  each = λ site old new less b r.
-      let count = served.count in
-      let maker = there_is makers site (omega (arith, less, count)) in
-      served_part making site n old new maker.0.site maker.0.end (served.each site old new maker.0 b r maker.1);
-}
-
-pub remade_part : (making : Making) (before now : List RackTells) → HaveParts making before now → RemadePart making before now
-remade_part making before now parts = record { each = λ site old new less b r. (parts.each site old new less b r).part }
-
-pub counts_keep : (making : Making) (before now : List RackTells) → HaveParts making before now → length now ≤ length making.plan.sites → KeepCounts before now
-counts_keep making before now parts few = record {
-  each = λ site old new b r. (parts.each site old new (omega (arith, slice_get_within now site new r, few)) b r).faults;
-}
+pub remade_part : {making : Making} {before now : List RackTells} → HaveParts making before now → RemadePart making before now
+remade_part parts = record { each = λ site old new less b r. (parts.each site old new less b r).part }
 
 grown-nothing : {X : Type 0} (list : Option (List X)) → list ≡ grown [] list
 grown-nothing None = refl
@@ -224,7 +148,7 @@ none_part making before = record {
 }
 
 -- a site without plates left to make fits its end
-end_fits : (making : Making) (site n : ℕ) (before now : RackTells) (going : SiteData) (end : RemadeEnd) → IsPlan making.plan → n ≤ length (row_places making.plan) → making_by end going ≡ false → ServedBy making site n before now going end → FitsEnd making site before now end
+pub end_fits : (making : Making) (site n : ℕ) (before now : RackTells) (going : SiteData) (end : RemadeEnd) → IsPlan making.plan → n ≤ length (row_places making.plan) → making_by end going ≡ false → ServedBy making site n before now going end → FitsEnd making site before now end
 end_fits making site n before now going (Done made kept) is within none at =
     let job : SiteJob = picked_job making.plan making.out site (making.bits site) in
     let all : finished_count going.job going.next ≡ length going.job.plates = eqb-true (finished_count going.job going.next) (length going.job.plates) (not_false (eqb (finished_count going.job going.next) (length going.job.plates)) none) in
@@ -246,22 +170,6 @@ end_fits making site n before now going (Done made kept) is within none at =
       not_false true e = refl
       not_false false e = sym e
 end_fits making site n before now going (Left made path) is within none left = left.fits
-
-pub remade_fits : (making : Making) (n : ℕ) (before now : List RackTells) (makers : List Maker) (ends : List RemadeEnd) → IsPlan making.plan → n ≤ length (row_places making.plan) → AreServed making n before now makers → All (λ maker. is_making maker ≡ false) makers
-    → ends ≡ map (λ maker. maker.end) makers → RemadeFits making before now ends
-remade_fits making n before now makers ends is within served none are = record {
-  count = ap length are ∙ length-map makers (λ maker. maker.end) ∙ served.count;
-  each = λ site old new end b r e.
-      let long = ap length are ∙ length-map makers (λ maker. maker.end) in
-      let maker = there_is makers site (omega (arith, slice_get_within ends site end e, long)) in
-      let end-is : maker.0.end ≡ end =
-      same_Some maker.0.end end
-      (sym (ap (option_map (λ (m : Maker). m.end)) maker.1) ∙ sym (slice_get-map (λ (m : Maker). m.end) makers site) ∙ ap (λ (list : List RemadeEnd). slice_get list site) (sym are) ∙ e) in
-      let over : is_making maker.0 ≡ false =
-      subst (λ (m : Maker). is_making m ≡ false) (get_or_from_slice_get makers site maker.0 maker.0 maker.1) (none site maker.0 (slice_get_within makers site maker.0 maker.1)) in
-      subst (λ (x : RemadeEnd). FitsEnd making site old new x) end-is
-      (end_fits making site n old new maker.0.site maker.0.end is within over (served.each site old new maker.0 b r maker.1));
-}
 
 -- ---- the racks of the sites, and those after them
 

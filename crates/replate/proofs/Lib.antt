@@ -9,6 +9,7 @@ pub mod MakerLemmas
 pub mod DoneLemmas
 pub mod RowLemmas
 pub mod DeliveryLemmas
+pub mod LoopLemmas
 pub mod WantedLemmas
 pub mod PassLemmas
 mod SmallJobs

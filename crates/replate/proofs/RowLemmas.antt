@@ -1,8 +1,10 @@
 -- A row handed to each site in turn.
-use Rattle.std.proofs.Common.{◌≡◌, ℕ, zero, suc, ◌+◌, ◌<◌, ◌≤◌, List, [], ◌∷◌, length, set, get_or, Some, refl, sym, ap, subst, ◌∙◌, ⊎_elim, arith}
+use Rattle.std.proofs.Common.{◌≡◌, ℕ, zero, suc, ◌+◌, ◌-◌, ◌<◌, ◌≤◌, true, List, [], ◌∷◌, length, set, get_or}
+use Rattle.std.proofs.Common.{Some, refl, sym, ap, subst, ◌∙◌, ⊎_elim, arith}
 use Rattle.std.specs.Prelude.{slice_get}
 use Rattle.std.proofs.lemmas.Bool.{cases_lt}
 use Rattle.std.proofs.lemmas.Option.{get_or_from_slice_get, slice_get_within}
+use Rattle.ring_lanes.specs.Deck.{DeckState}
 use Rattle.pr_rack.specs.Told.{RackTells}
 use Rattle.site_agent.proofs.Holding.{get-set_other}
 use Rattle.site_agent.proofs.Racks.{set-aside, set-here}
@@ -16,6 +18,22 @@ pub there_is : {X : Type 0} (xs : List X) (i : ℕ) → i < length xs → (x : X
 there_is [] i less = absurd (omega (arith, less))
 there_is (x ∷ xs) zero less = (x, refl)
 there_is (x ∷ xs) (suc i) less = there_is xs i (omega (arith, less))
+
+-- ---- a row that is put on a deck
+
+-- what holds of the next row holds of the last one once it is put
+pub as_last : (P : List (List ℕ) → ℕ → Type 0) (was is : DeckState)
+    → is ≡ record was { put = was.put + 1; there = true } → P was.rows was.put → P is.rows (is.put - 1)
+as_last P was is same p =
+    subst (λ (deck : DeckState). P deck.rows (deck.put - 1)) (sym same)
+    (subst (P was.rows) (let e : was.put ≡ was.put + 1 - 1 = omega arith in e) p)
+
+-- and back
+pub as_next : (P : List (List ℕ) → ℕ → Type 0) (was is : DeckState)
+    → is ≡ record was { put = was.put + 1; there = true } → P is.rows (is.put - 1) → P was.rows was.put
+as_next P was is same p =
+    subst (P was.rows) (let e : was.put + 1 - 1 ≡ was.put = omega arith in e)
+    (subst (λ (deck : DeckState). P deck.rows (deck.put - 1)) same p)
 
 -- ---- a row that is handed on
 

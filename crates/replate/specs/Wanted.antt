@@ -18,7 +18,8 @@ unfoldable pub some_made : PicksData → Group → ℕ → Ink → Bool
 some_made picks group index ink = list_any (made_for picks group index ink) (range_with_len 0 16)
 
 -- for each of the first groups, whether the plate in each ink must be made for some site, by the ink's slot
-pub record AreWanted (picks : PicksData) (plan : PlanData) (groups : ℕ) (flags : List (List Bool)) : Type 0 where
+pub record AreWanted (picks : PicksData) (plan : PlanData) (groups : ℕ) (flags : List (List Bool))
+    : Type 0 where
   pub count_is : length flags ≡ groups
   pub each : (index : ℕ) (ink : Ink) → index < groups
       → slice_index_or (slice_index_or flags index []) (slot_of ink) false

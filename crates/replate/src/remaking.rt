@@ -1,6 +1,6 @@
 // Delivery of the plates that must be made, row by row over a deck.
-ghost use Rattle.std.specs.Prelude.{◌≡◌, ◌+◌, ◌-◌, ◌<◌, ◌^◌, ℕ, false, true, All, IfOk, OnErr, OnOk, count_by};
-ghost use Rattle.std.specs.Prelude.{drop, length, map, slice_index_or};
+ghost use Rattle.std.specs.Prelude.{◌≡◌, ◌+◌, ◌-◌, ◌<◌, ◌^◌, ℕ, false, true, All, IfOk, OnErr, OnOk};
+ghost use Rattle.std.specs.Prelude.{count_by, drop, length, map, slice_index_or};
 ghost use Rattle.tif_packbits.specs.Frame.{framed_row};
 ghost use Rattle.pr_rack.specs.Told.{all_told, told};
 ghost use Rattle.plan_json.specs.Plan.{IsPlan};
@@ -119,7 +119,7 @@ impl Remaking<'_> {
             (all_told R.Rack racks.old) (all_told R.Rack racks.new)) }
         ensures counts { KeepCounts (all_told R.Rack racks.old) (all_told R.Rack racks.new) }
     {
-        let mut row = vec![in self.alloc; 0; deal.row_len()].map_err(|_| NoMemory)?;
+        let mut row = vec![in self.alloc; 0; deal.row_len()]?;
         let mut deck = Deck::open(self.alloc, deal)?;
         self.make_rows(&mut deck, feed, row.as_mut_slice(), racks)
     }
@@ -192,36 +192,10 @@ fn handle_row<D: Deal, F: PassingFeed, R: Rack>(
     ensures home { deck.new.out ≡ false }
     ensures feed { F.left feed.new ≡ drop (deck.old.put + 1) deck.old.rows }
 {
-    if is_kept(makers) {
-        return make_row(deck, feed, row, makers, racks);
+    if !is_kept(makers) {
+        pass_over(deck, feed, makers);
+        return Ok(());
     }
-    pass_over(deck, feed, makers);
-    Ok(())
-}
-
-/// Makes the next row and hands it to each site.
-fn make_row<D: Deal, F: PassingFeed, R: Rack>(
-    deck: &mut Deck<'_, D>,
-    feed: &mut F,
-    row: &mut [u8],
-    makers: &mut [Maker],
-    racks: &mut [R],
-) -> Result<(), NoMemory>
-    requires home { deck.old.out ≡ false }
-    requires below { deck.old.put < length deck.old.rows }
-    requires feed { F.left feed.old ≡ drop deck.old.put deck.old.rows }
-    requires row { All (λ bytes. length bytes ≡ length row.old) deck.old.rows }
-    requires count { length makers.old ≡ length racks.old }
-    requires some { AllSomeServed (told R.Rack) deck.old.rows deck.old.put makers.old racks.old }
-    ensures made { OnOk result (AllMade (told R.Rack) deck.old.rows deck.old.put
-        makers.old racks.old makers.new racks.new) }
-    ensures stopped { OnErr result (AllStopped (told R.Rack) deck.old.rows deck.old.put
-        makers.old racks.old racks.new) }
-    ensures rows { deck.new.rows ≡ deck.old.rows }
-    ensures put { deck.new.put ≡ deck.old.put + 1 }
-    ensures home { deck.new.out ≡ false }
-    ensures feed { F.left feed.new ≡ drop (deck.old.put + 1) deck.old.rows }
-{
     feed.next(row);
     deck.put(row);
     hand_row(deck, makers, racks)

@@ -10,12 +10,14 @@ use Rattle.cmd_base.proofs.Loads.{none_lengths}
 use Rattle.cmd_base.proofs.Told.{put_makes}
 use Rattle.cmd_replate.proofs.change.print_change.Goals as goal
 
-pub returns-in_default-remade_text-clause-answered : goal.returns-in_default-remade_text-clause-answered
-returns-in_default-remade_text-clause-answered g c =
+pub returns-in_err-text-clause-answered : goal.returns-in_err-text-clause-answered
+returns-in_err-text-clause-answered g c =
     let late = c.in_ok-late.ensures.loaded in
-    inr (inl (record {
-      text = remade_text late.before.plan c.in_ok-late.late.job.plan c.args.change.out.now c.in-Ok.remade.items;
-      status = status_of_remade c.in-Ok.remade.items;
+    let p = err_from_is_err_and c.from_residual-in_err-text.result c.from_residual-in_err-text.ensures.1 in
+    rw (p.1, p.2) (inr (inl (record {
+      text = remade_text late.before.plan c.in_ok-late.late.job.plan c.args.change.out.now
+          c.in_ok-remade.remade.items;
+      status = status_of_remade c.in_ok-remade.remade.items;
       prints = record {
         before = late.before;
         job = c.in_ok-late.late.job;
@@ -25,19 +27,20 @@ returns-in_default-remade_text-clause-answered g c =
           prepared = late.prepared;
           are_picks = late.is.are_picks;
         };
-        ends = c.in-Ok.remade.items;
-        delivers = c.in-Ok.ensures.delivers;
+        ends = c.in_ok-remade.remade.items;
+        delivers = c.in_ok-remade.ensures.delivers;
         text_is = refl;
         status_is = refl;
       };
       grew = (0, grew_nothing _ _ refl);
-    }))
+    })))
 
 pub returns-clause-answered : goal.returns-clause-answered
 returns-clause-answered g c =
     let late = c.in_ok-late.ensures.loaded in
-    put_makes (change_rules (change_told c.args.change)) (change_makes g.R.Rack (change_told c.args.change)) _ c.args.racks.now
-    c.make_late.new.racks _ c.as_bytes.result.now (number_of c.status_of.result) c.put_text.result
+    let change = change_told c.args.change in
+    put_makes (change_rules change) (change_makes g.R.Rack change) _ c.args.racks.now c.make_late.new.racks _
+    c.as_bytes.result.now (number_of c.status_of.result) c.put_text.result
     (record {
       before = late.before;
       job = c.in_ok-late.late.job;
@@ -47,11 +50,12 @@ returns-clause-answered g c =
         prepared = late.prepared;
         are_picks = late.is.are_picks;
       };
-      ends = c.in-Ok.remade.items;
-      delivers = c.in-Ok.ensures.delivers;
-      text_is = c.as_bytes.ensures.value ∙ c.in-Ok-remade_text.ensures
+      ends = c.in_ok-remade.remade.items;
+      delivers = c.in_ok-remade.ensures.delivers;
+      text_is = c.as_bytes.ensures.value ∙ c.in_ok-text.ensures
           ∙ text_is late.before.plan c.in_ok-late.late.job.plan c.plan-plan.result.now c.args.change.out.now
-          c.as_slice-ends.result.now c.in-Ok.remade.items c.as_str-dropped.result.now c.plan-plan.ensures.plan c.as_slice-ends.ensures.value
+          c.as_slice-ends.result.now c.in_ok-remade.remade.items c.as_str-dropped.result.now
+          c.plan-plan.ensures.plan c.as_slice-ends.ensures.value
           (c.as_str-dropped.ensures.value ∙ late.is.dropped);
       status_is = c.status_of.ensures ∙ ap status_of_remade c.as_slice-ends.ensures.value;
     })
@@ -62,11 +66,11 @@ returns-in_err-late-clause-loads g c =
     let p = err_from_is_err_and c.from_residual.result c.from_residual.ensures.1 in
     rw (p.1, p.2) c.in_err-late.ensures.loads
 
-pub returns-in_default-clause-loads : goal.returns-in_default-clause-loads
-returns-in_default-clause-loads g c = λ done. c.in_ok-late.ensures.loads refl
+pub returns-in_err-remade-clause-loads : goal.returns-in_err-remade-clause-loads
+returns-in_err-remade-clause-loads g c = λ done. c.in_ok-late.ensures.loads refl
 
-pub returns-in_default-remade_text-clause-loads : goal.returns-in_default-remade_text-clause-loads
-returns-in_default-remade_text-clause-loads g c = λ done. c.in_ok-late.ensures.loads refl
+pub returns-in_err-text-clause-loads : goal.returns-in_err-text-clause-loads
+returns-in_err-text-clause-loads g c = λ done. c.in_ok-late.ensures.loads refl
 
 pub returns-clause-loads : goal.returns-clause-loads
 returns-clause-loads g c = λ done. c.in_ok-late.ensures.loads refl
@@ -76,8 +80,20 @@ returns-in_err-late-clause-lengths g c =
     let p = err_from_is_err_and c.from_residual.result c.from_residual.ensures.1 in
     rw (p.1, p.2) c.in_err-late.ensures.lengths
 
+pub returns-in_err-remade-clause-lengths : goal.returns-in_err-remade-clause-lengths
+returns-in_err-remade-clause-lengths g c =
+    none_lengths (shelf_seen g.H.Shelf c.args.shelf.now c.load_late.new.shelf)
+    c.from_residual-in_err-remade.result c.in_ok-late.ensures.lengths
+
+pub returns-in_err-text-clause-lengths : goal.returns-in_err-text-clause-lengths
+returns-in_err-text-clause-lengths g c =
+    none_lengths (shelf_seen g.H.Shelf c.args.shelf.now c.load_late.new.shelf)
+    c.from_residual-in_err-text.result c.in_ok-late.ensures.lengths
+
 pub returns-clause-lengths : goal.returns-clause-lengths
-returns-clause-lengths g c = none_lengths (shelf_seen g.H.Shelf c.args.shelf.now c.load_late.new.shelf) c.put_text.result c.in_ok-late.ensures.lengths
+returns-clause-lengths g c =
+    none_lengths (shelf_seen g.H.Shelf c.args.shelf.now c.load_late.new.shelf) c.put_text.result
+    c.in_ok-late.ensures.lengths
 
 pub returns-in_err-late-clause-writes : goal.returns-in_err-late-clause-writes
 returns-in_err-late-clause-writes g c = λ done. refl

@@ -5,9 +5,11 @@ use Rattle.cmd_run.proofs.drill.print_drill.Goals as goal
 
 pub returns-clause-told : goal.returns-clause-told
 returns-clause-told g c = λ shelf.
-    put_tells drill_rules (PrintsDrill c.args.drill.number c.args.drill.ring) shelf _ c.as_bytes.result.now 0 c.put_text.result
+    put_tells drill_rules (PrintsDrill c.args.drill.number c.args.drill.ring) shelf _ c.as_bytes.result.now 0
+    c.put_text.result
     (record {
-      drilled = subst (λ (text : List ℕ). IsDrilled c.args.drill.number c.args.drill.ring text) (sym c.as_bytes.ensures.value) c.in-Ok.ensures;
+      drilled = subst (λ (text : List ℕ). IsDrilled c.args.drill.number c.args.drill.ring text)
+          (sym c.as_bytes.ensures.value) c.in_ok-text.ensures;
       zero = refl;
     })
     c.put_text.ensures.puts

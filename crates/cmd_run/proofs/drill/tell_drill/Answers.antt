@@ -1,4 +1,4 @@
-use Rattle.std.proofs.Common.{◌≡◌, ◌∙◌, ap, subst, string_bytes}
+use Rattle.std.proofs.Common.{◌∙◌, ap, subst, string_bytes}
 use Rattle.press_job.specs.Job.{JobData}
 use Rattle.site_agent.proofs.Results.{if_ok}
 use Rattle.cmd_run.specs.Drill.{HaveRun, IsDrilled, drill_text, told_of}

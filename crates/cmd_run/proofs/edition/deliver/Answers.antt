@@ -1,5 +1,6 @@
 use Rattle.std.proofs.Common.{length, sym, ap, ◌∙◌, inl, refl, arith}
 use Rattle.std.proofs.lemmas.List.{append-nil}
+use Rattle.std.proofs.lemmas.Result.{err_from_is_err_and}
 use Rattle.plan_json.specs.Data.{PlanData}
 use Rattle.cmd_run.specs.Edition.{edition_told, none_further}
 use Rattle.cmd_run.specs.Report.{report_of, status_of_ends}
@@ -10,30 +11,43 @@ use Rattle.cmd_base.proofs.Grow.{grew_nothing}
 use Rattle.cmd_run.proofs.edition.deliver.Goals as goal
 
 pub run_job-requires-clause-idle : goal.run_job-requires-clause-idle
-run_job-requires-clause-idle g c κs within = record { each = λ site tells below at. idle_at g.R.Rack c.args.racks.now site tells c.requires.idle at }
+run_job-requires-clause-idle g c κs within = record {
+  each = λ site tells below at. idle_at g.R.Rack c.args.racks.now site tells c.requires.idle at;
+}
 
-pub returns-in_default-report-clause-delivered : goal.returns-in_default-report-clause-delivered
-returns-in_default-report-clause-delivered g c = inl (record {
-  text = report_of c.args.job.now.plan c.in-Ok.outcome.sites.items;
-  status = status_of_ends c.in-Ok.outcome.sites.items;
-  reports = reports_are g.R.Rack (edition_told c.args.edition) none_further c.args.job.now c.args.racks.now c.run_job.new.racks _ _
-      c.in-Ok.outcome.sites.items
-      (omega (arith, c.requires.racks, c.files-files.ensures.plan.site_count.most, ap (λ (plan : PlanData). length plan.sites) c.plan-plan.ensures.plan))
-      c.run_job.auto.racks (fits_alone (edition_told c.args.edition) c.args.job.now _ _ _ c.in-Ok.ensures.fits) c.run_job.ensures.others
-      (sym (append-nil _)) refl;
-  grew = (0, grew_nothing _ _ refl);
-})
+pub returns-in_err-text-clause-delivered : goal.returns-in_err-text-clause-delivered
+returns-in_err-text-clause-delivered g c =
+    let p = err_from_is_err_and c.from_residual-in_err-text.result c.from_residual-in_err-text.ensures.1 in
+    let edition = edition_told c.args.edition in
+    let job = c.args.job.now in
+    let ends = c.in_ok-outcome.outcome.sites.items in
+    let few = c.files-files.ensures.plan.site_count.most in
+    let sites = ap (λ (plan : PlanData). length plan.sites) c.plan-plan.ensures.plan in
+    rw (p.1, p.2) (inl (record {
+      text = report_of job.plan ends;
+      status = status_of_ends ends;
+      reports = reports_are g.R.Rack edition none_further job c.args.racks.now c.run_job.new.racks _ _ ends
+          (omega (arith, c.requires.racks, few, sites)) c.run_job.auto.racks
+          (fits_alone edition job _ _ _ c.in_ok-outcome.ensures.fits) c.run_job.ensures.others
+          (sym (append-nil (report_of job.plan ends))) refl;
+      grew = (0, grew_nothing _ _ refl);
+    }))
 
 pub returns-clause-delivered : goal.returns-clause-delivered
 returns-clause-delivered g c =
-    put_delivers g.R.Rack (edition_told c.args.edition) none_further c.args.job.now c.args.racks.now c.run_job.new.racks _
+    let edition = edition_told c.args.edition in
+    let job = c.args.job.now in
+    let ends = c.in_ok-outcome.outcome.sites.items in
+    let few = c.files-files.ensures.plan.site_count.most in
+    let sites = ap (λ (plan : PlanData). length plan.sites) c.plan-plan.ensures.plan in
+    put_delivers g.R.Rack edition none_further job c.args.racks.now c.run_job.new.racks _
     c.as_bytes.result.now (number_of c.status_of.result) c.put_text.result
-    (reports_are g.R.Rack (edition_told c.args.edition) none_further c.args.job.now c.args.racks.now c.run_job.new.racks _ _
-    c.in-Ok.outcome.sites.items
-    (omega (arith, c.requires.racks, c.files-files.ensures.plan.site_count.most, ap (λ (plan : PlanData). length plan.sites) c.plan-plan.ensures.plan))
-    c.run_job.auto.racks (fits_alone (edition_told c.args.edition) c.args.job.now _ _ _ c.in-Ok.ensures.fits) c.run_job.ensures.others
-    (c.as_bytes.ensures.value ∙ c.in-Ok-report.ensures ∙ ap (report_of c.plan-plan.result.now) c.as_slice-ends.ensures.value
-    ∙ ap (λ plan. report_of plan c.in-Ok.outcome.sites.items) c.plan-plan.ensures.plan ∙ sym (append-nil _))
+    (reports_are g.R.Rack edition none_further job c.args.racks.now c.run_job.new.racks _ _ ends
+    (omega (arith, c.requires.racks, few, sites)) c.run_job.auto.racks
+    (fits_alone edition job _ _ _ c.in_ok-outcome.ensures.fits) c.run_job.ensures.others
+    (c.as_bytes.ensures.value ∙ c.in_ok-text.ensures
+    ∙ ap (report_of c.plan-plan.result.now) c.as_slice-ends.ensures.value
+    ∙ ap (λ plan. report_of plan ends) c.plan-plan.ensures.plan ∙ sym (append-nil _))
     (c.status_of.ensures ∙ ap status_of_ends c.as_slice-ends.ensures.value))
     c.put_text.ensures.puts
 

@@ -1,4 +1,5 @@
 use Rattle.std.proofs.Common.{◌++◌, ℕ, length, ap, ◌∙◌, inl, refl, arith}
+use Rattle.std.proofs.lemmas.Result.{err_from_is_err_and}
 use Rattle.plan_json.specs.Data.{PlanData}
 use Rattle.cmd_run.specs.Edition.{edition_told}
 use Rattle.cmd_run.specs.Keys.{further_keys, keys_lines}
@@ -10,30 +11,43 @@ use Rattle.cmd_base.proofs.Grow.{grew_nothing}
 use Rattle.cmd_run.proofs.keys.deliver.Goals as goal
 
 pub run_keys-requires-clause-idle : goal.run_keys-requires-clause-idle
-run_keys-requires-clause-idle g c κs within = record { each = λ site tells below at. idle_at g.R.Rack c.args.racks.now site tells c.requires.idle at }
+run_keys-requires-clause-idle g c κs within = record {
+  each = λ site tells below at. idle_at g.R.Rack c.args.racks.now site tells c.requires.idle at;
+}
 
-pub returns-in_default-counted_text-clause-delivered : goal.returns-in_default-counted_text-clause-delivered
-returns-in_default-counted_text-clause-delivered g c = inl (record {
-  text = report_of c.args.job.now.plan c.in-Ok.outcome.sites.items ++ keys_lines c.args.keys c.args.job.now;
-  status = status_of_ends c.in-Ok.outcome.sites.items;
-  reports = reports_are g.R.Rack (edition_told c.args.edition) (further_keys c.args.keys) c.args.job.now c.args.racks.now
-      c.run_keys.new.racks _ _ c.in-Ok.outcome.sites.items
-      (omega (arith, c.requires.racks, c.files-files.ensures.plan.site_count.most, ap (λ (plan : PlanData). length plan.sites) c.plan-plan.ensures.plan))
-      c.run_keys.auto.racks c.in-Ok.ensures.fits c.run_keys.ensures.others refl refl;
-  grew = (0, grew_nothing _ _ refl);
-})
+pub returns-in_err-text-clause-delivered : goal.returns-in_err-text-clause-delivered
+returns-in_err-text-clause-delivered g c =
+    let p = err_from_is_err_and c.from_residual-in_err-text.result c.from_residual-in_err-text.ensures.1 in
+    let job = c.args.job.now in
+    let ends = c.in_ok-outcome.outcome.sites.items in
+    let few = c.files-files.ensures.plan.site_count.most in
+    let sites = ap (λ (plan : PlanData). length plan.sites) c.plan-plan.ensures.plan in
+    rw (p.1, p.2) (inl (record {
+      text = report_of job.plan ends ++ keys_lines c.args.keys job;
+      status = status_of_ends ends;
+      reports = reports_are g.R.Rack (edition_told c.args.edition) (further_keys c.args.keys) job
+          c.args.racks.now c.run_keys.new.racks _ _ ends (omega (arith, c.requires.racks, few, sites))
+          c.run_keys.auto.racks c.in_ok-outcome.ensures.fits c.run_keys.ensures.others refl refl;
+      grew = (0, grew_nothing _ _ refl);
+    }))
 
 pub returns-clause-delivered : goal.returns-clause-delivered
 returns-clause-delivered g c =
-    put_delivers g.R.Rack (edition_told c.args.edition) (further_keys c.args.keys) c.args.job.now c.args.racks.now c.run_keys.new.racks _
+    let edition = edition_told c.args.edition in
+    let further = further_keys c.args.keys in
+    let job = c.args.job.now in
+    let ends = c.in_ok-outcome.outcome.sites.items in
+    let few = c.files-files.ensures.plan.site_count.most in
+    let sites = ap (λ (plan : PlanData). length plan.sites) c.plan-plan.ensures.plan in
+    put_delivers g.R.Rack edition further job c.args.racks.now c.run_keys.new.racks _
     c.as_bytes.result.now (number_of c.status_of.result) c.put_text.result
-    (reports_are g.R.Rack (edition_told c.args.edition) (further_keys c.args.keys) c.args.job.now c.args.racks.now c.run_keys.new.racks
-    _ _ c.in-Ok.outcome.sites.items
-    (omega (arith, c.requires.racks, c.files-files.ensures.plan.site_count.most, ap (λ (plan : PlanData). length plan.sites) c.plan-plan.ensures.plan))
-    c.run_keys.auto.racks c.in-Ok.ensures.fits c.run_keys.ensures.others
-    (c.as_bytes.ensures.value ∙ c.in-Ok-counted_text.ensures
-    ∙ ap (λ ends. report_of c.args.job.now.plan ends ++ keys_lines c.in-Ok.counts.keys c.args.job.now) c.as_slice-ends.ensures.value
-    ∙ ap (λ (k : ℕ). report_of c.args.job.now.plan c.in-Ok.outcome.sites.items ++ keys_lines k c.args.job.now) c.in-Ok.ensures.keys.keys_are)
+    (reports_are g.R.Rack edition further job c.args.racks.now c.run_keys.new.racks _ _ ends
+    (omega (arith, c.requires.racks, few, sites)) c.run_keys.auto.racks c.in_ok-outcome.ensures.fits
+    c.run_keys.ensures.others
+    (c.as_bytes.ensures.value ∙ c.in_ok-text.ensures
+    ∙ ap (λ list. report_of job.plan list ++ keys_lines c.in_ok-outcome.counts.keys job)
+    c.as_slice-ends.ensures.value
+    ∙ ap (λ (k : ℕ). report_of job.plan ends ++ keys_lines k job) c.in_ok-outcome.ensures.keys.keys_are)
     (c.status_of.ensures ∙ ap status_of_ends c.as_slice-ends.ensures.value))
     c.put_text.ensures.puts
 

@@ -7,68 +7,24 @@ use Rattle.replate.specs.Making.{Made}
 use Rattle.replate.proofs.MakerLemmas.{IsPutRow, asks, is_done, made_left, made_on, made_stopped}
 use Rattle.replate.proofs.maker.hand_on.Goals as goal
 
-pub keep-kept-requires-clause-going : goal.keep-kept-requires-clause-going
-keep-kept-requires-clause-going g c =
+pub keep-kept-requires : goal.keep-kept-requires
+keep-kept-requires g c =
     let held = c.take-held.result in
     let n : ℕ = c.args.deck.now.put - 1 in
     let done = is_done c.args.maker.now.end c.requires.going in
     let number : held.number ≡ n = (let put = c.take-held.ensures.number in omega (arith, put)) in
     let now : RackTells = told g.R.Rack c.args.rack.now in
-    (asks c.args.deck.now.rows n now c.args.maker.now held done.0 done.1.0 c.requires.some done.1.1 number c.take-held.ensures.bytes).on
-
-pub keep-kept-requires-clause-next : goal.keep-kept-requires-clause-next
-keep-kept-requires-clause-next g c =
-    let held = c.take-held.result in
-    let n : ℕ = c.args.deck.now.put - 1 in
-    let done = is_done c.args.maker.now.end c.requires.going in
-    let number : held.number ≡ n = (let put = c.take-held.ensures.number in omega (arith, put)) in
-    let now : RackTells = told g.R.Rack c.args.rack.now in
-    (asks c.args.deck.now.rows n now c.args.maker.now held done.0 done.1.0 c.requires.some done.1.1 number c.take-held.ensures.bytes).next_is
-
-pub keep-kept-requires-clause-within : goal.keep-kept-requires-clause-within
-keep-kept-requires-clause-within g c =
-    let held = c.take-held.result in
-    let n : ℕ = c.args.deck.now.put - 1 in
-    let done = is_done c.args.maker.now.end c.requires.going in
-    let number : held.number ≡ n = (let put = c.take-held.ensures.number in omega (arith, put)) in
-    let now : RackTells = told g.R.Rack c.args.rack.now in
-    (asks c.args.deck.now.rows n now c.args.maker.now held done.0 done.1.0 c.requires.some done.1.1 number c.take-held.ensures.bytes).within
-
-pub keep-kept-requires-clause-frame : goal.keep-kept-requires-clause-frame
-keep-kept-requires-clause-frame g c =
-    let held = c.take-held.result in
-    let n : ℕ = c.args.deck.now.put - 1 in
-    let done = is_done c.args.maker.now.end c.requires.going in
-    let number : held.number ≡ n = (let put = c.take-held.ensures.number in omega (arith, put)) in
-    let now : RackTells = told g.R.Rack c.args.rack.now in
-    (asks c.args.deck.now.rows n now c.args.maker.now held done.0 done.1.0 c.requires.some done.1.1 number c.take-held.ensures.bytes).frame
-
-pub keep-kept-requires-clause-row : goal.keep-kept-requires-clause-row
-keep-kept-requires-clause-row g c =
-    let held = c.take-held.result in
-    let n : ℕ = c.args.deck.now.put - 1 in
-    let done = is_done c.args.maker.now.end c.requires.going in
-    let number : held.number ≡ n = (let put = c.take-held.ensures.number in omega (arith, put)) in
-    let now : RackTells = told g.R.Rack c.args.rack.now in
-    (asks c.args.deck.now.rows n now c.args.maker.now held done.0 done.1.0 c.requires.some done.1.1 number c.take-held.ensures.bytes).row
-
-pub keep-kept-requires-clause-begun : goal.keep-kept-requires-clause-begun
-keep-kept-requires-clause-begun g c =
-    let held = c.take-held.result in
-    let n : ℕ = c.args.deck.now.put - 1 in
-    let done = is_done c.args.maker.now.end c.requires.going in
-    let number : held.number ≡ n = (let put = c.take-held.ensures.number in omega (arith, put)) in
-    let now : RackTells = told g.R.Rack c.args.rack.now in
-    (asks c.args.deck.now.rows n now c.args.maker.now held done.0 done.1.0 c.requires.some done.1.1 number c.take-held.ensures.bytes).begun
-
-pub keep-kept-requires-clause-working : goal.keep-kept-requires-clause-working
-keep-kept-requires-clause-working g c =
-    let held = c.take-held.result in
-    let n : ℕ = c.args.deck.now.put - 1 in
-    let done = is_done c.args.maker.now.end c.requires.going in
-    let number : held.number ≡ n = (let put = c.take-held.ensures.number in omega (arith, put)) in
-    let now : RackTells = told g.R.Rack c.args.rack.now in
-    (asks c.args.deck.now.rows n now c.args.maker.now held done.0 done.1.0 c.requires.some done.1.1 number c.take-held.ensures.bytes).working
+    let asked = asks c.args.deck.now.rows n now c.args.maker.now held done.0 done.1.0 c.requires.some done.1.1
+        number c.take-held.ensures.bytes in
+    record {
+      going = asked.on;
+      next = asked.next_is;
+      within = asked.within;
+      frame = asked.frame;
+      row = asked.row;
+      begun = asked.begun;
+      working = asked.working;
+    }
 
 pub returns-in-Done-clause-made : goal.returns-in-Done-clause-made
 returns-in-Done-clause-made g c =
@@ -78,8 +34,14 @@ returns-in-Done-clause-made g c =
     let number : held.number ≡ n = (let put = c.take-held.ensures.number in omega (arith, put)) in
     let old : RackTells = told g.R.Rack c.args.rack.now in
     let new : RackTells = told g.R.Rack c.keep-kept.new.rack in
-    let row : IsPutRow c.args.deck.now.rows n held = record { number_is = number; bytes_are = c.take-held.ensures.bytes; source_is = c.take-held.ensures.source } in
-    let keeps : Keeps c.args.maker.now.site c.keep-kept.new.self held old new kept.Done = record {
+    let row : IsPutRow c.args.deck.now.rows n held =
+    record {
+      number_is = number;
+      bytes_are = c.take-held.ensures.bytes;
+      source_is = c.take-held.ensures.source;
+    } in
+    let keeps : Keeps c.args.maker.now.site c.keep-kept.new.self held old new kept.Done =
+    record {
       keeps = c.in-Done.ensures.keeps;
       goes_on = c.in-Done.ensures.goes_on;
       begun_on = c.in-Done.ensures.begun_on;
@@ -97,7 +59,8 @@ returns-in-Done-clause-made g c =
       ended = c.in-Done.ensures.ended;
       faults_stay = c.in-Done.ensures.faults_stay;
     } in
-    made_on c.args.deck.now.rows n old new held c.args.maker.now c.keep-kept.new.self done.0 done.1.0 done.1.1 row keeps
+    made_on c.args.deck.now.rows n old new held c.args.maker.now c.keep-kept.new.self done.0 done.1.0 done.1.1
+    row keeps
 
 pub returns-in-Left-clause-made : goal.returns-in-Left-clause-made
 returns-in-Left-clause-made g c =
@@ -107,8 +70,14 @@ returns-in-Left-clause-made g c =
     let old : RackTells = told g.R.Rack c.args.rack.now in
     let new : RackTells = told g.R.Rack c.keep-kept.new.rack in
     let number : held.number ≡ n = (let put = c.take-held.ensures.number in omega (arith, put)) in
-    let row : IsPutRow c.args.deck.now.rows n held = record { number_is = number; bytes_are = c.take-held.ensures.bytes; source_is = c.take-held.ensures.source } in
-    let keeps : Keeps c.args.maker.now.site c.keep-kept.new.self held old new (kept.Left c.in-Left.cause) = record {
+    let row : IsPutRow c.args.deck.now.rows n held =
+    record {
+      number_is = number;
+      bytes_are = c.take-held.ensures.bytes;
+      source_is = c.take-held.ensures.source;
+    } in
+    let keeps : Keeps c.args.maker.now.site c.keep-kept.new.self held old new (kept.Left c.in-Left.cause) =
+    record {
       keeps = c.in-Left.ensures.keeps;
       goes_on = c.in-Left.ensures.goes_on;
       begun_on = c.in-Left.ensures.begun_on;
@@ -127,7 +96,8 @@ returns-in-Left-clause-made g c =
       faults_stay = c.in-Left.ensures.faults_stay;
     } in
     subst (λ (is : Maker). Made c.args.deck.now.rows n old new c.args.maker.now is) (sym c.leave.ensures)
-    (made_left c.args.deck.now.rows n old new held c.args.maker.now c.keep-kept.new.self done.0 done.1.0 c.in-Left.cause done.1.1 row keeps)
+    (made_left c.args.deck.now.rows n old new held c.args.maker.now c.keep-kept.new.self done.0 done.1.0
+    c.in-Left.cause done.1.1 row keeps)
 
 pub returns-in-Memory-clause-stopped : goal.returns-in-Memory-clause-stopped
 returns-in-Memory-clause-stopped g c =
@@ -137,8 +107,14 @@ returns-in-Memory-clause-stopped g c =
     let old : RackTells = told g.R.Rack c.args.rack.now in
     let new : RackTells = told g.R.Rack c.keep-kept.new.rack in
     let number : held.number ≡ n = (let put = c.take-held.ensures.number in omega (arith, put)) in
-    let row : IsPutRow c.args.deck.now.rows n held = record { number_is = number; bytes_are = c.take-held.ensures.bytes; source_is = c.take-held.ensures.source } in
-    let keeps : Keeps c.args.maker.now.site c.keep-kept.new.self held old new kept.Memory = record {
+    let row : IsPutRow c.args.deck.now.rows n held =
+    record {
+      number_is = number;
+      bytes_are = c.take-held.ensures.bytes;
+      source_is = c.take-held.ensures.source;
+    } in
+    let keeps : Keeps c.args.maker.now.site c.keep-kept.new.self held old new kept.Memory =
+    record {
       keeps = c.in-Memory.ensures.keeps;
       goes_on = c.in-Memory.ensures.goes_on;
       begun_on = c.in-Memory.ensures.begun_on;
@@ -156,4 +132,5 @@ returns-in-Memory-clause-stopped g c =
       ended = c.in-Memory.ensures.ended;
       faults_stay = c.in-Memory.ensures.faults_stay;
     } in
-    made_stopped c.args.deck.now.rows n old new held c.args.maker.now c.keep-kept.new.self done.0 done.1.0 done.1.1 row keeps
+    made_stopped c.args.deck.now.rows n old new held c.args.maker.now c.keep-kept.new.self done.0 done.1.0
+    done.1.1 row keeps

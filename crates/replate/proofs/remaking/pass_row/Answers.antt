@@ -1,8 +1,8 @@
-use Rattle.std.proofs.Common.{◌<◌, ◌≡◌, ◌∙◌, false, length, get_or, set, refl, sym, subst, arith}
+use Rattle.std.proofs.Common.{◌≡◌, ◌∙◌, false, refl, sym, subst, arith}
 use Rattle.std.proofs.lemmas.List.{length-set}
 use Rattle.replate.specs.declared.maker.Maker.{Maker}
 use Rattle.replate.specs.Making.{IsBeforeRow, keeps_next}
-use Rattle.replate.proofs.PassLemmas.{PassedUpTo, passed_all, passed_more}
+use Rattle.replate.proofs.PassLemmas.{passed_all, passed_more}
 use Rattle.replate.proofs.remaking.pass_row.Goals as goal
 
 pub loop-i-init : goal.loop-i-init
