@@ -16,21 +16,24 @@ pass-requires-clause-next c =
     let was = c.loop-i.invariant in
     let long = was.long in
     let d = c.index-makers-i.result in
-    subst IsBeforeRow (sym (was.passed'.rest c.loop-i.i d (omega arith))) (c.requires.next c.loop-i.i d (omega (arith, long)))
+    subst IsBeforeRow (sym (was.passed'.rest c.loop-i.i d (omega arith)))
+        (c.requires.next c.loop-i.i d (omega (arith, long)))
 
 pub pass-requires-clause-other : goal.pass-requires-clause-other
 pass-requires-clause-other c =
     let was = c.loop-i.invariant in
     let long = was.long in
     let d = c.index-makers-i.result in
-    subst (λ (m : Maker). keeps_next m ≡ false) (sym (was.passed'.rest c.loop-i.i d (omega arith))) (c.requires.others c.loop-i.i d (omega (arith, long)))
+    subst (λ (m : Maker). keeps_next m ≡ false) (sym (was.passed'.rest c.loop-i.i d (omega arith)))
+        (c.requires.others c.loop-i.i d (omega (arith, long)))
 
 pub loop-i-preserved : goal.loop-i-preserved
 loop-i-preserved c =
     let was = c.loop-i.invariant in
     record {
       long = length-set c.loop-i.makers c.loop-i.i c.pass.new.self ∙ was.long;
-      passed' = passed_more c.args.makers.now c.loop-i.makers c.loop-i.i c.index-makers-i.result c.pass.new.self (omega arith) was.passed' c.pass.ensures;
+      passed' = passed_more c.args.makers.now c.loop-i.makers c.loop-i.i c.index-makers-i.result
+          c.pass.new.self (omega arith) was.passed' c.pass.ensures;
     }
 
 pub returns : goal.returns
