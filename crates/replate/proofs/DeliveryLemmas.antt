@@ -63,7 +63,7 @@ pub begins_at : (plan : PlanData) (frames : List (List ℕ)) (out : List ℕ) (p
     → site < length plan.sites
     → TellsSlots told → told.tells.begun ≡ none_begun
     → IsServed (by_picks plan (map framed_row frames) out picks) site 0 told told
-        (fresh_maker plan out picks site)
+    (fresh_maker plan out picks site)
 begins_at plan frames out picks site told carries within slots idle = record {
   job_is = refl;
   next_is = refl;
@@ -98,9 +98,14 @@ pub served_at : (making : Making) (n : ℕ) (before now : List RackTells) (maker
     → (old : RackTells) × ((new : RackTells) × IsServed making i n old new (get_or makers i d))
 served_at making n before now makers i d olds news served less =
     let old = there_is before i (omega (arith, less, olds)) in
-    let new = there_is now i (omega (arith, less, news)) in
-    (old.0, (new.0, served.each i old.0 new.0 (get_or makers i d) old.1 new.1
-        (slice_get-get_or makers i d less)))
+    let new = there_is now i (omega (arith, less, news)) in (
+      old.0,
+      (
+        new.0,
+        served.each i old.0 new.0 (get_or makers i d) old.1 new.1
+            (slice_get-get_or makers i d less),
+      ),
+    )
 
 -- after the last row no site has plates left to make
 none_left : (making : Making) (site n : ℕ) (before now : RackTells) (going : SiteData) (end : RemadeEnd)
@@ -129,7 +134,7 @@ row_is_left making frames n before now makers i d carries olds news served most 
     let at = served_at making n before now makers i d olds news served less in
     let none : is_making (get_or makers i d) ≡ false =
     none_left making i n at.0 at.1.0 (get_or makers i d).site (get_or makers i d).end carries.plan_is
-        ((let e : n ≡ length frames = omega (arith, last, most) in e) ∙ carries.rows_are.count) at.1.1 in
+    ((let e : n ≡ length frames = omega (arith, last, most) in e) ∙ carries.rows_are.count) at.1.1 in
     absurd (false≢true (sym none ∙ some)))
     (cases_lt n (length frames))
 
@@ -187,14 +192,14 @@ end_fits making site n before now going (Done made kept) is within none at =
     let job : SiteJob = picked_job making.plan making.out site (making.bits site) in
     let all : finished_count going.job going.next ≡ length going.job.plates =
     eqb-true (finished_count going.job going.next) (length going.job.plates)
-        (not_false (eqb (finished_count going.job going.next) (length going.job.plates)) none) in
+    (not_false (eqb (finished_count going.job going.next) (length going.job.plates)) none) in
     let last : ℕ = length (row_places making.plan) in
     let own : IsJob job = picked_is making.plan making.out site (making.bits site) is in
     let stands : StandsAfter job making.rows Deck n before.tells now.tells going.counts =
     stands_at making site n before now going made kept at in
     let all' : finished_count job n ≡ length job.plates =
     subst (λ (m : ℕ). finished_count job m ≡ length job.plates) at.next_is
-        (subst (λ (j : SiteJob). finished_count j going.next ≡ length j.plates) at.job_is all) in
+    (subst (λ (j : SiteJob). finished_count j going.next ≡ length j.plates) at.job_is all) in
     record {
       made_are = at.made_are;
       kept_are = at.kept_are;
@@ -203,7 +208,7 @@ end_fits making site n before now going (Done made kept) is within none at =
       taken = (stands_on job making.rows Deck n (last - n) before.tells now.tells going.counts own all'
           stands).rack.taken
           ∙ ap (λ m. grown (taken_below job Deck m) before.tells.taken)
-              (let e : n + (last - n) ≡ last = omega (arith, within) in e);
+          (let e : n + (last - n) ≡ last = omega (arith, within) in e);
       begun = none_begun_at job making.rows Deck n before.tells now.tells going.counts own all' stands;
       missed = at.missed;
     } where
@@ -229,9 +234,9 @@ fits_wide tell making racks racks' front front' rest ends is is' long same fits 
           omega (arith, slice_get_within ends site end e, count) in
           fits.each site old new end
           (sym (slice_get-front (map tell front) (map tell rest) site
-              (omega (arith, inside, long, length-map front tell))) ∙ b)
+          (omega (arith, inside, long, length-map front tell))) ∙ b)
           (sym (slice_get-front (map tell front') (map tell rest) site
-              (omega (arith, inside, long, same, length-map front' tell))) ∙ r) e;
+          (omega (arith, inside, long, same, length-map front' tell))) ∙ r) e;
     })
 
 pub part_wide : {X : Type 0} (tell : X → RackTells) (making : Making)
@@ -245,7 +250,7 @@ part_wide tell making racks racks' front front' rest is is' long same part =
       each = λ site old new less b r.
           part.each site old new less
           (sym (slice_get-front (map tell front) (map tell rest) site
-              (omega (arith, less, long, length-map front tell))) ∙ b)
+          (omega (arith, less, long, length-map front tell))) ∙ b)
           (sym (slice_get-front (map tell front') (map tell rest) site
-              (omega (arith, less, long, same, length-map front' tell))) ∙ r);
+          (omega (arith, less, long, same, length-map front' tell))) ∙ r);
     })

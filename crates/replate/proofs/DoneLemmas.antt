@@ -31,7 +31,7 @@ stands_on job rows source n (suc k) before now counts is all stands =
     let e : n + 1 + k ≡ n + suc k = omega arith in
     subst (λ (m : ℕ). StandsAfter job rows source m before now counts) e
     (stands_on job rows source (n + 1) k before now counts is (finished-none job n is row ∙ all)
-        (row_passed job rows source n before now counts is row stands))
+    (row_passed job rows source n before now counts is row stands))
 
 -- in each slot no plate is open
 none_open : (job : SiteJob) (n slot : ℕ) → IsJob job → finished_count job n ≡ length job.plates
@@ -41,7 +41,7 @@ none_open job n slot is all =
     (λ j d within same.
     closed-cases job.height n (plate_at job j d)
     (inr (given-all job.height n (plate_at job j d) (let high : 0 < job.height = is.height.0 in high)
-        (finished-below job n j d is (omega (arith, within, all))))))
+    (finished-below job n j d is (omega (arith, within, all))))))
 
 -- and no slot of its rack is begun
 pub none_begun_at : (job : SiteJob) (rows : List (List ℕ)) (source : Source) (n : ℕ) (before now : Tells)
@@ -50,4 +50,4 @@ pub none_begun_at : (job : SiteJob) (rows : List (List ℕ)) (source : Source) (
     → slice_get now.begun slot ≡ Some false
 none_begun_at job rows source n before now counts is all stands slot less =
     stands.rack.begun slot less ∙ ap (λ p. Some (is_some (option_map (begun_plate job rows n) p)))
-        (none_open job n slot is all)
+    (none_open job n slot is all)

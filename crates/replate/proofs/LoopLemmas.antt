@@ -53,8 +53,11 @@ all_begin plan frames out picks before makers carries fresh idle slots = record 
       let m' : slice_get (fresh_makers plan out picks) site ≡ Some maker =
       ap (λ (list : List Maker). slice_get list site) (sym fresh) ∙ m in
       let inside : site < length plan.sites =
-      omega (arith, slice_get_within (fresh_makers plan out picks) site maker m',
-          length-map-range_with_len (fresh_maker plan out picks) 0 (length plan.sites)) in
+      omega (
+        arith,
+        slice_get_within (fresh_makers plan out picks) site maker m',
+        length-map-range_with_len (fresh_maker plan out picks) 0 (length plan.sites),
+      ) in
       let maker-is : maker ≡ fresh_maker plan out picks site =
       sym (get_or_from_slice_get (fresh_makers plan out picks) site maker maker m')
       ∙ get_or-map (fresh_maker plan out picks) (range_with_len 0 (length plan.sites)) site 0 maker
@@ -185,8 +188,14 @@ module _ {R : Type 0} {tell : R → RackTells} {making : Making} {rows : List (L
         let sites = at.sites in
         let count = at.same_count in
         let less : site < length making.plan.sites =
-        omega (arith, slice_get_within (map tell now') site new r, length-map now' tell, same, count,
-            sites) in
+        omega (
+          arith,
+          slice_get_within (map tell now') site new r,
+          length-map now' tell,
+          same,
+          count,
+          sites,
+        ) in
         (parts.each site old new less b r).faults;
   }
 

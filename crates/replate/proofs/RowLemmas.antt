@@ -54,22 +54,22 @@ handed_more {X} {Y} handed xs ys ps qs i d p' e q' upto here = record {
   done = λ j x p y q less at-x at-y at-p at-q.
       ⊎_elim
       (λ (before : j < i). upto.done j x p y q before at-x at-y
-          (set-aside ps i j p' p (λ e. omega (arith, e, before)) at-p)
-          (set-aside qs i j q' q (λ e. omega (arith, e, before)) at-q))
+      (set-aside ps i j p' p (λ e. omega (arith, e, before)) at-p)
+      (set-aside qs i j q' q (λ e. omega (arith, e, before)) at-q))
       (λ (from : i ≤ j).
       let index : j ≡ i = omega (arith, from, less) in
       let x-there : get_or ps i d ≡ x =
       get_or_from_slice_get ps i x d
-          (upto.rest i x (let e : i ≤ i = omega arith in e) (ap (slice_get xs) (sym index) ∙ at-x)) in
+      (upto.rest i x (let e : i ≤ i = omega arith in e) (ap (slice_get xs) (sym index) ∙ at-x)) in
       let y-there : get_or qs i e ≡ y =
       get_or_from_slice_get qs i y e
-          (upto.others i y (let e : i ≤ i = omega arith in e) (ap (slice_get ys) (sym index) ∙ at-y)) in
+      (upto.others i y (let e : i ≤ i = omega arith in e) (ap (slice_get ys) (sym index) ∙ at-y)) in
       let p-is : p' ≡ p = set-here ps i p' p (ap (slice_get (set ps i p')) (sym index) ∙ at-p) in
       let q-is : q' ≡ q = set-here qs i q' q (ap (slice_get (set qs i q')) (sym index) ∙ at-q) in
       subst (λ (a : X). handed a y p q) x-there
-          (subst (λ (b : Y). handed (get_or ps i d) b p q) y-there
-          (subst (λ (a : X). handed (get_or ps i d) (get_or qs i e) a q) p-is
-          (subst (λ (b : Y). handed (get_or ps i d) (get_or qs i e) p' b) q-is here))))
+      (subst (λ (b : Y). handed (get_or ps i d) b p q) y-there
+      (subst (λ (a : X). handed (get_or ps i d) (get_or qs i e) a q) p-is
+      (subst (λ (b : Y). handed (get_or ps i d) (get_or qs i e) p' b) q-is here))))
       (cases_lt j i);
   rest = λ j x from at. get-set_other ps i j p' x (λ e. omega (arith, e, from))
       (upto.rest j x (omega (arith, from)) at);
@@ -98,7 +98,7 @@ next_served {R} tell frames n makers racks makers' racks' i d e some-maker some-
     get_or_from_slice_get racks' i rack.0 e (upto.others i rack.0 low rack.1) in
     subst (λ (a : Maker). SomeServed frames n (tell (get_or racks' i e)) a) (sym maker-is)
     (subst (λ (b : R). SomeServed frames n (tell b) maker.0) (sym rack-is)
-        (some i maker.0 rack.0 maker.1 rack.1))
+    (some i maker.0 rack.0 maker.1 rack.1))
 
 -- the row was handed to all sites
 pub all_handed : {R : Type 0} (tell : R → RackTells) (frames : List (List ℕ)) (n : ℕ) (makers : List Maker)
@@ -116,41 +116,41 @@ pub all_ended : {R : Type 0} (tell : R → RackTells) (frames : List (List ℕ))
     → AllStopped tell frames n makers racks (set racks' i rack'')
 all_ended {R} tell frames n makers racks makers' racks' i d e rack'' same upto stopped j maker rack rack'
     m r r' = record {
-  each = λ making site before carries served.
-      ⊎_elim
-      (λ (before' : j < i).
-      let then' = there_is makers' j (omega (arith, slice_get_within makers j maker m, same)) in
-      let made : Made frames n (tell rack) (tell rack') maker then'.0 =
-      upto.done j maker then'.0 rack rack' before' m r then'.1
+      each = λ making site before carries served.
+          ⊎_elim
+          (λ (before' : j < i).
+          let then' = there_is makers' j (omega (arith, slice_get_within makers j maker m, same)) in
+          let made : Made frames n (tell rack) (tell rack') maker then'.0 =
+          upto.done j maker then'.0 rack rack' before' m r then'.1
           (set-aside racks' i j rack'' rack' (λ e. omega (arith, e, before')) r') in
-      served_part making site (n + 1) before (tell rack') then'.0.site then'.0.end
+          served_part making site (n + 1) before (tell rack') then'.0.site then'.0.end
           (made.each making site before carries served))
-      (λ (from : i ≤ j).
-      ⊎_elim
-      (λ (here : j < i + 1).
-      let index : j ≡ i = omega (arith, from, here) in
-      let maker-there : get_or makers' i d ≡ maker =
-      get_or_from_slice_get makers' i maker d
+          (λ (from : i ≤ j).
+          ⊎_elim
+          (λ (here : j < i + 1).
+          let index : j ≡ i = omega (arith, from, here) in
+          let maker-there : get_or makers' i d ≡ maker =
+          get_or_from_slice_get makers' i maker d
           (upto.rest i maker (let e : i ≤ i = omega arith in e) (ap (slice_get makers) (sym index) ∙ m)) in
-      let rack-there : get_or racks' i e ≡ rack =
-      get_or_from_slice_get racks' i rack e
+          let rack-there : get_or racks' i e ≡ rack =
+          get_or_from_slice_get racks' i rack e
           (upto.others i rack (let e : i ≤ i = omega arith in e) (ap (slice_get racks) (sym index) ∙ r)) in
-      let last : rack'' ≡ rack' =
-      set-here racks' i rack'' rack' (ap (slice_get (set racks' i rack'')) (sym index) ∙ r') in
-      let ended : Stopped frames n (tell rack) (tell rack') maker =
-      subst (λ (a : Maker). Stopped frames n (tell rack) (tell rack') a) maker-there
-      (subst (λ (b : R). Stopped frames n (tell b) (tell rack') (get_or makers' i d)) rack-there
+          let last : rack'' ≡ rack' =
+          set-here racks' i rack'' rack' (ap (slice_get (set racks' i rack'')) (sym index) ∙ r') in
+          let ended : Stopped frames n (tell rack) (tell rack') maker =
+          subst (λ (a : Maker). Stopped frames n (tell rack) (tell rack') a) maker-there
+          (subst (λ (b : R). Stopped frames n (tell b) (tell rack') (get_or makers' i d)) rack-there
           (subst (λ (b : R). Stopped frames n (tell (get_or racks' i e)) (tell b) (get_or makers' i d)) last
           stopped)) in
-      ended.each making site before carries served)
-      (λ (later : i + 1 ≤ j).
-      let still : slice_get racks' j ≡ Some rack = upto.others j rack from r in
-      let same' : rack ≡ rack' =
-      sym (get_or_from_slice_get racks' j rack rack still)
-      ∙ get_or_from_slice_get racks' j rack' rack
+          ended.each making site before carries served)
+          (λ (later : i + 1 ≤ j).
+          let still : slice_get racks' j ≡ Some rack = upto.others j rack from r in
+          let same' : rack ≡ rack' =
+          sym (get_or_from_slice_get racks' j rack rack still)
+          ∙ get_or_from_slice_get racks' j rack' rack
           (set-aside racks' i j rack'' rack' (λ e. omega (arith, e, later)) r') in
-      subst (λ (b : R). HasPart making site before (tell b)) same'
+          subst (λ (b : R). HasPart making site before (tell b)) same'
           (served_part making site n before (tell rack) maker.site maker.end served))
-      (cases_lt j (i + 1)))
-      (cases_lt j i);
-}
+          (cases_lt j (i + 1)))
+          (cases_lt j i);
+    }

@@ -15,7 +15,7 @@ keep-kept-requires g c =
     let number : held.number ≡ n = (let put = c.take-held.ensures.number in omega (arith, put)) in
     let now : RackTells = told g.R.Rack c.args.rack.now in
     let asked = asks c.args.deck.now.rows n now c.args.maker.now held done.0 done.1.0 c.requires.some done.1.1
-        number c.take-held.ensures.bytes in
+    number c.take-held.ensures.bytes in
     record {
       going = asked.on;
       next = asked.next_is;

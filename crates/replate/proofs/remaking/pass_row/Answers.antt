@@ -17,7 +17,7 @@ pass-requires-clause-next c =
     let long = was.long in
     let d = c.index-makers-i.result in
     subst IsBeforeRow (sym (was.passed'.rest c.loop-i.i d (omega arith)))
-        (c.requires.next c.loop-i.i d (omega (arith, long)))
+    (c.requires.next c.loop-i.i d (omega (arith, long)))
 
 pub pass-requires-clause-other : goal.pass-requires-clause-other
 pass-requires-clause-other c =
@@ -25,7 +25,7 @@ pass-requires-clause-other c =
     let long = was.long in
     let d = c.index-makers-i.result in
     subst (λ (m : Maker). keeps_next m ≡ false) (sym (was.passed'.rest c.loop-i.i d (omega arith)))
-        (c.requires.others c.loop-i.i d (omega (arith, long)))
+    (c.requires.others c.loop-i.i d (omega (arith, long)))
 
 pub loop-i-preserved : goal.loop-i-preserved
 loop-i-preserved c =
