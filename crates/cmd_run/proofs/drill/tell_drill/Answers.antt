@@ -11,5 +11,6 @@ returns c =
     (λ text h. record {
       is = h ∙ ap told_of c.requires.job;
       racks = c.args.drilled.now.racks.items;
-      run = subst (λ (job : JobData). HaveRun job c.args.drill.ring c.args.drilled.now.racks.items) c.requires.job c.requires.racks;
+      run = subst (λ (job : JobData). HaveRun job c.args.drill.ring c.args.drilled.now.racks.items)
+          c.requires.job c.requires.racks;
     }) c.told.ensures
