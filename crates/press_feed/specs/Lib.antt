@@ -11,3 +11,9 @@ pub mod Blocks
 pub mod Maker
 pub mod Band
 pub mod Feed
+pub mod Drawn
+pub mod InkRows
+pub mod SideRows
+pub mod PlateRow
+pub mod Frames
+pub mod SideBand

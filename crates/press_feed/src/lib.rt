@@ -5,20 +5,27 @@
 mod band;
 mod block_rows;
 mod byte_row;
+mod chain;
 mod chains;
+mod drawn_rows;
 mod feed;
 mod frame;
+mod frames;
+mod ink_rows;
 mod page_blocks;
 mod page_pair;
 mod page_source;
+mod plate_row;
 mod row_maker;
 mod screener;
 mod screens;
 mod share;
 mod sheet;
 mod side;
+mod side_band;
 mod side_pages;
 mod wanted;
+mod side_rows;
 mod wide;
 
 pub use feed::Feed;

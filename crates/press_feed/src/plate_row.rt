@@ -1,0 +1,63 @@
+// A row of a plate, composed of drawn rows of both sides.
+ghost use Rattle.std.specs.Prelude.{◌≡◌, ◌+◌, ◌≤◌, IfSome, length};
+ghost use Rattle.pr_base.specs.Row.{row_size};
+ghost use Rattle.plan_json.specs.Data.{plate_width};
+ghost use Rattle.press_feed.specs.Drawn.{HasRow};
+ghost use Rattle.press_feed.specs.PlateRow.{AreOfSides, IsJoined, IsRowsOf};
+ghost use Rattle.press_feed.specs.Plates.{DrawsPages};
+
+use crate::byte_row::clear;
+use crate::drawn_rows::{DrawnRows, byte_of};
+use crate::side::Side;
+use plan_rows::Group;
+use pr_base::Ink;
+use press_job::Job;
+
+/// Draws row `y` of the pages of a group on a row of a plate, and nothing else, from rows of both sides in the
+/// same ink.
+pub(crate) fn join_sides(
+    job: &Job,
+    group: &Group,
+    ink: Ink,
+    y: u32,
+    left: &DrawnRows<'_>,
+    right: &DrawnRows<'_>,
+    bits: &mut [u8],
+)
+    requires left { IsRowsOf job.now Side.Left ink left.now }
+    requires right { IsRowsOf job.now Side.Right ink right.now }
+    requires left_row { HasRow left.now group.now.left y }
+    requires right_row { HasRow right.now group.now.right y }
+    requires row { length bits.old ≡ row_size (plate_width job.now.plan) }
+    ensures { DrawsPages job.now group.now ink y bits.new }
+{
+    clear(bits);
+    join(left.row(y), &mut bits[byte_of(job, Side::Left)..]);
+    join(right.row(y), &mut bits[byte_of(job, Side::Right)..]);
+}
+
+/// Sets the pixels of a row that are set in another, which is no longer.
+fn join(row: &[u8], bits: &mut [u8])
+    requires { length row.now ≤ length bits.old }
+    ensures { IsJoined row.now bits.old bits.new }
+{
+    for (bit, byte) in bits.iter_mut().zip(row.iter()) {
+        *bit |= *byte;
+    }
+}
+
+/// Lends the rows of a side and an ink that have row `y` of a page, if there are any.
+pub(crate) fn rows_with<'r, 'j>(
+    rows: &'r [DrawnRows<'j>],
+    side: Side,
+    ink: Ink,
+    page: usize,
+    y: u32,
+) -> Option<&'r DrawnRows<'j>>
+    ensures side { IfSome result (λ rows. rows.now.side ≡ side) }
+    ensures ink { IfSome result (λ rows. rows.now.ink ≡ ink) }
+    ensures row { IfSome result (λ rows. HasRow rows.now page y) }
+{
+    rows.iter()
+        .find(|rows| rows.side() == side && rows.ink() == ink && rows.has(page, y))
+}
