@@ -1,8 +1,10 @@
 pub mod AheadLemmas
 pub mod BandLemmas
 pub mod FeedLemmas
+pub mod JoinLemmas
 pub mod PairLemmas
 pub mod PlateLemmas
 pub mod ScreenerLemmas
 pub mod ScreensLemmas
+pub mod SideBandLemmas
 pub mod SideLemmas

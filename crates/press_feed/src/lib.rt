@@ -3,6 +3,8 @@
 #![tactic(auto)]
 
 mod band;
+mod band_part;
+mod band_rows;
 mod block_rows;
 mod byte_row;
 mod chain;
@@ -12,6 +14,7 @@ mod feed;
 mod frame;
 mod frames;
 mod ink_rows;
+mod ink_shares;
 mod page_blocks;
 mod page_pair;
 mod page_source;
@@ -24,8 +27,8 @@ mod sheet;
 mod side;
 mod side_band;
 mod side_pages;
-mod wanted;
 mod side_rows;
+mod wanted;
 mod wide;
 
 pub use feed::Feed;
