@@ -26,6 +26,11 @@ pub record AreRowsOf (job : JobData) (height : ℕ) (rows : BandRows) : Type 0 w
 
 -- ---- what a thread has
 
+-- what a thread draws and packs is of one job
+pub record IsBandPart (job rows frames : JobData) : Type 0 where
+  pub rows_are : rows ≡ job
+  pub frames_are : frames ≡ job
+
 -- what a thread draws is of this job, in room for `height` rows
 pub record IsPartOf (job : JobData) (height : ℕ) (part : SideRowsData) : Type 0 where
   pub job_is : part.job ≡ job

@@ -27,14 +27,14 @@ pub(crate) struct BandPart<'j> {
 }
 
 impl<'j> Model for BandPart<'j> {
-    ghost use Rattle.std.specs.Prelude.{◌≡◌};
+    ghost use Rattle.press_feed.specs.SideBand.{IsBandPart};
     ghost use Rattle.press_feed.specs.SideRows.{SideRowsData};
 
     ghost Value = { SideRowsData };
 
     ghost view = { λ p. p.rows };
 
-    ghost invariant = { λ p. (p.rows.job ≡ p.job.now) × (p.frames ≡ p.job.now) };
+    ghost invariant = { λ p. IsBandPart p.job.now p.rows.job p.frames };
 }
 
 impl<'j> BandPart<'j> {
