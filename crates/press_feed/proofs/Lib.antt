@@ -1,8 +1,12 @@
 pub mod AheadLemmas
 pub mod BandLemmas
+pub mod DrawnLemmas
 pub mod FeedLemmas
+pub mod HeldLemmas
+pub mod MapLemmas
 pub mod PairLemmas
 pub mod PlateLemmas
 pub mod ScreenerLemmas
 pub mod ScreensLemmas
 pub mod SideLemmas
+pub mod SideRowsLemmas

@@ -11,6 +11,7 @@ mod drawn_rows;
 mod feed;
 mod frame;
 mod frames;
+mod held_rows;
 mod ink_rows;
 mod page_blocks;
 mod page_pair;
@@ -24,8 +25,8 @@ mod sheet;
 mod side;
 mod side_band;
 mod side_pages;
-mod wanted;
 mod side_rows;
+mod wanted;
 mod wide;
 
 pub use feed::Feed;

@@ -1,27 +1,38 @@
 // How an ink is screened: by a tile or by error diffusion.
-ghost use Rattle.std.specs.Prelude.{◌≡◌, ℕ, ◌<◌, IfOk, IsTrue, length};
-ghost use Rattle.std.specs.Option.{ForSome, is_none};
+ghost use Rattle.std.specs.Prelude.{◌≡◌, ℕ, ◌<◌, IfOk, IsTrue, Some, length};
+ghost use Rattle.std.specs.Option.{ForSome};
+ghost use Rattle.pr_base.specs.declared.ink.Ink.{Ink as InkData};
 ghost use Rattle.plan_parts.specs.Parts.{is_bayer};
 ghost use Rattle.scr_tile.specs.AnyTile.{threshold_of};
 ghost use Rattle.scr_tile.specs.Tile.{threshold_at};
-ghost use Rattle.press_feed.specs.Screener.{is_diffused, threshold_under};
-ghost use Rattle.press_job.specs.Printing.{own_threshold, screen_of};
+ghost use Rattle.press_feed.specs.Screener.{IsOnly, is_diffused};
+ghost use Rattle.press_job.specs.Printing.{own_threshold};
 
 use plan_json::{Plan, Screen};
 use pr_base::{Ink, NoMemory};
 use scr_tile::AnyTile;
 use std::alloc::Global;
 
-/// Returns the tile of an ink of the plan, or none if the ink is diffused.
-pub(crate) fn tile_of(alloc: Global, plan: &Plan, ink: Ink) -> Result<Option<AnyTile>, NoMemory>
-    ensures none { IfOk result (λ tile. is_diffused plan.now ink ≡ is_none tile) }
-    ensures thresholds { IfOk result (λ tile. ForSome tile (λ t. (x y : ℕ) →
-        threshold_of t x y ≡ threshold_under plan.now (screen_of plan.now ink) x y)) }
-{
-    match plan.screens[ink.slot()] {
-        Screen::Bayer(side) => Ok(Some(bayer_tile(side))),
-        Screen::Diffuse => Ok(None),
-        Screen::Own(tile) => Ok(Some(own_tile(alloc, plan, tile)?)),
+/// Turns the values of an ink into pixels.
+#[derive(Drop)]
+pub(crate) enum Screener {
+    Tile(AnyTile),
+    /// The errors are kept by diffusers that serve several inks at once.
+    Diffusion,
+}
+
+impl Screener {
+    ghost use Rattle.press_feed.specs.Screener.{IsScreener};
+
+    /// Returns the screener of an ink of the plan.
+    pub(crate) fn of(alloc: Global, plan: &Plan, ink: Ink) -> Result<Screener, NoMemory>
+        ensures { IfOk result (IsScreener plan.now ink) }
+    {
+        match plan.screens[ink.slot()] {
+            Screen::Bayer(side) => Ok(Screener::Tile(bayer_tile(side))),
+            Screen::Diffuse => Ok(Screener::Diffusion),
+            Screen::Own(tile) => Ok(Screener::Tile(own_tile(alloc, plan, tile)?)),
+        }
     }
 }
 
@@ -33,6 +44,23 @@ pub(crate) fn has_diffused(plan: &Plan, ink: Ink) -> bool
         Screen::Diffuse => true,
         _ => false,
     }
+}
+
+/// Returns the diffused ink, if exactly one ink is diffused.
+pub(crate) fn lone_diffused(plan: &Plan) -> Option<Ink>
+    ensures is { ForSome result (IsOnly plan.now) }
+    ensures only { (ink : InkData) → IsOnly plan.now ink → result ≡ Some ink }
+{
+    let mut found = None;
+    for ink in Ink::ALL {
+        if has_diffused(plan, ink) {
+            if found.is_some() {
+                return None;
+            }
+            found = Some(ink);
+        }
+    }
+    found
 }
 
 /// Returns the Bayer tile with a side that a plan can name.

@@ -1,11 +1,17 @@
-// The pages on one side of the plates, eight rows at a time.
-ghost use Rattle.std.specs.Prelude.{◌≡◌, ℕ, ◌+◌, ◌-◌, ◌<◌, ◌≤◌, IfOk, All, length};
-ghost use Rattle.page_layers.specs.Inks.{HasWidth};
+// The pages on one side of the plates, each read row by row.
+ghost use Rattle.std.specs.Prelude.{◌≡◌, ◌≢◌, ℕ, ◌+◌, ◌-◌, ◌*◌, ◌<◌, ◌≤◌, IfOk, None, length, true};
+ghost use Rattle.std.specs.Option.{ForSome};
+ghost use Rattle.pr_base.specs.Bits.{SetsBits};
+ghost use Rattle.page_layers.specs.Inks.{HasWidth, plane_of};
 ghost use Rattle.plan_rows.specs.Groups.{page_colour, page_spot};
+ghost use Rattle.pr_base.specs.declared.ink.Ink.{Ink as InkData};
 ghost use Rattle.press_job.specs.Layers.{layers_of, planned_layers};
-ghost use Rattle.press_job.specs.Printing.{printed_row};
-ghost use Rattle.press_feed.specs.Sides.{page_before};
+ghost use Rattle.press_job.specs.Printing.{page_bit, printed_row};
+ghost use Rattle.press_feed.specs.Screener.{AreScreeners, is_diffused};
+ghost use Rattle.press_feed.specs.Screens.{IsFrontOf, bank_of, lane_of};
+ghost use Rattle.press_feed.specs.Sides.{left_edge, page_before};
 
+use crate::screens::Screens;
 use crate::side::Side;
 use page_layers::PageRows;
 use plan_json::Plan;
@@ -14,132 +20,71 @@ use press_job::{Job, PrintedRow, Tones, most_layers, put_layers};
 use std::alloc::Global;
 use std::marker::Model;
 
-/// The most rows that a side holds.
-pub(crate) const BLOCK: u32 = 8;
-
-/// The pages of one side. Up to eight consecutive rows of one of them are held, in buffers large enough for any
-/// page; a row is painted and toned once for all its inks, and one that repeats the row above it shares that
-/// row's values. Contracts see the side, the current page, and which of its rows are held.
+/// The pages of one side. One of them is read row by row, in buffers large enough for any; a row is painted
+/// and toned once for all its inks. Contracts see the job, the side, the current page, and how many of its
+/// rows were made.
 #[derive(Drop)]
 pub(crate) struct SidePages<'j> {
     job: &'j Job,
     side: Side,
-    /// The current page, before the row after those that are held.
+    /// The current page.
     page_rows: PageRows<'j>,
     page: usize,
+    shown: u32,
     tones: Tones<'j>,
-    /// The values of eight rows, which become the rows held in turn.
-    rows: Vec<PrintedRow>,
-    /// Where in `rows` the values of each row held are.
-    places: [usize; 8],
-    /// Where those of the row made last are.
-    last: usize,
-    first: u32,
-    count: u32,
+    row: PrintedRow,
 }
 
 impl<'j> Model for SidePages<'j> {
-    ghost use Rattle.press_feed.specs.Drawn.{HeldData};
-    ghost use Rattle.press_feed.specs.SidePages.{IsSide};
+    ghost use Rattle.press_feed.specs.Sides.{SideData};
 
-    ghost Value = { HeldData };
+    ghost Value = { SideData };
+
+    ghost use Rattle.press_feed.specs.SidePages.{IsSide};
 
     ghost view = { λ s. record {
       plan = s.job.now.plan;
       files = s.job.now.files;
       side = s.side;
       page = s.page;
-      first = s.first;
-      count = s.count;
+      shown = s.shown;
     } };
 
     ghost invariant = { λ s.
-        IsSide s.job.now s.page_rows s.page s.first s.count s.tones s.rows.items s.places s.last };
+        IsSide s.job.now s.page_rows s.page s.shown s.tones s.row };
 }
 
 impl<'j> SidePages<'j> {
+    ghost use Rattle.press_feed.specs.Sides.{at_top, behind_row};
+    ghost use Rattle.press_feed.specs.SidePages.{opened_side};
+
     /// Allocates the buffers of the pages. The first page of the plan is current until another one is
-    /// entered. No row is held.
+    /// entered.
     pub(crate) fn open(alloc: Global, job: &'j Job, side: Side) -> Result<SidePages<'j>, NoMemory>
-        ensures { IfOk result (λ pages. pages ≡ record {
-          plan = job.now.plan; files = job.now.files; side = side; page = 0; first = 0; count = 0;
-        }) }
+        ensures { IfOk result (λ pages. pages ≡ opened_side job.now side) }
     {
+        let plan = job.plan();
         let page_rows = open_page(alloc, job)?;
-        let tones = Tones::of(alloc, job.plan())?;
-        let rows = printed_rows(alloc, job.plan())?;
+        let tones = Tones::of(alloc, plan)?;
+        let row = PrintedRow::new(alloc, plan)?;
         Ok(SidePages {
             job,
             side,
             page_rows,
             page: 0,
+            shown: 0,
             tones,
-            rows,
-            places: [0; 8],
-            last: 0,
-            first: 0,
-            count: 0,
+            row,
         })
     }
 
-    /// Moves to the top of a page. No row is held.
+    /// Moves to the top of a page.
     pub(crate) fn begin(&mut self, page: usize)
-        ensures { self.new ≡ record self.old { page = page; first = 0; count = 0 } }
+        ensures { self.new ≡ at_top page self.old }
     {
         turn_to(self.job, self.page, page, &mut self.page_rows);
         self.page = page;
-        self.first = 0;
-        self.count = 0;
-    }
-
-    /// Makes the next `count` rows of the page, which are held from then on in place of those before them.
-    pub(crate) fn show(&mut self, count: u32)
-        requires eight { count ≤ 8 }
-        requires within { self.old.first + self.old.count + count ≤ self.old.plan.page_height }
-        ensures { self.new ≡ record self.old { first = self.old.first + self.old.count; count = count } }
-    {
-        let (colour, spot) = inks_of(self.job.plan(), self.page);
-        self.first += self.count;
-        self.count = 0;
-        for _row in 0..count {
-            self.show_next(colour, spot);
-        }
-    }
-
-    /// Makes the next row of the page, and holds it behind those that are held.
-    fn show_next(&mut self, colour: bool, spot: bool)
-        requires eight { self.old.count < 8 }
-        requires within { self.old.first + self.old.count < self.old.plan.page_height }
-        requires colour { colour ≡ page_colour self.old.plan self.old.page }
-        requires spot { spot ≡ page_spot self.old.plan self.old.page }
-        ensures { self.new ≡ record self.old { count = self.old.count + 1 } }
-    {
-        if self.page_rows.repeats() {
-            self.page_rows.pass();
-        } else {
-            self.last = (self.last + 1) % 8;
-            self.rows[self.last].paint(&mut self.page_rows, &self.tones, colour, spot);
-        }
-        self.places[self.count as usize] = self.last;
-        self.count += 1;
-    }
-
-    /// Skips the rows above row `y`, which is still to come. No row is held.
-    pub(crate) fn skip_to(&mut self, y: u32)
-        requires next { self.old.first + self.old.count ≤ y }
-        requires within { y < self.old.plan.page_height }
-        ensures { self.new ≡ record self.old { first = y; count = 0 } }
-    {
-        pass_rows(y - self.first - self.count, &mut self.page_rows);
-        self.first = y;
-        self.count = 0;
-    }
-
-    /// The side.
-    pub(crate) fn side(&self) -> Side
-        ensures { result ≡ self.now.side }
-    {
-        self.side
+        self.shown = 0;
     }
 
     /// The index of the current page.
@@ -149,42 +94,77 @@ impl<'j> SidePages<'j> {
         self.page
     }
 
-    /// The number of the first row held.
-    pub(crate) fn first(&self) -> u32
-        ensures { result ≡ self.now.first }
+    /// The number of rows of the current page that were made.
+    pub(crate) fn shown(&self) -> u32
+        ensures { result ≡ self.now.shown }
     {
-        self.first
+        self.shown
     }
 
-    /// The number of rows held.
-    pub(crate) fn count(&self) -> u32
-        ensures { result ≡ self.now.count }
+    /// Lends the row made last.
+    pub(crate) fn row(&self) -> &PrintedRow
+        ensures wide { HasWidth result.now self.now.plan.page_width }
+        ensures shows { 0 < self.now.shown → (ink : InkData) → plane_of result.now ink
+            ≡ printed_row self.now.plan self.now.files self.now.page ink (self.now.shown - 1) }
     {
-        self.count
+        &self.row
     }
 
-    /// Lends the values of the row at an index of those held, one for each pixel. At a further index they are
-    /// any values.
-    pub(crate) fn values(&self, k: usize, ink: Ink) -> &[u8]
-        requires { k < 8 }
-        ensures wide { length result.now ≡ self.now.plan.page_width }
-        ensures shows { k < self.now.count → result.now
-            ≡ printed_row self.now.plan self.now.files self.now.page ink (self.now.first + k) }
+    /// Sets the pixels of an ink of row `y` of the page, the row made last, at the page's position on the
+    /// plate.
+    pub(crate) fn draw(&self, screens: &Screens, ink: Ink, y: u32, bits: &mut [u8])
+        requires shown { self.now.shown ≡ y + 1 }
+        requires within { y < self.now.plan.page_height }
+        requires screens { AreScreeners self.now.plan screens.now.screeners.items }
+        requires some { is_diffused self.now.plan ink ≡ true → bank_of screens.now ink ≢ None }
+        requires bank { ForSome (bank_of screens.now ink) (λ front. IsFrontOf self.now.plan self.now.files
+            self.now.page ink (lane_of self.now.side ink) (y + 1) front) }
+        requires room { left_edge self.now.plan self.now.side + self.now.plan.page_width
+            ≤ 8 * length bits.old }
+        ensures { SetsBits (λ x. page_bit self.now.plan self.now.files self.now.page ink x y)
+            (left_edge self.now.plan self.now.side) self.now.plan.page_width bits.old bits.new }
     {
-        self.rows[self.places[k]].values(ink)
+        let from = self.side.left_edge(self.job);
+        let values = self.row.values(ink);
+        screens.draw(self.side, ink, y, values, bits, from);
     }
-}
 
-/// Allocates the values of eight rows.
-fn printed_rows(alloc: Global, plan: &Plan) -> Result<Vec<PrintedRow>, NoMemory>
-    ensures count { IfOk result (λ rows. length rows.items ≡ 8) }
-    ensures wide { IfOk result (λ rows. All (λ row. HasWidth row plan.now.page_width) rows.items) }
-{
-    let mut rows = Vec::with_capacity(alloc, 8)?;
-    for _row in 0..8_usize {
-        rows.push(PrintedRow::new(alloc, plan)?)?;
+    /// Makes the next row of the page.
+    pub(crate) fn show(&mut self)
+        requires { self.old.shown < self.old.plan.page_height }
+        ensures { self.new ≡ record self.old { shown = self.old.shown + 1 } }
+    {
+        let (colour, spot) = inks_of(self.job.plan(), self.page);
+        self.row
+            .advance(&mut self.page_rows, &self.tones, colour, spot);
+        self.shown += 1;
     }
-    Ok(rows)
+
+    /// Makes row `y` of the page, which is still to come. Skips the rows above.
+    pub(crate) fn show_at(&mut self, y: u32)
+        requires next { self.old.shown ≤ y }
+        requires within { y < self.old.plan.page_height }
+        ensures { self.new ≡ behind_row y self.old }
+    {
+        if self.shown == y {
+            self.show();
+        } else {
+            self.show_below(y);
+        }
+    }
+
+    /// The same if rows above are still to come, so that the row is painted whatever row was made last.
+    fn show_below(&mut self, y: u32)
+        requires next { self.old.shown ≤ y }
+        requires within { y < self.old.plan.page_height }
+        ensures { self.new ≡ behind_row y self.old }
+    {
+        let (colour, spot) = inks_of(self.job.plan(), self.page);
+        pass_rows(y - self.shown, &mut self.page_rows);
+        self.row
+            .paint(&mut self.page_rows, &self.tones, colour, spot);
+        self.shown = y + 1;
+    }
 }
 
 /// Skips this many rows of a page.
@@ -198,7 +178,7 @@ fn pass_rows(count: u32, rows: &mut PageRows<'_>)
 }
 
 /// Returns the first page of the plan, in buffers for the page with the most layers.
-fn open_page<'j>(alloc: Global, job: &'j Job) -> Result<PageRows<'j>, NoMemory>
+pub(crate) fn open_page<'j>(alloc: Global, job: &'j Job) -> Result<PageRows<'j>, NoMemory>
     ensures page { IfOk result (λ rows. rows ≡ page_before job.now.plan job.now.files rows.room 0 0) }
     ensures room { IfOk result
         (λ rows. (page : ℕ) → length (planned_layers job.now.plan page) ≤ rows.room) }
@@ -210,7 +190,7 @@ fn open_page<'j>(alloc: Global, job: &'j Job) -> Result<PageRows<'j>, NoMemory>
 }
 
 /// Moves from one page of the plan to row 0 of another, or of the same. Images are not tested again.
-fn turn_to<'j>(job: &'j Job, from: usize, page: usize, rows: &mut PageRows<'j>)
+pub(crate) fn turn_to<'j>(job: &'j Job, from: usize, page: usize, rows: &mut PageRows<'j>)
     requires from { rows.old.layers ≡ layers_of job.now.plan job.now.files from }
     requires room { length (planned_layers job.now.plan page) ≤ rows.old.room }
     ensures { rows.new
@@ -224,7 +204,7 @@ fn turn_to<'j>(job: &'j Job, from: usize, page: usize, rows: &mut PageRows<'j>)
 }
 
 /// Whether a page prints C, M and Y, and whether it prints S.
-fn inks_of(plan: &Plan, page: usize) -> (bool, bool)
+pub(crate) fn inks_of(plan: &Plan, page: usize) -> (bool, bool)
     ensures colour { result.0 ≡ page_colour plan.now page }
     ensures spot { result.1 ≡ page_spot plan.now page }
 {
