@@ -7,8 +7,8 @@ use Rattle.press_feed.specs.ChainRows.{ChainData, IsNextFor, at_top, behind_bloc
 use Rattle.press_feed.specs.Drawn.{DrawnData, before_row, behind_rows}
 use Rattle.press_feed.specs.HeldRows.{HeldData}
 use Rattle.press_feed.specs.Screener.{IsScreener}
-use Rattle.press_feed.specs.declared.ink_rows.Drawer.{Drawer}
-use Rattle.press_feed.specs.declared.ink_rows.Drawer.TheVariants.{Tiled, Diffused}
+use Rattle.press_feed.specs.declared.drawer.Drawer.{Drawer}
+use Rattle.press_feed.specs.declared.drawer.Drawer.TheVariants.{Tiled, Diffused}
 use Rattle.press_feed.specs.declared.screener.Screener.{Screener}
 use Rattle.press_feed.specs.declared.screener.Screener.TheVariants.{Tile, Diffusion}
 

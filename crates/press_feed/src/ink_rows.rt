@@ -6,6 +6,7 @@ ghost use Rattle.press_feed.specs.InkRows.{restarted};
 ghost use Rattle.press_feed.specs.SideRows.{blank_rows};
 
 use crate::chain::Chain;
+use crate::drawer::Drawer;
 use crate::drawn_rows::DrawnRows;
 use crate::held_rows::HeldRows;
 use crate::screener::Screener;
@@ -13,16 +14,8 @@ use crate::side::Side;
 use plan_rows::Group;
 use pr_base::{Ink, NoMemory};
 use press_job::Job;
-use scr_tile::AnyTile;
 use std::alloc::Global;
 use std::marker::Model;
-
-/// Turns the values of an ink into pixels: a tile, or error diffusion from row to row.
-#[derive(Drop)]
-enum Drawer<'j> {
-    Tiled(AnyTile),
-    Diffused(Chain<'j>),
-}
 
 /// The rows of a side's pages in one ink. Contracts see the rows that are drawn, and what a chain took.
 #[derive(Drop)]

@@ -7,6 +7,7 @@ mod block_rows;
 mod byte_row;
 mod chain;
 mod chains;
+mod drawer;
 mod drawn_rows;
 mod feed;
 mod frame;
