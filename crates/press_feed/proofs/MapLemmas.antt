@@ -19,25 +19,25 @@ stepped_none f inks = record {
 }
 
 -- one more
-pub stepped_more : (f : InkData → InkData) (n : ℕ) (old inks : List InkData) (item x : InkData) → AreStepped f n old inks → n < length inks → item ≡ get_or inks n item → x ≡ f item → AreStepped f (n + 1) old (set inks n x)
-stepped_more f n old inks item x are within item_is x_is =
+pub stepped_more : (f : InkData → InkData) (n : ℕ) (old inks : List InkData) (d x : InkData) → AreStepped f n old inks → n < length inks → x ≡ f (get_or inks n d) → AreStepped f (n + 1) old (set inks n x)
+stepped_more f n old inks d x are within x_is =
     let long = are.count in
     record {
       count = length-set inks n x ∙ are.count;
-      done = λ k d less below. elim (cases_eq k n) [
+      done = λ k e less below. elim (cases_eq k n) [
         | inl same ↦
-            get_or-set_at inks n k x d same within ∙ x_is
-            ∙ ap f (item_is ∙ get_or_default inks n item d within ∙ are.left n d (omega arith) ∙ ap (λ i. get_or old i d) (sym same))
-        | inr other ↦ get_or-set_other inks n k x d other ∙ are.done k d (omega arith) below
+            get_or-set_at inks n k x e same within ∙ x_is
+            ∙ ap f (get_or_default inks n d e within ∙ are.left n e (omega arith) ∙ ap (λ i. get_or old i e) (sym same))
+        | inr other ↦ get_or-set_other inks n k x e other ∙ are.done k e (omega arith) below
       ];
-      left = λ k d above. get_or-set_other inks n k x d (λ same. absurd (omega arith)) ∙ are.left k d (omega arith);
+      left = λ k e above. get_or-set_other inks n k x e (λ same. absurd (omega arith)) ∙ are.left k e (omega arith);
     }
 
 -- what held of all still holds of the next one
-pub stepped_next : (P : InkData → Type 0) (f : InkData → InkData) (n : ℕ) (old inks : List InkData) (item : InkData) → AreStepped f n old inks → n < length inks → item ≡ get_or inks n item → All P old → P item
-stepped_next P f n old inks item are within item_is all =
+pub stepped_next : (P : InkData → Type 0) (f : InkData → InkData) (n : ℕ) (old inks : List InkData) (d : InkData) → AreStepped f n old inks → n < length inks → All P old → P (get_or inks n d)
+stepped_next P f n old inks d are within all =
     let long = are.count in
-    subst {A = InkData} P (sym (item_is ∙ are.left n item (omega arith))) (all n item (omega arith))
+    subst {A = InkData} P (sym (are.left n d (omega arith))) (all n d (omega arith))
 
 -- all of them
 pub stepped_all : (f : InkData → InkData) (n : ℕ) (old new : List InkData) → AreStepped f n old new → length old ≤ n → new ≡ map f old

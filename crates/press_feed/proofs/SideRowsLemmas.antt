@@ -11,10 +11,10 @@ use Rattle.plan_rows.specs.declared.group.Group.{Group}
 use Rattle.press_job.specs.Job.{JobData}
 use Rattle.press_feed.specs.declared.side.Side.{Side}
 use Rattle.press_feed.specs.ChainRows.{ChainData, IsNextFor, at_top, behind_block}
-use Rattle.press_feed.specs.Drawn.{DrawnData, before_row, behind_rows}
+use Rattle.press_feed.specs.Drawn.{DrawnData, before_row, behind_rows, blank_rows}
 use Rattle.press_feed.specs.HeldRows.{HeldData}
 use Rattle.press_feed.specs.InkRows.{InkData, IsAtRow, IsNextChain, IsNextIn, IsReady, begun, drawn_on, passed, restarted}
-use Rattle.press_feed.specs.SideRows.{HaveRoom, IsAtGroup, IsDrawnOf, IsOpenFor, IsSideRows, SideRowsData, blank_rows, drawn_behind, drawn_for, drawns}
+use Rattle.press_feed.specs.SideRows.{HaveRoom, IsAtGroup, IsDrawnOf, IsOpenFor, IsSideRows, SideRowsData, drawn_behind, drawn_for, drawns}
 use Rattle.press_feed.specs.Sides.{page_on}
 
 no_ink : (b : Bool) → b ≡ true → b ≡ false → ⊥

@@ -50,6 +50,18 @@ pub record DrawnData : Type 0 where
   pub count : ℕ
   pub room : ℕ
 
+-- no row of an ink, in this much room
+abbrev pub blank_rows : JobData → Side → ℕ → Ink → DrawnData
+blank_rows job side room ink = record {
+  job = job;
+  side = side;
+  ink = ink;
+  page = 0;
+  first = 0;
+  count = 0;
+  room = room;
+}
+
 -- the first buffers show these rows, and nothing beside the page
 pub record AreDrawn (job : JobData) (side : Side) (page : ℕ) (ink : Ink) (first count : ℕ)
     (rows : List (List ℕ)) : Type 0 where

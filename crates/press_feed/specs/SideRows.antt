@@ -1,7 +1,6 @@
 -- The rows of one side's pages in some inks.
 use Rattle.std.specs.Prelude.{◌≡◌, ℕ, ◌+◌, ◌≤◌, true, if◌then◌else◌, List, map}
 use Rattle.std.specs.List.{All}
-use Rattle.pr_base.specs.declared.ink.Ink.{Ink}
 use Rattle.plan_rows.specs.Inks.{has_ink}
 use Rattle.plan_rows.specs.declared.group.Group.{Group}
 use Rattle.press_job.specs.Job.{JobData}
@@ -25,18 +24,6 @@ drawns inks = map (λ ink. ink.drawn) inks
 -- each ink has room for this many rows
 abbrev pub HaveRoom : ℕ → List InkData → Type 0
 HaveRoom count inks = All (λ ink. count ≤ ink.drawn.room) inks
-
--- no row of an ink, in this much room
-abbrev pub blank_rows : JobData → Side → ℕ → Ink → DrawnData
-blank_rows job side room ink = record {
-  job = job;
-  side = side;
-  ink = ink;
-  page = 0;
-  first = 0;
-  count = 0;
-  room = room;
-}
 
 -- the drawn rows of an ink after these rows of a group's page, which are drawn in each ink that the group prints
 abbrev pub drawn_for : Group → Side → ℕ → ℕ → DrawnData → DrawnData

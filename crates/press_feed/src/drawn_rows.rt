@@ -3,7 +3,7 @@ ghost use Rattle.std.specs.Prelude.{◌≡◌, ◌+◌, ◌-◌, ◌*◌, ◌<�
 ghost use Rattle.std.specs.Prelude.{slice_index, true};
 ghost use Rattle.pr_base.specs.Bits.{SetsBits};
 ghost use Rattle.press_feed.specs.Drawn.{HasRow, HasTaken, IsClearBeside, IsLike, ShowsRowOf, before_row};
-ghost use Rattle.press_feed.specs.Drawn.{behind_rows, side_bit, side_byte};
+ghost use Rattle.press_feed.specs.Drawn.{behind_rows, blank_rows, side_bit, side_byte};
 ghost use Rattle.press_feed.specs.Screener.{IsScreener, is_diffused};
 ghost use Rattle.press_feed.specs.declared.screener.Screener.TheVariants.{Tile};
 ghost use Rattle.press_job.specs.Printing.{page_bit, printed_row};
@@ -63,9 +63,7 @@ impl<'j> DrawnRows<'j> {
         room: usize,
     ) -> Result<DrawnRows<'j>, NoMemory>
         requires { room ≤ 65536 }
-        ensures { IfOk result (λ drawn. drawn ≡ record {
-          job = job.now; side = side; ink = ink; page = 0; first = 0; count = 0; room = room;
-        }) }
+        ensures { IfOk result (λ drawn. drawn ≡ blank_rows job.now side room ink) }
     {
         let len = row_bytes(bit_of(job, side) + job.plan().page_width);
         let rows = byte_rows(alloc, room, len)?;

@@ -1,9 +1,8 @@
 // One ink of a side: how it is screened, and the rows that are drawn in it.
 ghost use Rattle.std.specs.Prelude.{◌≡◌, ◌+◌, ◌≤◌, IfOk, IsTrue};
-ghost use Rattle.press_feed.specs.Drawn.{IsLike};
+ghost use Rattle.press_feed.specs.Drawn.{IsLike, blank_rows};
 ghost use Rattle.press_feed.specs.InkRows.{IsNextChain, IsNextIn, IsReady, begun, drawn_on, passed};
 ghost use Rattle.press_feed.specs.InkRows.{restarted};
-ghost use Rattle.press_feed.specs.SideRows.{blank_rows};
 
 use crate::chain::Chain;
 use crate::drawer::Drawer;

@@ -1,9 +1,10 @@
 // The rows of one side's pages, drawn in some inks.
 ghost use Rattle.std.specs.Prelude.{All, ◌≡◌, ◌≢◌, ℕ, ◌+◌, ◌*◌, ◌%◌, ◌<◌, ◌≤◌, IfOk, IsTrue, length, map};
+ghost use Rattle.press_feed.specs.Drawn.{blank_rows};
 ghost use Rattle.press_feed.specs.Frames.{AreOf};
 ghost use Rattle.press_feed.specs.InkRows.{IsNextChain, IsNextIn, IsReady, begun, drawn_on, passed};
 ghost use Rattle.press_feed.specs.InkRows.{restarted};
-ghost use Rattle.press_feed.specs.SideRows.{HaveRoom, IsAtGroup, IsOpenFor, IsSameSide, blank_rows};
+ghost use Rattle.press_feed.specs.SideRows.{HaveRoom, IsAtGroup, IsOpenFor, IsSameSide};
 ghost use Rattle.press_feed.specs.SideRows.{drawn_behind, drawn_for, drawns, next_of};
 
 use crate::drawn_rows::DrawnRows;
