@@ -1,15 +1,14 @@
--- Rows of a page, drawn in an ink at the place of their side on the plate. Each buffer of rows states by itself
--- what it holds, so that a row is used only for what it shows, whichever thread drew it.
-use Rattle.std.specs.Prelude.{◌≡◌, ℕ, ◌+◌, ◌-◌, ◌*◌, ◌/◌, ◌%◌, ◌<◌, ◌≤◌, Bool, false, true, List, [], length}
-use Rattle.std.specs.Prelude.{slice_index_or}
+-- Rows of a page, drawn in an ink at the place of their side on the plate. Each buffer of rows states by
+-- itself what it holds, so that a row is used only for what it shows, whichever thread drew it.
+use Rattle.std.specs.Prelude.{◌≡◌, ℕ, ◌+◌, ◌/◌, ◌%◌, ◌<◌, ◌≤◌, false, List, [], length, slice_index_or}
 use Rattle.std.specs.List.{All}
 use Rattle.pr_base.specs.Bits.{bit_at}
 use Rattle.pr_base.specs.declared.ink.Ink.{Ink}
 use Rattle.pr_base.specs.Row.{row_size}
 use Rattle.plan_json.specs.Data.{PlanData}
 use Rattle.press_job.specs.Job.{JobData}
-use Rattle.press_job.specs.Printing.{page_bit, printed_row}
-use Rattle.scr_diffuse.specs.Diffuser.{PageFront}
+use Rattle.press_job.specs.Printing.{page_bit}
+use Rattle.press_feed.specs.ChainRows.{ChainData}
 use Rattle.press_feed.specs.declared.side.Side.{Side}
 use Rattle.press_feed.specs.Sides.{left_edge}
 
@@ -39,35 +38,7 @@ pub record ShowsRowOf (job : JobData) (side : Side) (page : ℕ) (ink : Ink) (y 
   pub each : (x : ℕ) → x < job.plan.page_width
       → bit_at bytes (side_bit job.plan side + x) ≡ page_bit job.plan job.files page ink x y
 
--- ---- the values of a page's rows: what the first phase of a band holds
-
--- rows of a page as they are printed, up to eight, held by a side
-pub record HeldData : Type 0 where
-  pub plan : PlanData
-  pub files : List (List ℕ)
-  pub side : Side
-  pub page : ℕ
-  pub first : ℕ
-  pub count : ℕ
-
--- ---- the rows that a chain took: what the second phase holds
-
--- the errors of a chain are those below the first rows of an ink of a page: of `count` rows, of which those
--- past the page's last one may be any
-pub record ChainData : Type 0 where
-  pub job : JobData
-  pub ink : Ink
-  pub page : ℕ
-  pub count : ℕ
-
-pub record IsChainOf (job : JobData) (page : ℕ) (ink : Ink) (count : ℕ) (front : PageFront) : Type 0 where
-  pub width_is : front.width ≡ job.plan.page_width
-  pub count_is : length front.rows ≡ count
-  pub blocks : count % 8 ≡ 0
-  pub rows_are : (y : ℕ) → y < count → y < job.plan.page_height
-      → slice_index_or front.rows y [] ≡ printed_row job.plan job.files page ink y
-
--- ---- the rows that are drawn: what the third phase takes
+-- ---- the rows that are drawn
 
 -- rows of a page in an ink: from `first` on, `count` of them, in room for `room`
 pub record DrawnData : Type 0 where
@@ -79,10 +50,23 @@ pub record DrawnData : Type 0 where
   pub count : ℕ
   pub room : ℕ
 
+-- no row of an ink, in this much room
+abbrev pub blank_rows : JobData → Side → ℕ → Ink → DrawnData
+blank_rows job side room ink = record {
+  job = job;
+  side = side;
+  ink = ink;
+  page = 0;
+  first = 0;
+  count = 0;
+  room = room;
+}
+
 -- the first buffers show these rows, and nothing beside the page
 pub record AreDrawn (job : JobData) (side : Side) (page : ℕ) (ink : Ink) (first count : ℕ)
     (rows : List (List ℕ)) : Type 0 where
   pub within : count ≤ length rows
+  pub few : length rows ≤ 65536
   pub clear : All (IsClearBeside job.plan side) rows
   pub each : (k : ℕ) → k < count → ShowsRowOf job side page ink (first + k) (slice_index_or rows k [])
 
@@ -99,3 +83,17 @@ behind_rows count drawn = record drawn { count = drawn.count + count }
 -- the same with no row, before row `first` of a page
 abbrev pub before_row : ℕ → ℕ → DrawnData → DrawnData
 before_row page first drawn = record drawn { page = page; first = first; count = 0 }
+
+-- of the last eight rows that a chain took, number k is the next one to be drawn
+pub record HasTaken (drawn : DrawnData) (k : ℕ) (chain : ChainData) : Type 0 where
+  pub job_is : chain.job ≡ drawn.job
+  pub ink_is : chain.ink ≡ drawn.ink
+  pub page_is : chain.page ≡ drawn.page
+  pub count_is : chain.count + k ≡ drawn.first + drawn.count + 8
+
+-- rows of the same job, side and ink, in as much room
+pub record IsLike (one other : DrawnData) : Type 0 where
+  pub job_is : other.job ≡ one.job
+  pub side_is : other.side ≡ one.side
+  pub ink_is : other.ink ≡ one.ink
+  pub room_is : other.room ≡ one.room

@@ -11,6 +11,8 @@ pub mod Blocks
 pub mod Maker
 pub mod Band
 pub mod Feed
+pub mod HeldRows
+pub mod ChainRows
 pub mod Drawn
 pub mod InkRows
 pub mod SideRows

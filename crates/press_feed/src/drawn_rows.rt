@@ -1,15 +1,21 @@
 // Rows of a page in one ink, drawn as bytes of the plate's rows.
 ghost use Rattle.std.specs.Prelude.{◌≡◌, ◌+◌, ◌-◌, ◌*◌, ◌<◌, ◌≤◌, IfOk, IsTrue, ◌↔◌, length};
-ghost use Rattle.press_feed.specs.Drawn.{HasRow, IsChainOf, ShowsRowOf, before_row, behind_rows, side_bit};
-ghost use Rattle.press_feed.specs.Drawn.{side_byte, side_size};
-ghost use Rattle.press_feed.specs.InkRows.{IsLike};
+ghost use Rattle.std.specs.Prelude.{slice_index, true};
+ghost use Rattle.pr_base.specs.Bits.{SetsBits};
+ghost use Rattle.press_feed.specs.Drawn.{HasRow, HasTaken, IsClearBeside, IsLike, ShowsRowOf, before_row};
+ghost use Rattle.press_feed.specs.Drawn.{behind_rows, blank_rows, side_bit, side_byte};
+ghost use Rattle.press_feed.specs.Screener.{IsScreener, is_diffused};
+ghost use Rattle.press_feed.specs.declared.screener.Screener.TheVariants.{Tile};
+ghost use Rattle.press_job.specs.Printing.{page_bit, printed_row};
+ghost use Rattle.scr_tile.specs.AnyTile.{threshold_of};
+ghost use Rattle.scr_tile.specs.Tile.{tile_bit};
 
 use crate::byte_row::{ByteRow, byte_rows};
+use crate::chain::Chain;
+use crate::held_rows::HeldRows;
 use crate::side::Side;
-use crate::side_pages::SidePages;
 use pr_base::{Ink, NoMemory, row_bytes};
 use press_job::Job;
-use scr_diffuse::BlockDiffuser;
 use scr_tile::{AnyTile, screen_row};
 use std::alloc::Global;
 use std::marker::Model;
@@ -57,11 +63,10 @@ impl<'j> DrawnRows<'j> {
         room: usize,
     ) -> Result<DrawnRows<'j>, NoMemory>
         requires { room ≤ 65536 }
-        ensures { IfOk result (λ drawn. drawn ≡ record {
-          job = job.now; side = side; ink = ink; page = 0; first = 0; count = 0; room = room;
-        }) }
+        ensures { IfOk result (λ drawn. drawn ≡ blank_rows job.now side room ink) }
     {
         let len = row_bytes(bit_of(job, side) + job.plan().page_width);
+        let rows = byte_rows(alloc, room, len)?;
         Ok(DrawnRows {
             job,
             side,
@@ -69,7 +74,7 @@ impl<'j> DrawnRows<'j> {
             page: 0,
             first: 0,
             count: 0,
-            rows: byte_rows(alloc, room, len)?,
+            rows,
         })
     }
 
@@ -82,35 +87,63 @@ impl<'j> DrawnRows<'j> {
         self.count = 0;
     }
 
-    /// Draws the rows that the side holds, the next ones, under a tile.
-    pub(crate) fn tile(&mut self, tile: &AnyTile, pages: &SidePages<'_>)
-        requires page { pages.now.page ≡ self.old.page }
-        requires next { pages.now.first ≡ self.old.first + self.old.count }
-        requires room { self.old.count + pages.now.count ≤ self.old.room }
-        ensures { self.new ≡ behind_rows pages.now.count self.old }
+    /// Draws the rows held, the next ones, under the tile of the ink.
+    pub(crate) fn tile(&mut self, tile: &AnyTile, held: &HeldRows<'_>)
+        requires tile { IsScreener self.old.job.plan self.old.ink (Tile tile.now) }
+        requires job { held.now.job ≡ self.old.job }
+        requires page { held.now.page ≡ self.old.page }
+        requires next { held.now.first ≡ self.old.first + self.old.count }
+        requires room { self.old.count + held.now.count ≤ self.old.room }
+        ensures { self.new ≡ behind_rows held.now.count self.old }
+    {
+        for k in 0..held.count() {
+            let values = held.values(k as usize, self.ink);
+            self.tile_row(tile, held.number(k), values);
+        }
+    }
+
+    /// Draws the next row, with these values.
+    fn tile_row(&mut self, tile: &AnyTile, y: u32, values: &[u8])
+        requires tile { IsScreener self.old.job.plan self.old.ink (Tile tile.now) }
+        requires next { y ≡ self.old.first + self.old.count }
+        requires within { y < self.old.job.plan.page_height }
+        requires width { length values.now ≡ self.old.job.plan.page_width }
+        requires values { values.now
+            ≡ printed_row self.old.job.plan self.old.job.files self.old.page self.old.ink y }
+        requires room { self.old.count < self.old.room }
+        ensures { self.new ≡ behind_rows 1 self.old }
     {
         let from = bit_of(self.job, self.side);
-        for k in 0..pages.count() {
-            let y = pages.first() + k;
-            let values = pages.values(k as usize, self.ink);
-            screen_row(tile, y, values, &mut self.rows[(self.count + k) as usize].bytes, from);
-        }
-        self.count += pages.count();
+        self.rows[self.count as usize].tile_page(tile, y, values, from);
+        self.count += 1;
     }
 
     /// Draws `count` of the eight rows that a chain took last, the next ones.
-    pub(crate) fn diffuse(&mut self, chain: &BlockDiffuser, count: u32)
+    pub(crate) fn diffuse(&mut self, chain: &Chain<'_>, count: u32)
         requires eight { count ≤ 8 }
-        requires taken { IsChainOf self.old.job self.old.page self.old.ink
-            (self.old.first + self.old.count + 8) chain.now }
+        requires diffused { is_diffused self.old.job.plan self.old.ink ≡ true }
+        requires taken { HasTaken self.old 0 chain.now }
+        requires within { self.old.first + self.old.count + count ≤ self.old.job.plan.page_height }
         requires room { self.old.count + count ≤ self.old.room }
         ensures { self.new ≡ behind_rows count self.old }
     {
-        let from = bit_of(self.job, self.side);
         for k in 0..count {
-            chain.draw(k as usize, &mut self.rows[(self.count + k) as usize].bytes, from);
+            self.diffuse_row(chain, k as usize);
         }
-        self.count += count;
+    }
+
+    /// Draws the next row, one of the last eight of a chain.
+    fn diffuse_row(&mut self, chain: &Chain<'_>, k: usize)
+        requires eight { k < 8 }
+        requires diffused { is_diffused self.old.job.plan self.old.ink ≡ true }
+        requires taken { HasTaken self.old k chain.now }
+        requires within { self.old.first + self.old.count < self.old.job.plan.page_height }
+        requires room { self.old.count < self.old.room }
+        ensures { self.new ≡ behind_rows 1 self.old }
+    {
+        let from = bit_of(self.job, self.side);
+        self.rows[self.count as usize].diffuse_page(chain, k, from);
+        self.count += 1;
     }
 
     /// Whether row `y` of a page is drawn.
@@ -124,7 +157,7 @@ impl<'j> DrawnRows<'j> {
     pub(crate) fn row(&self, y: u32) -> &[u8]
         requires { HasRow self.now self.now.page y }
         ensures shows { ShowsRowOf self.now.job self.now.side self.now.page self.now.ink y result.now }
-        ensures len { length result.now ≡ side_size self.now.job.plan self.now.side }
+        ensures clear { IsClearBeside self.now.job.plan self.now.side result.now }
     {
         self.rows[(y - self.first) as usize].bytes()
     }
@@ -148,6 +181,33 @@ impl<'j> DrawnRows<'j> {
         ensures { result ≡ self.now.ink }
     {
         self.ink
+    }
+}
+
+impl ByteRow {
+    /// Sets the pixels from `from` on to those of row `y` of a page under a tile.
+    fn tile_page(&mut self, tile: &AnyTile, y: u32, values: &[u8], from: u32)
+        requires { from + length values.now ≤ 8 * length self.old }
+        ensures bits { SetsBits (λ x. tile_bit (slice_index values.now x) (threshold_of tile.now x y))
+            from (length values.now) self.old self.new }
+        ensures long { length self.new ≡ length self.old }
+    {
+        screen_row(tile, y, values, &mut self.bytes, from);
+    }
+
+    /// Sets the pixels from `from` on to those of one of the last eight rows of a chain.
+    fn diffuse_page(&mut self, chain: &Chain<'_>, k: usize, from: u32)
+        requires eight { k < 8 }
+        requires taken { 8 ≤ chain.now.count }
+        requires within { chain.now.count - 8 + k < chain.now.job.plan.page_height }
+        requires diffused { is_diffused chain.now.job.plan chain.now.ink ≡ true }
+        requires room { from + chain.now.job.plan.page_width ≤ 8 * length self.old }
+        ensures bits { SetsBits (λ x. page_bit chain.now.job.plan chain.now.job.files chain.now.page
+            chain.now.ink x (chain.now.count - 8 + k))
+            from chain.now.job.plan.page_width self.old self.new }
+        ensures long { length self.new ≡ length self.old }
+    {
+        chain.draw(k, &mut self.bytes, from);
     }
 }
 

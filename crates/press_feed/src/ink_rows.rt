@@ -1,26 +1,20 @@
 // One ink of a side: how it is screened, and the rows that are drawn in it.
-ghost use Rattle.std.specs.Prelude.{◌≡◌, ◌↔◌, ◌≤◌, IfOk, IsTrue};
-ghost use Rattle.std.specs.Option.{ForSome, is_some, option_map};
-ghost use Rattle.press_feed.specs.Drawn.{before_row};
-ghost use Rattle.press_feed.specs.InkRows.{IsAtRow, IsLike, IsNextFor, IsNextIn, at_top, behind_block, behind_held_rows};
+ghost use Rattle.std.specs.Prelude.{◌≡◌, ◌+◌, ◌≤◌, IfOk, IsTrue};
+ghost use Rattle.press_feed.specs.Drawn.{IsLike, blank_rows};
+ghost use Rattle.press_feed.specs.InkRows.{IsNextChain, IsNextIn, IsReady, begun, drawn_on, passed};
+ghost use Rattle.press_feed.specs.InkRows.{restarted};
 
 use crate::chain::Chain;
+use crate::drawer::Drawer;
 use crate::drawn_rows::DrawnRows;
-use crate::screener::tile_of;
+use crate::held_rows::HeldRows;
+use crate::screener::Screener;
 use crate::side::Side;
-use crate::side_pages::SidePages;
+use plan_rows::Group;
 use pr_base::{Ink, NoMemory};
 use press_job::Job;
-use scr_tile::AnyTile;
 use std::alloc::Global;
 use std::marker::Model;
-
-/// Turns the values of an ink into pixels: a tile, or error diffusion from row to row.
-#[derive(Drop)]
-enum Drawer<'j> {
-    Tile(AnyTile),
-    Chain(Chain<'j>),
-}
 
 /// The rows of a side's pages in one ink. Contracts see the rows that are drawn, and what a chain took.
 #[derive(Drop)]
@@ -40,7 +34,7 @@ impl<'j> Model for InkRows<'j> {
 }
 
 impl<'j> InkRows<'j> {
-    /// Allocates room for `room` rows of an ink.
+    /// Allocates room for `room` rows of an ink. None is drawn.
     pub(crate) fn open(
         alloc: Global,
         job: &'j Job,
@@ -49,84 +43,84 @@ impl<'j> InkRows<'j> {
         room: usize,
     ) -> Result<InkRows<'j>, NoMemory>
         requires { room ≤ 65536 }
-        ensures drawn { IfOk result (λ rows. rows.drawn ≡ record {
-          job = job.now; side = side; ink = ink; page = 0; first = 0; count = 0; room = room;
-        }) }
-        ensures chain { IfOk result (λ rows. IsAtRow 0 0 rows.chain) }
+        ensures { IfOk result (λ rows. rows.drawn ≡ blank_rows job.now side room ink) }
     {
-        let drawer = match tile_of(alloc, job.plan(), ink)? {
-            Some(tile) => Drawer::Tile(tile),
-            None => Drawer::Chain(Chain::open(alloc, job, ink)?),
-        };
-        Ok(InkRows {
-            drawer,
-            drawn: DrawnRows::open(alloc, job, side, ink, room)?,
-        })
+        let drawn = DrawnRows::open(alloc, job, side, ink, room)?;
+        match Screener::of(alloc, job.plan(), ink)? {
+            Screener::Tile(tile) => Ok(InkRows {
+                drawer: Drawer::Tiled(tile),
+                drawn,
+            }),
+            Screener::Diffusion => Ok(InkRows {
+                drawer: Drawer::Diffused(Chain::open(alloc, job, ink)?),
+                drawn,
+            }),
+        }
     }
 
-    /// Moves a chain to the top of a page.
-    pub(crate) fn restart(&mut self, page: usize)
-        ensures drawn { self.new.drawn ≡ self.old.drawn }
-        ensures chain { self.new.chain ≡ option_map (at_top page) self.old.chain }
+    /// Moves the chain to the top of a page, if a group prints the ink.
+    pub(crate) fn restart(&mut self, group: &Group, page: usize)
+        ensures { self.new ≡ restarted group.now page self.old }
     {
-        if let Drawer::Chain(chain) = &mut self.drawer {
+        if !group.has_ink(self.drawn.ink()) {
+            return;
+        }
+        if let Drawer::Diffused(chain) = &mut self.drawer {
             chain.begin(page);
         }
     }
 
-    /// Forgets the rows that are drawn. The next one will be row `first` of a page.
-    pub(crate) fn begin(&mut self, page: usize, first: u32)
-        ensures { self.new ≡ record self.old { drawn = before_row page first self.old.drawn } }
+    /// Gives the rows held to the chain, if a group prints the ink. Nothing is drawn.
+    pub(crate) fn pass(&mut self, group: &Group, held: &HeldRows<'_>)
+        requires { IsNextChain group.now held.now self.old }
+        ensures { self.new ≡ passed group.now self.old }
     {
-        self.drawn.begin(page, first);
-    }
-
-    /// Gives the rows that a side holds to a chain, and draws nothing.
-    pub(crate) fn pass(&mut self, pages: &SidePages<'_>)
-        requires next { ForSome self.old.chain (IsNextFor pages.now) }
-        ensures { self.new ≡ record self.old { chain = option_map behind_block self.old.chain } }
-    {
-        if let Drawer::Chain(chain) = &mut self.drawer {
-            chain.take(pages);
+        if !group.has_ink(self.drawn.ink()) {
+            return;
+        }
+        if let Drawer::Diffused(chain) = &mut self.drawer {
+            chain.take(held);
         }
     }
 
-    /// Draws the rows that a side holds, behind those that are drawn.
-    pub(crate) fn draw(&mut self, pages: &SidePages<'_>)
-        requires { IsNextIn pages.now self.old }
-        ensures { self.new ≡ behind_held_rows pages.now self.old }
+    /// Drops the rows that are drawn, if a group prints the ink. The next one will be row `first` of a page.
+    pub(crate) fn begin(&mut self, group: &Group, page: usize, first: u32)
+        ensures { self.new ≡ begun group.now page first self.old }
     {
+        if group.has_ink(self.drawn.ink()) {
+            self.drawn.begin(page, first);
+        }
+    }
+
+    /// Draws the rows held, behind those that are drawn, if a group prints the ink.
+    pub(crate) fn draw(&mut self, group: &Group, held: &HeldRows<'_>)
+        requires { IsNextIn group.now held.now self.old }
+        ensures { self.new ≡ drawn_on group.now held.now.count self.old }
+    {
+        if !group.has_ink(self.drawn.ink()) {
+            return;
+        }
         match &mut self.drawer {
-            Drawer::Tile(tile) => self.drawn.tile(tile, pages),
-            Drawer::Chain(chain) => {
-                chain.take(pages);
-                self.drawn.diffuse(chain.diffuser(), pages.count());
+            Drawer::Tiled(tile) => self.drawn.tile(tile, held),
+            Drawer::Diffused(chain) => {
+                chain.take(held);
+                self.drawn.diffuse(chain, held.count());
             }
         }
     }
 
-    /// Whether row `count` of a page is the next one of the chain, if there is one.
-    pub(crate) fn is_at(&self, page: usize, count: u32) -> bool
-        ensures { IsTrue result ↔ IsAtRow page count self.now.chain }
+    /// Whether row `count` of a page is the next one of the chain, if there is one and a group prints the
+    /// ink.
+    pub(crate) fn is_ready(&self, group: &Group, page: usize, count: u32) -> bool
+        ensures { IsTrue result → IsReady group.now page count self.now }
     {
-        match &self.drawer {
-            Drawer::Tile(_) => true,
-            Drawer::Chain(chain) => chain.is_at(page, count),
+        if !group.has_ink(self.drawn.ink()) {
+            return true;
         }
-    }
-
-    /// Whether the ink is diffused.
-    pub(crate) fn has_chain(&self) -> bool
-        ensures { result ≡ is_some self.now.chain }
-    {
-        matches!(&self.drawer, Drawer::Chain(_))
-    }
-
-    /// Lends the rows that are drawn.
-    pub(crate) fn drawn(&self) -> &DrawnRows<'j>
-        ensures { result.now ≡ self.now.drawn }
-    {
-        &self.drawn
+        match &self.drawer {
+            Drawer::Tiled(_) => true,
+            Drawer::Diffused(chain) => chain.is_at(page, count),
+        }
     }
 
     /// Exchanges the rows that are drawn for other ones of the job, if these are of the same side and ink and
@@ -137,7 +131,7 @@ impl<'j> InkRows<'j> {
         ensures rows { rows.new.job ≡ self.old.drawn.job }
         ensures chain { self.new.chain ≡ self.old.chain }
     {
-        if rows.is_like(&self.drawn) {
+        if self.drawn.is_like(rows) {
             std::mem::swap(&mut self.drawn, rows);
         }
     }
