@@ -22,6 +22,7 @@ use std::marker::Model;
 #[derive(Drop)]
 pub(crate) struct BandPart<'j> {
     job: &'j Job,
+    inks: &'static [Ink],
     rows: SideRows<'j>,
     frames: Frames<'j>,
 }
@@ -43,7 +44,7 @@ impl<'j> BandPart<'j> {
         alloc: Global,
         job: &'j Job,
         side: Side,
-        inks: &[Ink],
+        inks: &'static [Ink],
         height: usize,
         frames: usize,
     ) -> Result<BandPart<'j>, NoMemory>
@@ -53,11 +54,16 @@ impl<'j> BandPart<'j> {
     {
         let rows = SideRows::open(alloc, job, side, inks, height)?;
         let frames = Frames::open(alloc, job, frames)?;
-        Ok(BandPart { job, rows, frames })
+        Ok(BandPart {
+            job,
+            inks,
+            rows,
+            frames,
+        })
     }
 
-    /// Draws the rows that come next, and packs those of `most` frames from number `first` on whose rows are
-    /// among those given.
+    /// Packs those of `most` frames from number `first` on whose rows are among those given, and draws the rows
+    /// that come next.
     pub(crate) fn step(
         &mut self,
         first: u64,
@@ -72,7 +78,17 @@ impl<'j> BandPart<'j> {
     {
         self.frames.pack(first, most, drawn);
         if let Some(rows) = next {
-            let group = group_at(self.job.rows(), rows.group);
+            self.draw(rows);
+        }
+    }
+
+    /// Draws the rows of a step, if the group has any in these inks.
+    fn draw(&mut self, rows: BandRows)
+        requires { AreRowsFor self.old rows }
+        ensures { IsKept self.old self.new }
+    {
+        let group = group_at(self.job.rows(), rows.group);
+        if self.inks.iter().any(|ink| group.has_ink(*ink)) {
             self.rows.draw(group, rows.first, rows.count);
         }
     }
