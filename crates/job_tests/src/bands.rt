@@ -1,5 +1,5 @@
-// Bands of jobs that diffuse inks: the frames of a feed whose bands several threads make, beside those of a feed
-// without threads, for each mixture of tiles and diffusion.
+// Bands of jobs that diffuse inks: the frames of a feed whose bands several threads make, beside those of a
+// feed without threads, for each mixture of tiles and diffusion.
 ghost use Rattle.std.specs.Prelude.{◌≡◌, ◌%◌, ◌≤◌, length};
 ghost use Rattle.press_feed.specs.Band.{frame_bytes};
 ghost use Rattle.press_feed.specs.Feed.{rows_left};

@@ -7,7 +7,8 @@ use Rattle.press_job.specs.Job.{JobData}
 use Rattle.press_feed.specs.Band.{FrameData, HoldsFrom, IsShare}
 use Rattle.press_feed.specs.Drawn.{DrawnData}
 
--- buffers in which those frames that were made are those of a job from this one on, and one for a row of a plate
+-- buffers in which those frames that were made are those of a job from this one on, and one for a row of a
+-- plate
 pub record AreFrames (job : JobData) (first : ℕ) (frames : List FrameData) (bits : List ℕ) : Type 0 where
   pub few : length frames ≤ 65536
   pub share : IsShare job frames

@@ -1,5 +1,5 @@
-// What one thread has of a band: the rows that it draws for the next band, and the frames that it packs of this
-// one.
+// What one thread has of a band: the rows that it draws for the next band, and the frames that it packs of
+// this one.
 ghost use Rattle.std.specs.Prelude.{◌≡◌, ◌≤◌, ◌^◌, IfOk, IfSome, Some, length, slice_get};
 ghost use Rattle.std.specs.Option.{ForSome};
 ghost use Rattle.press_feed.specs.Band.{frame_bytes};
@@ -62,8 +62,8 @@ impl<'j> BandPart<'j> {
         })
     }
 
-    /// Packs those of `most` frames from number `first` on whose rows are among those given, and draws the rows
-    /// that come next.
+    /// Packs those of `most` frames from number `first` on whose rows are among those given, and draws the
+    /// rows that come next.
     pub(crate) fn step(
         &mut self,
         first: u64,

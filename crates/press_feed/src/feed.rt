@@ -243,8 +243,9 @@ fn share_len(job: &Job) -> usize
     lines.clamp(1, 100) * 20
 }
 
-/// The largest number of rows of the pages of which a band has the frames if an ink is diffused: whole blocks of
-/// eight. There are two buffers for the rows of a side in each ink, each with half a row of a plate.
+/// The largest number of rows of the pages of which a band has the frames if an ink is diffused: whole
+/// blocks of eight. There are two buffers for the rows of a side in each ink, each with half a row of a
+/// plate.
 fn height_of(job: &Job) -> u32
     ensures { (result ≤ 1024) × (result % 8 ≡ 0) }
 {

@@ -84,7 +84,8 @@ impl<'j> Frames<'j> {
     }
 }
 
-/// Packs those frames from number `first` to below `end` whose rows are among those given, each in its buffer.
+/// Packs those frames from number `first` to below `end` whose rows are among those given, each in its
+/// buffer.
 fn pack_frames(
     job: &Job,
     first: u64,
@@ -135,8 +136,8 @@ fn pack_frame(
     }
 }
 
-/// Draws a row of a plate of a group, if its rows are among those given: the two pages at their positions, the
-/// marks, and nothing else.
+/// Draws a row of a plate of a group, if its rows are among those given: the two pages at their positions,
+/// the marks, and nothing else.
 fn join_row(job: &Job, group: &Group, place: RowPlace, rows: &[DrawnRows<'_>], bits: &mut [u8]) -> bool
     requires y { place.y < plate_height job.now.plan }
     requires rows { AreOf job.now rows.now }

@@ -6,8 +6,8 @@ use crate::wanted::Wanted;
 use pr_base::Ink;
 use press_job::Job;
 
-/// Returns the inks of share `share` of `shares` of a side: as much work in each as can be had by dividing the
-/// inks in their order. An ink of which no plate is wanted is in none.
+/// Returns the inks of share `share` of `shares` of a side: as much work in each as can be had by dividing
+/// the inks in their order. An ink of which no plate is wanted is in none.
 pub(crate) fn inks_of_share(
     job: &Job,
     wanted: Wanted<'_>,

@@ -15,8 +15,8 @@ use plan_rows::Group;
 use pr_base::Ink;
 use press_job::Job;
 
-/// Draws row `y` of the pages of a group on a row of a plate, and nothing else, from rows of both sides in the
-/// same ink.
+/// Draws row `y` of the pages of a group on a row of a plate, and nothing else, from rows of both sides in
+/// the same ink.
 pub(crate) fn join_sides(
     job: &Job,
     group: &Group,
@@ -64,7 +64,8 @@ pub(crate) fn rows_with<'r, 'j>(
     page: usize,
     y: u32,
 ) -> Option<&'r DrawnRows<'j>>
-    ensures job { IfSome result (λ found. (job : JobData) → AreOf job rows.now → IsRowsOf job side ink found.now) }
+    ensures job { IfSome result (λ found.
+        (job : JobData) → AreOf job rows.now → IsRowsOf job side ink found.now) }
     ensures row { IfSome result (λ found. HasRow found.now page y) }
 {
     for drawn in rows {

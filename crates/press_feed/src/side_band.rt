@@ -1,5 +1,6 @@
-// A band of frames of a plan that diffuses an ink. While threads pack the frames of one band, they draw the rows
-// of the next: each thread has some inks of one side, whose rows it draws from the top of a page to its bottom.
+// A band of frames of a plan that diffuses an ink. While threads pack the frames of one band, they draw the
+// rows of the next: each thread has some inks of one side, whose rows it draws from the top of a page to
+// its bottom.
 ghost use Rattle.std.specs.Prelude.{All, ◌≡◌, ℕ, ◌*◌, ◌%◌, ◌<◌, ◌≤◌, IfOk, IfSome, Some, length, slice_get};
 ghost use Rattle.std.specs.Prelude.{slice_index_or};
 ghost use Rattle.std.specs.Option.{ForSome};
@@ -27,8 +28,8 @@ use std::thread::{Threads, for_each_mut};
 /// The largest number of frames of a band that one thread packs.
 const MOST_FRAMES: usize = 1 << 16;
 
-/// The frames of a band. Contracts see the job, and of how many rows of the pages a band has the frames. Which
-/// frames are packed and which rows are drawn, each buffer states by itself.
+/// The frames of a band. Contracts see the job, and of how many rows of the pages a band has the frames.
+/// Which frames are packed and which rows are drawn, each buffer states by itself.
 #[derive(Drop)]
 pub(crate) struct SideBand<'j> {
     job: &'j Job,
@@ -56,8 +57,8 @@ impl<'j> Model for SideBand<'j> {
 }
 
 impl<'j> SideBand<'j> {
-    /// Allocates the buffers of a band of at most `height` rows of the pages for this many threads. No frame is
-    /// packed.
+    /// Allocates the buffers of a band of at most `height` rows of the pages for this many threads. No
+    /// frame is packed.
     pub(crate) fn open(
         alloc: Global,
         job: &'j Job,
@@ -97,8 +98,8 @@ impl<'j> SideBand<'j> {
         self.parts[place].frame(n)
     }
 
-    /// Packs the frames from number `n` on, as far as the band has them, and draws the rows of the next band. A
-    /// row above the pages or below them has no band.
+    /// Packs the frames from number `n` on, as far as the band has them, and draws the rows of the next
+    /// band. A row above the pages or below them has no band.
     pub(crate) fn make<T: Threads + Sync>(&mut self, rt: &T, n: u64)
         requires { n < length (plate_frames self.old.job.plan self.old.job.files) }
         ensures { self.new ≡ self.old }
