@@ -249,6 +249,6 @@ fn share_len(job: &Job) -> usize
 fn height_of(job: &Job) -> u32
     ensures { (result ≤ 1024) × (result % 8 ≡ 0) }
 {
-    let blocks = ROWS_BYTES / job.row_len().max(1) / 80;
-    8 * blocks.clamp(1, 128) as u32
+    let blocks = (ROWS_BYTES / job.row_len().max(1) / 80).clamp(1, 128) as u32;
+    8 * blocks.min(job.plan().page_height.div_ceil(8))
 }
