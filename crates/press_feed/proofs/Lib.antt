@@ -3,6 +3,7 @@ pub mod BandLemmas
 pub mod DrawnLemmas
 pub mod FeedLemmas
 pub mod HeldLemmas
+pub mod InkRowsLemmas
 pub mod JoinLemmas
 pub mod MapLemmas
 pub mod PairLemmas

@@ -12,9 +12,9 @@ use Rattle.press_job.specs.Job.{JobData}
 use Rattle.press_feed.specs.declared.side.Side.{Side}
 use Rattle.press_feed.specs.ChainRows.{ChainData, IsNextFor, at_top, behind_block}
 use Rattle.press_feed.specs.Drawn.{DrawnData, before_row, behind_rows, blank_rows}
-use Rattle.press_feed.specs.HeldRows.{HeldData}
+use Rattle.press_feed.specs.HeldRows.{HeldData, next_rows, top_of}
 use Rattle.press_feed.specs.InkRows.{InkData, IsAtRow, IsNextChain, IsNextIn, IsReady, begun, drawn_on, passed, restarted}
-use Rattle.press_feed.specs.SideRows.{HaveRoom, IsAtGroup, IsDrawnOf, IsOpenFor, IsSideRows, SideRowsData, drawn_behind, drawn_for, drawns}
+use Rattle.press_feed.specs.SideRows.{HaveRoom, IsAtGroup, IsDrawnOf, IsOpenFor, IsSideRows, SideRowsData, drawn_behind, drawn_for, drawns, next_of}
 use Rattle.press_feed.specs.Sides.{page_on}
 
 no_ink : (b : Bool) → b ≡ true → b ≡ false → ⊥
@@ -206,8 +206,8 @@ pub all_next_chain : (group : Group) (job : JobData) (side : Side) (held : HeldD
 all_next_chain group job side held inks ready job_is of some whole = λ k d less. next_chain group job side held (get_or inks k d) (ready k d less) job_is (all_inks_of (IsDrawnOf job side) inks of k d less) some whole
 
 pub all_next_in : (group : Group) (held : HeldData) (inks : List InkData) → All (IsNextChain group held) inks → All (IsOpenFor group held.page held.first held.count) (drawns inks) → All (IsNextIn group held) inks
-all_next_in group held inks next open = λ k d less.
-    let is : IsOpenFor group held.page held.first held.count (get_or inks k d).drawn = all_inks_of (IsOpenFor group held.page held.first held.count) inks open k d less in
+all_next_in group held inks next free = λ k d less.
+    let is : IsOpenFor group held.page held.first held.count (get_or inks k d).drawn = all_inks_of (IsOpenFor group held.page held.first held.count) inks free k d less in
     record {
       chain_is = next k d less;
       page_is = λ on. sym (is.page_is on);
@@ -237,3 +237,55 @@ all_open group side page next first done rows most old new is page_is next_is fi
 
 pub at_same : (group : Group) (a b : ℕ) (rows : SideRowsData) → IsAtGroup group a rows → a ≡ b → IsAtGroup group b rows
 at_same group a b rows at same = subst {A = ℕ} (λ n. IsAtGroup group n rows) same at
+
+pub restart_at : (group : Group) (page : ℕ) (old new : SideRowsData) → page ≡ page_on old.side group → new.held ≡ top_of page old.held → new.side ≡ old.side → new.inks ≡ map (restarted group page) old.inks → IsAtGroup group 0 new
+restart_at group page old new page_is held_is side_is inks_is =
+    let same : new.held.page ≡ page = ap {A = HeldData} (λ h. h.page) held_is in
+    record {
+      page_is = same ∙ page_is ∙ ap {A = Side} (λ s. page_on s group) (sym side_is);
+      next_is = ap {A = HeldData} (λ h. h.first + h.count) held_is;
+      chains = subst {A = List InkData} (λ inks. All (IsReady group new.held.page 0) inks) (sym inks_is)
+          (subst {A = ℕ} (λ p. All (IsReady group p 0) (map (restarted group page) old.inks)) (sym same) (all_ready_top group page old.inks));
+    }
+
+pub begin_at : (group : Group) (page first : ℕ) (old new : SideRowsData) → new.held ≡ old.held → new.side ≡ old.side → new.inks ≡ map (begun group page first) old.inks → IsAtGroup group first old → IsAtGroup group first new
+begin_at group page first old new held_is side_is inks_is at =
+    let same : new.held.page ≡ old.held.page = ap {A = HeldData} (λ h. h.page) held_is in
+    record {
+      page_is = same ∙ at.page_is ∙ ap {A = Side} (λ s. page_on s group) (sym side_is);
+      next_is = ap {A = HeldData} (λ h. h.first + h.count) held_is ∙ at.next_is;
+      chains = subst {A = List InkData} (λ inks. All (IsReady group new.held.page first) inks) (sym inks_is)
+          (subst {A = ℕ} (λ p. All (IsReady group p first) (map (begun group page first) old.inks)) (sym same) (all_ready_begun group old.held.page first page first old.inks at.chains));
+    }
+
+pub pass_at : (group : Group) (old new : SideRowsData) → new.held ≡ next_rows 8 old.held → new.side ≡ old.side → new.inks ≡ map (passed group) old.inks → IsAtGroup group (next_of old) old → IsAtGroup group (next_of old + 8) new
+pass_at group old new held_is side_is inks_is at =
+    let same : new.held.page ≡ old.held.page = ap {A = HeldData} (λ h. h.page) held_is in
+    record {
+      page_is = same ∙ at.page_is ∙ ap {A = Side} (λ s. page_on s group) (sym side_is);
+      next_is = ap {A = HeldData} (λ h. h.first + h.count) held_is;
+      chains = subst {A = List InkData} (λ inks. All (IsReady group new.held.page (next_of old + 8)) inks) (sym inks_is)
+          (subst {A = ℕ} (λ p. All (IsReady group p (next_of old + 8)) (map (passed group) old.inks)) (sym same) (all_ready_block group old.held.page (next_of old) old.inks at.chains));
+    }
+
+pub draw_at : (group : Group) (rows : ℕ) (old new : SideRowsData) → rows ≡ 8 → new.held ≡ next_rows rows old.held → new.side ≡ old.side → new.inks ≡ map (drawn_on group rows) old.inks → IsAtGroup group (next_of old) old → IsAtGroup group (next_of old + 8) new
+draw_at group rows old new eight held_is side_is inks_is at =
+    let same : new.held.page ≡ old.held.page = ap {A = HeldData} (λ h. h.page) held_is in
+    record {
+      page_is = same ∙ at.page_is ∙ ap {A = Side} (λ s. page_on s group) (sym side_is);
+      next_is = ap {A = HeldData} (λ h. h.first + h.count) held_is ∙ ap (λ n. next_of old + n) eight;
+      chains = subst {A = List InkData} (λ inks. All (IsReady group new.held.page (next_of old + 8)) inks) (sym inks_is)
+          (subst {A = ℕ} (λ p. All (IsReady group p (next_of old + 8)) (map (drawn_on group rows) old.inks)) (sym same) (all_ready_drawn group old.held.page (next_of old) rows old.inks at.chains));
+    }
+
+-- the rows that are shown next are those that come next in each ink
+pub pass_ready : (group : Group) (job : JobData) (side : Side) (n : ℕ) (old new : HeldData) (inks : List InkData) → new ≡ next_rows n old → All (IsReady group old.page (old.first + old.count)) inks → old.job ≡ job → All (IsDrawnOf job side) (drawns inks)
+    → 0 < n → old.first + old.count + n ≤ old.job.plan.page_height → (n < 8 → old.first + old.count + n ≡ old.job.plan.page_height) → All (IsNextChain group new) inks
+pass_ready group job side n old new inks new_is ready job_is of some within whole =
+    subst {A = HeldData} (λ h. All (IsNextChain group h) inks) (sym new_is) (all_next_chain group job side (next_rows n old) inks ready job_is of (omega arith) whole)
+
+pub draw_ready : (group : Group) (job : JobData) (side : Side) (n : ℕ) (old new : HeldData) (inks : List InkData) → new ≡ next_rows n old → All (IsReady group old.page (old.first + old.count)) inks → old.job ≡ job → All (IsDrawnOf job side) (drawns inks)
+    → 0 < n → old.first + old.count + n ≤ old.job.plan.page_height → (n < 8 → old.first + old.count + n ≡ old.job.plan.page_height) → All (IsOpenFor group old.page (old.first + old.count) n) (drawns inks) → All (IsNextIn group new) inks
+draw_ready group job side n old new inks new_is ready job_is of some within whole free =
+    subst {A = HeldData} (λ h. All (IsNextIn group h) inks) (sym new_is)
+    (all_next_in group (next_rows n old) inks (all_next_chain group job side (next_rows n old) inks ready job_is of (omega arith) whole) free)

@@ -190,7 +190,7 @@ impl<'j> SideRows<'j> {
         requires at { IsAtGroup group.now (next_of self.old) self.old }
         requires within { next_of self.old + rows ≤ self.old.job.plan.page_height }
         requires whole { rows < 8 → next_of self.old + rows ≡ self.old.job.plan.page_height }
-        requires open { All (IsOpenFor group.now self.old.held.page (next_of self.old) rows)
+        requires free { All (IsOpenFor group.now self.old.held.page (next_of self.old) rows)
             (drawns self.old.inks) }
         ensures at { rows ≡ 8 → IsAtGroup group.now (next_of self.old + 8) self.new }
         ensures same { IsSameSide self.old self.new }
