@@ -96,7 +96,7 @@ impl<'j> BandPart<'j> {
     /// Exchanges the rows that are drawn for those among others that are alike.
     pub(crate) fn exchange(&mut self, others: &mut [DrawnRows<'j>])
         requires { AreOf self.old.job others.old }
-        ensures self { IsKept self.old self.new }
+        ensures kept { IsKept self.old self.new }
         ensures others { AreOf self.old.job others.new }
     {
         self.rows.exchange(others);
