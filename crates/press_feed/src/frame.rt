@@ -27,7 +27,8 @@ impl Model for BandFrame {
 impl BandFrame {
     /// Returns a buffer of `len` bytes, with no frame in it.
     fn new(alloc: Global, len: usize) -> Result<BandFrame, NoMemory>
-        ensures { IfOk result (λ frame. length frame.bytes ≡ len) }
+        ensures len { IfOk result (λ frame. length frame.bytes ≡ len) }
+        ensures none { IfOk result (λ frame. frame.made ≡ false) }
     {
         Ok(BandFrame {
             bytes: vec![in alloc; 0; len]?,
@@ -59,7 +60,8 @@ impl BandFrame {
     pub(crate) fn pack(&mut self, row: &[u8])
         requires row { length row.now ≤ 8192 }
         requires len { length self.old.bytes ≡ frame_size (length row.now) }
-        ensures { self.new ≡ record { bytes = frame_of row.now; made = true } }
+        ensures frame { self.new ≡ record { bytes = frame_of row.now; made = true } }
+        ensures len { length self.new.bytes ≡ length self.old.bytes }
     {
         frame_row(row, &mut self.bytes);
         self.made = true;
