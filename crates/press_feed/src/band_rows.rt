@@ -42,8 +42,9 @@ pub(crate) fn rows_after(
     requires rows { AreRowsOf job.now height rows }
     ensures { ForSome result (AreRowsOf job.now height) }
 {
+    let end = job.plan().page_height;
     let first = rows.first + rows.count;
-    if first < job.plan().page_height {
+    if first < end {
         return Some(rows_from(job, height, rows.group, first));
     }
     let group = next_group(job, wanted, rows.group)?;
