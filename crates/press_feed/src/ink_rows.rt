@@ -127,7 +127,7 @@ impl<'j> InkRows<'j> {
     /// have as much room.
     pub(crate) fn exchange(&mut self, rows: &mut DrawnRows<'j>)
         requires { rows.old.job ≡ self.old.drawn.job }
-        ensures self { IsLike self.old.drawn self.new.drawn }
+        ensures like { IsLike self.old.drawn self.new.drawn }
         ensures rows { rows.new.job ≡ self.old.drawn.job }
         ensures chain { self.new.chain ≡ self.old.chain }
     {
