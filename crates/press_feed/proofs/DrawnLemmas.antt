@@ -18,11 +18,11 @@ use Rattle.scr_tile.specs.AnyTile.{threshold_of}
 use Rattle.scr_tile.specs.Tile.{tile_bit}
 use Rattle.scr_tile.specs.declared.any_tile.AnyTile.{AnyTile}
 use Rattle.press_feed.specs.Blocks.{AreHeldFrom, IsAhead}
-use Rattle.press_feed.specs.ChainRows.{IsChain}
+use Rattle.press_feed.specs.ChainRows.{ChainData, IsChain}
 use Rattle.press_feed.specs.declared.side.Side.{Side}
 use Rattle.press_feed.specs.declared.screener.Screener.{Screener}
 use Rattle.press_feed.specs.declared.screener.Screener.TheVariants.{Tile}
-use Rattle.press_feed.specs.Drawn.{AreDrawn, IsClearBeside, ShowsRowOf, side_bit, side_size}
+use Rattle.press_feed.specs.Drawn.{AreDrawn, DrawnData, HasTaken, IsClearBeside, ShowsRowOf, side_bit, side_size}
 use Rattle.press_feed.specs.Screener.{IsScreener, is_diffused}
 use Rattle.press_feed.proofs.AheadLemmas.{ahead_next}
 use Rattle.press_feed.proofs.PlateLemmas.{bit_at-zeros}
@@ -64,6 +64,20 @@ chain_taken job page ink count front new rows is eight held new_is = record {
   plan_is = is.plan_is;
   ahead = subst {A = PageFront} (IsAhead job page ink (count + 8)) (sym new_is) (ahead_next job page ink count (record { held = rows; front = front }) is.ahead held eight);
 }
+
+-- the next row to be drawn, of those that a chain took last
+pub chain_row : (drawn : DrawnData) (k : ℕ) (chain : ChainData) → HasTaken drawn k chain → chain.count - 8 + k ≡ drawn.first + drawn.count
+chain_row drawn k chain took = omega (arith, took.count_is, took.taken)
+
+pub chain_drawn : (drawn : DrawnData) (k from : ℕ) (chain : ChainData) (old new : List ℕ) → HasTaken drawn k chain
+    → SetsBits (λ x. page_bit chain.job.plan chain.job.files chain.page chain.ink x (chain.count - 8 + k)) from chain.job.plan.page_width old new
+    → SetsBits (λ x. page_bit drawn.job.plan drawn.job.files drawn.page drawn.ink x (drawn.first + drawn.count)) from drawn.job.plan.page_width old new
+chain_drawn drawn k from chain old new took sets =
+    let row = drawn.first + drawn.count in
+    subst {A = JobData} (λ job. SetsBits (λ x. page_bit job.plan job.files drawn.page drawn.ink x row) from job.plan.page_width old new) took.job_is
+    (subst {A = ℕ} (λ page. SetsBits (λ x. page_bit chain.job.plan chain.job.files page drawn.ink x row) from chain.job.plan.page_width old new) took.page_is
+    (subst {A = Ink} (λ ink. SetsBits (λ x. page_bit chain.job.plan chain.job.files chain.page ink x row) from chain.job.plan.page_width old new) took.ink_is
+    (subst {A = ℕ} (λ y. SetsBits (λ x. page_bit chain.job.plan chain.job.files chain.page chain.ink x y) from chain.job.plan.page_width old new) (chain_row drawn k chain took) sets)))
 
 -- ---- drawn rows
 

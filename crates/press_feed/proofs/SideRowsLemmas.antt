@@ -1,9 +1,9 @@
 -- The rows of a side in some inks, step by step.
-use Rattle.std.proofs.Common.{All, ◌≡◌, ◌≢◌, ℕ, ◌+◌, ◌-◌, ◌*◌, ◌<◌, ◌≤◌, Bool, true, false, cond, List, [], ◌∷◌, length, map, get_or, refl, ap, sym, ◌∙◌, subst, arith}
+use Rattle.std.proofs.Common.{All, ◌≡◌, ◌≢◌, ℕ, ◌+◌, ◌-◌, ◌*◌, ◌<◌, ◌≤◌, Bool, true, false, cond, List, [], ◌∷◌, ◌++◌, length, map, get_or, set, take, drop, refl, ap, sym, ◌∙◌, subst, arith}
 use Rattle.std.specs.Prelude.{Option, Some, None}
 use Rattle.std.specs.Option.{ForSome, option_map}
-use Rattle.std.proofs.lemmas.List.{get_or-map, length-map}
-use Rattle.std.proofs.lemmas.List.Elements.{All-map, All-same, All-weaker}
+use Rattle.std.proofs.lemmas.List.{get_or-map, length-map, map-set, take_at}
+use Rattle.std.proofs.lemmas.List.Elements.{All-map, All-same, All-set, All-weaker}
 use Rattle.std.proofs.lemmas.Option.{same_Some}
 use Rattle.pr_base.specs.declared.ink.Ink.{Ink}
 use Rattle.plan_rows.specs.Inks.{has_ink}
@@ -279,13 +279,32 @@ draw_at group rows old new eight held_is side_is inks_is at =
     }
 
 -- the rows that are shown next are those that come next in each ink
+next_are : (group : Group) (job : JobData) (side : Side) (n : ℕ) (old : HeldData) (inks : List InkData) → All (IsReady group old.page (old.first + old.count)) inks → old.job ≡ job → All (IsDrawnOf job side) (drawns inks)
+    → 0 < n → old.first + old.count + n ≤ job.plan.page_height → (n < 8 → old.first + old.count + n ≡ job.plan.page_height) → All (IsNextChain group (next_rows n old)) inks
+next_are group job side n old inks ready job_is of some within whole =
+    let height : old.job.plan.page_height ≡ job.plan.page_height = ap {A = JobData} (λ j. j.plan.page_height) job_is in
+    all_next_chain group job side (next_rows n old) inks ready job_is of (omega arith) (λ less. whole less ∙ sym height)
+
 pub pass_ready : (group : Group) (job : JobData) (side : Side) (n : ℕ) (old new : HeldData) (inks : List InkData) → new ≡ next_rows n old → All (IsReady group old.page (old.first + old.count)) inks → old.job ≡ job → All (IsDrawnOf job side) (drawns inks)
-    → 0 < n → old.first + old.count + n ≤ old.job.plan.page_height → (n < 8 → old.first + old.count + n ≡ old.job.plan.page_height) → All (IsNextChain group new) inks
+    → 0 < n → old.first + old.count + n ≤ job.plan.page_height → (n < 8 → old.first + old.count + n ≡ job.plan.page_height) → All (IsNextChain group new) inks
 pass_ready group job side n old new inks new_is ready job_is of some within whole =
-    subst {A = HeldData} (λ h. All (IsNextChain group h) inks) (sym new_is) (all_next_chain group job side (next_rows n old) inks ready job_is of (omega arith) whole)
+    subst {A = HeldData} (λ h. All (IsNextChain group h) inks) (sym new_is) (next_are group job side n old inks ready job_is of some within whole)
 
 pub draw_ready : (group : Group) (job : JobData) (side : Side) (n : ℕ) (old new : HeldData) (inks : List InkData) → new ≡ next_rows n old → All (IsReady group old.page (old.first + old.count)) inks → old.job ≡ job → All (IsDrawnOf job side) (drawns inks)
-    → 0 < n → old.first + old.count + n ≤ old.job.plan.page_height → (n < 8 → old.first + old.count + n ≡ old.job.plan.page_height) → All (IsOpenFor group old.page (old.first + old.count) n) (drawns inks) → All (IsNextIn group new) inks
+    → 0 < n → old.first + old.count + n ≤ job.plan.page_height → (n < 8 → old.first + old.count + n ≡ job.plan.page_height) → All (IsOpenFor group old.page (old.first + old.count) n) (drawns inks) → All (IsNextIn group new) inks
 draw_ready group job side n old new inks new_is ready job_is of some within whole free =
-    subst {A = HeldData} (λ h. All (IsNextIn group h) inks) (sym new_is)
-    (all_next_in group (next_rows n old) inks (all_next_chain group job side (next_rows n old) inks ready job_is of (omega arith) whole) free)
+    subst {A = HeldData} (λ h. All (IsNextIn group h) inks) (sym new_is) (all_next_in group (next_rows n old) inks (next_are group job side n old inks ready job_is of some within whole) free)
+
+-- ---- inks that were lent
+
+-- the inks after a call to which all were lent
+pub lent : (f : InkData → InkData) (old new : List InkData) (len : ℕ) → new ≡ map f old → length new ≡ len → take len (new ++ drop (length new) old) ≡ map f old
+lent f old new len is long = take_at new (drop (length new) old) len long ∙ is
+
+-- one of them
+pub item_of : (job : JobData) (side : Side) (inks : List InkData) (i : ℕ) (item : InkData) → All (IsDrawnOf job side) (drawns inks) → i < length inks → item ≡ get_or inks i item → IsDrawnOf job side item.drawn
+item_of job side inks i item all less item_is = subst {A = InkData} (λ ink. IsDrawnOf job side ink.drawn) (sym item_is) (all_inks_of (IsDrawnOf job side) inks all i item less)
+
+pub sides_set : (job : JobData) (side : Side) (inks : List InkData) (i : ℕ) (ink : InkData) → All (IsDrawnOf job side) (drawns inks) → IsDrawnOf job side ink.drawn → All (IsDrawnOf job side) (drawns (set inks i ink))
+sides_set job side inks i ink all of =
+    All-same (IsDrawnOf job side) (drawns (set inks i ink)) (set (drawns inks) i ink.drawn) (map-set (λ (one : InkData). one.drawn) inks i ink) (All-set (IsDrawnOf job side) (drawns inks) i ink.drawn of all)

@@ -89,6 +89,7 @@ pub record HasTaken (drawn : DrawnData) (k : ℕ) (chain : ChainData) : Type 0 w
   pub job_is : chain.job ≡ drawn.job
   pub ink_is : chain.ink ≡ drawn.ink
   pub page_is : chain.page ≡ drawn.page
+  pub taken : 8 ≤ chain.count
   pub count_is : chain.count + k ≡ drawn.first + drawn.count + 8
 
 -- rows of the same job, side and ink, in as much room

@@ -138,6 +138,7 @@ impl<'j> HeldRows<'j> {
     pub(crate) fn count(&self) -> u32
         ensures count { result ≡ self.now.count }
         ensures few { result ≤ 8 }
+        ensures within { self.now.first + result ≤ self.now.job.plan.page_height }
     {
         self.count
     }
