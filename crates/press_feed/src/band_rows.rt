@@ -58,7 +58,11 @@ fn next_group(job: &Job, wanted: Wanted<'_>, group: usize) -> Option<usize>
 {
     let groups = job.rows().groups();
     for index in group + 1..groups.len() {
-        if groups[index].inks().iter().any(|ink| wanted.has(index, *ink)) {
+        if groups[index]
+            .inks()
+            .iter()
+            .any(|ink| wanted.has(index, *ink))
+        {
             return Some(index);
         }
     }

@@ -138,7 +138,13 @@ fn pack_frame(
 
 /// Draws a row of a plate of a group, if its rows are among those given: the two pages at their positions,
 /// the marks, and nothing else.
-fn join_row(job: &Job, group: &Group, place: RowPlace, rows: &[DrawnRows<'_>], bits: &mut [u8]) -> bool
+fn join_row(
+    job: &Job,
+    group: &Group,
+    place: RowPlace,
+    rows: &[DrawnRows<'_>],
+    bits: &mut [u8],
+) -> bool
     requires y { place.y < plate_height job.now.plan }
     requires rows { AreOf job.now rows.now }
     requires bits { length bits.old ≡ row_size (plate_width job.now.plan) }

@@ -121,19 +121,21 @@ impl<'j> SideBand<'j> {
 
     /// Packs frames from number `first` on, at most `each` in a part, as far as their rows were drawn in the
     /// step before, and draws the rows that come next.
-    fn step<T: Threads + Sync>(
-        &mut self,
-        rt: &T,
-        first: u64,
-        each: usize,
-        next: Option<BandRows>,
-    )
+    fn step<T: Threads + Sync>(&mut self, rt: &T, first: u64, each: usize, next: Option<BandRows>)
         requires first { first ≤ 2684313600 }
         requires each { each ≤ 65536 }
         requires next { ForSome next (AreRowsOf self.old.job self.old.height) }
         ensures { self.new ≡ self.old }
     {
-        step_parts(rt, self.threads, first, each, &self.drawn, next, &mut self.parts);
+        step_parts(
+            rt,
+            self.threads,
+            first,
+            each,
+            &self.drawn,
+            next,
+            &mut self.parts,
+        );
         self.exchange();
         self.ready = next;
     }
@@ -226,7 +228,11 @@ fn open_parts<'j>(
 
 /// The side of a part, by its index.
 fn side_of(part: usize) -> Side {
-    if part % 2 == 0 { Side::Left } else { Side::Right }
+    if part % 2 == 0 {
+        Side::Left
+    } else {
+        Side::Right
+    }
 }
 
 /// Allocates the rows of both sides in each ink that is drawn, which the parts exchange for theirs.
