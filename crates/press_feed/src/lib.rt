@@ -3,6 +3,8 @@
 #![tactic(auto)]
 
 mod band;
+mod band_part;
+mod band_rows;
 mod block_rows;
 mod byte_row;
 mod chain;
@@ -14,6 +16,7 @@ mod frame;
 mod frames;
 mod held_rows;
 mod ink_rows;
+mod ink_shares;
 mod page_blocks;
 mod page_pair;
 mod page_source;

@@ -3,8 +3,10 @@ ghost use Rattle.std.specs.Prelude.{◌≡◌, ◌+◌, ◌≤◌, IfSome, lengt
 ghost use Rattle.pr_base.specs.Row.{row_size};
 ghost use Rattle.plan_json.specs.Data.{plate_width};
 ghost use Rattle.press_feed.specs.Drawn.{HasRow};
-ghost use Rattle.press_feed.specs.PlateRow.{AreOfSides, IsJoined, IsRowsOf};
+ghost use Rattle.press_feed.specs.Frames.{AreOf};
+ghost use Rattle.press_feed.specs.PlateRow.{IsJoined, IsRowsOf, IsUnion};
 ghost use Rattle.press_feed.specs.Plates.{DrawsPages};
+ghost use Rattle.press_job.specs.Job.{JobData};
 
 use crate::byte_row::clear;
 use crate::drawn_rows::{DrawnRows, byte_of};
@@ -13,8 +15,8 @@ use plan_rows::Group;
 use pr_base::Ink;
 use press_job::Job;
 
-/// Draws row `y` of the pages of a group on a row of a plate, and nothing else, from rows of both sides in the
-/// same ink.
+/// Draws row `y` of the pages of a group on a row of a plate, and nothing else, from rows of both sides in
+/// the same ink.
 pub(crate) fn join_sides(
     job: &Job,
     group: &Group,
@@ -32,17 +34,25 @@ pub(crate) fn join_sides(
     ensures { DrawsPages job.now group.now ink y bits.new }
 {
     clear(bits);
-    join(left.row(y), &mut bits[byte_of(job, Side::Left)..]);
-    join(right.row(y), &mut bits[byte_of(job, Side::Right)..]);
+    join_at(left.row(y), byte_of(job, Side::Left), bits);
+    join_at(right.row(y), byte_of(job, Side::Right), bits);
 }
 
-/// Sets the pixels of a row that are set in another, which is no longer.
-fn join(row: &[u8], bits: &mut [u8])
-    requires { length row.now ≤ length bits.old }
-    ensures { IsJoined row.now bits.old bits.new }
+/// Sets the pixels of a row that are set in another one, whose first byte is byte `at` of the row.
+fn join_at(row: &[u8], at: usize, bits: &mut [u8])
+    requires { at + length row.now ≤ length bits.old }
+    ensures { IsJoined row.now at bits.old bits.new }
 {
-    for (bit, byte) in bits.iter_mut().zip(row.iter()) {
-        *bit |= *byte;
+    join(row, &mut bits[at..at + row.len()]);
+}
+
+/// Sets the pixels of a row that are set in another one of as many bytes.
+fn join(row: &[u8], bits: &mut [u8])
+    requires { length bits.old ≡ length row.now }
+    ensures { IsUnion row.now bits.old bits.new }
+{
+    for k in 0..row.len() {
+        bits[k] |= row[k];
     }
 }
 
@@ -54,10 +64,14 @@ pub(crate) fn rows_with<'r, 'j>(
     page: usize,
     y: u32,
 ) -> Option<&'r DrawnRows<'j>>
-    ensures side { IfSome result (λ rows. rows.now.side ≡ side) }
-    ensures ink { IfSome result (λ rows. rows.now.ink ≡ ink) }
-    ensures row { IfSome result (λ rows. HasRow rows.now page y) }
+    ensures job { IfSome result (λ found.
+        (job : JobData) → AreOf job rows.now → IsRowsOf job side ink found.now) }
+    ensures row { IfSome result (λ found. HasRow found.now page y) }
 {
-    rows.iter()
-        .find(|rows| rows.side() == side && rows.ink() == ink && rows.has(page, y))
+    for drawn in rows {
+        if drawn.side() == side && drawn.ink() == ink && drawn.has(page, y) {
+            return Some(drawn);
+        }
+    }
+    None
 }

@@ -1,55 +1,47 @@
-// A band of frames of a plan that diffuses an ink. While threads pack the frames of one band, they draw the rows
-// of the next: each thread has some inks of one side, whose rows it draws from the top of a page to its bottom.
-ghost use Rattle.std.specs.Prelude.{All, ◌≡◌, ◌≤◌, IfOk, IsTrue, length};
-ghost use Rattle.std.specs.Option.{ForSome, IfSome};
-ghost use Rattle.press_feed.specs.Band.{IsFrameAt, frame_bytes};
-ghost use Rattle.press_feed.specs.Frames.{AreOf};
+// A band of frames of a plan that diffuses an ink. While threads pack the frames of one band, they draw the
+// rows of the next: each thread has some inks of one side, whose rows it draws from the top of a page to
+// its bottom.
+ghost use Rattle.std.specs.Prelude.{All, ◌≡◌, ℕ, ◌*◌, ◌%◌, ◌<◌, ◌≤◌, IfOk, IfSome, Some, length, slice_get};
+ghost use Rattle.std.specs.Prelude.{slice_index_or};
+ghost use Rattle.std.specs.Option.{ForSome};
 ghost use Rattle.plan_rows.specs.Groups.{groups_of};
+ghost use Rattle.press_feed.specs.Band.{frame_bytes};
+ghost use Rattle.press_feed.specs.Frames.{AreOf};
+ghost use Rattle.press_feed.specs.SideBand.{AreRowsFor, AreRowsOf, IsKept, IsPartOf};
+ghost use Rattle.press_feed.specs.SideRows.{SideRowsData};
 ghost use Rattle.press_job.specs.Rows.{plate_frames};
-ghost use Rattle.press_feed.specs.SideBand.{AreRowsOf, IsPartOf};
-ghost use Rattle.press_feed.specs.SideRows.{HaveRoom};
 
+use crate::band_part::BandPart;
+use crate::band_rows::{BandRows, rows_after, rows_from};
+use crate::block_rows::BLOCK;
 use crate::drawn_rows::DrawnRows;
-use crate::frames::Frames;
-use crate::side_rows::SideRows;
+use crate::ink_shares::{inks_of_share, work_of};
 use crate::row_maker::{group_at, page_row};
-use crate::screener::has_diffused;
 use crate::side::Side;
+use crate::wanted::Wanted;
 use pr_base::{Ink, NoMemory};
 use press_job::Job;
 use std::alloc::Global;
 use std::marker::Model;
 use std::thread::{Threads, for_each_mut};
 
-/// What one thread has of a band: the rows that it draws, and the frames that it packs. Contracts see the job.
-#[derive(Drop)]
-struct Part<'j> {
-    job: &'j Job,
-    sides: SideRows<'j>,
-    frames: Frames<'j>,
-}
+/// The largest number of frames of a band that one thread packs.
+const MOST_FRAMES: usize = 1 << 16;
 
-/// Which rows of the pages of a group, by its index, are drawn in a step.
-#[derive(Clone, Copy, Debug, PartialEq, Eq)]
-struct Rows {
-    group: usize,
-    first: u32,
-    count: u32,
-}
-
-/// The frames of a band. Contracts see the job; which frames are packed and which rows are drawn, each buffer
-/// states by itself.
+/// The frames of a band. Contracts see the job, and of how many rows of the pages a band has the frames.
+/// Which frames are packed and which rows are drawn, each buffer states by itself.
 #[derive(Drop)]
 pub(crate) struct SideBand<'j> {
     job: &'j Job,
-    parts: Vec<Part<'j>>,
+    wanted: Wanted<'j>,
+    parts: Vec<BandPart<'j>>,
     threads: usize,
     height: u32,
-    /// The rows drawn in the step before, of each side and ink, in the order of the parts and their inks.
+    /// The rows drawn in the step before, of each side and ink.
     drawn: Vec<DrawnRows<'j>>,
     /// Which rows these are.
-    ready: Option<Rows>,
-    /// The number of the first frame, and how many each part packs.
+    ready: Option<BandRows>,
+    /// The number of the first frame of the band, and how many frames each part packs.
     first: u64,
     each: usize,
 }
@@ -65,22 +57,24 @@ impl<'j> Model for SideBand<'j> {
 }
 
 impl<'j> SideBand<'j> {
-    /// Allocates the buffers of a band for this many threads, whose bands have about `height` rows of the pages.
+    /// Allocates the buffers of a band of at most `height` rows of the pages for this many threads. No
+    /// frame is packed.
     pub(crate) fn open(
         alloc: Global,
         job: &'j Job,
+        wanted: Wanted<'j>,
         threads: usize,
         height: u32,
     ) -> Result<SideBand<'j>, NoMemory>
         requires threads { (1 ≤ threads) × (threads ≤ 8) }
-        requires height { (8 ≤ height) × (height ≤ 1024) × (height % 8 ≡ 0) }
+        requires height { (height ≤ 1024) × (height % 8 ≡ 0) }
         ensures { IfOk result (λ band. band ≡ record { job = job.now; height = height }) }
     {
-        let shares = (threads / 2).max(1);
-        let parts = open_parts(alloc, job, shares, height as usize)?;
-        let drawn = open_rows(alloc, job, height as usize)?;
+        let parts = open_parts(alloc, job, wanted, (threads / 2).max(1), height as usize)?;
+        let drawn = open_rows(alloc, job, wanted, height as usize)?;
         Ok(SideBand {
             job,
+            wanted,
             parts,
             threads,
             height,
@@ -93,21 +87,19 @@ impl<'j> SideBand<'j> {
 
     /// Lends frame `n`, if it is packed.
     pub(crate) fn frame(&self, n: u64) -> Option<&[u8]>
-        ensures frame { IfSome result (λ frame. IsFrameAt self.now.job n frame.now) }
-        ensures len { IfSome result (λ frame. length frame.now ≡ frame_bytes self.now.job) }
+        ensures frame { IfSome result (λ bytes.
+            slice_get (plate_frames self.now.job.plan self.now.job.files) n ≡ Some bytes.now) }
+        ensures len { IfSome result (λ bytes. length bytes.now ≡ frame_bytes self.now.job) }
     {
-        if n < self.first {
+        let place = n.saturating_sub(self.first) as usize / self.each;
+        if place >= self.parts.len() {
             return None;
         }
-        let part = self.parts.get((n - self.first) as usize / self.each)?;
-        if !part.frames.has(n) {
-            return None;
-        }
-        Some(part.frames.frame(n))
+        self.parts[place].frame(n)
     }
 
-    /// Packs the frames of the band with frame `n`, and draws the rows of the next one. A row above the pages or
-    /// below them has no band.
+    /// Packs the frames from number `n` on, as far as the band has them, and draws the rows of the next
+    /// band. A row above the pages or below them has no band.
     pub(crate) fn make<T: Threads + Sync>(&mut self, rt: &T, n: u64)
         requires { n < length (plate_frames self.old.job.plan self.old.job.files) }
         ensures { self.new ≡ self.old }
@@ -116,180 +108,143 @@ impl<'j> SideBand<'j> {
         let Some(y) = page_row(self.job.plan(), self.job.shape(), place.y) else {
             return;
         };
-        let rows = self.rows_from(place.group, y / self.height * self.height);
+        let rows = rows_from(self.job, self.height, place.group, y / BLOCK * BLOCK);
         if self.ready != Some(rows) {
-            self.step(rt, Some(rows));
+            self.step(rt, n, 0, Some(rows));
         }
-        let group = group_at(self.job.rows(), place.group);
-        let inks = group.inks().len();
-        self.first = group.first + u64::from(self.job.shape().top_y + rows.first) * inks as u64;
-        self.each = (rows.count as usize * inks).div_ceil(self.parts.len()).max(1);
-        let next = self.rows_after(rows);
-        self.step(rt, next);
+        let each = frames_each(self.job, rows, self.parts.len());
+        let next = rows_after(self.job, self.height, self.wanted, rows);
+        self.step(rt, n, each, next);
+        self.first = n;
+        self.each = each;
     }
 
-    /// The rows of the pages of a group from row `first` on that are drawn at once.
-    fn rows_from(&self, group: usize, first: u32) -> Rows
-        requires group { group < length (groups_of self.now.job.plan) }
-        requires first { (first % 8 ≡ 0) × (first < self.now.job.plan.page_height) }
-        ensures { AreRowsOf self.now.job self.now.height result }
-    {
-        Rows {
-            group,
-            first,
-            count: self.height.min(self.job.plan().page_height - first),
-        }
-    }
-
-    /// The rows that come after some: those below them, or the first ones of the next group.
-    fn rows_after(&self, rows: Rows) -> Option<Rows>
-        requires { AreRowsOf self.now.job self.now.height rows }
-        ensures { ForSome result (AreRowsOf self.now.job self.now.height) }
-    {
-        let first = rows.first + rows.count;
-        if first < self.job.plan().page_height {
-            Some(self.rows_from(rows.group, first))
-        } else if rows.group + 1 < self.job.rows().groups().len() {
-            Some(self.rows_from(rows.group + 1, 0))
-        } else {
-            None
-        }
-    }
-
-    /// Packs the frames of the rows that are ready, in parallel, and draws the rows that come next.
-    fn step<T: Threads + Sync>(&mut self, rt: &T, next: Option<Rows>)
-        requires { ForSome next (AreRowsOf self.old.job self.old.height) }
+    /// Packs frames from number `first` on, at most `each` in a part, as far as their rows were drawn in the
+    /// step before, and draws the rows that come next.
+    fn step<T: Threads + Sync>(
+        &mut self,
+        rt: &T,
+        first: u64,
+        each: usize,
+        next: Option<BandRows>,
+    )
+        requires first { first ≤ 2684313600 }
+        requires each { each ≤ 65536 }
+        requires next { ForSome next (AreRowsOf self.old.job self.old.height) }
         ensures { self.new ≡ self.old }
     {
-        let first = self.first;
-        let each = self.each;
-        let height = self.height;
-        let drawn = &self.drawn[..];
-        for_each_mut(
-            rt,
-            &mut self.parts,
-            self.threads,
-            &|k: usize, part: &mut Part<'_>|
-                requires most { k < 65536 }
-                requires part { IsPartOf part.now.frames.job height part.now }
-                requires rows { AreOf part.now.frames.job drawn.now }
-                requires next { ForSome next (AreRowsOf part.now.frames.job height) }
-                ensures part { IsPartOf part.entry.now.frames.job height part.exit.now }
-            { part.step(first + (k * each) as u64, each, drawn, next) },
-        );
-        for part in self.parts.iter_mut() {
-            part.sides.exchange(&mut self.drawn);
-        }
+        step_parts(rt, self.threads, first, each, &self.drawn, next, &mut self.parts);
+        self.exchange();
         self.ready = next;
+    }
+
+    /// Exchanges the rows of each part for those drawn in the step before.
+    fn exchange(&mut self)
+        ensures { self.new ≡ self.old }
+    {
+        for index in 0..self.parts.len() {
+            self.exchange_part(index);
+        }
+    }
+
+    /// The same for the part at an index.
+    fn exchange_part(&mut self, index: usize)
+        ensures { self.new ≡ self.old }
+    {
+        if index < self.parts.len() {
+            self.parts[index].exchange(&mut self.drawn);
+        }
     }
 }
 
-impl<'j> Part<'j> {
-    /// Draws the rows that come next, and packs at most `each` frames, from number `first` on, of rows that are
-    /// drawn.
-    fn step(&mut self, first: u64, each: usize, drawn: &[DrawnRows<'_>], next: Option<Rows>)
-        requires first { first ≤ 2684313600 }
-        requires rows { AreOf self.old.frames.job drawn.now }
-        requires job { self.old.sides.job ≡ self.old.frames.job }
-        requires next { ForSome next (λ rows. AreRowsOf self.old.frames.job rows.count rows) }
-        requires room { ForSome next (λ rows. HaveRoom rows.count self.old.sides.inks) }
-        ensures { (height : ℕ) → IsPartOf self.old.frames.job height self.old →
-            IsPartOf self.old.frames.job height self.new }
-    {
-        if let Some(rows) = next {
-            let group = group_at(self.job.rows(), rows.group);
-            self.sides.draw(group, rows.first, rows.count);
-        }
-        self.frames.pack(first, each, drawn);
-    }
+/// Lets each part of a band take a step, in parallel.
+fn step_parts<T: Threads + Sync>(
+    rt: &T,
+    threads: usize,
+    first: u64,
+    each: usize,
+    drawn: &[DrawnRows<'_>],
+    next: Option<BandRows>,
+    parts: &mut [BandPart<'_>],
+)
+    requires threads { 0 < threads }
+    requires first { first ≤ 2684313600 }
+    requires each { each ≤ 65536 }
+    requires most { length parts.old ≤ 65536 }
+    requires drawn { (k : ℕ) (d : SideRowsData) → k < length parts.old →
+        AreOf (slice_index_or parts.old k d).job drawn.now }
+    requires next { (k : ℕ) (d : SideRowsData) → k < length parts.old →
+        ForSome next (AreRowsFor (slice_index_or parts.old k d)) }
+    ensures { (k : ℕ) (d : SideRowsData) → k < length parts.old →
+        IsKept (slice_index_or parts.old k d) (slice_index_or parts.new k d) }
+{
+    for_each_mut(
+        rt,
+        parts,
+        threads,
+        &|k: usize, part: &mut BandPart<'_>|
+            requires few { (k < 65536) × (each ≤ 65536) × (first ≤ 2684313600) }
+            requires drawn { AreOf part.now.job drawn.now }
+            requires next { ForSome next (AreRowsFor part.now) }
+            ensures kept { IsKept part.entry.now part.exit.now }
+        { part.step(first + (k * each) as u64, each, drawn, next) },
+    );
+}
+
+/// How many frames of a band each of its parts packs.
+fn frames_each(job: &Job, rows: BandRows, parts: usize) -> usize
+    requires { rows.group < length (groups_of job.now.plan) }
+    ensures { (1 ≤ result) × (result ≤ 65536) }
+{
+    let inks = group_at(job.rows(), rows.group).inks();
+    let frames = (rows.count as usize).saturating_mul(inks.len());
+    frames.div_ceil(parts.max(1)).clamp(1, MOST_FRAMES)
 }
 
 /// Allocates the parts of a band: `shares` of them for each side.
 fn open_parts<'j>(
     alloc: Global,
     job: &'j Job,
+    wanted: Wanted<'j>,
     shares: usize,
     height: usize,
-) -> Result<Vec<Part<'j>>, NoMemory>
+) -> Result<Vec<BandPart<'j>>, NoMemory>
     requires shares { (1 ≤ shares) × (shares ≤ 8) }
-    requires height { height ≤ 65536 }
+    requires height { height ≤ 1024 }
     ensures parts { IfOk result (λ parts. All (IsPartOf job.now height) parts.items) }
-    ensures count { IfOk result (λ parts. length parts.items ≡ 2 * shares) }
+    ensures few { IfOk result (λ parts. length parts.items ≤ 65536) }
 {
-    let mut parts = Vec::with_capacity(alloc, 2 * shares)?;
-    for number in 0..2 * shares {
-        let side = if number % 2 == 0 { Side::Left } else { Side::Right };
-        let inks = inks_of_share(job, number / 2, shares);
-        parts.push(Part {
-            job,
-            sides: SideRows::open(alloc, job, side, inks, height)?,
-            frames: Frames::open(alloc, job, frames_of_part(height, 2 * shares))?,
-        })?;
+    let count = 2 * shares;
+    let frames = (5 * height).div_ceil(count).min(MOST_FRAMES);
+    let mut parts = Vec::with_capacity(alloc, count)?;
+    for part in 0..count {
+        let inks = inks_of_share(job, wanted, part / 2, shares);
+        parts.push(BandPart::open(alloc, job, side_of(part), inks, height, frames)?)?;
     }
     Ok(parts)
 }
 
-/// Allocates the rows of both sides in each ink, as the parts exchange them. None is drawn.
-fn open_rows<'j>(alloc: Global, job: &'j Job, height: usize) -> Result<Vec<DrawnRows<'j>>, NoMemory>
+/// The side of a part, by its index.
+fn side_of(part: usize) -> Side {
+    if part % 2 == 0 { Side::Left } else { Side::Right }
+}
+
+/// Allocates the rows of both sides in each ink that is drawn, which the parts exchange for theirs.
+fn open_rows<'j>(
+    alloc: Global,
+    job: &'j Job,
+    wanted: Wanted<'j>,
+    height: usize,
+) -> Result<Vec<DrawnRows<'j>>, NoMemory>
     requires { height ≤ 65536 }
     ensures { IfOk result (λ rows. AreOf job.now rows.items) }
 {
     let mut rows = Vec::with_capacity(alloc, 10)?;
-    for side in [Side::Left, Side::Right] {
-        for ink in Ink::ALL {
-            rows.push(DrawnRows::open(alloc, job, side, ink, height)?)?;
+    for index in 0..10_usize {
+        let ink = Ink::ALL[index / 2];
+        if work_of(job, wanted, ink) > 0 {
+            rows.push(DrawnRows::open(alloc, job, side_of(index), ink, height)?)?;
         }
     }
     Ok(rows)
-}
-
-/// How many frames a part of a band packs: its share of the rows in five inks.
-fn frames_of_part(height: usize, parts: usize) -> usize
-    requires parts { 0 < parts }
-    requires height { height ≤ 65536 }
-    ensures room { 5 * height ≤ result * parts }
-    ensures few { result ≤ 5 * height }
-{
-    (5 * height).div_ceil(parts)
-}
-
-/// The inks of part `share` of `shares` of a side: as much work for each, of which an ink that is diffused is
-/// four times that of a tile.
-fn inks_of_share(job: &Job, share: usize, shares: usize) -> &'static [Ink]
-    requires shares { (1 ≤ shares) × (shares ≤ 8) }
-    requires share { share < shares }
-    ensures { length result.now ≤ 5 }
-{
-    let total: usize = Ink::ALL.iter().map(|ink| work_of(job, *ink)).sum();
-    let mut before = 0;
-    let mut first = 5;
-    let mut end = 5;
-    for ink in Ink::ALL {
-        let work = work_of(job, ink);
-        if work > 0 && (2 * before + work) * shares / (2 * total) == share {
-            first = first.min(ink.slot());
-            end = ink.slot() + 1;
-        }
-        before += work;
-    }
-    if first < end { &Ink::ALL[first..end] } else { &[] }
-}
-
-/// What drawing an ink costs, in that of a tile; 0 if no page prints it.
-fn work_of(job: &Job, ink: Ink) -> usize
-    ensures { result ≤ 4 }
-{
-    let plan = job.plan();
-    let printed = match ink {
-        Ink::K => true,
-        Ink::S => plan.pages.iter().any(|page| page.spot),
-        _ => plan.pages.iter().any(|page| page.colour),
-    };
-    if !printed {
-        0
-    } else if has_diffused(plan, ink) {
-        4
-    } else {
-        1
-    }
 }
