@@ -85,7 +85,7 @@ fn are_same<T: Threads + Sync>(
         one.next(row);
         wide.make_band(rt);
         wide.next(other);
-        if row != other {
+        if &*row != &*other {
             return false;
         }
     }
