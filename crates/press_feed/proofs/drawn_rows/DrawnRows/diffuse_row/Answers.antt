@@ -1,5 +1,5 @@
 -- One more row is drawn, of those that the chain took.
-use Rattle.std.proofs.Common.{◌≡◌, ℕ, ◌+◌, ◌-◌, ◌<◌, length, sym, subst, arith}
+use Rattle.std.proofs.Common.{◌+◌, ◌-◌, ◌<◌, length, sym, subst, arith}
 use Rattle.press_job.specs.Job.{JobData}
 use Rattle.press_feed.specs.Drawn.{DrawnData, HasTaken}
 use Rattle.press_feed.proofs.DrawnLemmas.{chain_drawn, chain_row, drawn_more}

@@ -1,5 +1,5 @@
 -- One more row is drawn, under the tile.
-use Rattle.std.proofs.Common.{◌≡◌, ℕ, ◌+◌, ◌<◌, length, ap, sym, subst, ◌∙◌, arith}
+use Rattle.std.proofs.Common.{◌≡◌, ℕ, ◌+◌, ◌<◌, length, ap, sym, subst, ◌∙◌}
 use Rattle.pr_base.specs.Bits.{SetsBits}
 use Rattle.press_job.specs.Printing.{page_bit, printed_row}
 use Rattle.press_feed.specs.declared.screener.Screener.TheVariants.{Tile}

@@ -1,5 +1,5 @@
 -- The drawn rows begin anew, where the side and its chains are.
-use Rattle.std.proofs.Common.{◌≡◌, List, ◌++◌, length, map, take, drop, refl, ap, sym, subst, ◌∙◌, arith}
+use Rattle.std.proofs.Common.{◌≡◌, ◌++◌, length, map, take, drop, refl, ap, sym, subst, ◌∙◌, arith}
 use Rattle.press_feed.specs.InkRows.{InkData, begun}
 use Rattle.press_feed.specs.SideRows.{IsAtGroup, SideRowsData, drawn_for, drawns}
 use Rattle.press_feed.specs.Sides.{page_on}

@@ -1,5 +1,5 @@
 -- Whole blocks first, and the page's last rows.
-use Rattle.std.proofs.Common.{◌≡◌, ℕ, ◌+◌, ◌*◌, ◌/◌, ◌%◌, ◌≤◌, map, refl, ap, sym, ◌∙◌, arith}
+use Rattle.std.proofs.Common.{◌≡◌, ℕ, ◌+◌, ◌*◌, ◌/◌, ◌%◌, map, ap, sym, ◌∙◌, arith}
 use Rattle.press_feed.specs.declared.side.Side.{Side}
 use Rattle.press_feed.specs.SideRows.{drawn_for, drawns, next_of}
 use Rattle.press_feed.specs.Sides.{page_on}

@@ -1,5 +1,5 @@
 -- The rows held come next in each ink, where they are drawn.
-use Rattle.std.proofs.Common.{All, ◌≡◌, ℕ, ◌+◌, ◌<◌, ◌≤◌, List, ◌++◌, length, map, take, drop, refl, ap, sym, subst, ◌∙◌, arith}
+use Rattle.std.proofs.Common.{All, ◌≡◌, ◌+◌, ◌<◌, ◌≤◌, List, ◌++◌, length, map, take, drop, refl, ap, sym, subst, ◌∙◌, arith}
 use Rattle.press_feed.specs.HeldRows.{HeldData}
 use Rattle.press_feed.specs.InkRows.{InkData, IsNextIn, drawn_on}
 use Rattle.press_feed.specs.SideRows.{IsAtGroup, IsOpenFor, SideRowsData, drawn_behind, drawns, next_of}

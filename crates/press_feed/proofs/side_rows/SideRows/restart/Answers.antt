@@ -1,5 +1,5 @@
 -- The page is at its top, and so is each chain.
-use Rattle.std.proofs.Common.{◌≡◌, List, ◌++◌, length, map, take, drop, refl, ap, ◌∙◌, arith}
+use Rattle.std.proofs.Common.{◌≡◌, ◌++◌, length, map, take, drop, refl, ap, ◌∙◌, arith}
 use Rattle.press_feed.specs.HeldRows.{HeldData}
 use Rattle.press_feed.specs.InkRows.{InkData, restarted}
 use Rattle.press_feed.specs.SideRows.{SideRowsData, drawns}
