@@ -2,6 +2,10 @@
 #![tactic(auto)]
 
 #[cfg(test)]
+mod bands;
+#[cfg(test)]
 mod largest;
+#[cfg(test)]
+mod loaded;
 #[cfg(test)]
 mod made;

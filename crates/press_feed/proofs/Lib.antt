@@ -1,8 +1,15 @@
 pub mod AheadLemmas
 pub mod BandLemmas
+pub mod DrawnLemmas
 pub mod FeedLemmas
+pub mod HeldLemmas
+pub mod InkRowsLemmas
+pub mod JoinLemmas
+pub mod MapLemmas
 pub mod PairLemmas
 pub mod PlateLemmas
 pub mod ScreenerLemmas
 pub mod ScreensLemmas
+pub mod SideBandLemmas
 pub mod SideLemmas
+pub mod SideRowsLemmas

@@ -1,5 +1,6 @@
 -- A band of consecutive frames in the order of a job's rows.
-use Rattle.std.specs.Prelude.{◌≡◌, ℕ, ◌+◌, ◌*◌, ◌<◌, ◌≤◌, Bool, true, List, length, slice_get, slice_index_or, Some}
+use Rattle.std.specs.Prelude.{◌≡◌, ℕ, ◌+◌, ◌*◌, ◌<◌, ◌≤◌, Bool, false, true, List, length, slice_get}
+use Rattle.std.specs.Prelude.{slice_index_or, Some}
 use Rattle.std.specs.List.{All}
 use Rattle.pr_base.specs.Row.{row_size}
 use Rattle.tif_packbits.specs.Frame.{frame_size}
@@ -22,10 +23,11 @@ pub record FrameData : Type 0 where
 abbrev pub IsFrameAt : JobData → ℕ → FrameData → Type 0
 IsFrameAt job n frame = frame.made ≡ true → slice_get (plate_frames job.plan job.files) n ≡ Some frame.bytes
 
--- this many buffers of this many bytes
+-- this many buffers of this many bytes, with no frame
 pub record AreFresh (count len : ℕ) (frames : List FrameData) : Type 0 where
   pub count_is : length frames ≡ count
   pub long : All (λ frame. length frame.bytes ≡ len) frames
+  pub none : All (λ frame. frame.made ≡ false) frames
 
 -- ---- a thread's share of a band
 

@@ -11,3 +11,11 @@ pub mod Blocks
 pub mod Maker
 pub mod Band
 pub mod Feed
+pub mod HeldRows
+pub mod ChainRows
+pub mod Drawn
+pub mod InkRows
+pub mod SideRows
+pub mod PlateRow
+pub mod Frames
+pub mod SideBand

@@ -1,5 +1,5 @@
 // A buffer for the bytes of one row.
-ghost use Rattle.std.specs.Prelude.{◌≡◌, ℕ, List, IfOk, length, replicate};
+ghost use Rattle.std.specs.Prelude.{All, ◌≡◌, ℕ, List, IfOk, length, replicate};
 ghost use Rattle.press_feed.specs.Rows.{AreRows};
 
 use pr_base::NoMemory;
@@ -21,9 +21,9 @@ impl Model for ByteRow {
 }
 
 impl ByteRow {
-    /// Returns a row of `len` bytes.
+    /// Returns a row of `len` bytes, with no pixel set.
     pub(crate) fn new(alloc: Global, len: usize) -> Result<ByteRow, NoMemory>
-        ensures { IfOk result (λ row. length row ≡ len) }
+        ensures { IfOk result (λ row. row ≡ replicate len 0) }
     {
         Ok(ByteRow {
             bytes: vec![in alloc; 0; len]?,
@@ -38,9 +38,10 @@ impl ByteRow {
     }
 }
 
-/// Returns `count` rows of `len` bytes each.
+/// Returns `count` rows of `len` bytes each, with no pixel set.
 pub(crate) fn byte_rows(alloc: Global, count: usize, len: usize) -> Result<Vec<ByteRow>, NoMemory>
-    ensures { IfOk result (λ rows. AreRows count len rows.items) }
+    ensures rows { IfOk result (λ rows. AreRows count len rows.items) }
+    ensures blank { IfOk result (λ rows. All (λ row. row ≡ replicate len 0) rows.items) }
 {
     let mut rows = Vec::with_capacity(alloc, count)?;
     for _row in 0..count {

@@ -1,11 +1,13 @@
 // A frame of a band, made in its buffer.
-ghost use Rattle.std.specs.Prelude.{◌≡◌, IfOk, length};
+ghost use Rattle.std.specs.Prelude.{◌≡◌, ◌≤◌, IfOk, false, length, true};
+ghost use Rattle.tif_packbits.specs.Frame.{frame_of, frame_size};
 ghost use Rattle.press_feed.specs.Band.{AreFresh, IsFrameAt, frame_bytes};
 
 use crate::row_maker::RowMaker;
 use pr_base::NoMemory;
 use std::alloc::Global;
 use std::marker::Model;
+use tif_packbits::frame_row;
 
 /// The buffer of a frame. Contracts see the bytes, and whether they are those of a frame.
 #[derive(Drop)]
@@ -25,7 +27,8 @@ impl Model for BandFrame {
 impl BandFrame {
     /// Returns a buffer of `len` bytes, with no frame in it.
     fn new(alloc: Global, len: usize) -> Result<BandFrame, NoMemory>
-        ensures { IfOk result (λ frame. length frame.bytes ≡ len) }
+        ensures len { IfOk result (λ frame. length frame.bytes ≡ len) }
+        ensures none { IfOk result (λ frame. frame.made ≡ false) }
     {
         Ok(BandFrame {
             bytes: vec![in alloc; 0; len]?,
@@ -44,6 +47,24 @@ impl BandFrame {
         if self.made {
             maker.make(n, &mut self.bytes);
         }
+    }
+
+    /// Keeps the buffer, and no frame in it.
+    pub(crate) fn forget(&mut self)
+        ensures { self.new ≡ record self.old { made = false } }
+    {
+        self.made = false;
+    }
+
+    /// Packs a row of a plate.
+    pub(crate) fn pack(&mut self, row: &[u8])
+        requires row { length row.now ≤ 8192 }
+        requires len { length self.old.bytes ≡ frame_size (length row.now) }
+        ensures frame { self.new ≡ record { bytes = frame_of row.now; made = true } }
+        ensures len { length self.new.bytes ≡ length self.old.bytes }
+    {
+        frame_row(row, &mut self.bytes);
+        self.made = true;
     }
 
     /// Whether a frame was made.

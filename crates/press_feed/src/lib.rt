@@ -3,21 +3,33 @@
 #![tactic(auto)]
 
 mod band;
+mod band_part;
+mod band_rows;
 mod block_rows;
 mod byte_row;
+mod chain;
 mod chains;
+mod drawer;
+mod drawn_rows;
 mod feed;
 mod frame;
+mod frames;
+mod held_rows;
+mod ink_rows;
+mod ink_shares;
 mod page_blocks;
 mod page_pair;
 mod page_source;
+mod plate_row;
 mod row_maker;
 mod screener;
 mod screens;
 mod share;
 mod sheet;
 mod side;
+mod side_band;
 mod side_pages;
+mod side_rows;
 mod wanted;
 mod wide;
 

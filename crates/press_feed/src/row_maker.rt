@@ -100,7 +100,7 @@ impl<'j> RowMaker<'j> {
 }
 
 /// Lends the group with this index.
-fn group_at(rows: &RowPlan, index: usize) -> &Group
+pub(crate) fn group_at(rows: &RowPlan, index: usize) -> &Group
     requires { index < length rows.now.groups }
     ensures { slice_get rows.now.groups index ≡ Some result.now }
 {
@@ -148,7 +148,7 @@ fn draw_pages(
 }
 
 /// The row of its pages that row `y` of a plate shows, if it shows one.
-fn page_row(plan: &Plan, shape: PlateShape, y: u32) -> Option<u32>
+pub(crate) fn page_row(plan: &Plan, shape: PlateShape, y: u32) -> Option<u32>
     requires { shape ≡ shape_of_plate plan.now }
     ensures { result ≡ row_of_pages plan.now y }
 {

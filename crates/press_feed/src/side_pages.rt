@@ -178,7 +178,7 @@ fn pass_rows(count: u32, rows: &mut PageRows<'_>)
 }
 
 /// Returns the first page of the plan, in buffers for the page with the most layers.
-fn open_page<'j>(alloc: Global, job: &'j Job) -> Result<PageRows<'j>, NoMemory>
+pub(crate) fn open_page<'j>(alloc: Global, job: &'j Job) -> Result<PageRows<'j>, NoMemory>
     ensures page { IfOk result (λ rows. rows ≡ page_before job.now.plan job.now.files rows.room 0 0) }
     ensures room { IfOk result
         (λ rows. (page : ℕ) → length (planned_layers job.now.plan page) ≤ rows.room) }
@@ -190,7 +190,7 @@ fn open_page<'j>(alloc: Global, job: &'j Job) -> Result<PageRows<'j>, NoMemory>
 }
 
 /// Moves from one page of the plan to row 0 of another, or of the same. Images are not tested again.
-fn turn_to<'j>(job: &'j Job, from: usize, page: usize, rows: &mut PageRows<'j>)
+pub(crate) fn turn_to<'j>(job: &'j Job, from: usize, page: usize, rows: &mut PageRows<'j>)
     requires from { rows.old.layers ≡ layers_of job.now.plan job.now.files from }
     requires room { length (planned_layers job.now.plan page) ≤ rows.old.room }
     ensures { rows.new
@@ -204,7 +204,7 @@ fn turn_to<'j>(job: &'j Job, from: usize, page: usize, rows: &mut PageRows<'j>)
 }
 
 /// Whether a page prints C, M and Y, and whether it prints S.
-fn inks_of(plan: &Plan, page: usize) -> (bool, bool)
+pub(crate) fn inks_of(plan: &Plan, page: usize) -> (bool, bool)
     ensures colour { result.0 ≡ page_colour plan.now page }
     ensures spot { result.1 ≡ page_spot plan.now page }
 {
