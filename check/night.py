@@ -25,6 +25,10 @@ from press import Paper
 from units import unit_trials
 
 
+# The parts that need no rsync, which `pressroom night` delivers by.
+WITHOUT_RSYNC = ("make", "late", "units")
+
+
 def place():
     """The folder of the tests: in memory, if there is enough for files, since each plate is synced to its
     disk."""
@@ -60,7 +64,11 @@ def main():
             "units": unit_trials,
             "kills": kills,
         }.items():
-            if words.only in (None, name):
+            if words.only not in (None, name):
+                continue
+            if name not in WITHOUT_RSYNC and shutil.which("rsync") is None:
+                print(f"skipped: {name} (rsync isn't installed)")
+            else:
                 with tempfile.TemporaryDirectory(prefix=f"{name}-", dir=folder) as its:
                     part(tried, paper, its)
     print(f"{tried.passed} passed, {tried.failed} failed")
