@@ -1,9 +1,10 @@
 -- Rows that are drawn in an ink, and the chain that they may come from.
-use Rattle.std.proofs.Common.{All, ◌≡◌, ℕ, ◌+◌, ◌-◌, ◌<◌, ◌≤◌, Bool, true, false, List, [], ◌++◌, length, replicate, get_or, set, ap, sym, ◌∙◌, subst, inl, inr, arith}
-use Rattle.std.specs.Prelude.{None, slice_index}
+use Rattle.std.proofs.Common.{All, ◌≡◌, ◌≢◌, ℕ, ◌+◌, ◌-◌, ◌<◌, ◌≤◌, Bool, true, false, List, [], ◌++◌, length, replicate, get_or, set, refl, ap, sym, ◌∙◌, subst, inl, inr, arith}
+use Rattle.std.specs.Prelude.{Option, Some, None, slice_index}
+use Rattle.std.specs.Option.{ForSome}
 use Rattle.std.proofs.lemmas.Bool.{cases_eq}
 use Rattle.std.proofs.lemmas.Grind.{get_or-set_at}
-use Rattle.std.proofs.lemmas.List.{get_or-set_other, length-replicate, length-set}
+use Rattle.std.proofs.lemmas.List.{get_or_default, get_or-set_other, length-replicate, length-set}
 use Rattle.std.proofs.lemmas.List.Elements.{All-set}
 use Rattle.pr_base.specs.Bits.{SetsBits, bit_at}
 use Rattle.pr_base.specs.declared.ink.Ink.{Ink}
@@ -12,12 +13,14 @@ use Rattle.plan_json.specs.Plan.{IsPlan}
 use Rattle.press_job.specs.Job.{JobData}
 use Rattle.press_job.specs.Printing.{page_bit, printed_row}
 use Rattle.scr_diffuse.specs.Diffuser.{PageFront}
+use Rattle.scr_diffuse.specs.Diffusers.{EightFronts}
 use Rattle.scr_tile.specs.AnyTile.{threshold_of}
 use Rattle.scr_tile.specs.Tile.{tile_bit}
 use Rattle.scr_tile.specs.declared.any_tile.AnyTile.{AnyTile}
 use Rattle.press_feed.specs.Blocks.{AreHeldFrom, IsAhead}
 use Rattle.press_feed.specs.ChainRows.{ChainData, IsChain}
 use Rattle.press_feed.specs.declared.side.Side.{Side}
+use Rattle.press_feed.specs.declared.screener.Screener.{Screener}
 use Rattle.press_feed.specs.declared.screener.Screener.TheVariants.{Tile}
 use Rattle.press_feed.specs.Drawn.{AreDrawn, DrawnData, HasTaken, IsClearBeside, ShowsRowOf, side_bit, side_size}
 use Rattle.press_feed.specs.Screener.{IsScreener, is_diffused}

@@ -1,7 +1,7 @@
 -- The rows of a side in some inks, step by step.
-use Rattle.std.proofs.Common.{All, ◌≡◌, ℕ, ◌+◌, ◌<◌, ◌≤◌, Bool, true, false, cond, List, [], ◌∷◌, ◌++◌, length, map, get_or, set, take, drop, refl, ap, sym, ◌∙◌, subst, arith}
+use Rattle.std.proofs.Common.{All, ◌≡◌, ◌≢◌, ℕ, ◌+◌, ◌-◌, ◌*◌, ◌<◌, ◌≤◌, Bool, true, false, cond, List, [], ◌∷◌, ◌++◌, length, map, get_or, set, take, drop, refl, ap, sym, ◌∙◌, subst, arith}
 use Rattle.std.specs.Prelude.{Option, Some, None}
-use Rattle.std.specs.Option.{option_map}
+use Rattle.std.specs.Option.{ForSome, option_map}
 use Rattle.std.proofs.lemmas.List.{get_or-map, length-map, map-set, take_at}
 use Rattle.std.proofs.lemmas.List.Elements.{All-map, All-same, All-set, All-weaker}
 use Rattle.std.proofs.lemmas.Option.{same_Some}
@@ -10,11 +10,11 @@ use Rattle.plan_rows.specs.Inks.{has_ink}
 use Rattle.plan_rows.specs.declared.group.Group.{Group}
 use Rattle.press_job.specs.Job.{JobData}
 use Rattle.press_feed.specs.declared.side.Side.{Side}
-use Rattle.press_feed.specs.ChainRows.{ChainData, at_top, behind_block}
+use Rattle.press_feed.specs.ChainRows.{ChainData, IsNextFor, at_top, behind_block}
 use Rattle.press_feed.specs.Drawn.{DrawnData, before_row, behind_rows, blank_rows}
 use Rattle.press_feed.specs.HeldRows.{HeldData, next_rows, top_of}
 use Rattle.press_feed.specs.InkRows.{InkData, IsAtRow, IsNextChain, IsNextIn, IsReady, begun, drawn_on, passed, restarted}
-use Rattle.press_feed.specs.SideRows.{HaveRoom, IsAtGroup, IsDrawnOf, IsOpenFor, SideRowsData, drawn_behind, drawn_for, drawns, next_of}
+use Rattle.press_feed.specs.SideRows.{HaveRoom, IsAtGroup, IsDrawnOf, IsOpenFor, IsSideRows, SideRowsData, drawn_behind, drawn_for, drawns, next_of}
 use Rattle.press_feed.specs.Sides.{page_on}
 
 no_ink : (b : Bool) → b ≡ true → b ≡ false → ⊥
