@@ -13,6 +13,15 @@ next-requires g c =
     let frames = plate_frames job.plan job.files in
     let n = c.loop-n._n in
     let long : length c.loop-n.row ≡ frame_bytes job = omega (arith, c.requires.row) in
-    let within : n < length frames = omega (arith, c.total.ensures) in
+    let within : n < length frames = omega (arith, c.total-n-end.ensures) in
     subst {A = List (List ℕ)} (λ rows. FitsNext rows (length c.loop-n.row)) (sym c.loop-n.invariant.one)
     (subst {A = ℕ} (FitsNext (drop n frames)) (sym long) (fits_at frames n (frame_bytes job) within (each-plate_frames job.plan job.files)))
+
+pub loop-n-preserved : goal.loop-n-preserved
+loop-n-preserved g c =
+    let frames = plate_frames c.args.job.now.plan c.args.job.now.files in
+    let n = c.loop-n._n in
+    record {
+      one = ap {A = List (List ℕ)} (drop 1) (sym c.next.ensures ∙ c.loop-n.invariant.one) ∙ sym (frames_behind frames n);
+      wide = ap {A = List (List ℕ)} (drop 1) (sym c.next-in-loop-n.ensures ∙ c.make_band.ensures ∙ c.loop-n.invariant.wide) ∙ sym (frames_behind frames n);
+    }
