@@ -1,5 +1,4 @@
-use Rattle.std.proofs.Common.{◌≡◌, drop, length}
-use Rattle.press_feed.specs.Band.{frame_bytes}
+use Rattle.std.proofs.Common.{◌≡◌, drop}
 use Rattle.press_job.specs.Rows.{plate_frames}
 use Rattle.job_tests.proofs.bands.are_same.Given as goal
 
