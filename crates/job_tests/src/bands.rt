@@ -2,7 +2,6 @@
 // feed without threads, for each mixture of tiles and diffusion.
 ghost use Rattle.std.specs.Prelude.{◌≡◌, ◌%◌, ◌≤◌, length};
 ghost use Rattle.press_feed.specs.Band.{frame_bytes};
-ghost use Rattle.press_feed.specs.Feed.{rows_left};
 ghost use Rattle.press_job.specs.Rows.{plate_frames};
 
 use crate::loaded::Loaded;
@@ -73,16 +72,16 @@ fn job_of<T: Threads + Sync>(rt: &T, alloc: Global, mixture: u32) -> Result<Job,
 }
 
 // Whether two feeds of a job give the same frames. The second one makes bands.
-fn are_same<T: Threads + Sync>(
+fn are_same<T: Threads + Sync, F: RowFeed, W: BandFeed>(
     rt: &T,
     job: &Job,
-    one: &mut Feed<'_>,
-    wide: &mut Feed<'_>,
+    one: &mut F,
+    wide: &mut W,
     row: &mut [u8],
     other: &mut [u8],
 ) -> bool
-    requires one { rows_left one.old ≡ plate_frames job.now.plan job.now.files }
-    requires wide { rows_left wide.old ≡ plate_frames job.now.plan job.now.files }
+    requires one { F.left one.old ≡ plate_frames job.now.plan job.now.files }
+    requires wide { W.left wide.old ≡ plate_frames job.now.plan job.now.files }
     requires row { length row.old ≡ frame_bytes job.now }
     requires other { length other.old ≡ frame_bytes job.now }
 {
@@ -97,23 +96,60 @@ fn are_same<T: Threads + Sync>(
     true
 }
 
+// The same, and drops the feeds.
+fn are_same_owned<T: Threads + Sync, F: RowFeed + Drop, W: BandFeed + Drop>(
+    rt: &T,
+    job: &Job,
+    one: F,
+    wide: W,
+    row: &mut [u8],
+    other: &mut [u8],
+) -> bool
+    requires one { F.left one ≡ plate_frames job.now.plan job.now.files }
+    requires wide { W.left wide ≡ plate_frames job.now.plan job.now.files }
+    requires row { length row.old ≡ frame_bytes job.now }
+    requires other { length other.old ≡ frame_bytes job.now }
+{
+    let mut one = one;
+    let mut wide = wide;
+    are_same(rt, job, &mut one, &mut wide, row, other)
+}
+
+// Whether a feed with bands of this many rows, made by this many threads, gives the frames of another feed.
+fn has_frames_of<T: Threads + Sync, F: RowFeed + Drop>(
+    rt: &T,
+    alloc: Global,
+    job: &Job,
+    one: F,
+    bands: (Wanted<'_>, usize, u32),
+    row: &mut [u8],
+    other: &mut [u8],
+) -> Result<bool, NoMemory>
+    requires one { F.left one ≡ plate_frames job.now.plan job.now.files }
+    requires threads { bands.1 ≤ 8 }
+    requires height { (bands.2 ≤ 1024) × (bands.2 % 8 ≡ 0) }
+    requires row { length row.old ≡ frame_bytes job.now }
+    requires other { length other.old ≡ frame_bytes job.now }
+{
+    let (wanted, threads, height) = bands;
+    let wide = Feed::with_threads(alloc, job, wanted, threads, height)?;
+    Ok(are_same_owned(rt, job, one, wide, row, other))
+}
+
 // Whether a feed with bands of this many rows, made by this many threads, gives the frames of one without.
 fn has_right_frames<T: Threads + Sync>(
     rt: &T,
     alloc: Global,
     job: &Job,
-    wanted: Wanted<'_>,
-    threads: usize,
-    height: u32,
+    bands: (Wanted<'_>, usize, u32),
 ) -> Result<bool, NoMemory>
-    requires threads { threads ≤ 8 }
-    requires height { (height ≤ 1024) × (height % 8 ≡ 0) }
+    requires threads { bands.1 ≤ 8 }
+    requires height { (bands.2 ≤ 1024) × (bands.2 % 8 ≡ 0) }
 {
     let mut row = vec![in alloc; 1; job.row_len()]?;
     let mut other = vec![in alloc; 2; job.row_len()]?;
-    let mut one = Feed::open(alloc, job)?;
-    let mut wide = Feed::with_threads(alloc, job, wanted, threads, height)?;
-    Ok(are_same(rt, job, &mut one, &mut wide, &mut row, &mut other))
+    let one = Feed::open(alloc, job)?;
+    has_frames_of(rt, alloc, job, one, bands, &mut row, &mut other)
 }
 
 // Whether the bands of a job have the right frames: of few rows, of more, of whole pages, or where only some
@@ -125,10 +161,10 @@ fn has_right_bands<T: Threads + Sync>(
     form: u32,
 ) -> Result<bool, NoMemory> {
     match form {
-        0 => has_right_frames(rt, alloc, job, Wanted::all(), 2, 8),
-        1 => has_right_frames(rt, alloc, job, Wanted::all(), 3, 16),
-        2 => has_right_frames(rt, alloc, job, Wanted::all(), 8, 1000),
-        _ => has_right_frames(rt, alloc, job, SOME, 4, 16),
+        0 => has_right_frames(rt, alloc, job, (Wanted::all(), 2, 8)),
+        1 => has_right_frames(rt, alloc, job, (Wanted::all(), 3, 16)),
+        2 => has_right_frames(rt, alloc, job, (Wanted::all(), 8, 1000)),
+        _ => has_right_frames(rt, alloc, job, (SOME, 4, 16)),
     }
 }
 
