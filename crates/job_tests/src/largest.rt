@@ -41,8 +41,14 @@ fn job_of<T: Threads + Sync>(rt: &T, alloc: Global, text: &str) -> Result<Job, F
 // Requires that a job can be shared with threads.
 fn lent<T: Send + Sync>(_value: &T) {}
 
+// Drops a value, which has to be one that can be sent to a thread.
+fn sent<T: Send + Drop>(_value: T) {}
+
 // Requires that a feed can be sent to a thread.
-fn sent<T: Send>(_value: &T) {}
+fn send_feed(alloc: Global, job: &Job) -> Result<(), NoMemory> {
+    sent(Feed::open(alloc, job)?);
+    Ok(())
+}
 
 // Returns the first row of a job.
 fn first_row(alloc: Global, job: &Job) -> Result<Vec<u8>, NoMemory>
@@ -50,7 +56,6 @@ fn first_row(alloc: Global, job: &Job) -> Result<Vec<u8>, NoMemory>
 {
     let mut row = vec![in alloc; 1; job.row_len()]?;
     let feed = Feed::open(alloc, job)?;
-    sent(&feed);
     draw(feed, &mut row);
     Ok(row)
 }
@@ -80,6 +85,7 @@ fn end<T: Drop>(_value: T) {}
 // Checks a job of the largest pages.
 fn check_job(rt: &impl Abort, alloc: Global, job: &Job) -> Result<(), NoMemory> {
     assert!(rt; job.total() == 64 * 65_535);
+    send_feed(alloc, job)?;
     let row = first_row(alloc, job)?;
     assert!(rt; is_blank(&row));
     Ok(())
