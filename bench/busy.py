@@ -6,7 +6,8 @@ usage: bench/busy.py PROGRAM [--jobs NAMES] [--loops N] [--nice N] [--processors
 
 For each job it prints the seconds of wall-clock and of CPU time, the best of three runs, and those of plain C
 on one thread that makes the same plates: bench/run.c for the large pair, bench/small.c for small pages. The
-jobs are rows, small, short, large1, large4, large16, ring1 and newspaper; NAMES are separated by commas. The
+jobs are rows, small, short, large1, large4, large16, ring1 and newspaper, and without plain C diffused1,
+diffused4, black1 and black-news, whose four inks or whose black are diffused; NAMES are separated by commas. The
 loops run at niceness 0, both programs at N. With --processors all of them share N processors. Images and
 plates go to a new folder below FOLDER (/dev/shm), which is deleted at the end.
 """
@@ -112,6 +113,11 @@ def short():
     }
 
 
+def diffused(plan, *inks):
+    """A plan in which these inks are diffused."""
+    return plan | {"screens": plan.get("screens", {}) | dict.fromkeys(inks, "diffuse")}
+
+
 def make_none(files):
     """No image."""
 
@@ -131,6 +137,10 @@ JOBS = {
     "large16": ("large pair, 16 sites", make_pair, lambda: sites.large("bayer8", 16), None),
     "ring1": ("large pair, 16 sites, ring 1", make_pair, lambda: sites.large("bayer8", 16), 1),
     "newspaper": ("newspaper, 4 broadsheet pages, 3 sites", make_newspaper, newspaper, None),
+    "diffused1": ("large pair, four inks diffused, 1 site", make_pair, lambda: sites.large("diffuse", 1), None),
+    "diffused4": ("large pair, four inks diffused, 4 sites", make_pair, lambda: sites.large("diffuse", 4), None),
+    "black1": ("large pair, K diffused, 1 site", make_pair, lambda: diffused(sites.large("bayer8", 1), "K"), None),
+    "black-news": ("newspaper, K diffused, 3 sites", make_newspaper, lambda: diffused(newspaper(), "K"), None),
 }
 
 
@@ -173,7 +183,7 @@ def said(seconds, options):
 
 def plain(name, plan, files, out, folder):
     """The command of plain C that makes the plates of a job, if there is one."""
-    if name in ("newspaper", "short"):
+    if name in ("newspaper", "short", "diffused1", "diffused4", "black1", "black-news"):
         return None
     source = "run" if name in ("large1", "large4", "large16", "ring1") else "small"
     program = os.path.join(folder, source)
