@@ -7,33 +7,18 @@ use Rattle.ring_core.specs.Events.{put_row}
 pub further : (x y n : ℕ) → x < y → x * n + n ≤ y * n
 further x y n h = let a : suc x * n ≤ y * n = mul-le-mul_right n h in omega (arith, suc-mul x n)
 
-turns : (n a b : ℕ) → a ≤ b → b < a + n → a % n ≡ b % n → Dec (b / n ≤ a / n) → a ≡ b
-turns n a b le lt e (yes d) =
-    let m : b / n * n ≤ a / n * n = mul-le-mul_right n d in
-    let p = div-add-mod' a n in
-    let q = div-add-mod' b n in
-    let x : ℕ = a / n * n in
-    let y : ℕ = b / n * n in
-    let r : ℕ = b % n in
-    let p' : x + r ≡ a = ap (λ (k : ℕ). x + k) (sym e) ∙ p in
-    let q' : y + r ≡ b = q in
-    let m' : y ≤ x = m in
-    omega arith
-turns n a b le lt e (no d) =
-    let m = further (a / n) (b / n) n (lt_of_not-le d) in
-    let p = div-add-mod' a n in
-    let q = div-add-mod' b n in
-    let x : ℕ = a / n * n in
-    let y : ℕ = b / n * n in
-    let r : ℕ = b % n in
-    let p' : x + r ≡ a = ap (λ (k : ℕ). x + k) (sym e) ∙ p in
-    let q' : y + r ≡ b = q in
-    let m' : x + n ≤ y = m in
-    absurd (omega arith)
-
 -- two row numbers less than one turn apart and at the same place are equal
 pub one_turn : (n a b : ℕ) → a ≤ b → b < a + n → a % n ≡ b % n → a ≡ b
-one_turn n a b le lt e = turns n a b le lt e (dec_le (b / n) (a / n))
+one_turn n a b le lt e =
+    let x : ℕ = a / n * n in
+    let y : ℕ = b / n * n in
+    let r : ℕ = b % n in
+    let p : x + r ≡ a = ap (λ (k : ℕ). x + k) (sym e) ∙ div-add-mod' a n in
+    let q : y + r ≡ b = div-add-mod' b n in
+    elim (dec_le (b / n) (a / n)) [
+      | yes d ↦ let m : y ≤ x = mul-le-mul_right n d in omega arith
+      | no d ↦ let m : x + n ≤ y = further (a / n) (b / n) n (lt_of_not-le d) in absurd (omega arith)
+    ]
 
 -- two different row numbers less than one turn apart have different places
 pub apart : (n a b : ℕ) → a < b → b < a + n → a % n ≢ b % n
