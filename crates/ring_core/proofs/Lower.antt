@@ -7,6 +7,7 @@ use Rattle.ring_core.specs.declared.event.Stage.{Stage}
 use Rattle.ring_core.specs.declared.event.Stage.TheVariants.{Idle, Holding, Closed}
 use Rattle.ring_core.specs.Schedule.{Progress, Lanes}
 use Rattle.ring_core.specs.Sound.{IsSoundProgress, IsSoundLanes}
+use Rattle.ring_core.proofs.Keeps.{with_rows}
 use Rattle.ring_core.specs.Plain.{plain_stage, from_low, first_row, plain_lanes}
 
 -- a number that is not below low is kept
@@ -73,16 +74,6 @@ unsettled l = record l { stage = Closed }
 
 pub unsettle_keeps : (places total head : ℕ) (p : Progress) (l : Lanes) (c : ℕ) → p.cursor ≡ Some c → c < p.seen → l.stage ≡ Idle → IsSoundLanes places total head p l
     → IsSoundLanes places total head p (unsettled l)
-unsettle_keeps places total head p l c at ahead idle m = record {
-  holding_ahead = λ d e s. cc;
-  closed_ahead = λ d e s. let same : c ≡ d = cc in omega arith;
-  left_idle = λ e. cc;
-  room = m.room;
-  lies = λ d n e low high held. m.lies d n e low high (λ s. cc);
-  out = λ d e s. cc;
-  placed = m.placed;
-  not_ahead = m.not_ahead;
-  newest = m.newest;
-  in_total = m.in_total;
-  fresh = m.fresh;
-}
+unsettle_keeps places total head p l c at ahead idle m = with_rows p Closed m
+    (λ d e s. cc) (λ d e s. let same : c ≡ d = cc in omega arith) (λ e. cc) m.room
+    (λ d n e low high held. m.lies d n e low high (λ s. cc)) (λ d e s. cc)

@@ -1,5 +1,6 @@
 -- Row numbers and their places, and what each place holds after a write.
 use Rattle.std.proofs.Common.{◌≡◌, ℕ, suc, ◌+◌, ◌*◌, ◌/◌, ◌%◌, ◌<◌, ◌≤◌, ◌≢◌, ◌⊎◌, Option, inl, inr, ap, ◌∙◌, sym, mul-le-mul_right, suc-mul, lt_of_not-le, div-add-mod', arith, cond}
+use Rattle.std.specs.Prelude.{Some}
 use Rattle.std.proofs.lemmas.Bool.{cases_eq, eq-eqb, ne_eqb}
 use native.Mathlib.Decide.{dec_le}
 use Rattle.ring_core.specs.Events.{put_row}
@@ -36,4 +37,12 @@ pub put_cases : (places n : ℕ) (v : Option ℕ) (row : ℕ → Option ℕ) (k 
 put_cases places n v row k = elim (cases_eq (k % places) (n % places)) [
   | inl e ↦ inl (e, put_same places n v row k e)
   | inr e ↦ inr (e, put_other places n v row k e)
+]
+
+-- what holds of each place that a value is found at, after a write
+pub put_gives : (places n k : ℕ) (v : Option ℕ) (row : ℕ → Option ℕ) (P : ℕ → Type 0) → ((q : ℕ) → q % places ≡ n % places → v ≡ Some k → P q)
+    → ((q : ℕ) → row q ≡ Some k → P q) → (q : ℕ) → put_row places n v row q ≡ Some k → P q
+put_gives places n k v row P written stays q e = elim (put_cases places n v row q) [
+  | inl s ↦ written q s.0 (sym s.1 ∙ e)
+  | inr s ↦ stays q (sym s.1 ∙ e)
 ]
