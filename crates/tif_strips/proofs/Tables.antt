@@ -1,7 +1,6 @@
 -- Tables of strips, by the fields of a file and as they were kept.
-use Rattle.std.proofs.Common.{◌≡◌, ℕ, ◌+◌, ◌<◌, ◌≤◌, List, [], length, map, slice_index, Option, Some, Ok, refl, sym, ap, ◌∙◌, arith, zero-add}
+use Rattle.std.proofs.Common.{◌≡◌, ℕ, ◌<◌, ◌≤◌, List, [], length, Some, Ok, refl, sym, ap, ◌∙◌, arith, zero-add}
 use Rattle.std.specs.Prelude.{slice_index_or}
-use Rattle.std.specs.List.{range_with_len}
 use Rattle.std.specs.Result.{result_unwrap_or}
 use Rattle.std.proofs.lemmas.List.FromFn.{get_or-map-range_with_len, length-map-range_with_len}
 use Rattle.tif_dir.specs.Directory.{field_of}
@@ -9,7 +8,7 @@ use Rattle.tif_dir.specs.Names.{strip_byte_counts, strip_offsets}
 use Rattle.tif_dir.proofs.Fields.{number_at-present}
 use Rattle.tif_strips.specs.declared.extents.Extent.{Extent}
 use Rattle.tif_strips.specs.declared.extents.Extents.{Extents}
-use Rattle.tif_strips.specs.declared.extents.Extents.TheVariants.{Fields, Kept}
+use Rattle.tif_strips.specs.declared.extents.Extents.TheVariants.{Fields}
 use Rattle.tif_strips.specs.Extents.{count_in, extent_in, extent_of, extents_of}
 use Rattle.tif_strips.specs.Marks.{MarksOf}
 use Rattle.tif_strips.specs.Strip.{strip_of}
