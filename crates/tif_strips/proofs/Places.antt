@@ -1,5 +1,5 @@
 -- The rows of a strip that a cursor has still to produce, from the strip's start to its end.
-use Rattle.std.proofs.Common.{◌≡◌, ◌≢◌, ℕ, zero, suc, ◌+◌, ◌-◌, ◌*◌, ◌/◌, ◌%◌, ◌<◌, ◌≤◌, List, [], ◌∷◌, length, map, take, drop, get_or, slice_index, None, inl, inr, refl, sym, ap, ◌∙◌, zero-add, arith}
+use Rattle.std.proofs.Common.{lit<, ◌≡◌, ◌≢◌, ℕ, zero, suc, ◌+◌, ◌-◌, ◌*◌, ◌/◌, ◌%◌, ◌<◌, ◌≤◌, List, [], ◌∷◌, length, map, take, drop, get_or, slice_index, None, inl, inr, refl, sym, ap, ◌∙◌, zero-add, arith}
 use Rattle.std.proofs.Math.Nat.{mul-le-mul_right}
 use Rattle.std.proofs.lemmas.Bool.{cases_eq}
 use Rattle.std.specs.List.{range_with_len}
@@ -10,8 +10,8 @@ use Rattle.tif_strips.specs.declared.place.Place.{Place}
 use Rattle.tif_strips.specs.declared.planes.Planes.{Planes}
 use Rattle.tif_strips.specs.declared.shape.Shape.{Shape}
 use Rattle.tif_strips.specs.Strips.{Image, IsStriped, image_part, image_row, ink_part, part_length, plane_part_length, plane_place, plane_row, plane_row_length, planes, row_length, samples_in, stored_bytes, strip_fault, strip_rows, strips_per_plane}
-use Rattle.tif_strips.specs.Planes.{HasPixels, aheads_of, strip_samples}
-use Rattle.tif_strips.specs.Place.{HoldsRows, IsPlace}
+use Rattle.tif_strips.specs.Planes.{FitInks, HasPixels, TakeInks, aheads_of, strip_samples}
+use Rattle.tif_strips.specs.Place.{HoldsRows, IsPlace, TakeParts}
 use Rattle.tif_strips.proofs.Faults.{fault_of_strip-passed, strip_enough-passed}
 use Rattle.tif_strips.proofs.Ahead.{get_or-later}
 use Rattle.tif_strips.proofs.Inks.{image_part-inks, image_row-fours, image_row-ink, image_row-one}
@@ -250,6 +250,17 @@ ink_part-place image place row first count ink into is some row_is four small wi
     ∙ ap (λ list. get_or list (first + x) 0) (row_ahead image place ink row is some row_is known)
     ∙ image_row-ink shape image.bytes place.next (first + x) ink more (omega arith) small
     ∙ sym (get_or-map-range_with_len sample first count x (first + x) 0 inside refl))
+
+-- all four of them
+pub inks_part-place : (image : Image) (place : Place) (row first : ℕ) (c m y k cyan magenta yellow black : List ℕ) → IsPlace image place → 0 < place.rows → row ≡ plane_row_length image.shape
+    → planes image.shape ≡ 4 → FitInks image.shape.width first c m y k → TakeInks (aheads_of place.planes) first c m y k cyan magenta yellow black
+    → TakeParts image place.next first c m y k cyan magenta yellow black
+inks_part-place image place row first c m y k cyan magenta yellow black is some row_is four fits takes = record {
+  cyan_is = ink_part-place image place row first (length c) 0 cyan is some row_is four (lit< tt) fits.cyan takes.cyan_is;
+  magenta_is = ink_part-place image place row first (length m) 1 magenta is some row_is four (lit< tt) fits.magenta takes.magenta_is;
+  yellow_is = ink_part-place image place row first (length y) 2 yellow is some row_is four (lit< tt) fits.yellow takes.yellow_is;
+  black_is = ink_part-place image place row first (length k) 3 black is some row_is four (lit< tt) fits.black takes.black_is;
+}
 
 -- the samples from a row of strip i on in each of four planes
 pub strip_samples-four : (shape : Shape) (bytes : List ℕ) (i n : ℕ) (cyan magenta yellow black : List ℕ) → planes shape ≡ 4
