@@ -10,6 +10,7 @@ use lib.Lanes.{zip2, top, sel_l, mask_l}
 use Rattle.scr_diffuse.specs.Diffusers.{bit_of}
 use Rattle.scr_diffuse.specs.Diffusion.{error_of, prints}
 use Rattle.scr_diffuse.specs.Passes.{IsNumber, floor_16, number_at}
+use Rattle.scr_diffuse.proofs.MaskLemmas.{one_if, top_of_word}
 use Rattle.scr_diffuse.proofs.NumberLemmas.{dot_is, number_small, shifted}
 
 -- numbers computed from pairs of bit patterns
@@ -56,15 +57,6 @@ lessened : (x : ℤ) (on : Bool) → IsNumber x → to_z w16 ((of_z w16 x + (2 ^
 lessened x true number = subtracted x (pos 255) (omega (arith, ints)) (omega (arith, ints)) (omega (arith, ints))
 lessened x false number = subtracted x (pos 0) (omega (arith, ints)) (omega (arith, ints)) (omega (arith, ints)) ∙ omega (arith, ints)
 
--- the highest bit of a lane after a comparison
-top_of_mask : (b : Bool) → top 15 (cond b 65535 0) ≡ b
-top_of_mask true = refl
-top_of_mask false = refl
-
-one_if : (b : Bool) → eqb (cond b 1 0) 1 ≡ b
-one_if true = refl
-one_if false = refl
-
 abbrev compared : ℕ → ℕ → ℕ
 compared m n = cond (le_z (to_z w16 m) (to_z w16 n)) 65535 0
 
@@ -84,7 +76,7 @@ tests_at a k eight within fits =
     ∙ ap (top 15) (get_or-zip2 compared (replicate 8 2048) (map (of_z w16) a) k 0 0 0 within (omega (arith, bits_length a eight)))
     ∙ ap (λ m. top 15 (compared m (get_or (map (of_z w16) a) k 0))) (get_or-replicate 8 k 2048 0 within)
     ∙ ap (λ n. top 15 (compared 2048 n)) (bits_at a k eight within)
-    ∙ top_of_mask _ ∙ ap (le_z (pos 2048)) (to_z-of_z w16 (number_at a k) fits) ∙ dot_is (number_at a k)
+    ∙ top_of_word _ ∙ ap (le_z (pos 2048)) (to_z-of_z w16 (number_at a k) fits) ∙ dot_is (number_at a k)
 
 pub chosen_length : (a : List ℤ) → length a ≡ 8 → length {A = ℕ} (sel_l (tests a) (replicate 8 255) (replicate 8 0)) ≡ 8
 chosen_length a eight = length-sel_l {X = ℕ} (tests a) (replicate 8 255) (replicate 8 0) (tests_length a eight) (tests_length a eight) ∙ tests_length a eight
@@ -141,7 +133,7 @@ below_bound_at a k eight within fits most =
     ∙ ap (top 15) (get_or-zip2 below (map (of_z w16) a) (replicate 8 63536) k 0 0 0 (omega (arith, bits_length a eight)) within)
     ∙ ap (λ n. top 15 (below (get_or (map (of_z w16) a) k 0) n)) (get_or-replicate 8 k 63536 0 within)
     ∙ ap (λ m. top 15 (below m 63536)) (bits_at a k eight within)
-    ∙ top_of_mask _ ∙ ap (λ x. lt_z x (negsuc 1999)) (to_z-of_z w16 (number_at a k) fits) ∙ not_below (number_at a k) most
+    ∙ top_of_word _ ∙ ap (λ x. lt_z x (negsuc 1999)) (to_z-of_z w16 (number_at a k) fits) ∙ not_below (number_at a k) most
 
 abbrev pub larger : List ℤ → List ℕ
 larger a = sel_l {A = ℕ} (below_bound a) (replicate 8 63536) (map (of_z w16) a)
