@@ -26,8 +26,10 @@ module _ (s : Schedule) (places total head n : ℕ) (p : ℕ → Progress) (l : 
   among r h = let c = m.count in omega arith
 
   -- a schedule of the same size, of which these are head and parts
-  made_of : (t : Schedule) (high : ℕ) (q : ℕ → Progress) (k : ℕ → Lanes) → t.places ≡ s.places → t.total ≡ s.total → t.head ≡ high → readers t ≡ readers s → IsSized t
-      → ((j : ℕ) → j < n → progress_of t j ≡ q j) → ((j : ℕ) → j < n → lanes_of t j ≡ k j) → IsMade t places total high n q k
+  made_of : (t : Schedule) (high : ℕ) (q : ℕ → Progress) (k : ℕ → Lanes) → t.places ≡ s.places
+      → t.total ≡ s.total → t.head ≡ high → readers t ≡ readers s → IsSized t
+      → ((j : ℕ) → j < n → progress_of t j ≡ q j) → ((j : ℕ) → j < n → lanes_of t j ≡ k j)
+      → IsMade t places total high n q k
   made_of t high q k size all at same z progress lanes = record {
     places_is = size ∙ m.places_is;
     total_is = all ∙ m.total_is;
@@ -40,19 +42,22 @@ module _ (s : Schedule) (places total head n : ℕ) (p : ℕ → Progress) (l : 
   }
 
   -- the progress of reader r is now x, and that of the others is unchanged
-  progress_by : (t : Schedule) (r : ℕ) (q : ℕ → Progress) (x : Progress) → progress_of t r ≡ x → ((j : ℕ) → j ≢ r → progress_of t j ≡ progress_of s j)
+  progress_by : (t : Schedule) (r : ℕ) (q : ℕ → Progress) (x : Progress) → progress_of t r ≡ x
+      → ((j : ℕ) → j ≢ r → progress_of t j ≡ progress_of s j)
       → q r ≡ x → ((j : ℕ) → j < n → j ≢ r → q j ≡ p j) → (j : ℕ) → j < n → progress_of t j ≡ q j
   progress_by t r q x here same own else = each_by n r (λ j. progress_of t j ≡ q j) (here ∙ sym own) (λ j h o. same j o ∙ (m.progress j h ∙ sym (else j h o)))
 
   -- the lanes of reader r are now x, and those of the others are unchanged
-  lanes_by : (t : Schedule) (r : ℕ) (k : ℕ → Lanes) (x : Lanes) → lanes_of t r ≡ x → ((j : ℕ) → j ≢ r → lanes_of t j ≡ lanes_of s j)
+  lanes_by : (t : Schedule) (r : ℕ) (k : ℕ → Lanes) (x : Lanes) → lanes_of t r ≡ x
+      → ((j : ℕ) → j ≢ r → lanes_of t j ≡ lanes_of s j)
       → k r ≡ x → ((j : ℕ) → j < n → j ≢ r → k j ≡ l j) → (j : ℕ) → j < n → lanes_of t j ≡ k j
   lanes_by t r k x here same own else = each_by n r (λ j. lanes_of t j ≡ k j) (here ∙ sym own) (λ j h o. same j o ∙ (m.lanes j h ∙ sym (else j h o)))
 
   pub look_can : (r : ℕ) → r < n → can_be s (Look r) ≡ true
   look_can r h = lt-ltb r (readers s) (among r h)
 
-  pub look_made : (r : ℕ) (q : ℕ → Progress) → r < n → q r ≡ looked (p r) → ((k : ℕ) → k < n → k ≢ r → q k ≡ p k) → Now (after s (Look r)) q l
+  pub look_made : (r : ℕ) (q : ℕ → Progress) → r < n → q r ≡ looked (p r)
+      → ((k : ℕ) → k < n → k ≢ r → q k ≡ p k) → Now (after s (Look r)) q l
   look_made r q h own else = made_of (after s (Look r)) head q l refl refl m.head_is refl (after_sized s (Look r) m.sized)
       (progress_by (after s (Look r)) r q (looked (p r))
       (Readers.look_shows s r m.sized (among r h) ∙ ap looked (m.progress r h))
@@ -62,7 +67,8 @@ module _ (s : Schedule) (places total head n : ℕ) (p : ℕ → Progress) (l : 
   pub see_can : (r : ℕ) → r < n → is_some (p r).cursor ≡ true → can_be s (See r) ≡ true
   see_can r h can = can_reader r n (readers s) (is_some (progress_of s r).cursor) m.count h (ap (λ (x : Progress). is_some x.cursor) (m.progress r h) ∙ can)
 
-  pub see_made : (r : ℕ) (q : ℕ → Progress) → r < n → q r ≡ saw head (p r) → ((k : ℕ) → k < n → k ≢ r → q k ≡ p k) → Now (after s (See r)) q l
+  pub see_made : (r : ℕ) (q : ℕ → Progress) → r < n → q r ≡ saw head (p r)
+      → ((k : ℕ) → k < n → k ≢ r → q k ≡ p k) → Now (after s (See r)) q l
   see_made r q h own else = made_of (after s (See r)) head q l refl refl m.head_is refl (after_sized s (See r) m.sized)
       (progress_by (after s (See r)) r q (saw head (p r))
       (Readers.see_shows s r m.sized (among r h) ∙ (λ i. saw (m.head_is i) (m.progress r h i)))
@@ -85,7 +91,8 @@ module _ (s : Schedule) (places total head n : ℕ) (p : ℕ → Progress) (l : 
   fill_can r h can = can_reader r n (readers s) (can_fill s.places s.total s.head (progress_of s r) (lanes_of s r)) m.count h
       ((λ i. can_fill (m.places_is i) (m.total_is i) (m.head_is i) (m.progress r h i) (m.lanes r h i)) ∙ can)
 
-  pub fill_made : (r : ℕ) (k : ℕ → Lanes) → r < n → k r ≡ filled_with places head (l r) → ((q : ℕ) → q < n → q ≢ r → k q ≡ l q) → Now (after s (Fill r)) p k
+  pub fill_made : (r : ℕ) (k : ℕ → Lanes) → r < n → k r ≡ filled_with places head (l r)
+      → ((q : ℕ) → q < n → q ≢ r → k q ≡ l q) → Now (after s (Fill r)) p k
   fill_made r k h own else = made_of (after s (Fill r)) head p k refl refl m.head_is refl (after_sized s (Fill r) m.sized)
       m.progress
       (lanes_by (after s (Fill r)) r k (filled_with places head (l r))
@@ -99,7 +106,8 @@ module _ (s : Schedule) (places total head n : ℕ) (p : ℕ → Progress) (l : 
   pub open_can : (r : ℕ) → r < n → can_open (p r) (l r) ≡ true → can_be s (Open r) ≡ true
   open_can r h can = can_reader r n (readers s) (can_open (progress_of s r) (lanes_of s r)) m.count h ((λ i. can_open (m.progress r h i) (m.lanes r h i)) ∙ can)
 
-  pub open_made : (r c : ℕ) (k : ℕ → Lanes) → r < n → (p r).cursor ≡ Some c → k r ≡ opened places c (l r) → ((q : ℕ) → q < n → q ≢ r → k q ≡ l q) → Now (after s (Open r)) p k
+  pub open_made : (r c : ℕ) (k : ℕ → Lanes) → r < n → (p r).cursor ≡ Some c → k r ≡ opened places c (l r)
+      → ((q : ℕ) → q < n → q ≢ r → k q ≡ l q) → Now (after s (Open r)) p k
   open_made r c k h at own else = made_of (after s (Open r)) head p k refl refl m.head_is refl (after_sized s (Open r) m.sized)
       m.progress
       (lanes_by (after s (Open r)) r k (opened places c (l r))
@@ -109,7 +117,8 @@ module _ (s : Schedule) (places total head n : ℕ) (p : ℕ → Progress) (l : 
   pub close_can : (r : ℕ) → r < n → can_close (p r) (l r) ≡ true → can_be s (Close r) ≡ true
   close_can r h can = can_reader r n (readers s) (can_close (progress_of s r) (lanes_of s r)) m.count h ((λ i. can_close (m.progress r h i) (m.lanes r h i)) ∙ can)
 
-  pub close_made : (r c : ℕ) (k : ℕ → Lanes) → r < n → (p r).cursor ≡ Some c → k r ≡ closed places c (l r) → ((q : ℕ) → q < n → q ≢ r → k q ≡ l q) → Now (after s (Close r)) p k
+  pub close_made : (r c : ℕ) (k : ℕ → Lanes) → r < n → (p r).cursor ≡ Some c → k r ≡ closed places c (l r)
+      → ((q : ℕ) → q < n → q ≢ r → k q ≡ l q) → Now (after s (Close r)) p k
   close_made r c k h at own else = made_of (after s (Close r)) head p k refl refl m.head_is refl (after_sized s (Close r) m.sized)
       m.progress
       (lanes_by (after s (Close r)) r k (closed places c (l r))
@@ -119,7 +128,8 @@ module _ (s : Schedule) (places total head n : ℕ) (p : ℕ → Progress) (l : 
   pub advance_can : (r : ℕ) → r < n → can_advance (p r) (l r) ≡ true → can_be s (Advance r) ≡ true
   advance_can r h can = can_reader r n (readers s) (can_advance (progress_of s r) (lanes_of s r)) m.count h ((λ i. can_advance (m.progress r h i) (m.lanes r h i)) ∙ can)
 
-  pub advance_made : (r c : ℕ) (q : ℕ → Progress) (k : ℕ → Lanes) → r < n → (p r).cursor ≡ Some c → q r ≡ advanced c (p r) → ((j : ℕ) → j < n → j ≢ r → q j ≡ p j)
+  pub advance_made : (r c : ℕ) (q : ℕ → Progress) (k : ℕ → Lanes) → r < n → (p r).cursor ≡ Some c
+      → q r ≡ advanced c (p r) → ((j : ℕ) → j < n → j ≢ r → q j ≡ p j)
       → k r ≡ settled (l r) → ((j : ℕ) → j < n → j ≢ r → k j ≡ l j) → Now (after s (Advance r)) q k
   advance_made r c q k h at own else still stays = made_of (after s (Advance r)) head q k refl refl m.head_is (after_count s (Advance r)) (after_sized s (Advance r) m.sized)
       (progress_by (after s (Advance r)) r q (advanced c (p r))
@@ -132,7 +142,8 @@ module _ (s : Schedule) (places total head n : ℕ) (p : ℕ → Progress) (l : 
   pub leave_can : (r : ℕ) → r < n → can_leave (p r) (l r) ≡ true → can_be s (Leave r) ≡ true
   leave_can r h can = can_reader r n (readers s) (can_leave (progress_of s r) (lanes_of s r)) m.count h ((λ i. can_leave (m.progress r h i) (m.lanes r h i)) ∙ can)
 
-  pub leave_made : (r : ℕ) (q : ℕ → Progress) → r < n → q r ≡ departed (p r) → ((k : ℕ) → k < n → k ≢ r → q k ≡ p k) → Now (after s (Leave r)) q l
+  pub leave_made : (r : ℕ) (q : ℕ → Progress) → r < n → q r ≡ departed (p r)
+      → ((k : ℕ) → k < n → k ≢ r → q k ≡ p k) → Now (after s (Leave r)) q l
   leave_made r q h own else = made_of (after s (Leave r)) head q l refl refl m.head_is (after_count s (Leave r)) (after_sized s (Leave r) m.sized)
       (progress_by (after s (Leave r)) r q (departed (p r))
       (Readers.leave_shows s r (among r h) ∙ ap departed (m.progress r h))
@@ -140,7 +151,8 @@ module _ (s : Schedule) (places total head n : ℕ) (p : ℕ → Progress) (l : 
       m.lanes
 
   -- the stage of reader r, read as closed
-  pub closed_made : (r : ℕ) (k : ℕ → Lanes) → r < n → k r ≡ unsettled (l r) → ((q : ℕ) → q < n → q ≢ r → k q ≡ l q) → Now (read_closed r s) p k
+  pub closed_made : (r : ℕ) (k : ℕ → Lanes) → r < n → k r ≡ unsettled (l r)
+      → ((q : ℕ) → q < n → q ≢ r → k q ≡ l q) → Now (read_closed r s) p k
   closed_made r k h own else = made_of (read_closed r s) head p k refl refl m.head_is refl (closed_sized s r m.sized)
       m.progress
       (lanes_by (read_closed r s) r k (unsettled (l r))

@@ -40,7 +40,8 @@ pub record HasRoom (places total head : ℕ) (p : Progress) (l : Lanes) : Type 0
   pub in_total : head < total
   pub empty : l.filled ≡ false
 
-above_is : (low places : ℕ) (o : Option ℕ) → is_above low (option_map (λ k. k + places) o) ≡ true → (k : ℕ) × (o ≡ Some k) × (low < k + places)
+above_is : (low places : ℕ) (o : Option ℕ) → is_above low (option_map (λ k. k + places) o) ≡ true
+    → (k : ℕ) × (o ≡ Some k) × (low < k + places)
 above_is low places None e = absurd (false≢true e)
 above_is low places (Some k) e = (k, refl, ltb-true low (k + places) e)
 
@@ -48,7 +49,8 @@ pub below_is : (high : ℕ) (o : Option ℕ) → is_below high o ≡ true → (c
 below_is high None e = absurd (false≢true e)
 below_is high (Some c) e = (c, refl, ltb-true c high e)
 
-pub fill_room : (places total head : ℕ) (p : Progress) (l : Lanes) → can_fill places total head p l ≡ true → HasRoom places total head p l
+pub fill_room : (places total head : ℕ) (p : Progress) (l : Lanes) → can_fill places total head p l ≡ true
+    → HasRoom places total head p l
 fill_room places total head p l e =
     let parts = and_parts (is_above head (option_map (λ k. k + places) p.known)) (nat_lt head total && not l.filled) e in
     let rest = and_parts (nat_lt head total) (not l.filled) parts.1 in
@@ -56,10 +58,13 @@ fill_room places total head p l e =
     record { from = k.0; known = k.1; room = k.2; in_total = ltb-true head total rest.0; empty = not-true l.filled rest.1 }
 
 -- the same rows, for another progress or stage of their reader
-pub with_rows : {places total head : ℕ} {p : Progress} {l : Lanes} (q : Progress) (stage : Stage) → IsSoundLanes places total head p l
-    → ((c : ℕ) → q.cursor ≡ Some c → stage ≡ Holding → c < q.seen) → ((c : ℕ) → q.cursor ≡ Some c → stage ≡ Closed → c < q.seen) → (q.cursor ≡ None → stage ≡ Idle)
+pub with_rows : {places total head : ℕ} {p : Progress} {l : Lanes} (q : Progress) (stage : Stage)
+    → IsSoundLanes places total head p l
+    → ((c : ℕ) → q.cursor ≡ Some c → stage ≡ Holding → c < q.seen)
+    → ((c : ℕ) → q.cursor ≡ Some c → stage ≡ Closed → c < q.seen) → (q.cursor ≡ None → stage ≡ Idle)
     → ((k : ℕ) → q.known ≡ Some k → l.filled ≡ true → head < k + places)
-    → ((c n : ℕ) → q.cursor ≡ Some c → c ≤ n → n < head → (stage ≡ Holding → n ≢ c) → l.row n ≡ Some n) → ((c : ℕ) → q.cursor ≡ Some c → stage ≡ Holding → l.row c ≡ None)
+    → ((c n : ℕ) → q.cursor ≡ Some c → c ≤ n → n < head → (stage ≡ Holding → n ≢ c) → l.row n ≡ Some n)
+    → ((c : ℕ) → q.cursor ≡ Some c → stage ≡ Holding → l.row c ≡ None)
     → IsSoundLanes places total head q (record l { stage = stage })
 with_rows q stage m holding_ahead closed_ahead left_idle room lies out = record {
   holding_ahead = holding_ahead;
@@ -77,7 +82,8 @@ with_rows q stage m holding_ahead closed_ahead left_idle room lies out = record 
 
 -- Look
 
-pub look_progress : (places head : ℕ) (p : Progress) → IsSoundProgress places head p → IsSoundProgress places head (looked p)
+pub look_progress : (places head : ℕ) (p : Progress) → IsSoundProgress places head p
+    → IsSoundProgress places head (looked p)
 look_progress places head p h = record {
   in_order = h.in_order;
   counted = h.counted;
@@ -88,14 +94,16 @@ look_progress places head p h = record {
   within = λ k e. let j = h.joined_known k e in omega (arith, h.within j.0 j.1);
 }
 
-pub look_lanes : (places total head : ℕ) (p : Progress) (l : Lanes) → IsSoundProgress places head p → IsSoundLanes places total head p l → IsSoundLanes places total head (looked p) l
+pub look_lanes : (places total head : ℕ) (p : Progress) (l : Lanes) → IsSoundProgress places head p
+    → IsSoundLanes places total head p l → IsSoundLanes places total head (looked p) l
 look_lanes places total head p l h m = with_rows (looked p) l.stage m
     m.holding_ahead m.closed_ahead m.left_idle (λ k e f. let j = h.joined_known k e in omega (arith, m.room j.0 j.1 f))
     m.lies m.out
 
 -- Fill
 
-pub fill_lanes : (places total head : ℕ) (p : Progress) (l : Lanes) → can_fill places total head p l ≡ true → IsSoundProgress places head p → IsSoundLanes places total head p l
+pub fill_lanes : (places total head : ℕ) (p : Progress) (l : Lanes) → can_fill places total head p l ≡ true
+    → IsSoundProgress places head p → IsSoundLanes places total head p l
     → IsSoundLanes places total head p (filled_with places head l)
 fill_lanes places total head p l can h m =
     let x = fill_room places total head p l can in
@@ -121,7 +129,8 @@ fill_lanes places total head p l can h m =
 
 -- Publish. The first half needs only room, which a filled lane implies
 
-pub publish_progress : (places head : ℕ) (p : Progress) → ((k : ℕ) → p.known ≡ Some k → head < k + places) → IsSoundProgress places head p → IsSoundProgress places (head + 1) p
+pub publish_progress : (places head : ℕ) (p : Progress) → ((k : ℕ) → p.known ≡ Some k → head < k + places)
+    → IsSoundProgress places head p → IsSoundProgress places (head + 1) p
 publish_progress places head p room h = record {
   in_order = h.in_order;
   counted = h.counted;
@@ -136,10 +145,12 @@ ready_filled : (k : ℕ) (o : Option ℕ) (f : Bool) → o ≡ Some k → (is_no
 ready_filled k None f e r = cc
 ready_filled k (Some j) f e r = r
 
-pub ready_room : (places total head : ℕ) (p : Progress) (l : Lanes) → is_ready p l ≡ true → IsSoundLanes places total head p l → (k : ℕ) → p.known ≡ Some k → head < k + places
+pub ready_room : (places total head : ℕ) (p : Progress) (l : Lanes) → is_ready p l ≡ true
+    → IsSoundLanes places total head p l → (k : ℕ) → p.known ≡ Some k → head < k + places
 ready_room places total head p l ready m k e = m.room k e (ready_filled k p.known l.filled e ready)
 
-pub publish_lanes : (places total head : ℕ) (p : Progress) (l : Lanes) → is_ready p l ≡ true → IsSoundProgress places head p → IsSoundLanes places total head p l
+pub publish_lanes : (places total head : ℕ) (p : Progress) (l : Lanes) → is_ready p l ≡ true
+    → IsSoundProgress places head p → IsSoundLanes places total head p l
     → IsSoundLanes places total (head + 1) p (unfilled l)
 publish_lanes places total head p l ready h m = record {
   holding_ahead = m.holding_ahead;
@@ -164,7 +175,8 @@ publish_lanes places total head p l ready h m = record {
 
 -- See
 
-pub see_progress : (places head : ℕ) (p : Progress) → IsSoundProgress places head p → IsSoundProgress places head (saw head p)
+pub see_progress : (places head : ℕ) (p : Progress) → IsSoundProgress places head p
+    → IsSoundProgress places head (saw head p)
 see_progress places head p h = record {
   in_order = h.in_order;
   counted = h.counted;
@@ -175,7 +187,8 @@ see_progress places head p h = record {
   within = h.within;
 }
 
-pub see_lanes : (places total head : ℕ) (p : Progress) (l : Lanes) → IsSoundProgress places head p → IsSoundLanes places total head p l → IsSoundLanes places total head (saw head p) l
+pub see_lanes : (places total head : ℕ) (p : Progress) (l : Lanes) → IsSoundProgress places head p
+    → IsSoundLanes places total head p l → IsSoundLanes places total head (saw head p) l
 see_lanes places total head p l h m = with_rows (saw head p) l.stage m
     (λ c e s. omega (arith, m.holding_ahead c e s, h.seen_in)) (λ c e s. omega (arith, m.closed_ahead c e s, h.seen_in)) m.left_idle m.room
     m.lies m.out
@@ -183,13 +196,16 @@ see_lanes places total head p l h m = with_rows (saw head p) l.stage m
 -- Open and close, at the cursor c
 
 -- the position of the cursor, and which rows are within one turn (places rows) of it
-near : (places head : ℕ) (p : Progress) (c : ℕ) → p.cursor ≡ Some c → IsSoundProgress places head p → head ≤ c + places
+near : (places head : ℕ) (p : Progress) (c : ℕ) → p.cursor ≡ Some c → IsSoundProgress places head p
+    → head ≤ c + places
 near places head p c e h = let j = h.joined_known c e in omega (arith, h.within j.0 j.1)
 
-near_filled : (places total head : ℕ) (p : Progress) (l : Lanes) (c : ℕ) → p.cursor ≡ Some c → IsSoundProgress places head p → IsSoundLanes places total head p l → l.filled ≡ true → head < c + places
+near_filled : (places total head : ℕ) (p : Progress) (l : Lanes) (c : ℕ) → p.cursor ≡ Some c
+    → IsSoundProgress places head p → IsSoundLanes places total head p l → l.filled ≡ true → head < c + places
 near_filled places total head p l c e h m f = let j = h.joined_known c e in omega (arith, m.room j.0 j.1 f)
 
-pub open_lanes : (places total head : ℕ) (p : Progress) (l : Lanes) (c : ℕ) → p.cursor ≡ Some c → can_open p l ≡ true → IsSoundProgress places head p → IsSoundLanes places total head p l
+pub open_lanes : (places total head : ℕ) (p : Progress) (l : Lanes) (c : ℕ) → p.cursor ≡ Some c
+    → can_open p l ≡ true → IsSoundProgress places head p → IsSoundLanes places total head p l
     → IsSoundLanes places total head p (opened places c l)
 open_lanes places total head p l c at can h m =
     let parts = and_parts (is_below p.seen p.cursor) (is_idle l.stage) can in
@@ -217,7 +233,8 @@ open_lanes places total head p l c at can h m =
           put_other places c None l.row head away ∙ m.fresh f;
     }
 
-pub close_lanes : (places total head : ℕ) (p : Progress) (l : Lanes) (c : ℕ) → p.cursor ≡ Some c → can_close p l ≡ true → IsSoundProgress places head p → IsSoundLanes places total head p l
+pub close_lanes : (places total head : ℕ) (p : Progress) (l : Lanes) (c : ℕ) → p.cursor ≡ Some c
+    → can_close p l ≡ true → IsSoundProgress places head p → IsSoundLanes places total head p l
     → IsSoundLanes places total head p (closed places c l)
 close_lanes places total head p l c at can h m =
     let parts = and_parts (is_some p.cursor) (is_holding l.stage) can in
@@ -249,13 +266,15 @@ close_lanes places total head p l c at can h m =
 
 -- Advance, at the cursor c. The first half needs only that the reader knows of a row at its cursor
 
-ordered_more : (xs : List ℕ) (c : ℕ) → length xs ≡ c → ((i : ℕ) → i < length xs → get_or xs i 0 ≡ i) → (i : ℕ) → i < length (xs ++ c ∷ []) → get_or (xs ++ c ∷ []) i 0 ≡ i
+ordered_more : (xs : List ℕ) (c : ℕ) → length xs ≡ c → ((i : ℕ) → i < length xs → get_or xs i 0 ≡ i) → (i : ℕ)
+    → i < length (xs ++ c ∷ []) → get_or (xs ++ c ∷ []) i 0 ≡ i
 ordered_more xs c len each i h = elim (cases_lt i (length xs)) [
   | inl below ↦ get_or_append_left xs (c ∷ []) 0 i below ∙ each i below
   | inr above ↦ let at : length xs ≡ i = omega (arith, length-append xs (c ∷ [])) in get_or_push xs c 0 i at ∙ (sym len ∙ at)
 ]
 
-pub advance_progress : (places head : ℕ) (p : Progress) (c : ℕ) → p.cursor ≡ Some c → c < p.seen → IsSoundProgress places head p → IsSoundProgress places head (advanced c p)
+pub advance_progress : (places head : ℕ) (p : Progress) (c : ℕ) → p.cursor ≡ Some c → c < p.seen
+    → IsSoundProgress places head p → IsSoundProgress places head (advanced c p)
 advance_progress places head p c at ahead h =
     let len : length (p.taken ++ c ∷ []) ≡ c + 1 = omega (arith, length-append p.taken (c ∷ []), h.counted c at) in
     let j = h.joined_known c at in
@@ -269,7 +288,8 @@ advance_progress places head p c at ahead h =
       within = h.within;
     }
 
-pub advance_lanes : (places total head : ℕ) (p : Progress) (l : Lanes) (c : ℕ) → p.cursor ≡ Some c → can_advance p l ≡ true → IsSoundLanes places total head p l
+pub advance_lanes : (places total head : ℕ) (p : Progress) (l : Lanes) (c : ℕ) → p.cursor ≡ Some c
+    → can_advance p l ≡ true → IsSoundLanes places total head p l
     → IsSoundLanes places total head (advanced c p) (settled l)
 advance_lanes places total head p l c at can m =
     let parts = and_parts (is_some p.cursor) (is_closed l.stage) can in
@@ -279,12 +299,14 @@ advance_lanes places total head p l c at can m =
     (λ d n e low high held. let same : c + 1 ≡ d = cc in m.lies c n at (omega arith) high (λ s. cc)) (λ d e s. cc)
 
 -- where an advance is possible, the reader knows of a row at its cursor
-pub advance_ahead : (places total head : ℕ) (p : Progress) (l : Lanes) (c : ℕ) → p.cursor ≡ Some c → can_advance p l ≡ true → IsSoundLanes places total head p l → c < p.seen
+pub advance_ahead : (places total head : ℕ) (p : Progress) (l : Lanes) (c : ℕ) → p.cursor ≡ Some c
+    → can_advance p l ≡ true → IsSoundLanes places total head p l → c < p.seen
 advance_ahead places total head p l c at can m = m.closed_ahead c at (closed_is l.stage (and_parts (is_some p.cursor) (is_closed l.stage) can).1)
 
 -- Leave
 
-pub leave_progress : (places head : ℕ) (p : Progress) (c : ℕ) → p.cursor ≡ Some c → IsSoundProgress places head p → IsSoundProgress places head (departed p)
+pub leave_progress : (places head : ℕ) (p : Progress) (c : ℕ) → p.cursor ≡ Some c
+    → IsSoundProgress places head p → IsSoundProgress places head (departed p)
 leave_progress places head p c at h =
     let j = h.joined_known c at in
     record {
@@ -297,7 +319,8 @@ leave_progress places head p c at h =
       within = h.within;
     }
 
-pub leave_lanes : (places total head : ℕ) (p : Progress) (l : Lanes) → can_leave p l ≡ true → IsSoundLanes places total head p l → IsSoundLanes places total head (departed p) l
+pub leave_lanes : (places total head : ℕ) (p : Progress) (l : Lanes) → can_leave p l ≡ true
+    → IsSoundLanes places total head p l → IsSoundLanes places total head (departed p) l
 leave_lanes places total head p l can m =
     let idle : l.stage ≡ Idle = idle_is l.stage (and_parts (is_some p.cursor) (is_idle l.stage) can).1 in
     with_rows (departed p) l.stage m

@@ -26,7 +26,8 @@ from_low_is low n (Some k) e = elim (cases_lt k low) [
 ]
 
 -- reading again with a higher bound is the same as reading once with it
-pub from_low_twice : (low high : ℕ) (o : Option ℕ) → low ≤ high → from_low high (from_low low o) ≡ from_low high o
+pub from_low_twice : (low high : ℕ) (o : Option ℕ) → low ≤ high
+    → from_low high (from_low low o) ≡ from_low high o
 from_low_twice low high None h = refl
 from_low_twice low high (Some n) h = elim (cases_lt n low) [
   | inl below ↦ ap (from_low high) (from_low_none low n below) ∙ sym (from_low_none high n (omega arith))
@@ -48,10 +49,12 @@ below_head head None f = omega arith
 below_head head (Some c) f = f c refl
 
 -- only rows below head have been passed
-pub first_low : (places head : ℕ) (p : Progress) → IsSoundProgress places head p → first_row head p.cursor ≤ head
+pub first_low : (places head : ℕ) (p : Progress) → IsSoundProgress places head p
+    → first_row head p.cursor ≤ head
 first_low places head p h = below_head head p.cursor (λ c e. omega (arith, h.seen_ahead c e, h.seen_in))
 
-pub plain_keeps : (places total head : ℕ) (p : Progress) (l : Lanes) → IsSoundProgress places head p → IsSoundLanes places total head p l → IsSoundLanes places total head p (plain_lanes head p l)
+pub plain_keeps : (places total head : ℕ) (p : Progress) (l : Lanes) → IsSoundProgress places head p
+    → IsSoundLanes places total head p l → IsSoundLanes places total head p (plain_lanes head p l)
 plain_keeps places total head p l h m = record {
   holding_ahead = λ c e s. m.holding_ahead c e (plain_holding l.stage s);
   closed_ahead = λ c e s. absurd (plain_open l.stage s);
@@ -72,7 +75,8 @@ plain_keeps places total head p l h m = record {
 abbrev pub unsettled : Lanes → Lanes
 unsettled l = record l { stage = Closed }
 
-pub unsettle_keeps : (places total head : ℕ) (p : Progress) (l : Lanes) (c : ℕ) → p.cursor ≡ Some c → c < p.seen → l.stage ≡ Idle → IsSoundLanes places total head p l
+pub unsettle_keeps : (places total head : ℕ) (p : Progress) (l : Lanes) (c : ℕ) → p.cursor ≡ Some c
+    → c < p.seen → l.stage ≡ Idle → IsSoundLanes places total head p l
     → IsSoundLanes places total head p (unsettled l)
 unsettle_keeps places total head p l c at ahead idle m = with_rows p Closed m
     (λ d e s. cc) (λ d e s. let same : c ≡ d = cc in omega arith) (λ e. cc) m.room

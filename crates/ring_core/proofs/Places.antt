@@ -25,22 +25,26 @@ one_turn n a b le lt e =
 pub apart : (n a b : ℕ) → a < b → b < a + n → a % n ≢ b % n
 apart n a b l lt e = let h : a ≡ b = one_turn n a b (omega arith) lt e in omega arith
 
-pub put_same : (places n : ℕ) (v : Option ℕ) (row : ℕ → Option ℕ) (k : ℕ) → k % places ≡ n % places → put_row places n v row k ≡ v
+pub put_same : (places n : ℕ) (v : Option ℕ) (row : ℕ → Option ℕ) (k : ℕ) → k % places ≡ n % places
+    → put_row places n v row k ≡ v
 put_same places n v row k e = ap (λ b. cond b v (row k)) (eq-eqb (k % places) (n % places) e)
 
-pub put_other : (places n : ℕ) (v : Option ℕ) (row : ℕ → Option ℕ) (k : ℕ) → k % places ≢ n % places → put_row places n v row k ≡ row k
+pub put_other : (places n : ℕ) (v : Option ℕ) (row : ℕ → Option ℕ) (k : ℕ) → k % places ≢ n % places
+    → put_row places n v row k ≡ row k
 put_other places n v row k e = ap (λ b. cond b v (row k)) (ne_eqb (k % places) (n % places) e)
 
 -- what a place holds after a write: the value written there, or the previous one
 pub put_cases : (places n : ℕ) (v : Option ℕ) (row : ℕ → Option ℕ) (k : ℕ) →
-    ((k % places ≡ n % places) × (put_row places n v row k ≡ v)) ⊎ ((k % places ≢ n % places) × (put_row places n v row k ≡ row k))
+    ((k % places ≡ n % places) × (put_row places n v row k ≡ v)) ⊎ ((k % places ≢ n % places) ×
+    (put_row places n v row k ≡ row k))
 put_cases places n v row k = elim (cases_eq (k % places) (n % places)) [
   | inl e ↦ inl (e, put_same places n v row k e)
   | inr e ↦ inr (e, put_other places n v row k e)
 ]
 
 -- what holds of each place that a value is found at, after a write
-pub put_gives : (places n k : ℕ) (v : Option ℕ) (row : ℕ → Option ℕ) (P : ℕ → Type 0) → ((q : ℕ) → q % places ≡ n % places → v ≡ Some k → P q)
+pub put_gives : (places n k : ℕ) (v : Option ℕ) (row : ℕ → Option ℕ) (P : ℕ → Type 0)
+    → ((q : ℕ) → q % places ≡ n % places → v ≡ Some k → P q)
     → ((q : ℕ) → row q ≡ Some k → P q) → (q : ℕ) → put_row places n v row q ≡ Some k → P q
 put_gives places n k v row P written stays q e = elim (put_cases places n v row q) [
   | inl s ↦ written q s.0 (sym s.1 ∙ e)

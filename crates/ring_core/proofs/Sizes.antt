@@ -11,8 +11,10 @@ use Rattle.ring_core.specs.Sound.{IsSized}
 use Rattle.ring_core.specs.Plain.{read_closed}
 
 -- a schedule whose lists are as long as those of s
-as_long : (s t : Schedule) → IsSized s → readers t ≡ readers s → t.places ≡ s.places → length t.filled ≡ length s.filled → length t.known ≡ length s.known
-    → length t.seen ≡ length s.seen → length t.stage ≡ length s.stage → length t.lane ≡ length s.lane → length t.taken ≡ length s.taken → IsSized t
+as_long : (s t : Schedule) → IsSized s → readers t ≡ readers s → t.places ≡ s.places
+    → length t.filled ≡ length s.filled → length t.known ≡ length s.known
+    → length t.seen ≡ length s.seen → length t.stage ≡ length s.stage → length t.lane ≡ length s.lane
+    → length t.taken ≡ length s.taken → IsSized t
 as_long s t z count places filled known seen stage lane taken = record {
   filled = filled ∙ (z.filled ∙ sym count);
   known = known ∙ (z.known ∙ sym count);

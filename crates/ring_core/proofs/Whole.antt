@@ -34,14 +34,16 @@ event_parts : (n r : ℕ) (can : Bool) → (nat_lt r n && can) ≡ true → (r <
 event_parts n r can e = let x = and_parts (nat_lt r n) can e in (ltb-true r n x.0, x.1)
 
 -- the cursor of a reader that has not left
-cursor_is : (s : Schedule) (r : ℕ) → is_some (progress_of s r).cursor ≡ true → (progress_of s r).cursor ≡ Some (cursor_at s r)
+cursor_is : (s : Schedule) (r : ℕ) → is_some (progress_of s r).cursor ≡ true
+    → (progress_of s r).cursor ≡ Some (cursor_at s r)
 cursor_is s r e = let x = some_is (progress_of s r).cursor e in x.1 ∙ ap Some (sym (ap (λ o. unwrap_or o 0) x.1))
 
 abbrev SoundLanes : Schedule → Progress → Lanes → Type 0
 SoundLanes s p l = IsSoundLanes s.places s.total s.head p l
 
 -- only one reader's progress changed
-words_by : (s : Schedule) (r : ℕ) (p : ℕ → Progress) → IsSound s → IsSoundProgress s.places s.head (p r) → ((q : ℕ) → q ≢ r → p q ≡ progress_of s q)
+words_by : (s : Schedule) (r : ℕ) (p : ℕ → Progress) → IsSound s → IsSoundProgress s.places s.head (p r)
+    → ((q : ℕ) → q ≢ r → p q ≡ progress_of s q)
     → IsSoundWords s.places s.total s.head (readers s) p
 words_by s r p h here else = record {
   some_place = h.words.some_place;
@@ -57,8 +59,10 @@ lanes_by s r p l h here same still = each_by (readers s) r (λ q. SoundLanes s (
     (λ q k n. subst (λ x. SoundLanes s x (l q)) (sym (same q n)) (subst (λ x. SoundLanes s (progress_of s q) x) (sym (still q n)) (h.lanes q k)))
 
 -- only reader r's part changed: its progress is now p, and its lanes are l
-sound_by : (s t : Schedule) (r : ℕ) (p : Progress) (l : Lanes) → IsSound s → IsSized t → t.places ≡ s.places → t.total ≡ s.total → t.head ≡ s.head → readers t ≡ readers s
-    → progress_of t r ≡ p → ((q : ℕ) → q ≢ r → progress_of t q ≡ progress_of s q) → lanes_of t r ≡ l → ((q : ℕ) → q ≢ r → lanes_of t q ≡ lanes_of s q)
+sound_by : (s t : Schedule) (r : ℕ) (p : Progress) (l : Lanes) → IsSound s → IsSized t → t.places ≡ s.places
+    → t.total ≡ s.total → t.head ≡ s.head → readers t ≡ readers s
+    → progress_of t r ≡ p → ((q : ℕ) → q ≢ r → progress_of t q ≡ progress_of s q) → lanes_of t r ≡ l
+    → ((q : ℕ) → q ≢ r → lanes_of t q ≡ lanes_of s q)
     → IsSoundProgress s.places s.head p → SoundLanes s p l → IsSound t
 sound_by s t r p l h z places total head count here same there still good lies =
     let some = subst (λ k. 0 < k) (sym places) h.words.some_place in
@@ -133,7 +137,8 @@ close_sound s r h can =
     refl (λ q n. refl) (Readers.close_shows s r h.sized some x.0) (λ q. Readers.close_else s r q some)
     (h.words.each r x.0) (close_lanes s.places s.total s.head p l (cursor_at s r) at x.1 (h.words.each r x.0) (h.lanes r x.0))
 
-pub advance_sound : (s : Schedule) (r : ℕ) → IsSound s → can_be s (Advance r) ≡ true → IsSound (after s (Advance r))
+pub advance_sound : (s : Schedule) (r : ℕ) → IsSound s → can_be s (Advance r) ≡ true
+    → IsSound (after s (Advance r))
 advance_sound s r h can =
     let p = progress_of s r in
     let l = lanes_of s r in
@@ -186,7 +191,8 @@ fresh_progress_sound places = record {
   within = λ k e. omega arith;
 }
 
-pub fresh_lanes_sound : (places total : ℕ) → IsSoundLanes places total 0 Readers.fresh_progress Readers.fresh_lanes
+pub fresh_lanes_sound : (places total : ℕ)
+    → IsSoundLanes places total 0 Readers.fresh_progress Readers.fresh_lanes
 fresh_lanes_sound places total = record {
   holding_ahead = λ c e s. cc;
   closed_ahead = λ c e s. cc;
@@ -225,7 +231,8 @@ start_sound places n total some =
     }
 
 -- when a lane may be filled, its reader has closed every earlier row of that place
-pub fills_closed : (s : Schedule) (r c : ℕ) → IsSound s → can_be s (Fill r) ≡ true → (progress_of s r).cursor ≡ Some c → WasClosed s r c
+pub fills_closed : (s : Schedule) (r c : ℕ) → IsSound s → can_be s (Fill r) ≡ true
+    → (progress_of s r).cursor ≡ Some c → WasClosed s r c
 fills_closed s r c h can at =
     let p = progress_of s r in
     let l = lanes_of s r in
