@@ -1,5 +1,6 @@
 -- The planes of a strip, and pixels interleaved from four of them.
-use Rattle.std.specs.Prelude.{◌≡◌, ℕ, ◌+◌, ◌*◌, ◌<◌, ◌≤◌, List, [], ◌∷◌, drop, length, map, take, slice_index, slice_index_or}
+use Rattle.std.specs.Prelude.{◌≡◌, ℕ, ◌+◌, ◌*◌, ◌<◌, ◌≤◌, List, [], ◌∷◌, drop, length, map, take, slice_index}
+use Rattle.std.specs.Prelude.{slice_index_or}
 use Rattle.std.specs.List.{range_with_len}
 use Rattle.tif_strips.specs.declared.planes.Inks.{Inks}
 use Rattle.tif_strips.specs.declared.planes.Planes.{Planes}
@@ -47,8 +48,10 @@ pub record FitInks (row from : ℕ) (c m y k : List ℕ) : Type 0 where
   pub yellow : from + length y ≤ row
   pub black : from + length k ≤ row
 
--- the slices, of which these are the values before and after, hold the samples of their inks from byte from on
-pub record TakeInks (inks : List (List ℕ)) (from : ℕ) (c m y k cyan magenta yellow black : List ℕ) : Type 0 where
+-- the slices, of which these are the values before and after, hold the samples of their inks from byte from
+-- on
+pub record TakeInks (inks : List (List ℕ)) (from : ℕ)
+    (c m y k cyan magenta yellow black : List ℕ) : Type 0 where
   pub cyan_is : cyan ≡ take (length c) (drop from (slice_index_or inks 0 []))
   pub magenta_is : magenta ≡ take (length m) (drop from (slice_index_or inks 1 []))
   pub yellow_is : yellow ≡ take (length y) (drop from (slice_index_or inks 2 []))
