@@ -24,13 +24,15 @@ abbrev pub lane_tests : List ℤ → List Bool
 lane_tests numbers = map (λ i. lane_test numbers (7 - i)) (range_with_len 0 8)
 
 -- a lane of a vector that was loaded whole and appended to itself
-loaded : (numbers : List ℤ) (x : ℕ) → length numbers ≡ 8 → x < 8 → lane numbers x ≡ of_z w16 (number_at numbers x)
+loaded : (numbers : List ℤ) (x : ℕ) → length numbers ≡ 8 → x < 8
+    → lane numbers x ≡ of_z w16 (number_at numbers x)
 loaded numbers x whole within =
     let count : length (take 8 numbers) ≡ 8 = omega (arith, length-take 8 numbers) in
     get_or_append_left (map (of_z w16) (take 8 numbers)) (map (of_z w16) (take 8 numbers)) 0 x (omega (arith, length-map (take 8 numbers) (of_z w16)))
     ∙ get_or-map (of_z w16) (take 8 numbers) x (pos 0) 0 (omega arith) ∙ ap (of_z w16) (get_or-take 8 numbers x (pos 0) within)
 
-lane_test_is : (numbers : List ℤ) (x : ℕ) → length numbers ≡ 8 → x < 8 → FitsSigned w16 (number_at numbers x) → lane_test numbers x ≡ prints (number_at numbers x)
+lane_test_is : (numbers : List ℤ) (x : ℕ) → length numbers ≡ 8 → x < 8 → FitsSigned w16 (number_at numbers x)
+    → lane_test numbers x ≡ prints (number_at numbers x)
 lane_test_is numbers x whole within fits =
     top_of_word _ ∙ ap (λ n. le_z (pos 128) (to_z w16 n)) (loaded numbers x whole within)
     ∙ ap (le_z (pos 128)) (to_z-of_z w16 (number_at numbers x) fits)
@@ -43,7 +45,8 @@ mask-fits numbers =
     let byte : mask_l (lane_tests numbers) < 2 ^ 8 = subst (λ (n : ℕ). mask_l (lane_tests numbers) < 2 ^ n) count below in
     subst (λ (n : ℕ). n < 256) (sym (mask_l-mod (lane_tests numbers) 64 (omega arith))) byte
 
-pub bit-mask : (numbers : List ℤ) (x : ℕ) → length numbers ≡ 8 → x < 8 → FitsSigned w16 (number_at numbers x) → eqb (mask_l (lane_tests numbers) % 2 ^ 64 / 2 ^ (7 - x) % 2) 1 ≡ prints (number_at numbers x)
+pub bit-mask : (numbers : List ℤ) (x : ℕ) → length numbers ≡ 8 → x < 8 → FitsSigned w16 (number_at numbers x)
+    → eqb (mask_l (lane_tests numbers) % 2 ^ 64 / 2 ^ (7 - x) % 2) 1 ≡ prints (number_at numbers x)
 bit-mask numbers x whole within fits =
     let back : 7 - (7 - x) ≡ x = omega arith in
     ap (λ m. eqb (m / 2 ^ (7 - x) % 2) 1) (mask_l-mod (lane_tests numbers) 64 (omega (arith, length-map-range_with_len (λ i. lane_test numbers (7 - i)) 0 8)))

@@ -44,7 +44,8 @@ digit_is zero p digit some = grind (arith, nat_tests)
 digit_is (suc zero) p digit some = grind (arith, nat_tests)
 digit_is (suc (suc d)) p digit some = absurd (omega arith)
 
-lane_test_is : (page : ℕ) (columns : List ℕ) (x : ℕ) → page < 8 → length columns ≡ 64 → x < 64 → lane_test page columns x ≡ bit_of (get_or columns x 0) page
+lane_test_is : (page : ℕ) (columns : List ℕ) (x : ℕ) → page < 8 → length columns ≡ 64 → x < 64
+    → lane_test page columns x ≡ bit_of (get_or columns x 0) page
 lane_test_is page columns x lanes whole within =
     top_of_byte _ ∙ ap (λ n. eqb (bit_and n (alone page)) (alone page)) (loaded 64 columns x whole within)
     ∙ ap (λ m. eqb (bit_and (get_or columns x 0) m) m) (alone_is page lanes)
@@ -64,7 +65,9 @@ low_is_high n (suc (suc (suc (suc (suc (suc (suc zero))))))) within = refl
 low_is_high n (suc (suc (suc (suc (suc (suc (suc (suc j)))))))) within = absurd (omega arith)
 
 -- the eight bytes of the mask, in little-endian order, hold the pixels in order
-pub dots_show : (page : ℕ) (columns : List ℕ) (x : ℕ) → page < 8 → length columns ≡ 64 → x < 64 → bit_at (to_le_bytes w64 (mask_l (lane_tests page columns) % 2 ^ 64)) x ≡ bit_of (get_or columns x 0) page
+pub dots_show : (page : ℕ) (columns : List ℕ) (x : ℕ) → page < 8 → length columns ≡ 64 → x < 64
+    → bit_at (to_le_bytes w64 (mask_l (lane_tests page columns) % 2 ^ 64)) x ≡ bit_of
+    (get_or columns x 0) page
 dots_show page columns x lanes whole within =
     let test = λ (i : ℕ). lane_test page columns (8 * (i / 8) + 7 - i % 8) in
     let mask = mask_l (lane_tests page columns) in
@@ -79,7 +82,9 @@ dots_show page columns x lanes whole within =
     ∙ lane_test_is page columns x lanes whole within
 
 -- the pixels of eight bytes that were written to a packed row
-pub SetsBits_block : (test : ℕ → Bool) (bits bytes : List ℕ) (first count : ℕ) → count ≡ 8 → first + 8 ≤ length bits → length bytes ≡ 8 → ((x : ℕ) → x < 64 → bit_at bytes x ≡ test x) → SetsBits test (8 * first) 64 bits (put_mid first count bits bytes)
+pub SetsBits_block : (test : ℕ → Bool) (bits bytes : List ℕ) (first count : ℕ) → count ≡ 8
+    → first + 8 ≤ length bits → length bytes ≡ 8 → ((x : ℕ) → x < 64 → bit_at bytes x ≡ test x)
+    → SetsBits test (8 * first) 64 bits (put_mid first count bits bytes)
 SetsBits_block test bits bytes first count eight room whole shows = record {
   inside = λ x below.
       let byte : (8 * first + x) / 8 - first ≡ x / 8 = omega arith in

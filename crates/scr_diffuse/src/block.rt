@@ -1,5 +1,5 @@
-// Diffuses eight rows of one page at once. At each step row k is three columns behind the row above it, so the
-// errors that it needs from that row have been made.
+// Diffuses eight rows of one page at once. At each step row k is three columns behind the row above it, so
+// the errors that it needs from that row have been made.
 ghost use Rattle.std.specs.Prelude.{◌≡◌, ℕ, ◌+◌, ◌-◌, ◌*◌, ◌^◌, ◌<◌, ◌≤◌, ℤ, List, [], length, pos};
 ghost use Rattle.std.specs.Prelude.{FitsSigned, slice_index, slice_index_or};
 ghost use Rattle.std.specs.Int.{w16};
@@ -37,8 +37,8 @@ struct Wavefront {
 }
 
 /// Diffuses eight rows of a page. Bit k of `dots[x + 3k]` becomes whether the pixel in column x of row k
-/// prints. `errors` holds the errors of the row above, that of column x at x + 22, and afterwards those of the
-/// last row. So a step reads far behind the place that it writes, and loads eight numbers at once without
+/// prints. `errors` holds the errors of the row above, that of column x at x + 22, and afterwards those of
+/// the last row. So a step reads far behind the place that it writes, and loads eight numbers at once without
 /// waiting for a store. `columns` is scratch space for the values.
 pub(crate) fn diffuse_block(
     values: &[&[u8]; 8],

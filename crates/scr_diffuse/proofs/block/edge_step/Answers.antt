@@ -8,7 +8,8 @@ use Rattle.scr_diffuse.proofs.WaveLemmas.{IsMasked, kept_error, kept_errors, mas
 use Rattle.scr_diffuse.proofs.block.edge_step.Goals.{After-last_of}
 use Rattle.scr_diffuse.proofs.block.edge_step.Goals as goal
 
-masked : (c : After-last_of) → IsMasked c.args.step c.args.width c.whole_step-next.result.left (kept c.within-left.result)
+masked : (c : After-last_of)
+    → IsMasked c.args.step c.args.width c.whole_step-next.result.left (kept c.within-left.result)
 masked c =
     masked_is c.args.step c.args.width c.whole_step-next.result.left c.within-left.result c.whole_step-next.ensures.wave.left c.within-left.ensures.eight c.within-left.ensures.inside
     c.within-left.ensures.before c.within-left.ensures.behind

@@ -30,14 +30,16 @@ pub whole_sums-sums-requires-clause-above_left : goal.whole_sums-sums-requires-c
 whole_sums-sums-requires-clause-above_left c = kept_errors c.args.wave.above_left c.requires.wave.above_left
 
 -- the errors of the rows above have moved on by a row
-moved : (c : After-last_of) → IsMoved c.args.errors.now (kept c.args.wave.older) (kept c.errors_above-above_right.result) c.args.step
+moved : (c : After-last_of) → IsMoved c.args.errors.now (kept c.args.wave.older)
+    (kept c.errors_above-above_right.result) c.args.step
 moved c =
     moved_is c.args.errors.now (kept c.args.wave.older) c.errors_above-above_right.result c.args.step c.errors_above-above_right.ensures.eight c.errors_above-above_right.ensures.first
     c.errors_above-above_right.ensures.others (c.requires.small (c.args.step + 23)) (kept_errors c.args.wave.older c.requires.wave.older)
 
 -- each row has its error and its pixel
 made : (c : After-last_of)
-    → IsStep c.args.columns.now c.args.errors.now c.args.step c.args.wave (kept c.errors_above-above_right.result) (kept c.errors_of-left.result) c.dots_of.result
+    → IsStep c.args.columns.now c.args.errors.now c.args.step c.args.wave
+    (kept c.errors_above-above_right.result) (kept c.errors_of-left.result) c.dots_of.result
 made c =
     let columns = c.args.columns.now in
     let loaded = loaded_values c.column_at.result (λ k. get_or columns (8 * c.args.step + k) 0) c.column_at.ensures.eight c.column_at.ensures.values c.column_at.ensures.bytes in
@@ -57,7 +59,13 @@ pub returns-clause-wave : goal.returns-clause-wave
 returns-clause-wave c =
     let at = (goal.at.returns-clause-wave c).After-last_of in
     let wave = c.args.wave in
-    record { left = small at; older = kept_errors wave.left c.requires.wave.left; above = (moved at).small; above_left = kept_errors wave.above c.requires.wave.above }
+    record {
+      left = small at;
+      older = kept_errors wave.left c.requires.wave.left;
+      above =
+          (moved at).small;
+      above_left = kept_errors wave.above c.requires.wave.above;
+    }
 
 pub returns-clause-small : goal.returns-clause-small
 returns-clause-small c =

@@ -19,7 +19,8 @@ count c = omega (arith, length-take (length c.args.values.now) c.add_above.new.e
 abbrev list : After-keep_errors → List ℤ
 list c = c.add_left.new.sums ++ drop (length c.args.values.now) c.add_above.new.errors
 
-made : (c : After-keep_errors) → (x : ℕ) → x < length c.args.values.now → number_at (list c) x ≡ v_below (errors_in c.args.errors.now) c.args.values.now x
+made : (c : After-keep_errors) → (x : ℕ) → x < length c.args.values.now
+    → number_at (list c) x ≡ v_below (errors_in c.args.errors.now) c.args.values.now x
 made c = row_numbers c.args.values.now c.args.errors.now c.add_above.new.errors c.add_left.new.sums c.requires.left (count c) (size c) c.add_above.ensures.sums c.add_left.ensures.numbers
 
 pub returns-clause-bits : goal.returns-clause-bits
