@@ -22,14 +22,16 @@ use Rattle.site_agent.proofs.site.Site.give.Goals as goal
 abbrev job_in : (g : Over) → After-count g → SiteJob
 job_in g c = job_with c.self.inside.plates.items c.self.inside.sides c.self.inside.total
 
-counting : (g : Over) (c : After-count g) → IsCounting (job_in g c) c.self.inside.next c.self.inside.finished c.self.inside.slots.items
+counting : (g : Over) (c : After-count g)
+    → IsCounting (job_in g c) c.self.inside.next c.self.inside.finished c.self.inside.slots.items
 counting g c = c.self.invariant (ap (λ s. s.ended) c.self.view_is ∙ c.requires.going)
 
 there : (g : Over) (c : After-count g) → IsPlaceOf (job_in g c) c.self.inside.next c.args.place
 there g c = placing (job_in g c) c.self.inside.next (counts_of c.self.inside.slots.items) c.self.inside.ended c.args.self.now c.args.place c.self.view_is c.requires.place
 
 turn : (g : Over) (c : After-count g)
-    → Turn (job_in g c) c.self.inside.next c.self.inside.finished c.self.inside.slots.items c.args.place c.args.held.now.bytes c.index_mut-slot.result.now
+    → Turn (job_in g c) c.self.inside.next c.self.inside.finished c.self.inside.slots.items c.args.place
+    c.args.held.now.bytes c.index_mut-slot.result.now
 turn g c =
     turning (job_in g c) c.self.inside.next c.self.inside.finished c.self.inside.slots.items c.self.inside.ended c.args.self.now c.args.place c.args.held.now.bytes c.index_mut-slot.result.now
     c.self.view_is c.self.invariant c.requires.going c.requires.place c.requires.frame c.requires.row c.index_mut-slot.ensures.value

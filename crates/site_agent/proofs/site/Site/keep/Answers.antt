@@ -34,12 +34,16 @@ is_job : (g : Over) (c : After-place g) → IsJob c.args.self.now.job
 is_job g c = subst (λ (s : SiteData). IsJob s.job) c.self.view_is (counting g c).is
 
 -- a row that has a place is one of the site's
-kept : (g : Over) (c : After-place g) (place : Place) → IsPlaceOf c.args.self.now.job c.args.self.now.next place → is_kept c.args.self.now.job c.args.self.now.next ≡ true
+kept : (g : Over) (c : After-place g) (place : Place)
+    → IsPlaceOf c.args.self.now.job c.args.self.now.next place
+    → is_kept c.args.self.now.job c.args.self.now.next ≡ true
 kept g c place there = is_kept-row c.args.self.now.job c.args.self.now.next place.plate place.y any there.row
 
 -- its slot has a count for each strip
-size : (g : Over) (c : After-place g) (place : Place) → IsPlaceOf c.args.self.now.job c.args.self.now.next place
-    → length (slice_index_or c.args.self.now.counts place.slot []) ≡ strip_count c.args.self.now.job.width c.args.self.now.job.height
+size : (g : Over) (c : After-place g) (place : Place)
+    → IsPlaceOf c.args.self.now.job c.args.self.now.next place
+    → length (slice_index_or c.args.self.now.counts place.slot [])
+    ≡ strip_count c.args.self.now.job.width c.args.self.now.job.height
 size g c place there =
     let inside : place.slot < 5 = subst (λ (s : ℕ). s < 5) (there.slot any) ((is_job g c).each place.plate any there.row.within).slot in
     let five : length c.self.inside.slots.items ≡ 5 = (counting g c).slots in
@@ -66,16 +70,18 @@ returns-in_default-clause-keeps g c =
 -- what the rack reports is what it reported, with the row
 taken : (g : Over) (c : In-Ok g)
     → (told g.R.Rack c.give.new.rack).tells
-    ≡ after_row (sides_of c.args.self.now.job) (slice_index_or c.args.self.now.job.plates c.in-Some.place.plate any) c.in-Some.place.y c.args.self.now.next c.args.held.now.bytes c.args.held.now.source
-    (slice_index_or c.give.new.self.counts c.in-Some.place.slot []) (told g.R.Rack c.args.rack.now).tells
+    ≡ after_row (sides_of c.args.self.now.job)
+    (slice_index_or c.args.self.now.job.plates c.in-Some.place.plate any) c.in-Some.place.y c.args.self.now.next c.args.held.now.bytes c.args.held.now.source (slice_index_or c.give.new.self.counts c.in-Some.place.slot []) (told g.R.Rack c.args.rack.now).tells
 taken g c =
     c.in-Ok.ensures.rack any
     ∙ ap (λ m. after_row (sides_of c.args.self.now.job) (slice_index_or c.args.self.now.job.plates c.in-Some.place.plate any) c.in-Some.place.y m c.args.held.now.bytes c.args.held.now.source
     (slice_index_or c.give.new.self.counts c.in-Some.place.slot []) (told g.R.Rack c.args.rack.now).tells) c.requires.next
 
 asks : (g : Over) (c : In-Ok g) → IsJob c.args.self.now.job
-    → length (slice_index_or c.args.self.now.counts c.in-Some.place.slot []) ≡ strip_count c.args.self.now.job.width c.args.self.now.job.height
-    → Asks c.args.self.now.job (c.args.self.now.next + 1) c.give.new.self.counts (told g.R.Rack c.give.new.rack).tells
+    → length (slice_index_or c.args.self.now.counts c.in-Some.place.slot [])
+    ≡ strip_count c.args.self.now.job.width c.args.self.now.job.height
+    → Asks c.args.self.now.job (c.args.self.now.next + 1) c.give.new.self.counts
+    (told g.R.Rack c.give.new.rack).tells
 asks g c is long =
     let place : Place = c.in-Some.place in
     let there : IsPlaceOf c.args.self.now.job c.args.self.now.next place = c.in-Some.ensures.found in
@@ -116,7 +122,8 @@ not_done : (g : Over) (c : After-refused g) (P : Type 0) → OnDone c.refused.re
 not_done g c P = done-refused c.refused.result c.in-Err.refusal.fault (cause g c) P (answered g c)
 
 same_path : (g : Over) (c : After-refused g)
-    → (slice_index_or c.give.new.self.job.plates c.in-Some.place.plate any).path ≡ (slice_index_or c.args.self.now.job.plates c.in-Some.place.plate any).path
+    → (slice_index_or c.give.new.self.job.plates c.in-Some.place.plate any).path
+    ≡ (slice_index_or c.args.self.now.job.plates c.in-Some.place.plate any).path
 same_path g c = ap (λ j. (slice_index_or j.plates c.in-Some.place.plate any).path) c.in-Err.ensures.job
 
 pub returns-in-Err-clause-keeps : goal.returns-in-Err-clause-keeps
