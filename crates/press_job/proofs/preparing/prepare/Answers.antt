@@ -1,4 +1,4 @@
-use Rattle.std.proofs.Common.{rules, ◌≡◌, ℕ, List, ap, sym, subst, ◌∙◌, length}
+use Rattle.std.proofs.Common.{◌≡◌, ℕ, List, ap, sym, subst, ◌∙◌, length}
 use Rattle.std.specs.Prelude.{Contains, IfSome, Option}
 use Rattle.std.proofs.lemmas.List.Elements.{Contains-get_or}
 use Rattle.pr_base.specs.declared.fault.FileFault.{FileFault}
@@ -6,6 +6,7 @@ use Rattle.press_job.specs.declared.fit.Misfit.{Misfit}
 use Rattle.press_job.specs.Job.{JobData}
 use Rattle.press_job.specs.Verdict.{AreSound, OfFiles}
 use Rattle.press_job.proofs.FaultLemmas.{IsMisfit, layers_fit}
+use Rattle.press_job.proofs.ToldLemmas.{file_tells}
 use Rattle.press_job.proofs.UntoldLemmas.{misfit_of, sound_of}
 use Rattle.press_job.proofs.preparing.prepare.Goals as goal
 
@@ -16,25 +17,10 @@ fault_of-requires g c =
 pub returns-in-Err-clause-shelf : goal.returns-in-Err-clause-shelf
 returns-in-Err-clause-shelf g c =
     let misfit = subst {A = Option Misfit} (λ o. IfSome o (IsMisfit (length c.args.plan.files))) (sym c.in-Err.ensures) (layers_fit c.args.plan c.in_ok-loaded.loaded.bytes c.in_ok-loaded.ensures.plan) in
-    record {
-      named = subst (Contains c.args.plan.files) (sym (ap {A = FileFault} (λ f. f.file) c.in_ok-fault.ensures)) (Contains-get_or c.args.plan.files c.in-Err.misfit.file _ misfit.within);
-      too_long = λ long. absurd (misfit.short (sym (ap {A = FileFault} (λ f. f.kind) c.in_ok-fault.ensures) ∙ long));
-      counted = search rules;
-      missed = search rules;
-      done_missed = search rules;
-      file_missed = search rules;
-      memory_missed = search rules;
-      done_faults = search rules;
-      file_faults = search rules;
-      memory_faults = search rules;
-      done_longs = search rules;
-      file_longs = search rules;
-      shelf_longs = search rules;
-      memory_longs = search rules;
-      held = search rules;
-      faults_stay = search rules;
-      longs_stay = search rules;
-    }
+    let told = c.in_ok-loaded.ensures.shelf in
+    file_tells g.H.Shelf c.args.plan c.args.shelf.now _ c.in_ok-fault.fault
+    (subst (Contains c.args.plan.files) (sym (ap {A = FileFault} (λ f. f.file) c.in_ok-fault.ensures)) (Contains-get_or c.args.plan.files c.in-Err.misfit.file _ misfit.within))
+    (λ long. misfit.short (sym (ap {A = FileFault} (λ f. f.kind) c.in_ok-fault.ensures) ∙ long)) told.done_missed told.done_faults told.done_longs told.held
 
 pub returns-clause-sound : goal.returns-clause-sound
 returns-clause-sound g c =
