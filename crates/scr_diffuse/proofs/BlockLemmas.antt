@@ -148,12 +148,13 @@ held_long page held errors dots columns holds k within = All-get_or (λ row. len
 -- after eight rows were taken
 pub block_held : (page held rows : List (List ℕ)) (errors new : List ℤ) (before dots filled columns : List ℕ)
     → (holds : HoldsBlock page held errors before filled) → length rows ≡ 8
-    → ((k : ℕ) → k < 8 → length (get_or rows k []) ≡ holds.width)
-    → length new ≡ length errors → length dots ≡ length before → length columns ≡ length filled
+    → ((k : ℕ) → k < 8 → length (get_or rows k []) ≡ holds.width) → length new ≡ length errors
+    → length dots ≡ length before → length columns ≡ length filled
     → ((x : ℕ) → number_at new x ≡ block_left (left_in errors) rows 8 (x - 21))
     → ((x : ℕ) → IsError (number_at new x))
-    → ((k x : ℕ) → k < 8 → x < holds.width → bit_of (get_or dots (x + 3 * k) 0) k ≡ prints
-    (block_v (left_in errors) rows k x)) → HoldsBlock (page ++ rows) held new dots columns
+    → ((k x : ℕ) → k < 8 → x < holds.width
+    → bit_of (get_or dots (x + 3 * k) 0) k ≡ prints (block_v (left_in errors) rows k x))
+    → HoldsBlock (page ++ rows) held new dots columns
 block_held page held rows errors new before dots filled columns holds eight wide same whole full made small set = record {
   width = holds.width;
   eight = holds.eight;
@@ -183,8 +184,8 @@ pub block_next : (page held rows all : List (List ℕ)) (errors new : List ℤ)
     → ((x : ℕ) → number_at new x ≡ block_left (left_in errors) rows 8 (x - 21))
     → ((x : ℕ) → IsError (number_at new x))
     → ((k x : ℕ) → k < 8 → x < holds.width
-    → bit_of (get_or dots (x + 3 * k) 0) k ≡ prints (block_v (left_in errors) rows k x))
-    → n ≡ length errors → m ≡ length before → l ≡ length filled → all ≡ page ++ rows
+    → bit_of (get_or dots (x + 3 * k) 0) k ≡ prints (block_v (left_in errors) rows k x)) → n ≡ length errors
+    → m ≡ length before → l ≡ length filled → all ≡ page ++ rows
     → HoldsBlock all held (take n (new ++ drop (length new) errors))
     (take m (dots ++ drop (length dots) before)) (take l (columns ++ drop (length columns) filled))
 block_next page held rows all errors new before dots filled columns n m l holds eight wide same whole full made small set n_is m_is l_is all_is =

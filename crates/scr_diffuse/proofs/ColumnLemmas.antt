@@ -79,11 +79,10 @@ pub record IsLane (n : ℕ) (l r a b e : ℤ) (dot : Bool) : Type 0 where
   pub dot_is : dot ≡ prints (corrected n l r a b)
 
 pub lane_made : (n k : ℕ) (l r a b : ℤ) (value : ℤ) (sums left : List ℤ) (dots : ℕ → Bool) → k < 8 → n ≤ 255
-    → value ≡ pos n → IsError l → IsError r → IsError a → IsError b
-    → length sums ≡ 8 → number_at sums k ≡ whole value l r a b
-    → length left ≡ 8
-    → (FitsSigned w16 (number_at (kept sums) k) → number_at left k ≡ error_of
-    (floor_16 (number_at (kept sums) k)))
+    → value ≡ pos n → IsError l → IsError r → IsError a → IsError b → length sums ≡ 8
+    → number_at sums k ≡ whole value l r a b → length left ≡ 8
+    → (FitsSigned w16 (number_at (kept sums) k)
+    → number_at left k ≡ error_of (floor_16 (number_at (kept sums) k)))
     → (FitsSigned w16 (number_at (kept sums) k) → dots k ≡ prints (floor_16 (number_at (kept sums) k)))
     → IsLane n l r a b (number_at (kept left) k) (dots k)
 lane_made n k l r a b value sums left dots lanes byte value_is small_l small_r small_a small_b sums_long sums_are left_long left_are dots_are =
@@ -127,12 +126,11 @@ pub pixel_is : (over : ℕ → ℤ) (row : List ℕ) (k x : ℕ) (values before 
     → number_at values k ≡ pos (get_or row x 0) → number_at before k ≡ error_left over row x
     → number_at right k ≡ over (x + 1) → number_at above k ≡ over x → number_at corner k ≡ left_of over x
     → IsError (number_at before k) → IsError (number_at right k) → IsError (number_at above k)
-    → IsError (number_at corner k)
-    → length sums ≡ 8 → number_at sums k ≡ whole (number_at values k) (number_at before k) (number_at right k)
-    (number_at above k) (number_at corner k)
-    → length left ≡ 8
-    → (FitsSigned w16 (number_at (kept sums) k) → number_at left k ≡ error_of
-    (floor_16 (number_at (kept sums) k)))
+    → IsError (number_at corner k) → length sums ≡ 8
+    → number_at sums k ≡ whole (number_at values k) (number_at before k) (number_at right k)
+    (number_at above k) (number_at corner k) → length left ≡ 8
+    → (FitsSigned w16 (number_at (kept sums) k)
+    → number_at left k ≡ error_of (floor_16 (number_at (kept sums) k)))
     → (FitsSigned w16 (number_at (kept sums) k) → dots k ≡ prints (floor_16 (number_at (kept sums) k)))
     → IsPixel over row x k left dots
 pixel_is over row k x values before right above corner sums left dots lanes within byte value_is before_is right_is above_is corner_is small_l small_r small_a small_b

@@ -35,8 +35,8 @@ pub error_above-more : (rows : List (List ℕ)) (x y : ℕ)
 unfolding error_above
 error_above-more rows x y = refl
 
-pub v_at-is : (rows : List (List ℕ)) (x y : ℕ) → v_at rows x y ≡ v_below (λ k. error_above rows k y)
-    (get_or rows y []) x
+pub v_at-is : (rows : List (List ℕ)) (x y : ℕ)
+    → v_at rows x y ≡ v_below (λ k. error_above rows k y) (get_or rows y []) x
 unfolding v_at
 v_at-is rows x y =
     let above : ℕ → ℤ = λ k. error_above rows k y in
@@ -83,8 +83,8 @@ v_at-put rows values x =
     ∙ ap (λ row. v_below (λ k. error_above rows k (length rows)) row x) (get_or-append_seam rows values [] [])
 
 pub error_above-put : (rows : List (List ℕ)) (values : List ℕ) (x : ℕ)
-    → error_above (rows ++ values ∷ []) x (length rows + 1) ≡ error_left (λ k. error_above rows k
-    (length rows)) values (x + 1)
+    → error_above (rows ++ values ∷ []) x (length rows + 1)
+    ≡ error_left (λ k. error_above rows k (length rows)) values (x + 1)
 error_above-put rows values x =
     ap (λ y. error_above (rows ++ values ∷ []) x y) (add-one (length rows)) ∙ error_above-more (rows ++ values ∷ []) x (length rows)
     ∙ ap (λ (f : ℕ → ℤ). error_left f (get_or (rows ++ values ∷ []) (length rows) []) (x + 1)) (fun_ext (above-put rows values))

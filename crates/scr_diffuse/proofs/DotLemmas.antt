@@ -66,8 +66,8 @@ low_is_high n (suc (suc (suc (suc (suc (suc (suc (suc j)))))))) within = absurd 
 
 -- the eight bytes of the mask, in little-endian order, hold the pixels in order
 pub dots_show : (page : ℕ) (columns : List ℕ) (x : ℕ) → page < 8 → length columns ≡ 64 → x < 64
-    → bit_at (to_le_bytes w64 (mask_l (lane_tests page columns) % 2 ^ 64)) x ≡ bit_of
-    (get_or columns x 0) page
+    → bit_at (to_le_bytes w64 (mask_l (lane_tests page columns) % 2 ^ 64)) x
+    ≡ bit_of (get_or columns x 0) page
 dots_show page columns x lanes whole within =
     let test = λ (i : ℕ). lane_test page columns (8 * (i / 8) + 7 - i % 8) in
     let mask = mask_l (lane_tests page columns) in

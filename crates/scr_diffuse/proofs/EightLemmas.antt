@@ -42,8 +42,9 @@ pub stand_all_next : (rows all : List (List (List ℕ))) (values : List (List �
     → ((k : ℕ) → k < 8 → length (get_or values k []) ≡ length before)
     → ((k p : ℕ) → k < 8 → lane_at new p k ≡ error_left (errors_in (lane_of errors k)) (get_or values k []) p)
     → ((p k : ℕ) → k < 8 → IsError (lane_at new p k))
-    → ((k x : ℕ) → k < 8 → x < length before → bit_of (get_or dots x 0) k ≡ prints
-    (v_below (errors_in (lane_of errors k)) (get_or values k []) x)) → StandBelowAll all new dots
+    → ((k x : ℕ) → k < 8 → x < length before
+    → bit_of (get_or dots x 0) k ≡ prints (v_below (errors_in (lane_of errors k)) (get_or values k []) x))
+    → StandBelowAll all new dots
 stand_all_next rows all values errors new before dots stand more same whole wide made small set = record {
   room = same ∙ stand.room ∙ ap (λ n. n + 2) (sym whole);
   errors_are = λ k within.

@@ -87,12 +87,13 @@ tests_at a k eight within fits =
     ∙ ap (λ n. top 15 (compared 2048 n)) (bits_at a k eight within)
     ∙ top_of_word _ ∙ ap (le_z (pos 2048)) (to_z-of_z w16 (number_at a k) fits) ∙ dot_is (number_at a k)
 
-pub chosen_length : (a : List ℤ) → length a ≡ 8 → length {A = ℕ}
-    (sel_l (tests a) (replicate 8 255) (replicate 8 0)) ≡ 8
+pub chosen_length : (a : List ℤ) → length a ≡ 8
+    → length {A = ℕ} (sel_l (tests a) (replicate 8 255) (replicate 8 0)) ≡ 8
 chosen_length a eight = length-sel_l {X = ℕ} (tests a) (replicate 8 255) (replicate 8 0) (tests_length a eight) (tests_length a eight) ∙ tests_length a eight
 
-pub chosen_at : (a : List ℤ) (k : ℕ) → length a ≡ 8 → k < 8 → FitsSigned w16 (number_at a k) → get_or {A = ℕ}
-    (sel_l (tests a) (replicate 8 255) (replicate 8 0)) k 0 ≡ cond (prints (floor_16 (number_at a k))) 255 0
+pub chosen_at : (a : List ℤ) (k : ℕ) → length a ≡ 8 → k < 8 → FitsSigned w16 (number_at a k)
+    → get_or {A = ℕ} (sel_l (tests a) (replicate 8 255) (replicate 8 0)) k 0
+    ≡ cond (prints (floor_16 (number_at a k))) 255 0
 chosen_at a k eight within fits =
     get_or-sel_l {X = ℕ} (tests a) (replicate 8 255) (replicate 8 0) k 0 (omega (arith, tests_length a eight)) within within
     ∙ ap (λ b. cond b (get_or (replicate 8 255) k 0) (get_or (replicate 8 0) k 0)) (tests_at a k eight within fits)
@@ -118,10 +119,8 @@ floor_small : (z : ℤ) → FitsSigned w16 z → IsNumber (floor_16 z)
 floor_small z fits = number_small z (record { low = omega (arith, ints); high = omega (arith, ints) })
 
 pub lessened_at : (a : List ℤ) (k : ℕ) → length a ≡ 8 → k < 8 → FitsSigned w16 (number_at a k)
-    → to_z w16
-    ((get_or (shares a) k 0 +
-    (2 ^ 16 - get_or (sel_l (tests a) (replicate 8 255) (replicate 8 0)) k 0)) % 2 ^ 16) ≡ error_of (floor_16
-    (number_at a k))
+    → to_z w16 ((get_or (shares a) k 0 + (2 ^ 16 - get_or
+    (sel_l (tests a) (replicate 8 255) (replicate 8 0)) k 0)) % 2 ^ 16) ≡ error_of (floor_16 (number_at a k))
 lessened_at a k eight within fits =
     ap (λ m. to_z w16 ((m + (2 ^ 16 - get_or (sel_l (tests a) (replicate 8 255) (replicate 8 0)) k 0)) % 2 ^ 16)) (shares_at a k eight within fits)
     ∙ ap (λ n. to_z w16 ((of_z w16 (floor_16 (number_at a k)) + (2 ^ 16 - n)) % 2 ^ 16)) (chosen_at a k eight within fits)
@@ -209,10 +208,9 @@ kept_is a k x eight within is fits = kept_at a k eight within (rw is fits) ∙ i
 
 pub sum_is : (a b result : List ℤ) (k : ℕ) (x y : ℤ) → length a ≡ 8 → length b ≡ 8 → k < 8 → number_at a k ≡ x
     → number_at b k ≡ y → FitsSigned w16 x → FitsSigned w16 y → FitsSigned w16 (x +ℤ y)
-    → (FitsSigned w16 (number_at (kept a) k) → FitsSigned w16 (number_at (kept b) k) → FitsSigned w16
-    (number_at (kept a) k +ℤ number_at (kept b) k)
-    → number_at result k ≡ number_at (kept a) k +ℤ number_at (kept b) k)
-    → number_at result k ≡ x +ℤ y
+    → (FitsSigned w16 (number_at (kept a) k) → FitsSigned w16 (number_at (kept b) k)
+    → FitsSigned w16 (number_at (kept a) k +ℤ number_at (kept b) k) → number_at result k
+    ≡ number_at (kept a) k +ℤ number_at (kept b) k) → number_at result k ≡ x +ℤ y
 sum_is a b result k x y long_a long_b within is_x is_y fx fy fits made =
     let ex : number_at (kept a) k ≡ x = kept_is a k x long_a within is_x fx in
     let ey : number_at (kept b) k ≡ y = kept_is b k y long_b within is_y fy in

@@ -71,9 +71,8 @@ kept_are above values old new size same numbered right margin kept last (suc x) 
 pub row_numbers : (values : List ℕ) (errors sums numbers : List ℤ) → number_at errors 0 ≡ pos 0
     → length numbers ≡ length values → length sums ≡ length values + 2
     → ((x : ℕ) → x < length values → number_at sums x ≡ sum_above values errors x)
-    → ((x : ℕ) → x < length (take (length values) sums) → number_at numbers x ≡ v_from
-    (take (length values) sums) numbers x)
-    → (x : ℕ) → x < length values
+    → ((x : ℕ) → x < length (take (length values) sums)
+    → number_at numbers x ≡ v_from (take (length values) sums) numbers x) → (x : ℕ) → x < length values
     → number_at (numbers ++ drop (length values) sums) x ≡ v_below (errors_in errors) values x
 row_numbers values errors sums numbers margin count size summed numbered x within =
     let width = length values in
@@ -84,8 +83,8 @@ row_numbers values errors sums numbers margin count size summed numbered x withi
 
 -- the last place of the margin
 pub row_rest : (values : List ℕ) (sums numbers : List ℤ) → length numbers ≡ length values
-    → number_at sums (length values + 1) ≡ pos 0 → number_at (numbers ++ drop (length values) sums)
-    (length values + 1) ≡ pos 0
+    → number_at sums (length values + 1) ≡ pos 0
+    → number_at (numbers ++ drop (length values) sums) (length values + 1) ≡ pos 0
 row_rest values sums numbers count rest =
     let one : length values + 1 - length values ≡ 1 = omega arith in
     get_or-append_right numbers (drop (length values) sums) (length values) (length values + 1) (pos 0) count (omega arith)

@@ -61,22 +61,22 @@ pub record IsStep (columns : List ℕ) (errors : List ℤ) (step : ℕ) (wave : 
     (byte : ℕ) : Type 0 where
   pub first : number_at right 0 ≡ number_at errors (step + 23)
   pub others : (k : ℕ) → k < 7 → number_at right (k + 1) ≡ number_at wave.older k
-  pub lanes : (k : ℕ) → k < 8 → IsLane (get_or columns (8 * step + k) 0) (number_at wave.left k)
-      (number_at right k) (number_at wave.above k) (number_at wave.above_left k) (number_at left k)
-      (bit_of byte k)
+  pub lanes : (k : ℕ) → k < 8
+      → IsLane (get_or columns (8 * step + k) 0) (number_at wave.left k) (number_at right k)
+      (number_at wave.above k) (number_at wave.above_left k) (number_at left k) (bit_of byte k)
 
 -- the errors above and to the right, as a vector that was passed on
-pub record IsMoved (errors older right : List ℤ) (step : ℕ) : Type 0 where
-  pub first : number_at right 0 ≡ number_at errors (step + 23)
+pub record IsMoved (errors older right : List ℤ) (place : ℕ) : Type 0 where
+  pub first : number_at right 0 ≡ number_at errors place
   pub others : (k : ℕ) → k < 7 → number_at right (k + 1) ≡ number_at older k
   pub small : AreErrors right
 
-pub moved_is : (errors older right : List ℤ) (step : ℕ) → length right ≡ 8
-    → (FitsSigned w16 (number_at errors (step + 23)) → number_at right 0 ≡ number_at errors (step + 23))
+pub moved_is : (errors older right : List ℤ) (place : ℕ) → length right ≡ 8
+    → (FitsSigned w16 (number_at errors place) → number_at right 0 ≡ number_at errors place)
     → ((k : ℕ) → k < 7 → FitsSigned w16 (number_at older k) → number_at right (k + 1) ≡ number_at older k)
-    → IsError (number_at errors (step + 23)) → AreErrors older → IsMoved errors older (kept right) step
-moved_is errors older right step eight first others small lanes =
-    let at_first : number_at (kept right) 0 ≡ number_at errors (step + 23) = kept_is right 0 _ eight (omega arith) (first (fits_error _ small)) (fits_error _ small) in
+    → IsError (number_at errors place) → AreErrors older → IsMoved errors older (kept right) place
+moved_is errors older right place eight first others small lanes =
+    let at_first : number_at (kept right) 0 ≡ number_at errors place = kept_is right 0 _ eight (omega arith) (first (fits_error _ small)) (fits_error _ small) in
     let at_others : (k : ℕ) → k < 7 → number_at (kept right) (k + 1) ≡ number_at older k =
     λ k less. (let fits : FitsSigned w16 (number_at older k) = fits_error _ (lanes.each k (omega arith)) in kept_is right (k + 1) _ eight (omega arith) (others k less fits) fits) in
     record {
@@ -102,17 +102,16 @@ right_is above rows step wave errors right dots first others past (suc k) within
 -- one step, from what its calls promise
 pub step_made : (columns : List ℕ) (errors : List ℤ) (step : ℕ) (wave : Wavefront)
     (values right sums left : List ℤ) (byte : ℕ) → HasErrors wave
-    → IsMoved errors (kept wave.older) right step
+    → IsMoved errors (kept wave.older) right (step + 23)
     → ((k : ℕ) → k < 8 → number_at values k ≡ pos (get_or columns (8 * step + k) 0))
-    → ((k : ℕ) → k < 8 → get_or columns (8 * step + k) 0 ≤ 255)
-    → length sums ≡ 8
-    → ((k : ℕ) → k < 8 → number_at sums k ≡ whole (number_at values k) (number_at (kept wave.left) k)
-    (number_at right k) (number_at (kept wave.above) k) (number_at (kept wave.above_left) k))
-    → length left ≡ 8
-    → ((k : ℕ) → k < 8 → FitsSigned w16 (number_at (kept sums) k) → number_at left k ≡ error_of
-    (floor_16 (number_at (kept sums) k)))
-    → ((k : ℕ) → k < 8 → FitsSigned w16 (number_at (kept sums) k) → bit_of byte k ≡ prints
-    (floor_16 (number_at (kept sums) k)))
+    → ((k : ℕ) → k < 8 → get_or columns (8 * step + k) 0 ≤ 255) → length sums ≡ 8
+    → ((k : ℕ) → k < 8 → number_at sums k
+    ≡ whole (number_at values k) (number_at (kept wave.left) k) (number_at right k)
+    (number_at (kept wave.above) k) (number_at (kept wave.above_left) k)) → length left ≡ 8
+    → ((k : ℕ) → k < 8 → FitsSigned w16 (number_at (kept sums) k)
+    → number_at left k ≡ error_of (floor_16 (number_at (kept sums) k)))
+    → ((k : ℕ) → k < 8 → FitsSigned w16 (number_at (kept sums) k)
+    → bit_of byte k ≡ prints (floor_16 (number_at (kept sums) k)))
     → IsStep columns errors step wave right (kept left) byte
 step_made columns errors step wave values right sums left byte small moved values_are bytes sums_long sums_are left_long left_are dots_are = record {
   first = moved.first;
@@ -138,10 +137,10 @@ step_small columns errors step wave right left byte made eight = record { eight 
 -- the error and the pixel of a row that has a column in the step
 pub row_made : (above : ℕ → ℤ) (rows : List (List ℕ)) (columns : List ℕ) (step : ℕ) (wave : Wavefront)
     (errors right left : List ℤ) (byte : ℕ) (dots : List ℕ) → IsStep columns errors step wave right left byte
-    → IsReached above rows step wave errors dots → HasValues rows step columns
-    → (k : ℕ) → k < 8 → 3 * k ≤ step → step < length (get_or rows k []) + 3 * k
-    → (number_at left k ≡ block_left above rows (k + 1) (step + 1 - 3 * k)) × (bit_of byte k ≡ prints
-    (block_v above rows k (step - 3 * k)))
+    → IsReached above rows step wave errors dots → HasValues rows step columns → (k : ℕ) → k < 8
+    → 3 * k ≤ step → step < length (get_or rows k []) + 3 * k
+    → (number_at left k ≡ block_left above rows (k + 1) (step + 1 - 3 * k))
+    × (bit_of byte k ≡ prints (block_v above rows k (step - 3 * k)))
 row_made above rows columns step wave errors right left byte dots made reached values k few from inside =
     let x : ℕ = step - 3 * k in
     let row : List ℕ = get_or rows k [] in
@@ -299,28 +298,16 @@ pub zeros_small : AreErrors zeros
 zeros_small = record { eight = refl; each = λ k few. rw (zero_at k few) none-small }
 
 -- the errors above the first pixels, as a vector that was passed on
-pub record IsFirst (errors right : List ℤ) : Type 0 where
-  pub first : number_at right 0 ≡ number_at errors 22
-  pub others : (k : ℕ) → k < 7 → number_at right (k + 1) ≡ number_at zeros k
-  pub small : AreErrors right
-
 pub first_is : (errors before right : List ℤ) → length before ≡ 8 → length right ≡ 8
     → (FitsSigned w16 (number_at errors 22) → number_at before 7 ≡ number_at errors 22)
     → IsError (number_at errors 22)
     → (FitsSigned w16 (number_at (kept before) 7) → number_at right 0 ≡ number_at (kept before) 7)
     → ((k : ℕ) → k < 7 → FitsSigned w16 (number_at zeros k) → number_at right (k + 1) ≡ number_at zeros k)
-    → IsFirst errors (kept right)
+    → IsMoved errors zeros (kept right) 22
 first_is errors before right eight long last small first others =
     let fits : FitsSigned w16 (number_at errors 22) = fits_error _ small in
     let same : number_at (kept before) 7 ≡ number_at errors 22 = kept_is before 7 _ eight (omega arith) (last fits) fits in
-    let at_first : number_at (kept right) 0 ≡ number_at errors 22 = kept_is right 0 _ long (omega arith) (first (rw same fits) ∙ same) fits in
-    let at_others : (k : ℕ) → k < 7 → number_at (kept right) (k + 1) ≡ number_at zeros k =
-    λ k less. (let zero_fits : FitsSigned w16 (number_at zeros k) = fits_error _ (zeros_small.each k (omega arith)) in kept_is right (k + 1) _ long (omega arith) (others k less zero_fits) zero_fits) in
-    record {
-      first = at_first;
-      others = at_others;
-      small = small_moved (kept right) zeros (kept_length right long) (rw at_first small) zeros_small at_others;
-    }
+    moved_is errors zeros right 22 long (λ f. first (rw same fits) ∙ same) others small zeros_small
 
 none_before : (above : ℕ → ℤ) (rows : List (List ℕ)) (k x : ℕ) → above 0 ≡ pos 0 → x ≡ 0
     → block_left above rows k x ≡ pos 0

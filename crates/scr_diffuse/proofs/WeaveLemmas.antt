@@ -32,8 +32,8 @@ high a b =
 low_at : (a b : List ℕ) (i : ℕ) → i < 16 → get_or (low a b) i 0 ≡ get_or (a ++ b) (16 * (i % 2) + i / 2) 0
 low_at a b = each_of_sixteen (λ i. get_or (low a b) i 0 ≡ get_or (a ++ b) (16 * (i % 2) + i / 2) 0) refl refl refl refl refl refl refl refl refl refl refl refl refl refl refl refl
 
-high_at : (a b : List ℕ) (i : ℕ) → i < 16 → get_or (high a b) i 0 ≡ get_or (a ++ b)
-    (16 * (i % 2) + (8 + i / 2)) 0
+high_at : (a b : List ℕ) (i : ℕ) → i < 16
+    → get_or (high a b) i 0 ≡ get_or (a ++ b) (16 * (i % 2) + (8 + i / 2)) 0
 high_at a b = each_of_sixteen (λ i. get_or (high a b) i 0 ≡ get_or (a ++ b) (16 * (i % 2) + (8 + i / 2)) 0) refl refl refl refl refl refl refl refl refl refl refl refl refl refl refl refl
 
 -- a place of two vectors joined end to end

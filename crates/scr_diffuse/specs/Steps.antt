@@ -1,10 +1,10 @@
 -- The steps that diffuse eight rows at once. In each step row k is three columns behind the row above it.
-use Rattle.std.specs.Prelude.{◌≡◌, ℕ, ◌+◌, ◌-◌, ◌*◌, ◌<◌, ℤ, pos, List, [], length, slice_index}
+use Rattle.std.specs.Prelude.{◌≡◌, ℕ, ◌+◌, ◌-◌, ◌*◌, ◌<◌, ◌≤◌, ℤ, pos, List, [], length, slice_index}
 use Rattle.std.specs.Prelude.{slice_index_or}
 use Rattle.scr_diffuse.specs.declared.block.Wavefront.{Wavefront}
 use Rattle.scr_diffuse.specs.Block.{block_left, block_v}
 use Rattle.scr_diffuse.specs.Diffusers.{AreErrors, bit_of}
-use Rattle.scr_diffuse.specs.Diffusion.{prints}
+use Rattle.scr_diffuse.specs.Diffusion.{IsError, prints}
 use Rattle.scr_diffuse.specs.Passes.{number_at}
 use Rattle.scr_diffuse.specs.Weave.{value_behind}
 
@@ -14,6 +14,14 @@ pub record HasErrors (wave : Wavefront) : Type 0 where
   pub older : AreErrors wave.older
   pub above : AreErrors wave.above
   pub above_left : AreErrors wave.above_left
+
+-- what makes a step safe: places for what it reads and writes, and errors that are small enough for its sums
+pub record MayStep (step : ℕ) (wave : Wavefront) (errors : List ℤ) (dots columns : List ℕ) : Type 0 where
+  pub ahead : step + 24 ≤ length errors
+  pub place : step < length dots
+  pub filled : 8 * step + 8 ≤ length columns
+  pub lanes : HasErrors wave
+  pub small : (x : ℕ) → IsError (number_at errors x)
 
 -- the values of a step, interleaved: 0 for each row that has no column in it
 abbrev pub HasValues : List (List ℕ) → ℕ → List ℕ → Type 0

@@ -35,7 +35,7 @@ returns-clause-wave c =
 pub returns-clause-small : goal.returns-clause-small
 returns-clause-small c =
     let at = (goal.at.returns-clause-small c).After-last_of in
-    small_set c.whole_step-next.new.errors (c.args.step + 1) (to_z w16 (of_z w16 c.last_of.result)) c.whole_step-next.ensures.small (omega (arith, c.requires.errors)) (rw (last at) ((small at).each 7 (omega arith)))
+    small_set c.whole_step-next.new.errors (c.args.step + 1) (to_z w16 (of_z w16 c.last_of.result)) c.whole_step-next.ensures.small (omega (arith, c.requires.may.ahead)) (rw (last at) ((small at).each 7 (omega arith)))
 
 pub returns-clause-reached : goal.returns-clause-reached
 returns-clause-reached c = λ above rows values long reached.
@@ -43,7 +43,7 @@ returns-clause-reached c = λ above rows values long reached.
     let next = c.whole_step-next.result in
     let mask = masked at in
     let past = c.whole_step-next.ensures.past above rows values reached in
-    reached_edge above rows c.args.step next _ c.whole_step-next.new.errors c.whole_step-next.new.dots (to_z w16 (of_z w16 c.last_of.result)) (omega (arith, c.requires.errors))
+    reached_edge above rows c.args.step next _ c.whole_step-next.new.errors c.whole_step-next.new.dots (to_z w16 (of_z w16 c.last_of.result)) (omega (arith, c.requires.may.ahead))
     (kept_error next.older c.whole_step-next.ensures.wave.older) (kept_error next.above c.whole_step-next.ensures.wave.above) (kept_error next.above_left c.whole_step-next.ensures.wave.above_left) past
     (λ k few. row_within above rows k c.args.step c.args.width (number_at (kept c.within-left.result) k) (long k few) past.margin
     (λ from inside. mask.inside k few from inside ∙ c.whole_step-next.ensures.left above rows values reached k few from (omega (arith, long k few))) (mask.before k few) (mask.behind k few))

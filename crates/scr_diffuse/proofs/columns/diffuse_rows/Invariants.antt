@@ -12,8 +12,8 @@ invariant-loop-x l = record {
   above_long : length l.above ≡ 8;
   corner_long : length l.above_left ≡ 8;
   left_is : (k : ℕ) → k < 8
-      → number_at (map (to_z w16) l.left) k ≡ error_left (errors_in (lane_of l.initial.errors k))
-      (row_in l.values k) l.x;
+      → number_at (map (to_z w16) l.left) k
+      ≡ error_left (errors_in (lane_of l.initial.errors k)) (row_in l.values k) l.x;
   above_is : (k : ℕ) → k < 8 → number_at (map (to_z w16) l.above) k ≡ lane_at l.initial.errors (l.x + 1) k;
   corner_is : (k : ℕ) → k < 8 → number_at (map (to_z w16) l.above_left) k ≡ lane_at l.initial.errors l.x k;
   left_small : (k : ℕ) → k < 8 → IsError (number_at (map (to_z w16) l.left) k);
@@ -22,6 +22,6 @@ invariant-loop-x l = record {
       → lane_at l.errors p k ≡ error_left (errors_in (lane_of l.initial.errors k)) (row_in l.values k) p;
   rest : (k p : ℕ) → l.x < p → lane_at l.errors p k ≡ lane_at l.initial.errors p k;
   dots : (k x : ℕ) → k < 8 → x < l.x
-      → bit_of (slice_index l.dots x) k ≡ prints (v_below (errors_in (lane_of l.initial.errors k))
-      (row_in l.values k) x);
+      → bit_of (slice_index l.dots x) k
+      ≡ prints (v_below (errors_in (lane_of l.initial.errors k)) (row_in l.values k) x);
 }
