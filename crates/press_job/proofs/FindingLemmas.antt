@@ -1,15 +1,15 @@
 -- What the tests of files find, from one use of a file to the layers of a plan.
-use Rattle.std.proofs.Common.{inl, inr, ◌≡◌, ◌≢◌, ℕ, ◌+◌, ◌<◌, ◌≤◌, Bool, true, false, cond, List, [], ◌∷◌, ◌++◌, length, get_or, drop, take, refl, ap, sym, ◌∙◌, subst, arith}
-use Rattle.std.specs.Prelude.{All, IfSome, Option, Some, None, Result, Ok, Err, nat_eq, option_map, option_to_list, slice_get, slice_index_or}
-use Rattle.std.specs.Option.{ForSome, option_map_or, option_or}
+use Rattle.std.proofs.Common.{inl, inr, ◌≡◌, ◌≢◌, ℕ, ◌+◌, ◌<◌, Bool, true, false, cond, List, [], ◌∷◌, ◌++◌, length, get_or, drop, refl, ap, sym, ◌∙◌, subst, arith}
+use Rattle.std.specs.Prelude.{All, IfSome, Option, Some, None, Err, nat_eq, option_map, option_to_list, slice_get, slice_index_or}
+use Rattle.std.specs.Option.{option_map_or, option_or}
 use Rattle.std.proofs.lemmas.Bool.{cases_lt}
 use Rattle.std.proofs.lemmas.Bool.Decides.{nat_tests}
-use Rattle.std.proofs.lemmas.List.{get_or_append_left, get_or_default, get_or_push, length_push}
-use Rattle.std.proofs.lemmas.List.Elements.{All-get_or, All-more, All-weaker}
+use Rattle.std.proofs.lemmas.List.{get_or_append_left, get_or_push, length_push}
+use Rattle.std.proofs.lemmas.List.Elements.{All-weaker}
 use Rattle.std.proofs.lemmas.Option.{get_or_from_slice_get, slice_get_within}
 use Rattle.pr_base.specs.declared.fault.TagFault.{TagFault}
 use Rattle.pr_base.specs.First.{first_some}
-use Rattle.pr_base.proofs.Firsts.{first_some-end, first_some-found, first_some-on}
+use Rattle.pr_base.proofs.Firsts.{first_some-found}
 use Rattle.tif_image.specs.Found.{FoundData, IsFound}
 use Rattle.tif_image.specs.Tested.{Tells}
 use Rattle.tif_image.specs.declared.test_fault.TestFault.{TestFault}
@@ -23,10 +23,10 @@ use Rattle.plan_json.specs.Data.{PlanData}
 use Rattle.plan_json.specs.Plan.{IsPlan}
 use Rattle.press_job.specs.declared.file_test.FileTest.{FileTest}
 use Rattle.press_job.specs.declared.findings.Findings.{Findings}
-use Rattle.press_job.specs.Findings.{AreRecorded, FilesData, HasFound, HasLayer, HasRecords, HaveLayers, IsRecorded, found_of, with_found}
-use Rattle.press_job.specs.Layers.{bytes_at, planned_layers}
+use Rattle.press_job.specs.Findings.{AreRecorded, FilesData, HasLayer, HasRecords, HaveLayers, IsRecorded, found_of, with_found}
+use Rattle.press_job.specs.Layers.{planned_layers}
 use Rattle.press_job.specs.Tested.{GoesOn, IsTested, PassesIn, fault_at_mention, has_passed, with_use}
-use Rattle.press_job.specs.Tests.{fault_for, layer_fault, length_of, mention_fault, page_fault, use_of, width_of}
+use Rattle.press_job.specs.Tests.{fault_for, layer_fault, mention_fault, page_fault, use_of}
 
 -- ---- one use
 

@@ -1,7 +1,7 @@
 -- What the tests of a job's files establish for each layer, and that a page accepts each layer.
 use Rattle.std.proofs.Common.{◌≡◌, ℕ, ◌+◌, ◌<◌, ◌≤◌, Bool, true, false, cond, ◌&&◌, not, List, [], ◌∷◌, length, get_or, refl, ap, sym, ◌∙◌, subst, arith}
-use Rattle.std.specs.Prelude.{All, IfSome, Option, Some, None, Result, Ok, Err, nat_eq, nat_lt, nat_le, option_map, option_to_list, slice_index, slice_get}
-use Rattle.std.specs.Option.{ForSome, option_map_or, option_or}
+use Rattle.std.specs.Prelude.{All, IfSome, Option, Some, None, Result, Ok, Err, nat_eq, nat_lt, nat_le, option_map, option_to_list, slice_index}
+use Rattle.std.specs.Option.{ForSome, option_or}
 use Rattle.std.specs.Result.{result_err, result_unwrap_or}
 use Rattle.std.proofs.lemmas.Bool.Decides.{nat_tests}
 use Rattle.std.proofs.lemmas.List.{get_or_default}
