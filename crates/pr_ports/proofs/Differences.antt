@@ -23,12 +23,12 @@ some_is e = cc
 unsome : (x y : ℕ) → Some x ≡ Some y → x ≡ y
 unsome x y e = cc
 
-heads_same : (x y : ℕ) (rest : Option ℕ) → x ≡ y → cond (eqb x y) (option_map suc rest)
-    (Some 0) ≡ option_map suc rest
+heads_same : (x y : ℕ) (rest : Option ℕ) → x ≡ y
+    → cond (eqb x y) (option_map suc rest) (Some 0) ≡ option_map suc rest
 heads_same x y rest same = ap (λ b. cond b (option_map suc rest) (Some 0)) (eq-eqb x y same)
 
-heads_apart : (x y : ℕ) (rest : Option ℕ) → (x ≡ y → ⊥) → cond (eqb x y) (option_map suc rest)
-    (Some 0) ≡ Some 0
+heads_apart : (x y : ℕ) (rest : Option ℕ) → (x ≡ y → ⊥)
+    → cond (eqb x y) (option_map suc rest) (Some 0) ≡ Some 0
 heads_apart x y rest apart = ap (λ b. cond b (option_map suc rest) (Some 0)) (ne_eqb x y apart)
 
 slice_get-some : (l : List ℕ) (n d : ℕ) → n < length l → slice_get l n ≡ Some (get_or l n d)

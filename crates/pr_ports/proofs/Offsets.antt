@@ -29,9 +29,8 @@ read_consumes (Some all) offset next into count is read =
 
 -- a read behind those bytes that were read before it
 pub front_more : (whole : Option (List ℕ)) (offset : ℕ) (before after : List ℕ) (at count : ℕ)
-    → HasFront whole offset before at → take at after ≡ take at before → HasFront whole (offset + at)
-    (drop at after) count
-    → HasFront whole offset after (at + count)
+    → HasFront whole offset before at → take at after ≡ take at before
+    → HasFront whole (offset + at) (drop at after) count → HasFront whole offset after (at + count)
 front_more None offset before after at count front kept more = tt
 front_more (Some all) offset before after at count front kept more =
     take-add at count after ∙ ap₂ ◌++◌ (kept ∙ front) (more ∙ ap (take count) (sym (drop-drop at offset all))) ∙ sym (take-add at count (drop offset all))

@@ -126,8 +126,8 @@ made_sound s places total head n p l m words lanes = record {
 }
 
 -- the parts of a schedule
-pub own_parts : (s : Schedule) → IsSized s → 0 < s.places → IsMade s s.places s.total s.head (readers s)
-    (progress_of s) (lanes_of s)
+pub own_parts : (s : Schedule) → IsSized s → 0 < s.places
+    → IsMade s s.places s.total s.head (readers s) (progress_of s) (lanes_of s)
 own_parts s z some = record { places_is = refl; total_is = refl; head_is = refl; some_place = some; count = refl; sized = z; progress = λ r h. refl; lanes = λ r h. refl }
 
 -- in the plain reading the row in a lane still depends on the place alone
@@ -152,8 +152,8 @@ map_const : {A : Type 0} (c : A) (a n : ℕ) → map (λ (k : ℕ). c) (range_wi
 map_const c a zero = refl
 map_const c a (suc n) = λ i. c ∷ map_const c (a + 1) n i
 
-pub start_made : (places total n : ℕ) → schedule_of places total 0 n (λ _. fresh_progress)
-    (λ _. fresh_lanes) ≡ start places n total
+pub start_made : (places total n : ℕ)
+    → schedule_of places total 0 n (λ _. fresh_progress) (λ _. fresh_lanes) ≡ start places n total
 start_made places total n =
     let filled = map_const false 0 n in
     let first = map_const (Some 0) 0 n in

@@ -34,9 +34,9 @@ pub put_other : (places n : ℕ) (v : Option ℕ) (row : ℕ → Option ℕ) (k 
 put_other places n v row k e = ap (λ b. cond b v (row k)) (ne_eqb (k % places) (n % places) e)
 
 -- what a place holds after a write: the value written there, or the previous one
-pub put_cases : (places n : ℕ) (v : Option ℕ) (row : ℕ → Option ℕ) (k : ℕ) →
-    ((k % places ≡ n % places) × (put_row places n v row k ≡ v)) ⊎ ((k % places ≢ n % places) ×
-    (put_row places n v row k ≡ row k))
+pub put_cases : (places n : ℕ) (v : Option ℕ) (row : ℕ → Option ℕ) (k : ℕ)
+    → ((k % places ≡ n % places) × (put_row places n v row k ≡ v))
+    ⊎ ((k % places ≢ n % places) × (put_row places n v row k ≡ row k))
 put_cases places n v row k = elim (cases_eq (k % places) (n % places)) [
   | inl e ↦ inl (e, put_same places n v row k e)
   | inr e ↦ inr (e, put_other places n v row k e)

@@ -34,8 +34,8 @@ lane_in places n r k some h =
 -- after a write to a lane of reader r, at the place of row n
 pub lane_same : (places r n k : ℕ) (v : Option ℕ) (lane : List (Option ℕ))
     → lane_place places r n < length lane
-    → get_or (set lane (lane_place places r n) v)
-    (lane_place places r k) None ≡ put_row places n v (λ j. get_or lane (lane_place places r j) None) k
+    → get_or (set lane (lane_place places r n) v) (lane_place places r k) None
+    ≡ put_row places n v (λ j. get_or lane (lane_place places r j) None) k
 lane_same places r n k v lane h =
     let row : ℕ → Option ℕ = λ j. get_or lane (lane_place places r j) None in
     elim (cases_eq (k % places) (n % places)) [
@@ -46,8 +46,8 @@ lane_same places r n k v lane h =
     ]
 
 pub lane_other : (places q r n k : ℕ) (v : Option ℕ) (lane : List (Option ℕ)) → 0 < places → q ≢ r
-    → get_or (set lane (lane_place places r n) v)
-    (lane_place places q k) None ≡ get_or lane (lane_place places q k) None
+    → get_or (set lane (lane_place places r n) v) (lane_place places q k) None
+    ≡ get_or lane (lane_place places q k) None
 lane_other places q r n k v lane some other =
     get_or-set_other lane (lane_place places r n) (lane_place places q k) v None (lanes_apart places q r (k % places) (n % places) (omega (arith, some)) (omega (arith, some)) other)
 

@@ -117,10 +117,9 @@ row-begun : (job : SiteJob) (rows : List (List ℕ)) (source : Source) (n k y : 
     (counts : List (List ℕ)) (d : SitePlate) → IsJob job → IsRowOf job n k y
     → StandsAfter job rows source n before old counts
     → Holds (files_below job rows n) (taken_below job source n)
-    (put (plate_at job k d).slot (Some ( (plate_at job k d).path,
-      front_bytes
-          ++ flat_map packing (rows_of rows (plate_at job k d) y),
-    )) (plate_below job rows n))
+    (put (plate_at job k d).slot
+    (Some ((plate_at job k d).path, front_bytes ++ flat_map packing (rows_of rows (plate_at job k d) y)))
+    (plate_below job rows n))
     before (if y == 0 then with_begin (plate_at job k d) old else old)
 row-begun job rows source n k y before old counts d is row stands =
     ⊎_elim
@@ -179,11 +178,8 @@ packed-more rows plate y n frame is framed here =
 -- a plate with its last row, once it is closed, is its file
 closed-is : (job : SiteJob) (rows : List (List ℕ)) (plate : SitePlate) (last : ℕ) (counts : List ℕ)
     → last ≡ job.height → counts ≡ counts_so_far job.width job.height (rows_of rows plate last)
-    → closed (tail_bytes job.width job.height job.dpi counts) (tail_place counts) (
-      plate.path,
-      front_bytes
-          ++ flat_map packing (rows_of rows plate last),
-    ) ≡ file_of job rows plate
+    → closed (tail_bytes job.width job.height job.dpi counts) (tail_place counts)
+    (plate.path, front_bytes ++ flat_map packing (rows_of rows plate last)) ≡ file_of job rows plate
 closed-is job rows plate last counts all are =
     ap (λ list. closed (tail_bytes job.width job.height job.dpi list) (tail_place list) (plate.path, front_bytes ++ flat_map packing (rows_of rows plate last))) (are ∙ ap (λ m. counts_so_far job.width job.height (rows_of rows plate m)) all ∙ whole)
     ∙ ap (λ m. closed (tail_bytes job.width job.height job.dpi (strip_counts job.width every)) (tail_place (strip_counts job.width every)) (plate.path, front_bytes ++ flat_map packing (rows_of rows plate m))) all

@@ -21,8 +21,8 @@ enough-later n rest most aheads later is within enough plane below =
     rw (get_or-later n plane aheads later is known) (omega (arith, length-drop n (get_or aheads plane []), enough plane known))
 
 -- `a` samples consumed, then `b` more
-pub map-drop-drop : (a b : ℕ) (lists : List (List ℕ)) → map (drop b)
-    (map (drop a) lists) ≡ map (drop (a + b)) lists
+pub map-drop-drop : (a b : ℕ) (lists : List (List ℕ))
+    → map (drop b) (map (drop a) lists) ≡ map (drop (a + b)) lists
 map-drop-drop a b [] = refl
 map-drop-drop a b (list ∷ rest) =
     ap (λ front. front ∷ map (drop b) (map (drop a) rest)) (drop-drop b a list) ∙ ap (λ back. drop (a + b) list ∷ back) (map-drop-drop a b rest)

@@ -94,8 +94,8 @@ strip_fault-fields shape bytes fault fails = first_fault-two (fault_of_field sha
 
 -- if the tests of the fields pass, the strips decide
 pub strip_fault-strips : (shape : Shape) (bytes : List ℕ) → field_fault shape bytes ≡ None
-    → strip_fault shape bytes ≡ first_fault (map (fault_of_strip shape bytes)
-    (range_with_len 0 (strip_count shape)))
+    → strip_fault shape bytes
+    ≡ first_fault (map (fault_of_strip shape bytes) (range_with_len 0 (strip_count shape)))
 unfolding strip_fault
 strip_fault-strips shape bytes none =
     first_fault-behind (fault_of_field shape bytes strip_offsets) (fault_of_field shape bytes strip_byte_counts) (map (fault_of_strip shape bytes) (range_with_len 0 (strip_count shape))) none
@@ -143,8 +143,8 @@ fault_of_strip-is shape bytes i = cases (nat_lt (length bytes) (strip_offset sha
   where
     cases : (beyond packed : Bool) (stored : List ℕ) (needed : ℕ)
         → (if beyond then Some (fault_at strip_offsets StripPlace) else if nat_lt
-        (length (samples_in packed stored)) needed then Some (fault_at strip_offsets Short) else None)
-        ≡ fault_in packed needed (if beyond then None else Some stored)
+        (length (samples_in packed stored)) needed then Some
+        (fault_at strip_offsets Short) else None) ≡ fault_in packed needed (if beyond then None else Some stored)
     cases true packed stored needed = refl
     cases false packed stored needed = refl
 

@@ -25,8 +25,7 @@ four_ways P a b c d (suc (suc (suc (suc ink)))) small = absurd (omega arith)
 pub HasPixels-more : (cyan magenta yellow black into : List ℕ) (x : ℕ) → 4 * x + 3 < length into
     → HasPixels (cyan ∷ magenta ∷ yellow ∷ black ∷ []) x into
     → HasPixels (cyan ∷ magenta ∷ yellow ∷ black ∷ []) (x + 1)
-    (set
-    (set (set (set into (4 * x) (get_or cyan x 0)) (4 * x + 1) (get_or magenta x 0)) (4 * x + 2)
+    (set (set (set (set into (4 * x) (get_or cyan x 0)) (4 * x + 1) (get_or magenta x 0)) (4 * x + 2)
     (get_or yellow x 0)) (4 * x + 3) (get_or black x 0))
 HasPixels-more cyan magenta yellow black into x room has = record {
   each = λ k ink below small.
@@ -43,10 +42,8 @@ HasPixels-more cyan magenta yellow black into x room has = record {
     kept list i j value ne = get_or-set_other list i j value 0 ne
 
     earlier : (k ink : ℕ) → k < x → ink < 4
-        → get_or (set
-        (set (set (set into (4 * x) (get_or cyan x 0)) (4 * x + 1) (get_or magenta x 0)) (4 * x + 2)
-        (get_or yellow x 0)) (4 * x + 3) (get_or black x 0)) (4 * k + ink) 0
-        ≡ get_or into (4 * k + ink) 0
+        → get_or (set (set (set (set into (4 * x) (get_or cyan x 0)) (4 * x + 1) (get_or magenta x 0))
+        (4 * x + 2) (get_or yellow x 0)) (4 * x + 3) (get_or black x 0)) (4 * k + ink) 0 ≡ get_or into (4 * k + ink) 0
     earlier k ink below small =
         kept _ (4 * x + 3) (4 * k + ink) _ (omega arith)
         ∙ kept _ (4 * x + 2) (4 * k + ink) _ (omega arith)
@@ -54,10 +51,8 @@ HasPixels-more cyan magenta yellow black into x room has = record {
         ∙ kept into (4 * x) (4 * k + ink) _ (omega arith)
 
     last : (ink : ℕ) → ink < 4
-        → get_or (set
-        (set (set (set into (4 * x) (get_or cyan x 0)) (4 * x + 1) (get_or magenta x 0)) (4 * x + 2)
-        (get_or yellow x 0)) (4 * x + 3) (get_or black x 0)) (4 * x + ink) 0
-        ≡ get_or (get_or (cyan ∷ magenta ∷ yellow ∷ black ∷ []) ink []) x 0
+        → get_or (set (set (set (set into (4 * x) (get_or cyan x 0)) (4 * x + 1) (get_or magenta x 0))
+        (4 * x + 2) (get_or yellow x 0)) (4 * x + 3) (get_or black x 0)) (4 * x + ink) 0 ≡ get_or (get_or (cyan ∷ magenta ∷ yellow ∷ black ∷ []) ink []) x 0
     last =
         let one = set into (4 * x) (get_or cyan x 0) in
         let two = set one (4 * x + 1) (get_or magenta x 0) in
@@ -76,10 +71,9 @@ HasPixels-more cyan magenta yellow black into x room has = record {
 -- a piece of n more pixels, interleaved from the samples from index `at` on
 pub HasPixels-piece : (inks pieces : List (List ℕ)) (at n size : ℕ) (into part : List ℕ)
     → 4 * at + size ≤ length into → size ≡ 4 * n → length part ≡ size
-    → ((ink x : ℕ) → ink < 4 → x < n → get_or (get_or pieces ink []) x 0 ≡ get_or (get_or inks ink [])
-    (at + x) 0)
-    → HasPixels inks at into → HasPixels pieces n part → HasPixels inks (at + n)
-    (put_mid (4 * at) size into part)
+    → ((ink x : ℕ) → ink < 4 → x < n → get_or (get_or pieces ink []) x 0
+    ≡ get_or (get_or inks ink []) (at + x) 0) → HasPixels inks at into → HasPixels pieces n part
+    → HasPixels inks (at + n) (put_mid (4 * at) size into part)
 HasPixels-piece inks pieces at n size into part room whole long same has more = record {
   each = λ x ink below small.
       elim (cases_lt x at) [
@@ -124,9 +118,8 @@ block-left count at block ahead start left room ahead_is is =
 pub HasPixels-block : (cyan magenta yellow black c m y k : List ℕ) (at n size : ℕ) (into part : List ℕ)
     → 4 * at + size ≤ length into → size ≡ 4 * n → length part ≡ size → at + n ≤ length cyan
     → c ≡ take n (drop at cyan) → m ≡ take n (drop at magenta) → y ≡ take n (drop at yellow)
-    → k ≡ take n (drop at black)
-    → HasPixels (cyan ∷ magenta ∷ yellow ∷ black ∷ []) at into → HasPixels (c ∷ m ∷ y ∷ k ∷ [])
-    (length c) part
+    → k ≡ take n (drop at black) → HasPixels (cyan ∷ magenta ∷ yellow ∷ black ∷ []) at into
+    → HasPixels (c ∷ m ∷ y ∷ k ∷ []) (length c) part
     → HasPixels (cyan ∷ magenta ∷ yellow ∷ black ∷ []) (at + n) (put_mid (4 * at) size into part)
 HasPixels-block cyan magenta yellow black c m y k at n size into part room whole long enough c_is m_is y_is k_is has more =
     let count : length c ≡ n = ap length c_is ∙ length-take-le n (drop at cyan) (omega (arith, length-drop at cyan)) in
@@ -153,8 +146,8 @@ pub image_part-inks : (shape : Shape) (bytes : List ℕ) (y row first count : �
     (into : List ℕ) → planes shape ≢ 1 → row ≡ plane_row_length shape → first + count ≤ shape.width
     → length into ≡ part_length shape first count
     → ((ink : ℕ) → ink < 4 → take row (get_or inks ink []) ≡ plane_row shape bytes ink y)
-    → ((x ink : ℕ) → x < count → ink < 4 → get_or into (4 * x + ink) 0 ≡ get_or (get_or inks ink [])
-    (first + x) 0) → into ≡ image_part shape bytes y first count
+    → ((x ink : ℕ) → x < count → ink < 4 → get_or into (4 * x + ink) 0
+    ≡ get_or (get_or inks ink []) (first + x) 0) → into ≡ image_part shape bytes y first count
 unfolding image_row planar_pixel plane_row
 image_part-inks shape bytes y row first count inks into more row_is within room rows each =
     let four = four_planes shape more in

@@ -39,7 +39,8 @@ pub strip_marked : (image : Image) (i per : ℕ) (marks : List ℕ) → length m
     → AreMarks image i 1 per marks
 strip_marked image i per marks room has = record { each = λ j k below under. one j k below under }
   where
-    one : (j k : ℕ) → j < 1 → k < per → IsMark (stored_bytes image.shape image.bytes (i + j))
+    one : (j k : ℕ) → j < 1 → k < per
+        → IsMark (stored_bytes image.shape image.bytes (i + j))
         ((k + 1) * (64 * plane_row_length image.shape)) (slice_index marks (j * per + k))
     one zero k below under =
         let here : i + 0 ≡ i = omega arith in
@@ -55,9 +56,8 @@ not_below a b is = grind (arith, nat_tests)
 
 -- the marks of strips in two parts
 pub both_marked : (image : Image) (first count half per : ℕ) (front back : List ℕ) → half ≤ count
-    → length front ≡ half * per → AreMarks image first half per front → AreMarks image (first + half)
-    (count - half) per back
-    → AreMarks image first count per (front ++ back)
+    → length front ≡ half * per → AreMarks image first half per front
+    → AreMarks image (first + half) (count - half) per back → AreMarks image first count per (front ++ back)
 both_marked image first count half per front back within room one other = record { each = λ i k below under. by i k below under (nat_lt i half) refl }
   where
     by : (i k : ℕ) → i < count → k < per → (t : Bool) → nat_lt i half ≡ t
@@ -86,8 +86,8 @@ both_marked image first count half per front back within room one other = record
 -- rows behind a mark
 pub behind_mark : (stored : List ℕ) (mark row above : ℕ) → mark ≢ 0
     → IsMark stored (above / 64 * (64 * row)) mark → above * row ≤ length (expansion stored)
-    → (above % 64 * row ≤ length (expansion (drop mark stored))) × (drop (above % 64 * row)
-    (expansion (drop mark stored)) ≡ drop (above * row) (expansion stored))
+    → (above % 64 * row ≤ length (expansion (drop mark stored)))
+    × (drop (above % 64 * row) (expansion (drop mark stored)) ≡ drop (above * row) (expansion stored))
 behind_mark stored mark row above some is enough =
     let q : ℕ = above / 64 in
     let r : ℕ = above % 64 in

@@ -23,8 +23,8 @@ pub HoldsRows-begin : (image : Image) (plane i : ℕ) → IsStriped image.shape
     → strip_fault image.shape image.bytes ≡ None → plane < planes image.shape
     → i < strips_per_plane image.shape
     → HoldsRows image plane (i * image.shape.rows_per_strip) (strip_rows image.shape i)
-    (samples_in image.shape.packed
-    (stored_bytes image.shape image.bytes (plane * strips_per_plane image.shape + i)))
+    (samples_in image.shape.packed (stored_bytes image.shape image.bytes
+    (plane * strips_per_plane image.shape + i)))
 unfolding strip_rows
 HoldsRows-begin image plane i striped passed known below =
     let shape = image.shape in
@@ -81,8 +81,8 @@ pub IsPlace-begin : (image : Image) (place : Place) (begun : Planes) (rows : ℕ
     → place.rows ≡ 0 → place.next < image.shape.length
     → aheads_of begun ≡ strip_samples image.shape image.bytes place.begun
     → rows ≡ strip_rows image.shape place.begun
-    → IsPlace image (record { next = place.next; begun = place.begun + 1; rows = rows; planes = begun }) ×
-    (0 < rows)
+    → IsPlace image (record { next = place.next; begun = place.begun + 1; rows = rows; planes = begun })
+    × (0 < rows)
 unfolding strip_rows
 IsPlace-begin image place begun rows is none left samples rows_are =
     let shape = image.shape in
@@ -114,10 +114,9 @@ begun_rows image place is none left =
 -- inside a strip, the rows behind those that were passed come first
 pub IsPlace-inside : (image : Image) (place : Place) (y strip above rows : ℕ) (begun : Planes)
     → IsPlace image place → y < image.shape.length → strip ≡ y / image.shape.rows_per_strip
-    → above ≡ y % image.shape.rows_per_strip
-    → rows ≡ strip_rows image.shape strip - above
-    → aheads_of begun ≡ map (drop (above * plane_row_length image.shape))
-    (strip_samples image.shape image.bytes strip)
+    → above ≡ y % image.shape.rows_per_strip → rows ≡ strip_rows image.shape strip - above
+    → aheads_of begun
+    ≡ map (drop (above * plane_row_length image.shape)) (strip_samples image.shape image.bytes strip)
     → IsPlace image (record { next = y; begun = strip + 1; rows = rows; planes = begun })
 unfolding strip_rows
 IsPlace-inside image place y strip above rows begun is below strip_is above_is rows_is samples =
@@ -168,10 +167,9 @@ map-drop-none size (list ∷ rest) = (let none : 0 * size ≡ 0 = omega arith in
 
 -- `count` rows later
 pub IsPlace-later : (image : Image) (place : Place) (count len : ℕ) (later : Planes) → IsPlace image place
-    → 0 < place.rows → count ≤ place.rows
-    → len ≡ count * plane_row_length image.shape → aheads_of later ≡ map (drop len) (aheads_of place.planes)
-    → IsPlace image
-    (record { next = place.next + count; begun = place.begun; rows = place.rows - count; planes = later })
+    → 0 < place.rows → count ≤ place.rows → len ≡ count * plane_row_length image.shape
+    → aheads_of later ≡ map (drop len) (aheads_of place.planes)
+    → IsPlace image (record { next = place.next + count; begun = place.begun; rows = place.rows - count; planes = later })
 IsPlace-later image place count len later is some fits len_is left = record {
   striped = is.striped;
   passed = is.passed;
@@ -224,8 +222,8 @@ pub image_part-place : (image : Image) (place : Place) (row from len first count
     → IsPlace image place → 0 < place.rows → row ≡ plane_row_length image.shape
     → from ≡ plane_place image.shape first → len ≡ plane_part_length image.shape first count
     → first + count ≤ image.shape.width → length into ≡ part_length image.shape first count
-    → (length (aheads_of place.planes) ≡ 1 → into ≡ take len
-    (drop from (get_or (aheads_of place.planes) 0 [])))
+    → (length (aheads_of place.planes) ≡ 1
+    → into ≡ take len (drop from (get_or (aheads_of place.planes) 0 [])))
     → (length (aheads_of place.planes) ≢ 1 → HasPixels (map (drop from) (aheads_of place.planes)) len into)
     → into ≡ image_part image.shape image.bytes place.next first count
 image_part-place image place row from len first count into is some row_is from_is len_is within room one four =
@@ -311,8 +309,8 @@ strip_samples-one shape bytes i n own one is = rw (one, is) refl
 -- the rows above a row of a strip that passes are among its samples
 pub above_enough : (shape : Shape) (bytes : List ℕ) (plane i above : ℕ) → strip_fault shape bytes ≡ None
     → plane < planes shape → i < strips_per_plane shape → above < strip_rows shape i
-    → above * plane_row_length shape ≤ length (samples_in shape.packed
-    (stored_bytes shape bytes (plane * strips_per_plane shape + i)))
+    → above * plane_row_length shape
+    ≤ length (samples_in shape.packed (stored_bytes shape bytes (plane * strips_per_plane shape + i)))
 above_enough shape bytes plane i above passed known below under =
     let strip = plane * strips_per_plane shape + i in
     let needed = needed_length-in_plane shape plane i below in

@@ -12,8 +12,8 @@ use Rattle.tif_strips.proofs.Faults.{fault_of_strip-passed, strip_enough-passed}
 -- i are at that offset plus i times the size in the whole.
 pub take-joined : (piece : ℕ → List ℕ) (size start n i at b : ℕ) → i < n
     → ((j : ℕ) → j < i → length (piece (start + j)) ≡ size) → at + b ≤ length (piece (start + i))
-    → take b (drop (i * size + at) (flat_map piece (range_with_len start n))) ≡ take b (drop at
-    (piece (start + i)))
+    → take b (drop (i * size + at) (flat_map piece (range_with_len start n)))
+    ≡ take b (drop at (piece (start + i)))
 take-joined piece size start zero i at b below same fits = absurd (omega arith)
 take-joined piece size start (suc n) zero at b below same fits =
     let rest = flat_map piece (range_with_len (start + 1) n) in
@@ -52,11 +52,9 @@ length-strip_data shape bytes strip enough = length-take-le (needed_length shape
 -- row y of a plane is in its strip
 pub plane_row-in_strip : (shape : Shape) (bytes : List ℕ) (plane y : ℕ) → IsStriped shape
     → strip_fault shape bytes ≡ None → plane < planes shape → y < shape.length
-    → take (plane_row_length shape)
-    (drop (y % shape.rows_per_strip * plane_row_length shape)
-    (samples_in shape.packed
-    (stored_bytes shape bytes (plane * strips_per_plane shape + y / shape.rows_per_strip))))
-    ≡ plane_row shape bytes plane y
+    → take (plane_row_length shape) (drop (y % shape.rows_per_strip * plane_row_length shape)
+    (samples_in shape.packed (stored_bytes shape bytes
+    (plane * strips_per_plane shape + y / shape.rows_per_strip)))) ≡ plane_row shape bytes plane y
 unfolding plane_row plane_data strip_data
 plane_row-in_strip shape bytes plane y striped passed known below =
     let b = plane_row_length shape in

@@ -73,8 +73,8 @@ needed_length-in_plane shape plane i below =
 
 -- row y is within the bytes that its strip needs
 pub row_in_needed : (shape : Shape) (plane y : ℕ) → IsStriped shape → y < shape.length
-    → y % shape.rows_per_strip * plane_row_length shape + plane_row_length shape ≤ needed_length shape
-    (plane * strips_per_plane shape + y / shape.rows_per_strip)
+    → y % shape.rows_per_strip * plane_row_length shape + plane_row_length shape
+    ≤ needed_length shape (plane * strips_per_plane shape + y / shape.rows_per_strip)
 row_in_needed shape plane y striped below =
     let needed = needed_length-in_plane shape plane (y / shape.rows_per_strip) (strip_of_row shape y striped below) in
     let next : y % shape.rows_per_strip + 1 ≤ strip_rows shape (y / shape.rows_per_strip) = omega (arith, row_in_strip shape y striped below) in
@@ -96,8 +96,8 @@ unfolding planes plane_row_length
 row_length-planes shape = rows (shape.samples == 4) (shape.planar == 2) shape.width _
   where
     rows : (four apart : Bool) (width size : ℕ)
-        → (if four then 4 * width else size) ≡ (if four && apart then 4 else 1) *
-        (if four then if apart then width else 4 * width else size)
+        → (if four then 4 * width else size)
+        ≡ (if four && apart then 4 else 1) * (if four then if apart then width else 4 * width else size)
     rows true true width size = refl
     rows true false width size = omega arith
     rows false apart width size = omega arith
@@ -128,8 +128,8 @@ unfolding planes plane_part_length
 part_length-planes shape first count = parts (shape.samples == 4) (shape.planar == 2) count _
   where
     parts : (four apart : Bool) (count size : ℕ)
-        → (if four then 4 * count else size) ≡ (if four && apart then 4 else 1) *
-        (if four then if apart then count else 4 * count else size)
+        → (if four then 4 * count else size)
+        ≡ (if four && apart then 4 else 1) * (if four then if apart then count else 4 * count else size)
     parts true true count size = refl
     parts true false count size = omega arith
     parts false apart count size = omega arith
@@ -164,14 +164,14 @@ one_plane shape first count one = parts (shape.samples == 4) (shape.planar == 2)
 
 -- with four planes, each has one byte per pixel
 pub four_places : (shape : Shape) (first count : ℕ) → planes shape ≢ 1
-    → (plane_place shape first ≡ first) × (plane_part_length shape first count ≡ count) ×
-    (column_place shape first ≡ 4 * first) × (part_length shape first count ≡ 4 * count)
+    → (plane_place shape first ≡ first) × (plane_part_length shape first count ≡ count)
+    × (column_place shape first ≡ 4 * first) × (part_length shape first count ≡ 4 * count)
 unfolding planes plane_place plane_part_length
 four_places shape first count more = parts (shape.samples == 4) (shape.planar == 2) (first / 8) (row_size (first % 8 + count)) more
   where
     parts : (four apart : Bool) (place size : ℕ) → ◌≢◌ {A = ℕ} (if four && apart then 4 else 1) 1
-        → ((if four then if apart then first else 4 * first else place) ≡ first) ×
-        ((if four then if apart then count else 4 * count else size) ≡ count)
+        → ((if four then if apart then first else 4 * first else place) ≡ first)
+        × ((if four then if apart then count else 4 * count else size) ≡ count)
         × ((if four then 4 * first else place) ≡ 4 * first) × ((if four then 4 * count else size) ≡ 4 * count)
     parts true true place size more = (refl, refl, refl, refl)
     parts true false place size more = absurd (more refl)

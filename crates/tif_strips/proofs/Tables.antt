@@ -32,8 +32,8 @@ fields_table image offsets sizes striped offsets_are sizes_are long many = recor
   marks_are = no_marks image;
 }
   where
-    same : (a b s t : ℕ) → a ≡ b → s ≡ t → ◌≡◌ {A = Extent} (record { offset = a; size = s })
-        (record { offset = b; size = t })
+    same : (a b s t : ℕ) → a ≡ b → s ≡ t
+        → ◌≡◌ {A = Extent} (record { offset = a; size = s }) (record { offset = b; size = t })
     same a b s t one other = rw (one, other) refl
 
 -- the extents of strips as they were kept

@@ -31,8 +31,9 @@ among-found image first count strip fault from below before fails =
 
 -- a first fault is found in the front, or else behind it
 first_fault-or : (test : ℕ → Option TagFault) (start n m : ℕ)
-    → first_fault (map test (range_with_len start (n + m))) ≡ option_or (first_fault
-    (map test (range_with_len start n))) (first_fault (map test (range_with_len (start + n) m)))
+    → first_fault (map test (range_with_len start (n + m)))
+    ≡ option_or (first_fault (map test (range_with_len start n)))
+    (first_fault (map test (range_with_len (start + n) m)))
 first_fault-or test start zero m =
     let here : start + 0 ≡ start = omega arith in
     rw (here, zero-add m) refl
@@ -47,8 +48,8 @@ first_fault-or test start (suc n) m =
     step (Some fault) all front back same = refl
 
 pub among-or : (image : Image) (first n m : ℕ)
-    → fault_among image first (n + m) ≡ option_or (fault_among image first n)
-    (fault_among image (first + n) m)
+    → fault_among image first (n + m)
+    ≡ option_or (fault_among image first n) (fault_among image (first + n) m)
 unfolding fault_among
 among-or image first n m = first_fault-or (fault_of_strip image.shape image.bytes) first n m
 
