@@ -39,6 +39,7 @@ pub returns-then-is_limited-clause-shows : goal.returns-then-is_limited-clause-s
 returns-then-is_limited-clause-shows c =
     let at = (goal.at.returns-then-is_limited-clause-shows c).After-tone-5 in
     let old_wide = wide_before at in
+    let are = toned at in
     let on = c.if-is_limited.true in
     let limit = rw c.limit.ensures.limit at c.limit_planes.ensures.values in
     let kept = c.limit_planes.ensures in
@@ -47,5 +48,5 @@ returns-then-is_limited-clause-shows c =
     c.next_in.ensures.width
     (c.tone.ensures.width ∙ c.self.invariant.cyan_wide ∙ old_wide) (c.tone-2.ensures.width ∙ c.self.invariant.magenta_wide ∙ old_wide)
     (c.tone-3.ensures.width ∙ c.self.invariant.yellow_wide ∙ old_wide) (c.tone-4.ensures.width ∙ c.self.invariant.black_wide ∙ old_wide)
-    (c.tone-5.ensures.width ∙ c.self.invariant.spot_wide ∙ old_wide) (long_blank at ∙ old_wide) c.next_in.ensures.inks (toned at)
+    (c.tone-5.ensures.width ∙ c.self.invariant.spot_wide ∙ old_wide) (long_blank at ∙ old_wide) c.next_in.ensures.inks are
     (c.tone.ensures.own on) (c.tone-2.ensures.own on) (c.tone-3.ensures.own on) (c.tone-4.ensures.own on) kept.cyan kept.magenta kept.yellow kept.black limit
