@@ -19,36 +19,48 @@ use Rattle.plan_parts.proofs.Sound.{bind_ok}
 
 -- ---- words
 
-required_in_later : {A : Type 0} (r s : Reader A) (path : List ℕ) (found : Option Data) (x : A) → ((d : Data) → r path d ≡ Ok x → s path d ≡ Ok x) → required_in r path found ≡ Ok x → required_in s path found ≡ Ok x
+required_in_later : {A : Type 0} (r s : Reader A) (path : List ℕ) (found : Option Data) (x : A)
+    → ((d : Data) → r path d ≡ Ok x → s path d ≡ Ok x) → required_in r path found ≡ Ok x
+    → required_in s path found ≡ Ok x
 required_in_later r s path None x h e = absurd cc
 required_in_later r s path (Some d) x h e = h d e
 
-required_later : {A : Type 0} (r s : Reader A) → ((path : List ℕ) (d : Data) (x : A) → r path d ≡ Ok x → s path d ≡ Ok x) → (key path : List ℕ) (o : Data) (x : A) → required key r path o ≡ Ok x → required key s path o ≡ Ok x
+required_later : {A : Type 0} (r s : Reader A)
+    → ((path : List ℕ) (d : Data) (x : A) → r path d ≡ Ok x → s path d ≡ Ok x)
+    → (key path : List ℕ) (o : Data) (x : A) → required key r path o ≡ Ok x → required key s path o ≡ Ok x
 unfolding required
 required_later r s h key path o x e = required_in_later r s (at_key path key) (get key o) x (λ d. h (at_key path key) d x) e
 
-optional_in_later : {A : Type 0} (absent : A) (r s : Reader A) (path : List ℕ) (found : Option Data) (x : A) → ((d : Data) → r path d ≡ Ok x → s path d ≡ Ok x) → optional_in absent r path found ≡ Ok x → optional_in absent s path found ≡ Ok x
+optional_in_later : {A : Type 0} (absent : A) (r s : Reader A) (path : List ℕ) (found : Option Data) (x : A)
+    → ((d : Data) → r path d ≡ Ok x → s path d ≡ Ok x) → optional_in absent r path found ≡ Ok x
+    → optional_in absent s path found ≡ Ok x
 optional_in_later absent r s path None x h e = e
 optional_in_later absent r s path (Some d) x h e = h d e
 
-optional_later : {A : Type 0} (absent : A) (r s : Reader A) → ((path : List ℕ) (d : Data) (x : A) → r path d ≡ Ok x → s path d ≡ Ok x) → (key path : List ℕ) (o : Data) (x : A) → optional key absent r path o ≡ Ok x → optional key absent s path o ≡ Ok x
+optional_later : {A : Type 0} (absent : A) (r s : Reader A)
+    → ((path : List ℕ) (d : Data) (x : A) → r path d ≡ Ok x → s path d ≡ Ok x)
+    → (key path : List ℕ) (o : Data) (x : A) → optional key absent r path o ≡ Ok x
+    → optional key absent s path o ≡ Ok x
 unfolding optional
 optional_later absent r s h key path o x e = optional_in_later absent r s (at_key path key) (get key o) x (λ d. h (at_key path key) d x) e
 
 module _ {A : Type 0} (r s : List A → Reader A) (h : (xs : List A) (path : List ℕ) (d : Data) (x : A) → r xs path d ≡ Ok x → s xs path d ≡ Ok x) where
-  each_later : (xs : List A) (path : List ℕ) (items : Items) (ys : List A) → each_after xs r path items ≡ Ok ys → each_after xs s path items ≡ Ok ys
+  each_later : (xs : List A) (path : List ℕ) (items : Items) (ys : List A)
+      → each_after xs r path items ≡ Ok ys → each_after xs s path items ≡ Ok ys
   unfolding each_after
   each_later xs path no_items ys e = e
   each_later xs path (item d items) ys e =
       let b = bind_ok (r xs (at_item path (length xs)) d) (λ x. each_after (xs ++ x ∷ []) r path items) ys e in
       rw (h xs (at_item path (length xs)) d b.0 b.1) (each_later (xs ++ b.0 ∷ []) path items ys b.2)
 
-  list_later : (low high : ℕ) (path : List ℕ) (d : Data) (ys : List A) → list_of low high r path d ≡ Ok ys → list_of low high s path d ≡ Ok ys
+  list_later : (low high : ℕ) (path : List ℕ) (d : Data) (ys : List A) → list_of low high r path d ≡ Ok ys
+      → list_of low high s path d ≡ Ok ys
   list_later low high path d ys e =
       let b = bind_ok (items_within low high path d) (each_after [] r path) ys e in
       rw b.1 (each_later [] path b.0 ys b.2)
 
-items_wider : (path : List ℕ) (d : Data) (items : Items) → items_within 4 4 path d ≡ Ok items → items_within 4 5 path d ≡ Ok items
+items_wider : (path : List ℕ) (d : Data) (items : Items) → items_within 4 4 path d ≡ Ok items
+    → items_within 4 5 path d ≡ Ok items
 unfolding items_within
 items_wider path d items e = grind (arith, common_steps, nat_tests)
 
@@ -57,44 +69,55 @@ items_wider path d items e = grind (arith, common_steps, nat_tests)
 among_more : (key : List ℕ) → is_among (ink_keys false) key ≡ true → is_among (ink_keys true) key ≡ true
 among_more key e = grind (arith, common_steps)
 
-unknown_case : (a b : Bool) (key : List ℕ) (x y : Option (List ℕ)) → (a ≡ true → b ≡ true) → (x ≡ None → y ≡ None) → cond a x (Some key) ≡ None → cond b y (Some key) ≡ None
+unknown_case : (a b : Bool) (key : List ℕ) (x y : Option (List ℕ)) → (a ≡ true → b ≡ true)
+    → (x ≡ None → y ≡ None) → cond a x (Some key) ≡ None → cond b y (Some key) ≡ None
 unknown_case true b key x y h g e = rw (h refl) (g e)
 unknown_case false b key x y h g e = absurd cc
 
-unknown_later : (members : Members) → first_unknown (ink_keys false) members ≡ None → first_unknown (ink_keys true) members ≡ None
+unknown_later : (members : Members) → first_unknown (ink_keys false) members ≡ None
+    → first_unknown (ink_keys true) members ≡ None
 unknown_later no_members e = refl
 unknown_later (member key d members) e = unknown_case (is_among (ink_keys false) key) (is_among (ink_keys true) key) key _ _ (among_more key) (unknown_later members) e
 
-inks_later : (path : List ℕ) (d o : Data) → object_with (ink_keys false) path d ≡ Ok o → object_with (ink_keys true) path d ≡ Ok o
+inks_later : (path : List ℕ) (d o : Data) → object_with (ink_keys false) path d ≡ Ok o
+    → object_with (ink_keys true) path d ≡ Ok o
 unfolding object_with
 inks_later path d o e = grind (arith, common_steps, unknown_later)
 
 -- ---- tables
 
-screens_later : (tiles : List TileData) (path : List ℕ) (d : Data) (v : List Screen) → screens false tiles path d ≡ Ok v → screens true tiles path d ≡ Ok v
+screens_later : (tiles : List TileData) (path : List ℕ) (d : Data) (v : List Screen)
+    → screens false tiles path d ≡ Ok v → screens true tiles path d ≡ Ok v
 unfolding screens
 screens_later tiles path d v e = grind (arith, common_steps, inks_later)
 
-curves_later : (path : List ℕ) (d : Data) (v : List CurveData) → curves false path d ≡ Ok v → curves true path d ≡ Ok v
+curves_later : (path : List ℕ) (d : Data) (v : List CurveData) → curves false path d ≡ Ok v
+    → curves true path d ≡ Ok v
 unfolding curves
 curves_later path d v e = grind (arith, common_steps, inks_later)
 
-mark_inks_later : (path : List ℕ) (d : Data) (v : List Bool) → mark_inks false path d ≡ Ok v → mark_inks true path d ≡ Ok v
+mark_inks_later : (path : List ℕ) (d : Data) (v : List Bool) → mark_inks false path d ≡ Ok v
+    → mark_inks true path d ≡ Ok v
 unfolding mark_inks
 mark_inks_later path d v e = grind (arith, common_steps)
 
-mark_inks_key : (path : List ℕ) (o : Data) (v : List Bool) → required (codes "inks") (mark_inks false) path o ≡ Ok v → required (codes "inks") (mark_inks true) path o ≡ Ok v
+mark_inks_key : (path : List ℕ) (o : Data) (v : List Bool)
+    → required (codes "inks") (mark_inks false) path o ≡ Ok v
+    → required (codes "inks") (mark_inks true) path o ≡ Ok v
 mark_inks_key path o v e = required_later (mark_inks false) (mark_inks true) mark_inks_later (codes "inks") path o v e
 
-mark_in_later : (path : List ℕ) (o : Data) (m : MarkData) → mark_in false path o ≡ Ok m → mark_in true path o ≡ Ok m
+mark_in_later : (path : List ℕ) (o : Data) (m : MarkData) → mark_in false path o ≡ Ok m
+    → mark_in true path o ≡ Ok m
 unfolding mark_in
 mark_in_later path o m e = grind (arith, common_steps, mark_inks_key)
 
-mark_later : (width height : ℕ) (path : List ℕ) (d : Data) (m : MarkData) → mark false width height path d ≡ Ok m → mark true width height path d ≡ Ok m
+mark_later : (width height : ℕ) (path : List ℕ) (d : Data) (m : MarkData)
+    → mark false width height path d ≡ Ok m → mark true width height path d ≡ Ok m
 unfolding mark
 mark_later width height path d m e = grind (arith, common_steps, mark_in_later)
 
-marks_later : (width height : ℕ) (path : List ℕ) (d : Data) (v : List MarkData) → marks false width height path d ≡ Ok v → marks true width height path d ≡ Ok v
+marks_later : (width height : ℕ) (path : List ℕ) (d : Data) (v : List MarkData)
+    → marks false width height path d ≡ Ok v → marks true width height path d ≡ Ok v
 unfolding marks
 marks_later width height path d v e = list_later (λ _. mark false width height) (λ _. mark true width height) (λ _. mark_later width height) 0 64 path d v e
 
@@ -102,61 +125,84 @@ ink_later : (path : List ℕ) (d : Data) (v : List ℕ) → ink false path d ≡
 unfolding ink
 ink_later path d v e = grind (arith, common_steps, items_wider)
 
-ink_key : (absent path : List ℕ) (o : Data) (v : List ℕ) → optional (codes "ink") absent (ink false) path o ≡ Ok v → optional (codes "ink") absent (ink true) path o ≡ Ok v
+ink_key : (absent path : List ℕ) (o : Data) (v : List ℕ)
+    → optional (codes "ink") absent (ink false) path o ≡ Ok v
+    → optional (codes "ink") absent (ink true) path o ≡ Ok v
 ink_key absent path o v e = optional_later absent (ink false) (ink true) ink_later (codes "ink") path o v e
 
-painting_later : (path : List ℕ) (o : Data) (p : Painting) → painting false path o ≡ Ok p → painting true path o ≡ Ok p
+painting_later : (path : List ℕ) (o : Data) (p : Painting) → painting false path o ≡ Ok p
+    → painting true path o ≡ Ok p
 unfolding painting
 painting_later path o p e = grind (arith, common_steps, ink_key)
 
-layer_later : (path : List ℕ) (d : Data) (l : NamedLayer) → layer false path d ≡ Ok l → layer true path d ≡ Ok l
+layer_later : (path : List ℕ) (d : Data) (l : NamedLayer) → layer false path d ≡ Ok l
+    → layer true path d ≡ Ok l
 unfolding layer
 layer_later path d l e = grind (arith, common_steps, painting_later)
 
-layers_later : (path : List ℕ) (d : Data) (v : List NamedLayer) → layers false path d ≡ Ok v → layers true path d ≡ Ok v
+layers_later : (path : List ℕ) (d : Data) (v : List NamedLayer) → layers false path d ≡ Ok v
+    → layers true path d ≡ Ok v
 unfolding layers
 layers_later path d v e = list_later (λ _. layer false) (λ _. layer true) (λ _. layer_later) 0 32 path d v e
 
-layers_key : (path : List ℕ) (o : Data) (v : List NamedLayer) → required (codes "layers") (layers false) path o ≡ Ok v → required (codes "layers") (layers true) path o ≡ Ok v
+layers_key : (path : List ℕ) (o : Data) (v : List NamedLayer)
+    → required (codes "layers") (layers false) path o ≡ Ok v
+    → required (codes "layers") (layers true) path o ≡ Ok v
 layers_key path o v e = required_later (layers false) (layers true) layers_later (codes "layers") path o v e
 
-page_inks_later : (path : List ℕ) (d : Data) (v : Bool × Bool) → page_inks false path d ≡ Ok v → page_inks true path d ≡ Ok v
+page_inks_later : (path : List ℕ) (d : Data) (v : Bool × Bool) → page_inks false path d ≡ Ok v
+    → page_inks true path d ≡ Ok v
 unfolding page_inks inks_named
 page_inks_later path d v e = grind (arith, common_steps)
 
-page_inks_key : (path : List ℕ) (o : Data) (v : Bool × Bool) → required (codes "inks") (page_inks false) path o ≡ Ok v → required (codes "inks") (page_inks true) path o ≡ Ok v
+page_inks_key : (path : List ℕ) (o : Data) (v : Bool × Bool)
+    → required (codes "inks") (page_inks false) path o ≡ Ok v
+    → required (codes "inks") (page_inks true) path o ≡ Ok v
 page_inks_key path o v e = required_later (page_inks false) (page_inks true) page_inks_later (codes "inks") path o v e
 
-page_later : (earlier : List PageText) (path : List ℕ) (d : Data) (p : PageText) → page false earlier path d ≡ Ok p → page true earlier path d ≡ Ok p
+page_later : (earlier : List PageText) (path : List ℕ) (d : Data) (p : PageText)
+    → page false earlier path d ≡ Ok p → page true earlier path d ≡ Ok p
 unfolding page
 page_later earlier path d p e = grind (arith, common_steps, page_inks_key, layers_key)
 
-pages_later : (path : List ℕ) (d : Data) (v : List PageText) → pages false path d ≡ Ok v → pages true path d ≡ Ok v
+pages_later : (path : List ℕ) (d : Data) (v : List PageText) → pages false path d ≡ Ok v
+    → pages true path d ≡ Ok v
 unfolding pages
 pages_later path d v e = list_later (page false) (page true) page_later 1 2048 path d v e
 
 -- ---- the top object
 
-screens_key : (absent : List Screen) (tiles : List TileData) (path : List ℕ) (o : Data) (v : List Screen) → optional (codes "screens") absent (screens false tiles) path o ≡ Ok v → optional (codes "screens") absent (screens true tiles) path o ≡ Ok v
+screens_key : (absent : List Screen) (tiles : List TileData) (path : List ℕ) (o : Data) (v : List Screen)
+    → optional (codes "screens") absent (screens false tiles) path o ≡ Ok v
+    → optional (codes "screens") absent (screens true tiles) path o ≡ Ok v
 screens_key absent tiles path o v e = optional_later absent (screens false tiles) (screens true tiles) (screens_later tiles) (codes "screens") path o v e
 
-curves_key : (absent : List CurveData) (path : List ℕ) (o : Data) (v : List CurveData) → optional (codes "curves") absent (curves false) path o ≡ Ok v → optional (codes "curves") absent (curves true) path o ≡ Ok v
+curves_key : (absent : List CurveData) (path : List ℕ) (o : Data) (v : List CurveData)
+    → optional (codes "curves") absent (curves false) path o ≡ Ok v
+    → optional (codes "curves") absent (curves true) path o ≡ Ok v
 curves_key absent path o v e = optional_later absent (curves false) (curves true) curves_later (codes "curves") path o v e
 
-marks_key : (width height : ℕ) (path : List ℕ) (o : Data) (v : List MarkData) → optional (codes "marks") [] (marks false width height) path o ≡ Ok v → optional (codes "marks") [] (marks true width height) path o ≡ Ok v
+marks_key : (width height : ℕ) (path : List ℕ) (o : Data) (v : List MarkData)
+    → optional (codes "marks") [] (marks false width height) path o ≡ Ok v
+    → optional (codes "marks") [] (marks true width height) path o ≡ Ok v
 marks_key width height path o v e = optional_later [] (marks false width height) (marks true width height) (marks_later width height) (codes "marks") path o v e
 
-pages_key : (path : List ℕ) (o : Data) (v : List PageText) → required (codes "pages") (pages false) path o ≡ Ok v → required (codes "pages") (pages true) path o ≡ Ok v
+pages_key : (path : List ℕ) (o : Data) (v : List PageText)
+    → required (codes "pages") (pages false) path o ≡ Ok v
+    → required (codes "pages") (pages true) path o ≡ Ok v
 pages_key path o v e = required_later (pages false) (pages true) pages_later (codes "pages") path o v e
 
-inks_of_later : (width height : ℕ) (path : List ℕ) (o : Data) (i : Inks) → inks false width height path o ≡ Ok i → inks true width height path o ≡ Ok i
+inks_of_later : (width height : ℕ) (path : List ℕ) (o : Data) (i : Inks)
+    → inks false width height path o ≡ Ok i → inks true width height path o ≡ Ok i
 unfolding inks
 inks_of_later width height path o i e = grind (arith, common_steps, screens_key, curves_key, marks_key)
 
-layout_later : (path : List ℕ) (o : Data) (l : Layout) → layout false path o ≡ Ok l → layout true path o ≡ Ok l
+layout_later : (path : List ℕ) (o : Data) (l : Layout) → layout false path o ≡ Ok l
+    → layout true path o ≡ Ok l
 unfolding layout
 layout_later path o l e = grind (arith, common_steps, pages_key)
 
-pub plan_by_later : (path : List ℕ) (o : Data) (p : PlanData) → plan_by false path o ≡ Ok p → plan_by true path o ≡ Ok p
+pub plan_by_later : (path : List ℕ) (o : Data) (p : PlanData) → plan_by false path o ≡ Ok p
+    → plan_by true path o ≡ Ok p
 unfolding plan_by
 plan_by_later path o p e = grind (arith, common_steps, inks_of_later, layout_later)

@@ -20,16 +20,19 @@ Texts = List (List ℕ)
 
 -- ---- the set of files
 
-insert_case : (b : Bool) (keys : List (Bor (List ℕ))) (k : Bor (List ℕ)) → texts (cond b keys (keys ++ k ∷ [])) ≡ cond b (texts keys) (texts keys ++ k.now ∷ [])
+insert_case : (b : Bool) (keys : List (Bor (List ℕ))) (k : Bor (List ℕ))
+    → texts (cond b keys (keys ++ k ∷ [])) ≡ cond b (texts keys) (texts keys ++ k.now ∷ [])
 insert_case true keys k = refl
 insert_case false keys k = map-push (λ (s : Bor (List ℕ)). s.now) keys k
 
-pub shown-insert_key : (keys : List (Bor (List ℕ))) (k : Bor (List ℕ)) → texts (insert_key (λ a b. bytes_eq a.now b.now) keys k) ≡ insert_key bytes_eq (texts keys) k.now
+pub shown-insert_key : (keys : List (Bor (List ℕ))) (k : Bor (List ℕ))
+    → texts (insert_key (λ a b. bytes_eq a.now b.now) keys k) ≡ insert_key bytes_eq (texts keys) k.now
 shown-insert_key keys k =
     insert_case (list_any (λ b. bytes_eq k.now b.now) keys) keys k
     ∙ ap (λ b. cond b (texts keys) (texts keys ++ k.now ∷ [])) (sym (list_any-map (bytes_eq k.now) (λ (s : Bor (List ℕ)). s.now) keys))
 
-pub shown-index_of : (keys : List (Bor (List ℕ))) (s : List ℕ) → position_or_len (λ b. bytes_eq s b.now) keys ≡ index_of (texts keys) s
+pub shown-index_of : (keys : List (Bor (List ℕ))) (s : List ℕ)
+    → position_or_len (λ b. bytes_eq s b.now) keys ≡ index_of (texts keys) s
 unfolding index_of
 shown-index_of [] s = refl
 shown-index_of (k ∷ keys) s = ap (λ n. cond (not (bytes_eq s k.now)) (1 + n) 0) (shown-index_of keys s)
@@ -47,7 +50,8 @@ known_case : (b : Bool) (i n : ℕ) → cond (not b) (1 + i) 0 < suc n → (b �
 known_case true i n h = inl refl
 known_case false i n h = inr (refl, omega arith)
 
-kept : (files : Texts) (s : List ℕ) (more : Texts) → Known files s → (index_of (files ++ more) s ≡ index_of files s) × Known (files ++ more) s
+kept : (files : Texts) (s : List ℕ) (more : Texts) → Known files s
+    → (index_of (files ++ more) s ≡ index_of files s) × Known (files ++ more) s
 unfolding Known index_of
 kept [] s more h = absurd (omega arith)
 kept (f ∷ files) s more h =
@@ -59,7 +63,8 @@ kept (f ∷ files) s more h =
 itself : (s : List ℕ) → bytes_eq s s ≡ true
 itself s = (bytes_eq-Decides s s).1 refl
 
-any_case : (b rest : Bool) (i n : ℕ) → (rest ≡ true → i < n) → (b || rest) ≡ true → cond (not b) (1 + i) 0 < suc n
+any_case : (b rest : Bool) (i n : ℕ) → (rest ≡ true → i < n) → (b || rest) ≡ true
+    → cond (not b) (1 + i) 0 < suc n
 any_case true rest i n later e = omega arith
 any_case false rest i n later e = omega (arith, later e)
 
@@ -72,7 +77,8 @@ or_false : (b rest : Bool) → (b || rest) ≡ false → (b ≡ false) × (rest 
 or_false true rest e = absurd cc
 or_false false rest e = (refl, e)
 
-pub none_last : (files : Texts) (s : List ℕ) → list_any (bytes_eq s) files ≡ false → (index_of files s ≡ length files) × (index_of (files ++ s ∷ []) s ≡ length files)
+pub none_last : (files : Texts) (s : List ℕ) → list_any (bytes_eq s) files ≡ false
+    → (index_of files s ≡ length files) × (index_of (files ++ s ∷ []) s ≡ length files)
 unfolding index_of
 none_last [] s e = (refl, rw (itself s) refl)
 none_last (f ∷ files) s e =
@@ -85,17 +91,20 @@ length_last [] s = refl
 length_last (f ∷ files) s = omega (arith, length_last files s)
 
 noted_case : (b : Bool) (files : Texts) (s : List ℕ) → list_any (bytes_eq s) files ≡ b
-    → (index_of (cond b files (files ++ s ∷ [])) s ≡ index_of files s) × (index_of (cond b files (files ++ s ∷ [])) s < length (cond b files (files ++ s ∷ [])))
+    → (index_of (cond b files (files ++ s ∷ [])) s ≡ index_of files s)
+    × (index_of (cond b files (files ++ s ∷ [])) s < length (cond b files (files ++ s ∷ [])))
 unfolding Known
 noted_case true files s e = (refl, any_known files s e)
 noted_case false files s e = let h = none_last files s e in (h.1 ∙ sym h.0, omega (arith, h.1, length_last files s))
 
 -- a file that is added has its old index, or the next one
-pub noted : (files : Texts) (s : List ℕ) → (index_of (insert_key bytes_eq files s) s ≡ index_of files s) × Known (insert_key bytes_eq files s) s
+pub noted : (files : Texts) (s : List ℕ)
+    → (index_of (insert_key bytes_eq files s) s ≡ index_of files s) × Known (insert_key bytes_eq files s) s
 unfolding Known
 noted files s = noted_case _ files s refl
 
-one_case : (b : Bool) (files : Texts) (s : List ℕ) → (more : Texts) × (cond b files (files ++ s ∷ []) ≡ files ++ more)
+one_case : (b : Bool) (files : Texts) (s : List ℕ)
+    → (more : Texts) × (cond b files (files ++ s ∷ []) ≡ files ++ more)
 one_case true files s = ([], sym (append-nil files))
 one_case false files s = (s ∷ [], refl)
 
@@ -106,7 +115,8 @@ grows files (x ∷ xs) =
     let rest = grows (insert_key bytes_eq files x) xs in
     (one.0 ++ rest.0, rest.1 ∙ ap (λ fs. fs ++ rest.0) one.1 ∙ append_assoc files one.0 rest.0)
 
-pub stays : (files : Texts) (s : List ℕ) (xs : Texts) → Known files s → (index_of (insert_all bytes_eq files xs) s ≡ index_of files s) × Known (insert_all bytes_eq files xs) s
+pub stays : (files : Texts) (s : List ℕ) (xs : Texts) → Known files s
+    → (index_of (insert_all bytes_eq files xs) s ≡ index_of files s) × Known (insert_all bytes_eq files xs) s
 stays files s xs h =
     let g = grows files xs in
     let k = kept files s g.0 h in
@@ -120,35 +130,45 @@ all_known files (x ∷ xs) =
 
 -- ---- a layer
 
-mask_same : (files : Texts) (mask : Option (List ℕ)) (more : Texts) → AllByRecursion (Known files) (option_to_list mask) → option_map (index_of (insert_all bytes_eq files more)) mask ≡ option_map (index_of files) mask
+mask_same : (files : Texts) (mask : Option (List ℕ)) (more : Texts)
+    → AllByRecursion (Known files) (option_to_list mask)
+    → option_map (index_of (insert_all bytes_eq files more)) mask ≡ option_map (index_of files) mask
 mask_same files None more h = refl
 mask_same files (Some s) more h = ap Some (stays files s more h.0).0
 
-layer_same : (files : Texts) (layer : NamedLayer) (more : Texts) → AllByRecursion (Known files) (named_by layer) → layer_of (insert_all bytes_eq files more) layer ≡ layer_of files layer
+pub layer_same : (files : Texts) (layer : NamedLayer) (more : Texts)
+    → AllByRecursion (Known files) (named_by layer)
+    → layer_of (insert_all bytes_eq files more) layer ≡ layer_of files layer
 unfolding layer_of
 layer_same files layer more h = rw ((stays files layer.file more h.0).0, mask_same files layer.mask more h.1) refl
 
-mask_noted : (files : Texts) (mask : Option (List ℕ)) → option_map (index_of (insert_all bytes_eq files (option_to_list mask))) mask ≡ option_map (index_of files) mask
+mask_noted : (files : Texts) (mask : Option (List ℕ))
+    → option_map (index_of (insert_all bytes_eq files (option_to_list mask))) mask
+    ≡ option_map (index_of files) mask
 mask_noted files None = refl
 mask_noted files (Some s) = ap Some (noted files s).0
 
 -- ---- items in sequence
 
-pub split : {A : Type 0} (P : A → Type 0) (xs ys : List A) → AllByRecursion P (xs ++ ys) → AllByRecursion P xs × AllByRecursion P ys
+pub split : {A : Type 0} (P : A → Type 0) (xs ys : List A) → AllByRecursion P (xs ++ ys)
+    → AllByRecursion P xs × AllByRecursion P ys
 split P [] ys h = (tt, h)
 split P (x ∷ xs) ys h = let rest = split P xs ys h.1 in ((h.0, rest.0), rest.1)
 
 module _ {X Y : Type 0} (names : X → Texts) (of : Texts → X → Y) (same : (files : Texts) (x : X) (more : Texts) → AllByRecursion (Known files) (names x) → of (insert_all bytes_eq files more) x ≡ of files x) where
-  map_same : (files : Texts) (xs : List X) (more : Texts) → AllByRecursion (Known files) (flat_map names xs) → map (of (insert_all bytes_eq files more)) xs ≡ map (of files) xs
+  map_same : (files : Texts) (xs : List X) (more : Texts) → AllByRecursion (Known files) (flat_map names xs)
+      → map (of (insert_all bytes_eq files more)) xs ≡ map (of files) xs
   map_same files [] more h = refl
   map_same files (x ∷ xs) more h =
       let parts = split (Known files) (names x) (flat_map names xs) h in
       rw (same files x more parts.0) (ap (λ ys. of files x ∷ ys) (map_same files xs more parts.1))
 
-  place_none : (old : Texts) → PlacesAll names of old [] old []
+  pub place_none : (old : Texts) → PlacesAll names of old [] old []
   place_none old = record { files = refl; items = refl }
 
-  place_more : (old : Texts) (done : List X) (x : X) (mid new : Texts) (ys : List Y) (y : Y) → PlacesAll names of old done mid ys → Places names of mid x new y → PlacesAll names of old (done ++ x ∷ []) new (ys ++ y ∷ [])
+  place_more : (old : Texts) (done : List X) (x : X) (mid new : Texts) (ys : List Y) (y : Y)
+      → PlacesAll names of old done mid ys → Places names of mid x new y
+      → PlacesAll names of old (done ++ x ∷ []) new (ys ++ y ∷ [])
   place_more old done x mid new ys y before one =
       let joined : flat_map names (done ++ x ∷ []) ≡ flat_map names done ++ names x = flat_map-append names done (x ∷ []) ∙ ap (λ fs. flat_map names done ++ fs) (append-nil (names x)) in
       let known : AllByRecursion (Known mid) (flat_map names done) = subst (λ (fs : Texts). AllByRecursion (Known fs) (flat_map names done)) (sym before.files) (all_known old (flat_map names done)) in
@@ -158,38 +178,35 @@ module _ {X Y : Type 0} (names : X → Texts) (of : Texts → X → Y) (same : (
         items = ap (λ zs. zs ++ y ∷ []) (before.items ∙ sym placed) ∙ ap (λ z. map (of new) done ++ z ∷ []) one.item ∙ sym (map-push (of new) done x);
       }
 
-page_same : (files : Texts) (page : PageText) (more : Texts) → AllByRecursion (Known files) (named_on page) → page_of (insert_all bytes_eq files more) page ≡ page_of files page
+  -- the next of a list of items
+  pub place_next : (old : Texts) (xs : List X) (i : ℕ) (x : X) (mid new : Texts) (ys : List Y) (y : Y)
+      → i < length xs
+      → x ≡ get_or xs i x → PlacesAll names of old (take i xs) mid ys → Places names of mid x new y
+      → PlacesAll names of old (take (i + 1) xs) new (ys ++ y ∷ [])
+  place_next old xs i x mid new ys y less is before one =
+      let front : take (i + 1) xs ≡ take i xs ++ x ∷ [] = take_more xs i x less ∙ ap (λ l. take i xs ++ l ∷ []) (sym is) in
+      rw front (place_more old (take i xs) x mid new ys y before one)
+
+pub page_same : (files : Texts) (page : PageText) (more : Texts)
+    → AllByRecursion (Known files) (named_on page)
+    → page_of (insert_all bytes_eq files more) page ≡ page_of files page
 unfolding page_of
 page_same files page more h = rw (map_same named_by layer_of layer_same files page.layers more h) refl
 
--- ---- the steps of the code
-
-pub layers-none : (old : Texts) → PlacesAll named_by layer_of old [] old []
-layers-none old = place_none named_by layer_of layer_same old
-
-pub layers-more : (old : Texts) (layers : List NamedLayer) (i : ℕ) (layer : NamedLayer) (mid new : Texts) (ys : List LayerData) (y : LayerData) → i < length layers → layer ≡ get_or layers i layer
-    → PlacesAll named_by layer_of old (take i layers) mid ys → Places named_by layer_of mid layer new y → PlacesAll named_by layer_of old (take (i + 1) layers) new (ys ++ y ∷ [])
-layers-more old layers i layer mid new ys y less is before one =
-    let front : take (i + 1) layers ≡ take i layers ++ layer ∷ [] = take_more layers i layer less ∙ ap (λ l. take i layers ++ l ∷ []) (sym is) in
-    rw front (place_more named_by layer_of layer_same old (take i layers) layer mid new ys y before one)
-
-pub pages-none : (old : Texts) → PlacesAll named_on page_of old [] old []
-pages-none old = place_none named_on page_of page_same old
-
-pub pages-more : (old : Texts) (pages : List PageText) (i : ℕ) (page : PageText) (mid new : Texts) (ys : List PageData) (y : PageData) → i < length pages → page ≡ get_or pages i page
-    → PlacesAll named_on page_of old (take i pages) mid ys → Places named_on page_of mid page new y → PlacesAll named_on page_of old (take (i + 1) pages) new (ys ++ y ∷ [])
-pages-more old pages i page mid new ys y less is before one =
-    let front : take (i + 1) pages ≡ take i pages ++ page ∷ [] = take_more pages i page less ∙ ap (λ p. take i pages ++ p ∷ []) (sym is) in
-    rw front (place_more named_on page_of page_same old (take i pages) page mid new ys y before one)
+-- ---- a mask
 
 pub mask-none : (old : Texts) → NotesMask old None old None
 mask-none old = record { files = refl; index_is = refl }
 
-pub mask-some : (old new : Texts) (s : List ℕ) (i : ℕ) → new ≡ insert_key bytes_eq old s → i ≡ index_of old s → NotesMask old (Some s) new (Some i)
+pub mask-some : (old new : Texts) (s : List ℕ) (i : ℕ) → new ≡ insert_key bytes_eq old s → i ≡ index_of old s
+    → NotesMask old (Some s) new (Some i)
 mask-some old new s i files index = record { files = files; index_is = ap Some index }
 
-pub layer-placed : (old mid new : Texts) (layer : NamedLayer) (file : ℕ) (mask : Option ℕ) → mid ≡ insert_key bytes_eq old layer.file → file ≡ index_of old layer.file → NotesMask mid layer.mask new mask
-    → Places named_by layer_of old layer new (record { line = layer.line; file = file; x = layer.x; y = layer.y; scale = layer.scale; crop = layer.crop; mask = mask; overprint = layer.overprint; ink = layer.ink })
+pub layer-placed : (old mid new : Texts) (layer : NamedLayer) (file : ℕ) (mask : Option ℕ)
+    → mid ≡ insert_key bytes_eq old layer.file → file ≡ index_of old layer.file
+    → NotesMask mid layer.mask new mask
+    → Places named_by layer_of old layer new
+    (record { line = layer.line; file = file; x = layer.x; y = layer.y; scale = layer.scale; crop = layer.crop; mask = mask; overprint = layer.overprint; ink = layer.ink })
 unfolding layer_of
 layer-placed old mid new layer file mask files index masked =
     let n = noted old layer.file in
@@ -202,18 +219,25 @@ layer-placed old mid new layer file mask files index masked =
       item = rw (there, same) refl;
     }
 
-pub page-placed : (old new : Texts) (page : PageText) (layers : List LayerData) → PlacesAll named_by layer_of old page.layers new layers
-    → Places named_on page_of old page new (record { name = page.name; colour = page.colour; spot = page.spot; layers = layers })
+pub page-placed : (old new : Texts) (page : PageText) (layers : List LayerData)
+    → PlacesAll named_by layer_of old page.layers new layers
+    → Places named_on page_of old page new
+    (record { name = page.name; colour = page.colour; spot = page.spot; layers = layers })
 unfolding page_of
 page-placed old new page layers all = record { files = all.files; item = rw all.items refl }
 
-pub page-shown : (old new : Texts) (page : PageText) (name : List ℕ) (colour spot : Bool) (from : List NamedLayer) (layers : List LayerData) → ◌≡◌ {A = PageText} (record { name = name; colour = colour; spot = spot; layers = from }) page
-    → PlacesAll named_by layer_of old from new layers → Places named_on page_of old page new (record { name = name; colour = colour; spot = spot; layers = layers })
+pub page-shown : (old new : Texts) (page : PageText) (name : List ℕ) (colour spot : Bool)
+    (from : List NamedLayer) (layers : List LayerData)
+    → ◌≡◌ {A = PageText} (record { name = name; colour = colour; spot = spot; layers = from }) page
+    → PlacesAll named_by layer_of old from new layers
+    → Places named_on page_of old page new
+    (record { name = name; colour = colour; spot = spot; layers = layers })
 page-shown old new page name colour spot from layers is all =
     subst (λ (p : PageText). Places named_on page_of old p new (record { name = name; colour = colour; spot = spot; layers = layers })) is
     (page-placed old new (record { name = name; colour = colour; spot = spot; layers = from }) layers all)
 
-pub pages-placed : (old : Texts) (pages : List PageText) (new : Texts) (ys : List PageData) → old ≡ [] → PlacesAll named_on page_of old pages new ys → (ys ≡ pages_of pages) × (new ≡ files_of pages)
+pub pages-placed : (old : Texts) (pages : List PageText) (new : Texts) (ys : List PageData) → old ≡ []
+    → PlacesAll named_on page_of old pages new ys → (ys ≡ pages_of pages) × (new ≡ files_of pages)
 unfolding pages_of files_of
 pages-placed old pages new ys none all =
     let files : new ≡ insert_all bytes_eq [] (flat_map named_on pages) = all.files ∙ ap (λ fs. insert_all bytes_eq fs (flat_map named_on pages)) none in

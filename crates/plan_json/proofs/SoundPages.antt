@@ -37,7 +37,8 @@ crop_sound : (path : List ℕ) (d : Data) (c : Option (List ℕ)) → crop path 
 unfolding crop
 crop_sound path d c e = grind (arith, common_steps, nth_sound)
 
-mask_sound : (path : List ℕ) (d : Data) (m : Option (List ℕ)) → mask path d ≡ Ok m → IfSome m (λ mask. is_file_name mask ≡ true)
+mask_sound : (path : List ℕ) (d : Data) (m : Option (List ℕ)) → mask path d ≡ Ok m
+    → IfSome m (λ mask. is_file_name mask ≡ true)
 unfolding mask
 mask_sound path d m e = grind (arith, common_steps, file_name_sound)
 
@@ -47,14 +48,16 @@ AreValues ink = (length ink ≡ 5) × All (IsWithin 0 255) ink
 value : (n : ℕ) → n ≤ 255 → IsWithin 0 255 n
 value n h = record { least = omega arith; most = h }
 
-fifth_case : (path : List ℕ) (found : Option Data) (n : ℕ) → optional_in 0 (number 0 255) path found ≡ Ok n → n ≤ 255
+fifth_case : (path : List ℕ) (found : Option Data) (n : ℕ) → optional_in 0 (number 0 255) path found ≡ Ok n
+    → n ≤ 255
 fifth_case path None n e = let same : 0 ≡ n = cc in omega arith
 fifth_case path (Some d) n e = (number_sound 0 255 path d n e).most
 
 fifth_sound : (path : List ℕ) (items : Items) (n : ℕ) → fifth path items ≡ Ok n → n ≤ 255
 fifth_sound path items n e = fifth_case (at_item path 4) (get_item 4 items) n e
 
-five_values : (c m y k s : ℕ) → c ≤ 255 → m ≤ 255 → y ≤ 255 → k ≤ 255 → s ≤ 255 → All (IsWithin 0 255) (c ∷ m ∷ y ∷ k ∷ s ∷ [])
+five_values : (c m y k s : ℕ) → c ≤ 255 → m ≤ 255 → y ≤ 255 → k ≤ 255 → s ≤ 255
+    → All (IsWithin 0 255) (c ∷ m ∷ y ∷ k ∷ s ∷ [])
 five_values c m y k s a b d e f = five (IsWithin 0 255) c m y k s (value c a) (value m b) (value y d) (value k e) (value s f)
 
 ink_sound : (spot : Bool) (path : List ℕ) (d : Data) (v : List ℕ) → ink spot path d ≡ Ok v → AreValues v
@@ -72,13 +75,16 @@ ink_sound spot path d v e =
 black_sound : AreValues black
 black_sound = (refl, five_values 0 0 0 255 0 (omega arith) (omega arith) (omega arith) (omega arith) (omega arith))
 
-crop_optional : (key path : List ℕ) (o : Data) (c : Option (List ℕ)) → optional key None crop path o ≡ Ok c → IfSome c IsCrop
+crop_optional : (key path : List ℕ) (o : Data) (c : Option (List ℕ)) → optional key None crop path o ≡ Ok c
+    → IfSome c IsCrop
 crop_optional key path o c e = optional_gives (λ c. IfSome c IsCrop) None crop tt crop_sound key path o c e
 
-mask_optional : (key path : List ℕ) (o : Data) (m : Option (List ℕ)) → optional key None mask path o ≡ Ok m → IfSome m (λ mask. is_file_name mask ≡ true)
+mask_optional : (key path : List ℕ) (o : Data) (m : Option (List ℕ)) → optional key None mask path o ≡ Ok m
+    → IfSome m (λ mask. is_file_name mask ≡ true)
 mask_optional key path o m e = optional_gives (λ m. IfSome m (λ mask. is_file_name mask ≡ true)) None mask tt mask_sound key path o m e
 
-ink_optional : (key : List ℕ) (spot : Bool) (path : List ℕ) (o : Data) (v : List ℕ) → optional key black (ink spot) path o ≡ Ok v → AreValues v
+ink_optional : (key : List ℕ) (spot : Bool) (path : List ℕ) (o : Data) (v : List ℕ)
+    → optional key black (ink spot) path o ≡ Ok v → AreValues v
 ink_optional key spot path o v e = optional_gives AreValues black (ink spot) black_sound (ink_sound spot) key path o v e
 
 record IsPainted (p : Painting) : Type 0 where
@@ -87,7 +93,8 @@ record IsPainted (p : Painting) : Type 0 where
   inks : length p.ink ≡ 5
   ink : All (IsWithin 0 255) p.ink
 
-painted_sound : (spot : Bool) (path : List ℕ) (o : Data) (p : Painting) → painting spot path o ≡ Ok p → IsPainted p
+painted_sound : (spot : Bool) (path : List ℕ) (o : Data) (p : Painting) → painting spot path o ≡ Ok p
+    → IsPainted p
 unfolding painting
 painted_sound spot path o p e =
     let s0 = bind_ok (optional (codes "crop") None crop path o) (λ crop. optional (codes "mask") None mask path o >>= λ mask. optional (codes "paint") false paint path o >>= λ overprint. optional (codes "ink") black (ink spot) path o >>= λ ink. Ok (record { crop = crop; mask = mask; overprint = overprint; ink = ink })) p e in
@@ -112,7 +119,8 @@ placing_sound path o p e =
     let same = ok_is {A = Placing} (record { x = s0.0; y = s1.0; scale = s2.0 }) p s2.2 in
     subst IsPlaced same (record { x = (number_optional (codes "x") 0 0 65535 path o s0.0 (omega arith) (omega arith) s0.1).most; y = (number_optional (codes "y") 0 0 65535 path o s1.0 (omega arith) (omega arith) s1.1).most; scale = number_optional (codes "scale") 1 1 64 path o s2.0 (omega arith) (omega arith) s2.1 })
 
-layer_sound : (spot : Bool) (path : List ℕ) (d : Data) (l : NamedLayer) → layer spot path d ≡ Ok l → IsNamedLayer l
+layer_sound : (spot : Bool) (path : List ℕ) (d : Data) (l : NamedLayer) → layer spot path d ≡ Ok l
+    → IsNamedLayer l
 unfolding layer
 layer_sound spot path d l e =
     let s0 = bind_ok (object_with layer_keys path d) (λ o. required (codes "kind") kind path o >>= λ line. required (codes "file") file_name path o >>= λ file. placing path o >>= λ at. painting spot path o >>= λ how. Ok (record { line = line; file = file; x = at.x; y = at.y; scale = at.scale; crop = how.crop; mask = how.mask; overprint = how.overprint; ink = how.ink })) l e in
@@ -132,16 +140,19 @@ pub record IsPageText (page : PageText) : Type 0 where
   pub count : length page.layers ≤ 32
   pub layers : All IsNamedLayer page.layers
 
-layers_sound : (spot : Bool) (path : List ℕ) (d : Data) (v : List NamedLayer) → layers spot path d ≡ Ok v → All IsNamedLayer v × (length v ≤ 32)
+layers_sound : (spot : Bool) (path : List ℕ) (d : Data) (v : List NamedLayer) → layers spot path d ≡ Ok v
+    → All IsNamedLayer v × (length v ≤ 32)
 unfolding layers
 layers_sound spot path d v e =
     let kept = list_keeps (λ _. layer spot) (All IsNamedLayer) (λ xs path d x h one. All-push IsNamedLayer xs x h (layer_sound spot path d x one)) 0 32 path d v (All-nil IsNamedLayer) e in
     (kept.0, kept.1.most)
 
-layers_required : (key : List ℕ) (spot : Bool) (path : List ℕ) (o : Data) (v : List NamedLayer) → required key (layers spot) path o ≡ Ok v → All IsNamedLayer v × (length v ≤ 32)
+layers_required : (key : List ℕ) (spot : Bool) (path : List ℕ) (o : Data) (v : List NamedLayer)
+    → required key (layers spot) path o ≡ Ok v → All IsNamedLayer v × (length v ≤ 32)
 layers_required key spot path o v e = required_gives (λ v. All IsNamedLayer v × (length v ≤ 32)) (layers spot) (layers_sound spot) key path o v e
 
-page_sound : (spot : Bool) (earlier : List PageText) (path : List ℕ) (d : Data) (p : PageText) → page spot earlier path d ≡ Ok p → IsPageText p × (index_in (page_names earlier) p.name ≡ None)
+page_sound : (spot : Bool) (earlier : List PageText) (path : List ℕ) (d : Data) (p : PageText)
+    → page spot earlier path d ≡ Ok p → IsPageText p × (index_in (page_names earlier) p.name ≡ None)
 unfolding page
 page_sound spot earlier path d p e =
     let s0 = bind_ok (object_with page_keys path d) (λ o. required (codes "name") (new_name (page_names earlier)) path o >>= λ name. required (codes "inks") (page_inks spot) path o >>= λ inks. required (codes "layers") (layers spot) path o >>= λ all. Ok (record { name = name; colour = inks.0; spot = inks.1; layers = all })) p e in
@@ -156,11 +167,13 @@ page_sound spot earlier path d p e =
 abbrev pub ArePages : List PageText → Type 0
 ArePages pages = All IsPageText pages × AreDistinct (page_names pages)
 
-pages_step : (spot : Bool) (xs : List PageText) (path : List ℕ) (d : Data) (x : PageText) → ArePages xs → page spot xs path d ≡ Ok x → ArePages (xs ++ x ∷ [])
+pages_step : (spot : Bool) (xs : List PageText) (path : List ℕ) (d : Data) (x : PageText) → ArePages xs
+    → page spot xs path d ≡ Ok x → ArePages (xs ++ x ∷ [])
 pages_step spot xs path d x h e =
     let t = page_sound spot xs path d x e in
     (All-push IsPageText xs x h.0 t.0, rw (map-push (λ (t : PageText). t.name) xs x) (distinct-push (page_names xs) x.name t.1 h.1))
 
-pub pages_sound : (spot : Bool) (path : List ℕ) (d : Data) (v : List PageText) → pages spot path d ≡ Ok v → ArePages v × IsWithin 1 2048 (length v)
+pub pages_sound : (spot : Bool) (path : List ℕ) (d : Data) (v : List PageText) → pages spot path d ≡ Ok v
+    → ArePages v × IsWithin 1 2048 (length v)
 unfolding pages
 pages_sound spot path d v e = list_keeps (page spot) ArePages (pages_step spot) 1 2048 path d v (All-nil IsPageText, none_apart) e

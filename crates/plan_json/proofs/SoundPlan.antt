@@ -30,7 +30,8 @@ use Rattle.plan_json.proofs.SoundFiles.{pages_of_are, length-pages_of, names-pag
 
 -- ---- the first keys
 
-page_size_sound : (path : List ℕ) (d : Data) (p : ℕ × ℕ) → page_size path d ≡ Ok p → IsWithin 1 65535 p.0 × IsWithin 1 65535 p.1
+page_size_sound : (path : List ℕ) (d : Data) (p : ℕ × ℕ) → page_size path d ≡ Ok p
+    → IsWithin 1 65535 p.0 × IsWithin 1 65535 p.1
 unfolding page_size
 page_size_sound path d p e = grind (arith, common_steps, nth_sound)
 
@@ -38,10 +39,12 @@ margins_sound : (path : List ℕ) (d : Data) (m : List ℕ) → margins path d �
 unfolding margins
 margins_sound path d m e = grind (arith, common_steps)
 
-page_required : (key path : List ℕ) (o : Data) (p : ℕ × ℕ) → required key page_size path o ≡ Ok p → IsWithin 1 65535 p.0 × IsWithin 1 65535 p.1
+page_required : (key path : List ℕ) (o : Data) (p : ℕ × ℕ) → required key page_size path o ≡ Ok p
+    → IsWithin 1 65535 p.0 × IsWithin 1 65535 p.1
 page_required key path o p e = required_gives (λ p. IsWithin 1 65535 p.0 × IsWithin 1 65535 p.1) page_size page_size_sound key path o p e
 
-margins_optional : (key path : List ℕ) (o : Data) (m : List ℕ) → optional key no_margins margins path o ≡ Ok m → length m ≡ 4
+margins_optional : (key path : List ℕ) (o : Data) (m : List ℕ) → optional key no_margins margins path o ≡ Ok m
+    → length m ≡ 4
 margins_optional key path o m e = optional_gives (λ m. length m ≡ 4) no_margins margins refl margins_sound key path o m e
 
 record IsFront (f : Front) : Type 0 where
@@ -79,19 +82,26 @@ record AreInks (width height : ℕ) (i : Inks) : Type 0 where
   marks : All (IsMark width height) i.marks
   mark_count : length i.marks ≤ 64
 
-tiles_optional : (key path : List ℕ) (o : Data) (v : List TileData) → optional key [] tiles path o ≡ Ok v → AreTiles v × (length v ≤ 16)
+tiles_optional : (key path : List ℕ) (o : Data) (v : List TileData) → optional key [] tiles path o ≡ Ok v
+    → AreTiles v × (length v ≤ 16)
 tiles_optional key path o v e = optional_gives (λ v. AreTiles v × (length v ≤ 16)) [] tiles (no_tiles, omega arith) tiles_sound key path o v e
 
-screens_optional : (key : List ℕ) (spot : Bool) (tiles : List TileData) (path : List ℕ) (o : Data) (v : List Screen) → optional key bayer_screens (screens spot tiles) path o ≡ Ok v → AreScreens (length tiles) v
+screens_optional : (key : List ℕ) (spot : Bool) (tiles : List TileData) (path : List ℕ) (o : Data)
+    (v : List Screen) → optional key bayer_screens (screens spot tiles) path o ≡ Ok v
+    → AreScreens (length tiles) v
 screens_optional key spot tiles path o v e = optional_gives (AreScreens (length tiles)) bayer_screens (screens spot tiles) (bayer_screens_sound (length tiles)) (screens_sound spot tiles) key path o v e
 
-curves_optional : (key : List ℕ) (spot : Bool) (path : List ℕ) (o : Data) (v : List CurveData) → optional key identities (curves spot) path o ≡ Ok v → AreCurves v
+curves_optional : (key : List ℕ) (spot : Bool) (path : List ℕ) (o : Data) (v : List CurveData)
+    → optional key identities (curves spot) path o ≡ Ok v → AreCurves v
 curves_optional key spot path o v e = optional_gives AreCurves identities (curves spot) identities_sound (curves_sound spot) key path o v e
 
-marks_optional : (key : List ℕ) (spot : Bool) (width height : ℕ) (path : List ℕ) (o : Data) (v : List MarkData) → optional key [] (marks spot width height) path o ≡ Ok v → All (IsMark width height) v × (length v ≤ 64)
+marks_optional : (key : List ℕ) (spot : Bool) (width height : ℕ) (path : List ℕ) (o : Data)
+    (v : List MarkData) → optional key [] (marks spot width height) path o ≡ Ok v
+    → All (IsMark width height) v × (length v ≤ 64)
 marks_optional key spot width height path o v e = optional_gives (λ v. All (IsMark width height) v × (length v ≤ 64)) [] (marks spot width height) (no_marks width height, omega arith) (marks_sound spot width height) key path o v e
 
-inks_sound : (spot : Bool) (width height : ℕ) (path : List ℕ) (o : Data) (i : Inks) → inks spot width height path o ≡ Ok i → AreInks width height i
+inks_sound : (spot : Bool) (width height : ℕ) (path : List ℕ) (o : Data) (i : Inks)
+    → inks spot width height path o ≡ Ok i → AreInks width height i
 unfolding inks
 inks_sound spot width height path o i e =
     let s0 = bind_ok (optional (codes "tiles") [] tiles path o) (λ own. optional (codes "screens") bayer_screens (screens spot own) path o >>= λ shown. optional (codes "curves") identities (curves spot) path o >>= λ drawn. optional (codes "marks") [] (marks spot width height) path o >>= λ put. Ok (record { tiles = own; screens = shown; curves = drawn; marks = put })) i e in
@@ -115,16 +125,21 @@ record IsLayout (l : Layout) : Type 0 where
   sites : AreSites (length (zone_names l.zones)) l.sites
   site_count : IsWithin 1 16 (length l.sites)
 
-pages_required : (key : List ℕ) (spot : Bool) (path : List ℕ) (o : Data) (v : List PageText) → required key (pages spot) path o ≡ Ok v → ArePages v × IsWithin 1 2048 (length v)
+pages_required : (key : List ℕ) (spot : Bool) (path : List ℕ) (o : Data) (v : List PageText)
+    → required key (pages spot) path o ≡ Ok v → ArePages v × IsWithin 1 2048 (length v)
 pages_required key spot path o v e = required_gives (λ v. ArePages v × IsWithin 1 2048 (length v)) (pages spot) (pages_sound spot) key path o v e
 
-sections_required : (key : List ℕ) (names : List (List ℕ)) (path : List ℕ) (o : Data) (v : List SectionData) → required key (sections names) path o ≡ Ok v → AreSections (length names) v × IsWithin 1 8 (length v)
+sections_required : (key : List ℕ) (names : List (List ℕ)) (path : List ℕ) (o : Data) (v : List SectionData)
+    → required key (sections names) path o ≡ Ok v → AreSections (length names) v × IsWithin 1 8 (length v)
 sections_required key names path o v e = required_gives (λ v. AreSections (length names) v × IsWithin 1 8 (length v)) (sections names) (sections_sound names) key path o v e
 
-zones_optional : (key : List ℕ) (names : List (List ℕ)) (s : List SectionData) (path : List ℕ) (o : Data) (v : List ZoneData) → optional key [] (zones names s) path o ≡ Ok v → AreZones (length names) s v × (length v ≤ 16)
+zones_optional : (key : List ℕ) (names : List (List ℕ)) (s : List SectionData) (path : List ℕ) (o : Data)
+    (v : List ZoneData) → optional key [] (zones names s) path o ≡ Ok v
+    → AreZones (length names) s v × (length v ≤ 16)
 zones_optional key names s path o v e = optional_gives (λ v. AreZones (length names) s v × (length v ≤ 16)) [] (zones names s) (no_zones (length names) s, omega arith) (zones_sound names s) key path o v e
 
-sites_required : (key : List ℕ) (names : List (List ℕ)) (path : List ℕ) (o : Data) (v : List SiteData) → required key (sites names) path o ≡ Ok v → AreSites (length names) v × IsWithin 1 16 (length v)
+sites_required : (key : List ℕ) (names : List (List ℕ)) (path : List ℕ) (o : Data) (v : List SiteData)
+    → required key (sites names) path o ≡ Ok v → AreSites (length names) v × IsWithin 1 16 (length v)
 sites_required key names path o v e = required_gives (λ v. AreSites (length names) v × IsWithin 1 16 (length v)) (sites names) (sites_sound names) key path o v e
 
 layout_sound : (spot : Bool) (path : List ℕ) (o : Data) (l : Layout) → layout spot path o ≡ Ok l → IsLayout l
@@ -146,7 +161,9 @@ layout_sound spot path o l e =
 names_count : (pages : List PageText) → length (page_names pages) ≡ length (pages_of pages)
 names_count pages = length-map (λ (p : PageText). p.name) pages ∙ sym (length-pages_of pages)
 
-joined_sound : (f : Front) (i : Inks) (l : Layout) → IsFront f → AreInks (width_over f.margins f.page_width f.gutter) (height_over f.margins f.page_height) i → IsLayout l → IsPlan (joined f i l)
+joined_sound : (f : Front) (i : Inks) (l : Layout) → IsFront f
+    → AreInks (width_over f.margins f.page_width f.gutter) (height_over f.margins f.page_height) i
+    → IsLayout l → IsPlan (joined f i l)
 unfolding joined
 joined_sound f i l F I L =
     let n = names_count l.pages in
@@ -185,7 +202,8 @@ joined_sound f i l F I L =
       first_mention = first_mentions l.pages;
     }
 
-pub plan_by_sound : (spot : Bool) (path : List ℕ) (o : Data) (p : PlanData) → plan_by spot path o ≡ Ok p → IsPlan p
+pub plan_by_sound : (spot : Bool) (path : List ℕ) (o : Data) (p : PlanData) → plan_by spot path o ≡ Ok p
+    → IsPlan p
 unfolding plan_by
 plan_by_sound spot path o p e =
     let width : Front → ℕ = λ f. width_over f.margins f.page_width f.gutter in
@@ -198,7 +216,8 @@ plan_by_sound spot path o p e =
 
 -- ---- the plan in memory
 
-abbrev pub written : Front → List TileData → List Screen → List CurveData → List MarkData → List PageData → List SectionData → List ZoneData → List SiteData → List (List ℕ) → PlanData
+abbrev pub written : Front → List TileData → List Screen → List CurveData → List MarkData → List PageData
+    → List SectionData → List ZoneData → List SiteData → List (List ℕ) → PlanData
 written f ts ss cs ms ps ses zs sts fs = record {
   edition = f.edition;
   dpi = f.dpi;
@@ -224,22 +243,32 @@ inks_of ts ss cs ms = record { tiles = ts; screens = ss; curves = cs; marks = ms
 abbrev pub layout_of : List PageText → List SectionData → List ZoneData → List SiteData → Layout
 layout_of ps ses zs sts = record { pages = ps; sections = ses; zones = zs; sites = sts }
 
-plan_made : (spot : Bool) (path : List ℕ) (o : Data) (f : Front) (i : Inks) (l : Layout) (width height : ℕ) → front path o ≡ Ok f → width ≡ width_over f.margins f.page_width f.gutter → height ≡ height_over f.margins f.page_height
-    → inks spot width height path o ≡ Ok i → layout spot path o ≡ Ok l → plan_by spot path o ≡ Ok (joined f i l)
+plan_made : (spot : Bool) (path : List ℕ) (o : Data) (f : Front) (i : Inks) (l : Layout) (width height : ℕ)
+    → front path o ≡ Ok f → width ≡ width_over f.margins f.page_width f.gutter
+    → height ≡ height_over f.margins f.page_height
+    → inks spot width height path o ≡ Ok i → layout spot path o ≡ Ok l
+    → plan_by spot path o ≡ Ok (joined f i l)
 unfolding plan_by
 plan_made spot path o f i l width height front-is width-is height-is inks-is layout-is =
     let inks-there = rw (width-is, height-is) at inks-is in
     rw (front-is, inks-there, layout-is) refl
 
-joined_written : (f : Front) (ts : List TileData) (ss : List Screen) (cs : List CurveData) (ms : List MarkData) (from : List PageText) (ses : List SectionData) (zs : List ZoneData) (sts : List SiteData) (ps : List PageData) (fs : List (List ℕ))
-    → ps ≡ pages_of from → fs ≡ files_of from → joined f (inks_of ts ss cs ms) (layout_of from ses zs sts) ≡ written f ts ss cs ms ps ses zs sts fs
+joined_written : (f : Front) (ts : List TileData) (ss : List Screen) (cs : List CurveData)
+    (ms : List MarkData) (from : List PageText) (ses : List SectionData) (zs : List ZoneData)
+    (sts : List SiteData) (ps : List PageData) (fs : List (List ℕ)) → ps ≡ pages_of from → fs ≡ files_of from
+    → joined f (inks_of ts ss cs ms) (layout_of from ses zs sts) ≡ written f ts ss cs ms ps ses zs sts fs
 unfolding joined
 joined_written f ts ss cs ms from ses zs sts ps fs pages-are files-are = rw (pages-are, files-are) refl
 
-pub plan_whole : (spot : Bool) (path : List ℕ) (o : Data) (f : Front) (i : Inks) (l : Layout) (width height : ℕ) (ts : List TileData) (ss : List Screen) (cs : List CurveData) (ms : List MarkData) (from : List PageText) (ses : List SectionData) (zs : List ZoneData) (sts : List SiteData) (ps : List PageData) (fs : List (List ℕ))
-    → front path o ≡ Ok f → width ≡ width_over f.margins f.page_width f.gutter → height ≡ height_over f.margins f.page_height → inks spot width height path o ≡ Ok i → layout spot path o ≡ Ok l
-    → inks_of ts ss cs ms ≡ i → layout_of from ses zs sts ≡ l → ps ≡ pages_of from → fs ≡ files_of from
-    → (plan_by spot path o ≡ Ok (written f ts ss cs ms ps ses zs sts fs)) × IsPlan (written f ts ss cs ms ps ses zs sts fs)
+pub plan_whole : (spot : Bool) (path : List ℕ) (o : Data) (f : Front) (i : Inks) (l : Layout)
+    (width height : ℕ) (ts : List TileData) (ss : List Screen) (cs : List CurveData) (ms : List MarkData)
+    (from : List PageText) (ses : List SectionData) (zs : List ZoneData) (sts : List SiteData)
+    (ps : List PageData) (fs : List (List ℕ)) → front path o ≡ Ok f
+    → width ≡ width_over f.margins f.page_width f.gutter → height ≡ height_over f.margins f.page_height
+    → inks spot width height path o ≡ Ok i → layout spot path o ≡ Ok l → inks_of ts ss cs ms ≡ i
+    → layout_of from ses zs sts ≡ l → ps ≡ pages_of from → fs ≡ files_of from
+    → (plan_by spot path o ≡ Ok (written f ts ss cs ms ps ses zs sts fs))
+    × IsPlan (written f ts ss cs ms ps ses zs sts fs)
 plan_whole spot path o f i l width height ts ss cs ms from ses zs sts ps fs front-is width-is height-is inks-is layout-is inks-shown layout-shown pages-are files-are =
     let made = plan_made spot path o f i l width height front-is width-is height-is inks-is layout-is in
     let same : joined f i l ≡ written f ts ss cs ms ps ses zs sts fs = rw (← inks-shown, ← layout-shown) (joined_written f ts ss cs ms from ses zs sts ps fs pages-are files-are) in
@@ -247,17 +276,20 @@ plan_whole spot path o f i l width height ts ss cs ms from ses zs sts ps fs fron
 
 -- ---- the number of the plan
 
-pub in_object : (d : Data) (fault : PlanFault) → Fails fault (object_with top_keys [] d) → Fails fault (plan_in d)
+pub in_object : (d : Data) (fault : PlanFault) → Fails fault (object_with top_keys [] d)
+    → Fails fault (plan_in d)
 unfolding plan_in
 in_object d fault h = fails_then fault (object_with top_keys [] d) (λ o. required (codes "plan") (number 1 2) [] o >>= λ n. plan_by (n == 2) [] o) h
 
-pub in_number : (d o : Data) (q : List ℕ) (fault : PlanFault) → q ≡ [] → object_with top_keys [] d ≡ Ok o → Fails fault (required (codes "plan") (number 1 2) q o) → Fails fault (plan_in d)
+pub in_number : (d o : Data) (q : List ℕ) (fault : PlanFault) → q ≡ [] → object_with top_keys [] d ≡ Ok o
+    → Fails fault (required (codes "plan") (number 1 2) q o) → Fails fault (plan_in d)
 unfolding plan_in
 in_number d o q fault same first h =
     let there = subst (λ (p : List ℕ). Fails fault (required (codes "plan") (number 1 2) p o)) same h in
     rw first (fails_then fault (required (codes "plan") (number 1 2) [] o) (λ n. plan_by (n == 2) [] o) there)
 
-pub in_plan : (d o : Data) (q : List ℕ) (n : ℕ) → q ≡ [] → object_with top_keys [] d ≡ Ok o → required (codes "plan") (number 1 2) q o ≡ Ok n → plan_in d ≡ plan_by (n == 2) q o
+pub in_plan : (d o : Data) (q : List ℕ) (n : ℕ) → q ≡ [] → object_with top_keys [] d ≡ Ok o
+    → required (codes "plan") (number 1 2) q o ≡ Ok n → plan_in d ≡ plan_by (n == 2) q o
 unfolding plan_in
 in_plan d o q n same first second =
     let there = subst (λ (p : List ℕ). required (codes "plan") (number 1 2) p o ≡ Ok n) same second in

@@ -35,10 +35,12 @@ pub record IsEven (n : ℕ) (v : List ℕ) : Type 0 where
   pub even : length v % 2 ≡ 0
   pub places : ArePlaces n v
 
-even_then : (n : ℕ) (fault : PlanFault) (read : Read (List ℕ)) (v : List ℕ) → (must (n % 2 == 0) fault >> read) ≡ Ok v → (n % 2 ≡ 0) × (read ≡ Ok v)
+even_then : (n : ℕ) (fault : PlanFault) (read : Read (List ℕ)) (v : List ℕ)
+    → (must (n % 2 == 0) fault >> read) ≡ Ok v → (n % 2 ≡ 0) × (read ≡ Ok v)
 even_then n fault read v e = grind (arith, common_steps, nat_tests)
 
-pub section_pages_sound : (names : List (List ℕ)) (path : List ℕ) (d : Data) (v : List ℕ) → section_pages names path d ≡ Ok v → IsEven (length names) v
+pub section_pages_sound : (names : List (List ℕ)) (path : List ℕ) (d : Data) (v : List ℕ)
+    → section_pages names path d ≡ Ok v → IsEven (length names) v
 unfolding section_pages
 section_pages_sound names path d v e =
     let s = bind_ok (items_within 2 128 path d) (λ items. must (count_of items % 2 == 0) (Range path) >> each_after [] (λ _. defined names) path items) v e in
@@ -49,10 +51,13 @@ section_pages_sound names path d v e =
     let same : length v ≡ count_of s.0 = omega (arith, kept.1) in
     record { count = rw same within; even = rw same t.0; places = kept.0 }
 
-section_pages_required : (key : List ℕ) (names : List (List ℕ)) (path : List ℕ) (o : Data) (v : List ℕ) → required key (section_pages names) path o ≡ Ok v → IsEven (length names) v
+section_pages_required : (key : List ℕ) (names : List (List ℕ)) (path : List ℕ) (o : Data) (v : List ℕ)
+    → required key (section_pages names) path o ≡ Ok v → IsEven (length names) v
 section_pages_required key names path o v e = required_gives (IsEven (length names)) (section_pages names) (section_pages_sound names) key path o v e
 
-section_sound : (names : List (List ℕ)) (earlier : List SectionData) (path : List ℕ) (d : Data) (s : SectionData) → section names earlier path d ≡ Ok s → IsSection (length names) s × (index_in (section_names earlier) s.name ≡ None)
+section_sound : (names : List (List ℕ)) (earlier : List SectionData) (path : List ℕ) (d : Data)
+    (s : SectionData) → section names earlier path d ≡ Ok s
+    → IsSection (length names) s × (index_in (section_names earlier) s.name ≡ None)
 unfolding section
 section_sound names earlier path d s e =
     let s0 = bind_ok (object_with section_keys path d) (λ o. required (codes "name") (new_name (section_names earlier)) path o >>= λ name. required (codes "pages") (section_pages names) path o >>= λ pages. Ok (record { name = name; pages = pages })) s e in
@@ -63,21 +68,32 @@ section_sound names earlier path d s e =
     let p = section_pages_required (codes "pages") names path s0.0 s2.0 s2.1 in
     subst (λ (s : SectionData). IsSection (length names) s × (index_in (section_names earlier) s.name ≡ None)) same (record { name = n.0; count = p.count; even = p.even; pages = p.places }, n.1)
 
+-- one more item, of a new name
+named_push : {X : Type 0} (P : X → Type 0) (name_of : X → List ℕ) (xs : List X) (x : X)
+    → All P xs × AreDistinct (map name_of xs) → P x × (index_in (map name_of xs) (name_of x) ≡ None)
+    → All P (xs ++ x ∷ []) × AreDistinct (map name_of (xs ++ x ∷ []))
+named_push P name_of xs x h t =
+    (All-push P xs x h.0 t.0, rw (map-push name_of xs x) (distinct-push (map name_of xs) (name_of x) t.1 h.1))
+
 abbrev pub AreSections : ℕ → List SectionData → Type 0
 AreSections n sections = All (IsSection n) sections × AreDistinct (section_names sections)
 
-sections_step : (names : List (List ℕ)) (xs : List SectionData) (path : List ℕ) (d : Data) (x : SectionData) → AreSections (length names) xs → section names xs path d ≡ Ok x → AreSections (length names) (xs ++ x ∷ [])
+sections_step : (names : List (List ℕ)) (xs : List SectionData) (path : List ℕ) (d : Data) (x : SectionData)
+    → AreSections (length names) xs → section names xs path d ≡ Ok x
+    → AreSections (length names) (xs ++ x ∷ [])
 sections_step names xs path d x h e =
-    let t = section_sound names xs path d x e in
-    (All-push (IsSection (length names)) xs x h.0 t.0, rw (map-push (λ (t : SectionData). t.name) xs x) (distinct-push (section_names xs) x.name t.1 h.1))
+    named_push (IsSection (length names)) (λ (t : SectionData). t.name) xs x h (section_sound names xs path d x e)
 
-pub sections_sound : (names : List (List ℕ)) (path : List ℕ) (d : Data) (v : List SectionData) → sections names path d ≡ Ok v → AreSections (length names) v × IsWithin 1 8 (length v)
+pub sections_sound : (names : List (List ℕ)) (path : List ℕ) (d : Data) (v : List SectionData)
+    → sections names path d ≡ Ok v → AreSections (length names) v × IsWithin 1 8 (length v)
 unfolding sections
 sections_sound names path d v e = list_keeps (section names) (AreSections (length names)) (sections_step names) 1 8 path d v (All-nil (IsSection (length names)), none_apart) e
 
 -- ---- zones
 
-new_page_sound : (earlier : List ReplaceData) (section count : ℕ) (path : List ℕ) (d : Data) (n : ℕ) → new_page earlier section count path d ≡ Ok n → IsWithin 1 count n × (list_any (replaces section n) earlier ≡ false)
+new_page_sound : (earlier : List ReplaceData) (section count : ℕ) (path : List ℕ) (d : Data) (n : ℕ)
+    → new_page earlier section count path d ≡ Ok n
+    → IsWithin 1 count n × (list_any (replaces section n) earlier ≡ false)
 unfolding new_page
 new_page_sound earlier section count path d n e = grind (arith, common_steps, number_sound)
 
@@ -90,20 +106,25 @@ same_at [] i c d h = absurd (omega arith)
 same_at (x ∷ xs) zero c d h = refl
 same_at (x ∷ xs) (suc i) c d h = same_at xs i c d (omega arith)
 
-page_count_any : (sections : List SectionData) (i : ℕ) (s : SectionData) → i < length sections → length (slice_index_or sections i s).pages ≡ page_count sections i
+page_count_any : (sections : List SectionData) (i : ℕ) (s : SectionData) → i < length sections
+    → length (slice_index_or sections i s).pages ≡ page_count sections i
 page_count_any sections i s h = ap (λ (t : SectionData). length t.pages) (same_at sections i s _ h)
 
-record ReplaceParts (names : List (List ℕ)) (sections : List SectionData) (earlier : List ReplaceData) (r : ReplaceData) : Type 0 where
+record ReplaceParts (names : List (List ℕ)) (sections : List SectionData) (earlier : List ReplaceData)
+    (r : ReplaceData) : Type 0 where
   section : r.section < length (section_names sections)
   page : IsWithin 1 (page_count sections r.section) r.page
   with : r.with < length names
   new : list_any (replaces r.section r.page) earlier ≡ false
 
-new_page_required : (key : List ℕ) (earlier : List ReplaceData) (section count : ℕ) (path : List ℕ) (o : Data) (n : ℕ) → required key (new_page earlier section count) path o ≡ Ok n → IsWithin 1 count n × (list_any (replaces section n) earlier ≡ false)
+new_page_required : (key : List ℕ) (earlier : List ReplaceData) (section count : ℕ) (path : List ℕ) (o : Data)
+    (n : ℕ) → required key (new_page earlier section count) path o ≡ Ok n
+    → IsWithin 1 count n × (list_any (replaces section n) earlier ≡ false)
 new_page_required key earlier section count path o n e =
     required_gives (λ n. IsWithin 1 count n × (list_any (replaces section n) earlier ≡ false)) (new_page earlier section count) (new_page_sound earlier section count) key path o n e
 
-replace_parts : (names : List (List ℕ)) (sections : List SectionData) (earlier : List ReplaceData) (path : List ℕ) (d : Data) (r : ReplaceData)
+replace_parts : (names : List (List ℕ)) (sections : List SectionData) (earlier : List ReplaceData)
+    (path : List ℕ) (d : Data) (r : ReplaceData)
     → replace names sections earlier path d ≡ Ok r → ReplaceParts names sections earlier r
 unfolding replace
 replace_parts names sections earlier path d r e =
@@ -118,14 +139,17 @@ replace_parts names sections earlier path d r e =
 abbrev AreReplaced : ℕ → List SectionData → List ReplaceData → Type 0
 AreReplaced n sections v = All (IsReplace n sections) v × AllPairs ReplaceApart v
 
-apart_from : (section page : ℕ) (earlier : List ReplaceData) (with : ℕ) → list_any (replaces section page) earlier ≡ false → (k : ℕ) (d : ReplaceData) → k < length earlier
+apart_from : (section page : ℕ) (earlier : List ReplaceData) (with : ℕ)
+    → list_any (replaces section page) earlier ≡ false → (k : ℕ) (d : ReplaceData) → k < length earlier
     → ReplaceApart (get_or earlier k d) (record { section = section; page = page; with = with })
 apart_from section page [] with e k d less = absurd (omega arith)
 apart_from section page (r ∷ earlier) with e zero d less = grind (arith, common_steps, nat_tests)
 apart_from section page (r ∷ earlier) with e (suc k) d less = apart_from section page earlier with (grind (arith, common_steps)) k d (omega arith)
 
-replaced_step : (names : List (List ℕ)) (sections : List SectionData) (xs : List ReplaceData) (path : List ℕ) (d : Data) (x : ReplaceData)
-    → AreReplaced (length names) sections xs → replace names sections xs path d ≡ Ok x → AreReplaced (length names) sections (xs ++ x ∷ [])
+replaced_step : (names : List (List ℕ)) (sections : List SectionData) (xs : List ReplaceData) (path : List ℕ)
+    (d : Data) (x : ReplaceData)
+    → AreReplaced (length names) sections xs → replace names sections xs path d ≡ Ok x
+    → AreReplaced (length names) sections (xs ++ x ∷ [])
 replaced_step names sections xs path d x h e =
     let t = replace_parts names sections xs path d x e in
     let inside : x.section < length sections = omega (arith, t.section, names_of_sections sections) in
@@ -135,18 +159,24 @@ replaced_step names sections xs path d x h e =
 no_pairs : AllPairs ReplaceApart []
 no_pairs i j d less within = absurd (omega arith)
 
-replaced_sound : (names : List (List ℕ)) (sections : List SectionData) (path : List ℕ) (d : Data) (v : List ReplaceData) → replaced names sections path d ≡ Ok v → AreReplaced (length names) sections v × (length v ≤ 1024)
+replaced_sound : (names : List (List ℕ)) (sections : List SectionData) (path : List ℕ) (d : Data)
+    (v : List ReplaceData) → replaced names sections path d ≡ Ok v
+    → AreReplaced (length names) sections v × (length v ≤ 1024)
 unfolding replaced
 replaced_sound names sections path d v e =
     let kept = list_keeps (replace names sections) (AreReplaced (length names) sections) (replaced_step names sections) 0 1024 path d v (All-nil (IsReplace (length names) sections), no_pairs) e in
     (kept.0, kept.1.most)
 
-replaced_required : (key : List ℕ) (names : List (List ℕ)) (sections : List SectionData) (path : List ℕ) (o : Data) (v : List ReplaceData) → required key (replaced names sections) path o ≡ Ok v → AreReplaced (length names) sections v × (length v ≤ 1024)
+replaced_required : (key : List ℕ) (names : List (List ℕ)) (sections : List SectionData) (path : List ℕ)
+    (o : Data) (v : List ReplaceData) → required key (replaced names sections) path o ≡ Ok v
+    → AreReplaced (length names) sections v × (length v ≤ 1024)
 replaced_required key names sections path o v e =
     required_gives (λ v. AreReplaced (length names) sections v × (length v ≤ 1024)) (replaced names sections) (replaced_sound names sections) key path o v e
 
-zone_sound : (names : List (List ℕ)) (sections : List SectionData) (earlier : List ZoneData) (path : List ℕ) (d : Data) (z : ZoneData)
-    → zone names sections earlier path d ≡ Ok z → IsZone (length names) sections z × (index_in (zone_names earlier) z.name ≡ None)
+zone_sound : (names : List (List ℕ)) (sections : List SectionData) (earlier : List ZoneData) (path : List ℕ)
+    (d : Data) (z : ZoneData)
+    → zone names sections earlier path d ≡ Ok z
+    → IsZone (length names) sections z × (index_in (zone_names earlier) z.name ≡ None)
 unfolding zone
 zone_sound names sections earlier path d z e =
     let s0 = bind_ok (object_with zone_keys path d) (λ o. required (codes "name") (new_name (zone_names earlier)) path o >>= λ name. required (codes "replace") (replaced names sections) path o >>= λ items. Ok (record { name = name; replace = items })) z e in
@@ -160,16 +190,19 @@ zone_sound names sections earlier path d z e =
 abbrev pub AreZones : ℕ → List SectionData → List ZoneData → Type 0
 AreZones n sections zones = All (IsZone n sections) zones × AreDistinct (zone_names zones)
 
-zones_step : (names : List (List ℕ)) (sections : List SectionData) (xs : List ZoneData) (path : List ℕ) (d : Data) (x : ZoneData)
-    → AreZones (length names) sections xs → zone names sections xs path d ≡ Ok x → AreZones (length names) sections (xs ++ x ∷ [])
+zones_step : (names : List (List ℕ)) (sections : List SectionData) (xs : List ZoneData) (path : List ℕ)
+    (d : Data) (x : ZoneData)
+    → AreZones (length names) sections xs → zone names sections xs path d ≡ Ok x
+    → AreZones (length names) sections (xs ++ x ∷ [])
 zones_step names sections xs path d x h e =
-    let t = zone_sound names sections xs path d x e in
-    (All-push (IsZone (length names) sections) xs x h.0 t.0, rw (map-push (λ (t : ZoneData). t.name) xs x) (distinct-push (zone_names xs) x.name t.1 h.1))
+    named_push (IsZone (length names) sections) (λ (t : ZoneData). t.name) xs x h (zone_sound names sections xs path d x e)
 
 pub no_zones : (n : ℕ) (sections : List SectionData) → AreZones n sections []
 no_zones n sections = (All-nil (IsZone n sections), none_apart)
 
-pub zones_sound : (names : List (List ℕ)) (sections : List SectionData) (path : List ℕ) (d : Data) (v : List ZoneData) → zones names sections path d ≡ Ok v → AreZones (length names) sections v × (length v ≤ 16)
+pub zones_sound : (names : List (List ℕ)) (sections : List SectionData) (path : List ℕ) (d : Data)
+    (v : List ZoneData) → zones names sections path d ≡ Ok v
+    → AreZones (length names) sections v × (length v ≤ 16)
 unfolding zones
 zones_sound names sections path d v e =
     let kept = list_keeps (zone names sections) (AreZones (length names) sections) (zones_step names sections) 0 16 path d v (no_zones (length names) sections) e in
@@ -177,14 +210,18 @@ zones_sound names sections path d v e =
 
 -- ---- sites
 
-site_zone_sound : (names : List (List ℕ)) (path : List ℕ) (d : Data) (z : Option ℕ) → site_zone names path d ≡ Ok z → IfSome z (λ zone. zone < length names)
+site_zone_sound : (names : List (List ℕ)) (path : List ℕ) (d : Data) (z : Option ℕ)
+    → site_zone names path d ≡ Ok z → IfSome z (λ zone. zone < length names)
 unfolding site_zone
 site_zone_sound names path d z e = grind (arith, common_steps, defined_sound)
 
-site_zone_optional : (key : List ℕ) (names : List (List ℕ)) (path : List ℕ) (o : Data) (z : Option ℕ) → optional key None (site_zone names) path o ≡ Ok z → IfSome z (λ zone. zone < length names)
+site_zone_optional : (key : List ℕ) (names : List (List ℕ)) (path : List ℕ) (o : Data) (z : Option ℕ)
+    → optional key None (site_zone names) path o ≡ Ok z → IfSome z (λ zone. zone < length names)
 site_zone_optional key names path o z e = optional_gives (λ z. IfSome z (λ zone. zone < length names)) None (site_zone names) tt (site_zone_sound names) key path o z e
 
-site_sound : (names : List (List ℕ)) (earlier : List SiteData) (path : List ℕ) (d : Data) (s : SiteData) → site names earlier path d ≡ Ok s → IsSite (length names) s × (index_in (site_names earlier) s.name ≡ None)
+site_sound : (names : List (List ℕ)) (earlier : List SiteData) (path : List ℕ) (d : Data) (s : SiteData)
+    → site names earlier path d ≡ Ok s
+    → IsSite (length names) s × (index_in (site_names earlier) s.name ≡ None)
 unfolding site
 site_sound names earlier path d s e =
     let s0 = bind_ok (object_with site_keys path d) (λ o. required (codes "name") (new_name (site_names earlier)) path o >>= λ name. optional (codes "zone") None (site_zone names) path o >>= λ zone. Ok (record { name = name; zone = zone })) s e in
@@ -197,11 +234,12 @@ site_sound names earlier path d s e =
 abbrev pub AreSites : ℕ → List SiteData → Type 0
 AreSites n sites = All (IsSite n) sites × AreDistinct (site_names sites)
 
-sites_step : (names : List (List ℕ)) (xs : List SiteData) (path : List ℕ) (d : Data) (x : SiteData) → AreSites (length names) xs → site names xs path d ≡ Ok x → AreSites (length names) (xs ++ x ∷ [])
+sites_step : (names : List (List ℕ)) (xs : List SiteData) (path : List ℕ) (d : Data) (x : SiteData)
+    → AreSites (length names) xs → site names xs path d ≡ Ok x → AreSites (length names) (xs ++ x ∷ [])
 sites_step names xs path d x h e =
-    let t = site_sound names xs path d x e in
-    (All-push (IsSite (length names)) xs x h.0 t.0, rw (map-push (λ (t : SiteData). t.name) xs x) (distinct-push (site_names xs) x.name t.1 h.1))
+    named_push (IsSite (length names)) (λ (t : SiteData). t.name) xs x h (site_sound names xs path d x e)
 
-pub sites_sound : (names : List (List ℕ)) (path : List ℕ) (d : Data) (v : List SiteData) → sites names path d ≡ Ok v → AreSites (length names) v × IsWithin 1 16 (length v)
+pub sites_sound : (names : List (List ℕ)) (path : List ℕ) (d : Data) (v : List SiteData)
+    → sites names path d ≡ Ok v → AreSites (length names) v × IsWithin 1 16 (length v)
 unfolding sites
 sites_sound names path d v e = list_keeps (site names) (AreSites (length names)) (sites_step names) 1 16 path d v (All-nil (IsSite (length names)), none_apart) e

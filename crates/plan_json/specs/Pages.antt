@@ -94,9 +94,9 @@ painting spot path o = do
   ink ← optional (codes "ink") black (ink spot) path o
   Ok (record { crop = crop; mask = mask; overprint = overprint; ink = ink })
 
-unfoldable pub layer : Bool → Reader NamedLayer
-layer spot path d = do
-  o ← object_with layer_keys path d
+-- the keys of a layer, in order
+abbrev pub layer_in : Bool → Reader NamedLayer
+layer_in spot path o = do
   line ← required (codes "kind") kind path o
   file ← required (codes "file") file_name path o
   at ← placing path o
@@ -112,6 +112,11 @@ layer spot path d = do
     overprint = how.overprint;
     ink = how.ink;
   })
+
+unfoldable pub layer : Bool → Reader NamedLayer
+layer spot path d = do
+  o ← object_with layer_keys path d
+  layer_in spot path o
 
 unfoldable pub layers : Bool → Reader (List NamedLayer)
 layers spot = list_of 0 32 (λ _. layer spot)
@@ -135,13 +140,18 @@ page_keys = codes "name" ∷ codes "inks" ∷ codes "layers" ∷ []
 abbrev pub page_names : List PageText → List (List ℕ)
 page_names pages = map (λ page. page.name) pages
 
-unfoldable pub page : Bool → List PageText → Reader PageText
-page spot earlier path d = do
-  o ← object_with page_keys path d
+-- the keys of a page, in order
+abbrev pub page_in : Bool → List PageText → Reader PageText
+page_in spot earlier path o = do
   name ← required (codes "name") (new_name (page_names earlier)) path o
   inks ← required (codes "inks") (page_inks spot) path o
   layers ← required (codes "layers") (layers spot) path o
   Ok (record { name = name; colour = inks.0; spot = inks.1; layers = layers })
+
+unfoldable pub page : Bool → List PageText → Reader PageText
+page spot earlier path d = do
+  o ← object_with page_keys path d
+  page_in spot earlier path o
 
 unfoldable pub pages : Bool → Reader (List PageText)
 pages spot = list_of 1 2048 (page spot)

@@ -126,6 +126,32 @@ fn painting_in(o: &Object<'_>, spot: bool) -> Result<Painting, PlanFault>
     })
 }
 
+// Reads the keys of a layer.
+fn layer_of(o: &Object<'_>, spot: bool) -> Result<NamedLayer, PlanFault>
+    ensures { Gives (λ l. l) result (inside o.now (spec.layer_in spot)) }
+{
+    let line = line_in(o)?;
+    let file = o.required("file", &FileName)?;
+    let at = placing_in(o)?;
+    let Painting {
+        crop,
+        mask,
+        overprint,
+        ink,
+    } = painting_in(o, spot)?;
+    Ok(NamedLayer {
+        line,
+        file,
+        x: at.x,
+        y: at.y,
+        scale: at.scale,
+        crop,
+        mask,
+        overprint,
+        ink,
+    })
+}
+
 // Reads a layer of a page.
 #[derive(Drop)]
 struct LayerReader {
@@ -142,26 +168,7 @@ impl ItemReader for LayerReader {
         let o = node.object(&[
             "kind", "file", "x", "y", "scale", "crop", "mask", "paint", "ink",
         ])?;
-        let line = line_in(&o)?;
-        let file = o.required("file", &FileName)?;
-        let at = placing_in(&o)?;
-        let Painting {
-            crop,
-            mask,
-            overprint,
-            ink,
-        } = painting_in(&o, self.spot)?;
-        Ok(NamedLayer {
-            line,
-            file,
-            x: at.x,
-            y: at.y,
-            scale: at.scale,
-            crop,
-            mask,
-            overprint,
-            ink,
-        })
+        layer_of(&o, self.spot)
     }
 }
 

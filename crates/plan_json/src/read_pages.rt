@@ -47,6 +47,21 @@ impl Reader for PageInksReader {
     }
 }
 
+// Reads the keys of a page.
+fn page_of(o: &Object<'_>, spot: bool, earlier: &[NamedPage]) -> Result<NamedPage, PlanFault>
+    ensures { Gives (λ p. p) result (inside o.now (spec.page_in spot earlier.now)) }
+{
+    let name = o.required("name", &NewName(earlier))?;
+    let inks = o.required("inks", &PageInksReader { spot })?;
+    let layers = layers_in(o, spot)?;
+    Ok(NamedPage {
+        name,
+        colour: inks.0,
+        spot: inks.1,
+        layers,
+    })
+}
+
 // Reads a page, whose name no earlier page may have.
 #[derive(Drop)]
 struct PageReader {
@@ -60,17 +75,8 @@ impl ItemReader for PageReader {
 
     #[tactic(auto, unfolding(crate::specs::Pages::page))]
     fn read_item(&self, earlier: &[NamedPage], node: Node<'_>) -> Result<NamedPage, PlanFault> {
-        let spot = self.spot;
         let o = node.object(&["name", "inks", "layers"])?;
-        let name = o.required("name", &NewName(earlier))?;
-        let inks = o.required("inks", &PageInksReader { spot })?;
-        let layers = layers_in(&o, spot)?;
-        Ok(NamedPage {
-            name,
-            colour: inks.0,
-            spot: inks.1,
-            layers,
-        })
+        page_of(&o, self.spot, earlier)
     }
 }
 

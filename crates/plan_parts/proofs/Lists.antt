@@ -14,7 +14,8 @@ count_view [] = refl
 count_view (v ∷ vs) = ap suc (count_view vs)
 
 -- where a step fails, the steps after it fail with the same fault
-pub fails_then : {A B : Type 0} (fault : PlanFault) (read : Read A) (rest : A → Read B) → Fails fault read → Fails fault (read >>= rest)
+pub fails_then : {A B : Type 0} (fault : PlanFault) (read : Read A) (rest : A → Read B) → Fails fault read
+    → Fails fault (read >>= rest)
 fails_then Memory read rest h = tt
 fails_then NotJson read rest h = rw h refl
 fails_then (Missing path) read rest h = rw h refl
@@ -29,16 +30,19 @@ module _ {A : Type 0} (read : List A → Reader A) (path : List ℕ) (vs : List 
   Reads xs i = each_after xs read path (items_view (drop i vs)) ≡ total
 
   turn : (xs : List A) (i : ℕ) (v : Value) → i < length vs → v ≡ get_or vs i v → Reads xs i
-      → (read xs (at_item path (length xs)) (view v) >>= λ x. each_after (xs ++ x ∷ []) read path (items_view (drop (i + 1) vs))) ≡ total
+      → (read xs (at_item path (length xs)) (view v) >>= λ x. each_after (xs ++ x ∷ []) read path
+      (items_view (drop (i + 1) vs))) ≡ total
   unfolding each_after
   turn xs i v less is h =
       let e : drop i vs ≡ v ∷ drop (i + 1) vs = rw add-one (drop-cons vs i v less ∙ ap (λ w. w ∷ drop (suc i) vs) (sym is)) in
       ap (λ ws. each_after xs read path (items_view ws)) (sym e) ∙ h
 
-  pub each-more : (xs : List A) (i : ℕ) (v : Value) (x : A) → i < length vs → v ≡ get_or vs i v → read xs (at_item path (length xs)) (view v) ≡ Ok x → Reads xs i → Reads (xs ++ x ∷ []) (i + 1)
+  pub each-more : (xs : List A) (i : ℕ) (v : Value) (x : A) → i < length vs → v ≡ get_or vs i v
+      → read xs (at_item path (length xs)) (view v) ≡ Ok x → Reads xs i → Reads (xs ++ x ∷ []) (i + 1)
   each-more xs i v x less is one h = rw one at (turn xs i v less is h)
 
-  pub each-fails : (fault : PlanFault) (xs : List A) (i : ℕ) (v : Value) → i < length vs → v ≡ get_or vs i v → Fails fault (read xs (at_item path (length xs)) (view v)) → Reads xs i → Fails fault total
+  pub each-fails : (fault : PlanFault) (xs : List A) (i : ℕ) (v : Value) → i < length vs → v ≡ get_or vs i v
+      → Fails fault (read xs (at_item path (length xs)) (view v)) → Reads xs i → Fails fault total
   each-fails fault xs i v less is one h = subst (Fails fault) (turn xs i v less is h) (fails_then fault _ _ one)
 
   pub each-done : (xs : List A) (i : ℕ) → length vs ≤ i → Reads xs i → total ≡ Ok xs
@@ -46,5 +50,6 @@ module _ {A : Type 0} (read : List A → Reader A) (path : List ℕ) (vs : List 
   each-done xs i all h = sym h ∙ ap (λ ws. each_after xs read path (items_view ws)) (drop_of_length-le vs all)
 
 -- as many values are read as there are items
-pub each-count : {A : Type 0} (read : List A → Reader A) (path : List ℕ) (vs : List Value) (xs : List A) → each_after [] read path (items_view vs) ≡ Ok xs → length xs ≡ length vs
+pub each-count : {A : Type 0} (read : List A → Reader A) (path : List ℕ) (vs : List Value) (xs : List A)
+    → each_after [] read path (items_view vs) ≡ Ok xs → length xs ≡ length vs
 each-count read path vs xs e = omega (arith, (each_keeps read (λ _. Unit {0}) (λ _ _ _ _ _ _. tt) [] path (items_view vs) xs tt e).1, count_view vs)

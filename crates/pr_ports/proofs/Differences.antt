@@ -23,10 +23,12 @@ some_is e = cc
 unsome : (x y : ℕ) → Some x ≡ Some y → x ≡ y
 unsome x y e = cc
 
-heads_same : (x y : ℕ) (rest : Option ℕ) → x ≡ y → cond (eqb x y) (option_map suc rest) (Some 0) ≡ option_map suc rest
+heads_same : (x y : ℕ) (rest : Option ℕ) → x ≡ y
+    → cond (eqb x y) (option_map suc rest) (Some 0) ≡ option_map suc rest
 heads_same x y rest same = ap (λ b. cond b (option_map suc rest) (Some 0)) (eq-eqb x y same)
 
-heads_apart : (x y : ℕ) (rest : Option ℕ) → (x ≡ y → ⊥) → cond (eqb x y) (option_map suc rest) (Some 0) ≡ Some 0
+heads_apart : (x y : ℕ) (rest : Option ℕ) → (x ≡ y → ⊥)
+    → cond (eqb x y) (option_map suc rest) (Some 0) ≡ Some 0
 heads_apart x y rest apart = ap (λ b. cond b (option_map suc rest) (Some 0)) (ne_eqb x y apart)
 
 slice_get-some : (l : List ℕ) (n d : ℕ) → n < length l → slice_get l n ≡ Some (get_or l n d)
@@ -51,7 +53,8 @@ difference-none (x ∷ xs) (y ∷ ys) none =
     (cases_eq x y)
 
 -- after equal prefixes the rest decides; the difference is at the first unequal byte, or where one list ends
-pub difference-ends : (a b : List ℕ) (n : ℕ) → n ≤ length a → n ≤ length b → take n a ≡ take n b → (slice_get a n ≡ slice_get b n → ⊥) → difference_of a b ≡ Some n
+pub difference-ends : (a b : List ℕ) (n : ℕ) → n ≤ length a → n ≤ length b → take n a ≡ take n b
+    → (slice_get a n ≡ slice_get b n → ⊥) → difference_of a b ≡ Some n
 difference-ends [] [] zero p q same other = absurd (other refl)
 difference-ends [] (y ∷ ys) zero p q same other = refl
 difference-ends (x ∷ xs) [] zero p q same other = refl
@@ -63,14 +66,16 @@ difference-ends (x ∷ xs) (y ∷ ys) (suc n) p q same other =
     ∙ ap (option_map suc) (difference-ends xs ys n (omega arith) (omega arith) (ap (drop 1) same) other)
 
 -- the parts after equal prefixes of the same length
-pub IsAlikeTo-piece : (a b : List ℕ) (n k : ℕ) → IsAlikeTo a b n → n + k ≤ length a → n + k ≤ length b → take k (drop n a) ≡ take k (drop n b) → IsAlikeTo a b (n + k)
+pub IsAlikeTo-piece : (a b : List ℕ) (n k : ℕ) → IsAlikeTo a b n → n + k ≤ length a → n + k ≤ length b
+    → take k (drop n a) ≡ take k (drop n b) → IsAlikeTo a b (n + k)
 IsAlikeTo-piece a b n k alike p q same = record {
   a_within = p;
   b_within = q;
   same = take-add n k a ∙ ap (λ l. l ++ take k (drop n a)) alike.same ∙ ap (λ l. take n b ++ l) same ∙ sym (take-add n k b);
 }
 
-pub IsAlikeTo-byte : (a b : List ℕ) (n : ℕ) → IsAlikeTo a b n → n < length a → n < length b → get_or a n 0 ≡ get_or b n 0 → IsAlikeTo a b (n + 1)
+pub IsAlikeTo-byte : (a b : List ℕ) (n : ℕ) → IsAlikeTo a b n → n < length a → n < length b
+    → get_or a n 0 ≡ get_or b n 0 → IsAlikeTo a b (n + 1)
 IsAlikeTo-byte a b n alike p q same = record {
   a_within = omega arith;
   b_within = omega arith;
@@ -78,13 +83,15 @@ IsAlikeTo-byte a b n alike p q same = record {
 }
 
 -- both lists end there
-pub difference-whole : (a b : List ℕ) (n : ℕ) → IsAlikeTo a b n → n ≡ length a → n ≡ length b → difference_of a b ≡ None
+pub difference-whole : (a b : List ℕ) (n : ℕ) → IsAlikeTo a b n → n ≡ length a → n ≡ length b
+    → difference_of a b ≡ None
 difference-whole a b n alike p q =
     let same : a ≡ b = sym (take_all n a (omega arith)) ∙ alike.same ∙ take_all n b (omega arith) in
     ap (difference_of a) (sym same) ∙ difference-same a
 
 -- one list ends there, or both continue and differ
-pub difference-at : (a b : List ℕ) (n : ℕ) → IsAlikeTo a b n → (n ≡ length a → n ≡ length b → ⊥) → (n < length a → n < length b → get_or a n 0 ≡ get_or b n 0 → ⊥)
+pub difference-at : (a b : List ℕ) (n : ℕ) → IsAlikeTo a b n → (n ≡ length a → n ≡ length b → ⊥)
+    → (n < length a → n < length b → get_or a n 0 ≡ get_or b n 0 → ⊥)
     → difference_of a b ≡ Some n
 difference-at a b n alike some other =
     difference-ends a b n alike.a_within alike.b_within alike.same
@@ -111,7 +118,8 @@ map_suc n None = refl
 map_suc n (Some k) = ap {A = ℕ} {B = Option ℕ} (λ z. Some z) (omega arith)
 
 -- behind equal bytes the difference is that of the rests
-pub difference-behind : (a b : List ℕ) (n : ℕ) → n ≤ length a → n ≤ length b → take n a ≡ take n b → difference_of a b ≡ option_map (λ k. n + k) (difference_of (drop n a) (drop n b))
+pub difference-behind : (a b : List ℕ) (n : ℕ) → n ≤ length a → n ≤ length b → take n a ≡ take n b
+    → difference_of a b ≡ option_map (λ k. n + k) (difference_of (drop n a) (drop n b))
 difference-behind a b zero p q same = map_zero (difference_of a b)
 difference-behind [] b (suc n) p q same = absurd (omega arith)
 difference-behind (x ∷ xs) [] (suc n) p q same = absurd (omega arith)
@@ -135,7 +143,8 @@ pointwise-same (x ∷ xs) (y ∷ ys) e =
     (cases_eq x y)
 
 -- equal pieces of this length
-pub IsAlikeTo-equal : (a b : List ℕ) (n k m : ℕ) → m ≡ k → IsAlikeTo a b n → n + k ≤ length a → n + k ≤ length b → true ≡ pointwise eqb (take m (drop n a)) (take m (drop n b)) → IsAlikeTo a b (n + k)
+pub IsAlikeTo-equal : (a b : List ℕ) (n k m : ℕ) → m ≡ k → IsAlikeTo a b n → n + k ≤ length a
+    → n + k ≤ length b → true ≡ pointwise eqb (take m (drop n a)) (take m (drop n b)) → IsAlikeTo a b (n + k)
 IsAlikeTo-equal a b n k m e alike p q same =
     IsAlikeTo-piece a b n k alike p q
     (ap (λ i. take i (drop n a)) (sym e) ∙ pointwise-same (take m (drop n a)) (take m (drop n b)) same ∙ ap (λ i. take i (drop n b)) e)

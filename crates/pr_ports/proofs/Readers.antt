@@ -6,9 +6,12 @@ use Rattle.std.proofs.lemmas.List.{length-append, length-drop, length-replicate,
 use Rattle.pr_ports.specs.Shelf.{HasCome}
 
 -- a piece read into the space behind existing bytes, once the unused rest of that space is cut off
-pub piece_came : (old new : Option (List ℕ)) (before resized into after : List ℕ) (most count : ℕ) → 0 < most → resized ≡ before ++ replicate most 0
-    → length into ≡ length resized → take (length before) into ≡ take (length before) resized → length before + count ≤ length into
-    → Consumes old new (take count (drop (length before) into)) → (count ≡ 0 → 0 < length (drop (length before) into) → IsAtEnd new)
+pub piece_came : (old new : Option (List ℕ)) (before resized into after : List ℕ) (most count : ℕ) → 0 < most
+    → resized ≡ before ++ replicate most 0
+    → length into ≡ length resized → take (length before) into ≡ take (length before) resized
+    → length before + count ≤ length into
+    → Consumes old new (take count (drop (length before) into))
+    → (count ≡ 0 → 0 < length (drop (length before) into) → IsAtEnd new)
     → after ≡ take (length before + count) into → HasCome old new before after count
 piece_came old new before resized into after most count some room long front within given end cut =
     let stands : take (length before) into ≡ before =

@@ -32,8 +32,10 @@ short_within n most all within =
     (cases_lt (length all) most)
 
 -- a file differs from bytes where what comes behind the bytes that are alike does
-pub rest_compared : (whole : Option (List ℕ)) (bytes rest left : List ℕ) (alike most : ℕ) (at : Option ℕ) → alike ≤ length (take most bytes) → HasFront whole 0 (take most bytes) alike
-    → IfSome (option_map (λ (all : List ℕ). drop alike all) whole) (λ l. [] ++ l ≡ rest) → left ≡ rest → at ≡ option_map (λ k. alike + k) (difference_of (drop alike bytes) left)
+pub rest_compared : (whole : Option (List ℕ)) (bytes rest left : List ℕ) (alike most : ℕ) (at : Option ℕ)
+    → alike ≤ length (take most bytes) → HasFront whole 0 (take most bytes) alike
+    → IfSome (option_map (λ (all : List ℕ). drop alike all) whole) (λ l. [] ++ l ≡ rest) → left ≡ rest
+    → at ≡ option_map (λ k. alike + k) (difference_of (drop alike bytes) left)
     → IfSome whole (λ all. at ≡ difference_of bytes all)
 rest_compared None bytes rest left alike most at within front is same found = tt
 rest_compared (Some all) bytes rest left alike most at within front is same found =

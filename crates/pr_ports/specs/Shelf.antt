@@ -1,6 +1,6 @@
 -- What a shelf holds, and what a call of load implies about it.
 use Rattle.std.specs.Prelude.{◌≡◌, ℕ, ◌<◌, ◌≤◌, Bool, true, false, if◌then◌else◌, List, ◌++◌, length, Option}
-use Rattle.std.specs.Prelude.{Some, IfSome, IsSomeAnd, Result, Ok, Err, nat_eq}
+use Rattle.std.specs.Prelude.{None, Some, IfSome, IsSomeAnd, Result, Ok, Err, is_some, nat_eq}
 use Rattle.std.specs.Option.{option_map}
 use Rattle.std.specs.Map.{lookup}
 use Rattle.std.specs.Io.KnownBytes.{Consumes, IsAtEnd}
@@ -25,28 +25,35 @@ IsLongerAt held path limit =
 -- where the shelf's files are known, the file at the path has at most limit bytes, and first differs there
 abbrev pub IsComparedAt : Option (List (List ℕ × List ℕ)) → List ℕ → ℕ → List ℕ → Option ℕ → Type 0
 IsComparedAt held path limit bytes at =
-    IfSome held (λ files. IsSomeAnd (held_at files path) (λ file. (length file ≤ limit) × (at ≡ difference_of bytes file)))
+    IfSome held (λ files. IsSomeAnd (held_at files path)
+    (λ file. (length file ≤ limit) × (at ≡ difference_of bytes file)))
+
+-- whether a call with this fault returned Failed
+abbrev pub is_failed : LoadFault → Bool
+is_failed Failed = true
+is_failed (TooLong limit) = false
+is_failed Memory = false
 
 -- whether the call returned Failed
 abbrev pub has_failed : {T : Type 0} → Result T LoadFault → Bool
 has_failed (Ok value) = false
-has_failed (Err Failed) = true
-has_failed (Err (TooLong limit)) = false
-has_failed (Err Memory) = false
+has_failed (Err fault) = is_failed fault
+
+-- the limit of a call with this fault, if it returned TooLong
+abbrev pub limit_in : LoadFault → Option ℕ
+limit_in Failed = None
+limit_in (TooLong limit) = Some limit
+limit_in Memory = None
 
 -- whether the call returned TooLong
 abbrev pub is_too_long : {T : Type 0} → Result T LoadFault → Bool
 is_too_long (Ok value) = false
-is_too_long (Err Failed) = false
-is_too_long (Err (TooLong limit)) = true
-is_too_long (Err Memory) = false
+is_too_long (Err fault) = is_some (limit_in fault)
 
 -- P holds of the limit in a TooLong error; no condition on any other result
 abbrev pub IfTooLong : {T : Type 0} → Result T LoadFault → (ℕ → Type 0) → Type 0
 IfTooLong (Ok value) P = Unit {0}
-IfTooLong (Err Failed) P = Unit {0}
-IfTooLong (Err (TooLong limit)) P = P limit
-IfTooLong (Err Memory) P = Unit {0}
+IfTooLong (Err fault) P = IfSome (limit_in fault) P
 
 -- the path of the last failed call, after a call at path that failed or did not
 abbrev pub missed_after : Bool → List ℕ → Option (Option (List ℕ)) → Option (Option (List ℕ))

@@ -1,5 +1,6 @@
 -- How the bytes given to a sink grow.
-use Rattle.std.specs.Prelude.{◌≡◌, ℕ, Bool, true, false, List, ◌++◌, take, Option, Some, IfSome, Result, Ok, Err}
+use Rattle.std.specs.Prelude.{◌≡◌, ℕ, Bool, true, false, List, ◌++◌, take, Option, Some, IfSome, Result, Ok}
+use Rattle.std.specs.Prelude.{Err}
 use Rattle.pr_ports.specs.declared.sink.SinkFault.{SinkFault}
 use Rattle.pr_ports.specs.declared.sink.SinkFault.TheVariants.{Failed, Memory}
 

@@ -1,5 +1,7 @@
-// Long files, compared with bytes in memory: by several threads, each its share, and without a buffer for the file.
-ghost use Rattle.std.specs.Prelude.{◌≡◌, ◌+◌, ◌*◌, ◌^◌, ◌<◌, ◌≤◌, IfOk, IfSome, drop, length, not, option_map};
+// Long files, compared with bytes in memory: by several threads, each its share, and without a buffer for the
+// file.
+ghost use Rattle.std.specs.Prelude.{◌≡◌, ◌+◌, ◌*◌, ◌^◌, ◌<◌, ◌≤◌, IfOk, IfSome, drop, length, not};
+ghost use Rattle.std.specs.Prelude.{option_map};
 ghost use Rattle.std.specs.Thread.{IsSync};
 ghost use Rattle.pr_base.specs.Count.{count_unless};
 ghost use Rattle.pr_ports.specs.Difference.{difference_of};
@@ -18,8 +20,8 @@ use std::thread::{Threads, join_mut};
 /// The bytes that a thread reads and compares at a time. They stay in its processor's cache.
 const PIECE: usize = 1 << 18;
 
-/// Reads a piece of the file from `offset` on into `room`, and returns how many bytes it has if they are the first
-/// of `bytes`. Returns 0 if they are not, at the end of the file, and if the read failed.
+/// Reads a piece of the file from `offset` on into `room`, and returns how many bytes it has if they are the
+/// first of `bytes`. Returns 0 if they are not, at the end of the file, and if the read failed.
 fn next_alike<F: OffsetRead>(file: &F, bytes: &[u8], offset: u64, room: &mut [u8]) -> usize
     ensures within { result ≤ length bytes.now }
     ensures front { HasFront (F.whole file.now) offset bytes.now result }
@@ -32,8 +34,8 @@ fn next_alike<F: OffsetRead>(file: &F, bytes: &[u8], offset: u64, room: &mut [u8
     }
 }
 
-/// Returns how many of the first bytes of `bytes` are those of the file from `offset` on, in whole pieces of at
-/// most the length of `room`.
+/// Returns how many of the first bytes of `bytes` are those of the file from `offset` on, in whole pieces of
+/// at most the length of `room`.
 fn compare_share<F: OffsetRead>(file: &F, bytes: &[u8], offset: u64, room: &mut [u8]) -> usize
     requires { offset + length bytes.now < 2 ^ 64 }
     ensures within { result ≤ length bytes.now }
@@ -50,8 +52,8 @@ fn compare_share<F: OffsetRead>(file: &F, bytes: &[u8], offset: u64, room: &mut 
     at
 }
 
-/// Does the same by at most as many threads as `room` has pieces, each of which compares a share of `bytes` in its
-/// part of `room`.
+/// Does the same by at most as many threads as `room` has pieces, each of which compares a share of `bytes`
+/// in its part of `room`.
 #[cycle(comparing)]
 #[tactic(auto, using(crate::proofs::Offsets::both_read))]
 fn compare_wide<T: Threads + Sync, F: OffsetRead + Sync>(
@@ -111,9 +113,9 @@ fn difference_behind(bytes: &[u8], alike: usize, left: &[u8]) -> Option<u64>
     }
 }
 
-/// Returns where a file, at most `limit` bytes long, first differs from `bytes`. At most `threads` threads compare
-/// it as far as it agrees; what follows is loaded, to the file's end or one byte beyond `limit`. `faults` counts
-/// the reads that failed.
+/// Returns where a file, at most `limit` bytes long, first differs from `bytes`. At most `threads` threads
+/// compare it as far as it agrees; what follows is loaded, to the file's end or one byte beyond `limit`.
+/// `faults` counts the reads that failed.
 pub(crate) fn compare_long<T: Threads + Sync, F: OffsetRead + Sync>(
     rt: &T,
     threads: usize,
@@ -126,7 +128,8 @@ pub(crate) fn compare_long<T: Threads + Sync, F: OffsetRead + Sync>(
     requires { (1 ≤ threads) × (threads ≤ 8) }
     ensures told { IfTooLong result (λ told. told ≡ limit) }
     ensures within { IfOk result (λ _. IfSome (F.whole file.now) (λ all. length all ≤ limit)) }
-    ensures compared { IfOk result (λ at. IfSome (F.whole file.now) (λ all. at ≡ difference_of bytes.now all)) }
+    ensures compared { IfOk result
+        (λ at. IfSome (F.whole file.now) (λ all. at ≡ difference_of bytes.now all)) }
     ensures longer { IfTooLong result (λ _. IfSome (F.whole file.now) (λ all. limit < length all)) }
     ensures count { faults.new ≡ count_unless (not (has_failed result)) faults.old }
     ensures faults_stay { faults.old ≤ faults.new }
@@ -148,7 +151,6 @@ pub(crate) fn compare_long<T: Threads + Sync, F: OffsetRead + Sync>(
     match left {
         Ok(left) => Ok(difference_behind(bytes, alike, &left)),
         Err(LoadFault::TooLong { .. }) => Err(LoadFault::TooLong { limit }),
-        Err(LoadFault::Failed) => Err(LoadFault::Failed),
-        Err(LoadFault::Memory) => Err(LoadFault::Memory),
+        Err(fault) => Err(fault),
     }
 }

@@ -17,8 +17,8 @@ use std::thread::Threads;
 
 /// Loads and compares files of the host, long ones in several threads. A runtime that permits threads is one.
 ///
-/// Implementers define `may`, the condition under which files may be loaded and compared. It is kept here because neither
-/// a struct nor a method of `Shelf` can state that a value may be shared between threads.
+/// Implementers define `may`, the condition under which files may be loaded and compared. It is kept here
+/// because neither a struct nor a method of `Shelf` can state that a value may be shared between threads.
 pub trait FileLoader {
     ghost may: { Type 0 };
 
@@ -31,8 +31,8 @@ pub trait FileLoader {
         ensures count { faults.new ≡ count_unless (not (has_failed result)) faults.old }
         ensures faults_stay { faults.old ≤ faults.new };
 
-    /// Returns where the file at `path`, of at most `limit` bytes, first differs from `bytes`. `faults` counts
-    /// the calls that failed.
+    /// Returns where the file at `path`, of at most `limit` bytes, first differs from `bytes`. `faults`
+    /// counts the calls that failed.
     fn compare_file(
         &self,
         path: &str,
@@ -113,8 +113,8 @@ trait ReadWide {
         ensures count { faults.new ≡ count_unless (not (has_failed result)) faults.old }
         ensures faults_stay { faults.old ≤ faults.new };
 
-    /// Returns where the file, of at most `limit` bytes, first differs from `bytes`. `faults` counts the reads
-    /// that failed.
+    /// Returns where the file, of at most `limit` bytes, first differs from `bytes`. `faults` counts the
+    /// reads that failed.
     fn compare<R: AllocGlobal + Threads + Sync>(
         self,
         rt: &R,
@@ -160,9 +160,7 @@ impl ReadWide for HostFile {
         }
         match self.read(rt, limit, faults) {
             Ok(file) => Ok(first_difference(bytes, &file)),
-            Err(LoadFault::Failed) => Err(LoadFault::Failed),
-            Err(LoadFault::TooLong { limit }) => Err(LoadFault::TooLong { limit }),
-            Err(LoadFault::Memory) => Err(LoadFault::Memory),
+            Err(fault) => Err(fault),
         }
     }
 }

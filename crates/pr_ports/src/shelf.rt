@@ -58,9 +58,9 @@ pub trait Shelf {
         ensures longs_stay { longs self.old ≤ longs self.new }
         ensures held { held self.new ≡ held self.old };
 
-    /// Returns the first offset at which the file at `path` differs from `bytes`; `None` if they are equal. It
-    /// answers as `load` does where the file cannot be read or has more than `limit` bytes. By default the file
-    /// is loaded.
+    /// Returns the first offset at which the file at `path` differs from `bytes`; `None` if they are equal.
+    /// It answers as `load` does where the file cannot be read or has more than `limit` bytes. By default the
+    /// file is loaded.
     fn compare(&mut self, path: &str, limit: u64, bytes: &[u8]) -> Result<Option<u64>, LoadFault>
         ensures compared { IfOk result (IsComparedAt (held self.old) path.now limit bytes.now) }
         ensures too_long { IfTooLong result (λ told. told ≡ limit) }
@@ -76,9 +76,7 @@ pub trait Shelf {
     {
         match self.load(path, limit) {
             Ok(file) => Ok(first_difference(bytes, &file)),
-            Err(LoadFault::Failed) => Err(LoadFault::Failed),
-            Err(LoadFault::TooLong { limit }) => Err(LoadFault::TooLong { limit }),
-            Err(LoadFault::Memory) => Err(LoadFault::Memory),
+            Err(fault) => Err(fault),
         }
     }
 }

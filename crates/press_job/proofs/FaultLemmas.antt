@@ -29,18 +29,21 @@ use Rattle.press_job.specs.Layers.{bytes_at}
 
 -- ---- the first result of a list
 
-option_or-holds : {B : Type 0} (P : B → Type 0) (a b : Option B) → IfSome a P → IfSome b P → IfSome (option_or a b) P
+option_or-holds : {B : Type 0} (P : B → Type 0) (a b : Option B) → IfSome a P → IfSome b P
+    → IfSome (option_or a b) P
 option_or-holds P None b first second = second
 option_or-holds P (Some x) b first second = first
 
 -- what holds of each result holds of the first
-pub first_some-holds : {A B : Type 0} (P : B → Type 0) (f : A → Option B) (xs : List A) → All (λ x. IfSome (f x) P) xs → IfSome (first_some f xs) P
+pub first_some-holds : {A B : Type 0} (P : B → Type 0) (f : A → Option B) (xs : List A)
+    → All (λ x. IfSome (f x) P) xs → IfSome (first_some f xs) P
 first_some-holds P f [] all = tt
 first_some-holds {A} {B} P f (x ∷ xs) all =
     option_or-holds P (f x) (first_some f xs) (All-head (λ x. IfSome (f x) P) x xs all) (first_some-holds P f xs (All-tail (λ x. IfSome (f x) P) x xs all))
 
 -- what holds of any result holds of the first
-first_some-any : {A B : Type 0} (P : B → Type 0) (f : A → Option B) (xs : List A) → ((x : A) → IfSome (f x) P) → IfSome (first_some f xs) P
+first_some-any : {A B : Type 0} (P : B → Type 0) (f : A → Option B) (xs : List A) → ((x : A) → IfSome (f x) P)
+    → IfSome (first_some f xs) P
 first_some-any P f [] each = tt
 first_some-any P f (x ∷ xs) each = option_or-holds P (f x) (first_some f xs) (each x) (first_some-any P f xs each)
 
@@ -55,11 +58,13 @@ abbrev NeverLong : {A : Type 0} → Result A TagFault → Type 0
 NeverLong (Ok value) = Unit {0}
 NeverLong (Err fault) = IsShort fault
 
-bind-never : {A B : Type 0} (r : Result A TagFault) (rest : A → Result B TagFault) → NeverLong r → ((x : A) → NeverLong (rest x)) → NeverLong (r >>= rest)
+bind-never : {A B : Type 0} (r : Result A TagFault) (rest : A → Result B TagFault) → NeverLong r
+    → ((x : A) → NeverLong (rest x)) → NeverLong (r >>= rest)
 bind-never (Ok value) rest first later = later value
 bind-never (Err fault) rest first later = first
 
-then-never : {A B : Type 0} (r : Result A TagFault) (rest : Result B TagFault) → NeverLong r → NeverLong rest → NeverLong (r >> rest)
+then-never : {A B : Type 0} (r : Result A TagFault) (rest : Result B TagFault) → NeverLong r → NeverLong rest
+    → NeverLong (r >> rest)
 then-never (Ok value) rest first later = later
 then-never (Err fault) rest first later = first
 
@@ -67,7 +72,8 @@ must-never : (test : Bool) (fault : TagFault) → IsShort fault → NeverLong (m
 must-never true fault short = tt
 must-never false fault short = short
 
-if-never : {A : Type 0} (test : Bool) (a b : Result A TagFault) → NeverLong a → NeverLong b → NeverLong (cond {A = Result A TagFault} test a b)
+if-never : {A : Type 0} (test : Bool) (a b : Result A TagFault) → NeverLong a → NeverLong b
+    → NeverLong (cond {A = Result A TagFault} test a b)
 if-never true a b first second = first
 if-never false a b first second = second
 
@@ -93,15 +99,18 @@ directory-never : (bytes : List ℕ) → NeverLong (directory_of bytes)
 unfolding directory_of
 directory-never bytes = content-never bytes (header_of bytes)
 
-typed-never : (order : Order) (bytes : List ℕ) (at : ℕ) (entry : List ℕ) (type : Option ValueType) → NeverLong (typed_field order bytes at entry type)
+typed-never : (order : Order) (bytes : List ℕ) (at : ℕ) (entry : List ℕ) (type : Option ValueType)
+    → NeverLong (typed_field order bytes at entry type)
 typed-never order bytes at entry None = λ e. (cc)
 typed-never order bytes at entry (Some type) = ok_or-never {A = Option (List ℕ)} _ (fault_at at kind.FieldPlace) (λ e. (cc))
 
-field_in-never : (order : Order) (bytes : List ℕ) (at : ℕ) (entry : Option (List ℕ)) → NeverLong (field_in order bytes at entry)
+field_in-never : (order : Order) (bytes : List ℕ) (at : ℕ) (entry : Option (List ℕ))
+    → NeverLong (field_in order bytes at entry)
 field_in-never order bytes at None = tt
 field_in-never order bytes at (Some entry) = typed-never order bytes at entry _
 
-field_from-never : (bytes : List ℕ) (at : ℕ) (dir : Result FirstDirectory TagFault) → NeverLong dir → NeverLong (field_from bytes at dir)
+field_from-never : (bytes : List ℕ) (at : ℕ) (dir : Result FirstDirectory TagFault) → NeverLong dir
+    → NeverLong (field_from bytes at dir)
 field_from-never bytes at (Err fault) short = short
 field_from-never bytes at (Ok dir) short = field_in-never dir.order bytes at _
 
@@ -109,7 +118,8 @@ field-never : (bytes : List ℕ) (at : ℕ) → NeverLong (field_of bytes at)
 unfolding field_of
 field-never bytes at = field_from-never bytes at (directory_of bytes) (directory-never bytes)
 
-number_in-never : (at i least : ℕ) (field : Result (Option (List ℕ)) TagFault) → NeverLong field → NeverLong (number_in at i least field)
+number_in-never : (at i least : ℕ) (field : Result (Option (List ℕ)) TagFault) → NeverLong field
+    → NeverLong (number_in at i least field)
 number_in-never at i least (Err fault) short = short
 number_in-never at i least (Ok None) short = ok_or-never {A = ℕ} _ (fault_at at kind.Missing) (λ e. (cc))
 number_in-never at i least (Ok (Some values)) short =
@@ -121,12 +131,14 @@ number-never bytes at i least = number_in-never at i least (field_of bytes at) (
 
 -- ---- an image
 
-within-never : (bytes : List ℕ) (at least most : ℕ) (k : FaultKind) → k ≢ kind.TooLong → NeverLong (number_within bytes at least most k)
+within-never : (bytes : List ℕ) (at least most : ℕ) (k : FaultKind) → k ≢ kind.TooLong
+    → NeverLong (number_within bytes at least most k)
 unfolding number_within
 within-never bytes at least most k short =
     bind-never {A = ℕ} {B = ℕ} (number_at bytes at 0 1) _ (number-never bytes at 0 1) (λ value. then-never {A = Unit {0}} {B = ℕ} _ (Ok value) (must-never _ (fault_at at k) short) tt)
 
-among-never : (bytes : List ℕ) (at : ℕ) (accepted : List ℕ) (k : FaultKind) → k ≢ kind.TooLong → NeverLong (number_among bytes at accepted k)
+among-never : (bytes : List ℕ) (at : ℕ) (accepted : List ℕ) (k : FaultKind) → k ≢ kind.TooLong
+    → NeverLong (number_among bytes at accepted k)
 unfolding number_among
 among-never bytes at accepted k short =
     bind-never {A = ℕ} {B = ℕ} (number_at bytes at 0 1) _ (number-never bytes at 0 1) (λ value. then-never {A = Unit {0}} {B = ℕ} _ (Ok value) (must-never _ (fault_at at k) short) tt)
@@ -139,7 +151,8 @@ tiles-never : (bytes : List ℕ) → NeverLong (no_tiles bytes)
 unfolding no_tiles
 tiles-never bytes = tile-never _
 
-first_bits-never : (samples : ℕ) (field : Result (Option (List ℕ)) TagFault) → NeverLong field → NeverLong (first_bits samples field)
+first_bits-never : (samples : ℕ) (field : Result (Option (List ℕ)) TagFault) → NeverLong field
+    → NeverLong (first_bits samples field)
 first_bits-never samples (Err fault) short = short
 first_bits-never samples (Ok None) short = tt
 first_bits-never samples (Ok (Some values)) short = if-never {A = List ℕ} (nat_lt (length values) samples) _ _ (λ e. (cc)) tt
@@ -159,7 +172,8 @@ dots-never : (bytes : List ℕ) → NeverLong (full_dot_range bytes)
 unfolding full_dot_range
 dots-never bytes = range-never (field_of bytes tag.dot_range) (field-never bytes tag.dot_range)
 
-fields-never : (usage : Usage) (bytes : List ℕ) → NeverLong (ink_fields usage bytes) → NeverLong (image_fields usage bytes)
+fields-never : (usage : Usage) (bytes : List ℕ) → NeverLong (ink_fields usage bytes)
+    → NeverLong (image_fields usage bytes)
 unfolding image_fields
 fields-never usage bytes inks =
     then-never _ _ (tiles-never bytes)
@@ -191,7 +205,8 @@ strip-never shape bytes strip =
     let rest : Option TagFault = cond {A = Option TagFault} short (Some (fault_at tag.strip_offsets kind.Short)) None in
     if_some outside (fault_at tag.strip_offsets kind.StripPlace) rest place-short (if_some short (fault_at tag.strip_offsets kind.Short) None length-short tt)
   where
-    if_some : (test : Bool) (fault : TagFault) (o : Option TagFault) → IsShort fault → IfSome o IsShort → IfSome (cond {A = Option TagFault} test (Some fault) o) IsShort
+    if_some : (test : Bool) (fault : TagFault) (o : Option TagFault) → IsShort fault → IfSome o IsShort
+        → IfSome (cond {A = Option TagFault} test (Some fault) o) IsShort
     if_some true fault o short rest = short
     if_some false fault o short rest = rest
 
@@ -205,7 +220,8 @@ strips-never shape bytes =
     (All-cons (λ o. IfSome o IsShort) (fault_of_field shape bytes tag.strip_byte_counts) strips (err-never (number_at bytes tag.strip_byte_counts 0 (strip_count shape)) (number-never bytes tag.strip_byte_counts 0 (strip_count shape)))
     (All-map (λ (o : Option TagFault). IfSome o IsShort) (fault_of_strip shape bytes) (range_with_len 0 (strip_count shape)) (λ k d less. strip-never shape bytes (get_or (range_with_len 0 (strip_count shape)) k d)))))
 
-image-never : (usage : Usage) (bytes : List ℕ) → NeverLong (ink_fields usage bytes) → NeverLong (shape_of usage bytes)
+image-never : (usage : Usage) (bytes : List ℕ) → NeverLong (ink_fields usage bytes)
+    → NeverLong (shape_of usage bytes)
 unfolding shape_of
 image-never usage bytes inks =
     then-never _ _ (no_fault-never (dir_fault bytes) (err-never (directory_of bytes) (directory-never bytes)))
@@ -219,15 +235,18 @@ for-never Contone bytes =
     (image-never _ bytes (then-never {A = ℕ} {B = Unit {0}} _ (full_dot_range bytes) (among-never bytes tag.ink_set (1 ∷ []) kind.InkSet (λ e. (cc))) (dots-never bytes)))
 for-never (Bilevel usage) bytes = err-never (bilevel_shape usage bytes) (image-never _ bytes tt)
 
-mention-never : (file : ℕ) (bytes : List ℕ) (mention : ℕ × Usage) → IfSome (mention_fault file bytes mention) IsShort
+mention-never : (file : ℕ) (bytes : List ℕ) (mention : ℕ × Usage)
+    → IfSome (mention_fault file bytes mention) IsShort
 mention-never file bytes (other, usage) = chosen (nat_eq other file) (fault_for usage bytes) (for-never usage bytes)
   where
-    chosen : (test : Bool) (o : Option TagFault) → IfSome o IsShort → IfSome (cond {A = Option TagFault} test o None) IsShort
+    chosen : (test : Bool) (o : Option TagFault) → IfSome o IsShort
+        → IfSome (cond {A = Option TagFault} test o None) IsShort
     chosen true o short = short
     chosen false o short = tt
 
 -- no fault of a file is TooLong
-pub file_never_long : (plan : PlanData) (file : ℕ) (bytes : List ℕ) → IfSome (fault_of_file plan file bytes) (λ fault. fault.kind ≢ kind.TooLong)
+pub file_never_long : (plan : PlanData) (file : ℕ) (bytes : List ℕ)
+    → IfSome (fault_of_file plan file bytes) (λ fault. fault.kind ≢ kind.TooLong)
 unfolding fault_of_file layer_fault
 file_never_long plan file bytes =
     first_some-any IsShort (page_fault file bytes) plan.pages
@@ -241,7 +260,8 @@ pub record IsMisfit (count : ℕ) (misfit : Misfit) : Type 0 where
   pub within : misfit.file < count
   pub short : misfit.kind ≢ kind.TooLong
 
-where-fits : (count : ℕ) (test : Bool) (file at : ℕ) (k : FaultKind) → file < count → k ≢ kind.TooLong → IfSome (fault_where test file at k) (IsMisfit count)
+where-fits : (count : ℕ) (test : Bool) (file at : ℕ) (k : FaultKind) → file < count → k ≢ kind.TooLong
+    → IfSome (fault_where test file at k) (IsMisfit count)
 where-fits count true file at k within short = record { within = within; short = short }
 where-fits count false file at k within short = tt
 
@@ -251,7 +271,8 @@ crop-short e = cc
 mask-short : kind.MaskSize ≢ kind.TooLong
 mask-short e = cc
 
-crop-fits : (count file : ℕ) (bytes : List ℕ) (crop : Option (List ℕ)) → file < count → IfSome (crop_fault file bytes crop) (IsMisfit count)
+crop-fits : (count file : ℕ) (bytes : List ℕ) (crop : Option (List ℕ)) → file < count
+    → IfSome (crop_fault file bytes crop) (IsMisfit count)
 crop-fits count file bytes None within = tt
 crop-fits count file bytes (Some crop) within =
     let wide = nat_lt (width_of bytes) (slice_index crop 0 + slice_index crop 2) in
@@ -259,7 +280,8 @@ crop-fits count file bytes (Some crop) within =
     option_or-holds (IsMisfit count) (fault_where wide file tag.image_width kind.Crop) (fault_where high file tag.image_length kind.Crop)
     (where-fits count wide file tag.image_width kind.Crop within crop-short) (where-fits count high file tag.image_length kind.Crop within crop-short)
 
-mask-fits : (count : ℕ) (files : List (List ℕ)) (bytes : List ℕ) (mask : Option ℕ) → IfSome mask (λ m. m < count) → IfSome (mask_fault files bytes mask) (IsMisfit count)
+mask-fits : (count : ℕ) (files : List (List ℕ)) (bytes : List ℕ) (mask : Option ℕ)
+    → IfSome mask (λ m. m < count) → IfSome (mask_fault files bytes mask) (IsMisfit count)
 mask-fits count files bytes None within = tt
 mask-fits count files bytes (Some mask) within =
     let own = bytes_at files mask in
@@ -268,13 +290,15 @@ mask-fits count files bytes (Some mask) within =
     option_or-holds (IsMisfit count) (fault_where wide mask tag.image_width kind.MaskSize) (fault_where high mask tag.image_length kind.MaskSize)
     (where-fits count wide mask tag.image_width kind.MaskSize within mask-short) (where-fits count high mask tag.image_length kind.MaskSize within mask-short)
 
-layer-fits : (count : ℕ) (files : List (List ℕ)) (layer : LayerData) → IsLayer count layer → IfSome (fit_fault files layer) (IsMisfit count)
+layer-fits : (count : ℕ) (files : List (List ℕ)) (layer : LayerData) → IsLayer count layer
+    → IfSome (fit_fault files layer) (IsMisfit count)
 unfolding fit_fault
 layer-fits count files layer is =
     let bytes = bytes_at files layer.file in
     option_or-holds (IsMisfit count) (crop_fault layer.file bytes layer.crop) (mask_fault files bytes layer.mask) (crop-fits count layer.file bytes layer.crop is.file) (mask-fits count files bytes layer.mask is.mask)
 
-pub layers_fit : (plan : PlanData) (files : List (List ℕ)) → IsPlan plan → IfSome (fault_of_layers plan files) (IsMisfit (length plan.files))
+pub layers_fit : (plan : PlanData) (files : List (List ℕ)) → IsPlan plan
+    → IfSome (fault_of_layers plan files) (IsMisfit (length plan.files))
 unfolding fault_of_layers
 layers_fit plan files is =
     first_some-holds (IsMisfit (length plan.files)) (page_fit_fault files) plan.pages

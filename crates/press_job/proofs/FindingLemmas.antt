@@ -1,15 +1,15 @@
 -- What the tests of files find, from one use of a file to the layers of a plan.
-use Rattle.std.proofs.Common.{inl, inr, ◌≡◌, ◌≢◌, ℕ, ◌+◌, ◌<◌, ◌≤◌, Bool, true, false, cond, List, [], ◌∷◌, ◌++◌, length, get_or, drop, take, refl, ap, sym, ◌∙◌, subst, arith}
-use Rattle.std.specs.Prelude.{All, IfSome, Option, Some, None, Result, Ok, Err, nat_eq, option_map, option_to_list, slice_get, slice_index_or}
-use Rattle.std.specs.Option.{ForSome, option_map_or, option_or}
+use Rattle.std.proofs.Common.{inl, inr, ◌≡◌, ◌≢◌, ℕ, ◌+◌, ◌<◌, Bool, true, false, cond, List, [], ◌∷◌, ◌++◌, length, get_or, drop, refl, ap, sym, ◌∙◌, subst, arith}
+use Rattle.std.specs.Prelude.{All, IfSome, Option, Some, None, Err, nat_eq, option_map, option_to_list, slice_get, slice_index_or}
+use Rattle.std.specs.Option.{option_map_or, option_or}
 use Rattle.std.proofs.lemmas.Bool.{cases_lt}
 use Rattle.std.proofs.lemmas.Bool.Decides.{nat_tests}
-use Rattle.std.proofs.lemmas.List.{get_or_append_left, get_or_default, get_or_push, length_push}
-use Rattle.std.proofs.lemmas.List.Elements.{All-get_or, All-more, All-weaker}
+use Rattle.std.proofs.lemmas.List.{get_or_append_left, get_or_push, length_push}
+use Rattle.std.proofs.lemmas.List.Elements.{All-weaker}
 use Rattle.std.proofs.lemmas.Option.{get_or_from_slice_get, slice_get_within}
 use Rattle.pr_base.specs.declared.fault.TagFault.{TagFault}
 use Rattle.pr_base.specs.First.{first_some}
-use Rattle.pr_base.proofs.Firsts.{first_some-end, first_some-found, first_some-on}
+use Rattle.pr_base.proofs.Firsts.{first_some-found}
 use Rattle.tif_image.specs.Found.{FoundData, IsFound}
 use Rattle.tif_image.specs.Tested.{Tells}
 use Rattle.tif_image.specs.declared.test_fault.TestFault.{TestFault}
@@ -23,59 +23,69 @@ use Rattle.plan_json.specs.Data.{PlanData}
 use Rattle.plan_json.specs.Plan.{IsPlan}
 use Rattle.press_job.specs.declared.file_test.FileTest.{FileTest}
 use Rattle.press_job.specs.declared.findings.Findings.{Findings}
-use Rattle.press_job.specs.Findings.{AreRecorded, FilesData, HasFound, HasLayer, HasRecords, HaveLayers, IsRecorded, found_of, with_found}
-use Rattle.press_job.specs.Layers.{bytes_at, planned_layers}
+use Rattle.press_job.specs.Findings.{AreRecorded, FilesData, HasLayer, HasRecords, HaveLayers, IsRecorded, found_of, with_found}
+use Rattle.press_job.specs.Layers.{planned_layers}
 use Rattle.press_job.specs.Tested.{GoesOn, IsTested, PassesIn, fault_at_mention, has_passed, with_use}
-use Rattle.press_job.specs.Tests.{fault_for, layer_fault, length_of, mention_fault, page_fault, use_of, width_of}
+use Rattle.press_job.specs.Tests.{fault_for, layer_fault, mention_fault, page_fault, use_of}
 
 -- ---- one use
 
 -- a use that passes is noted with its record, and no other use is forgotten
-pub use_noted : (test : FileTest) (usage : Usage) (found : FoundData) → IsTested test → IsFound usage test.bytes.now found → GoesOn test (with_use test usage found)
+pub use_noted : (test : FileTest) (usage : Usage) (found : FoundData) → IsTested test
+    → IsFound usage test.bytes.now found → GoesOn test (with_use test usage found)
 use_noted test Contone found are is = record { file = refl; bytes = refl; kept = kept; tested = record { each = each } }
   where
-    kept : (other : Usage) → has_passed test other ≡ true → has_passed (with_use test Contone found) other ≡ true
+    kept : (other : Usage) → has_passed test other ≡ true
+        → has_passed (with_use test Contone found) other ≡ true
     kept Contone h = refl
     kept (Bilevel Line) h = h
     kept (Bilevel Mask) h = h
 
-    each : (other : Usage) → has_passed (with_use test Contone found) other ≡ true → IsFound other test.bytes.now (found_of (with_found test.found Contone found) other)
+    each : (other : Usage) → has_passed (with_use test Contone found) other ≡ true
+        → IsFound other test.bytes.now (found_of (with_found test.found Contone found) other)
     each Contone h = is
     each (Bilevel Line) h = are.each (Bilevel Line) h
     each (Bilevel Mask) h = are.each (Bilevel Mask) h
 use_noted test (Bilevel Line) found are is = record { file = refl; bytes = refl; kept = kept; tested = record { each = each } }
   where
-    kept : (other : Usage) → has_passed test other ≡ true → has_passed (with_use test (Bilevel Line) found) other ≡ true
+    kept : (other : Usage) → has_passed test other ≡ true
+        → has_passed (with_use test (Bilevel Line) found) other ≡ true
     kept Contone h = h
     kept (Bilevel Line) h = refl
     kept (Bilevel Mask) h = h
 
-    each : (other : Usage) → has_passed (with_use test (Bilevel Line) found) other ≡ true → IsFound other test.bytes.now (found_of (with_found test.found (Bilevel Line) found) other)
+    each : (other : Usage) → has_passed (with_use test (Bilevel Line) found) other ≡ true
+        → IsFound other test.bytes.now (found_of (with_found test.found (Bilevel Line) found) other)
     each Contone h = are.each Contone h
     each (Bilevel Line) h = is
     each (Bilevel Mask) h = are.each (Bilevel Mask) h
 use_noted test (Bilevel Mask) found are is = record { file = refl; bytes = refl; kept = kept; tested = record { each = each } }
   where
-    kept : (other : Usage) → has_passed test other ≡ true → has_passed (with_use test (Bilevel Mask) found) other ≡ true
+    kept : (other : Usage) → has_passed test other ≡ true
+        → has_passed (with_use test (Bilevel Mask) found) other ≡ true
     kept Contone h = h
     kept (Bilevel Line) h = h
     kept (Bilevel Mask) h = refl
 
-    each : (other : Usage) → has_passed (with_use test (Bilevel Mask) found) other ≡ true → IsFound other test.bytes.now (found_of (with_found test.found (Bilevel Mask) found) other)
+    each : (other : Usage) → has_passed (with_use test (Bilevel Mask) found) other ≡ true
+        → IsFound other test.bytes.now (found_of (with_found test.found (Bilevel Mask) found) other)
     each Contone h = are.each Contone h
     each (Bilevel Line) h = are.each (Bilevel Line) h
     each (Bilevel Mask) h = is
 
-pub has_noted : (test : FileTest) (usage : Usage) (found : FoundData) → has_passed (with_use test usage found) usage ≡ true
+pub has_noted : (test : FileTest) (usage : Usage) (found : FoundData)
+    → has_passed (with_use test usage found) usage ≡ true
 has_noted test Contone found = refl
 has_noted test (Bilevel Line) found = refl
 has_noted test (Bilevel Mask) found = refl
 
 -- a file that was not tested yet
-pub untested : (test : FileTest) → test.contone ≡ false → test.line ≡ false → test.mask ≡ false → IsTested test
+pub untested : (test : FileTest) → test.contone ≡ false → test.line ≡ false → test.mask ≡ false
+    → IsTested test
 untested test contone line mask = record { each = each }
   where
-    each : (usage : Usage) → has_passed test usage ≡ true → IsFound usage test.bytes.now (found_of test.found usage)
+    each : (usage : Usage) → has_passed test usage ≡ true
+        → IsFound usage test.bytes.now (found_of test.found usage)
     each Contone h = absurd (cc (contone, h))
     each (Bilevel Line) h = absurd (cc (line, h))
     each (Bilevel Mask) h = absurd (cc (mask, h))
@@ -99,18 +109,21 @@ itself n = grind (arith, nat_tests)
 apart : (m n : ℕ) → m ≢ n → nat_eq m n ≡ false
 apart m n other = grind (arith, nat_tests)
 
-pub fault_of_other : (test : FileTest) (mention : Option ℕ) (usage : Usage) → (mention ≡ Some test.file → ⊥) → fault_at_mention test mention usage ≡ None
+pub fault_of_other : (test : FileTest) (mention : Option ℕ) (usage : Usage) → (mention ≡ Some test.file → ⊥)
+    → fault_at_mention test mention usage ≡ None
 fault_of_other test None usage other = refl
 fault_of_other test (Some file) usage other =
     let ne : file ≢ test.file = λ same. other (ap {A = ℕ} Some same) in
     ap {A = Bool} (λ b. cond {A = Option TagFault} b (fault_for usage test.bytes.now) None) (apart file test.file ne)
 
-pub fault_of_this : (test : FileTest) (mention : Option ℕ) (usage : Usage) → mention ≡ Some test.file → fault_at_mention test mention usage ≡ fault_for usage test.bytes.now
+pub fault_of_this : (test : FileTest) (mention : Option ℕ) (usage : Usage) → mention ≡ Some test.file
+    → fault_at_mention test mention usage ≡ fault_for usage test.bytes.now
 fault_of_this test mention usage this =
     ap {A = Option ℕ} (λ m. fault_at_mention test m usage) this
     ∙ ap {A = Bool} (λ b. cond {A = Option TagFault} b (fault_for usage test.bytes.now) None) (itself test.file)
 
-pub fault_of_same : (old new : FileTest) (mention : Option ℕ) (usage : Usage) → GoesOn old new → fault_at_mention new mention usage ≡ fault_at_mention old mention usage
+pub fault_of_same : (old new : FileTest) (mention : Option ℕ) (usage : Usage) → GoesOn old new
+    → fault_at_mention new mention usage ≡ fault_at_mention old mention usage
 fault_of_same old new None usage on = refl
 fault_of_same old new (Some file) usage on =
     ap {A = ℕ} (λ n. mention_fault n new.bytes.now (file, usage)) on.file ∙ ap {A = List ℕ} (λ bytes. mention_fault old.file bytes (file, usage)) on.bytes
@@ -121,12 +134,17 @@ or_none (Some x) = refl
 
 -- the fault in a layer is that of its image, or else that of its mask
 pub fault_of_both : (test : FileTest) (layer : LayerData)
-    → layer_fault test.file test.bytes.now layer ≡ option_or (fault_at_mention test (Some layer.file) (use_of layer)) (fault_at_mention test layer.mask (Bilevel Mask))
+    → layer_fault test.file test.bytes.now layer
+    ≡ option_or (fault_at_mention test (Some layer.file) (use_of layer))
+    (fault_at_mention test layer.mask (Bilevel Mask))
 unfolding layer_fault
 fault_of_both test layer = by layer.mask
   where
-    by : (mask : Option ℕ) → first_some (mention_fault test.file test.bytes.now) ((layer.file, use_of layer) ∷ option_to_list (option_map (λ m. (m, Bilevel Mask)) mask))
-        ≡ option_or (fault_at_mention test (Some layer.file) (use_of layer)) (fault_at_mention test mask (Bilevel Mask))
+    by : (mask : Option ℕ)
+        → first_some (mention_fault test.file test.bytes.now)
+        ((layer.file, use_of layer) ∷ option_to_list (option_map (λ m. (m, Bilevel Mask)) mask))
+        ≡ option_or (fault_at_mention test (Some layer.file) (use_of layer))
+        (fault_at_mention test mask (Bilevel Mask))
     by None = refl
     by (Some mask) =
         ap {A = Option TagFault} (option_or (fault_at_mention test (Some layer.file) (use_of layer))) (or_none (mention_fault test.file test.bytes.now (mask, Bilevel Mask)))
@@ -148,37 +166,45 @@ pub told_second : (e : TestFault) (a b : Option TagFault) → a ≡ None → Ref
 told_second e a b none told = subst {A = Option TagFault} (λ o. Refuses e (option_or o b)) (sym none) told
 
 -- of a list: where an element has a fault, it is the first one
-pub told_found : {A : Type 0} (e : TestFault) (f : A → Option TagFault) (xs : List A) (i : ℕ) (d : A) → i < length xs → first_some f xs ≡ first_some f (drop i xs) → Refuses e (f (get_or xs i d))
+pub told_found : {A : Type 0} (e : TestFault) (f : A → Option TagFault) (xs : List A) (i : ℕ) (d : A)
+    → i < length xs → first_some f xs ≡ first_some f (drop i xs) → Refuses e (f (get_or xs i d))
     → Refuses e (first_some f xs)
 told_found (Failed fault) f xs i d within ahead is = sym (first_some-found f xs i d fault within ahead (sym is))
 told_found Memory f xs i d within ahead is = tt
 
 -- ---- layers and pages
 
-pub passes_still : (old new : FileTest) (layer : LayerData) → GoesOn old new → PassesIn old layer → PassesIn new layer
+pub passes_still : (old new : FileTest) (layer : LayerData) → GoesOn old new → PassesIn old layer
+    → PassesIn new layer
 passes_still old new layer on passes = record {
   image = λ same. on.kept (use_of layer) (passes.image (same ∙ on.file));
   mask = λ same. on.kept (Bilevel Mask) (passes.mask (same ∙ ap {A = ℕ} Some on.file));
 }
 
-pub layers_still : (old new : FileTest) (layers : List LayerData) → GoesOn old new → All (PassesIn old) layers → All (PassesIn new) layers
+pub layers_still : (old new : FileTest) (layers : List LayerData) → GoesOn old new → All (PassesIn old) layers
+    → All (PassesIn new) layers
 layers_still old new layers on all = All-weaker (PassesIn old) (PassesIn new) (λ layer. passes_still old new layer on) layers all
 
-pub pages_still : (old new : FileTest) (pages : List PageData) → GoesOn old new → All (λ page. All (PassesIn old) page.layers) pages → All (λ page. All (PassesIn new) page.layers) pages
+pub pages_still : (old new : FileTest) (pages : List PageData) → GoesOn old new
+    → All (λ page. All (PassesIn old) page.layers) pages → All (λ page. All (PassesIn new) page.layers) pages
 pages_still old new pages on all =
     All-weaker (λ (page : PageData). All (PassesIn old) page.layers) (λ (page : PageData). All (PassesIn new) page.layers) (λ page. layers_still old new page.layers on) pages all
 
 -- the fault in a layer at a later state of the test
-pub layer_same : (old new : FileTest) (layer : LayerData) → GoesOn old new → layer_fault old.file old.bytes.now layer ≡ layer_fault new.file new.bytes.now layer
+pub layer_same : (old new : FileTest) (layer : LayerData) → GoesOn old new
+    → layer_fault old.file old.bytes.now layer ≡ layer_fault new.file new.bytes.now layer
 layer_same old new layer on =
     ap {A = ℕ} (λ n. layer_fault n old.bytes.now layer) (sym on.file) ∙ ap {A = List ℕ} (λ bytes. layer_fault new.file bytes layer) (sym on.bytes)
 
-pub page_same : (old new : FileTest) (page : PageData) → GoesOn old new → page_fault old.file old.bytes.now page ≡ page_fault new.file new.bytes.now page
+pub page_same : (old new : FileTest) (page : PageData) → GoesOn old new
+    → page_fault old.file old.bytes.now page ≡ page_fault new.file new.bytes.now page
 page_same old new page on =
     ap {A = ℕ} (λ n. page_fault n old.bytes.now page) (sym on.file) ∙ ap {A = List ℕ} (λ bytes. page_fault new.file bytes page) (sym on.bytes)
 
 -- the records of a file that passed for all its uses by a plan
-pub records_of : (plan : PlanData) (test : FileTest) → IsTested test → All (λ page. All (PassesIn test) page.layers) plan.pages → HasRecords plan test.file test.bytes.now test.found
+pub records_of : (plan : PlanData) (test : FileTest) → IsTested test
+    → All (λ page. All (PassesIn test) page.layers) plan.pages
+    → HasRecords plan test.file test.bytes.now test.found
 records_of plan test are all =
     All-weaker (λ (page : PageData). All (PassesIn test) page.layers) (λ (page : PageData). All (IsRecorded test.file test.bytes.now test.found) page.layers)
     (λ page. All-weaker (PassesIn test) (IsRecorded test.file test.bytes.now test.found) (λ layer passes. record {
@@ -186,7 +212,9 @@ records_of plan test are all =
       mask = λ same. are.each (Bilevel Mask) (passes.mask same);
     }) page.layers) plan.pages all
 
-pub records_for : (plan : PlanData) (old new : FileTest) → GoesOn old new → All (λ page. All (PassesIn new) page.layers) plan.pages → HasRecords plan old.file old.bytes.now new.found
+pub records_for : (plan : PlanData) (old new : FileTest) → GoesOn old new
+    → All (λ page. All (PassesIn new) page.layers) plan.pages
+    → HasRecords plan old.file old.bytes.now new.found
 records_for plan old new on all =
     let P : ℕ → Type 0 = λ n. HasRecords plan n new.bytes.now new.found in
     let Q : List ℕ → Type 0 = λ bytes. HasRecords plan old.file bytes new.found in
@@ -194,11 +222,15 @@ records_for plan old new on all =
 
 -- ---- one more file
 
-pub none_recorded : (plan : PlanData) (files : FilesData) → files ≡ record { bytes = []; found = [] } → AreRecorded plan files
+pub none_recorded : (plan : PlanData) (files : FilesData) → files ≡ record { bytes = []; found = [] }
+    → AreRecorded plan files
 none_recorded plan files none = subst {A = FilesData} (AreRecorded plan) (sym none) (record { count = refl; each = λ file other less. absurd (omega arith) })
 
-pub recorded_more : (plan : PlanData) (files new : FilesData) (file : ℕ) (bytes : List ℕ) (findings : Findings) → AreRecorded plan files → length files.bytes ≡ file → HasRecords plan file bytes findings
-    → new ≡ record { bytes = files.bytes ++ bytes ∷ []; found = files.found ++ findings ∷ [] } → AreRecorded plan new
+pub recorded_more : (plan : PlanData) (files new : FilesData) (file : ℕ) (bytes : List ℕ)
+    (findings : Findings) → AreRecorded plan files → length files.bytes ≡ file
+    → HasRecords plan file bytes findings
+    → new ≡ record { bytes = files.bytes ++ bytes ∷ []; found = files.found ++ findings ∷ [] }
+    → AreRecorded plan new
 recorded_more plan files new file bytes findings are count has is = subst {A = FilesData} (AreRecorded plan) (sym is) (record {
   count = length_push files.found findings ∙ ap {A = ℕ} (λ n. n + 1) are.count ∙ sym (length_push files.bytes bytes);
   each = λ k other less.
@@ -214,7 +246,8 @@ recorded_more plan files new file bytes findings are count has is = subst {A = F
       ]);
 })
   where
-    moved : (b c : List ℕ) (s t : Findings) (k : ℕ) → b ≡ c → s ≡ t → HasRecords plan k c t → HasRecords plan k b s
+    moved : (b c : List ℕ) (s t : Findings) (k : ℕ) → b ≡ c → s ≡ t → HasRecords plan k c t
+        → HasRecords plan k b s
     moved b c s t k is found h =
         let P : List ℕ → Type 0 = λ l. HasRecords plan k l s in
         let Q : Findings → Type 0 = λ f. HasRecords plan k c f in
@@ -222,7 +255,8 @@ recorded_more plan files new file bytes findings are count has is = subst {A = F
 
 -- ---- all layers of a plan
 
-pub layers_found : (plan : PlanData) (files : FilesData) → IsPlan plan → length files.bytes ≡ length plan.files → AreRecorded plan files → HaveLayers plan files
+pub layers_found : (plan : PlanData) (files : FilesData) → IsPlan plan
+    → length files.bytes ≡ length plan.files → AreRecorded plan files → HaveLayers plan files
 layers_found plan files is count are = record {
   each = λ p page_or below l layer_or under.
       (let page : PageData = slice_index_or plan.pages p page_or in
@@ -232,29 +266,48 @@ layers_found plan files is count are = record {
       let same = are.count in
       record {
         image = (let inside : layer.file < length files.found = omega (arith, own.file) in
-            record { within = inside; is = λ other. (are.each layer.file other inside p page_or below l layer_or under).image refl });
+            record {
+              within = inside;
+              is = λ other.
+                  (are.each layer.file other inside p page_or below l layer_or under).image refl;
+            });
         mask = λ mask there.
             (let known : mask < length plan.files = at_some layer.mask mask there own.mask in
             let inside : mask < length files.found = omega arith in
-            record { within = inside; is = λ other. (are.each mask other inside p page_or below l layer_or under).mask there });
+            record {
+              within = inside;
+              is = λ other.
+                  (are.each mask other inside p page_or below l layer_or under).mask there;
+            });
       });
 }
   where
-    at_some : (o : Option ℕ) (m : ℕ) → o ≡ Some m → IfSome o (λ m. m < length plan.files) → m < length plan.files
+    at_some : (o : Option ℕ) (m : ℕ) → o ≡ Some m → IfSome o (λ m. m < length plan.files)
+        → m < length plan.files
     at_some o m e h = subst {A = Option ℕ} (λ o. IfSome o (λ m. m < length plan.files)) e h
 
--- each of the plan's layers of a page
-pub planned_found : (plan other : PlanData) (files : FilesData) (page i : ℕ) (planned : List LayerData) (d : LayerData) → HaveLayers plan files → other ≡ plan → planned ≡ planned_layers other page → i < length planned
-    → HasLayer files (get_or planned i d)
-planned_found plan other files page i planned d have other_is planned_is within =
-    let told : planned ≡ planned_layers plan page = planned_is ∙ ap {A = PlanData} (λ p. planned_layers p page) other_is in
-    by_page (slice_get plan.pages page) refl told
+-- what holds of each layer of a page of the plan holds of each of these
+pub planned_each : (P : LayerData → Type 0) (plan other : PlanData) (page i : ℕ) (planned : List LayerData)
+    (d : LayerData) → ((item : PageData) → slice_get plan.pages page ≡ Some item → All P item.layers)
+    → other ≡ plan → planned ≡ planned_layers other page → i < length planned → P (get_or planned i d)
+planned_each P plan other page i planned d each other_is planned_is within =
+    by_page (slice_get plan.pages page) refl (planned_is ∙ ap {A = PlanData} (λ p. planned_layers p page) other_is)
   where
-    by_page : (o : Option PageData) → slice_get plan.pages page ≡ o → planned ≡ option_map_or (λ p. p.layers) o [] → HasLayer files (get_or planned i d)
+    by_page : (o : Option PageData) → slice_get plan.pages page ≡ o
+        → planned ≡ option_map_or (λ p. p.layers) o [] → P (get_or planned i d)
     by_page None there is = (let none = ap {A = List LayerData} length is in absurd (omega arith))
     by_page (Some item) there is =
         let long = ap {A = List LayerData} length is in
         let below : i < length item.layers = omega arith in
-        let at : get_or plan.pages page item ≡ item = get_or_from_slice_get plan.pages page item item there in
-        let all : All (HasLayer files) item.layers = subst {A = PageData} (λ p. All (HasLayer files) p.layers) at (have.each page item (slice_get_within plan.pages page item there)) in
-        subst {A = List LayerData} (λ ls. HasLayer files (get_or ls i d)) (sym is) (all i d below)
+        subst {A = List LayerData} (λ ls. P (get_or ls i d)) (sym is) (each item there i d below)
+
+-- each of the plan's layers of a page
+pub planned_found : (plan other : PlanData) (files : FilesData) (page i : ℕ) (planned : List LayerData)
+    (d : LayerData) → HaveLayers plan files → other ≡ plan → planned ≡ planned_layers other page
+    → i < length planned
+    → HasLayer files (get_or planned i d)
+planned_found plan other files page i planned d have other_is planned_is within =
+    planned_each (HasLayer files) plan other page i planned d (λ item there.
+    let at : get_or plan.pages page item ≡ item = get_or_from_slice_get plan.pages page item item there in
+    subst {A = PageData} (λ p. All (HasLayer files) p.layers) at (have.each page item (slice_get_within plan.pages page item there)))
+    other_is planned_is within

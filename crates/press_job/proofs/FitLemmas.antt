@@ -1,7 +1,7 @@
 -- What the tests of a job's files establish for each layer, and that a page accepts each layer.
 use Rattle.std.proofs.Common.{◌≡◌, ℕ, ◌+◌, ◌<◌, ◌≤◌, Bool, true, false, cond, ◌&&◌, not, List, [], ◌∷◌, length, get_or, refl, ap, sym, ◌∙◌, subst, arith}
-use Rattle.std.specs.Prelude.{All, IfSome, Option, Some, None, Result, Ok, Err, nat_eq, nat_lt, nat_le, option_map, option_to_list, slice_index, slice_get}
-use Rattle.std.specs.Option.{ForSome, option_map_or, option_or}
+use Rattle.std.specs.Prelude.{All, IfSome, Option, Some, None, Result, Ok, Err, nat_eq, nat_lt, nat_le, option_map, option_to_list, slice_index}
+use Rattle.std.specs.Option.{ForSome, option_or}
 use Rattle.std.specs.Result.{result_err, result_unwrap_or}
 use Rattle.std.proofs.lemmas.Bool.Decides.{nat_tests}
 use Rattle.std.proofs.lemmas.List.{get_or_default}
@@ -30,6 +30,7 @@ use Rattle.pr_base.specs.First.{first_some}
 use Rattle.press_job.specs.Fit.{ArePlanned, PassesTests}
 use Rattle.press_job.specs.Layers.{art_in, art_of, bilevel_of, bytes_at, crop_of, layer_of, planned_layers, shape_told}
 use Rattle.press_job.specs.Tests.{crop_fault, fault_for, fault_of_file, fault_of_layers, fault_where, fit_fault, layer_fault, length_of, mask_fault, mention_fault, page_fault, page_fit_fault, use_of, width_of}
+use Rattle.press_job.proofs.FindingLemmas.{planned_each}
 
 -- ---- if there is no result
 
@@ -38,7 +39,8 @@ or_none None b none = (refl, none)
 or_none (Some x) b none = cc
 
 -- if there is no first result, every result is None
-none_each : {A B : Type 0} (f : A → Option B) (xs : List A) → first_some f xs ≡ None → All (λ x. f x ≡ None) xs
+none_each : {A B : Type 0} (f : A → Option B) (xs : List A) → first_some f xs ≡ None
+    → All (λ x. f x ≡ None) xs
 none_each f [] none = All-nil (λ x. f x ≡ None)
 none_each f (x ∷ xs) none = (let both = or_none (f x) (first_some f xs) none in All-cons (λ x. f x ≡ None) x xs both.0 (none_each f xs both.1))
 
@@ -51,13 +53,16 @@ same_file n o none = (let e : nat_eq n n ≡ true = itself n in sym (ap (λ t. c
     itself n = grind (arith, nat_tests)
 
 -- the tests that a layer's file and its mask pass for their mentions in this layer
-mentions_pass : (files : List (List ℕ)) (layer : LayerData) → layer_fault layer.file (bytes_at files layer.file) layer ≡ None → fault_for (use_of layer) (bytes_at files layer.file) ≡ None
+mentions_pass : (files : List (List ℕ)) (layer : LayerData)
+    → layer_fault layer.file (bytes_at files layer.file) layer ≡ None
+    → fault_for (use_of layer) (bytes_at files layer.file) ≡ None
 unfolding layer_fault
 mentions_pass files layer none =
     same_file layer.file (fault_for (use_of layer) (bytes_at files layer.file))
     (or_none (mention_fault layer.file (bytes_at files layer.file) (layer.file, use_of layer)) _ none).0
 
-mask_passes : (files : List (List ℕ)) (layer : LayerData) (mask : ℕ) → layer.mask ≡ Some mask → layer_fault mask (bytes_at files mask) layer ≡ None
+mask_passes : (files : List (List ℕ)) (layer : LayerData) (mask : ℕ) → layer.mask ≡ Some mask
+    → layer_fault mask (bytes_at files mask) layer ≡ None
     → fault_for (Bilevel bilevel.Mask) (bytes_at files mask) ≡ None
 unfolding layer_fault
 mask_passes files layer mask there none =
@@ -68,8 +73,10 @@ mask_passes files layer mask there none =
     same_file mask (fault_for (Bilevel bilevel.Mask) bytes) (or_none (mention_fault mask bytes (mask, Bilevel bilevel.Mask)) None at).0
 
 -- each layer of a page of a plan whose files pass
-pub layer_passes : (plan : PlanData) (files : List (List ℕ)) (page i : ℕ) (page_item : PageData) (item : LayerData) → ArePlanned plan files → page < length plan.pages
-    → page_item ≡ get_or plan.pages page page_item → i < length page_item.layers → item ≡ get_or page_item.layers i item → PassesTests files item
+pub layer_passes : (plan : PlanData) (files : List (List ℕ)) (page i : ℕ) (page_item : PageData)
+    (item : LayerData) → ArePlanned plan files → page < length plan.pages
+    → page_item ≡ get_or plan.pages page page_item → i < length page_item.layers
+    → item ≡ get_or page_item.layers i item → PassesTests files item
 unfolding fault_of_file fault_of_layers
 layer_passes plan files page i page_item item are within page_is below item_is =
     let count = are.count in
@@ -99,40 +106,38 @@ layer_passes plan files page i page_item item are within page_is below item_is =
       crop = λ crop there. at_crop item.crop crop there own.crop;
     }
   where
-    at_some : (o : Option ℕ) (m : ℕ) → o ≡ Some m → IfSome o (λ m. m < length plan.files) → m < length plan.files
+    at_some : (o : Option ℕ) (m : ℕ) → o ≡ Some m → IfSome o (λ m. m < length plan.files)
+        → m < length plan.files
     at_some o m e h = subst {A = Option ℕ} (λ o. IfSome o (λ m. m < length plan.files)) e h
 
     at_crop : (o : Option (List ℕ)) (crop : List ℕ) → o ≡ Some crop → IfSome o IsCrop → IsCrop crop
     at_crop o crop e h = subst {A = Option (List ℕ)} (λ o. IfSome o IsCrop) e h
 
 -- each of the plan's layers of a page
-pub planned_pass : (plan other : PlanData) (files all : List (List ℕ)) (page i : ℕ) (planned : List LayerData) (d : LayerData) → ArePlanned plan files → all ≡ files → other ≡ plan
+pub planned_pass : (plan other : PlanData) (files all : List (List ℕ)) (page i : ℕ) (planned : List LayerData)
+    (d : LayerData) → ArePlanned plan files → all ≡ files → other ≡ plan
     → planned ≡ planned_layers other page → i < length planned → PassesTests all (get_or planned i d)
 planned_pass plan other files all page i planned d are all_is other_is planned_is within =
-    let told : planned ≡ planned_layers plan page = planned_is ∙ ap {A = PlanData} (λ p. planned_layers p page) other_is in
     subst {A = List (List ℕ)} (λ fs. PassesTests fs (get_or planned i d)) (sym all_is)
-    (by_page (slice_get plan.pages page) refl told)
-  where
-    by_page : (o : Option PageData) → slice_get plan.pages page ≡ o → planned ≡ option_map_or (λ p. p.layers) o [] → PassesTests files (get_or planned i d)
-    by_page None there is = (let none = ap {A = List LayerData} length is in absurd (omega arith))
-    by_page (Some item) there is =
-        let long = ap {A = List LayerData} length is in
-        let below : i < length item.layers = omega arith in
-        subst {A = List LayerData} (λ ls. PassesTests files (get_or ls i d)) (sym is)
-        (layer_passes plan files page i item (get_or item.layers i d) are (slice_get_within plan.pages page item there) (sym (get_or_from_slice_get plan.pages page item item there)) below
-        (get_or_default item.layers i d (get_or item.layers i d) below))
+    (planned_each (PassesTests files) plan other page i planned d (λ item there k e below.
+    layer_passes plan files page k item (get_or item.layers k e) are (slice_get_within plan.pages page item there) (sym (get_or_from_slice_get plan.pages page item item there)) below
+    (get_or_default item.layers k e (get_or item.layers k e) below))
+    other_is planned_is within)
 
 -- ---- the sides of an image
 
-bind_ok : {A B : Type 0} (r : Result A TagFault) (rest : A → Result B TagFault) (y : B) → (r >>= rest) ≡ Ok y → (x : A) × (r ≡ Ok x) × (rest x ≡ Ok y)
+bind_ok : {A B : Type 0} (r : Result A TagFault) (rest : A → Result B TagFault) (y : B) → (r >>= rest) ≡ Ok y
+    → (x : A) × (r ≡ Ok x) × (rest x ≡ Ok y)
 bind_ok (Ok value) rest y is = (value, refl, is)
 bind_ok (Err fault) rest y is = cc
 
-then_ok : {A B : Type 0} (r : Result A TagFault) (rest : Result B TagFault) (y : B) → (r >> rest) ≡ Ok y → rest ≡ Ok y
+then_ok : {A B : Type 0} (r : Result A TagFault) (rest : Result B TagFault) (y : B) → (r >> rest) ≡ Ok y
+    → rest ≡ Ok y
 then_ok (Ok value) rest y is = is
 then_ok (Err fault) rest y is = cc
 
-first_ok : {A B : Type 0} (r : Result A TagFault) (rest : Result B TagFault) (y : B) → (r >> rest) ≡ Ok y → (x : A) × (r ≡ Ok x)
+first_ok : {A B : Type 0} (r : Result A TagFault) (rest : Result B TagFault) (y : B) → (r >> rest) ≡ Ok y
+    → (x : A) × (r ≡ Ok x)
 first_ok (Ok value) rest y is = (value, refl)
 first_ok (Err fault) rest y is = cc
 
@@ -143,7 +148,8 @@ must_ok false fault x is = cc
 same_Ok : {A : Type 0} (x y : A) → ◌≡◌ {A = Result A TagFault} (Ok x) (Ok y) → x ≡ y
 same_Ok x y e = cc
 
-within_ok : (bytes : List ℕ) (at least most : ℕ) (kind : FaultKind) (value : ℕ) → number_within bytes at least most kind ≡ Ok value
+within_ok : (bytes : List ℕ) (at least most : ℕ) (kind : FaultKind) (value : ℕ)
+    → number_within bytes at least most kind ≡ Ok value
     → (result_unwrap_or (number_at bytes at 0 1) 0 ≡ value) × (least ≤ value)
 unfolding number_within
 within_ok bytes at least most kind value is =
@@ -166,17 +172,21 @@ pub record HasSides (bytes : List ℕ) (shape : Shape) : Type 0 where
   pub long : 1 ≤ shape.length
 
 -- the first tests determine the two sides
-sides_from : (first : Result (Unit {0}) TagFault) (w l : Result ℕ TagFault) (rest : ℕ → ℕ → Result Shape TagFault) (shape : Shape)
+sides_from : (first : Result (Unit {0}) TagFault) (w l : Result ℕ TagFault)
+    (rest : ℕ → ℕ → Result Shape TagFault) (shape : Shape)
     → ((width length : ℕ) → rest width length ≡ Ok shape → (width ≡ shape.width) × (length ≡ shape.length))
-    → (first >> (w >>= (λ width. l >>= (λ length. rest width length)))) ≡ Ok shape → (w ≡ Ok shape.width) × (l ≡ Ok shape.length)
+    → (first >> (w >>= (λ width. l >>= (λ length. rest width length)))) ≡ Ok shape
+    → (w ≡ Ok shape.width) × (l ≡ Ok shape.length)
 sides_from (Err fault) w l rest shape tells is = cc
 sides_from (Ok u) (Err fault) l rest shape tells is = cc
 sides_from (Ok u) (Ok width) (Err fault) rest shape tells is = cc
 sides_from (Ok u) (Ok width) (Ok length) rest shape tells is = (let both = tells width length is in (ap {A = ℕ} Ok both.0, ap {A = ℕ} Ok both.1))
 
 -- the later ones give a shape with these sides
-made_from : (a : Result ℕ TagFault) (b : Result (Unit {0}) TagFault) (c d e f g : Result ℕ TagFault) (h : Result (Unit {0}) TagFault) (i : Result ℕ TagFault) (make : ℕ → ℕ → ℕ → Shape) (shape : Shape)
-    → (a >> (b >> (c >>= (λ x. d >> (e >> (f >> (g >>= (λ y. h >> (i >>= (λ z. Ok (make x y z))))))))))) ≡ Ok shape → (x : ℕ) × (y : ℕ) × (z : ℕ) × (make x y z ≡ shape)
+made_from : (a : Result ℕ TagFault) (b : Result (Unit {0}) TagFault) (c d e f g : Result ℕ TagFault)
+    (h : Result (Unit {0}) TagFault) (i : Result ℕ TagFault) (make : ℕ → ℕ → ℕ → Shape) (shape : Shape)
+    → (a >> (b >> (c >>= (λ x. d >> (e >> (f >> (g >>= (λ y. h >> (i >>= (λ z. Ok (make x y z)))))))))))
+    ≡ Ok shape → (x : ℕ) × (y : ℕ) × (z : ℕ) × (make x y z ≡ shape)
 made_from (Err fault) b c d e f g h i make shape is = cc
 made_from (Ok u) (Err fault) c d e f g h i make shape is = cc
 made_from (Ok u) (Ok v) (Err fault) d e f g h i make shape is = cc
@@ -188,7 +198,8 @@ made_from (Ok u) (Ok v) (Ok x) (Ok p) (Ok q) (Ok r) (Ok y) (Err fault) i make sh
 made_from (Ok u) (Ok v) (Ok x) (Ok p) (Ok q) (Ok r) (Ok y) (Ok s) (Err fault) make shape is = cc
 made_from (Ok u) (Ok v) (Ok x) (Ok p) (Ok q) (Ok r) (Ok y) (Ok s) (Ok z) make shape is = (x, y, z, same_Ok {A = Shape} (make x y z) shape is)
 
-fields_sides : (usage : Usage) (bytes : List ℕ) (shape : Shape) → image_fields usage bytes ≡ Ok shape → HasSides bytes shape
+fields_sides : (usage : Usage) (bytes : List ℕ) (shape : Shape) → image_fields usage bytes ≡ Ok shape
+    → HasSides bytes shape
 unfolding image_fields
 fields_sides usage bytes shape is =
     let make : ℕ → ℕ → ℕ → ℕ → ℕ → Shape = λ width length x y z. record {
@@ -214,7 +225,8 @@ fields_sides usage bytes shape is =
     let length = within_ok bytes tag.image_length 1 65535 kinds.Length shape.length both.1 in
     record { width = sym width.0; length = sym length.0; wide = width.1; long = length.1 }
 
-shape_from : (first : Result (Unit {0}) TagFault) (fields : Result Shape TagFault) (strips : Shape → Result (Unit {0}) TagFault) (shape : Shape)
+shape_from : (first : Result (Unit {0}) TagFault) (fields : Result Shape TagFault)
+    (strips : Shape → Result (Unit {0}) TagFault) (shape : Shape)
     → (first >> (fields >>= (λ s. strips s >> Ok s))) ≡ Ok shape → fields ≡ Ok shape
 shape_from (Err fault) fields strips shape is = cc
 shape_from (Ok u) (Err fault) strips shape is = cc
@@ -224,20 +236,24 @@ shape_from (Ok u) (Ok s) strips shape is = ap {A = Shape} Ok (kept (strips s) s 
     kept (Err fault) s shape is = cc
     kept (Ok u) s shape is = same_Ok {A = Shape} s shape is
 
-pub shape_sides : (usage : Usage) (bytes : List ℕ) (shape : Shape) → shape_of usage bytes ≡ Ok shape → HasSides bytes shape
+pub shape_sides : (usage : Usage) (bytes : List ℕ) (shape : Shape) → shape_of usage bytes ≡ Ok shape
+    → HasSides bytes shape
 unfolding shape_of
 shape_sides usage bytes shape is =
     fields_sides usage bytes shape (shape_from (no_fault (dir_fault bytes)) (image_fields usage bytes) (λ s. no_fault (strip_fault s bytes)) shape is)
 
-told_sides : (usage : Usage) (bytes : List ℕ) → result_err (shape_of usage bytes) ≡ None → HasSides bytes (shape_told (shape_of usage bytes))
+told_sides : (usage : Usage) (bytes : List ℕ) → result_err (shape_of usage bytes) ≡ None
+    → HasSides bytes (shape_told (shape_of usage bytes))
 told_sides usage bytes passes = by_result (shape_of usage bytes) refl passes
   where
-    by_result : (r : Result Shape TagFault) → shape_of usage bytes ≡ r → result_err r ≡ None → HasSides bytes (shape_told r)
+    by_result : (r : Result Shape TagFault) → shape_of usage bytes ≡ r → result_err r ≡ None
+        → HasSides bytes (shape_told r)
     by_result (Ok shape) is none = shape_sides usage bytes shape is
     by_result (Err fault) is none = cc
 
 -- the image of a layer that passes has the sides in its file's fields
-art_sides : (bytes : List ℕ) (layer : LayerData) → fault_for (use_of layer) bytes ≡ None → HasSides bytes (laid.shape_of (art_in bytes layer))
+art_sides : (bytes : List ℕ) (layer : LayerData) → fault_for (use_of layer) bytes ≡ None
+    → HasSides bytes (laid.shape_of (art_in bytes layer))
 art_sides bytes layer passes = by_line layer.line refl
   where
     by_line : (line : Bool) → layer.line ≡ line → HasSides bytes (laid.shape_of (art_in bytes layer))
@@ -250,7 +266,8 @@ art_sides bytes layer passes = by_line layer.line refl
 
 -- ---- crops and masks
 
-where_none : (test : Bool) (file at : ℕ) (kind : FaultKind) → fault_where test file at kind ≡ None → test ≡ false
+where_none : (test : Bool) (file at : ℕ) (kind : FaultKind) → fault_where test file at kind ≡ None
+    → test ≡ false
 where_none true file at kind none = cc
 where_none false file at kind none = refl
 
@@ -261,8 +278,10 @@ record LiesIn (shape : Shape) (x y width height : ℕ) : Type 0 where
   columns : x + width ≤ shape.width
   rows : y + height ≤ shape.length
 
-crop_lies : (bytes : List ℕ) (file : ℕ) (shape : Shape) (crop : Option (List ℕ)) → HasSides bytes shape → crop_fault file bytes crop ≡ None → ForSome crop IsCrop
-    → LiesIn shape (crop_of shape crop).x (crop_of shape crop).y (crop_of shape crop).width (crop_of shape crop).height
+crop_lies : (bytes : List ℕ) (file : ℕ) (shape : Shape) (crop : Option (List ℕ)) → HasSides bytes shape
+    → crop_fault file bytes crop ≡ None → ForSome crop IsCrop
+    → LiesIn shape (crop_of shape crop).x (crop_of shape crop).y (crop_of shape crop).width
+    (crop_of shape crop).height
 crop_lies bytes file shape None sides none is =
     let wide = sides.wide in
     let long = sides.long in
@@ -279,9 +298,11 @@ crop_lies bytes file shape (Some crop) sides none is =
     not_above : (n m : ℕ) → nat_lt n m ≡ false → m ≤ n
     not_above n m h = grind (arith, nat_tests)
 
-mask_lies : (files : List (List ℕ)) (bytes : List ℕ) (shape : Shape) (mask : ℕ) → HasSides bytes shape → mask_fault files bytes (Some mask) ≡ None
+mask_lies : (files : List (List ℕ)) (bytes : List ℕ) (shape : Shape) (mask : ℕ) → HasSides bytes shape
+    → mask_fault files bytes (Some mask) ≡ None
     → fault_for (Bilevel bilevel.Mask) (bytes_at files mask) ≡ None
-    → ((bilevel_of bilevel.Mask (bytes_at files mask)).shape.width ≡ shape.width) × ((bilevel_of bilevel.Mask (bytes_at files mask)).shape.length ≡ shape.length)
+    → ((bilevel_of bilevel.Mask (bytes_at files mask)).shape.width ≡ shape.width)
+    × ((bilevel_of bilevel.Mask (bytes_at files mask)).shape.length ≡ shape.length)
 mask_lies files bytes shape mask sides none passes =
     let own = told_sides _ (bytes_at files mask) passes in
     let both = or_none (fault_where (not (nat_eq (width_of (bytes_at files mask)) (width_of bytes))) mask tag.image_width _) _ none in (
@@ -293,9 +314,12 @@ mask_lies files bytes shape mask sides none passes =
     same n m h = grind (arith, nat_tests)
 
 -- a mask that passes has the sides of the image
-mask_of : (files : List (List ℕ)) (layer : LayerData) (shape : Shape) (mask : Option ℕ) (image : BilevelImage) → HasSides (bytes_at files layer.file) shape
-    → mask_fault files (bytes_at files layer.file) mask ≡ None → ForSome mask (λ m. fault_for (Bilevel bilevel.Mask) (bytes_at files m) ≡ None)
-    → option_map (λ m. bilevel_of bilevel.Mask (bytes_at files m)) mask ≡ Some image → (image.shape.width ≡ shape.width) × (image.shape.length ≡ shape.length)
+mask_of : (files : List (List ℕ)) (layer : LayerData) (shape : Shape) (mask : Option ℕ) (image : BilevelImage)
+    → HasSides (bytes_at files layer.file) shape
+    → mask_fault files (bytes_at files layer.file) mask ≡ None
+    → ForSome mask (λ m. fault_for (Bilevel bilevel.Mask) (bytes_at files m) ≡ None)
+    → option_map (λ m. bilevel_of bilevel.Mask (bytes_at files m)) mask ≡ Some image
+    → (image.shape.width ≡ shape.width) × (image.shape.length ≡ shape.length)
 mask_of files layer shape None image sides none passes there = cc
 mask_of files layer shape (Some mask) image sides none passes there =
     let both = mask_lies files (bytes_at files layer.file) shape mask sides none (passes mask refl) in
@@ -303,7 +327,8 @@ mask_of files layer shape (Some mask) image sides none passes there =
     (sym (ap {A = BilevelImage} (λ i. i.shape.width) same) ∙ both.0, sym (ap {A = BilevelImage} (λ i. i.shape.length) same) ∙ both.1)
 
 -- a page accepts a layer that passes
-pub layer_fits : (files : List (List ℕ)) (layer : LayerData) → PassesTests files layer → IsLayer (layer_of files layer)
+pub layer_fits : (files : List (List ℕ)) (layer : LayerData) → PassesTests files layer
+    → IsLayer (layer_of files layer)
 unfolding fit_fault
 layer_fits files layer passes =
     let bytes = bytes_at files layer.file in

@@ -35,7 +35,8 @@ record HasValues (plan : PlanData) (colour spotted : Bool) (inks shown : Planes)
   black : slice_index shown.black x ≡ toned_ink plan colour spotted (inks_at inks x) K
   spot : slice_index shown.spot x ≡ toned_ink plan colour spotted (inks_at inks x) S
 
-has_values : (plan : PlanData) (colour spot : Bool) (inks shown : Planes) (width x : ℕ) → HasWidth inks width → AreToned plan colour spot inks shown → x < width → HasValues plan colour spot inks shown x
+has_values : (plan : PlanData) (colour spot : Bool) (inks shown : Planes) (width x : ℕ) → HasWidth inks width
+    → AreToned plan colour spot inks shown → x < width → HasValues plan colour spot inks shown x
 has_values plan colour spot inks shown width x wide are less =
     let cyan = wide.cyan in
     let magenta = wide.magenta in
@@ -55,29 +56,38 @@ abbrev pub printed_inks : Bool → Bool → List Bool
 printed_inks colour spot = painted_inks (record { colour = colour; spot = spot })
 
 -- the value at a place among those of the inks that are painted
-at-only : (inks : List Bool) (values : List ℕ) (i : ℕ) → slice_index_or inks i false ≡ true → slice_index (only inks values) i ≡ slice_index values i
+at-only : (inks : List Bool) (values : List ℕ) (i : ℕ) → slice_index_or inks i false ≡ true
+    → slice_index (only inks values) i ≡ slice_index values i
 at-only [] values i on = absurd (cc)
 at-only (ink ∷ inks) [] i on = refl
 at-only (ink ∷ inks) (value ∷ values) zero on = ap (λ ink. if ink then value else 0) on
 at-only (ink ∷ inks) (value ∷ values) (suc i) on = at-only inks values i on
 
-toned_only : (plan : PlanData) (colour spot : Bool) (values : List ℕ) (ink : Ink) → toned_ink plan colour spot values ink ≡ toned_ink plan colour spot (only (printed_inks colour spot) values) ink
+toned_only : (plan : PlanData) (colour spot : Bool) (values : List ℕ) (ink : Ink)
+    → toned_ink plan colour spot values ink
+    ≡ toned_ink plan colour spot (only (printed_inks colour spot) values) ink
 toned_only plan colour spot values ink = one (prints_ink colour spot ink) (λ on. at-only (printed_inks colour spot) values (slot_of ink) (printed ink on))
   where
-    printed : (ink : Ink) → prints_ink colour spot ink ≡ true → slice_index_or (printed_inks colour spot) (slot_of ink) false ≡ true
+    printed : (ink : Ink) → prints_ink colour spot ink ≡ true
+        → slice_index_or (printed_inks colour spot) (slot_of ink) false ≡ true
     printed C on = on
     printed M on = on
     printed Y on = on
     printed K on = on
     printed S on = on
 
-    one : (prints : Bool) → (prints ≡ true → slice_index (only (printed_inks colour spot) values) (slot_of ink) ≡ slice_index values (slot_of ink))
-        → (if prints then toned plan ink (slice_index values (slot_of ink)) else 0) ≡ (if prints then toned plan ink (slice_index (only (printed_inks colour spot) values) (slot_of ink)) else 0)
+    one : (prints : Bool)
+        → (prints ≡ true → slice_index (only (printed_inks colour spot) values) (slot_of ink)
+        ≡ slice_index values (slot_of ink))
+        → (if prints then toned plan ink (slice_index values (slot_of ink)) else 0)
+        ≡ (if prints then toned plan ink (slice_index (only (printed_inks colour spot) values)
+        (slot_of ink)) else 0)
     one true same = ap (toned plan ink) (sym (same refl))
     one false same = refl
 
 -- what a page prints of an ink depends on the inks that it prints alone
-only_printed : (plan : PlanData) (colour spot : Bool) (inks layers : List ℕ) → only (printed_inks colour spot) inks ≡ only (printed_inks colour spot) layers
+only_printed : (plan : PlanData) (colour spot : Bool) (inks layers : List ℕ)
+    → only (printed_inks colour spot) inks ≡ only (printed_inks colour spot) layers
     → (ink : Ink) → printed_ink plan colour spot inks ink ≡ printed_ink plan colour spot layers ink
 only_printed plan colour spot inks layers same = at
   where
@@ -96,7 +106,8 @@ only_printed plan colour spot inks layers same = at
     at S = toned_same S
 
 -- where the limit cannot change a page, the sum of four values is within it
-above : (colour : Bool) (limit c m y k : ℕ) → nat_lt limit (most_ink colour) ≡ false → c ≤ 255 → m ≤ 255 → y ≤ 255 → k ≤ 255 → (colour ≡ false → c ≡ 0) → (colour ≡ false → m ≡ 0) → (colour ≡ false → y ≡ 0)
+above : (colour : Bool) (limit c m y k : ℕ) → nat_lt limit (most_ink colour) ≡ false → c ≤ 255 → m ≤ 255
+    → y ≤ 255 → k ≤ 255 → (colour ≡ false → c ≡ 0) → (colour ≡ false → m ≡ 0) → (colour ≡ false → y ≡ 0)
     → c + m + y + k ≤ limit
 above true limit c m y k off cyan magenta yellow black no_cyan no_magenta no_yellow = let most : 1020 ≤ limit = grind (arith, nat_tests) in omega arith
 above false limit c m y k off cyan magenta yellow black no_cyan no_magenta no_yellow =
@@ -107,13 +118,20 @@ above false limit c m y k off cyan magenta yellow black no_cyan no_magenta no_ye
     omega arith
 
 -- without a limit, the rows after their curves are printed
-pub shows_unlimited : (plan : PlanData) (colour spot : Bool) (layers : List Layer) (width y : ℕ) (inks shown : Planes) → HasWidth inks width
-    → ((x : ℕ) → x < width → only (printed_inks colour spot) (inks_at inks x) ≡ only (printed_inks colour spot) (ink_at layers x y))
-    → AreToned plan colour spot inks shown → limits plan colour ≡ false → ShowsInks plan colour spot layers width y shown
+pub shows_unlimited : (plan : PlanData) (colour spot : Bool) (layers : List Layer) (width y : ℕ)
+    (inks shown : Planes) → HasWidth inks width
+    → ((x : ℕ) → x < width → only (printed_inks colour spot) (inks_at inks x)
+    ≡ only (printed_inks colour spot) (ink_at layers x y)) → AreToned plan colour spot inks shown
+    → limits plan colour ≡ false → ShowsInks plan colour spot layers width y shown
 shows_unlimited plan colour spot layers width y inks shown wide laid are off =
-    record { each = λ ink x less. at ink x less ∙ only_printed plan colour spot (inks_at inks x) (ink_at layers x y) (laid x less) ink }
+    record {
+      each = λ ink x less. at ink x less ∙ only_printed plan colour spot (inks_at inks x)
+          (ink_at layers x y) (laid x less) ink;
+    }
   where
-    free : (x : ℕ) → x < width → limited_inks plan colour spot (inks_at inks x) ≡ slice_index shown.cyan x ∷ slice_index shown.magenta x ∷ slice_index shown.yellow x ∷ slice_index shown.black x ∷ []
+    free : (x : ℕ) → x < width
+        → limited_inks plan colour spot (inks_at inks x)
+        ≡ slice_index shown.cyan x ∷ slice_index shown.magenta x ∷ slice_index shown.yellow x ∷ slice_index shown.black x ∷ []
     free x less =
         let is = has_values plan colour spot inks shown width x wide are less in
         let wide_cyan = wide.cyan in
@@ -130,7 +148,8 @@ shows_unlimited plan colour spot layers width y inks shown wide laid are off =
         limited-same _ (slice_index shown.cyan x) _ (slice_index shown.magenta x) _ (slice_index shown.yellow x) _ (slice_index shown.black x) plan.limit (sym is.cyan) (sym is.magenta) (sym is.yellow) (sym is.black)
         ∙ limited-free (slice_index shown.cyan x) (slice_index shown.magenta x) (slice_index shown.yellow x) (slice_index shown.black x) plan.limit most
 
-    at : (ink : Ink) (x : ℕ) → x < width → slice_index (plane_of shown ink) x ≡ printed_ink plan colour spot (inks_at inks x) ink
+    at : (ink : Ink) (x : ℕ) → x < width
+        → slice_index (plane_of shown ink) x ≡ printed_ink plan colour spot (inks_at inks x) ink
     at C x less = sym (ap (λ values. slice_index values 0) (free x less))
     at M x less = sym (ap (λ values. slice_index values 1) (free x less))
     at Y x less = sym (ap (λ values. slice_index values 2) (free x less))
@@ -138,14 +157,22 @@ shows_unlimited plan colour spot layers width y inks shown wide laid are off =
     at S x less = (has_values plan colour spot inks shown width x wide are less).spot
 
 -- with a limit, the limited rows are printed
-pub shows_limited : (plan : PlanData) (colour spot : Bool) (layers : List Layer) (width y : ℕ) (inks shown new : Planes) → HasWidth inks width → HasWidth shown width
-    → ((x : ℕ) → x < width → only (printed_inks colour spot) (inks_at inks x) ≡ only (printed_inks colour spot) (ink_at layers x y)) → AreToned plan colour spot inks shown
-    → AreLimited plan.limit shown.cyan shown.magenta shown.yellow shown.black new.cyan new.magenta new.yellow new.black → new.spot ≡ shown.spot → ShowsInks plan colour spot layers width y new
+pub shows_limited : (plan : PlanData) (colour spot : Bool) (layers : List Layer) (width y : ℕ)
+    (inks shown new : Planes) → HasWidth inks width → HasWidth shown width
+    → ((x : ℕ) → x < width → only (printed_inks colour spot) (inks_at inks x)
+    ≡ only (printed_inks colour spot) (ink_at layers x y)) → AreToned plan colour spot inks shown
+    → AreLimited plan.limit shown.cyan shown.magenta shown.yellow shown.black
+    new.cyan new.magenta new.yellow new.black
+    → new.spot ≡ shown.spot → ShowsInks plan colour spot layers width y new
 shows_limited plan colour spot layers width y inks shown new wide shown_wide laid are cut spot_is =
-    record { each = λ ink x less. at ink x less ∙ only_printed plan colour spot (inks_at inks x) (ink_at layers x y) (laid x less) ink }
+    record {
+      each = λ ink x less. at ink x less ∙ only_printed plan colour spot (inks_at inks x)
+          (ink_at layers x y) (laid x less) ink;
+    }
   where
     same : (x : ℕ) → x < width
-        → limited (slice_index shown.cyan x) (slice_index shown.magenta x) (slice_index shown.yellow x) (slice_index shown.black x) plan.limit ≡ limited_inks plan colour spot (inks_at inks x)
+        → limited (slice_index shown.cyan x) (slice_index shown.magenta x) (slice_index shown.yellow x)
+        (slice_index shown.black x) plan.limit ≡ limited_inks plan colour spot (inks_at inks x)
     same x less =
         let is = has_values plan colour spot inks shown width x wide are less in
         limited-same (slice_index shown.cyan x) _ (slice_index shown.magenta x) _ (slice_index shown.yellow x) _ (slice_index shown.black x) _ plan.limit is.cyan is.magenta is.yellow is.black
@@ -153,7 +180,8 @@ shows_limited plan colour spot layers width y inks shown new wide shown_wide lai
     inside : (x : ℕ) → x < width → x < length shown.cyan
     inside x less = (let long = shown_wide.cyan in omega arith)
 
-    at : (ink : Ink) (x : ℕ) → x < width → slice_index (plane_of new ink) x ≡ printed_ink plan colour spot (inks_at inks x) ink
+    at : (ink : Ink) (x : ℕ) → x < width
+        → slice_index (plane_of new ink) x ≡ printed_ink plan colour spot (inks_at inks x) ink
     at C x less = cut.cyan_is x (inside x less) ∙ ap (λ values. slice_index values 0) (same x less)
     at M x less = cut.magenta_is x (inside x less) ∙ ap (λ values. slice_index values 1) (same x less)
     at Y x less = cut.yellow_is x (inside x less) ∙ ap (λ values. slice_index values 2) (same x less)
@@ -163,28 +191,35 @@ shows_limited plan colour spot layers width y inks shown new wide shown_wide lai
 -- ---- the planes of a row
 
 -- the values of a plane, wherever they are, are as many as a row has
-pub length-values_at : (source : Source) (row own blank : List ℕ) (width : ℕ) → length row ≡ width → length own ≡ width → length blank ≡ width → length (values_at source row own blank) ≡ width
+pub length-values_at : (source : Source) (row own blank : List ℕ) (width : ℕ) → length row ≡ width
+    → length own ≡ width → length blank ≡ width → length (values_at source row own blank) ≡ width
 length-values_at Painted row own blank width row_long own_long blank_long = row_long
 length-values_at Own row own blank width row_long own_long blank_long = own_long
 length-values_at Blank row own blank width row_long own_long blank_long = blank_long
 
-own_values : (row blank : List ℕ) (plane : Plane) → plane.source ≡ Own → shown_in row blank plane ≡ plane.values.items
+own_values : (row blank : List ℕ) (plane : Plane) → plane.source ≡ Own
+    → shown_in row blank plane ≡ plane.values.items
 own_values row blank plane own = ap (λ source. values_at source row plane.values.items blank) own
 
 -- what the tone of a plane states: its values after the curve, at the painted row and at any blank row
 abbrev IsPlaneToned : PlanData → Ink → Bool → List ℕ → Plane → Type 0
 IsPlaneToned plan ink prints row plane = (none : List ℕ) → none ≡ replicate (length row) 0 → IsToned plan ink prints row (shown_in row none plane)
 
-toned_plane : (plan : PlanData) (ink : Ink) (prints : Bool) (row painted blank : List ℕ) (width : ℕ) (plane : Plane) → row ≡ painted → length painted ≡ width → blank ≡ replicate width 0
+toned_plane : (plan : PlanData) (ink : Ink) (prints : Bool) (row painted blank : List ℕ) (width : ℕ)
+    (plane : Plane) → row ≡ painted → length painted ≡ width → blank ≡ replicate width 0
     → IsPlaneToned plan ink prints row plane → IsToned plan ink prints painted (shown_in painted blank plane)
 toned_plane plan ink prints row painted blank width plane same long blank_is toned =
     let count : length row ≡ width = ap length same ∙ long in
     subst {A = List ℕ} (λ r. IsToned plan ink prints r (shown_in r blank plane)) same (toned blank (blank_is ∙ ap (λ n. replicate n 0) (sym count)))
 
 -- five planes after their curves
-pub AreToned-planes : (plan : PlanData) (colour spot : Bool) (inks : Planes) (blank : List ℕ) (width : ℕ) (c m ye k s : Plane) (cyan magenta yellow black own : List ℕ) → HasWidth inks width → blank ≡ replicate width 0
-    → cyan ≡ inks.cyan → magenta ≡ inks.magenta → yellow ≡ inks.yellow → black ≡ inks.black → own ≡ inks.spot → IsPlaneToned plan C colour cyan c → IsPlaneToned plan M colour magenta m
-    → IsPlaneToned plan Y colour yellow ye → IsPlaneToned plan K true black k → IsPlaneToned plan S spot own s → AreToned plan colour spot inks (shown_planes inks blank c m ye k s)
+pub AreToned-planes : (plan : PlanData) (colour spot : Bool) (inks : Planes) (blank : List ℕ) (width : ℕ)
+    (c m ye k s : Plane) (cyan magenta yellow black own : List ℕ) → HasWidth inks width
+    → blank ≡ replicate width 0
+    → cyan ≡ inks.cyan → magenta ≡ inks.magenta → yellow ≡ inks.yellow → black ≡ inks.black → own ≡ inks.spot
+    → IsPlaneToned plan C colour cyan c → IsPlaneToned plan M colour magenta m
+    → IsPlaneToned plan Y colour yellow ye → IsPlaneToned plan K true black k → IsPlaneToned plan S spot own s
+    → AreToned plan colour spot inks (shown_planes inks blank c m ye k s)
 AreToned-planes plan colour spot inks blank width c m ye k s cyan magenta yellow black own wide blank_is c_row m_row y_row k_row s_row c_toned m_toned y_toned k_toned s_toned = record {
   cyan = toned_plane plan C colour cyan inks.cyan blank width c c_row wide.cyan blank_is c_toned;
   magenta = toned_plane plan M colour magenta inks.magenta blank width m m_row wide.magenta blank_is m_toned;
@@ -194,11 +229,16 @@ AreToned-planes plan colour spot inks blank width c m ye k s cyan magenta yellow
 }
 
 -- planes with values of their own, under a limit
-pub shows_limited_planes : (plan : PlanData) (colour spot : Bool) (layers : List Layer) (width y : ℕ) (inks : Planes) (blank : List ℕ) (c m ye k s c' m' ye' k' : Plane)
-    → HasWidth inks width → length c.values.items ≡ width → length m.values.items ≡ width → length ye.values.items ≡ width → length k.values.items ≡ width → length s.values.items ≡ width → length blank ≡ width
-    → ((x : ℕ) → x < width → only (printed_inks colour spot) (inks_at inks x) ≡ only (printed_inks colour spot) (ink_at layers x y)) → AreToned plan colour spot inks (shown_planes inks blank c m ye k s)
-    → c.source ≡ Own → m.source ≡ Own → ye.source ≡ Own → k.source ≡ Own → IsSameKind c c' → IsSameKind m m' → IsSameKind ye ye' → IsSameKind k k'
-    → AreLimited plan.limit c.values.items m.values.items ye.values.items k.values.items c'.values.items m'.values.items ye'.values.items k'.values.items
+pub shows_limited_planes : (plan : PlanData) (colour spot : Bool) (layers : List Layer) (width y : ℕ)
+    (inks : Planes) (blank : List ℕ) (c m ye k s c' m' ye' k' : Plane) → HasWidth inks width
+    → length c.values.items ≡ width → length m.values.items ≡ width → length ye.values.items ≡ width
+    → length k.values.items ≡ width → length s.values.items ≡ width → length blank ≡ width
+    → ((x : ℕ) → x < width → only (printed_inks colour spot) (inks_at inks x)
+    ≡ only (printed_inks colour spot) (ink_at layers x y))
+    → AreToned plan colour spot inks (shown_planes inks blank c m ye k s) → c.source ≡ Own → m.source ≡ Own
+    → ye.source ≡ Own → k.source ≡ Own → IsSameKind c c' → IsSameKind m m' → IsSameKind ye ye'
+    → IsSameKind k k' → AreLimited plan.limit c.values.items m.values.items ye.values.items k.values.items
+    c'.values.items m'.values.items ye'.values.items k'.values.items
     → ShowsInks plan colour spot layers width y (shown_planes inks blank c' m' ye' k' s)
 shows_limited_planes plan colour spot layers width y inks blank c m ye k s c' m' ye' k' wide c_long m_long y_long k_long s_long blank_long laid are c_own m_own y_own k_own c_kind m_kind y_kind k_kind cut =
     let shown = shown_planes inks blank c m ye k s in

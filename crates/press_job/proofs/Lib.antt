@@ -7,5 +7,6 @@ pub mod LoadLemmas
 pub mod PlaneLemmas
 pub mod SmallJob
 pub mod SpotlessLemmas
+pub mod ToldLemmas
 pub mod UntoldLemmas
 pub mod FindingLemmas

@@ -32,18 +32,22 @@ option_or-none : {B : Type 0} (a : Option B) → option_or a None ≡ a
 option_or-none None = refl
 option_or-none (Some x) = refl
 
-first_some-append : {A B : Type 0} (f : A → Option B) (xs ys : List A) → first_some f (xs ++ ys) ≡ option_or (first_some f xs) (first_some f ys)
+first_some-append : {A B : Type 0} (f : A → Option B) (xs ys : List A)
+    → first_some f (xs ++ ys) ≡ option_or (first_some f xs) (first_some f ys)
 first_some-append f [] ys = refl
 first_some-append f (x ∷ xs) ys = ap (option_or (f x)) (first_some-append f xs ys) ∙ option_or-assoc (f x) (first_some f xs) (first_some f ys)
 
 -- the verdict on one more file
-verdict_before-more : (plan : PlanData) (folder : List ℕ) (held : List (List ℕ × List ℕ)) (n : ℕ) → verdict_before plan folder held (n + 1) ≡ option_or (verdict_before plan folder held n) (verdict_at plan folder held n)
+verdict_before-more : (plan : PlanData) (folder : List ℕ) (held : List (List ℕ × List ℕ)) (n : ℕ)
+    → verdict_before plan folder held (n + 1)
+    ≡ option_or (verdict_before plan folder held n) (verdict_at plan folder held n)
 unfolding verdict_before
 verdict_before-more plan folder held n =
     ap (first_some (verdict_at plan folder held)) (range_more n) ∙ first_some-append (verdict_at plan folder held) (range_with_len 0 n) (n ∷ [])
     ∙ ap (option_or (first_some (verdict_at plan folder held) (range_with_len 0 n))) (option_or-none (verdict_at plan folder held n))
 
-verdict_stays : (plan : PlanData) (folder : List ℕ) (held : List (List ℕ × List ℕ)) (n k : ℕ) (refusal : Refusal) → verdict_before plan folder held n ≡ Some refusal
+verdict_stays : (plan : PlanData) (folder : List ℕ) (held : List (List ℕ × List ℕ)) (n k : ℕ)
+    (refusal : Refusal) → verdict_before plan folder held n ≡ Some refusal
     → verdict_before plan folder held (n + k) ≡ Some refusal
 verdict_stays plan folder held n zero refusal is = (let e : n + 0 ≡ n = omega arith in ap (verdict_before plan folder held) e ∙ is)
 verdict_stays plan folder held n (suc k) refusal is =
@@ -52,7 +56,8 @@ verdict_stays plan folder held n (suc k) refusal is =
     ∙ ap (λ v. option_or v (verdict_at plan folder held (n + k))) (verdict_stays plan folder held n k refusal is)
 
 -- the first refusal is the verdict on all
-verdict_stops : (plan : PlanData) (folder : List ℕ) (held : List (List ℕ × List ℕ)) (n count : ℕ) (refusal : Refusal) → n < count → verdict_before plan folder held n ≡ None
+verdict_stops : (plan : PlanData) (folder : List ℕ) (held : List (List ℕ × List ℕ)) (n count : ℕ)
+    (refusal : Refusal) → n < count → verdict_before plan folder held n ≡ None
     → verdict_at plan folder held n ≡ Some refusal → verdict_before plan folder held count ≡ Some refusal
 verdict_stops plan folder held n count refusal within before here =
     let e : n + 1 + (count - (n + 1)) ≡ count = omega arith in
@@ -63,22 +68,30 @@ verdict_stops plan folder held n count refusal within before here =
 -- ---- one more file
 
 -- the verdict on the file after the first ones
-at_first : (plan : PlanData) (folder : List ℕ) (held : List (List ℕ × List ℕ)) (files : List (List ℕ)) (limit : ℕ) → AreFirst plan folder held files → limit ≡ limit_behind (sum_by length files)
-    → verdict_at plan folder held (length files) ≡ verdict_on plan folder limit (length files) (held_at held (path_of plan folder (length files)))
+at_first : (plan : PlanData) (folder : List ℕ) (held : List (List ℕ × List ℕ)) (files : List (List ℕ))
+    (limit : ℕ) → AreFirst plan folder held files → limit ≡ limit_behind (sum_by length files)
+    → verdict_at plan folder held (length files)
+    ≡ verdict_on plan folder limit (length files) (held_at held (path_of plan folder (length files)))
 unfolding verdict_at
 at_first plan folder held files limit are limit_is =
     ap (λ l. verdict_on plan folder l (length files) (held_at held (path_of plan folder (length files)))) (ap (λ fs. limit_behind (sum_by length fs)) (sym are.files_are) ∙ sym limit_is)
 
-pub no_files_first : (plan : PlanData) (folder : List ℕ) (held : List (List ℕ × List ℕ)) → AreFirst plan folder held []
+pub no_files_first : (plan : PlanData) (folder : List ℕ) (held : List (List ℕ × List ℕ))
+    → AreFirst plan folder held []
 unfolding first_files verdict_before
 no_files_first plan folder held = record { files_are = refl; pass = refl }
 
-first_files-more : (plan : PlanData) (folder : List ℕ) (held : List (List ℕ × List ℕ)) (n : ℕ) → first_files plan folder held (n + 1) ≡ first_files plan folder held n ++ held_bytes plan folder held n ∷ []
+first_files-more : (plan : PlanData) (folder : List ℕ) (held : List (List ℕ × List ℕ)) (n : ℕ)
+    → first_files plan folder held (n + 1) ≡ first_files plan folder held n
+    ++ held_bytes plan folder held n ∷ []
 unfolding first_files
 first_files-more plan folder held n = map-range_with_len_more (held_bytes plan folder held) 0 n n (omega arith)
 
-pub first_more : (plan : PlanData) (folder : List ℕ) (held : List (List ℕ × List ℕ)) (files : List (List ℕ)) (bytes : List ℕ) (limit : ℕ) → AreFirst plan folder held files
-    → limit ≡ limit_behind (sum_by length files) → held_at held (path_of plan folder (length files)) ≡ Some bytes → length bytes ≤ limit → fault_of_file plan (length files) bytes ≡ None
+pub first_more : (plan : PlanData) (folder : List ℕ) (held : List (List ℕ × List ℕ)) (files : List (List ℕ))
+    (bytes : List ℕ) (limit : ℕ) → AreFirst plan folder held files
+    → limit ≡ limit_behind (sum_by length files)
+    → held_at held (path_of plan folder (length files)) ≡ Some bytes → length bytes ≤ limit
+    → fault_of_file plan (length files) bytes ≡ None
     → AreFirst plan folder held (files ++ bytes ∷ [])
 first_more plan folder held files bytes limit are limit_is there within pass =
     let n = length files in
@@ -96,21 +109,26 @@ first_more plan folder held files bytes limit are limit_is there within pass =
     not_above : (m k : ℕ) → k ≤ m → nat_lt m k ≡ false
     not_above m k h = grind (arith, nat_tests)
 
-    passed : (long : Bool) (refusal : Refusal) (o : Option TagFault) (f : TagFault → Refusal) → long ≡ false → o ≡ None → cond {A = Option Refusal} long (Some refusal) (option_map f o) ≡ None
+    passed : (long : Bool) (refusal : Refusal) (o : Option TagFault) (f : TagFault → Refusal) → long ≡ false
+        → o ≡ None → cond {A = Option Refusal} long (Some refusal) (option_map f o) ≡ None
     passed true refusal o f e none = cc
     passed false refusal o f e none = ap (option_map f) none
 
 -- the same where the contents of the shelf may be known
-pub first_more_told : (plan : PlanData) (folder : List ℕ) (held : Option (List (List ℕ × List ℕ))) (files : List (List ℕ)) (bytes : List ℕ) (file limit : ℕ) → length files ≡ file
-    → IfSome held (λ all. AreFirst plan folder all files) → limit ≡ limit_behind (sum_by length files) → IfSome held (λ all. held_at all (path_of plan folder file) ≡ Some bytes) → length bytes ≤ limit
-    → fault_of_file plan file bytes ≡ None → IfSome held (λ all. AreFirst plan folder all (files ++ bytes ∷ []))
+pub first_more_told : (plan : PlanData) (folder : List ℕ) (held : Option (List (List ℕ × List ℕ)))
+    (files : List (List ℕ)) (bytes : List ℕ) (file limit : ℕ) → length files ≡ file
+    → IfSome held (λ all. AreFirst plan folder all files) → limit ≡ limit_behind (sum_by length files)
+    → IfSome held (λ all. held_at all (path_of plan folder file) ≡ Some bytes) → length bytes ≤ limit
+    → fault_of_file plan file bytes ≡ None
+    → IfSome held (λ all. AreFirst plan folder all (files ++ bytes ∷ []))
 first_more_told plan folder None files bytes file limit count are limit_is there within pass = tt
 first_more_told plan folder (Some held) files bytes file limit count are limit_is there within pass =
     first_more plan folder held files bytes limit are limit_is
     (ap (λ n. held_at held (path_of plan folder n)) count ∙ there) within (ap (λ n. fault_of_file plan n bytes) count ∙ pass)
 
 -- one more file passes its tests
-pub passed_more : (plan : PlanData) (files : List (List ℕ)) (bytes : List ℕ) (file : ℕ) → length files ≡ file → ArePassed plan files → fault_of_file plan file bytes ≡ None → ArePassed plan (files ++ bytes ∷ [])
+pub passed_more : (plan : PlanData) (files : List (List ℕ)) (bytes : List ℕ) (file : ℕ) → length files ≡ file
+    → ArePassed plan files → fault_of_file plan file bytes ≡ None → ArePassed plan (files ++ bytes ∷ [])
 passed_more plan files bytes file count are pass = record {
   each = λ k less.
       (let long = length_push files bytes in
@@ -126,15 +144,20 @@ passed_more plan files bytes file count are pass = record {
 -- ---- refusals
 
 -- an implication between facts about the fault of a refused file
-pub IfFile-weaker : (A B : Type 0) (refusal : Refusal) (P Q : FileFault → Type 0) → ((fault : FileFault) → P fault → Q fault) → IfFile {T = A} (Err refusal) P → IfFile {T = B} (Err refusal) Q
+pub IfFile-weaker : (A B : Type 0) (refusal : Refusal) (P Q : FileFault → Type 0)
+    → ((fault : FileFault) → P fault → Q fault) → IfFile {T = A} (Err refusal) P
+    → IfFile {T = B} (Err refusal) Q
 IfFile-weaker A B (File fault) P Q step h = step fault h
 IfFile-weaker A B (Shelf path) P Q step h = tt
 IfFile-weaker A B Memory P Q step h = tt
 
 -- the refusal of a file is the verdict on all
-pub refused_told : (plan : PlanData) (folder : List ℕ) (held : Option (List (List ℕ × List ℕ))) (files : List (List ℕ)) (file limit : ℕ) (fault : FileFault) → length files ≡ file
-    → file < length plan.files → IfSome held (λ all. AreFirst plan folder all files) → limit ≡ limit_behind (sum_by length files)
-    → IfSome held (λ all. verdict_on plan folder limit file (held_at all (path_of plan folder file)) ≡ Some (File fault))
+pub refused_told : (plan : PlanData) (folder : List ℕ) (held : Option (List (List ℕ × List ℕ)))
+    (files : List (List ℕ)) (file limit : ℕ) (fault : FileFault) → length files ≡ file
+    → file < length plan.files → IfSome held (λ all. AreFirst plan folder all files)
+    → limit ≡ limit_behind (sum_by length files)
+    → IfSome held (λ all. verdict_on plan folder limit file (held_at all (path_of plan folder file))
+    ≡ Some (File fault))
     → IfSome held (λ all. verdict_before plan folder all (length plan.files) ≡ Some (File fault))
 refused_told plan folder None files file limit fault count within are limit_is refused = tt
 refused_told plan folder (Some held) files file limit fault count within are limit_is refused =
@@ -146,14 +169,16 @@ refused_told plan folder (Some held) files file limit fault count within are lim
 -- ---- the invariant of loading
 
 -- `file` files, of `loaded` bytes together, are loaded and pass
-pub record AreLoaded (plan : PlanData) (folder : List ℕ) (held : Option (List (List ℕ × List ℕ))) (files : List (List ℕ)) (file loaded : ℕ) : Type 0 where
+pub record AreLoaded (plan : PlanData) (folder : List ℕ) (held : Option (List (List ℕ × List ℕ)))
+    (files : List (List ℕ)) (file loaded : ℕ) : Type 0 where
   pub count : length files ≡ file
   pub room : sum_by length files ≡ loaded
   pub within : loaded ≤ 3221225472
   pub passed : ArePassed plan files
   pub first : IfSome held (λ all. AreFirst plan folder all files)
 
-pub none_loaded : (plan : PlanData) (folder : List ℕ) (held : Option (List (List ℕ × List ℕ))) (files : List (List ℕ)) → files ≡ [] → AreLoaded plan folder held files 0 0
+pub none_loaded : (plan : PlanData) (folder : List ℕ) (held : Option (List (List ℕ × List ℕ)))
+    (files : List (List ℕ)) → files ≡ [] → AreLoaded plan folder held files 0 0
 none_loaded plan folder held files none = record {
   count = ap length none;
   room = ap (sum_by length) none;
@@ -166,13 +191,17 @@ none_loaded plan folder held files none = record {
     told None = tt
     told (Some all) = subst {A = List (List ℕ)} (AreFirst plan folder all) (sym none) (no_files_first plan folder all)
 
-sum_push : (files : List (List ℕ)) (bytes : List ℕ) → sum_by length (files ++ bytes ∷ []) ≡ sum_by length files + length bytes
+sum_push : (files : List (List ℕ)) (bytes : List ℕ)
+    → sum_by length (files ++ bytes ∷ []) ≡ sum_by length files + length bytes
 sum_push [] bytes = omega (arith, sum_by-cons length bytes [])
 sum_push (file ∷ files) bytes = omega (arith, sum_by-cons length file (files ++ bytes ∷ []), sum_by-cons length file files, sum_push files bytes)
 
-pub loaded_more : (plan : PlanData) (folder : List ℕ) (held : Option (List (List ℕ × List ℕ))) (files new : List (List ℕ)) (file loaded limit size : ℕ) (bytes : List ℕ)
-    → AreLoaded plan folder held files file loaded → new ≡ files ++ bytes ∷ [] → limit ≡ limit_behind loaded → loaded + limit ≤ 3221225472 → length bytes ≤ limit → size ≡ length bytes
-    → IfSome held (λ all. held_at all (path_of plan folder file) ≡ Some bytes) → fault_of_file plan file bytes ≡ None → AreLoaded plan folder held new (file + 1) (loaded + size)
+pub loaded_more : (plan : PlanData) (folder : List ℕ) (held : Option (List (List ℕ × List ℕ)))
+    (files new : List (List ℕ)) (file loaded limit size : ℕ) (bytes : List ℕ)
+    → AreLoaded plan folder held files file loaded → new ≡ files ++ bytes ∷ [] → limit ≡ limit_behind loaded
+    → loaded + limit ≤ 3221225472 → length bytes ≤ limit → size ≡ length bytes
+    → IfSome held (λ all. held_at all (path_of plan folder file) ≡ Some bytes)
+    → fault_of_file plan file bytes ≡ None → AreLoaded plan folder held new (file + 1) (loaded + size)
 loaded_more plan folder held files new file loaded limit size bytes are new_is limit_is most within size_is there pass =
     let count = are.count in
     let room = are.room in

@@ -47,8 +47,8 @@ pub record AreRecorded (plan : PlanData) (files : FilesData) : Type 0 where
 -- the files have the record of this one for this use
 pub record HasFound (files : FilesData) (file : ℕ) (usage : Usage) : Type 0 where
   pub within : file < length files.found
-  pub is : (other : Findings) → IsFound usage (bytes_at files.bytes file)
-      (found_of (slice_index_or files.found file other) usage)
+  pub is : (other : Findings)
+      → IsFound usage (bytes_at files.bytes file) (found_of (slice_index_or files.found file other) usage)
 
 -- the files have the records of a layer's image and mask
 pub record HasLayer (files : FilesData) (layer : LayerData) : Type 0 where

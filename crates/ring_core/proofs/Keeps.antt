@@ -9,7 +9,7 @@ use Rattle.ring_core.specs.declared.event.Stage.TheVariants.{Idle, Holding, Clos
 use Rattle.ring_core.specs.Schedule.{Progress, Lanes}
 use Rattle.ring_core.specs.Events.{is_idle, is_holding, is_closed, is_above, is_below, can_fill, is_ready, can_open, can_close, can_advance, can_leave, put_row, looked, saw, advanced, departed, filled_with, unfilled, opened, closed, settled}
 use Rattle.ring_core.specs.Sound.{IsSoundProgress, IsSoundLanes}
-use Rattle.ring_core.proofs.Places.{apart, put_same, put_other, put_cases}
+use Rattle.ring_core.proofs.Places.{apart, put_same, put_other, put_gives}
 
 -- What the tests of the stage mean.
 
@@ -40,7 +40,8 @@ pub record HasRoom (places total head : ℕ) (p : Progress) (l : Lanes) : Type 0
   pub in_total : head < total
   pub empty : l.filled ≡ false
 
-above_is : (low places : ℕ) (o : Option ℕ) → is_above low (option_map (λ k. k + places) o) ≡ true → (k : ℕ) × (o ≡ Some k) × (low < k + places)
+above_is : (low places : ℕ) (o : Option ℕ) → is_above low (option_map (λ k. k + places) o) ≡ true
+    → (k : ℕ) × (o ≡ Some k) × (low < k + places)
 above_is low places None e = absurd (false≢true e)
 above_is low places (Some k) e = (k, refl, ltb-true low (k + places) e)
 
@@ -48,16 +49,41 @@ pub below_is : (high : ℕ) (o : Option ℕ) → is_below high o ≡ true → (c
 below_is high None e = absurd (false≢true e)
 below_is high (Some c) e = (c, refl, ltb-true c high e)
 
-pub fill_room : (places total head : ℕ) (p : Progress) (l : Lanes) → can_fill places total head p l ≡ true → HasRoom places total head p l
+pub fill_room : (places total head : ℕ) (p : Progress) (l : Lanes) → can_fill places total head p l ≡ true
+    → HasRoom places total head p l
 fill_room places total head p l e =
     let parts = and_parts (is_above head (option_map (λ k. k + places) p.known)) (nat_lt head total && not l.filled) e in
     let rest = and_parts (nat_lt head total) (not l.filled) parts.1 in
     let k = above_is head places p.known parts.0 in
     record { from = k.0; known = k.1; room = k.2; in_total = ltb-true head total rest.0; empty = not-true l.filled rest.1 }
 
+-- the same rows, for another progress or stage of their reader
+pub with_rows : {places total head : ℕ} {p : Progress} {l : Lanes} (q : Progress) (stage : Stage)
+    → IsSoundLanes places total head p l
+    → ((c : ℕ) → q.cursor ≡ Some c → stage ≡ Holding → c < q.seen)
+    → ((c : ℕ) → q.cursor ≡ Some c → stage ≡ Closed → c < q.seen) → (q.cursor ≡ None → stage ≡ Idle)
+    → ((k : ℕ) → q.known ≡ Some k → l.filled ≡ true → head < k + places)
+    → ((c n : ℕ) → q.cursor ≡ Some c → c ≤ n → n < head → (stage ≡ Holding → n ≢ c) → l.row n ≡ Some n)
+    → ((c : ℕ) → q.cursor ≡ Some c → stage ≡ Holding → l.row c ≡ None)
+    → IsSoundLanes places total head q (record l { stage = stage })
+with_rows q stage m holding_ahead closed_ahead left_idle room lies out = record {
+  holding_ahead = holding_ahead;
+  closed_ahead = closed_ahead;
+  left_idle = left_idle;
+  room = room;
+  lies = lies;
+  out = out;
+  placed = m.placed;
+  not_ahead = m.not_ahead;
+  newest = m.newest;
+  in_total = m.in_total;
+  fresh = m.fresh;
+}
+
 -- Look
 
-pub look_progress : (places head : ℕ) (p : Progress) → IsSoundProgress places head p → IsSoundProgress places head (looked p)
+pub look_progress : (places head : ℕ) (p : Progress) → IsSoundProgress places head p
+    → IsSoundProgress places head (looked p)
 look_progress places head p h = record {
   in_order = h.in_order;
   counted = h.counted;
@@ -68,24 +94,16 @@ look_progress places head p h = record {
   within = λ k e. let j = h.joined_known k e in omega (arith, h.within j.0 j.1);
 }
 
-pub look_lanes : (places total head : ℕ) (p : Progress) (l : Lanes) → IsSoundProgress places head p → IsSoundLanes places total head p l → IsSoundLanes places total head (looked p) l
-look_lanes places total head p l h m = record {
-  holding_ahead = m.holding_ahead;
-  closed_ahead = m.closed_ahead;
-  left_idle = m.left_idle;
-  room = λ k e f. let j = h.joined_known k e in omega (arith, m.room j.0 j.1 f);
-  lies = m.lies;
-  out = m.out;
-  placed = m.placed;
-  not_ahead = m.not_ahead;
-  newest = m.newest;
-  in_total = m.in_total;
-  fresh = m.fresh;
-}
+pub look_lanes : (places total head : ℕ) (p : Progress) (l : Lanes) → IsSoundProgress places head p
+    → IsSoundLanes places total head p l → IsSoundLanes places total head (looked p) l
+look_lanes places total head p l h m = with_rows (looked p) l.stage m
+    m.holding_ahead m.closed_ahead m.left_idle (λ k e f. let j = h.joined_known k e in omega (arith, m.room j.0 j.1 f))
+    m.lies m.out
 
 -- Fill
 
-pub fill_lanes : (places total head : ℕ) (p : Progress) (l : Lanes) → can_fill places total head p l ≡ true → IsSoundProgress places head p → IsSoundLanes places total head p l
+pub fill_lanes : (places total head : ℕ) (p : Progress) (l : Lanes) → can_fill places total head p l ≡ true
+    → IsSoundProgress places head p → IsSoundLanes places total head p l
     → IsSoundLanes places total head p (filled_with places head l)
 fill_lanes places total head p l can h m =
     let x = fill_room places total head p l can in
@@ -102,14 +120,8 @@ fill_lanes places total head p l can h m =
           put_other places head (Some head) l.row n (apart places n head high (omega (arith, near c e))) ∙ m.lies c n e low high held;
       out = λ c e held.
           put_other places head (Some head) l.row c (apart places c head (omega (arith, m.holding_ahead c e held, h.seen_in)) (near c e)) ∙ m.out c e held;
-      placed = λ q n e. elim (put_cases places head (Some head) l.row q) [
-        | inl s ↦ let same : head ≡ n = cc (s.1) in s.0 ∙ ap (λ k. k % places) same
-        | inr s ↦ m.placed q n (sym s.1 ∙ e)
-      ];
-      not_ahead = λ q n e. elim (put_cases places head (Some head) l.row q) [
-        | inl s ↦ let same : head ≡ n = cc (s.1) in omega arith
-        | inr s ↦ m.not_ahead q n (sym s.1 ∙ e)
-      ];
+      placed = λ q n. put_gives places head n (Some head) l.row (λ q. q % places ≡ n % places) (λ q s e. let same : head ≡ n = cc in s ∙ ap (λ k. k % places) same) (λ q. m.placed q n) q;
+      not_ahead = λ q n. put_gives places head n (Some head) l.row (λ q. n ≤ head) (λ q s e. let same : head ≡ n = cc in omega arith) (λ q. m.not_ahead q n) q;
       newest = λ q e. refl;
       in_total = λ f. x.in_total;
       fresh = λ f. put_same places head (Some head) l.row head refl;
@@ -117,7 +129,8 @@ fill_lanes places total head p l can h m =
 
 -- Publish. The first half needs only room, which a filled lane implies
 
-pub publish_progress : (places head : ℕ) (p : Progress) → ((k : ℕ) → p.known ≡ Some k → head < k + places) → IsSoundProgress places head p → IsSoundProgress places (head + 1) p
+pub publish_progress : (places head : ℕ) (p : Progress) → ((k : ℕ) → p.known ≡ Some k → head < k + places)
+    → IsSoundProgress places head p → IsSoundProgress places (head + 1) p
 publish_progress places head p room h = record {
   in_order = h.in_order;
   counted = h.counted;
@@ -132,10 +145,12 @@ ready_filled : (k : ℕ) (o : Option ℕ) (f : Bool) → o ≡ Some k → (is_no
 ready_filled k None f e r = cc
 ready_filled k (Some j) f e r = r
 
-pub ready_room : (places total head : ℕ) (p : Progress) (l : Lanes) → is_ready p l ≡ true → IsSoundLanes places total head p l → (k : ℕ) → p.known ≡ Some k → head < k + places
+pub ready_room : (places total head : ℕ) (p : Progress) (l : Lanes) → is_ready p l ≡ true
+    → IsSoundLanes places total head p l → (k : ℕ) → p.known ≡ Some k → head < k + places
 ready_room places total head p l ready m k e = m.room k e (ready_filled k p.known l.filled e ready)
 
-pub publish_lanes : (places total head : ℕ) (p : Progress) (l : Lanes) → is_ready p l ≡ true → IsSoundProgress places head p → IsSoundLanes places total head p l
+pub publish_lanes : (places total head : ℕ) (p : Progress) (l : Lanes) → is_ready p l ≡ true
+    → IsSoundProgress places head p → IsSoundLanes places total head p l
     → IsSoundLanes places total (head + 1) p (unfilled l)
 publish_lanes places total head p l ready h m = record {
   holding_ahead = m.holding_ahead;
@@ -160,7 +175,8 @@ publish_lanes places total head p l ready h m = record {
 
 -- See
 
-pub see_progress : (places head : ℕ) (p : Progress) → IsSoundProgress places head p → IsSoundProgress places head (saw head p)
+pub see_progress : (places head : ℕ) (p : Progress) → IsSoundProgress places head p
+    → IsSoundProgress places head (saw head p)
 see_progress places head p h = record {
   in_order = h.in_order;
   counted = h.counted;
@@ -171,31 +187,25 @@ see_progress places head p h = record {
   within = h.within;
 }
 
-pub see_lanes : (places total head : ℕ) (p : Progress) (l : Lanes) → IsSoundProgress places head p → IsSoundLanes places total head p l → IsSoundLanes places total head (saw head p) l
-see_lanes places total head p l h m = record {
-  holding_ahead = λ c e s. omega (arith, m.holding_ahead c e s, h.seen_in);
-  closed_ahead = λ c e s. omega (arith, m.closed_ahead c e s, h.seen_in);
-  left_idle = m.left_idle;
-  room = m.room;
-  lies = m.lies;
-  out = m.out;
-  placed = m.placed;
-  not_ahead = m.not_ahead;
-  newest = m.newest;
-  in_total = m.in_total;
-  fresh = m.fresh;
-}
+pub see_lanes : (places total head : ℕ) (p : Progress) (l : Lanes) → IsSoundProgress places head p
+    → IsSoundLanes places total head p l → IsSoundLanes places total head (saw head p) l
+see_lanes places total head p l h m = with_rows (saw head p) l.stage m
+    (λ c e s. omega (arith, m.holding_ahead c e s, h.seen_in)) (λ c e s. omega (arith, m.closed_ahead c e s, h.seen_in)) m.left_idle m.room
+    m.lies m.out
 
 -- Open and close, at the cursor c
 
 -- the position of the cursor, and which rows are within one turn (places rows) of it
-near : (places head : ℕ) (p : Progress) (c : ℕ) → p.cursor ≡ Some c → IsSoundProgress places head p → head ≤ c + places
+near : (places head : ℕ) (p : Progress) (c : ℕ) → p.cursor ≡ Some c → IsSoundProgress places head p
+    → head ≤ c + places
 near places head p c e h = let j = h.joined_known c e in omega (arith, h.within j.0 j.1)
 
-near_filled : (places total head : ℕ) (p : Progress) (l : Lanes) (c : ℕ) → p.cursor ≡ Some c → IsSoundProgress places head p → IsSoundLanes places total head p l → l.filled ≡ true → head < c + places
+near_filled : (places total head : ℕ) (p : Progress) (l : Lanes) (c : ℕ) → p.cursor ≡ Some c
+    → IsSoundProgress places head p → IsSoundLanes places total head p l → l.filled ≡ true → head < c + places
 near_filled places total head p l c e h m f = let j = h.joined_known c e in omega (arith, m.room j.0 j.1 f)
 
-pub open_lanes : (places total head : ℕ) (p : Progress) (l : Lanes) (c : ℕ) → p.cursor ≡ Some c → can_open p l ≡ true → IsSoundProgress places head p → IsSoundLanes places total head p l
+pub open_lanes : (places total head : ℕ) (p : Progress) (l : Lanes) (c : ℕ) → p.cursor ≡ Some c
+    → can_open p l ≡ true → IsSoundProgress places head p → IsSoundLanes places total head p l
     → IsSoundLanes places total head p (opened places c l)
 open_lanes places total head p l c at can h m =
     let parts = and_parts (is_below p.seen p.cursor) (is_idle l.stage) can in
@@ -214,25 +224,17 @@ open_lanes places total head p l c at can h m =
           let away : n % places ≢ c % places = λ x. apart places c n (omega arith) (omega (arith, near places head p c at h)) (sym x) in
           put_other places c None l.row n away ∙ m.lies c n at lower high (λ s. absurd (let idle = idle_is l.stage parts.1 in cc));
       out = λ d e s. let same : c ≡ d = cc in ap (put_row places c None l.row) (sym same) ∙ put_same places c None l.row c refl;
-      placed = λ q n e. elim (put_cases places c None l.row q) [
-        | inl s ↦ cc (s.1)
-        | inr s ↦ m.placed q n (sym s.1 ∙ e)
-      ];
-      not_ahead = λ q n e. elim (put_cases places c None l.row q) [
-        | inl s ↦ cc (s.1)
-        | inr s ↦ m.not_ahead q n (sym s.1 ∙ e)
-      ];
-      newest = λ q e. elim (put_cases places c None l.row q) [
-        | inl s ↦ cc (s.1)
-        | inr s ↦ m.newest q (sym s.1 ∙ e)
-      ];
+      placed = λ q n. put_gives places c n None l.row (λ q. q % places ≡ n % places) (λ q s e. cc) (λ q. m.placed q n) q;
+      not_ahead = λ q n. put_gives places c n None l.row (λ q. n ≤ head) (λ q s e. cc) (λ q. m.not_ahead q n) q;
+      newest = put_gives places c head None l.row (λ q. l.filled ≡ true) (λ q s e. cc) m.newest;
       in_total = m.in_total;
       fresh = λ f.
           let away : head % places ≢ c % places = λ x. apart places c head (omega (arith, h.seen_in)) (near_filled places total head p l c at h m f) (sym x) in
           put_other places c None l.row head away ∙ m.fresh f;
     }
 
-pub close_lanes : (places total head : ℕ) (p : Progress) (l : Lanes) (c : ℕ) → p.cursor ≡ Some c → can_close p l ≡ true → IsSoundProgress places head p → IsSoundLanes places total head p l
+pub close_lanes : (places total head : ℕ) (p : Progress) (l : Lanes) (c : ℕ) → p.cursor ≡ Some c
+    → can_close p l ≡ true → IsSoundProgress places head p → IsSoundLanes places total head p l
     → IsSoundLanes places total head p (closed places c l)
 close_lanes places total head p l c at can h m =
     let parts = and_parts (is_some p.cursor) (is_holding l.stage) can in
@@ -253,18 +255,9 @@ close_lanes places total head p l c at can h m =
                 put_other places c (Some c) l.row n away ∙ m.lies c n at lower high (λ s. other)
           ];
       out = λ d e s. cc;
-      placed = λ q n e. elim (put_cases places c (Some c) l.row q) [
-        | inl s ↦ let same : c ≡ n = cc (s.1) in s.0 ∙ ap (λ k. k % places) same
-        | inr s ↦ m.placed q n (sym s.1 ∙ e)
-      ];
-      not_ahead = λ q n e. elim (put_cases places c (Some c) l.row q) [
-        | inl s ↦ let same : c ≡ n = cc (s.1) in omega (arith, h.seen_in)
-        | inr s ↦ m.not_ahead q n (sym s.1 ∙ e)
-      ];
-      newest = λ q e. elim (put_cases places c (Some c) l.row q) [
-        | inl s ↦ let same : c ≡ head = cc (s.1) in absurd (omega (arith, h.seen_in))
-        | inr s ↦ m.newest q (sym s.1 ∙ e)
-      ];
+      placed = λ q n. put_gives places c n (Some c) l.row (λ q. q % places ≡ n % places) (λ q s e. let same : c ≡ n = cc in s ∙ ap (λ k. k % places) same) (λ q. m.placed q n) q;
+      not_ahead = λ q n. put_gives places c n (Some c) l.row (λ q. n ≤ head) (λ q s e. let same : c ≡ n = cc in omega (arith, h.seen_in)) (λ q. m.not_ahead q n) q;
+      newest = put_gives places c head (Some c) l.row (λ q. l.filled ≡ true) (λ q s e. let same : c ≡ head = cc in absurd (omega (arith, h.seen_in))) m.newest;
       in_total = m.in_total;
       fresh = λ f.
           let away : head % places ≢ c % places = λ x. apart places c head (omega (arith, h.seen_in)) (near_filled places total head p l c at h m f) (sym x) in
@@ -273,13 +266,15 @@ close_lanes places total head p l c at can h m =
 
 -- Advance, at the cursor c. The first half needs only that the reader knows of a row at its cursor
 
-ordered_more : (xs : List ℕ) (c : ℕ) → length xs ≡ c → ((i : ℕ) → i < length xs → get_or xs i 0 ≡ i) → (i : ℕ) → i < length (xs ++ c ∷ []) → get_or (xs ++ c ∷ []) i 0 ≡ i
+ordered_more : (xs : List ℕ) (c : ℕ) → length xs ≡ c → ((i : ℕ) → i < length xs → get_or xs i 0 ≡ i) → (i : ℕ)
+    → i < length (xs ++ c ∷ []) → get_or (xs ++ c ∷ []) i 0 ≡ i
 ordered_more xs c len each i h = elim (cases_lt i (length xs)) [
   | inl below ↦ get_or_append_left xs (c ∷ []) 0 i below ∙ each i below
   | inr above ↦ let at : length xs ≡ i = omega (arith, length-append xs (c ∷ [])) in get_or_push xs c 0 i at ∙ (sym len ∙ at)
 ]
 
-pub advance_progress : (places head : ℕ) (p : Progress) (c : ℕ) → p.cursor ≡ Some c → c < p.seen → IsSoundProgress places head p → IsSoundProgress places head (advanced c p)
+pub advance_progress : (places head : ℕ) (p : Progress) (c : ℕ) → p.cursor ≡ Some c → c < p.seen
+    → IsSoundProgress places head p → IsSoundProgress places head (advanced c p)
 advance_progress places head p c at ahead h =
     let len : length (p.taken ++ c ∷ []) ≡ c + 1 = omega (arith, length-append p.taken (c ∷ []), h.counted c at) in
     let j = h.joined_known c at in
@@ -293,32 +288,25 @@ advance_progress places head p c at ahead h =
       within = h.within;
     }
 
-pub advance_lanes : (places total head : ℕ) (p : Progress) (l : Lanes) (c : ℕ) → p.cursor ≡ Some c → can_advance p l ≡ true → IsSoundLanes places total head p l
+pub advance_lanes : (places total head : ℕ) (p : Progress) (l : Lanes) (c : ℕ) → p.cursor ≡ Some c
+    → can_advance p l ≡ true → IsSoundLanes places total head p l
     → IsSoundLanes places total head (advanced c p) (settled l)
 advance_lanes places total head p l c at can m =
     let parts = and_parts (is_some p.cursor) (is_closed l.stage) can in
     let done : l.stage ≡ Closed = closed_is l.stage parts.1 in
-    record {
-      holding_ahead = λ d e s. cc;
-      closed_ahead = λ d e s. cc;
-      left_idle = λ e. refl;
-      room = m.room;
-      lies = λ d n e low high held. let same : c + 1 ≡ d = cc in m.lies c n at (omega arith) high (λ s. cc);
-      out = λ d e s. cc;
-      placed = m.placed;
-      not_ahead = m.not_ahead;
-      newest = m.newest;
-      in_total = m.in_total;
-      fresh = m.fresh;
-    }
+    with_rows (advanced c p) Idle m
+    (λ d e s. cc) (λ d e s. cc) (λ e. refl) m.room
+    (λ d n e low high held. let same : c + 1 ≡ d = cc in m.lies c n at (omega arith) high (λ s. cc)) (λ d e s. cc)
 
 -- where an advance is possible, the reader knows of a row at its cursor
-pub advance_ahead : (places total head : ℕ) (p : Progress) (l : Lanes) (c : ℕ) → p.cursor ≡ Some c → can_advance p l ≡ true → IsSoundLanes places total head p l → c < p.seen
+pub advance_ahead : (places total head : ℕ) (p : Progress) (l : Lanes) (c : ℕ) → p.cursor ≡ Some c
+    → can_advance p l ≡ true → IsSoundLanes places total head p l → c < p.seen
 advance_ahead places total head p l c at can m = m.closed_ahead c at (closed_is l.stage (and_parts (is_some p.cursor) (is_closed l.stage) can).1)
 
 -- Leave
 
-pub leave_progress : (places head : ℕ) (p : Progress) (c : ℕ) → p.cursor ≡ Some c → IsSoundProgress places head p → IsSoundProgress places head (departed p)
+pub leave_progress : (places head : ℕ) (p : Progress) (c : ℕ) → p.cursor ≡ Some c
+    → IsSoundProgress places head p → IsSoundProgress places head (departed p)
 leave_progress places head p c at h =
     let j = h.joined_known c at in
     record {
@@ -331,19 +319,10 @@ leave_progress places head p c at h =
       within = h.within;
     }
 
-pub leave_lanes : (places total head : ℕ) (p : Progress) (l : Lanes) → can_leave p l ≡ true → IsSoundLanes places total head p l → IsSoundLanes places total head (departed p) l
+pub leave_lanes : (places total head : ℕ) (p : Progress) (l : Lanes) → can_leave p l ≡ true
+    → IsSoundLanes places total head p l → IsSoundLanes places total head (departed p) l
 leave_lanes places total head p l can m =
     let idle : l.stage ≡ Idle = idle_is l.stage (and_parts (is_some p.cursor) (is_idle l.stage) can).1 in
-    record {
-      holding_ahead = λ d e s. cc;
-      closed_ahead = λ d e s. cc;
-      left_idle = λ e. idle;
-      room = m.room;
-      lies = λ d n e low high held. cc;
-      out = λ d e s. cc;
-      placed = m.placed;
-      not_ahead = m.not_ahead;
-      newest = m.newest;
-      in_total = m.in_total;
-      fresh = m.fresh;
-    }
+    with_rows (departed p) l.stage m
+    (λ d e s. cc) (λ d e s. cc) (λ e. idle) m.room
+    (λ d n e low high held. cc) (λ d e s. cc)

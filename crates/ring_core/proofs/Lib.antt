@@ -1,8 +1,9 @@
 pub mod Places
 pub mod Keeps
 pub mod Readers
-pub mod Whole
-pub mod Stepped
+pub mod Sizes
 pub mod Lower
 pub mod Made
+pub mod Whole
+pub mod Stepped
 pub mod After

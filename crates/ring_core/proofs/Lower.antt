@@ -7,6 +7,7 @@ use Rattle.ring_core.specs.declared.event.Stage.{Stage}
 use Rattle.ring_core.specs.declared.event.Stage.TheVariants.{Idle, Holding, Closed}
 use Rattle.ring_core.specs.Schedule.{Progress, Lanes}
 use Rattle.ring_core.specs.Sound.{IsSoundProgress, IsSoundLanes}
+use Rattle.ring_core.proofs.Keeps.{with_rows}
 use Rattle.ring_core.specs.Plain.{plain_stage, from_low, first_row, plain_lanes}
 
 -- a number that is not below low is kept
@@ -25,7 +26,8 @@ from_low_is low n (Some k) e = elim (cases_lt k low) [
 ]
 
 -- reading again with a higher bound is the same as reading once with it
-pub from_low_twice : (low high : ℕ) (o : Option ℕ) → low ≤ high → from_low high (from_low low o) ≡ from_low high o
+pub from_low_twice : (low high : ℕ) (o : Option ℕ) → low ≤ high
+    → from_low high (from_low low o) ≡ from_low high o
 from_low_twice low high None h = refl
 from_low_twice low high (Some n) h = elim (cases_lt n low) [
   | inl below ↦ ap (from_low high) (from_low_none low n below) ∙ sym (from_low_none high n (omega arith))
@@ -47,10 +49,12 @@ below_head head None f = omega arith
 below_head head (Some c) f = f c refl
 
 -- only rows below head have been passed
-pub first_low : (places head : ℕ) (p : Progress) → IsSoundProgress places head p → first_row head p.cursor ≤ head
+pub first_low : (places head : ℕ) (p : Progress) → IsSoundProgress places head p
+    → first_row head p.cursor ≤ head
 first_low places head p h = below_head head p.cursor (λ c e. omega (arith, h.seen_ahead c e, h.seen_in))
 
-pub plain_keeps : (places total head : ℕ) (p : Progress) (l : Lanes) → IsSoundProgress places head p → IsSoundLanes places total head p l → IsSoundLanes places total head p (plain_lanes head p l)
+pub plain_keeps : (places total head : ℕ) (p : Progress) (l : Lanes) → IsSoundProgress places head p
+    → IsSoundLanes places total head p l → IsSoundLanes places total head p (plain_lanes head p l)
 plain_keeps places total head p l h m = record {
   holding_ahead = λ c e s. m.holding_ahead c e (plain_holding l.stage s);
   closed_ahead = λ c e s. absurd (plain_open l.stage s);
@@ -71,18 +75,9 @@ plain_keeps places total head p l h m = record {
 abbrev pub unsettled : Lanes → Lanes
 unsettled l = record l { stage = Closed }
 
-pub unsettle_keeps : (places total head : ℕ) (p : Progress) (l : Lanes) (c : ℕ) → p.cursor ≡ Some c → c < p.seen → l.stage ≡ Idle → IsSoundLanes places total head p l
+pub unsettle_keeps : (places total head : ℕ) (p : Progress) (l : Lanes) (c : ℕ) → p.cursor ≡ Some c
+    → c < p.seen → l.stage ≡ Idle → IsSoundLanes places total head p l
     → IsSoundLanes places total head p (unsettled l)
-unsettle_keeps places total head p l c at ahead idle m = record {
-  holding_ahead = λ d e s. cc;
-  closed_ahead = λ d e s. let same : c ≡ d = cc in omega arith;
-  left_idle = λ e. cc;
-  room = m.room;
-  lies = λ d n e low high held. m.lies d n e low high (λ s. cc);
-  out = λ d e s. cc;
-  placed = m.placed;
-  not_ahead = m.not_ahead;
-  newest = m.newest;
-  in_total = m.in_total;
-  fresh = m.fresh;
-}
+unsettle_keeps places total head p l c at ahead idle m = with_rows p Closed m
+    (λ d e s. cc) (λ d e s. let same : c ≡ d = cc in omega arith) (λ e. cc) m.room
+    (λ d n e low high held. m.lies d n e low high (λ s. cc)) (λ d e s. cc)

@@ -13,7 +13,8 @@ use Rattle.ring_core.proofs.Lower.{plain_keeps}
 use Rattle.ring_core.specs.Plain.{numbers, from_low, first_row, plain_lanes, schedule_of, plain}
 
 -- functions that agree on a range map it to the same list
-pub map_same : {A : Type 0} (f g : ℕ → A) (a n : ℕ) → ((k : ℕ) → a ≤ k → k < a + n → f k ≡ g k) → map f (range_with_len a n) ≡ map g (range_with_len a n)
+pub map_same : {A : Type 0} (f g : ℕ → A) (a n : ℕ) → ((k : ℕ) → a ≤ k → k < a + n → f k ≡ g k)
+    → map f (range_with_len a n) ≡ map g (range_with_len a n)
 map_same f g a zero h = refl
 map_same f g a (suc n) h = λ i. h a (omega arith) (omega arith) i ∷ map_same f g (a + 1) n (λ k low high. h k (omega arith) (omega arith)) i
 
@@ -32,7 +33,8 @@ pub record IsMade (s : Schedule) (places total head n : ℕ) (p : ℕ → Progre
 abbrev pub ByPlace : ℕ → Lanes → Type 0
 ByPlace places l = (k : ℕ) → l.row (k % places) ≡ l.row k
 
-made_progress : (places total head n : ℕ) (p : ℕ → Progress) (l : ℕ → Lanes) (r : ℕ) → r < n → progress_of (schedule_of places total head n p l) r ≡ p r
+made_progress : (places total head n : ℕ) (p : ℕ → Progress) (l : ℕ → Lanes) (r : ℕ) → r < n
+    → progress_of (schedule_of places total head n p l) r ≡ p r
 made_progress places total head n p l r h =
     let at : 0 + r ≡ r = omega arith in
     let a = get_or-map-range_with_len (λ (q : ℕ). (p q).known) 0 n r r None h at in
@@ -41,7 +43,8 @@ made_progress places total head n p l r h =
     let d = get_or-map-range_with_len (λ (q : ℕ). (p q).taken) 0 n r r [] h at in
     λ i. record { known = a i; cursor = b i; seen = c i; taken = d i }
 
-made_lanes : (places total head n : ℕ) (p : ℕ → Progress) (l : ℕ → Lanes) (r : ℕ) → 0 < places → r < n → ByPlace places (l r) → lanes_of (schedule_of places total head n p l) r ≡ l r
+made_lanes : (places total head n : ℕ) (p : ℕ → Progress) (l : ℕ → Lanes) (r : ℕ) → 0 < places → r < n
+    → ByPlace places (l r) → lanes_of (schedule_of places total head n p l) r ≡ l r
 made_lanes places total head n p l r some h by =
     let at : 0 + r ≡ r = omega arith in
     let a = get_or-map-range_with_len (λ (q : ℕ). (l q).filled) 0 n r r false h at in
@@ -55,7 +58,8 @@ made_lanes places total head n p l r some h by =
     got ∙ ((λ i. (l (q i)).row (m i)) ∙ by k)) in
     λ i. record { filled = a i; stage = b i; row = λ k. row k i }
 
-made_sized : (places total head n : ℕ) (p : ℕ → Progress) (l : ℕ → Lanes) → IsSized (schedule_of places total head n p l)
+made_sized : (places total head n : ℕ) (p : ℕ → Progress) (l : ℕ → Lanes)
+    → IsSized (schedule_of places total head n p l)
 made_sized places total head n p l =
     let count = length-map-range_with_len (λ (r : ℕ). (p r).cursor) 0 n in
     record {
@@ -67,7 +71,9 @@ made_sized places total head n p l =
       taken = length-map-range_with_len (λ (r : ℕ). (p r).taken) 0 n ∙ sym count;
     }
 
-pub is_made : (places total head n : ℕ) (p : ℕ → Progress) (l : ℕ → Lanes) → 0 < places → ((r : ℕ) → r < n → ByPlace places (l r)) → IsMade (schedule_of places total head n p l) places total head n p l
+pub is_made : (places total head n : ℕ) (p : ℕ → Progress) (l : ℕ → Lanes) → 0 < places
+    → ((r : ℕ) → r < n → ByPlace places (l r))
+    → IsMade (schedule_of places total head n p l) places total head n p l
 is_made places total head n p l some by = record {
   places_is = refl;
   total_is = refl;
@@ -80,7 +86,8 @@ is_made places total head n p l some by = record {
 }
 
 -- schedules with the same parts are equal
-pub made_same : (places total head n : ℕ) (p q : ℕ → Progress) (l m : ℕ → Lanes) → 0 < places → ((r : ℕ) → r < n → p r ≡ q r) → ((r : ℕ) → r < n → l r ≡ m r)
+pub made_same : (places total head n : ℕ) (p q : ℕ → Progress) (l m : ℕ → Lanes) → 0 < places
+    → ((r : ℕ) → r < n → p r ≡ q r) → ((r : ℕ) → r < n → l r ≡ m r)
     → schedule_of places total head n p l ≡ schedule_of places total head n q m
 made_same places total head n p q l m some e f =
     let filled = map_same (λ r. (l r).filled) (λ r. (m r).filled) 0 n (λ k _ h. ap (λ (x : Lanes). x.filled) (f k (omega arith))) in
@@ -94,7 +101,8 @@ made_same places total head n p q l m some e f =
     λ i. record { places = places; total = total; head = head; filled = filled i; known = known i; cursor = cursor i; seen = seen i; stage = stage i; lane = lane i; taken = taken i }
 
 -- the plain reading of a schedule, in terms of its readers' parts
-pub made_plain : (s : Schedule) (places total head n : ℕ) (p : ℕ → Progress) (l : ℕ → Lanes) → IsMade s places total head n p l
+pub made_plain : (s : Schedule) (places total head n : ℕ) (p : ℕ → Progress) (l : ℕ → Lanes)
+    → IsMade s places total head n p l
     → plain s ≡ schedule_of places total head n p (λ r. plain_lanes head (p r) (l r))
 made_plain s places total head n p l m =
     let some : 0 < places = subst (λ k. 0 < k) m.places_is m.some_place in
@@ -103,7 +111,8 @@ made_plain s places total head n p l m =
     (λ r h i. plain_lanes head (m.progress r h i) (m.lanes r h i))
 
 -- a schedule built from sound parts is sound
-pub made_sound : (s : Schedule) (places total head n : ℕ) (p : ℕ → Progress) (l : ℕ → Lanes) → IsMade s places total head n p l → IsSoundWords places total head n p
+pub made_sound : (s : Schedule) (places total head n : ℕ) (p : ℕ → Progress) (l : ℕ → Lanes)
+    → IsMade s places total head n p l → IsSoundWords places total head n p
     → ((r : ℕ) → r < n → IsSoundLanes places total head (p r) (l r)) → IsSound s
 made_sound s places total head n p l m words lanes = record {
   sized = m.sized;
@@ -117,11 +126,13 @@ made_sound s places total head n p l m words lanes = record {
 }
 
 -- the parts of a schedule
-pub own_parts : (s : Schedule) → IsSized s → 0 < s.places → IsMade s s.places s.total s.head (readers s) (progress_of s) (lanes_of s)
+pub own_parts : (s : Schedule) → IsSized s → 0 < s.places
+    → IsMade s s.places s.total s.head (readers s) (progress_of s) (lanes_of s)
 own_parts s z some = record { places_is = refl; total_is = refl; head_is = refl; some_place = some; count = refl; sized = z; progress = λ r h. refl; lanes = λ r h. refl }
 
 -- in the plain reading the row in a lane still depends on the place alone
-pub plain_by_place : (places head : ℕ) (p : Progress) (l : Lanes) → ByPlace places l → ByPlace places (plain_lanes head p l)
+pub plain_by_place : (places head : ℕ) (p : Progress) (l : Lanes) → ByPlace places l
+    → ByPlace places (plain_lanes head p l)
 plain_by_place places head p l by k = ap (from_low (first_row head p.cursor)) (by k)
 
 own_by_place : (s : Schedule) (r : ℕ) → ByPlace s.places (lanes_of s r)
@@ -141,7 +152,8 @@ map_const : {A : Type 0} (c : A) (a n : ℕ) → map (λ (k : ℕ). c) (range_wi
 map_const c a zero = refl
 map_const c a (suc n) = λ i. c ∷ map_const c (a + 1) n i
 
-pub start_made : (places total n : ℕ) → schedule_of places total 0 n (λ _. fresh_progress) (λ _. fresh_lanes) ≡ start places n total
+pub start_made : (places total n : ℕ)
+    → schedule_of places total 0 n (λ _. fresh_progress) (λ _. fresh_lanes) ≡ start places n total
 start_made places total n =
     let filled = map_const false 0 n in
     let first = map_const (Some 0) 0 n in

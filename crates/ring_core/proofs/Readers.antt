@@ -32,8 +32,10 @@ lane_in places n r k some h =
     omega arith
 
 -- after a write to a lane of reader r, at the place of row n
-pub lane_same : (places r n k : ℕ) (v : Option ℕ) (lane : List (Option ℕ)) → lane_place places r n < length lane
-    → get_or (set lane (lane_place places r n) v) (lane_place places r k) None ≡ put_row places n v (λ j. get_or lane (lane_place places r j) None) k
+pub lane_same : (places r n k : ℕ) (v : Option ℕ) (lane : List (Option ℕ))
+    → lane_place places r n < length lane
+    → get_or (set lane (lane_place places r n) v) (lane_place places r k) None
+    ≡ put_row places n v (λ j. get_or lane (lane_place places r j) None) k
 lane_same places r n k v lane h =
     let row : ℕ → Option ℕ = λ j. get_or lane (lane_place places r j) None in
     elim (cases_eq (k % places) (n % places)) [
@@ -44,15 +46,18 @@ lane_same places r n k v lane h =
     ]
 
 pub lane_other : (places q r n k : ℕ) (v : Option ℕ) (lane : List (Option ℕ)) → 0 < places → q ≢ r
-    → get_or (set lane (lane_place places r n) v) (lane_place places q k) None ≡ get_or lane (lane_place places q k) None
+    → get_or (set lane (lane_place places r n) v) (lane_place places q k) None
+    ≡ get_or lane (lane_place places q k) None
 lane_other places q r n k v lane some other =
     get_or-set_other lane (lane_place places r n) (lane_place places q k) v None (lanes_apart places q r (k % places) (n % places) (omega (arith, some)) (omega (arith, some)) other)
 
 -- the index of reader r's lane for row n is in range
-pub lane_within : (s : Schedule) (r n : ℕ) → IsSized s → 0 < s.places → r < readers s → lane_place s.places r n < length s.lane
+pub lane_within : (s : Schedule) (r n : ℕ) → IsSized s → 0 < s.places → r < readers s
+    → lane_place s.places r n < length s.lane
 lane_within s r n z some h = let a = lane_in s.places (readers s) r n some h in let e = z.lane in omega arith
 
-pub look_shows : (s : Schedule) (r : ℕ) → IsSized s → r < readers s → progress_of (after s (Look r)) r ≡ looked (progress_of s r)
+pub look_shows : (s : Schedule) (r : ℕ) → IsSized s → r < readers s
+    → progress_of (after s (Look r)) r ≡ looked (progress_of s r)
 look_shows s r z h =
     let e = get_or-set_same s.known r (get_or s.cursor r None) None (let k = z.known in omega arith) in
     λ i. record { known = e i; cursor = get_or s.cursor r None; seen = get_or s.seen r 0; taken = get_or s.taken r [] }
@@ -62,7 +67,8 @@ look_else s r q n =
     let e = get_or-set_other s.known r q (get_or s.cursor r None) None n in
     λ i. record { known = e i; cursor = get_or s.cursor q None; seen = get_or s.seen q 0; taken = get_or s.taken q [] }
 
-pub fill_shows : (s : Schedule) (r : ℕ) → IsSized s → 0 < s.places → r < readers s → lanes_of (after s (Fill r)) r ≡ filled_with s.places s.head (lanes_of s r)
+pub fill_shows : (s : Schedule) (r : ℕ) → IsSized s → 0 < s.places → r < readers s
+    → lanes_of (after s (Fill r)) r ≡ filled_with s.places s.head (lanes_of s r)
 fill_shows s r z some h =
     let e = get_or-set_same s.filled r true false (let k = z.filled in omega arith) in
     let row = λ (k : ℕ). lane_same s.places r s.head k (Some s.head) s.lane (lane_within s r s.head z some h) in
@@ -74,12 +80,14 @@ fill_else s r q some n =
     let row = λ (k : ℕ). lane_other s.places q r s.head k (Some s.head) s.lane some n in
     λ i. record { filled = e i; stage = get_or s.stage q Idle; row = λ k. row k i }
 
-pub publish_shows : (s : Schedule) (q : ℕ) → IsSized s → q < readers s → lanes_of (after s Publish) q ≡ unfilled (lanes_of s q)
+pub publish_shows : (s : Schedule) (q : ℕ) → IsSized s → q < readers s
+    → lanes_of (after s Publish) q ≡ unfilled (lanes_of s q)
 publish_shows s q z h =
     let e = get_or-map (λ (b : Bool). false) s.filled q false false (let k = z.filled in omega arith) in
     λ i. record { filled = e i; stage = get_or s.stage q Idle; row = λ k. get_or s.lane (lane_place s.places q k) None }
 
-pub see_shows : (s : Schedule) (r : ℕ) → IsSized s → r < readers s → progress_of (after s (See r)) r ≡ saw s.head (progress_of s r)
+pub see_shows : (s : Schedule) (r : ℕ) → IsSized s → r < readers s
+    → progress_of (after s (See r)) r ≡ saw s.head (progress_of s r)
 see_shows s r z h =
     let e = get_or-set_same s.seen r s.head 0 (let k = z.seen in omega arith) in
     λ i. record { known = get_or s.known r None; cursor = get_or s.cursor r None; seen = e i; taken = get_or s.taken r [] }
@@ -89,7 +97,8 @@ see_else s r q n =
     let e = get_or-set_other s.seen r q s.head 0 n in
     λ i. record { known = get_or s.known q None; cursor = get_or s.cursor q None; seen = e i; taken = get_or s.taken q [] }
 
-pub open_shows : (s : Schedule) (r : ℕ) → IsSized s → 0 < s.places → r < readers s → lanes_of (after s (Open r)) r ≡ opened s.places (cursor_at s r) (lanes_of s r)
+pub open_shows : (s : Schedule) (r : ℕ) → IsSized s → 0 < s.places → r < readers s
+    → lanes_of (after s (Open r)) r ≡ opened s.places (cursor_at s r) (lanes_of s r)
 open_shows s r z some h =
     let e = get_or-set_same s.stage r Holding Idle (let k = z.stage in omega arith) in
     let row = λ (k : ℕ). lane_same s.places r (cursor_at s r) k None s.lane (lane_within s r (cursor_at s r) z some h) in
@@ -101,19 +110,22 @@ open_else s r q some n =
     let row = λ (k : ℕ). lane_other s.places q r (cursor_at s r) k None s.lane some n in
     λ i. record { filled = get_or s.filled q false; stage = e i; row = λ k. row k i }
 
-pub close_shows : (s : Schedule) (r : ℕ) → IsSized s → 0 < s.places → r < readers s → lanes_of (after s (Close r)) r ≡ closed s.places (cursor_at s r) (lanes_of s r)
+pub close_shows : (s : Schedule) (r : ℕ) → IsSized s → 0 < s.places → r < readers s
+    → lanes_of (after s (Close r)) r ≡ closed s.places (cursor_at s r) (lanes_of s r)
 close_shows s r z some h =
     let e = get_or-set_same s.stage r Closed Idle (let k = z.stage in omega arith) in
     let row = λ (k : ℕ). lane_same s.places r (cursor_at s r) k (Some (cursor_at s r)) s.lane (lane_within s r (cursor_at s r) z some h) in
     λ i. record { filled = get_or s.filled r false; stage = e i; row = λ k. row k i }
 
-pub close_else : (s : Schedule) (r q : ℕ) → 0 < s.places → q ≢ r → lanes_of (after s (Close r)) q ≡ lanes_of s q
+pub close_else : (s : Schedule) (r q : ℕ) → 0 < s.places → q ≢ r
+    → lanes_of (after s (Close r)) q ≡ lanes_of s q
 close_else s r q some n =
     let e = get_or-set_other s.stage r q Closed Idle n in
     let row = λ (k : ℕ). lane_other s.places q r (cursor_at s r) k (Some (cursor_at s r)) s.lane some n in
     λ i. record { filled = get_or s.filled q false; stage = e i; row = λ k. row k i }
 
-pub advance_shows : (s : Schedule) (r : ℕ) → IsSized s → r < readers s → progress_of (after s (Advance r)) r ≡ advanced (cursor_at s r) (progress_of s r)
+pub advance_shows : (s : Schedule) (r : ℕ) → IsSized s → r < readers s
+    → progress_of (after s (Advance r)) r ≡ advanced (cursor_at s r) (progress_of s r)
 advance_shows s r z h =
     let e = get_or-set_same s.cursor r (Some (cursor_at s r + 1)) None h in
     let f = get_or-set_same s.taken r (get_or s.taken r [] ++ cursor_at s r ∷ []) [] (let k = z.taken in omega arith) in
@@ -125,7 +137,8 @@ advance_else s r q n =
     let f = get_or-set_other s.taken r q (get_or s.taken r [] ++ cursor_at s r ∷ []) [] n in
     λ i. record { known = get_or s.known q None; cursor = e i; seen = get_or s.seen q 0; taken = f i }
 
-pub advance_settles : (s : Schedule) (r : ℕ) → IsSized s → r < readers s → lanes_of (after s (Advance r)) r ≡ settled (lanes_of s r)
+pub advance_settles : (s : Schedule) (r : ℕ) → IsSized s → r < readers s
+    → lanes_of (after s (Advance r)) r ≡ settled (lanes_of s r)
 advance_settles s r z h =
     let e = get_or-set_same s.stage r Idle Idle (let k = z.stage in omega arith) in
     λ i. record { filled = get_or s.filled r false; stage = e i; row = λ k. get_or s.lane (lane_place s.places r k) None }
@@ -135,7 +148,8 @@ advance_leaves s r q n =
     let e = get_or-set_other s.stage r q Idle Idle n in
     λ i. record { filled = get_or s.filled q false; stage = e i; row = λ k. get_or s.lane (lane_place s.places q k) None }
 
-pub leave_shows : (s : Schedule) (r : ℕ) → r < readers s → progress_of (after s (Leave r)) r ≡ departed (progress_of s r)
+pub leave_shows : (s : Schedule) (r : ℕ) → r < readers s
+    → progress_of (after s (Leave r)) r ≡ departed (progress_of s r)
 leave_shows s r h =
     let e = get_or-set_same s.cursor r None None h in
     λ i. record { known = get_or s.known r None; cursor = e i; seen = get_or s.seen r 0; taken = get_or s.taken r [] }
@@ -146,7 +160,8 @@ leave_else s r q n =
     λ i. record { known = get_or s.known q None; cursor = e i; seen = get_or s.seen q 0; taken = get_or s.taken q [] }
 
 -- the stage of reader r, read as closed
-pub closed_shows : (s : Schedule) (r : ℕ) → IsSized s → r < readers s → lanes_of (read_closed r s) r ≡ record (lanes_of s r) { stage = Closed }
+pub closed_shows : (s : Schedule) (r : ℕ) → IsSized s → r < readers s
+    → lanes_of (read_closed r s) r ≡ record (lanes_of s r) { stage = Closed }
 closed_shows s r z h =
     let e = get_or-set_same s.stage r Closed Idle (let k = z.stage in omega arith) in
     λ i. record { filled = get_or s.filled r false; stage = e i; row = λ k. get_or s.lane (lane_place s.places r k) None }
@@ -170,7 +185,8 @@ start_progress places n total q h =
     let d = get_or-replicate {A = List ℕ} n q [] [] h in
     λ i. record { known = a i; cursor = a i; seen = b i; taken = d i }
 
-pub start_lanes : (places n total q : ℕ) → 0 < places → q < n → lanes_of (start places n total) q ≡ fresh_lanes
+pub start_lanes : (places n total q : ℕ) → 0 < places → q < n
+    → lanes_of (start places n total) q ≡ fresh_lanes
 start_lanes places n total q some h =
     let a = get_or-replicate n q false false h in
     let b = get_or-replicate n q Idle Idle h in

@@ -1,18 +1,20 @@
 -- Each event, and every list of events, takes a sound schedule to a sound schedule.
-use Rattle.std.proofs.Common.{◌≡◌, ℕ, zero, suc, ◌+◌, ◌*◌, ◌%◌, ◌<◌, ◌≢◌, Bool, true, false, cond, ◌&&◌, List, [], ◌∷◌, length, replicate, inl, inr, ap, sym, ◌∙◌, refl, subst, arith, length-set}
+use Rattle.std.proofs.Common.{◌≡◌, ℕ, zero, suc, ◌+◌, ◌*◌, ◌%◌, ◌<◌, ◌≢◌, Bool, true, false, cond, ◌&&◌, List, [], ◌∷◌, length, replicate, inl, inr, ap, sym, ◌∙◌, refl, subst, arith}
 use Rattle.std.specs.Prelude.{Option, Some, None, is_some, unwrap_or, nat_lt}
 use Rattle.std.proofs.lemmas.Bool.{and_parts, and_from, and_left, and_right, ltb-true, cases_eq, cases_lt, cases_Bool, false≢true}
-use Rattle.std.proofs.lemmas.List.{length-replicate, length-map}
-use Rattle.ring_core.specs.declared.event.Stage.TheVariants.{Idle, Holding, Closed}
+use Rattle.std.proofs.lemmas.List.{length-replicate}
+use Rattle.ring_core.specs.declared.event.Stage.TheVariants.{Idle}
 use Rattle.ring_core.specs.declared.event.Event.{Event}
 use Rattle.ring_core.specs.declared.event.Event.TheVariants.{Look, Fill, Publish, See, Open, Close, Advance, Leave}
 use Rattle.ring_core.specs.Schedule.{Schedule, readers, Progress, Lanes, progress_of, lanes_of, start}
-use Rattle.ring_core.specs.Events.{each_below, can_fill, is_ready, can_open, can_close, can_advance, can_leave, can_be, after, step, run, cursor_at, is_below, is_idle, advanced}
-use Rattle.ring_core.specs.Sound.{IsSoundProgress, IsSoundLanes, IsSoundWords, IsSound}
+use Rattle.ring_core.specs.Events.{each_below, can_fill, is_ready, can_open, can_close, can_advance, can_leave, can_be, after, step, run, cursor_at, is_below, is_idle, looked, saw, advanced, departed, filled_with, opened, closed, settled}
+use Rattle.ring_core.specs.Sound.{IsSized, IsSoundProgress, IsSoundLanes, IsSoundWords, IsSound}
 use Rattle.ring_core.specs.Laws.{WasClosed}
 use Rattle.ring_core.proofs.Places.{one_turn}
 use Rattle.ring_core.proofs.Keeps.{some_is, below_is, fill_room, look_progress, look_lanes, fill_lanes, publish_progress, publish_lanes, ready_room, see_progress, see_lanes, open_lanes, close_lanes, advance_progress, advance_lanes, advance_ahead, leave_progress, leave_lanes}
 use Rattle.ring_core.proofs.Readers
+use Rattle.ring_core.proofs.Sizes.{after_count, after_sized}
+use Rattle.ring_core.proofs.Made.{made_sound}
 
 -- what holds for one number below n and for all others holds for each
 pub each_by : (n r : ℕ) (P : ℕ → Type 0) → P r → ((q : ℕ) → q < n → q ≢ r → P q) → (q : ℕ) → q < n → P q
@@ -32,14 +34,16 @@ event_parts : (n r : ℕ) (can : Bool) → (nat_lt r n && can) ≡ true → (r <
 event_parts n r can e = let x = and_parts (nat_lt r n) can e in (ltb-true r n x.0, x.1)
 
 -- the cursor of a reader that has not left
-cursor_is : (s : Schedule) (r : ℕ) → is_some (progress_of s r).cursor ≡ true → (progress_of s r).cursor ≡ Some (cursor_at s r)
+cursor_is : (s : Schedule) (r : ℕ) → is_some (progress_of s r).cursor ≡ true
+    → (progress_of s r).cursor ≡ Some (cursor_at s r)
 cursor_is s r e = let x = some_is (progress_of s r).cursor e in x.1 ∙ ap Some (sym (ap (λ o. unwrap_or o 0) x.1))
 
 abbrev SoundLanes : Schedule → Progress → Lanes → Type 0
 SoundLanes s p l = IsSoundLanes s.places s.total s.head p l
 
 -- only one reader's progress changed
-words_by : (s : Schedule) (r : ℕ) (p : ℕ → Progress) → IsSound s → IsSoundProgress s.places s.head (p r) → ((q : ℕ) → q ≢ r → p q ≡ progress_of s q)
+words_by : (s : Schedule) (r : ℕ) (p : ℕ → Progress) → IsSound s → IsSoundProgress s.places s.head (p r)
+    → ((q : ℕ) → q ≢ r → p q ≡ progress_of s q)
     → IsSoundWords s.places s.total s.head (readers s) p
 words_by s r p h here else = record {
   some_place = h.words.some_place;
@@ -54,47 +58,36 @@ lanes_by : (s : Schedule) (r : ℕ) (p : ℕ → Progress) (l : ℕ → Lanes) �
 lanes_by s r p l h here same still = each_by (readers s) r (λ q. SoundLanes s (p q) (l q)) here
     (λ q k n. subst (λ x. SoundLanes s x (l q)) (sym (same q n)) (subst (λ x. SoundLanes s (progress_of s q) x) (sym (still q n)) (h.lanes q k)))
 
+-- only reader r's part changed: its progress is now p, and its lanes are l
+sound_by : (s t : Schedule) (r : ℕ) (p : Progress) (l : Lanes) → IsSound s → IsSized t → t.places ≡ s.places
+    → t.total ≡ s.total → t.head ≡ s.head → readers t ≡ readers s
+    → progress_of t r ≡ p → ((q : ℕ) → q ≢ r → progress_of t q ≡ progress_of s q) → lanes_of t r ≡ l
+    → ((q : ℕ) → q ≢ r → lanes_of t q ≡ lanes_of s q)
+    → IsSoundProgress s.places s.head p → SoundLanes s p l → IsSound t
+sound_by s t r p l h z places total head count here same there still good lies =
+    let some = subst (λ k. 0 < k) (sym places) h.words.some_place in
+    made_sound t s.places s.total s.head (readers s) (progress_of t) (lanes_of t)
+    (record { places_is = places; total_is = total; head_is = head; some_place = some; count = count; sized = z; progress = λ q i. refl; lanes = λ q i. refl })
+    (words_by s r (progress_of t) h (subst (λ x. IsSoundProgress s.places s.head x) (sym here) good) same)
+    (lanes_by s r (progress_of t) (lanes_of t) h (subst (λ x. x) (λ j. SoundLanes s (sym here j) (sym there j)) lies) same still)
+
 pub look_sound : (s : Schedule) (r : ℕ) → IsSound s → can_be s (Look r) ≡ true → IsSound (after s (Look r))
 look_sound s r h can =
-    let l : r < readers s = ltb-true r (readers s) can in
-    let e = Readers.look_shows s r h.sized l in
+    let i : r < readers s = ltb-true r (readers s) can in
     let p = progress_of s r in
-    record {
-      sized = record {
-        filled = h.sized.filled;
-        known = length-set s.known r p.cursor ∙ h.sized.known;
-        seen = h.sized.seen;
-        stage = h.sized.stage;
-        lane = h.sized.lane;
-        taken = h.sized.taken;
-      };
-      words = words_by s r (progress_of (after s (Look r))) h
-          (subst (λ x. IsSoundProgress s.places s.head x) (sym e) (look_progress s.places s.head p (h.words.each r l)))
-          (Readers.look_else s r);
-      lanes = lanes_by s r (progress_of (after s (Look r))) (lanes_of s) h
-          (subst (λ x. SoundLanes s x (lanes_of s r)) (sym e) (look_lanes s.places s.total s.head p (lanes_of s r) (h.words.each r l) (h.lanes r l)))
-          (Readers.look_else s r) (λ q n. refl);
-    }
+    sound_by s (after s (Look r)) r (looked p) (lanes_of s r) h (after_sized s (Look r) h.sized) refl refl refl refl
+    (Readers.look_shows s r h.sized i) (Readers.look_else s r) refl (λ q n. refl)
+    (look_progress s.places s.head p (h.words.each r i)) (look_lanes s.places s.total s.head p (lanes_of s r) (h.words.each r i) (h.lanes r i))
 
 pub fill_sound : (s : Schedule) (r : ℕ) → IsSound s → can_be s (Fill r) ≡ true → IsSound (after s (Fill r))
 fill_sound s r h can =
-    let x = event_parts (readers s) r (can_fill s.places s.total s.head (progress_of s r) (lanes_of s r)) can in
+    let p = progress_of s r in
+    let l = lanes_of s r in
+    let x = event_parts (readers s) r (can_fill s.places s.total s.head p l) can in
     let some = h.words.some_place in
-    record {
-      sized = record {
-        filled = length-set s.filled r true ∙ h.sized.filled;
-        known = h.sized.known;
-        seen = h.sized.seen;
-        stage = h.sized.stage;
-        lane = length-set s.lane _ (Some s.head) ∙ h.sized.lane;
-        taken = h.sized.taken;
-      };
-      words = record { some_place = some; head_in = h.words.head_in; each = h.words.each };
-      lanes = lanes_by s r (progress_of s) (lanes_of (after s (Fill r))) h
-          (subst (λ y. SoundLanes s (progress_of s r) y) (sym (Readers.fill_shows s r h.sized some x.0))
-          (fill_lanes s.places s.total s.head (progress_of s r) (lanes_of s r) x.1 (h.words.each r x.0) (h.lanes r x.0)))
-          (λ q n. refl) (λ q n. Readers.fill_else s r q some n);
-    }
+    sound_by s (after s (Fill r)) r p (filled_with s.places s.head l) h (after_sized s (Fill r) h.sized) refl refl refl refl
+    refl (λ q n. refl) (Readers.fill_shows s r h.sized some x.0) (λ q. Readers.fill_else s r q some)
+    (h.words.each r x.0) (fill_lanes s.places s.total s.head p l x.1 (h.words.each r x.0) (h.lanes r x.0))
 
 pub publish_sound : (s : Schedule) → IsSound s → can_be s Publish ≡ true → IsSound (after s Publish)
 publish_sound s h can =
@@ -102,14 +95,7 @@ publish_sound s h can =
     let ready = each_below_is (readers s) (λ r. is_ready (progress_of s r) (lanes_of s r)) x.1 in
     let lt : s.head < s.total = ltb-true s.head s.total x.0 in
     record {
-      sized = record {
-        filled = length-map s.filled (λ (b : Bool). false) ∙ h.sized.filled;
-        known = h.sized.known;
-        seen = h.sized.seen;
-        stage = h.sized.stage;
-        lane = h.sized.lane;
-        taken = h.sized.taken;
-      };
+      sized = after_sized s Publish h.sized;
       words = record {
         some_place = h.words.some_place;
         head_in = omega arith;
@@ -122,25 +108,11 @@ publish_sound s h can =
 
 pub see_sound : (s : Schedule) (r : ℕ) → IsSound s → can_be s (See r) ≡ true → IsSound (after s (See r))
 see_sound s r h can =
-    let x = event_parts (readers s) r (is_some (progress_of s r).cursor) can in
-    let e = Readers.see_shows s r h.sized x.0 in
     let p = progress_of s r in
-    record {
-      sized = record {
-        filled = h.sized.filled;
-        known = h.sized.known;
-        seen = length-set s.seen r s.head ∙ h.sized.seen;
-        stage = h.sized.stage;
-        lane = h.sized.lane;
-        taken = h.sized.taken;
-      };
-      words = words_by s r (progress_of (after s (See r))) h
-          (subst (λ y. IsSoundProgress s.places s.head y) (sym e) (see_progress s.places s.head p (h.words.each r x.0)))
-          (Readers.see_else s r);
-      lanes = lanes_by s r (progress_of (after s (See r))) (lanes_of s) h
-          (subst (λ y. SoundLanes s y (lanes_of s r)) (sym e) (see_lanes s.places s.total s.head p (lanes_of s r) (h.words.each r x.0) (h.lanes r x.0)))
-          (Readers.see_else s r) (λ q n. refl);
-    }
+    let x = event_parts (readers s) r (is_some p.cursor) can in
+    sound_by s (after s (See r)) r (saw s.head p) (lanes_of s r) h (after_sized s (See r) h.sized) refl refl refl refl
+    (Readers.see_shows s r h.sized x.0) (Readers.see_else s r) refl (λ q n. refl)
+    (see_progress s.places s.head p (h.words.each r x.0)) (see_lanes s.places s.total s.head p (lanes_of s r) (h.words.each r x.0) (h.lanes r x.0))
 
 pub open_sound : (s : Schedule) (r : ℕ) → IsSound s → can_be s (Open r) ≡ true → IsSound (after s (Open r))
 open_sound s r h can =
@@ -150,21 +122,9 @@ open_sound s r h can =
     let b = below_is p.seen p.cursor (and_parts (is_below p.seen p.cursor) (is_idle l.stage) x.1).0 in
     let at : p.cursor ≡ Some (cursor_at s r) = b.1 ∙ ap Some (sym (ap (λ o. unwrap_or o 0) b.1)) in
     let some = h.words.some_place in
-    record {
-      sized = record {
-        filled = h.sized.filled;
-        known = h.sized.known;
-        seen = h.sized.seen;
-        stage = length-set s.stage r Holding ∙ h.sized.stage;
-        lane = length-set s.lane _ None ∙ h.sized.lane;
-        taken = h.sized.taken;
-      };
-      words = record { some_place = some; head_in = h.words.head_in; each = h.words.each };
-      lanes = lanes_by s r (progress_of s) (lanes_of (after s (Open r))) h
-          (subst (λ y. SoundLanes s p y) (sym (Readers.open_shows s r h.sized some x.0))
-          (open_lanes s.places s.total s.head p l (cursor_at s r) at x.1 (h.words.each r x.0) (h.lanes r x.0)))
-          (λ q n. refl) (λ q n. Readers.open_else s r q some n);
-    }
+    sound_by s (after s (Open r)) r p (opened s.places (cursor_at s r) l) h (after_sized s (Open r) h.sized) refl refl refl refl
+    refl (λ q n. refl) (Readers.open_shows s r h.sized some x.0) (λ q. Readers.open_else s r q some)
+    (h.words.each r x.0) (open_lanes s.places s.total s.head p l (cursor_at s r) at x.1 (h.words.each r x.0) (h.lanes r x.0))
 
 pub close_sound : (s : Schedule) (r : ℕ) → IsSound s → can_be s (Close r) ≡ true → IsSound (after s (Close r))
 close_sound s r h can =
@@ -173,49 +133,22 @@ close_sound s r h can =
     let x = event_parts (readers s) r (can_close p l) can in
     let at = cursor_is s r (and_parts (is_some p.cursor) _ x.1).0 in
     let some = h.words.some_place in
-    record {
-      sized = record {
-        filled = h.sized.filled;
-        known = h.sized.known;
-        seen = h.sized.seen;
-        stage = length-set s.stage r Closed ∙ h.sized.stage;
-        lane = length-set s.lane _ (Some (cursor_at s r)) ∙ h.sized.lane;
-        taken = h.sized.taken;
-      };
-      words = record { some_place = some; head_in = h.words.head_in; each = h.words.each };
-      lanes = lanes_by s r (progress_of s) (lanes_of (after s (Close r))) h
-          (subst (λ y. SoundLanes s p y) (sym (Readers.close_shows s r h.sized some x.0))
-          (close_lanes s.places s.total s.head p l (cursor_at s r) at x.1 (h.words.each r x.0) (h.lanes r x.0)))
-          (λ q n. refl) (λ q n. Readers.close_else s r q some n);
-    }
+    sound_by s (after s (Close r)) r p (closed s.places (cursor_at s r) l) h (after_sized s (Close r) h.sized) refl refl refl refl
+    refl (λ q n. refl) (Readers.close_shows s r h.sized some x.0) (λ q. Readers.close_else s r q some)
+    (h.words.each r x.0) (close_lanes s.places s.total s.head p l (cursor_at s r) at x.1 (h.words.each r x.0) (h.lanes r x.0))
 
-pub advance_sound : (s : Schedule) (r : ℕ) → IsSound s → can_be s (Advance r) ≡ true → IsSound (after s (Advance r))
+pub advance_sound : (s : Schedule) (r : ℕ) → IsSound s → can_be s (Advance r) ≡ true
+    → IsSound (after s (Advance r))
 advance_sound s r h can =
     let p = progress_of s r in
     let l = lanes_of s r in
     let c = cursor_at s r in
     let x = event_parts (readers s) r (can_advance p l) can in
     let at = cursor_is s r (and_parts (is_some p.cursor) _ x.1).0 in
-    let e = Readers.advance_shows s r h.sized x.0 in
-    let f = Readers.advance_settles s r h.sized x.0 in
-    record {
-      sized = record {
-        filled = h.sized.filled ∙ sym (length-set s.cursor r (Some (c + 1)));
-        known = h.sized.known ∙ sym (length-set s.cursor r (Some (c + 1)));
-        seen = h.sized.seen ∙ sym (length-set s.cursor r (Some (c + 1)));
-        stage = (length-set s.stage r Idle ∙ h.sized.stage) ∙ sym (length-set s.cursor r (Some (c + 1)));
-        lane = h.sized.lane ∙ ap (λ n. n * s.places) (sym (length-set s.cursor r (Some (c + 1))));
-        taken = (length-set s.taken r _ ∙ h.sized.taken) ∙ sym (length-set s.cursor r (Some (c + 1)));
-      };
-      words = subst (λ n. IsSoundWords s.places s.total s.head n (progress_of (after s (Advance r)))) (sym (length-set s.cursor r (Some (c + 1))))
-          (words_by s r (progress_of (after s (Advance r))) h
-          (subst (λ y. IsSoundProgress s.places s.head y) (sym e) (advance_progress s.places s.head p c at (advance_ahead s.places s.total s.head p l c at x.1 (h.lanes r x.0)) (h.words.each r x.0)))
-          (Readers.advance_else s r));
-      lanes = λ q k. lanes_by s r (progress_of (after s (Advance r))) (lanes_of (after s (Advance r))) h
-          (subst (λ y. SoundLanes s y (lanes_of (after s (Advance r)) r)) (sym e)
-          (subst (λ y. SoundLanes s (advanced c p) y) (sym f) (advance_lanes s.places s.total s.head p l c at x.1 (h.lanes r x.0))))
-          (Readers.advance_else s r) (Readers.advance_leaves s r) q (subst (λ n. q < n) (length-set s.cursor r (Some (c + 1))) k);
-    }
+    let ahead = advance_ahead s.places s.total s.head p l c at x.1 (h.lanes r x.0) in
+    sound_by s (after s (Advance r)) r (advanced c p) (settled l) h (after_sized s (Advance r) h.sized) refl refl refl (after_count s (Advance r))
+    (Readers.advance_shows s r h.sized x.0) (Readers.advance_else s r) (Readers.advance_settles s r h.sized x.0) (Readers.advance_leaves s r)
+    (advance_progress s.places s.head p c at ahead (h.words.each r x.0)) (advance_lanes s.places s.total s.head p l c at x.1 (h.lanes r x.0))
 
 pub leave_sound : (s : Schedule) (r : ℕ) → IsSound s → can_be s (Leave r) ≡ true → IsSound (after s (Leave r))
 leave_sound s r h can =
@@ -223,25 +156,9 @@ leave_sound s r h can =
     let l = lanes_of s r in
     let x = event_parts (readers s) r (can_leave p l) can in
     let at = cursor_is s r (and_parts (is_some p.cursor) _ x.1).0 in
-    let e = Readers.leave_shows s r x.0 in
-    let n = length-set s.cursor r None in
-    record {
-      sized = record {
-        filled = h.sized.filled ∙ sym n;
-        known = h.sized.known ∙ sym n;
-        seen = h.sized.seen ∙ sym n;
-        stage = h.sized.stage ∙ sym n;
-        lane = h.sized.lane ∙ ap (λ n. n * s.places) (sym n);
-        taken = h.sized.taken ∙ sym n;
-      };
-      words = subst (λ n. IsSoundWords s.places s.total s.head n (progress_of (after s (Leave r)))) (sym n)
-          (words_by s r (progress_of (after s (Leave r))) h
-          (subst (λ y. IsSoundProgress s.places s.head y) (sym e) (leave_progress s.places s.head p (cursor_at s r) at (h.words.each r x.0)))
-          (Readers.leave_else s r));
-      lanes = λ q k. lanes_by s r (progress_of (after s (Leave r))) (lanes_of s) h
-          (subst (λ y. SoundLanes s y l) (sym e) (leave_lanes s.places s.total s.head p l x.1 (h.lanes r x.0)))
-          (Readers.leave_else s r) (λ q n. refl) q (subst (λ m. q < m) n k);
-    }
+    sound_by s (after s (Leave r)) r (departed p) l h (after_sized s (Leave r) h.sized) refl refl refl (after_count s (Leave r))
+    (Readers.leave_shows s r x.0) (Readers.leave_else s r) refl (λ q n. refl)
+    (leave_progress s.places s.head p (cursor_at s r) at (h.words.each r x.0)) (leave_lanes s.places s.total s.head p l x.1 (h.lanes r x.0))
 
 pub event_sound : (s : Schedule) (e : Event) → IsSound s → can_be s e ≡ true → IsSound (after s e)
 event_sound s (Look r) h can = look_sound s r h can
@@ -274,7 +191,8 @@ fresh_progress_sound places = record {
   within = λ k e. omega arith;
 }
 
-pub fresh_lanes_sound : (places total : ℕ) → IsSoundLanes places total 0 Readers.fresh_progress Readers.fresh_lanes
+pub fresh_lanes_sound : (places total : ℕ)
+    → IsSoundLanes places total 0 Readers.fresh_progress Readers.fresh_lanes
 fresh_lanes_sound places total = record {
   holding_ahead = λ c e s. cc;
   closed_ahead = λ c e s. cc;
@@ -313,7 +231,8 @@ start_sound places n total some =
     }
 
 -- when a lane may be filled, its reader has closed every earlier row of that place
-pub fills_closed : (s : Schedule) (r c : ℕ) → IsSound s → can_be s (Fill r) ≡ true → (progress_of s r).cursor ≡ Some c → WasClosed s r c
+pub fills_closed : (s : Schedule) (r c : ℕ) → IsSound s → can_be s (Fill r) ≡ true
+    → (progress_of s r).cursor ≡ Some c → WasClosed s r c
 fills_closed s r c h can at =
     let p = progress_of s r in
     let l = lanes_of s r in

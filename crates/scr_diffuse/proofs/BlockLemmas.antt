@@ -18,30 +18,37 @@ unfolding block_left
 block-first above rows x = refl
 
 -- one more row of the block
-block-suc : (above : ℕ → ℤ) (rows : List (List ℕ)) (k x : ℕ) → block_left above rows (suc k) x ≡ error_left (λ y. block_left above rows k (y + 1)) (get_or rows k []) x
+block-suc : (above : ℕ → ℤ) (rows : List (List ℕ)) (k x : ℕ)
+    → block_left above rows (suc k) x ≡ error_left (λ y. block_left above rows k (y + 1)) (get_or rows k []) x
 unfolding block_left
 block-suc above rows k x = refl
 
-pub block-next : (above : ℕ → ℤ) (rows : List (List ℕ)) (k x : ℕ) → block_left above rows (k + 1) x ≡ error_left (λ y. block_left above rows k (y + 1)) (get_or rows k []) x
+pub block-next : (above : ℕ → ℤ) (rows : List (List ℕ)) (k x : ℕ)
+    → block_left above rows (k + 1) x ≡ error_left (λ y. block_left above rows k (y + 1)) (get_or rows k []) x
 block-next above rows k x = ap (λ n. block_left above rows n x) (add-one k) ∙ block-suc above rows k x
 
 -- the error to the left of the first column is 0
-pub block-margin : (above : ℕ → ℤ) (rows : List (List ℕ)) (k : ℕ) → above 0 ≡ pos 0 → block_left above rows k 0 ≡ pos 0
+pub block-margin : (above : ℕ → ℤ) (rows : List (List ℕ)) (k : ℕ) → above 0 ≡ pos 0
+    → block_left above rows k 0 ≡ pos 0
 block-margin above rows zero margin = block-first above rows 0 ∙ margin
 block-margin above rows (suc k) margin = block-suc above rows k 0 ∙ error-margin _ _
 
 -- so is the error past the last column
-pub block-behind : (above : ℕ → ℤ) (rows : List (List ℕ)) (k x : ℕ) → length (get_or rows k []) < x → block_left above rows (k + 1) x ≡ pos 0
+pub block-behind : (above : ℕ → ℤ) (rows : List (List ℕ)) (k x : ℕ) → length (get_or rows k []) < x
+    → block_left above rows (k + 1) x ≡ pos 0
 block-behind above rows k zero behind = absurd (omega arith)
 block-behind above rows k (suc x) behind = block-next above rows k (suc x) ∙ error-outside _ _ x (omega arith)
 
 -- the error above and to the left of a pixel, from the errors of the row above it
-pub block-corner : (above : ℕ → ℤ) (rows : List (List ℕ)) (k x : ℕ) → above 0 ≡ pos 0 → block_left above rows k x ≡ left_of (λ y. block_left above rows k (y + 1)) x
+pub block-corner : (above : ℕ → ℤ) (rows : List (List ℕ)) (k x : ℕ) → above 0 ≡ pos 0
+    → block_left above rows k x ≡ left_of (λ y. block_left above rows k (y + 1)) x
 block-corner above rows k zero margin = block-margin above rows k margin
 block-corner above rows k (suc x) margin = ap (block_left above rows k) (sym (add-one x))
 
 -- the errors of a block are those of a page that ends with it
-pub block_is : (page rows : List (List ℕ)) (above : ℕ → ℤ) → ((x : ℕ) → above x ≡ left_of (λ y. error_above page y (length page)) x) → (k x : ℕ) → block_left above rows k x ≡ left_of (λ y. error_above (page ++ rows) y (length page + k)) x
+pub block_is : (page rows : List (List ℕ)) (above : ℕ → ℤ)
+    → ((x : ℕ) → above x ≡ left_of (λ y. error_above page y (length page)) x) → (k x : ℕ)
+    → block_left above rows k x ≡ left_of (λ y. error_above (page ++ rows) y (length page + k)) x
 block_is page rows above margined zero x =
     block-first above rows x ∙ margined x
     ∙ ap (λ (f : ℕ → ℤ). left_of f x) (fun_ext (λ y.
@@ -59,7 +66,9 @@ block_is page rows above margined (suc k) (suc x) =
     ∙ ap (error_above (page ++ rows) x) (sym (add-suc (length page) k))
 
 -- and so are its numbers v
-pub block_v_is : (page rows : List (List ℕ)) (above : ℕ → ℤ) → ((x : ℕ) → above x ≡ left_of (λ y. error_above page y (length page)) x) → (k x : ℕ) → block_v above rows k x ≡ v_at (page ++ rows) x (length page + k)
+pub block_v_is : (page rows : List (List ℕ)) (above : ℕ → ℤ)
+    → ((x : ℕ) → above x ≡ left_of (λ y. error_above page y (length page)) x) → (k x : ℕ)
+    → block_v above rows k x ≡ v_at (page ++ rows) x (length page + k)
 block_v_is page rows above margined k x =
     let n : ℕ = length page + k in
     let over : ℕ → ℤ = λ y. error_above (page ++ rows) y n in
@@ -70,7 +79,8 @@ block_v_is page rows above margined k x =
 -- ---- what is kept after a block
 
 -- before the first row
-pub below_at_start : (rows : List (List ℕ)) (width : ℕ) (errors : List ℤ) → rows ≡ [] → length errors ≡ width + 44 → ((x : ℕ) → number_at errors x ≡ pos 0) → HoldsBelow rows width errors
+pub below_at_start : (rows : List (List ℕ)) (width : ℕ) (errors : List ℤ) → rows ≡ []
+    → length errors ≡ width + 44 → ((x : ℕ) → number_at errors x ≡ pos 0) → HoldsBelow rows width errors
 below_at_start rows width errors none room zeros = rw none (record {
   room = room;
   below = λ x. zeros x ∙ sym (nothing_above (x - 21));
@@ -79,19 +89,23 @@ below_at_start rows width errors none room zeros = rw none (record {
 })
 
 -- no row's errors are in the first places
-pub below_margin : (page : List (List ℕ)) (width : ℕ) (errors : List ℤ) → HoldsBelow page width errors → (x : ℕ) → x < 22 → number_at errors x ≡ pos 0
+pub below_margin : (page : List (List ℕ)) (width : ℕ) (errors : List ℤ) → HoldsBelow page width errors
+    → (x : ℕ) → x < 22 → number_at errors x ≡ pos 0
 below_margin page width errors holds x few =
     let first : x - 21 ≡ 0 = omega arith in
     holds.below x ∙ ap (left_of (λ y. error_above page y (length page))) first
 
 -- the errors above the next row
-pub below_left : (page : List (List ℕ)) (width : ℕ) (errors : List ℤ) → HoldsBelow page width errors → (x : ℕ) → left_in errors x ≡ left_of (λ y. error_above page y (length page)) x
+pub below_left : (page : List (List ℕ)) (width : ℕ) (errors : List ℤ) → HoldsBelow page width errors → (x : ℕ)
+    → left_in errors x ≡ left_of (λ y. error_above page y (length page)) x
 below_left page width errors holds x =
     let place : x + 21 - 21 ≡ x = omega arith in
     holds.below (x + 21) ∙ ap (left_of (λ y. error_above page y (length page))) place
 
-pub below_next : (page rows : List (List ℕ)) (width : ℕ) (errors new : List ℤ) → HoldsBelow page width errors → length rows ≡ 8 → length (get_or rows 7 []) ≡ width → length new ≡ length errors
-    → ((x : ℕ) → number_at new x ≡ block_left (left_in errors) rows 8 (x - 21)) → ((x : ℕ) → IsError (number_at new x)) → HoldsBelow (page ++ rows) width new
+pub below_next : (page rows : List (List ℕ)) (width : ℕ) (errors new : List ℤ) → HoldsBelow page width errors
+    → length rows ≡ 8 → length (get_or rows 7 []) ≡ width → length new ≡ length errors
+    → ((x : ℕ) → number_at new x ≡ block_left (left_in errors) rows 8 (x - 21))
+    → ((x : ℕ) → IsError (number_at new x)) → HoldsBelow (page ++ rows) width new
 below_next page rows width errors new holds eight long same made small =
     let count : length page + 8 ≡ length (page ++ rows) = omega (arith, length-append page rows) in
     record {
@@ -101,7 +115,9 @@ below_next page rows width errors new holds eight long same made small =
       right = λ x behind. made x ∙ block-behind (left_in errors) rows 7 (x - 21) (omega arith);
     }
 
-pub block_at_start : (rows held : List (List ℕ)) (width : ℕ) (errors : List ℤ) (dots columns : List ℕ) → rows ≡ [] → length held ≡ 8 → All (λ row. length row ≡ width) held → length errors ≡ width + 44 → length dots ≡ width + 21 → length columns ≡ 8 * length dots
+pub block_at_start : (rows held : List (List ℕ)) (width : ℕ) (errors : List ℤ) (dots columns : List ℕ)
+    → rows ≡ [] → length held ≡ 8 → All (λ row. length row ≡ width) held → length errors ≡ width + 44
+    → length dots ≡ width + 21 → length columns ≡ 8 * length dots
     → ((x : ℕ) → number_at errors x ≡ pos 0) → HoldsBlock rows held errors dots columns
 block_at_start rows held width errors dots columns none eight wide room long full zeros = record {
   width = width;
@@ -114,21 +130,31 @@ block_at_start rows held width errors dots columns none eight wide room long ful
 }
 
 -- after a restart: the errors were lent whole, and come back as 0
-pub block_restarted : (steps : List (List (List ℕ))) (page held : List (List ℕ)) (n : ℕ) (new old : List ℤ) (dots columns : List ℕ) → HoldsBlock page held old dots columns → steps ≡ [] → n ≡ length new → length new ≡ length old
-    → ((x : ℕ) → number_at new x ≡ pos 0) → HoldsBlock (joined steps) held (take n (new ++ drop (length new) old)) dots columns
+pub block_restarted : (steps : List (List (List ℕ))) (page held : List (List ℕ)) (n : ℕ) (new old : List ℤ)
+    (dots columns : List ℕ) → HoldsBlock page held old dots columns → steps ≡ [] → n ≡ length new
+    → length new ≡ length old
+    → ((x : ℕ) → number_at new x ≡ pos 0)
+    → HoldsBlock (joined steps) held (take n (new ++ drop (length new) old)) dots columns
 block_restarted steps page held n new old dots columns holds none whole same zeros =
     subst (λ (errors : List ℤ). HoldsBlock (joined steps) held errors dots columns) (sym (lent_whole n new old whole))
     (block_at_start (joined steps) held holds.width new dots columns (ap joined none) holds.eight holds.wide (same ∙ holds.errors_are.room) holds.long holds.room zeros)
 
 -- each of the eight rows to take next has the page's width
-pub held_long : (page held : List (List ℕ)) (errors : List ℤ) (dots columns : List ℕ) → (holds : HoldsBlock page held errors dots columns) → (k : ℕ) → k < 8 → length (get_or held k []) ≡ holds.width
+pub held_long : (page held : List (List ℕ)) (errors : List ℤ) (dots columns : List ℕ)
+    → (holds : HoldsBlock page held errors dots columns) → (k : ℕ) → k < 8
+    → length (get_or held k []) ≡ holds.width
 held_long page held errors dots columns holds k within = All-get_or (λ row. length row ≡ holds.width) held k [] (omega (arith, holds.eight)) holds.wide
 
 -- after eight rows were taken
-pub block_held : (page held rows : List (List ℕ)) (errors new : List ℤ) (before dots filled columns : List ℕ) → (holds : HoldsBlock page held errors before filled) → length rows ≡ 8 → ((k : ℕ) → k < 8 → length (get_or rows k []) ≡ holds.width)
-    → length new ≡ length errors → length dots ≡ length before → length columns ≡ length filled
-    → ((x : ℕ) → number_at new x ≡ block_left (left_in errors) rows 8 (x - 21)) → ((x : ℕ) → IsError (number_at new x))
-    → ((k x : ℕ) → k < 8 → x < holds.width → bit_of (get_or dots (x + 3 * k) 0) k ≡ prints (block_v (left_in errors) rows k x)) → HoldsBlock (page ++ rows) held new dots columns
+pub block_held : (page held rows : List (List ℕ)) (errors new : List ℤ) (before dots filled columns : List ℕ)
+    → (holds : HoldsBlock page held errors before filled) → length rows ≡ 8
+    → ((k : ℕ) → k < 8 → length (get_or rows k []) ≡ holds.width) → length new ≡ length errors
+    → length dots ≡ length before → length columns ≡ length filled
+    → ((x : ℕ) → number_at new x ≡ block_left (left_in errors) rows 8 (x - 21))
+    → ((x : ℕ) → IsError (number_at new x))
+    → ((k x : ℕ) → k < 8 → x < holds.width
+    → bit_of (get_or dots (x + 3 * k) 0) k ≡ prints (block_v (left_in errors) rows k x))
+    → HoldsBlock (page ++ rows) held new dots columns
 block_held page held rows errors new before dots filled columns holds eight wide same whole full made small set = record {
   width = holds.width;
   eight = holds.eight;
@@ -142,13 +168,35 @@ block_held page held rows errors new before dots filled columns holds eight wide
 }
 
 -- lists that were lent whole, and come back
-pub block_lent : (rows held : List (List ℕ)) (n m l : ℕ) (new old : List ℤ) (dots before columns filled : List ℕ) → n ≡ length new → m ≡ length dots → l ≡ length columns → HoldsBlock rows held new dots columns
-    → HoldsBlock rows held (take n (new ++ drop (length new) old)) (take m (dots ++ drop (length dots) before)) (take l (columns ++ drop (length columns) filled))
+pub block_lent : (rows held : List (List ℕ)) (n m l : ℕ) (new old : List ℤ)
+    (dots before columns filled : List ℕ) → n ≡ length new → m ≡ length dots → l ≡ length columns
+    → HoldsBlock rows held new dots columns
+    → HoldsBlock rows held (take n (new ++ drop (length new) old))
+    (take m (dots ++ drop (length dots) before)) (take l (columns ++ drop (length columns) filled))
 block_lent rows held n m l new old dots before columns filled whole_new whole_dots whole_columns holds =
     rw (lent_whole n new old whole_new) (rw (lent_whole m dots before whole_dots) (rw (lent_whole l columns filled whole_columns) holds))
 
+-- both: the lists after eight rows, lent and back
+pub block_next : (page held rows all : List (List ℕ)) (errors new : List ℤ)
+    (before dots filled columns : List ℕ) (n m l : ℕ) → (holds : HoldsBlock page held errors before filled)
+    → length rows ≡ 8 → ((k : ℕ) → k < 8 → length (get_or rows k []) ≡ holds.width)
+    → length new ≡ length errors → length dots ≡ length before → length columns ≡ length filled
+    → ((x : ℕ) → number_at new x ≡ block_left (left_in errors) rows 8 (x - 21))
+    → ((x : ℕ) → IsError (number_at new x))
+    → ((k x : ℕ) → k < 8 → x < holds.width
+    → bit_of (get_or dots (x + 3 * k) 0) k ≡ prints (block_v (left_in errors) rows k x)) → n ≡ length errors
+    → m ≡ length before → l ≡ length filled → all ≡ page ++ rows
+    → HoldsBlock all held (take n (new ++ drop (length new) errors))
+    (take m (dots ++ drop (length dots) before)) (take l (columns ++ drop (length columns) filled))
+block_next page held rows all errors new before dots filled columns n m l holds eight wide same whole full made small set n_is m_is l_is all_is =
+    block_lent all held n m l new errors dots before columns filled (n_is ∙ sym same) (m_is ∙ sym whole) (l_is ∙ sym full)
+    (subst (λ (lists : List (List ℕ)). HoldsBlock lists held new dots columns) (sym all_is)
+    (block_held page held rows errors new before dots filled columns holds eight wide same whole full made small set))
+
 -- eight rows, one by one
-pub eight_rows : (rows : List (List ℕ)) → length rows ≡ 8 → get_or rows 0 [] ∷ get_or rows 1 [] ∷ get_or rows 2 [] ∷ get_or rows 3 [] ∷ get_or rows 4 [] ∷ get_or rows 5 [] ∷ get_or rows 6 [] ∷ get_or rows 7 [] ∷ [] ≡ rows
+pub eight_rows : (rows : List (List ℕ)) → length rows ≡ 8
+    → get_or rows 0 [] ∷ get_or rows 1 [] ∷ get_or rows 2 [] ∷ get_or rows 3 [] ∷ get_or rows 4 []
+    ∷ get_or rows 5 [] ∷ get_or rows 6 [] ∷ get_or rows 7 [] ∷ [] ≡ rows
 eight_rows [] long = absurd (omega arith)
 eight_rows (a ∷ []) long = absurd (omega arith)
 eight_rows (a ∷ b ∷ []) long = absurd (omega arith)
@@ -160,6 +208,8 @@ eight_rows (a ∷ b ∷ c ∷ d ∷ e ∷ f ∷ g ∷ []) long = absurd (omega a
 eight_rows (a ∷ b ∷ c ∷ d ∷ e ∷ f ∷ g ∷ h ∷ []) long = refl
 eight_rows (a ∷ b ∷ c ∷ d ∷ e ∷ f ∷ g ∷ h ∷ i ∷ rest) long = absurd (omega arith)
 
-pub eight_are : (rows : List (List ℕ)) (a b c d e f g h : List ℕ) → length rows ≡ 8 → a ≡ get_or rows 0 [] → b ≡ get_or rows 1 [] → c ≡ get_or rows 2 [] → d ≡ get_or rows 3 [] → e ≡ get_or rows 4 [] → f ≡ get_or rows 5 [] → g ≡ get_or rows 6 [] → h ≡ get_or rows 7 []
+pub eight_are : (rows : List (List ℕ)) (a b c d e f g h : List ℕ) → length rows ≡ 8 → a ≡ get_or rows 0 []
+    → b ≡ get_or rows 1 [] → c ≡ get_or rows 2 [] → d ≡ get_or rows 3 [] → e ≡ get_or rows 4 []
+    → f ≡ get_or rows 5 [] → g ≡ get_or rows 6 [] → h ≡ get_or rows 7 []
     → a ∷ b ∷ c ∷ d ∷ e ∷ f ∷ g ∷ h ∷ [] ≡ rows
 eight_are rows a b c d e f g h long ea eb ec ed ee ef eg eh = rw (ea, eb, ec, ed, ee, ef, eg, eh) (eight_rows rows long)

@@ -1,5 +1,5 @@
 -- Eight comparisons in one byte, the first in the highest bit.
-use Rattle.std.proofs.Common.{◌≡◌, ℕ, ◌-◌, ◌/◌, ◌%◌, ◌^◌, ◌<◌, Bool, true, false, cond, ℤ, pos, FitsSigned, to_z, of_z, List, ◌++◌, length, take, map, eqb, get_or, refl, ap, sym, subst, ◌∙◌, arith, w16}
+use Rattle.std.proofs.Common.{◌≡◌, ℕ, ◌-◌, ◌/◌, ◌%◌, ◌^◌, ◌<◌, Bool, false, cond, ℤ, pos, FitsSigned, to_z, of_z, List, ◌++◌, length, take, map, eqb, get_or, ap, sym, subst, ◌∙◌, arith, w16}
 use Rattle.std.specs.Int.Signed.{le_z}
 use Rattle.std.specs.List.{range_with_len}
 use Rattle.std.proofs.lemmas.Int.{to_z-of_z}
@@ -9,6 +9,7 @@ use Rattle.std.proofs.lemmas.Simd.{bit_mask_l, mask_l-mod, mask_l-lt}
 use lib.Lanes.{mask_l, top}
 use Rattle.scr_diffuse.specs.Diffusion.{prints}
 use Rattle.scr_diffuse.specs.Passes.{number_at}
+use Rattle.scr_diffuse.proofs.MaskLemmas.{one_if, top_of_word}
 
 -- what lane x of a loaded vector holds, before it is reversed
 abbrev pub lane : List ℤ → ℕ → ℕ
@@ -22,24 +23,18 @@ lane_test numbers x = top 15 (cond (le_z (pos 128) (to_z w16 (lane numbers x))) 
 abbrev pub lane_tests : List ℤ → List Bool
 lane_tests numbers = map (λ i. lane_test numbers (7 - i)) (range_with_len 0 8)
 
-top_of_mask : (b : Bool) → top 15 (cond b 65535 0) ≡ b
-top_of_mask true = refl
-top_of_mask false = refl
-
-one_if : (b : Bool) → eqb (cond b 1 0) 1 ≡ b
-one_if true = refl
-one_if false = refl
-
 -- a lane of a vector that was loaded whole and appended to itself
-loaded : (numbers : List ℤ) (x : ℕ) → length numbers ≡ 8 → x < 8 → lane numbers x ≡ of_z w16 (number_at numbers x)
+loaded : (numbers : List ℤ) (x : ℕ) → length numbers ≡ 8 → x < 8
+    → lane numbers x ≡ of_z w16 (number_at numbers x)
 loaded numbers x whole within =
     let count : length (take 8 numbers) ≡ 8 = omega (arith, length-take 8 numbers) in
     get_or_append_left (map (of_z w16) (take 8 numbers)) (map (of_z w16) (take 8 numbers)) 0 x (omega (arith, length-map (take 8 numbers) (of_z w16)))
     ∙ get_or-map (of_z w16) (take 8 numbers) x (pos 0) 0 (omega arith) ∙ ap (of_z w16) (get_or-take 8 numbers x (pos 0) within)
 
-lane_test_is : (numbers : List ℤ) (x : ℕ) → length numbers ≡ 8 → x < 8 → FitsSigned w16 (number_at numbers x) → lane_test numbers x ≡ prints (number_at numbers x)
+lane_test_is : (numbers : List ℤ) (x : ℕ) → length numbers ≡ 8 → x < 8 → FitsSigned w16 (number_at numbers x)
+    → lane_test numbers x ≡ prints (number_at numbers x)
 lane_test_is numbers x whole within fits =
-    top_of_mask _ ∙ ap (λ n. le_z (pos 128) (to_z w16 n)) (loaded numbers x whole within)
+    top_of_word _ ∙ ap (λ n. le_z (pos 128) (to_z w16 n)) (loaded numbers x whole within)
     ∙ ap (le_z (pos 128)) (to_z-of_z w16 (number_at numbers x) fits)
 
 -- the mask is a byte
@@ -50,7 +45,8 @@ mask-fits numbers =
     let byte : mask_l (lane_tests numbers) < 2 ^ 8 = subst (λ (n : ℕ). mask_l (lane_tests numbers) < 2 ^ n) count below in
     subst (λ (n : ℕ). n < 256) (sym (mask_l-mod (lane_tests numbers) 64 (omega arith))) byte
 
-pub bit-mask : (numbers : List ℤ) (x : ℕ) → length numbers ≡ 8 → x < 8 → FitsSigned w16 (number_at numbers x) → eqb (mask_l (lane_tests numbers) % 2 ^ 64 / 2 ^ (7 - x) % 2) 1 ≡ prints (number_at numbers x)
+pub bit-mask : (numbers : List ℤ) (x : ℕ) → length numbers ≡ 8 → x < 8 → FitsSigned w16 (number_at numbers x)
+    → eqb (mask_l (lane_tests numbers) % 2 ^ 64 / 2 ^ (7 - x) % 2) 1 ≡ prints (number_at numbers x)
 bit-mask numbers x whole within fits =
     let back : 7 - (7 - x) ≡ x = omega arith in
     ap (λ m. eqb (m / 2 ^ (7 - x) % 2) 1) (mask_l-mod (lane_tests numbers) 64 (omega (arith, length-map-range_with_len (λ i. lane_test numbers (7 - i)) 0 8)))

@@ -31,18 +31,23 @@ pub bits_length : (bits : List ℕ) → length bits ≡ 8 → length (map (to_z 
 bits_length bits eight = length-map bits (to_z w16) ∙ eight
 
 -- errors that were loaded
-pub loaded : (numbers : List ℤ) (f : ℕ → ℤ) → length numbers ≡ 8 → ((k : ℕ) → k < 8 → FitsSigned w16 (f k) → number_at numbers k ≡ f k) → ((k : ℕ) → k < 8 → IsError (f k)) → (k : ℕ) → k < 8 → number_at (kept numbers) k ≡ f k
+pub loaded : (numbers : List ℤ) (f : ℕ → ℤ) → length numbers ≡ 8
+    → ((k : ℕ) → k < 8 → FitsSigned w16 (f k) → number_at numbers k ≡ f k) → ((k : ℕ) → k < 8 → IsError (f k))
+    → (k : ℕ) → k < 8 → number_at (kept numbers) k ≡ f k
 loaded numbers f eight same small k within =
     let fits : FitsSigned w16 (f k) = fits_error (f k) (small k within) in
     kept_is numbers k (f k) eight within (same k within fits) fits
 
-pub errors_are : (numbers : List ℤ) (f : ℕ → ℤ) → length numbers ≡ 8 → ((k : ℕ) → k < 8 → number_at numbers k ≡ f k) → ((k : ℕ) → k < 8 → IsError (f k)) → AreErrors numbers
+pub errors_are : (numbers : List ℤ) (f : ℕ → ℤ) → length numbers ≡ 8
+    → ((k : ℕ) → k < 8 → number_at numbers k ≡ f k) → ((k : ℕ) → k < 8 → IsError (f k)) → AreErrors numbers
 errors_are numbers f eight same small = record { eight = eight; each = λ k within. rw (same k within) (small k within) }
 
 pub fits_value : (n : ℕ) → n ≤ 255 → FitsSigned w16 (pos n)
 fits_value n byte = omega (arith, ints)
 
-pub loaded_values : (numbers : List ℤ) (f : ℕ → ℕ) → length numbers ≡ 8 → ((k : ℕ) → k < 8 → number_at numbers k ≡ pos (f k)) → ((k : ℕ) → k < 8 → f k ≤ 255) → (k : ℕ) → k < 8 → number_at (kept numbers) k ≡ pos (f k)
+pub loaded_values : (numbers : List ℤ) (f : ℕ → ℕ) → length numbers ≡ 8
+    → ((k : ℕ) → k < 8 → number_at numbers k ≡ pos (f k)) → ((k : ℕ) → k < 8 → f k ≤ 255) → (k : ℕ) → k < 8
+    → number_at (kept numbers) k ≡ pos (f k)
 loaded_values numbers f eight same bytes k within = kept_is numbers k (pos (f k)) eight within (same k within) (fits_value (f k) (bytes k within))
 
 value_least : (n : ℕ) → pos 0 ≤ℤ pos n
@@ -51,7 +56,8 @@ value_least n = omega (arith, ints)
 value_most : (n : ℕ) → n ≤ 255 → pos n ≤ℤ pos 255
 value_most n byte = omega (arith, ints)
 
-pub values_are : (numbers : List ℤ) (f : ℕ → ℕ) → length numbers ≡ 8 → ((k : ℕ) → k < 8 → number_at numbers k ≡ pos (f k)) → ((k : ℕ) → k < 8 → f k ≤ 255) → AreValues numbers
+pub values_are : (numbers : List ℤ) (f : ℕ → ℕ) → length numbers ≡ 8
+    → ((k : ℕ) → k < 8 → number_at numbers k ≡ pos (f k)) → ((k : ℕ) → k < 8 → f k ≤ 255) → AreValues numbers
 values_are numbers f eight same bytes = record {
   eight = eight;
   least = λ k within. rw (same k within) (value_least (f k));
@@ -62,7 +68,8 @@ values_are numbers f eight same bytes = record {
 abbrev pub whole : ℤ → ℤ → ℤ → ℤ → ℤ → ℤ
 whole v l r a b = (pos 16 *ℤ v) +ℤ (pos 7 *ℤ l) +ℤ (pos 3 *ℤ r) +ℤ (pos 5 *ℤ a) +ℤ b
 
-whole_fits : (n : ℕ) (l r a b : ℤ) → n ≤ 255 → IsError l → IsError r → IsError a → IsError b → FitsSigned w16 (whole (pos n) l r a b)
+whole_fits : (n : ℕ) (l r a b : ℤ) → n ≤ 255 → IsError l → IsError r → IsError a → IsError b
+    → FitsSigned w16 (whole (pos n) l r a b)
 whole_fits n l r a b byte small_l small_r small_a small_b = omega (arith, ints)
 
 -- the error and the dot of one lane, from its value and the errors beside and above it
@@ -71,9 +78,11 @@ pub record IsLane (n : ℕ) (l r a b e : ℤ) (dot : Bool) : Type 0 where
   pub small : IsError (error_of (corrected n l r a b))
   pub dot_is : dot ≡ prints (corrected n l r a b)
 
-pub lane_made : (n k : ℕ) (l r a b : ℤ) (value : ℤ) (sums left : List ℤ) (dots : ℕ → Bool) → k < 8 → n ≤ 255 → value ≡ pos n → IsError l → IsError r → IsError a → IsError b
-    → length sums ≡ 8 → number_at sums k ≡ whole value l r a b
-    → length left ≡ 8 → (FitsSigned w16 (number_at (kept sums) k) → number_at left k ≡ error_of (floor_16 (number_at (kept sums) k)))
+pub lane_made : (n k : ℕ) (l r a b : ℤ) (value : ℤ) (sums left : List ℤ) (dots : ℕ → Bool) → k < 8 → n ≤ 255
+    → value ≡ pos n → IsError l → IsError r → IsError a → IsError b → length sums ≡ 8
+    → number_at sums k ≡ whole value l r a b → length left ≡ 8
+    → (FitsSigned w16 (number_at (kept sums) k)
+    → number_at left k ≡ error_of (floor_16 (number_at (kept sums) k)))
     → (FitsSigned w16 (number_at (kept sums) k) → dots k ≡ prints (floor_16 (number_at (kept sums) k)))
     → IsLane n l r a b (number_at (kept left) k) (dots k)
 lane_made n k l r a b value sums left dots lanes byte value_is small_l small_r small_a small_b sums_long sums_are left_long left_are dots_are =
@@ -92,7 +101,8 @@ lane_made n k l r a b value sums left dots lanes byte value_is small_l small_r s
     }
 
 -- v of a pixel, from the numbers of its lane
-pub v_is : (above : ℕ → ℤ) (row : List ℕ) (x n : ℕ) (l r a b : ℤ) → n ≡ get_or row x 0 → l ≡ error_left above row x → r ≡ above (x + 1) → a ≡ above x → b ≡ left_of above x
+pub v_is : (above : ℕ → ℤ) (row : List ℕ) (x n : ℕ) (l r a b : ℤ) → n ≡ get_or row x 0
+    → l ≡ error_left above row x → r ≡ above (x + 1) → a ≡ above x → b ≡ left_of above x
     → corrected n l r a b ≡ v_below above row x
 v_is above row x n l r a b value left right here corner =
     let m : ℕ = get_or row x 0 in
@@ -101,7 +111,8 @@ v_is above row x n l r a b value left right here corner =
     ∙ ap (λ z. corrected m e (above (x + 1)) z b) here ∙ ap (λ z. corrected m e (above (x + 1)) (above x) z) corner
 
 -- the error of a pixel is that to the left of the next column
-pub next_left : (above : ℕ → ℤ) (row : List ℕ) (x : ℕ) → x < length row → error_of (v_below above row x) ≡ error_left above row (x + 1)
+pub next_left : (above : ℕ → ℤ) (row : List ℕ) (x : ℕ) → x < length row
+    → error_of (v_below above row x) ≡ error_left above row (x + 1)
 next_left above row x within = sym (error-inside above row x within) ∙ ap (error_left above row) (sym (add-one x))
 
 -- the error and the dot of a pixel, in one lane of a vector that was passed on
@@ -110,12 +121,16 @@ pub record IsPixel (above : ℕ → ℤ) (row : List ℕ) (x k : ℕ) (left : Li
   pub small : IsError (error_left above row (x + 1))
   pub dot_is : dots k ≡ prints (v_below above row x)
 
-pub pixel_is : (over : ℕ → ℤ) (row : List ℕ) (k x : ℕ) (values before right above corner sums left : List ℤ) (dots : ℕ → Bool) → k < 8 → x < length row → get_or row x 0 ≤ 255
+pub pixel_is : (over : ℕ → ℤ) (row : List ℕ) (k x : ℕ) (values before right above corner sums left : List ℤ)
+    (dots : ℕ → Bool) → k < 8 → x < length row → get_or row x 0 ≤ 255
     → number_at values k ≡ pos (get_or row x 0) → number_at before k ≡ error_left over row x
     → number_at right k ≡ over (x + 1) → number_at above k ≡ over x → number_at corner k ≡ left_of over x
-    → IsError (number_at before k) → IsError (number_at right k) → IsError (number_at above k) → IsError (number_at corner k)
-    → length sums ≡ 8 → number_at sums k ≡ whole (number_at values k) (number_at before k) (number_at right k) (number_at above k) (number_at corner k)
-    → length left ≡ 8 → (FitsSigned w16 (number_at (kept sums) k) → number_at left k ≡ error_of (floor_16 (number_at (kept sums) k)))
+    → IsError (number_at before k) → IsError (number_at right k) → IsError (number_at above k)
+    → IsError (number_at corner k) → length sums ≡ 8
+    → number_at sums k ≡ whole (number_at values k) (number_at before k) (number_at right k)
+    (number_at above k) (number_at corner k) → length left ≡ 8
+    → (FitsSigned w16 (number_at (kept sums) k)
+    → number_at left k ≡ error_of (floor_16 (number_at (kept sums) k)))
     → (FitsSigned w16 (number_at (kept sums) k) → dots k ≡ prints (floor_16 (number_at (kept sums) k)))
     → IsPixel over row x k left dots
 pixel_is over row k x values before right above corner sums left dots lanes within byte value_is before_is right_is above_is corner_is small_l small_r small_a small_b
@@ -134,17 +149,22 @@ pixel_is over row k x values before right above corner sums left dots lanes with
     }
 
 -- the number in a lane, from the errors above a pixel
-pub above_right_is : (places : List (List ℤ)) (k x : ℕ) (e : ℤ) → e ≡ lane_at places (x + 1 + 1) k → e ≡ errors_in (lane_of places k) (x + 1)
+pub above_right_is : (places : List (List ℤ)) (k x : ℕ) (e : ℤ) → e ≡ lane_at places (x + 1 + 1) k
+    → e ≡ errors_in (lane_of places k) (x + 1)
 above_right_is places k x e is = is ∙ sym (lane_is places k (x + 1 + 1))
 
-pub above_is : (places : List (List ℤ)) (k x : ℕ) (e : ℤ) → e ≡ lane_at places (x + 1) k → e ≡ errors_in (lane_of places k) x
+pub above_is : (places : List (List ℤ)) (k x : ℕ) (e : ℤ) → e ≡ lane_at places (x + 1) k
+    → e ≡ errors_in (lane_of places k) x
 above_is places k x e is = is ∙ sym (lane_is places k (x + 1))
 
-pub above_left_is : (places : List (List ℤ)) (k x : ℕ) (e : ℤ) → lane_at places 0 k ≡ pos 0 → e ≡ lane_at places x k → e ≡ left_of (errors_in (lane_of places k)) x
+pub above_left_is : (places : List (List ℤ)) (k x : ℕ) (e : ℤ) → lane_at places 0 k ≡ pos 0
+    → e ≡ lane_at places x k → e ≡ left_of (errors_in (lane_of places k)) x
 above_left_is places k x e margin is = is ∙ sym (lane_is places k x) ∙ margined (lane_of places k) x (lane_is places k 0 ∙ margin)
 
 -- past the last column the errors are 0
-pub behind : (places : List (List ℤ)) (above : ℕ → ℤ) (row : List ℕ) (k p : ℕ) → length places ≡ length row + 2 → lane_at places (length row + 1) k ≡ pos 0 → length row < p → lane_at places p k ≡ error_left above row p
+pub behind : (places : List (List ℤ)) (above : ℕ → ℤ) (row : List ℕ) (k p : ℕ)
+    → length places ≡ length row + 2 → lane_at places (length row + 1) k ≡ pos 0 → length row < p
+    → lane_at places p k ≡ error_left above row p
 behind places above row k zero long right after = absurd (omega arith)
 behind places above row k (suc y) long right after =
     elim (cases_eq y (length row)) [

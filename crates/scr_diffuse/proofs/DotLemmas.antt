@@ -1,5 +1,5 @@
 -- The bits of one page in sixty-four columns as eight bytes, each with its first pixel in the highest bit.
-use Rattle.std.proofs.Common.{◌≡◌, ℕ, zero, suc, ◌+◌, ◌-◌, ◌*◌, ◌/◌, ◌%◌, ◌^◌, ◌<◌, ◌≤◌, Bool, true, false, cond, List, ◌++◌, length, take, eqb, bit_and, get_or, refl, ap, ◌∙◌, arith, map, w64}
+use Rattle.std.proofs.Common.{◌≡◌, ℕ, zero, suc, ◌+◌, ◌-◌, ◌*◌, ◌/◌, ◌%◌, ◌^◌, ◌<◌, ◌≤◌, Bool, false, cond, List, ◌++◌, length, take, eqb, bit_and, get_or, refl, ap, ◌∙◌, arith, map, w64}
 use Rattle.std.specs.Int.{to_be_bytes, to_le_bytes}
 use Rattle.std.specs.List.{range_with_len}
 use Rattle.std.proofs.lemmas.Bool.Decides.{nat_tests}
@@ -13,6 +13,7 @@ use Rattle.pr_base.specs.Bits.{bit_at, byte_bit, SetsBits}
 use Rattle.pr_base.proofs.Parts.{loaded, part_above, part_below, part_here}
 use Rattle.pr_base.proofs.Words.{byte_bit-number}
 use Rattle.scr_diffuse.specs.Diffusers.{bit_of}
+use Rattle.scr_diffuse.proofs.MaskLemmas.{one_if, top_of_byte}
 
 -- the mask of the bit of a page
 abbrev pub alone : ℕ → ℕ
@@ -25,14 +26,6 @@ lane_test page columns x = top 7 (cond (eqb (bit_and (get_or (take 64 columns ++
 -- the lanes of the comparison, with the lanes of each byte reversed
 abbrev pub lane_tests : ℕ → List ℕ → List Bool
 lane_tests page columns = map (λ i. lane_test page columns (8 * (i / 8) + 7 - i % 8)) (range_with_len 0 64)
-
-top_of_mask : (b : Bool) → top 7 (cond b 255 0) ≡ b
-top_of_mask true = refl
-top_of_mask false = refl
-
-one_if : (b : Bool) → eqb (cond b 1 0) 1 ≡ b
-one_if true = refl
-one_if false = refl
 
 -- the masks of eight pages are the powers of two
 alone_is : (page : ℕ) → page < 8 → alone page ≡ 2 ^ page
@@ -51,9 +44,10 @@ digit_is zero p digit some = grind (arith, nat_tests)
 digit_is (suc zero) p digit some = grind (arith, nat_tests)
 digit_is (suc (suc d)) p digit some = absurd (omega arith)
 
-lane_test_is : (page : ℕ) (columns : List ℕ) (x : ℕ) → page < 8 → length columns ≡ 64 → x < 64 → lane_test page columns x ≡ bit_of (get_or columns x 0) page
+lane_test_is : (page : ℕ) (columns : List ℕ) (x : ℕ) → page < 8 → length columns ≡ 64 → x < 64
+    → lane_test page columns x ≡ bit_of (get_or columns x 0) page
 lane_test_is page columns x lanes whole within =
-    top_of_mask _ ∙ ap (λ n. eqb (bit_and n (alone page)) (alone page)) (loaded 64 columns x whole within)
+    top_of_byte _ ∙ ap (λ n. eqb (bit_and n (alone page)) (alone page)) (loaded 64 columns x whole within)
     ∙ ap (λ m. eqb (bit_and (get_or columns x 0) m) m) (alone_is page lanes)
     ∙ ap (λ n. eqb n (2 ^ page)) (and_pow (get_or columns x 0) page)
     ∙ digit_is (get_or columns x 0 / 2 ^ page % 2) (2 ^ page) (mod_below _ 2 (omega arith)) (pow_pos page)
@@ -71,7 +65,9 @@ low_is_high n (suc (suc (suc (suc (suc (suc (suc zero))))))) within = refl
 low_is_high n (suc (suc (suc (suc (suc (suc (suc (suc j)))))))) within = absurd (omega arith)
 
 -- the eight bytes of the mask, in little-endian order, hold the pixels in order
-pub dots_show : (page : ℕ) (columns : List ℕ) (x : ℕ) → page < 8 → length columns ≡ 64 → x < 64 → bit_at (to_le_bytes w64 (mask_l (lane_tests page columns) % 2 ^ 64)) x ≡ bit_of (get_or columns x 0) page
+pub dots_show : (page : ℕ) (columns : List ℕ) (x : ℕ) → page < 8 → length columns ≡ 64 → x < 64
+    → bit_at (to_le_bytes w64 (mask_l (lane_tests page columns) % 2 ^ 64)) x
+    ≡ bit_of (get_or columns x 0) page
 dots_show page columns x lanes whole within =
     let test = λ (i : ℕ). lane_test page columns (8 * (i / 8) + 7 - i % 8) in
     let mask = mask_l (lane_tests page columns) in
@@ -86,7 +82,9 @@ dots_show page columns x lanes whole within =
     ∙ lane_test_is page columns x lanes whole within
 
 -- the pixels of eight bytes that were written to a packed row
-pub SetsBits_block : (test : ℕ → Bool) (bits bytes : List ℕ) (first count : ℕ) → count ≡ 8 → first + 8 ≤ length bits → length bytes ≡ 8 → ((x : ℕ) → x < 64 → bit_at bytes x ≡ test x) → SetsBits test (8 * first) 64 bits (put_mid first count bits bytes)
+pub SetsBits_block : (test : ℕ → Bool) (bits bytes : List ℕ) (first count : ℕ) → count ≡ 8
+    → first + 8 ≤ length bits → length bytes ≡ 8 → ((x : ℕ) → x < 64 → bit_at bytes x ≡ test x)
+    → SetsBits test (8 * first) 64 bits (put_mid first count bits bytes)
 SetsBits_block test bits bytes first count eight room whole shows = record {
   inside = λ x below.
       let byte : (8 * first + x) / 8 - first ≡ x / 8 = omega arith in

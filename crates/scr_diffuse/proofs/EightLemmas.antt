@@ -19,7 +19,9 @@ zeros_at n p k within =
       | inr outside ↦ ap (λ place. number_at place k) (get_or_past (replicate n (replicate 8 (pos 0))) p [] (omega (arith, Rattle.std.proofs.lemmas.List.length-replicate n (replicate 8 (pos 0)))))
     ]
 
-pub stand_all_at_start : (rows : List (List (List ℕ))) (errors : List (List ℤ)) (dots : List ℕ) → rows ≡ [] → length errors ≡ length dots + 2 → ((p k : ℕ) → k < 8 → lane_at errors p k ≡ pos 0) → StandBelowAll rows errors dots
+pub stand_all_at_start : (rows : List (List (List ℕ))) (errors : List (List ℤ)) (dots : List ℕ) → rows ≡ []
+    → length errors ≡ length dots + 2 → ((p k : ℕ) → k < 8 → lane_at errors p k ≡ pos 0)
+    → StandBelowAll rows errors dots
 stand_all_at_start rows errors dots none room zeros = record {
   room = room;
   errors_are = λ k within. stand_at_start (page_in rows k) (lane_of errors k) (length dots) (ap (λ all. page_in all k) none) (length-lane errors k ∙ room) (λ p. lane_is errors k p ∙ zeros p k within);
@@ -27,16 +29,22 @@ stand_all_at_start rows errors dots none room zeros = record {
 }
 
 -- one more row of a page
-page_more : (rows : List (List (List ℕ))) (values : List (List ℕ)) (k : ℕ) → page_in (rows ++ values ∷ []) k ≡ page_in rows k ++ get_or values k [] ∷ []
+page_more : (rows : List (List (List ℕ))) (values : List (List ℕ)) (k : ℕ)
+    → page_in (rows ++ values ∷ []) k ≡ page_in rows k ++ get_or values k [] ∷ []
 page_more rows values k = map_push (λ row. get_or row k []) rows values
 
 length-page : (rows : List (List (List ℕ))) (k : ℕ) → length (page_in rows k) ≡ length rows
 length-page rows k = length-map rows (λ row. get_or row k [])
 
-pub stand_all_next : (rows all : List (List (List ℕ))) (values : List (List ℕ)) (errors new : List (List ℤ)) (before dots : List ℕ) → StandBelowAll rows errors before → all ≡ rows ++ values ∷ []
-    → length new ≡ length errors → length dots ≡ length before → ((k : ℕ) → k < 8 → length (get_or values k []) ≡ length before)
-    → ((k p : ℕ) → k < 8 → lane_at new p k ≡ error_left (errors_in (lane_of errors k)) (get_or values k []) p) → ((p k : ℕ) → k < 8 → IsError (lane_at new p k))
-    → ((k x : ℕ) → k < 8 → x < length before → bit_of (get_or dots x 0) k ≡ prints (v_below (errors_in (lane_of errors k)) (get_or values k []) x)) → StandBelowAll all new dots
+pub stand_all_next : (rows all : List (List (List ℕ))) (values : List (List ℕ)) (errors new : List (List ℤ))
+    (before dots : List ℕ) → StandBelowAll rows errors before → all ≡ rows ++ values ∷ []
+    → length new ≡ length errors → length dots ≡ length before
+    → ((k : ℕ) → k < 8 → length (get_or values k []) ≡ length before)
+    → ((k p : ℕ) → k < 8 → lane_at new p k ≡ error_left (errors_in (lane_of errors k)) (get_or values k []) p)
+    → ((p k : ℕ) → k < 8 → IsError (lane_at new p k))
+    → ((k x : ℕ) → k < 8 → x < length before
+    → bit_of (get_or dots x 0) k ≡ prints (v_below (errors_in (lane_of errors k)) (get_or values k []) x))
+    → StandBelowAll all new dots
 stand_all_next rows all values errors new before dots stand more same whole wide made small set = record {
   room = same ∙ stand.room ∙ ap (λ n. n + 2) (sym whole);
   errors_are = λ k within.
@@ -54,7 +62,8 @@ stand_all_next rows all values errors new before dots stand more same whole wide
 }
 
 -- lists that were lent whole, and come back
-pub stand_lent : (rows : List (List (List ℕ))) (n m : ℕ) (new old : List (List ℤ)) (dots before : List ℕ) → n ≡ length new → m ≡ length dots → StandBelowAll rows new dots
+pub stand_lent : (rows : List (List (List ℕ))) (n m : ℕ) (new old : List (List ℤ)) (dots before : List ℕ)
+    → n ≡ length new → m ≡ length dots → StandBelowAll rows new dots
     → StandBelowAll rows (take n (new ++ drop (length new) old)) (take m (dots ++ drop (length dots) before))
 stand_lent rows n m new old dots before whole_new whole_dots stand =
     subst (λ (places : List (List ℤ)). StandBelowAll rows places (take m (dots ++ drop (length dots) before))) (sym (lent_whole n new old whole_new))

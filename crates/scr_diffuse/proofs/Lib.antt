@@ -5,6 +5,7 @@ pub mod DiffusionLemmas
 pub mod DotLemmas
 pub mod EightLemmas
 pub mod LaneLemmas
+pub mod MaskLemmas
 pub mod NumberLemmas
 pub mod RowLemmas
 mod Rows

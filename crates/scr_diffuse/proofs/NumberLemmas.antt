@@ -24,10 +24,12 @@ number_small z sum = subst IsNumber (shifted z) (sixteenth-small z sum.low sum.h
 kept : (z : ℤ) → IsSum z → to_z w32 (of_z w32 (shr_z z 16)) ≡ shr_z z 16
 kept z sum = let small : IsNumber (shr_z z 16) = sixteenth-small z sum.low sum.high in to_z-of_z w32 (shr_z z 16) (omega (arith, ints))
 
-pub shifted_is : (computed z : ℤ) → computed ≡ z → IsSum z → to_z w32 (of_z w32 (shr_z computed 16)) ≡ floor_16 z
+pub shifted_is : (computed z : ℤ) → computed ≡ z → IsSum z
+    → to_z w32 (of_z w32 (shr_z computed 16)) ≡ floor_16 z
 shifted_is computed z same sum = rw same (kept z sum ∙ shifted z)
 
-pub shifted-small : (computed z : ℤ) → computed ≡ z → IsSum z → IsNumber (to_z w32 (of_z w32 (shr_z computed 16)))
+pub shifted-small : (computed z : ℤ) → computed ≡ z → IsSum z
+    → IsNumber (to_z w32 (of_z w32 (shr_z computed 16)))
 shifted-small computed z same sum = rw (same, kept z sum) (sixteenth-small z sum.low sum.high)
 
 -- whether a pixel prints, from its whole sum
@@ -42,5 +44,6 @@ pub no_dot : (z : ℤ) → le_z (pos 2048) z ≡ false → floor_16 z ≡ error_
 no_dot z off = sym (ap (λ b. cond b (floor_16 z -ℤ pos 255) (floor_16 z)) (sym (dot_is z) ∙ off))
 
 -- seven times a dot is subtracted
-pub less_dot_is : (less sum number error : ℤ) → less ≡ sum -ℤ pos 1785 → number -ℤ pos 255 ≡ error → less +ℤ (pos 7 *ℤ number) ≡ sum +ℤ (pos 7 *ℤ error)
+pub less_dot_is : (less sum number error : ℤ) → less ≡ sum -ℤ pos 1785 → number -ℤ pos 255 ≡ error
+    → less +ℤ (pos 7 *ℤ number) ≡ sum +ℤ (pos 7 *ℤ error)
 less_dot_is less sum number error taken left = omega (arith, ints)

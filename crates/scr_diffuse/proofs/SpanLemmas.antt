@@ -9,17 +9,21 @@ use Rattle.scr_diffuse.specs.Passes.{AreWords, number_at}
 use Rattle.pr_base.proofs.BitLemmas.{SetsBits_same, SetsBits_join, SetsBits_nowhere}
 
 -- a part of a list of words
-pub AreWords-between : (numbers : List ℤ) (i j : ℕ) → j ≤ length numbers → AreWords numbers → AreWords (slice_range numbers i j)
+pub AreWords-between : (numbers : List ℤ) (i j : ℕ) → j ≤ length numbers → AreWords numbers
+    → AreWords (slice_range numbers i j)
 AreWords-between numbers i j within words x below =
     let count : length (slice_range numbers i j) ≡ j - i = length-between numbers i j within in
     let room : i + x < j = omega arith in
     rw (get_or-between numbers i j x (pos 0) room) (words (i + x) (omega arith))
 
 -- for a list of any type, when a test reads one item a pixel
-pub spans_of : {A : Type 0} (reads : A → Bool) (d : A) (items : List A) (old one two new : List ℕ) (from ragged done : ℕ) → ragged ≤ done → done ≤ length items → (ragged < done → (from + ragged) % 8 ≡ 0)
+pub spans_of : {A : Type 0} (reads : A → Bool) (d : A) (items : List A) (old one two new : List ℕ)
+    (from ragged done : ℕ) → ragged ≤ done → done ≤ length items → (ragged < done → (from + ragged) % 8 ≡ 0)
     → SetsBits (λ x. reads (get_or (take ragged items) x d)) from (length (take ragged items)) old one
-    → SetsBits (λ x. reads (get_or (slice_range items ragged done) x d)) (8 * ((from + ragged) / 8)) (length (slice_range items ragged done)) one two
-    → SetsBits (λ x. reads (get_or (slice_range items done (length items)) x d)) (from + done) (length (slice_range items done (length items))) two new
+    → SetsBits (λ x. reads (get_or (slice_range items ragged done) x d)) (8 * ((from + ragged) / 8))
+    (length (slice_range items ragged done)) one two
+    → SetsBits (λ x. reads (get_or (slice_range items done (length items)) x d)) (from + done)
+    (length (slice_range items done (length items))) two new
     → SetsBits (λ x. reads (get_or items x d)) from (length items) old new
 spans_of reads d items old one two new from ragged done first_end second_end aligned first second third =
     let test : ℕ → Bool = λ x. reads (get_or items x d) in
@@ -44,9 +48,12 @@ spans_of reads d items old one two new from ragged done first_end second_end ali
     SetsBits_join test from done (from + done) (length items - done) (length items) old two new refl (omega arith)
     (SetsBits_join test from ragged (from + ragged) (done - ragged) done old one two refl (omega arith) sets_first sets_second) sets_third
 
-pub spans : (numbers : List ℤ) (old one two new : List ℕ) (from ragged done : ℕ) → ragged ≤ done → done ≤ length numbers → (ragged < done → (from + ragged) % 8 ≡ 0)
+pub spans : (numbers : List ℤ) (old one two new : List ℕ) (from ragged done : ℕ) → ragged ≤ done
+    → done ≤ length numbers → (ragged < done → (from + ragged) % 8 ≡ 0)
     → SetsBits (λ x. prints (number_at (take ragged numbers) x)) from (length (take ragged numbers)) old one
-    → SetsBits (λ x. prints (number_at (slice_range numbers ragged done) x)) (8 * ((from + ragged) / 8)) (length (slice_range numbers ragged done)) one two
-    → SetsBits (λ x. prints (number_at (slice_range numbers done (length numbers)) x)) (from + done) (length (slice_range numbers done (length numbers))) two new
+    → SetsBits (λ x. prints (number_at (slice_range numbers ragged done) x)) (8 * ((from + ragged) / 8))
+    (length (slice_range numbers ragged done)) one two
+    → SetsBits (λ x. prints (number_at (slice_range numbers done (length numbers)) x)) (from + done)
+    (length (slice_range numbers done (length numbers))) two new
     → SetsBits (λ x. prints (number_at numbers x)) from (length numbers) old new
 spans = spans_of prints (pos 0)

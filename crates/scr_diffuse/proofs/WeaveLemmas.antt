@@ -10,7 +10,8 @@ use Rattle.scr_diffuse.specs.Weave.{AreVectors, HasColumns, value_behind, woven_
 use Rattle.scr_diffuse.proofs.LaneLemmas.{each_of_eight}
 
 -- a property of each number below 16
-each_of_sixteen : (P : ℕ → Type 0) → P 0 → P 1 → P 2 → P 3 → P 4 → P 5 → P 6 → P 7 → P 8 → P 9 → P 10 → P 11 → P 12 → P 13 → P 14 → P 15 → (k : ℕ) → k < 16 → P k
+each_of_sixteen : (P : ℕ → Type 0) → P 0 → P 1 → P 2 → P 3 → P 4 → P 5 → P 6 → P 7 → P 8 → P 9 → P 10 → P 11
+    → P 12 → P 13 → P 14 → P 15 → (k : ℕ) → k < 16 → P k
 each_of_sixteen P a b c d e f g h i j k l m n o p x within =
     elim (cases_lt x 8) [
       | inl low ↦ each_of_eight P a b c d e f g h x low
@@ -31,11 +32,13 @@ high a b =
 low_at : (a b : List ℕ) (i : ℕ) → i < 16 → get_or (low a b) i 0 ≡ get_or (a ++ b) (16 * (i % 2) + i / 2) 0
 low_at a b = each_of_sixteen (λ i. get_or (low a b) i 0 ≡ get_or (a ++ b) (16 * (i % 2) + i / 2) 0) refl refl refl refl refl refl refl refl refl refl refl refl refl refl refl refl
 
-high_at : (a b : List ℕ) (i : ℕ) → i < 16 → get_or (high a b) i 0 ≡ get_or (a ++ b) (16 * (i % 2) + (8 + i / 2)) 0
+high_at : (a b : List ℕ) (i : ℕ) → i < 16
+    → get_or (high a b) i 0 ≡ get_or (a ++ b) (16 * (i % 2) + (8 + i / 2)) 0
 high_at a b = each_of_sixteen (λ i. get_or (high a b) i 0 ≡ get_or (a ++ b) (16 * (i % 2) + (8 + i / 2)) 0) refl refl refl refl refl refl refl refl refl refl refl refl refl refl refl refl
 
 -- a place of two vectors joined end to end
-half : (v : List (List ℕ)) (t s m : ℕ) → t < 4 → s < 2 → m < 16 → AreVectors v → get_or (get_or v t [] ++ get_or v (t + 4) []) (16 * s + m) 0 ≡ get_or (get_or v (t + 4 * s) []) m 0
+half : (v : List (List ℕ)) (t s m : ℕ) → t < 4 → s < 2 → m < 16 → AreVectors v
+    → get_or (get_or v t [] ++ get_or v (t + 4) []) (16 * s + m) 0 ≡ get_or (get_or v (t + 4 * s) []) m 0
 half v t s m few two within long =
     elim (cases_eq s 0) [
       | inl first ↦
@@ -56,18 +59,21 @@ weave_of v =
     low (get_or v 0 []) (get_or v 4 []) ∷ high (get_or v 0 []) (get_or v 4 []) ∷ low (get_or v 1 []) (get_or v 5 []) ∷ high (get_or v 1 []) (get_or v 5 [])
     ∷ low (get_or v 2 []) (get_or v 6 []) ∷ high (get_or v 2 []) (get_or v 6 []) ∷ low (get_or v 3 []) (get_or v 7 []) ∷ high (get_or v 3 []) (get_or v 7 []) ∷ []
 
-weave_low : (v : List (List ℕ)) (t i a b : ℕ) → t < 4 → i < 16 → AreVectors v → t + 4 * (i % 2) ≡ a → i / 2 ≡ b → get_or (low (get_or v t []) (get_or v (t + 4) [])) i 0 ≡ get_or (get_or v a []) b 0
+weave_low : (v : List (List ℕ)) (t i a b : ℕ) → t < 4 → i < 16 → AreVectors v → t + 4 * (i % 2) ≡ a
+    → i / 2 ≡ b → get_or (low (get_or v t []) (get_or v (t + 4) [])) i 0 ≡ get_or (get_or v a []) b 0
 weave_low v t i a b few within long vector place =
     low_at (get_or v t []) (get_or v (t + 4) []) i within ∙ half v t (i % 2) (i / 2) few (omega arith) (omega arith) long
     ∙ ap (λ n. get_or (get_or v n []) (i / 2) 0) vector ∙ ap (λ n. get_or (get_or v a []) n 0) place
 
-weave_high : (v : List (List ℕ)) (t i a b : ℕ) → t < 4 → i < 16 → AreVectors v → t + 4 * (i % 2) ≡ a → 8 + i / 2 ≡ b → get_or (high (get_or v t []) (get_or v (t + 4) [])) i 0 ≡ get_or (get_or v a []) b 0
+weave_high : (v : List (List ℕ)) (t i a b : ℕ) → t < 4 → i < 16 → AreVectors v → t + 4 * (i % 2) ≡ a
+    → 8 + i / 2 ≡ b → get_or (high (get_or v t []) (get_or v (t + 4) [])) i 0 ≡ get_or (get_or v a []) b 0
 weave_high v t i a b few within long vector place =
     high_at (get_or v t []) (get_or v (t + 4) []) i within ∙ half v t (i % 2) (8 + i / 2) few (omega arith) (omega arith) long
     ∙ ap (λ n. get_or (get_or v n []) (8 + i / 2) 0) vector ∙ ap (λ n. get_or (get_or v a []) n 0) place
 
 -- place i of vector j
-weave_vector : (v : List (List ℕ)) (i a b j : ℕ) → j < 8 → i < 16 → AreVectors v → j / 2 + 4 * (i % 2) ≡ a → 8 * (j % 2) + i / 2 ≡ b → get_or (get_or (weave_of v) j []) i 0 ≡ get_or (get_or v a []) b 0
+weave_vector : (v : List (List ℕ)) (i a b j : ℕ) → j < 8 → i < 16 → AreVectors v → j / 2 + 4 * (i % 2) ≡ a
+    → 8 * (j % 2) + i / 2 ≡ b → get_or (get_or (weave_of v) j []) i 0 ≡ get_or (get_or v a []) b 0
 weave_vector v i a b j few within long =
     each_of_eight (λ j. j / 2 + 4 * (i % 2) ≡ a → 8 * (j % 2) + i / 2 ≡ b → get_or (get_or (weave_of v) j []) i 0 ≡ get_or (get_or v a []) b 0)
     (λ x y. weave_low v 0 i a b (omega arith) within long (omega arith) (omega arith)) (λ x y. weave_high v 0 i a b (omega arith) within long (omega arith) (omega arith))
@@ -76,13 +82,16 @@ weave_vector v i a b j few within long =
     (λ x y. weave_low v 3 i a b (omega arith) within long (omega arith) (omega arith)) (λ x y. weave_high v 3 i a b (omega arith) within long (omega arith) (omega arith))
     j few
 
-pub weave_at : (v : List (List ℕ)) (n : ℕ) → n < 128 → AreVectors v → woven_at (weave_of v) n ≡ woven_at v (64 * (n % 2) + n / 2)
+pub weave_at : (v : List (List ℕ)) (n : ℕ) → n < 128 → AreVectors v
+    → woven_at (weave_of v) n ≡ woven_at v (64 * (n % 2) + n / 2)
 weave_at v n within long =
     weave_vector v (n % 16) ((64 * (n % 2) + n / 2) / 16) ((64 * (n % 2) + n / 2) % 16) (n / 16) (omega arith) (omega arith) long (omega arith) (omega arith)
 
 -- the places of the vectors of eight rows after interleaving three times
 pub thrice_at : (v one two three : List (List ℕ)) (k x : ℕ) → k < 8 → x < 16
-    → ((n : ℕ) → n < 128 → woven_at one n ≡ woven_at v (64 * (n % 2) + n / 2)) → ((n : ℕ) → n < 128 → woven_at two n ≡ woven_at one (64 * (n % 2) + n / 2)) → ((n : ℕ) → n < 128 → woven_at three n ≡ woven_at two (64 * (n % 2) + n / 2))
+    → ((n : ℕ) → n < 128 → woven_at one n ≡ woven_at v (64 * (n % 2) + n / 2))
+    → ((n : ℕ) → n < 128 → woven_at two n ≡ woven_at one (64 * (n % 2) + n / 2))
+    → ((n : ℕ) → n < 128 → woven_at three n ≡ woven_at two (64 * (n % 2) + n / 2))
     → woven_at three (8 * x + k) ≡ woven_at v (16 * k + x)
 thrice_at v one two three k x few within first second third =
     let a : ℕ = 8 * x + k in
@@ -96,12 +105,15 @@ thrice_at v one two three k x few within first second third =
 -- ---- the columns of a list of which a part was written
 
 -- from its first column on, the value is the row's own
-pub value-within : (row : List ℕ) (x behind : ℕ) → behind ≤ x → value_behind row x behind ≡ get_or row (x - behind) 0
+pub value-within : (row : List ℕ) (x behind : ℕ) → behind ≤ x
+    → value_behind row x behind ≡ get_or row (x - behind) 0
 value-within row x behind from = ap (λ b. cond b 0 (get_or row (x - behind) 0)) (le-ltb x behind from)
 
 -- one more vector of a block
-pub block_more : (rows : List (Bor (List ℕ))) (first k at cut : ℕ) (columns part : List ℕ) (woven : List (List ℕ)) → at ≡ 8 * first + 16 * k → cut ≡ 16 → at + cut ≤ length columns
-    → length part ≡ cut → part ≡ get_or woven k [] → (m : ℕ) → m < 16 * (k + 1) → ((m : ℕ) → m < 16 * k → get_or columns (8 * first + m) 0 ≡ woven_at woven m)
+pub block_more : (rows : List (Bor (List ℕ))) (first k at cut : ℕ) (columns part : List ℕ)
+    (woven : List (List ℕ)) → at ≡ 8 * first + 16 * k → cut ≡ 16 → at + cut ≤ length columns
+    → length part ≡ cut → part ≡ get_or woven k [] → (m : ℕ) → m < 16 * (k + 1)
+    → ((m : ℕ) → m < 16 * k → get_or columns (8 * first + m) 0 ≡ woven_at woven m)
     → get_or (put_mid at cut columns part) (8 * first + m) 0 ≡ woven_at woven m
 block_more rows first k at cut columns part woven at_is cut_is room long part_is m within before =
     elim (cases_lt m (16 * k)) [
@@ -114,14 +126,19 @@ block_more rows first k at cut columns part woven at_is cut_is room long part_is
     ]
 
 -- the columns before a part that was written
-pub columns_before : (rows : List (Bor (List ℕ))) (lag first at cut : ℕ) (columns part : List ℕ) → HasColumns rows lag first columns → 8 * first ≤ at → at + cut ≤ length columns → HasColumns rows lag first (put_mid at cut columns part)
+pub columns_before : (rows : List (Bor (List ℕ))) (lag first at cut : ℕ) (columns part : List ℕ)
+    → HasColumns rows lag first columns → 8 * first ≤ at → at + cut ≤ length columns
+    → HasColumns rows lag first (put_mid at cut columns part)
 columns_before rows lag first at cut columns part has behind room = record {
   each = λ k x few within. part_below at cut columns part (8 * x + k) room (omega arith) ∙ has.each k x few within;
 }
 
 -- a block after the columns before it
-pub block_done : (rows : List (Bor (List ℕ))) (lag first : ℕ) (columns : List ℕ) (v woven : List (List ℕ)) → 7 * lag ≤ first → HasColumns rows lag first columns → ((m : ℕ) → m < 128 → get_or columns (8 * first + m) 0 ≡ woven_at woven m)
-    → ((k x : ℕ) → k < 8 → x < 16 → woven_at woven (8 * x + k) ≡ woven_at v (16 * k + x)) → ((k x : ℕ) → k < 8 → x < 16 → woven_at v (16 * k + x) ≡ get_or (row_in rows k) (first - lag * k + x) 0)
+pub block_done : (rows : List (Bor (List ℕ))) (lag first : ℕ) (columns : List ℕ) (v woven : List (List ℕ))
+    → 7 * lag ≤ first → HasColumns rows lag first columns
+    → ((m : ℕ) → m < 128 → get_or columns (8 * first + m) 0 ≡ woven_at woven m)
+    → ((k x : ℕ) → k < 8 → x < 16 → woven_at woven (8 * x + k) ≡ woven_at v (16 * k + x))
+    → ((k x : ℕ) → k < 8 → x < 16 → woven_at v (16 * k + x) ≡ get_or (row_in rows k) (first - lag * k + x) 0)
     → HasColumns rows lag (first + 16) columns
 block_done rows lag first columns v woven late has here thrice values = record {
   each = λ k x few within.

@@ -31,8 +31,8 @@ block_v above rows k x = v_below (λ y. block_left above rows k (y + 1)) (slice_
 abbrev pub left_in : List ℤ → ℕ → ℤ
 left_in errors x = number_at errors (x + 21)
 
--- a list holds the errors of the last of these rows, that of column x at x + 22, and 0 at all other places. Each
--- is small enough for the sums made from it
+-- a list holds the errors of the last of these rows, that of column x at x + 22, and 0 at all other places.
+-- Each is small enough for the sums made from it
 pub record HoldsBelow (rows : List (List ℕ)) (width : ℕ) (errors : List ℤ) : Type 0 where
   pub room : length errors ≡ width + 44
   pub below : (x : ℕ) → number_at errors x ≡ left_of (λ y. error_above rows y (length rows)) (x - 21)

@@ -1,5 +1,5 @@
-// Diffuses eight rows of one page at once. At each step row k is three columns behind the row above it, so the
-// errors that it needs from that row have been made.
+// Diffuses eight rows of one page at once. At each step row k is three columns behind the row above it, so
+// the errors that it needs from that row have been made.
 ghost use Rattle.std.specs.Prelude.{◌≡◌, ℕ, ◌+◌, ◌-◌, ◌*◌, ◌^◌, ◌<◌, ◌≤◌, ℤ, List, [], length, pos};
 ghost use Rattle.std.specs.Prelude.{FitsSigned, slice_index, slice_index_or};
 ghost use Rattle.std.specs.Int.{w16};
@@ -7,7 +7,7 @@ ghost use Rattle.scr_diffuse.specs.Block.{block_left, block_v, left_in};
 ghost use Rattle.scr_diffuse.specs.Diffusers.{bit_of, row_in, rows_in};
 ghost use Rattle.scr_diffuse.specs.Diffusion.{IsError, prints};
 ghost use Rattle.scr_diffuse.specs.Passes.{number_at};
-ghost use Rattle.scr_diffuse.specs.Steps.{HasErrors, HasValues, IsPast, IsReached};
+ghost use Rattle.scr_diffuse.specs.Steps.{HasErrors, HasValues, IsPast, IsReached, MayStep};
 
 use crate::columns::whole_sums;
 use crate::lanes::{column_at, dots_of, errors_of, errors_to, last_of, moved_on};
@@ -37,8 +37,8 @@ struct Wavefront {
 }
 
 /// Diffuses eight rows of a page. Bit k of `dots[x + 3k]` becomes whether the pixel in column x of row k
-/// prints. `errors` holds the errors of the row above, that of column x at x + 22, and afterwards those of the
-/// last row. So a step reads far behind the place that it writes, and loads eight numbers at once without
+/// prints. `errors` holds the errors of the row above, that of column x at x + 22, and afterwards those of
+/// the last row. So a step reads far behind the place that it writes, and loads eight numbers at once without
 /// waiting for a store. `columns` is scratch space for the values.
 pub(crate) fn diffuse_block(
     values: &[&[u8]; 8],
@@ -103,11 +103,7 @@ fn whole_step(
     dots: &mut [u8],
     columns: &[u8],
 ) -> Wavefront
-    requires errors { step + 24 ≤ length errors.old }
-    requires dots { step < length dots.old }
-    requires columns { 8 * step + 8 ≤ length columns.now }
-    requires wave { HasErrors wave }
-    requires small { (x : ℕ) → IsError (number_at errors.old x) }
+    requires may { MayStep step wave errors.old dots.old columns.now }
     ensures wave { HasErrors result }
     ensures small { (x : ℕ) → IsError (number_at errors.new x) }
     ensures last { number_at errors.new (step + 1) ≡ number_at result.left 7 }
@@ -147,12 +143,8 @@ fn edge_step(
     dots: &mut [u8],
     columns: &[u8],
 ) -> Wavefront
-    requires errors { step + 24 ≤ length errors.old }
-    requires dots { step < length dots.old }
-    requires columns { 8 * step + 8 ≤ length columns.now }
+    requires may { MayStep step wave errors.old dots.old columns.now }
     requires fits { width + 21 < 2 ^ 64 }
-    requires wave { HasErrors wave }
-    requires small { (x : ℕ) → IsError (number_at errors.old x) }
     ensures wave { HasErrors result }
     ensures small { (x : ℕ) → IsError (number_at errors.new x) }
     ensures reached { (above : ℕ → ℤ) (rows : List (List ℕ)) → HasValues rows step columns.now →

@@ -98,8 +98,8 @@ impl BlockDiffuser {
         self.rows = self.rows.then(&Rows { values: &values });
     }
 
-    /// Diffuses the next eight rows, each of one value a pixel, from 0, no ink, to 255. Rows past the last one
-    /// of a page may hold anything. The buffered rows are unchanged.
+    /// Diffuses the next eight rows, each of one value a pixel, from 0, no ink, to 255. Rows past the last
+    /// one of a page may hold anything. The buffered rows are unchanged.
     pub fn advance_rows(&mut self, values: &[&[u8]; 8])
         requires width { (k : ℕ) → k < 8 → length (row_in values.now k) ≡ self.old.front.width }
         ensures { self.new ≡ record self.old {

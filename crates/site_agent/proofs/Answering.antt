@@ -29,7 +29,8 @@ of_ok (Ok y) x P is p = p
 of_ok (Err f) x P is p = absurd (cc)
 
 -- a plate with this tail is finished if this was its last row
-pub finishes-at : (sides : Sides) (y place : ℕ) (plate : SitePlate) (counts tail : List ℕ) (old new : Tells) → y + 1 ≡ sides.height
+pub finishes-at : (sides : Sides) (y place : ℕ) (plate : SitePlate) (counts tail : List ℕ) (old new : Tells)
+    → y + 1 ≡ sides.height
     → tail ≡ tail_bytes sides.width sides.height sides.dpi counts → place ≡ tail_place counts
     → new ≡ with_closed plate.slot tail place old → new ≡ finished_at sides y plate counts old
 finishes-at sides y place plate counts tail old new last is there closed =
@@ -38,18 +39,22 @@ finishes-at sides y place plate counts tail old new last is there closed =
     ∙ ap (λ p. with_closed plate.slot (tail_bytes sides.width sides.height sides.dpi counts) p old) there
     ∙ sym (cond-true (y + 1 == sides.height) (with_finish sides plate.slot counts old) old (eq-eqb (y + 1) sides.height last))
 
-pub stays-open : (sides : Sides) (y : ℕ) (plate : SitePlate) (counts : List ℕ) (old : Tells) → y + 1 < sides.height → old ≡ finished_at sides y plate counts old
+pub stays-open : (sides : Sides) (y : ℕ) (plate : SitePlate) (counts : List ℕ) (old : Tells)
+    → y + 1 < sides.height → old ≡ finished_at sides y plate counts old
 stays-open sides y plate counts old more =
     sym (cond-false (y + 1 == sides.height) (with_finish sides plate.slot counts old) old (ne_eqb (y + 1) sides.height (omega arith)))
 
 -- ---- the content of a plate's slot
 
 -- the plate is begun, and as long as its front
-front-stands : (plate : SitePlate) (slots : Slots) → plate.slot < length slots → IsAsLong plate 8 (slice_set slots plate.slot (Some (plate.path, front_bytes)))
+front-stands : (plate : SitePlate) (slots : Slots) → plate.slot < length slots
+    → IsAsLong plate 8 (slice_set slots plate.slot (Some (plate.path, front_bytes)))
 front-stands plate slots within = ap (option_map path_and_length) (get_or-set_same slots plate.slot (Some (plate.path, front_bytes)) None within)
 
-pub stands-begun : (y len : ℕ) (plate : SitePlate) (old now : Tells) → now ≡ begun_at y plate old → slice_get old.begun plate.slot ≡ Some (nat_lt 0 y)
-    → IfSome old.working (λ slots. old.begun ≡ map is_some slots) → (0 < y → IfSome old.working (IsAsLong plate len)) → (y ≡ 0 → len ≡ 8)
+pub stands-begun : (y len : ℕ) (plate : SitePlate) (old now : Tells) → now ≡ begun_at y plate old
+    → slice_get old.begun plate.slot ≡ Some (nat_lt 0 y)
+    → IfSome old.working (λ slots. old.begun ≡ map is_some slots)
+    → (0 < y → IfSome old.working (IsAsLong plate len)) → (y ≡ 0 → len ≡ 8)
     → IfSome now.working (IsAsLong plate len)
 stands-begun y len plate old now is begun told stands first =
     ⊎_elim
@@ -60,7 +65,8 @@ stands-begun y len plate old now is begun told stands first =
     let P : Tells → Type 0 = λ t. IfSome t.working (IsAsLong plate len) in
     subst P (sym (is ∙ cond-false (y == 0) (with_begin plate old) old (ne_eqb y 0 some))) (stands (omega arith)))
     (cases_eq y 0) where
-      fresh : (working : Option Slots) → y ≡ 0 → IfSome working (λ slots. old.begun ≡ map is_some slots) → IfSome (with_plate plate.slot (Some (plate.path, front_bytes)) working) (IsAsLong plate len)
+      fresh : (working : Option Slots) → y ≡ 0 → IfSome working (λ slots. old.begun ≡ map is_some slots)
+          → IfSome (with_plate plate.slot (Some (plate.path, front_bytes)) working) (IsAsLong plate len)
       fresh None none told' = tt
       fresh (Some slots) none told' =
           let Q : ℕ → Type 0 = λ l. IsAsLong plate l (slice_set slots plate.slot (Some (plate.path, front_bytes))) in
@@ -68,8 +74,10 @@ stands-begun y len plate old now is begun told stands first =
           (front-stands plate slots (omega (arith, slice_get_within old.begun plate.slot (nat_lt 0 y) begun, ap length told', length-map slots (is_some {T = Plate}))))
 
 -- a row makes it longer by the row's packed bytes
-more-stands : (plate : SitePlate) (len : ℕ) (more : List ℕ) (slots : Slots) (held : Option Plate) → slice_index_or slots plate.slot None ≡ held → option_map path_and_length held ≡ Some (plate.path, len)
-    → IsAsLong plate (len + length more) (slice_set slots plate.slot (option_map (λ p. (p.0, p.1 ++ more)) held))
+more-stands : (plate : SitePlate) (len : ℕ) (more : List ℕ) (slots : Slots) (held : Option Plate)
+    → slice_index_or slots plate.slot None ≡ held → option_map path_and_length held ≡ Some (plate.path, len)
+    → IsAsLong plate (len + length more) (slice_set slots plate.slot
+    (option_map (λ p. (p.0, p.1 ++ more)) held))
 more-stands plate len more slots None is stands = absurd (cc)
 more-stands plate len more slots (Some held) is stands =
     ap (option_map path_and_length) (get_or-set_same slots plate.slot (Some (held.0, held.1 ++ more)) None inside)
@@ -81,11 +89,15 @@ more-stands plate len more slots (Some held) is stands =
       same : path_and_length held ≡ (plate.path, len)
       same = cc
 
-pub stands-taken : (plate : SitePlate) (len number : ℕ) (frame : List ℕ) (source : Source) (old now : Tells) → now ≡ with_taken plate.slot number frame source old
-    → IfSome old.working (IsAsLong plate len) → IfSome now.working (IsAsLong plate (len + length (packed_in frame)))
+pub stands-taken : (plate : SitePlate) (len number : ℕ) (frame : List ℕ) (source : Source) (old now : Tells)
+    → now ≡ with_taken plate.slot number frame source old
+    → IfSome old.working (IsAsLong plate len)
+    → IfSome now.working (IsAsLong plate (len + length (packed_in frame)))
 stands-taken plate len number frame source old now is stands =
     let P : Tells → Type 0 = λ t. IfSome t.working (IsAsLong plate (len + length (packed_in frame))) in
     subst P (sym is) (longer old.working stands) where
-      longer : (working : Option Slots) → IfSome working (IsAsLong plate len) → IfSome (with_more plate.slot (packed_in frame) working) (IsAsLong plate (len + length (packed_in frame)))
+      longer : (working : Option Slots) → IfSome working (IsAsLong plate len)
+          → IfSome (with_more plate.slot (packed_in frame) working)
+          (IsAsLong plate (len + length (packed_in frame)))
       longer None stands' = tt
       longer (Some slots) stands' = more-stands plate len (packed_in frame) slots (slice_index_or slots plate.slot None) refl stands'

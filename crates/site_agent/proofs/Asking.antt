@@ -42,11 +42,14 @@ either : {X : Type 0} (P : X → Type 0) (test : Bool) (a b : X) → P a → P b
 either P true a b first second = first
 either P false a b first second = second
 
-keeps-plate : (working : Option Slots) (slot s : ℕ) (plate : Option Plate) (long : Length) → s ≢ slot → IfSome working (λ slots. length_at slots s ≡ long) → IfSome (with_plate slot plate working) (λ slots. length_at slots s ≡ long)
+keeps-plate : (working : Option Slots) (slot s : ℕ) (plate : Option Plate) (long : Length) → s ≢ slot
+    → IfSome working (λ slots. length_at slots s ≡ long)
+    → IfSome (with_plate slot plate working) (λ slots. length_at slots s ≡ long)
 keeps-plate None slot s plate long apart is = tt
 keeps-plate (Some slots) slot s plate long apart is = ap (option_map path_and_length) (get_or-set_other slots slot s plate None apart) ∙ is
 
-empties : (working : Option Slots) (slot : ℕ) → IfSome (with_plate slot None working) (λ slots. length_at slots slot ≡ None)
+empties : (working : Option Slots) (slot : ℕ)
+    → IfSome (with_plate slot None working) (λ slots. length_at slots slot ≡ None)
 empties None slot = tt
 empties (Some slots) slot =
     ap (option_map path_and_length)
@@ -57,7 +60,8 @@ empties (Some slots) slot =
 
 -- ---- a row of a plate, at another slot
 
-other-shows : (sides : Sides) (plate : SitePlate) (y n : ℕ) (frame : List ℕ) (source : Source) (counts : List ℕ) (old : Tells) (s : ℕ) (is : Bool) (long : Length) → s ≢ plate.slot
+other-shows : (sides : Sides) (plate : SitePlate) (y n : ℕ) (frame : List ℕ) (source : Source)
+    (counts : List ℕ) (old : Tells) (s : ℕ) (is : Bool) (long : Length) → s ≢ plate.slot
     → Shows s is long old → Shows s is long (after_row sides plate y n frame source counts old)
 other-shows sides plate y n frame source counts old s is long apart shows =
     either (Shows s is long) (y + 1 == sides.height) (with_finish sides plate.slot counts taken) taken
@@ -89,7 +93,8 @@ other-shows sides plate y n frame source counts old s is long apart shows =
 
 -- ---- at its own slot
 
-begun-own : (plate : SitePlate) (y : ℕ) (old : Tells) → slice_get old.begun plate.slot ≡ Some (nat_lt 0 y) → slice_get (begun_at y plate old).begun plate.slot ≡ Some true
+begun-own : (plate : SitePlate) (y : ℕ) (old : Tells) → slice_get old.begun plate.slot ≡ Some (nat_lt 0 y)
+    → slice_get (begun_at y plate old).begun plate.slot ≡ Some true
 begun-own plate y old was =
     let P : Tells → Type 0 = λ t. slice_get t.begun plate.slot ≡ Some true in
     ⊎_elim
@@ -97,9 +102,13 @@ begun-own plate y old was =
     (λ (some : y ≢ 0). subst P (sym (cond-false (y == 0) (with_begin plate old) old (ne_eqb y 0 some))) (was ∙ ap Some (lt-ltb 0 y (omega arith))))
     (cases_eq y 0)
 
-own-open : (sides : Sides) (plate : SitePlate) (y n len : ℕ) (frame : List ℕ) (source : Source) (counts : List ℕ) (old : Tells) → y + 1 < sides.height
-    → slice_get old.begun plate.slot ≡ Some (nat_lt 0 y) → IfSome old.working (λ slots. old.begun ≡ map is_some slots) → (0 < y → IfSome old.working (IsAsLong plate len)) → (y ≡ 0 → len ≡ 8)
-    → Shows plate.slot true (Some (plate.path, len + length (packed_in frame))) (after_row sides plate y n frame source counts old)
+own-open : (sides : Sides) (plate : SitePlate) (y n len : ℕ) (frame : List ℕ) (source : Source)
+    (counts : List ℕ) (old : Tells) → y + 1 < sides.height
+    → slice_get old.begun plate.slot ≡ Some (nat_lt 0 y)
+    → IfSome old.working (λ slots. old.begun ≡ map is_some slots)
+    → (0 < y → IfSome old.working (IsAsLong plate len)) → (y ≡ 0 → len ≡ 8)
+    → Shows plate.slot true (Some (plate.path, len + length (packed_in frame)))
+    (after_row sides plate y n frame source counts old)
 own-open sides plate y n len frame source counts old more was told stands first =
     let taken : Tells = with_taken plate.slot n frame source (begun_at y plate old) in
     subst (Shows plate.slot true (Some (plate.path, len + length (packed_in frame))))
@@ -109,8 +118,10 @@ own-open sides plate y n len frame source counts old more was told stands first 
       working = stands-taken plate len n frame source (begun_at y plate old) taken refl (stands-begun y len plate old (begun_at y plate old) refl was told stands first);
     })
 
-own-closed : (sides : Sides) (plate : SitePlate) (y n : ℕ) (frame : List ℕ) (source : Source) (counts : List ℕ) (old : Tells) → y + 1 ≡ sides.height
-    → slice_get old.begun plate.slot ≡ Some (nat_lt 0 y) → Shows plate.slot false None (after_row sides plate y n frame source counts old)
+own-closed : (sides : Sides) (plate : SitePlate) (y n : ℕ) (frame : List ℕ) (source : Source)
+    (counts : List ℕ) (old : Tells) → y + 1 ≡ sides.height
+    → slice_get old.begun plate.slot ≡ Some (nat_lt 0 y)
+    → Shows plate.slot false None (after_row sides plate y n frame source counts old)
 own-closed sides plate y n frame source counts old last was =
     let taken : Tells = with_taken plate.slot n frame source (begun_at y plate old) in
     subst (Shows plate.slot false None)
@@ -126,11 +137,15 @@ own-closed sides plate y n frame source counts old last was =
 abbrev counted_at : SiteJob → ℕ → List (List ℕ) → ℕ → Length
 counted_at job n counts s = option_map (λ plate. (plate.path, 8 + sum (slice_index_or counts s []))) (open_in job n s)
 
-at-each : (job : SiteJob) (n : ℕ) (counts : List (List ℕ)) (working : Option Slots) (s : ℕ) → s < 5 → IfSome working (AreAsLong job n counts) → IfSome working (λ slots. length_at slots s ≡ counted_at job n counts s)
+at-each : (job : SiteJob) (n : ℕ) (counts : List (List ℕ)) (working : Option Slots) (s : ℕ) → s < 5
+    → IfSome working (AreAsLong job n counts)
+    → IfSome working (λ slots. length_at slots s ≡ counted_at job n counts s)
 at-each job n counts None s less are = tt
 at-each job n counts (Some slots) s less are = are.each s less
 
-each-at : (job : SiteJob) (n : ℕ) (counts : List (List ℕ)) (working : Option Slots) → ((s : ℕ) → s < 5 → IfSome working (λ slots. length_at slots s ≡ counted_at job n counts s)) → IfSome working (AreAsLong job n counts)
+each-at : (job : SiteJob) (n : ℕ) (counts : List (List ℕ)) (working : Option Slots)
+    → ((s : ℕ) → s < 5 → IfSome working (λ slots. length_at slots s ≡ counted_at job n counts s))
+    → IfSome working (AreAsLong job n counts)
 each-at job n counts None at = tt
 each-at job n counts (Some slots) at = record { each = at }
 
@@ -140,7 +155,8 @@ pub record Asks (job : SiteJob) (n : ℕ) (counts : List (List ℕ)) (t : Tells)
   pub working : IfSome t.working (AreAsLong job n counts)
 
 -- it holds after a row that the site did not keep
-pub asks-passed : (job : SiteJob) (n : ℕ) (counts : List (List ℕ)) (t : Tells) → IsNoRow job n → Asks job n counts t → Asks job (n + 1) counts t
+pub asks-passed : (job : SiteJob) (n : ℕ) (counts : List (List ℕ)) (t : Tells) → IsNoRow job n
+    → Asks job n counts t → Asks job (n + 1) counts t
 asks-passed job n counts t row asks = record {
   begun = record { each = λ s less. asks.begun.each s less ∙ ap (λ p. Some (is_some p)) (sym (open-none job n s row)) };
   working = each-at job (n + 1) counts t.working
@@ -149,10 +165,13 @@ asks-passed job n counts t row asks = record {
 }
 
 -- and after a row that it kept, whose plate is in this slot
-pub asks-kept : (job : SiteJob) (source : Source) (n k y slot : ℕ) (old now : Tells) (counts after : List (List ℕ)) (d : SitePlate) (frame : List ℕ) → IsJob job → IsRowOf job n k y
-    → (plate_at job k d).slot ≡ slot → Asks job n counts old → IfSome old.working (λ slots. old.begun ≡ map is_some slots)
+pub asks-kept : (job : SiteJob) (source : Source) (n k y slot : ℕ) (old now : Tells)
+    (counts after : List (List ℕ)) (d : SitePlate) (frame : List ℕ) → IsJob job → IsRowOf job n k y
+    → (plate_at job k d).slot ≡ slot → Asks job n counts old
+    → IfSome old.working (λ slots. old.begun ≡ map is_some slots)
     → length (slice_index_or counts slot []) ≡ strip_count job.width job.height
-    → slice_index_or after slot [] ≡ counted y (y / rows_each job.width) (length (packed_in frame)) (slice_index_or counts slot [])
+    → slice_index_or after slot []
+    ≡ counted y (y / rows_each job.width) (length (packed_in frame)) (slice_index_or counts slot [])
     → ((s : ℕ) → s < 5 → s ≢ slot → slice_index_or after s [] ≡ slice_index_or counts s [])
     → now ≡ after_row (sides_of job) (plate_at job k d) y n frame source (slice_index_or after slot []) old
     → Asks job (n + 1) after now

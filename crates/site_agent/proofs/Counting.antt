@@ -27,14 +27,16 @@ use Rattle.site_agent.proofs.Steps.{row-given, row-next, open-before, fresh-befo
 
 -- ---- the bytes of a row
 
-pub packed-few : (width : ℕ) (frame : List ℕ) → width ≤ 65535 → IsFrame frame → length (framed_row frame) ≡ row_size width → length (packed_in frame) ≤ 8256
+pub packed-few : (width : ℕ) (frame : List ℕ) → width ≤ 65535 → IsFrame frame
+    → length (framed_row frame) ≡ row_size width → length (packed_in frame) ≤ 8256
 packed-few width frame wide framed size =
     let few : length (packing (framed_row frame)) ≤ 8256 = packing-few width (framed_row frame) wide size in
     omega (arith, few, ap length (packed_in-frame frame framed))
 
 -- ---- the next row, which is one of a plate
 
-pub record Turn (job : SiteJob) (n finished : ℕ) (slots : List StripState) (place : Place) (frame : List ℕ) (slot' : StripState) : Type 0 where
+pub record Turn (job : SiteJob) (n finished : ℕ) (slots : List StripState) (place : Place) (frame : List ℕ)
+    (slot' : StripState) : Type 0 where
   pub counting : IsCounting job n finished slots
   pub place' : IsPlaceOf job n place
   pub framed : IsFrame frame
@@ -44,28 +46,34 @@ pub record Turn (job : SiteJob) (n finished : ℕ) (slots : List StripState) (pl
 abbrev pub strip_of : SiteJob → Place → ℕ
 strip_of job place = place.y / rows_each job.width
 
-pub in-rack : (job : SiteJob) (n finished : ℕ) (slots : List StripState) (place : Place) → IsCounting job n finished slots → IsPlaceOf job n place → (d : SitePlate) → place.slot < 5
+pub in-rack : (job : SiteJob) (n finished : ℕ) (slots : List StripState) (place : Place)
+    → IsCounting job n finished slots → IsPlaceOf job n place → (d : SitePlate) → place.slot < 5
 in-rack job n finished slots place counting there d =
     let P : ℕ → Type 0 = λ s. s < 5 in subst P (there.slot d) (counting.is.each place.plate d there.row.within).slot
 
-pub slot-within : (job : SiteJob) (n finished : ℕ) (slots : List StripState) (place : Place) → IsCounting job n finished slots → IsPlaceOf job n place → (d : SitePlate) → place.slot < length slots
+pub slot-within : (job : SiteJob) (n finished : ℕ) (slots : List StripState) (place : Place)
+    → IsCounting job n finished slots → IsPlaceOf job n place → (d : SitePlate) → place.slot < length slots
 slot-within job n finished slots place counting there d =
     let five : length slots ≡ 5 = counting.slots in
     let inside : place.slot < 5 = in-rack job n finished slots place counting there d in omega arith
 
-counted-there : (job : SiteJob) (n finished : ℕ) (slots : List StripState) (place : Place) (frame : List ℕ) (slot : StripState) (d : SitePlate) → Turn job n finished slots place frame slot → IsCounted job n place.slot slot
+counted-there : (job : SiteJob) (n finished : ℕ) (slots : List StripState) (place : Place) (frame : List ℕ)
+    (slot : StripState) (d : SitePlate) → Turn job n finished slots place frame slot
+    → IsCounted job n place.slot slot
 counted-there job n finished slots place frame slot d turn =
     let P : StripState → Type 0 = IsCounted job n place.slot in
     subst P (sym turn.slot) (turn.counting.each place.slot slot (in-rack job n finished slots place turn.counting turn.place' d))
 
-pub strip-within : (job : SiteJob) (n finished : ℕ) (slots : List StripState) (place : Place) (frame : List ℕ) (slot : StripState) (d : SitePlate) → Turn job n finished slots place frame slot
+pub strip-within : (job : SiteJob) (n finished : ℕ) (slots : List StripState) (place : Place) (frame : List ℕ)
+    (slot : StripState) (d : SitePlate) → Turn job n finished slots place frame slot
     → strip_of job place < length slot.counts
 strip-within job n finished slots place frame slot d turn =
     let strips : length slot.counts ≡ strip_count job.width job.height = (counted-there job n finished slots place frame slot d turn).strips in
     let inside : strip_of job place < strip_count job.width job.height = strip-in_plate job.width job.height place.y turn.place'.row.below in
     omega arith
 
-rows-there : (job : SiteJob) (n finished : ℕ) (slots : List StripState) (place : Place) (frame : List ℕ) (slot : StripState) (d : SitePlate) → Turn job n finished slots place frame slot → slot.next ≡ place.y
+rows-there : (job : SiteJob) (n finished : ℕ) (slots : List StripState) (place : Place) (frame : List ℕ)
+    (slot : StripState) (d : SitePlate) → Turn job n finished slots place frame slot → slot.next ≡ place.y
 rows-there job n finished slots place frame slot d turn =
     (counted-there job n finished slots place frame slot d turn).rows
     ∙ ap (open_rows job n) (sym (turn.place'.slot d))
@@ -82,18 +90,24 @@ rows-there job n finished slots place frame slot d turn =
 abbrev pub with_row : SiteJob → Place → List ℕ → StripState → List ℕ
 with_row job place frame slot = counted place.y (strip_of job place) (length (packed_in frame)) slot.counts
 
-pub sum-with : (job : SiteJob) (n finished : ℕ) (slots : List StripState) (place : Place) (frame : List ℕ) (slot : StripState) (d : SitePlate) → Turn job n finished slots place frame slot
-    → sum (with_row job place frame slot) ≡ (if place.y == 0 then 0 else sum slot.counts) + length (packed_in frame)
+pub sum-with : (job : SiteJob) (n finished : ℕ) (slots : List StripState) (place : Place) (frame : List ℕ)
+    (slot : StripState) (d : SitePlate) → Turn job n finished slots place frame slot
+    → sum (with_row job place frame slot)
+    ≡ (if place.y == 0 then 0 else sum slot.counts) + length (packed_in frame)
 sum-with job n finished slots place frame slot d turn = sum-counted place.y (strip_of job place) (length (packed_in frame)) slot.counts (strip-within job n finished slots place frame slot d turn)
 
 -- the strips of the row's slot have counted the row, whatever is in their buffer
-pub record HasCounted (job : SiteJob) (place : Place) (frame : List ℕ) (slot' next' : StripState) : Type 0 where
+pub record HasCounted (job : SiteJob) (place : Place) (frame : List ℕ)
+    (slot' next' : StripState) : Type 0 where
   pub sides : next'.sides ≡ sides_of job
   pub next : next'.next ≡ row_after job.height place.y
   pub counts : next'.counts ≡ with_row job place frame slot'
 
-pub has-counted : (job : SiteJob) (n finished : ℕ) (slots : List StripState) (place : Place) (frame : List ℕ) (slot first next : StripState) (d : SitePlate) (bytes : ℕ) (room : List ℕ) → Turn job n finished slots place frame slot
-    → bytes ≡ length (packed_in frame) → first ≡ with_next_row bytes slot → next ≡ record first { room = room } → HasCounted job place frame slot next
+pub has-counted : (job : SiteJob) (n finished : ℕ) (slots : List StripState) (place : Place) (frame : List ℕ)
+    (slot first next : StripState) (d : SitePlate) (bytes : ℕ) (room : List ℕ)
+    → Turn job n finished slots place frame slot
+    → bytes ≡ length (packed_in frame) → first ≡ with_next_row bytes slot
+    → next ≡ record first { room = room } → HasCounted job place frame slot next
 has-counted job n finished slots place frame slot first next d bytes room turn same counted' on =
     let rows : slot.next ≡ place.y = rows-there job n finished slots place frame slot d turn in
     let sides : slot.sides ≡ sides_of job = (counted-there job n finished slots place frame slot d turn).sides in
@@ -106,14 +120,16 @@ has-counted job n finished slots place frame slot first next d bytes room turn s
           ∙ ap (λ b. counted place.y (strip_of job place) b slot.counts) same;
     }
 
-pub first-alone : (job : SiteJob) (n finished : ℕ) (slots : List StripState) (place : Place) (frame : List ℕ) (slot : StripState) (d : SitePlate) → Turn job n finished slots place frame slot
+pub first-alone : (job : SiteJob) (n finished : ℕ) (slots : List StripState) (place : Place) (frame : List ℕ)
+    (slot : StripState) (d : SitePlate) → Turn job n finished slots place frame slot
     → place.y ≡ 0 → sum (with_row job place frame slot) ≡ length (packed_in frame)
 first-alone job n finished slots place frame slot d turn none =
     sum-with job n finished slots place frame slot d turn ∙ ap (λ m. m + length (packed_in frame)) (cond-true (place.y == 0) 0 (sum slot.counts) (eq-eqb place.y 0 none)) ∙ omega arith
 
 -- ---- what contracts see of its rack
 
-pub begun-there : (job : SiteJob) (n : ℕ) (place : Place) (begun : List Bool) (d : SitePlate) → IsJob job → IsPlaceOf job n place → AreBegun job n begun → place.slot < 5
+pub begun-there : (job : SiteJob) (n : ℕ) (place : Place) (begun : List Bool) (d : SitePlate) → IsJob job
+    → IsPlaceOf job n place → AreBegun job n begun → place.slot < 5
     → slice_get begun place.slot ≡ Some (nat_lt 0 place.y)
 begun-there job n place begun d is there are inside =
     are.each place.slot inside
@@ -125,9 +141,11 @@ begun-there job n place begun d is there are inside =
     ap (λ p. Some (is_some p)) (open-before job n place.plate place.y d is there.row (omega arith)) ∙ ap Some (sym (lt-ltb 0 place.y (omega arith))))
     (cases_eq place.y 0)
 
-pub stands-there : (job : SiteJob) (n finished : ℕ) (slots : List StripState) (place : Place) (frame : List ℕ) (slot : StripState) (d : SitePlate) (working : Option Slots) → Turn job n finished slots place frame slot
+pub stands-there : (job : SiteJob) (n finished : ℕ) (slots : List StripState) (place : Place) (frame : List ℕ)
+    (slot : StripState) (d : SitePlate) (working : Option Slots) → Turn job n finished slots place frame slot
     → IfSome working (AreAsLong job n (counts_of slots)) → 0 < place.y
-    → IfSome working (IsAsLong (plate_at job place.plate d) (strips_end (with_row job place frame slot) - length (packed_in frame)))
+    → IfSome working (IsAsLong (plate_at job place.plate d)
+    (strips_end (with_row job place frame slot) - length (packed_in frame)))
 stands-there job n finished slots place frame slot d None turn are some = tt
 stands-there job n finished slots place frame slot d (Some held) turn are some =
     let plate : SitePlate = plate_at job place.plate d in
@@ -146,14 +164,18 @@ stands-there job n finished slots place frame slot d (Some held) turn are some =
 
 -- ---- the site's counts after the row
 
-rows-same : (job : SiteJob) (n m slot : ℕ) → open_in job m slot ≡ open_in job n slot → ((plate : SitePlate) → open_in job n slot ≡ Some plate → given job.height plate m ≡ given job.height plate n)
+rows-same : (job : SiteJob) (n m slot : ℕ) → open_in job m slot ≡ open_in job n slot
+    → ((plate : SitePlate) → open_in job n slot ≡ Some plate → given job.height plate m
+    ≡ given job.height plate n)
     → open_rows job n slot ≡ open_rows job m slot
 rows-same job n m slot open' same = by_plate (open_in job n slot) refl where
-  by_plate : (plate : Option SitePlate) → open_in job n slot ≡ plate → open_rows job n slot ≡ open_rows job m slot
+  by_plate : (plate : Option SitePlate) → open_in job n slot ≡ plate
+      → open_rows job n slot ≡ open_rows job m slot
   by_plate None there = ap (λ p. option_map_or (λ q. given job.height q n) p 0) there ∙ sym (ap (λ p. option_map_or (λ q. given job.height q m) p 0) (open' ∙ there))
   by_plate (Some plate) there = ap (λ p. option_map_or (λ q. given job.height q n) p 0) there ∙ sym (same plate there) ∙ sym (ap (λ p. option_map_or (λ q. given job.height q m) p 0) (open' ∙ there))
 
-rows-own : (job : SiteJob) (n k y : ℕ) (d : SitePlate) → IsJob job → IsRowOf job n k y → row_after job.height y ≡ open_rows job (n + 1) (plate_at job k d).slot
+rows-own : (job : SiteJob) (n k y : ℕ) (d : SitePlate) → IsJob job → IsRowOf job n k y
+    → row_after job.height y ≡ open_rows job (n + 1) (plate_at job k d).slot
 rows-own job n k y d is row =
     let below : y < job.height = row.below in
     ⊎_elim
@@ -165,7 +187,8 @@ rows-own job n k y d is row =
     ∙ sym (ap (λ p. option_map_or (λ q. given job.height q (n + 1)) p 0) (last-after job n k y d is row (omega arith))))
     (cases_lt (y + 1) job.height)
 
-finished-own : (job : SiteJob) (n k y finished : ℕ) → IsJob job → IsRowOf job n k y → finished ≡ finished_count job n → finished_after job.height y finished ≡ finished_count job (n + 1)
+finished-own : (job : SiteJob) (n k y finished : ℕ) → IsJob job → IsRowOf job n k y
+    → finished ≡ finished_count job n → finished_after job.height y finished ≡ finished_count job (n + 1)
 finished-own job n k y finished is row same =
     let below : y < job.height = row.below in
     ⊎_elim
@@ -177,8 +200,10 @@ finished-own job n k y finished is row same =
     ∙ ap (λ m. m + 1) (same ∙ (finished-last job n k y is row last).0) ∙ sym ((finished-last job n k y is row last).1))
     (cases_lt (y + 1) job.height)
 
-pub counts-on : (job : SiteJob) (n finished : ℕ) (slots : List StripState) (place : Place) (frame : List ℕ) (slot next : StripState) (d : SitePlate) → Turn job n finished slots place frame slot → n < job.total
-    → HasCounted job place frame slot next → IsCounting job (n + 1) (finished_after job.height place.y finished) (set slots place.slot next)
+pub counts-on : (job : SiteJob) (n finished : ℕ) (slots : List StripState) (place : Place) (frame : List ℕ)
+    (slot next : StripState) (d : SitePlate) → Turn job n finished slots place frame slot → n < job.total
+    → HasCounted job place frame slot next
+    → IsCounting job (n + 1) (finished_after job.height place.y finished) (set slots place.slot next)
 counts-on job n finished slots place frame slot next d turn within has = record {
   is = turn.counting.is;
   within = omega arith;
@@ -212,7 +237,8 @@ counts-on job n finished slots place frame slot next d turn within has = record 
       }
 
 -- a row that belongs to no plate
-pub counts-past : (job : SiteJob) (n finished : ℕ) (slots : List StripState) → IsCounting job n finished slots → IsNoRow job n → n < job.total → IsCounting job (n + 1) finished slots
+pub counts-past : (job : SiteJob) (n finished : ℕ) (slots : List StripState) → IsCounting job n finished slots
+    → IsNoRow job n → n < job.total → IsCounting job (n + 1) finished slots
 counts-past job n finished slots counting row within = record {
   is = counting.is;
   within = omega arith;
@@ -226,7 +252,8 @@ counts-past job n finished slots counting row within = record {
         sides = before.sides;
       };
 } where
-  stays : (p : SitePlate) (s : ℕ) → open_in job n s ≡ Some p → given job.height p (n + 1) ≡ given job.height p n
+  stays : (p : SitePlate) (s : ℕ) → open_in job n s ≡ Some p
+      → given job.height p (n + 1) ≡ given job.height p n
   stays p s open' =
       let there : StandsAs job s p = open_in-plate job n s p open' in
       let P : SitePlate → Type 0 = λ q. given job.height q (n + 1) ≡ given job.height q n in
@@ -234,17 +261,20 @@ counts-past job n finished slots counting row within = record {
 
 -- ---- the counts as contracts see them
 
-pub counts-own : (slots : List StripState) (s : ℕ) (next : StripState) → s < length slots → slice_index_or (counts_of (set slots s next)) s [] ≡ next.counts
+pub counts-own : (slots : List StripState) (s : ℕ) (next : StripState) → s < length slots
+    → slice_index_or (counts_of (set slots s next)) s [] ≡ next.counts
 counts-own slots s next within =
     get_or-map (λ slot. slot.counts) (set slots s next) s next [] (omega (arith, length-set slots s next)) ∙ ap (λ slot. slot.counts) (get_or-set_same slots s next next within)
 
-pub counts-other : (slots : List StripState) (s i : ℕ) (next : StripState) → i < length slots → i ≢ s → slice_index_or (counts_of (set slots s next)) i [] ≡ slice_index_or (counts_of slots) i []
+pub counts-other : (slots : List StripState) (s i : ℕ) (next : StripState) → i < length slots → i ≢ s
+    → slice_index_or (counts_of (set slots s next)) i [] ≡ slice_index_or (counts_of slots) i []
 counts-other slots s i next within apart =
     get_or-map (λ slot. slot.counts) (set slots s next) i next [] (omega (arith, length-set slots s next))
     ∙ ap (λ slot. slot.counts) (get_or-set_other slots s i next next apart)
     ∙ sym (get_or-map (λ slot. slot.counts) slots i next [] within)
 
-pub counts-at : (slots : List StripState) (s : ℕ) (slot : StripState) → s < length slots → slot ≡ get_or slots s slot → slice_index_or (counts_of slots) s [] ≡ slot.counts
+pub counts-at : (slots : List StripState) (s : ℕ) (slot : StripState) → s < length slots
+    → slot ≡ get_or slots s slot → slice_index_or (counts_of slots) s [] ≡ slot.counts
 counts-at slots s slot within is = get_or-map (λ x. x.counts) slots s slot [] within ∙ ap (λ x. x.counts) (sym is)
 
 -- ---- the site as its contract sees it
@@ -253,9 +283,12 @@ counts-at slots s slot within is = get_or-map (λ x. x.counts) slots s slot [] w
 abbrev pub any : SitePlate
 any = record { path = []; first = 0; step = 0; slot = 0 }
 
-pub turning : (job : SiteJob) (next finished : ℕ) (slots : List StripState) (ended : Bool) (old : SiteData) (place : Place) (frame : List ℕ) (slot : StripState)
-    → ◌≡◌ {A = SiteData} (record { job = job; next = next; counts = counts_of slots; ended = ended }) old → (ended ≡ false → IsCounting job next finished slots) → old.ended ≡ false
-    → IsPlaceOf old.job old.next place → IsFrame frame → length (framed_row frame) ≡ row_size old.job.width → slot ≡ get_or slots place.slot slot → Turn job next finished slots place frame slot
+pub turning : (job : SiteJob) (next finished : ℕ) (slots : List StripState) (ended : Bool) (old : SiteData)
+    (place : Place) (frame : List ℕ) (slot : StripState)
+    → ◌≡◌ {A = SiteData} (record { job = job; next = next; counts = counts_of slots; ended = ended }) old
+    → (ended ≡ false → IsCounting job next finished slots) → old.ended ≡ false
+    → IsPlaceOf old.job old.next place → IsFrame frame → length (framed_row frame) ≡ row_size old.job.width
+    → slot ≡ get_or slots place.slot slot → Turn job next finished slots place frame slot
 turning job next finished slots ended old place frame slot view counting going there framed size is =
     let P : SiteData → Type 0 = λ s. IsPlaceOf s.job s.next place in
     record {
@@ -266,12 +299,15 @@ turning job next finished slots ended old place frame slot view counting going t
       slot = is;
     }
 
-pub placing : (job : SiteJob) (next : ℕ) (counts : List (List ℕ)) (ended : Bool) (old : SiteData) (place : Place)
-    → ◌≡◌ {A = SiteData} (record { job = job; next = next; counts = counts; ended = ended }) old → IsPlaceOf old.job old.next place → IsPlaceOf job next place
+pub placing : (job : SiteJob) (next : ℕ) (counts : List (List ℕ)) (ended : Bool) (old : SiteData)
+    (place : Place)
+    → ◌≡◌ {A = SiteData} (record { job = job; next = next; counts = counts; ended = ended }) old
+    → IsPlaceOf old.job old.next place → IsPlaceOf job next place
 placing job next counts ended old place view there = let P : SiteData → Type 0 = λ s. IsPlaceOf s.job s.next place in subst P (sym view) there
 
 -- if one of the plates has row n, not all plates are finished
-pub finished-less : (job : SiteJob) (n finished : ℕ) (slots : List StripState) (place : Place) → IsCounting job n finished slots → IsPlaceOf job n place → finished < length job.plates
+pub finished-less : (job : SiteJob) (n finished : ℕ) (slots : List StripState) (place : Place)
+    → IsCounting job n finished slots → IsPlaceOf job n place → finished < length job.plates
 finished-less job n finished slots place counting there =
     let is : finished ≡ finished_count job n = counting.finished in
     let within : place.plate < length job.plates = there.row.within in

@@ -30,16 +30,19 @@ use Rattle.site_agent.proofs.Others.{others-hold_at}
 
 -- ---- the row
 
-pub frame-taken : (job : SiteJob) (ring : RingNumbers) (n : ℕ) (bytes : List ℕ) → AreRowsFor job ring → slice_get ring.rows n ≡ Some bytes → IsFrame bytes
+pub frame-taken : (job : SiteJob) (ring : RingNumbers) (n : ℕ) (bytes : List ℕ) → AreRowsFor job ring
+    → slice_get ring.rows n ≡ Some bytes → IsFrame bytes
 frame-taken job ring n bytes are there =
     subst IsFrame (get_or_from_slice_get ring.rows n bytes bytes there)
     (AreFrames-frame (row_size job.width) (map framed_row ring.rows) ring.rows n bytes are.frames (omega (arith, slice_get_within ring.rows n bytes there, length-map ring.rows framed_row)))
 
-pub row-taken : (rows : List (List ℕ)) (n m : ℕ) (bytes : List ℕ) → n ≡ m → slice_get rows n ≡ Some bytes → slice_get (map framed_row rows) m ≡ Some (framed_row bytes)
+pub row-taken : (rows : List (List ℕ)) (n m : ℕ) (bytes : List ℕ) → n ≡ m → slice_get rows n ≡ Some bytes
+    → slice_get (map framed_row rows) m ≡ Some (framed_row bytes)
 row-taken rows n m bytes same there =
     ap (slice_get (map framed_row rows)) (sym same) ∙ slice_get-map framed_row rows n ∙ ap (λ o. option_map framed_row o) there
 
-pub side-taken : (job : SiteJob) (ring : RingNumbers) (n : ℕ) (bytes : List ℕ) → AreRowsFor job ring → slice_get ring.rows n ≡ Some bytes → length (framed_row bytes) ≡ row_size job.width
+pub side-taken : (job : SiteJob) (ring : RingNumbers) (n : ℕ) (bytes : List ℕ) → AreRowsFor job ring
+    → slice_get ring.rows n ≡ Some bytes → length (framed_row bytes) ≡ row_size job.width
 side-taken job ring n bytes are there =
     let here : slice_get (map framed_row ring.rows) n ≡ Some (framed_row bytes) = row-taken ring.rows n n bytes refl there in
     ap length (sym (get_or_from_slice_get (map framed_row ring.rows) n (framed_row bytes) (framed_row bytes) here))
@@ -58,7 +61,8 @@ pub record Keeps (site site' : SiteData) (held : HeldRow) (old new : RackTells) 
   pub left : IfLeft kept (IsCauseAt site.job site.next)
   pub left_counted : IfLeft kept (λ _. Rose old.faults new.faults)
   pub left_missed : IfLeft kept (λ cause. IfSome new.missed (λ last. last ≡ Some (cause.call, cause.path)))
-  pub left_taken : IfLeft kept (λ cause. new.tells.taken ≡ taken_at cause.call site.next held.source old.tells.taken)
+  pub left_taken : IfLeft kept (λ cause. new.tells.taken
+      ≡ taken_at cause.call site.next held.source old.tells.taken)
   pub memory_missed : OnMemory kept (new.missed ≡ old.missed)
   pub memory_taken : OnMemory kept (TakenOnce site.next held.source old.tells.taken new.tells.taken)
   pub finished_stay : OnEnd kept (new.tells.finished ≡ old.tells.finished)
@@ -66,8 +70,11 @@ pub record Keeps (site site' : SiteData) (held : HeldRow) (old new : RackTells) 
   pub ended : OnEnd kept (site'.ended ≡ true)
   pub faults_stay : old.faults ≤ new.faults
 
-going-on : (site site' : SiteData) (reader : ReaderState) (held : HeldRow) (old new before : Tells) → slice_get (map framed_row reader.ring.rows) site.next ≡ Some (framed_row held.bytes) → held.source ≡ source_of reader
-    → KeepsRow site site' held old new → GoesOn site site' → IsGoingBy reader before old site → IsGoingBy reader before new site'
+going-on : (site site' : SiteData) (reader : ReaderState) (held : HeldRow) (old new before : Tells)
+    → slice_get (map framed_row reader.ring.rows) site.next ≡ Some (framed_row held.bytes)
+    → held.source ≡ source_of reader
+    → KeepsRow site site' held old new → GoesOn site site' → IsGoingBy reader before old site
+    → IsGoingBy reader before new site'
 going-on site site' reader held old new before here from keeps goes going =
     let rows : List (List ℕ) = map framed_row reader.ring.rows in
     going_further rows (source_of reader) before old new site site' going goes
@@ -75,8 +82,10 @@ going-on site site' reader held old new before here from keeps goes going =
     subst (λ (s : Source). StandsAfter site.job rows s (site.next + 1) before new site'.counts) from
     (keeps rows before here (subst (λ (s : Source). StandsAfter site.job rows s site.next before old site.counts) (sym from) stands)))
 
-leaving : (site : SiteData) (reader : ReaderState) (source : Source) (old new before : Tells) (cause : LeftCause) → source ≡ source_of reader → cause.row ≡ site.next → new.finished ≡ old.finished
-    → new.taken ≡ taken_at cause.call site.next source old.taken → OthersStayFor site.job site.next old new → IsGoingBy reader before old site
+leaving : (site : SiteData) (reader : ReaderState) (source : Source) (old new before : Tells)
+    (cause : LeftCause) → source ≡ source_of reader → cause.row ≡ site.next → new.finished ≡ old.finished
+    → new.taken ≡ taken_at cause.call site.next source old.taken → OthersStayFor site.job site.next old new
+    → IsGoingBy reader before old site
     → LeavesAt site.job (map framed_row reader.ring.rows) (source_of reader) before new cause
 leaving site reader source old new before cause from row finished taken stay going =
     let rows : List (List ℕ) = map framed_row reader.ring.rows in
@@ -91,8 +100,11 @@ leaving site reader source old new before cause from row finished taken stay goi
       others = subst (λ (n : ℕ). OthersHold site.job rows n new) (sym row) (others-hold_at site.job rows src site.next before old new site.counts going.stands stay);
     }
 
-stopping : (site : SiteData) (reader : ReaderState) (source : Source) (old new before : Tells) → is_kept site.job site.next ≡ true → source ≡ source_of reader → reader.cursor ≡ site.next → new.finished ≡ old.finished
-    → TakenOnce site.next source old.taken new.taken → OthersStayFor site.job site.next old new → IsGoingBy reader before old site
+stopping : (site : SiteData) (reader : ReaderState) (source : Source) (old new before : Tells)
+    → is_kept site.job site.next ≡ true → source ≡ source_of reader → reader.cursor ≡ site.next
+    → new.finished ≡ old.finished
+    → TakenOnce site.next source old.taken new.taken → OthersStayFor site.job site.next old new
+    → IsGoingBy reader before old site
     → StopsAt site.job (map framed_row reader.ring.rows) (source_of reader) reader.cursor before new
 stopping site reader source old new before kept from next finished taken stay going =
     let rows : List (List ℕ) = map framed_row reader.ring.rows in
@@ -112,7 +124,8 @@ kept-there : (test : Bool) (kept : Kept) → (test ≡ false → kept ≡ Done) 
 kept-there true kept passes other = refl
 kept-there false kept passes other = absurd (other (passes refl))
 
-pub kept-draws : (site site' : SiteData) (reader opened closed : ReaderState) (held : HeldRow) (old new : RackTells) (kept : Kept)
+pub kept-draws : (site site' : SiteData) (reader opened closed : ReaderState) (held : HeldRow)
+    (old new : RackTells) (kept : Kept)
     → IsReady (stage site reader old) → IsOpened reader opened held → SeesOnce reader opened
     → closed ≡ record opened { cursor = opened.cursor + 1; held = false } → Keeps site site' held old new kept
     → Draws (stage site reader old) (stage site' closed new) (Ok kept)

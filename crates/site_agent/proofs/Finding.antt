@@ -14,7 +14,8 @@ abbrev pub IsNoRowOf : SiteJob → ℕ → ℕ → Type 0
 IsNoRowOf job n j = (z : ℕ) (d : SitePlate) → z < job.height → number_in (plate_at job j d) z ≢ n
 
 -- the count in the slot of a begun, unfinished plate is that plate's
-pub rows-known : (job : SiteJob) (n i : ℕ) (d : SitePlate) → IsJob job → finished_count job n ≤ i → i < length job.plates → (plate_at job i d).first ≤ n
+pub rows-known : (job : SiteJob) (n i : ℕ) (d : SitePlate) → IsJob job → finished_count job n ≤ i
+    → i < length job.plates → (plate_at job i d).first ≤ n
     → open_rows job n (plate_at job i d).slot ≡ given job.height (plate_at job i d) n
 rows-known job n i d is from within begun =
     let high : 0 < job.height = is.height.0 in
@@ -34,7 +35,8 @@ rows-known job n i d is from within begun =
     (cases_lt (plate_at job i d).first n)
 
 -- so the row is this one of the plate
-pub row-found : (job : SiteJob) (n i y : ℕ) (d : SitePlate) → IsJob job → finished_count job n ≤ i → i < length job.plates → (plate_at job i d).first ≤ n
+pub row-found : (job : SiteJob) (n i y : ℕ) (d : SitePlate) → IsJob job → finished_count job n ≤ i
+    → i < length job.plates → (plate_at job i d).first ≤ n
     → y ≡ open_rows job n (plate_at job i d).slot → number_in (plate_at job i d) y ≡ n → IsRowOf job n i y
 row-found job n i y d is from within begun rows here =
     let high : 0 < job.height = is.height.0 in
@@ -46,7 +48,8 @@ row-found job n i y d is from within begun rows here =
     }
 
 -- the number of a plate's next row is below the number of all rows
-pub next-within : (job : SiteJob) (n i y : ℕ) (d : SitePlate) → IsJob job → finished_count job n ≤ i → i < length job.plates → (plate_at job i d).first ≤ n
+pub next-within : (job : SiteJob) (n i y : ℕ) (d : SitePlate) → IsJob job → finished_count job n ≤ i
+    → i < length job.plates → (plate_at job i d).first ≤ n
     → y ≡ open_rows job n (plate_at job i d).slot → number_in (plate_at job i d) y < job.total
 next-within job n i y d is from within begun rows =
     let high : 0 < job.height = is.height.0 in
@@ -57,7 +60,8 @@ next-within job n i y d is from within begun rows =
     omega arith
 
 -- or it is not a row of the plate
-pub no-row_next : (job : SiteJob) (n i y : ℕ) (d : SitePlate) → IsJob job → finished_count job n ≤ i → i < length job.plates → (plate_at job i d).first ≤ n
+pub no-row_next : (job : SiteJob) (n i y : ℕ) (d : SitePlate) → IsJob job → finished_count job n ≤ i
+    → i < length job.plates → (plate_at job i d).first ≤ n
     → y ≡ open_rows job n (plate_at job i d).slot → number_in (plate_at job i d) y ≢ n → IsNoRowOf job n i
 no-row_next job n i y d is from within begun rows other z e below same =
     let known : y ≡ given job.height (plate_at job i d) n = rows ∙ rows-known job n i d is from within begun in
@@ -81,7 +85,8 @@ no-row_finished job n j is first z d below same =
     let most : number_in (plate_at job j d) z ≤ last_in job.height (plate_at job j d) = number-within (plate_at job j d) z (job.height - 1) (omega arith) in
     omega arith
 
-pub no-row_later : (job : SiteJob) (n i j : ℕ) (d : SitePlate) → IsJob job → i ≤ j → j < length job.plates → n < (plate_at job i d).first → IsNoRowOf job n j
+pub no-row_later : (job : SiteJob) (n i j : ℕ) (d : SitePlate) → IsJob job → i ≤ j → j < length job.plates
+    → n < (plate_at job i d).first → IsNoRowOf job n j
 no-row_later job n i j d is to within before z e below same =
     let least : number_in (plate_at job j e) 0 ≤ number_in (plate_at job j e) z = number-within (plate_at job j e) 0 z (omega arith) in
     ⊎_elim
@@ -96,5 +101,6 @@ no-row_later job n i j d is to within before z e below same =
     (cases_order i j)
 
 -- a row that belongs to none of the plates is not one of the site's
-pub no-row_all : (job : SiteJob) (n : ℕ) → ((j : ℕ) → j < length job.plates → IsNoRowOf job n j) → IsNoRow job n
+pub no-row_all : (job : SiteJob) (n : ℕ) → ((j : ℕ) → j < length job.plates → IsNoRowOf job n j)
+    → IsNoRow job n
 no-row_all job n each = record { none = λ k y d within below. each k within y d below }

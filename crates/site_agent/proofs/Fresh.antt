@@ -23,18 +23,21 @@ use Rattle.std.proofs.Common.{inl}
 abbrev In : PlanData → Group → Type 0
 In plan group = group.section < length plan.sections
 
-pair-in : (plan : PlanData) (section pair : ℕ) → section < length plan.sections → All (In plan) (pair_groups plan section pair)
+pair-in : (plan : PlanData) (section pair : ℕ) → section < length plan.sections
+    → All (In plan) (pair_groups plan section pair)
 unfolding pair_groups group_of
 pair-in plan section pair within k d less =
     let firsts : List ℕ = filter (is_first (site_pages plan section pair)) (range_with_len 0 (length plan.sites)) in
     let there = get_or-map (group_of plan section pair (site_pages plan section pair)) firsts k 0 d (omega (arith, length-map firsts (group_of plan section pair (site_pages plan section pair)))) in
     subst (λ (g : Group). In plan g) (sym there) within
 
-section-in : (plan : PlanData) (section : ℕ) → section < length plan.sections → All (In plan) (section_groups plan section)
+section-in : (plan : PlanData) (section : ℕ) → section < length plan.sections
+    → All (In plan) (section_groups plan section)
 unfolding section_groups
 section-in plan section within = all_pieces (In plan) (pair_groups plan section) 1 _ (λ pair low high. pair-in plan section pair within)
 
-numbered-in : (plan : PlanData) (height from : ℕ) (groups : List Group) → All (In plan) groups → All (In plan) (numbered height from groups)
+numbered-in : (plan : PlanData) (height from : ℕ) (groups : List Group) → All (In plan) groups
+    → All (In plan) (numbered height from groups)
 numbered-in plan height from [] all = All-nil (In plan)
 numbered-in plan height from (group ∷ groups) all =
     All-cons (In plan) (record group { first = from }) (numbered height (from + row_count height group) groups) (All-head (In plan) group groups all) (numbered-in plan height (from + row_count height group) groups (All-tail (In plan) group groups all))
@@ -51,7 +54,8 @@ open-start job slot =
     ap (λ p. option_map_or (λ q. given job.height q 0) p 0)
     (closed job 0 slot (λ j d less same. closed-cases job.height 0 (plate_at job j d) (inl (given-none job.height 0 (plate_at job j d) (omega arith)))))
 
-pub counts-fresh : (job : SiteJob) (slots : List StripState) → IsJob job → AreFresh (sides_of job) slots → IsCounting job 0 0 slots
+pub counts-fresh : (job : SiteJob) (slots : List StripState) → IsJob job → AreFresh (sides_of job) slots
+    → IsCounting job 0 0 slots
 counts-fresh job slots is fresh = record {
   is = is;
   within = omega arith;

@@ -12,7 +12,8 @@ use Rattle.site_agent.specs.Given.{given}
 use Rattle.site_agent.proofs.Fronts.{count_by-front, IsFront, front-pass, front-fail}
 
 -- the row numbers of a plate increase
-pub number-less : (plate : SitePlate) (y z : ℕ) → 0 < plate.step → y < z → number_in plate y < number_in plate z
+pub number-less : (plate : SitePlate) (y z : ℕ) → 0 < plate.step → y < z
+    → number_in plate y < number_in plate z
 number-less plate y z some less =
     let next : (y + 1) * plate.step ≡ y * plate.step + plate.step = add-mul y 1 plate.step ∙ ap (λ m. y * plate.step + m) (one-mul plate.step) in
     let most : (y + 1) * plate.step ≤ z * plate.step = mul-le-mul_right plate.step (omega arith) in
@@ -31,7 +32,8 @@ at : (height y d : ℕ) → y < height → get_or (range_with_len 0 height) y d 
 at height y d less = get_or-range_with_len 0 height y d less ∙ omega arith
 
 -- the first k rows are below row n, and no others
-pub given-is : (height k n : ℕ) (plate : SitePlate) → k ≤ height → ((y : ℕ) → y < k → number_in plate y < n) → ((y : ℕ) → k ≤ y → y < height → n ≤ number_in plate y)
+pub given-is : (height k n : ℕ) (plate : SitePlate) → k ≤ height → ((y : ℕ) → y < k → number_in plate y < n)
+    → ((y : ℕ) → k ≤ y → y < height → n ≤ number_in plate y)
     → given height plate n ≡ k
 unfolding given
 given-is height k n plate within less more =
@@ -53,33 +55,38 @@ unfolding given
 given-within height n plate = omega (arith, count_by-le-length (below plate n) (range_with_len 0 height), length-range_with_len 0 height)
 
 -- the rows given so far are those below row n
-pub given-below : (height n : ℕ) (plate : SitePlate) (y : ℕ) → y < given height plate n → number_in plate y < n
+pub given-below : (height n : ℕ) (plate : SitePlate) (y : ℕ) → y < given height plate n
+    → number_in plate y < n
 unfolding given
 given-below height n plate y first =
     let in_plate : y < height = omega (arith, count_by-le-length (below plate n) (range_with_len 0 height), length-range_with_len 0 height) in
     ltb-true (number_in plate y) n (sym (ap (below plate n) (at height y 0 in_plate)) ∙ front-pass (below plate n) (range_with_len 0 height) y 0 (front height n plate) first)
 
-pub given-above : (height n : ℕ) (plate : SitePlate) (y : ℕ) → given height plate n ≤ y → y < height → n ≤ number_in plate y
+pub given-above : (height n : ℕ) (plate : SitePlate) (y : ℕ) → given height plate n ≤ y → y < height
+    → n ≤ number_in plate y
 unfolding given
 given-above height n plate y from in_plate =
     ltb-false (number_in plate y) n
     (sym (ap (below plate n) (at height y 0 in_plate)) ∙ front-fail (below plate n) (range_with_len 0 height) y 0 (front height n plate) from (omega (arith, length-range_with_len 0 height)))
 
 -- before and after the plate's own row n
-pub given-at : (height n y : ℕ) (plate : SitePlate) → 0 < plate.step → y < height → number_in plate y ≡ n → given height plate n ≡ y
+pub given-at : (height n y : ℕ) (plate : SitePlate) → 0 < plate.step → y < height → number_in plate y ≡ n
+    → given height plate n ≡ y
 given-at height n y plate some inside is =
     given-is height y n plate (omega arith)
     (λ z first. let h : number_in plate z < number_in plate y = number-less plate z y some first in omega arith)
     (λ z from less. let h : number_in plate y ≤ number_in plate z = number-within plate y z from in omega arith)
 
-pub given-next : (height n y : ℕ) (plate : SitePlate) → 0 < plate.step → y < height → number_in plate y ≡ n → given height plate (n + 1) ≡ y + 1
+pub given-next : (height n y : ℕ) (plate : SitePlate) → 0 < plate.step → y < height → number_in plate y ≡ n
+    → given height plate (n + 1) ≡ y + 1
 given-next height n y plate some inside is =
     given-is height (y + 1) (n + 1) plate (omega arith)
     (λ z first. let h : number_in plate z ≤ number_in plate y = number-within plate z y (omega arith) in omega arith)
     (λ z from less. let h : number_in plate y < number_in plate z = number-less plate y z some (omega arith) in omega arith)
 
 -- another row changes nothing
-pub given-stays : (height n : ℕ) (plate : SitePlate) → ((y : ℕ) → y < height → number_in plate y ≢ n) → given height plate (n + 1) ≡ given height plate n
+pub given-stays : (height n : ℕ) (plate : SitePlate) → ((y : ℕ) → y < height → number_in plate y ≢ n)
+    → given height plate (n + 1) ≡ given height plate n
 given-stays height n plate other =
     let within : given height plate n ≤ height = given-within height n plate in
     given-is height (given height plate n) (n + 1) plate within
@@ -104,13 +111,15 @@ given-some height n plate high begun =
     (λ (none : given height plate n ≤ 0). absurd (let h : n ≤ number_in plate 0 = given-above height n plate 0 none high in omega arith))
     (cases_lt 0 (given height plate n))
 
-pub given-all : (height n : ℕ) (plate : SitePlate) → 0 < height → last_in height plate < n → given height plate n ≡ height
+pub given-all : (height n : ℕ) (plate : SitePlate) → 0 < height → last_in height plate < n
+    → given height plate n ≡ height
 given-all height n plate high ended =
     given-is height height n plate (omega arith)
     (λ y first. let h : number_in plate y ≤ last_in height plate = number-within plate y (height - 1) (omega arith) in omega arith)
     (λ y from less. absurd (omega arith))
 
-pub given-not_all : (height n : ℕ) (plate : SitePlate) → 0 < height → n ≤ last_in height plate → given height plate n < height
+pub given-not_all : (height n : ℕ) (plate : SitePlate) → 0 < height → n ≤ last_in height plate
+    → given height plate n < height
 given-not_all height n plate high open' =
     ⊎_elim
     (λ (some : given height plate n < height). some)
@@ -121,7 +130,8 @@ given-not_all height n plate high open' =
 pub given-begun : (height n : ℕ) (plate : SitePlate) → 0 < given height plate n → plate.first < n
 given-begun height n plate some = let h : number_in plate 0 < n = given-below height n plate 0 some in omega arith
 
-pub given-unfinished : (height n : ℕ) (plate : SitePlate) → given height plate n < height → n ≤ last_in height plate
+pub given-unfinished : (height n : ℕ) (plate : SitePlate) → given height plate n < height
+    → n ≤ last_in height plate
 given-unfinished height n plate some =
     let within : given height plate n ≤ height - 1 = omega arith in
     given-above height n plate (height - 1) within (omega arith)

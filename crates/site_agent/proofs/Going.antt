@@ -35,19 +35,23 @@ empty_at (Some None) empty = refl
 empty_at (Some (Some plate)) empty = absurd (let e : true ≡ false = same_Some true false empty in cc)
 
 -- a rack without begun slots is idle
-pub idle_at_first : (tells : Tells) → tells.begun ≡ none_begun → IfSome tells.working (λ slots. tells.begun ≡ map is_some slots) → IsIdle tells
+pub idle_at_first : (tells : Tells) → tells.begun ≡ none_begun
+    → IfSome tells.working (λ slots. tells.begun ≡ map is_some slots) → IsIdle tells
 idle_at_first tells begun told = record {
   begun = λ n less. ap (λ list. slice_get list n) begun ∙ false_at n less;
   working = by_told tells.working told;
 } where
-  by_told : (working : Option Slots) → IfSome working (λ slots. tells.begun ≡ map is_some slots) → IfSome working (λ slots. (n : ℕ) → n < 5 → slice_get slots n ≡ Some None)
+  by_told : (working : Option Slots) → IfSome working (λ slots. tells.begun ≡ map is_some slots)
+      → IfSome working (λ slots. (n : ℕ) → n < 5 → slice_get slots n ≡ Some None)
   by_told None none = tt
   by_told (Some slots) are = λ n less.
       empty_at (slice_get slots n) (sym (slice_get-map is_some slots n) ∙ ap (λ list. slice_get list n) (sym are ∙ begun) ∙ false_at n less)
 
 -- a new site with such a rack
-pub going_at_start : (plan : PlanData) (rows : List (List ℕ)) (out : List ℕ) (site : ℕ) (source : Source) (tells : Tells) → IsPlan plan → IsIdle tells → length rows ≡ length (row_places plan)
-    → All (λ row. length row ≡ row_size (plate_width plan)) rows → IsGoing rows source tells tells (fresh_site plan out site)
+pub going_at_start : (plan : PlanData) (rows : List (List ℕ)) (out : List ℕ) (site : ℕ) (source : Source)
+    (tells : Tells) → IsPlan plan → IsIdle tells → length rows ≡ length (row_places plan)
+    → All (λ row. length row ≡ row_size (plate_width plan)) rows
+    → IsGoing rows source tells tells (fresh_site plan out site)
 going_at_start plan rows out site source tells is idle total sides = record {
   on = refl;
   total = total;
@@ -56,8 +60,10 @@ going_at_start plan rows out site source tells is idle total sides = record {
 }
 
 -- one more row, by what `Site::keep` ensures when the result is Done
-pub going_further : (rows : List (List ℕ)) (source : Source) (before old now : Tells) (site next : SiteData) → IsGoing rows source before old site → GoesOn site next
-    → (StandsAfter site.job rows source site.next before old site.counts → StandsAfter site.job rows source (site.next + 1) before now next.counts)
+pub going_further : (rows : List (List ℕ)) (source : Source) (before old now : Tells) (site next : SiteData)
+    → IsGoing rows source before old site → GoesOn site next
+    → (StandsAfter site.job rows source site.next before old site.counts
+    → StandsAfter site.job rows source (site.next + 1) before now next.counts)
     → IsGoing rows source before now next
 going_further rows source before old now site next going goes keeps =
     let P : SiteJob → Type 0 = λ job. length rows ≡ job.total in
@@ -72,26 +78,32 @@ going_further rows source before old now site next going goes keeps =
 
 -- ---- what `Site::keep` requires when the next of these rows is given to it
 
-pub going_within : (rows : List (List ℕ)) (source : Source) (before now : Tells) (site : SiteData) (row : List ℕ) → IsGoing rows source before now site → slice_get rows site.next ≡ Some row
+pub going_within : (rows : List (List ℕ)) (source : Source) (before now : Tells) (site : SiteData)
+    (row : List ℕ) → IsGoing rows source before now site → slice_get rows site.next ≡ Some row
     → site.next < site.job.total
 going_within rows source before now site row going there = omega (arith, slice_get_within rows site.next row there, going.total)
 
-pub going_sides : (rows : List (List ℕ)) (source : Source) (before now : Tells) (site : SiteData) (row : List ℕ) → IsGoing rows source before now site → slice_get rows site.next ≡ Some row
+pub going_sides : (rows : List (List ℕ)) (source : Source) (before now : Tells) (site : SiteData)
+    (row : List ℕ) → IsGoing rows source before now site → slice_get rows site.next ≡ Some row
     → length row ≡ row_size site.job.width
 going_sides rows source before now site row going there =
     ap length (sym (get_or_from_slice_get rows site.next row row there)) ∙ going.sides site.next row (slice_get_within rows site.next row there)
 
-pub going_begun : (rows : List (List ℕ)) (source : Source) (before now : Tells) (site : SiteData) → IsGoing rows source before now site → AreBegun site.job site.next now.begun
+pub going_begun : (rows : List (List ℕ)) (source : Source) (before now : Tells) (site : SiteData)
+    → IsGoing rows source before now site → AreBegun site.job site.next now.begun
 going_begun rows source before now site going = asks_begun site.job rows source site.next before now site.counts going.stands
 
-pub going_working : (rows : List (List ℕ)) (source : Source) (before now : Tells) (site : SiteData) → IsGoing rows source before now site → IfSome now.working (AreAsLong site.job site.next site.counts)
+pub going_working : (rows : List (List ℕ)) (source : Source) (before now : Tells) (site : SiteData)
+    → IsGoing rows source before now site → IfSome now.working (AreAsLong site.job site.next site.counts)
 going_working rows source before now site going = asks_working site.job rows source site.next before now site.counts going.stands
 
 -- ---- after the last row
 
 -- the rack's finished plates grew by exactly the site's files
-pub going_at_end : (plan : PlanData) (rows : List (List ℕ)) (out : List ℕ) (index : ℕ) (source : Source) (before now : Tells) (site : SiteData) → IsPlan plan → site.job ≡ job_of plan out index
-    → site.next ≡ length (row_places plan) → IsGoing rows source before now site → now.finished ≡ grown (site_files plan rows out index) before.finished
+pub going_at_end : (plan : PlanData) (rows : List (List ℕ)) (out : List ℕ) (index : ℕ) (source : Source)
+    (before now : Tells) (site : SiteData) → IsPlan plan → site.job ≡ job_of plan out index
+    → site.next ≡ length (row_places plan) → IsGoing rows source before now site
+    → now.finished ≡ grown (site_files plan rows out index) before.finished
 going_at_end plan rows out index source before now site is job last going =
     site_at_end plan rows out index source before now site.counts is
     (subst (λ (n : ℕ). StandsAfter (job_of plan out index) rows source n before now site.counts) last

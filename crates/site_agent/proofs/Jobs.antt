@@ -29,7 +29,8 @@ use Rattle.site_agent.proofs.Givens.{number-within}
 
 -- ---- lists
 
-AllPairs-append : {X : Type 0} (R : X → X → Type 0) (xs ys : List X) → AllPairs R xs → AllPairs R ys → All (λ x. All (λ y. R x y) ys) xs → AllPairs R (xs ++ ys)
+AllPairs-append : {X : Type 0} (R : X → X → Type 0) (xs ys : List X) → AllPairs R xs → AllPairs R ys
+    → All (λ x. All (λ y. R x y) ys) xs → AllPairs R (xs ++ ys)
 AllPairs-append R [] ys first second across i j d less within = second i j d less within
 AllPairs-append R (x ∷ xs) ys first second across zero zero d less within = absurd (omega arith)
 AllPairs-append {X} R (x ∷ xs) ys first second across zero (suc j) d less within =
@@ -40,7 +41,8 @@ AllPairs-append {X} R (x ∷ xs) ys first second across zero (suc j) d less with
       get-left : (xs ys : List X) (j : ℕ) (d : X) → j < length xs → get_or (xs ++ ys) j d ≡ get_or xs j d
       get-left xs ys j d inside = get_or_append_left xs ys d j inside
 
-      get-right : (xs ys : List X) (j : ℕ) (d : X) → length xs ≤ j → get_or (xs ++ ys) j d ≡ get_or ys (j - length xs) d
+      get-right : (xs ys : List X) (j : ℕ) (d : X) → length xs ≤ j
+          → get_or (xs ++ ys) j d ≡ get_or ys (j - length xs) d
       get-right xs ys j d past = get_or-append_right xs ys (length xs) j d refl past
 AllPairs-append R (x ∷ xs) ys first second across (suc i) zero d less within = absurd (omega arith)
 AllPairs-append R (x ∷ xs) ys first second across (suc i) (suc j) d less within =
@@ -52,7 +54,8 @@ All-both P Q xs weaker all k d less = weaker (get_or xs k d) (all k d less)
 -- ---- two plates
 
 -- all rows of one precede all of the other
-before-apart : (height : ℕ) (plate next : SitePlate) → 0 < height → last_in height plate < next.first → IsBefore height plate next
+before-apart : (height : ℕ) (plate next : SitePlate) → 0 < height → last_in height plate < next.first
+    → IsBefore height plate next
 before-apart height plate next high less =
     let from : number_in plate 0 ≤ last_in height plate = number-within plate 0 (height - 1) (omega arith) in
     let to : number_in next 0 ≤ last_in height next = number-within next 0 (height - 1) (omega arith) in
@@ -76,8 +79,10 @@ turns-apart base i j y z count less within same =
     (cases_lt y (z + 1))
 
 -- the plate in the ink at index k of a group
-plate-in : (plan : PlanData) (out : List ℕ) (site : ℕ) (group : Group) (k : ℕ) (d : SitePlate) (ink : Ink) → k < ink_count group
-    → get_or (map (λ i. plate_of plan out site (group, i)) (inks_of group)) k d ≡ plate_of plan out site (group, get_or (inks_of group) k ink)
+plate-in : (plan : PlanData) (out : List ℕ) (site : ℕ) (group : Group) (k : ℕ) (d : SitePlate) (ink : Ink)
+    → k < ink_count group
+    → get_or (map (λ i. plate_of plan out site (group, i)) (inks_of group)) k d
+    ≡ plate_of plan out site (group, get_or (inks_of group) k ink)
 plate-in plan out site group k d ink less = get_or-map (λ i. plate_of plan out site (group, i)) (inks_of group) k ink d less
 
 slot-five : (ink : Ink) → slot_of ink < 5
@@ -93,7 +98,9 @@ pub record IsInside (height from to : ℕ) (plate : SitePlate) : Type 0 where
   pub most : last_in height plate < to
   pub is : IsSitePlate plate
 
-group-each : (plan : PlanData) (out : List ℕ) (site height : ℕ) (group : Group) → 0 < height → All (IsInside height group.first (group.first + row_count height group)) (map (λ i. plate_of plan out site (group, i)) (inks_of group))
+group-each : (plan : PlanData) (out : List ℕ) (site height : ℕ) (group : Group) → 0 < height
+    → All (IsInside height group.first (group.first + row_count height group))
+    (map (λ i. plate_of plan out site (group, i)) (inks_of group))
 group-each plan out site height group high k d less =
     let small : k < ink_count group = omega (arith, length-map (inks_of group) (λ i. plate_of plan out site (group, i))) in
     let P : SitePlate → Type 0 = IsInside height group.first (group.first + row_count height group) in
@@ -104,7 +111,8 @@ group-each plan out site height group high k d less =
     subst P (sym (plate-in plan out site group k d K small))
     (record { least = omega arith; most = omega arith; is = record { slot = slot-five (get_or (inks_of group) k K); step = omega arith } })
 
-group-order : (plan : PlanData) (out : List ℕ) (site height : ℕ) (group : Group) → 0 < height → AllPairs (IsBefore height) (map (λ i. plate_of plan out site (group, i)) (inks_of group))
+group-order : (plan : PlanData) (out : List ℕ) (site height : ℕ) (group : Group) → 0 < height
+    → AllPairs (IsBefore height) (map (λ i. plate_of plan out site (group, i)) (inks_of group))
 group-order plan out site height group high i j d less within =
     let small : j < ink_count group = omega (arith, length-map (inks_of group) (λ i'. plate_of plan out site (group, i'))) in
     let one : Ink = get_or (inks_of group) i K in
@@ -125,7 +133,8 @@ group-order plan out site height group high i j d less within =
 
 -- ---- all plates of a site
 
-inside-wider : (height from to low high : ℕ) (plate : SitePlate) → low ≤ from → to ≤ high → IsInside height from to plate → IsInside height low high plate
+inside-wider : (height from to low high : ℕ) (plate : SitePlate) → low ≤ from → to ≤ high
+    → IsInside height from to plate → IsInside height low high plate
 inside-wider height from to low high plate least most inside =
     let a : from ≤ plate.first = inside.least in
     let b : last_in height plate < to = inside.most in
@@ -133,13 +142,17 @@ inside-wider height from to low high plate least most inside =
 
 -- the plates of one more group
 list-with : (plan : PlanData) (out : List ℕ) (site : ℕ) (group : Group) (groups : List Group)
-    → map (plate_of plan out site) (flat_map group_plates (group ∷ groups)) ≡ map (λ i. plate_of plan out site (group, i)) (inks_of group) ++ map (plate_of plan out site) (flat_map group_plates groups)
+    → map (plate_of plan out site) (flat_map group_plates (group ∷ groups))
+    ≡ map (λ i. plate_of plan out site (group, i)) (inks_of group)
+    ++ map (plate_of plan out site) (flat_map group_plates groups)
 list-with plan out site group groups =
     map-append (plate_of plan out site) (group_plates group) (flat_map group_plates groups)
     ∙ ap (λ list. list ++ map (plate_of plan out site) (flat_map group_plates groups)) (map-map (plate_of plan out site) (λ i. (group, i)) (inks_of group))
 
-sites-each : (plan : PlanData) (out : List ℕ) (site height from : ℕ) (test : Group → Bool) (groups : List Group) → 0 < height
-    → All (IsInside height from (from + sum_by (row_count height) groups)) (map (plate_of plan out site) (flat_map group_plates (filter test (numbered height from groups))))
+sites-each : (plan : PlanData) (out : List ℕ) (site height from : ℕ) (test : Group → Bool)
+    (groups : List Group) → 0 < height
+    → All (IsInside height from (from + sum_by (row_count height) groups))
+    (map (plate_of plan out site) (flat_map group_plates (filter test (numbered height from groups))))
 sites-each plan out site height from test [] high = All-nil (IsInside height from (from + 0))
 sites-each plan out site height from test (group ∷ groups) high =
     let first : Group = record group { first = from } in
@@ -159,8 +172,10 @@ sites-each plan out site height from test (group ∷ groups) high =
     rest))
     (λ no'. rest)
 
-sites-order : (plan : PlanData) (out : List ℕ) (site height from : ℕ) (test : Group → Bool) (groups : List Group) → 0 < height
-    → AllPairs (IsBefore height) (map (plate_of plan out site) (flat_map group_plates (filter test (numbered height from groups))))
+sites-order : (plan : PlanData) (out : List ℕ) (site height from : ℕ) (test : Group → Bool)
+    (groups : List Group) → 0 < height
+    → AllPairs (IsBefore height) (map (plate_of plan out site)
+    (flat_map group_plates (filter test (numbered height from groups))))
 sites-order plan out site height from test [] high = λ i j d less within. absurd (omega arith)
 sites-order plan out site height from test (group ∷ groups) high =
     let first : Group = record group { first = from } in
@@ -179,7 +194,8 @@ sites-order plan out site height from test (group ∷ groups) high =
     (λ no'. rest)
 
 -- there are no more plates than rows
-few-plates : (height total : ℕ) (plates : List SitePlate) (k : ℕ) (d : SitePlate) → AllPairs (IsBefore height) plates → k < length plates → k ≤ (get_or plates k d).first
+few-plates : (height total : ℕ) (plates : List SitePlate) (k : ℕ) (d : SitePlate)
+    → AllPairs (IsBefore height) plates → k < length plates → k ≤ (get_or plates k d).first
 few-plates height total plates zero d order within = omega arith
 few-plates height total plates (suc k) d order within =
     let before : k ≤ (get_or plates k d).first = few-plates height total plates k d order (omega arith) in

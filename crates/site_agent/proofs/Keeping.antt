@@ -27,43 +27,54 @@ use Rattle.site_agent.proofs.Standing.{row_kept}
 
 -- ---- the result if the rack refused a call
 
-pub done-refused : (kept : Kept) (fault : RackFault) (cause : LeftCause) (P : Type 0) → kept ≡ kept_of fault cause → OnDone kept P
+pub done-refused : (kept : Kept) (fault : RackFault) (cause : LeftCause) (P : Type 0)
+    → kept ≡ kept_of fault cause → OnDone kept P
 done-refused kept Failed cause P is = subst (λ (k : Kept). OnDone k P) (sym is) tt
 done-refused kept Memory cause P is = subst (λ (k : Kept). OnDone k P) (sym is) tt
 
-pub left-refused : (kept : Kept) (fault : RackFault) (cause : LeftCause) (P : LeftCause → Type 0) → kept ≡ kept_of fault cause → (fault ≡ Failed → P cause) → IfLeft kept P
+pub left-refused : (kept : Kept) (fault : RackFault) (cause : LeftCause) (P : LeftCause → Type 0)
+    → kept ≡ kept_of fault cause → (fault ≡ Failed → P cause) → IfLeft kept P
 left-refused kept Failed cause P is holds = subst (λ (k : Kept). IfLeft k P) (sym is) (holds refl)
 left-refused kept Memory cause P is holds = subst (λ (k : Kept). IfLeft k P) (sym is) tt
 
-pub memory-refused : (kept : Kept) (fault : RackFault) (cause : LeftCause) (P : Type 0) → kept ≡ kept_of fault cause → P → OnMemory kept P
+pub memory-refused : (kept : Kept) (fault : RackFault) (cause : LeftCause) (P : Type 0)
+    → kept ≡ kept_of fault cause → P → OnMemory kept P
 memory-refused kept Failed cause P is holds = subst (λ (k : Kept). OnMemory k P) (sym is) tt
 memory-refused kept Memory cause P is holds = subst (λ (k : Kept). OnMemory k P) (sym is) holds
 
-pub end-refused : (kept : Kept) (fault : RackFault) (cause : LeftCause) (P : Type 0) → kept ≡ kept_of fault cause → P → OnEnd kept P
+pub end-refused : (kept : Kept) (fault : RackFault) (cause : LeftCause) (P : Type 0)
+    → kept ≡ kept_of fault cause → P → OnEnd kept P
 end-refused kept Failed cause P is holds = subst (λ (k : Kept). OnEnd k P) (sym is) holds
 end-refused kept Memory cause P is holds = subst (λ (k : Kept). OnEnd k P) (sym is) holds
 
-pub memory-only : (kept : Kept) (fault : RackFault) (cause : LeftCause) (P : Type 0) → kept ≡ kept_of fault cause → (fault ≡ Memory → P) → OnMemory kept P
+pub memory-only : (kept : Kept) (fault : RackFault) (cause : LeftCause) (P : Type 0)
+    → kept ≡ kept_of fault cause → (fault ≡ Memory → P) → OnMemory kept P
 memory-only kept Failed cause P is holds = subst (λ (k : Kept). OnMemory k P) (sym is) tt
 memory-only kept Memory cause P is holds = subst (λ (k : Kept). OnMemory k P) (sym is) (holds refl)
 
 -- the row was taken once or not at all
-pub taken-once : (call : RackCall) (number : ℕ) (source : Source) (old new : Option (List (ℕ × Source))) → new ≡ taken_at call number source old → TakenOnce number source old new
+pub taken-once : (call : RackCall) (number : ℕ) (source : Source) (old new : Option (List (ℕ × Source)))
+    → new ≡ taken_at call number source old → TakenOnce number source old new
 taken-once Begin number source old new is = inl is
 taken-once Row number source old new is = inl is
 taken-once Finish number source old new is = inr is
 
 -- ---- the site and its rack
 
-pub strips-of : (job : SiteJob) (n finished : ℕ) (slots : List StripState) (s : ℕ) → IsCounting job n finished slots → s < 5 → s < length slots → length (slice_index_or (counts_of slots) s []) ≡ strip_count job.width job.height
+pub strips-of : (job : SiteJob) (n finished : ℕ) (slots : List StripState) (s : ℕ)
+    → IsCounting job n finished slots → s < 5 → s < length slots
+    → length (slice_index_or (counts_of slots) s []) ≡ strip_count job.width job.height
 strips-of job n finished [] s counting less within = absurd (omega arith)
 strips-of job n finished (d ∷ slots) s counting less within = ap length (get_or-map (λ slot. slot.counts) (d ∷ slots) s d [] within) ∙ (counting.each s d less).strips
 
 -- one row of a plate, which is in this slot
-pub row_kept-slot : (job : SiteJob) (rows : List (List ℕ)) (source : Source) (n k y slot : ℕ) (before old now : Tells) (counts after : List (List ℕ)) (d : SitePlate) (frame : List ℕ) → IsJob job → IsRowOf job n k y
-    → (plate_at job k d).slot ≡ slot → StandsAfter job rows source n before old counts → FinishedTold old → IsFrame frame → slice_get rows n ≡ Some (framed_row frame)
+pub row_kept-slot : (job : SiteJob) (rows : List (List ℕ)) (source : Source) (n k y slot : ℕ)
+    (before old now : Tells) (counts after : List (List ℕ)) (d : SitePlate) (frame : List ℕ) → IsJob job
+    → IsRowOf job n k y → (plate_at job k d).slot ≡ slot → StandsAfter job rows source n before old counts
+    → FinishedTold old → IsFrame frame → slice_get rows n ≡ Some (framed_row frame)
     → length (slice_index_or counts slot []) ≡ strip_count job.width job.height
-    → slice_index_or after slot [] ≡ counted y (y / rows_each job.width) (length (packed_in frame)) (slice_index_or counts slot [])
+    → slice_index_or after slot []
+    ≡ counted y (y / rows_each job.width) (length (packed_in frame)) (slice_index_or counts slot [])
     → ((s : ℕ) → s < 5 → s ≢ slot → slice_index_or after s [] ≡ slice_index_or counts s [])
     → now ≡ after_row (sides_of job) (plate_at job k d) y n frame source (slice_index_or after slot []) old
     → StandsAfter job rows source (n + 1) before now after

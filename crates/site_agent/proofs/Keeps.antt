@@ -47,12 +47,14 @@ contains-head x xs = (0, omega arith, refl)
 contains-tail : {X : Type 0} (z x : X) (xs : List X) → Contains xs x → Contains (z ∷ xs) x
 contains-tail z x xs (k, within, is) = (suc k, omega arith, is)
 
-contains-flat : {X Y : Type 0} (f : X → List Y) (xs : List X) (x : X) (y : Y) → Contains xs x → Contains (f x) y → Contains (flat_map f xs) y
+contains-flat : {X Y : Type 0} (f : X → List Y) (xs : List X) (x : X) (y : Y) → Contains xs x
+    → Contains (f x) y → Contains (flat_map f xs) y
 contains-flat f [] x y (k, within, is) there = absurd (omega arith)
 contains-flat {X} {Y} f (z ∷ xs) x y (zero, within, is) there = contains-left (f z) (flat_map f xs) y (subst (λ (w : X). Contains (f w) y) (sym is) there)
 contains-flat f (z ∷ xs) x y (suc k, within, is) there = contains-right (f z) (flat_map f xs) y (contains-flat f xs x y (k, omega arith, is) there)
 
-contains-filter : {X : Type 0} (test : X → Bool) (xs : List X) (x : X) → test x ≡ true → Contains xs x → Contains (filter test xs) x
+contains-filter : {X : Type 0} (test : X → Bool) (xs : List X) (x : X) → test x ≡ true → Contains xs x
+    → Contains (filter test xs) x
 contains-filter test [] x passes (k, within, is) = absurd (omega arith)
 contains-filter {X} test (z ∷ xs) x passes (zero, within, is) =
     subst (λ (list : List X). Contains list x) (sym (cond-true (test z) (z ∷ filter test xs) (filter test xs) (ap test is ∙ passes))) (0, omega arith, is)
@@ -67,7 +69,8 @@ contains-map : {X Y : Type 0} (f : X → Y) (xs : List X) (x : X) → Contains x
 contains-map f xs x (k, within, is) = (k, omega (arith, length-map xs f), get_or-map f xs k x (f x) within ∙ ap f is)
 
 -- the converse
-from-flat : {X Y : Type 0} (f : X → List Y) (xs : List X) (y : Y) → Contains (flat_map f xs) y → (x : X) × Contains xs x × Contains (f x) y
+from-flat : {X Y : Type 0} (f : X → List Y) (xs : List X) (y : Y) → Contains (flat_map f xs) y
+    → (x : X) × Contains xs x × Contains (f x) y
 from-flat f [] y (k, within, is) = absurd (omega arith)
 from-flat {X} {Y} f (x ∷ xs) y there = ⊎_elim
     (λ (here : Contains (f x) y). (x, contains-head x xs, here))
@@ -79,25 +82,30 @@ from-flat {X} {Y} f (x ∷ xs) y there = ⊎_elim
       from-append (z ∷ zs) ys y (suc k, within, is) =
           ⊎_elim (λ (a : Contains zs y). inl (contains-tail z y zs a)) (λ (b : Contains ys y). inr b) (from-append zs ys y (k, omega arith, is))
 
-from-filter : {X : Type 0} (test : X → Bool) (xs : List X) (x : X) → Contains (filter test xs) x → Contains xs x × (test x ≡ true)
+from-filter : {X : Type 0} (test : X → Bool) (xs : List X) (x : X) → Contains (filter test xs) x
+    → Contains xs x × (test x ≡ true)
 from-filter test [] x (k, within, is) = absurd (omega arith)
 from-filter {X} test (z ∷ xs) x there =
     ⊎_elim
     (λ (pass : test z ≡ true). first pass (λ (later : Contains (filter test xs) x). from-filter test xs x later) (subst (λ (list : List X). Contains list x) (cond-true (test z) (z ∷ filter test xs) (filter test xs) pass) there))
     (λ (fail : test z ≡ false). let rest = from-filter test xs x (subst (λ (list : List X). Contains list x) (cond-false (test z) (z ∷ filter test xs) (filter test xs) fail) there) in (contains-tail z x xs rest.0, rest.1))
     (cases_Bool (test z)) where
-      first : test z ≡ true → (Contains (filter test xs) x → Contains xs x × (test x ≡ true)) → Contains (z ∷ filter test xs) x → Contains (z ∷ xs) x × (test x ≡ true)
+      first : test z ≡ true → (Contains (filter test xs) x → Contains xs x × (test x ≡ true))
+          → Contains (z ∷ filter test xs) x → Contains (z ∷ xs) x × (test x ≡ true)
       first pass further (zero, within, is) = ((0, omega arith, is), ap test (sym is) ∙ pass)
       first pass further (suc k, within, is) = let rest = further (k, omega arith, is) in (contains-tail z x xs rest.0, rest.1)
 
-from-map : {X Y : Type 0} (f : X → Y) (xs : List X) (y : Y) → Contains (map f xs) y → (x : X) × Contains xs x × (f x ≡ y)
+from-map : {X Y : Type 0} (f : X → Y) (xs : List X) (y : Y) → Contains (map f xs) y
+    → (x : X) × Contains xs x × (f x ≡ y)
 from-map f [] y (k, within, is) = absurd (omega arith)
 from-map f (x ∷ xs) y (zero, within, is) = (x, contains-head x xs, is)
 from-map f (x ∷ xs) y (suc k, within, is) = let rest = from-map f xs y (k, omega arith, is) in (rest.0, contains-tail x rest.0 xs rest.1, rest.2)
 
 -- ---- the plates of a site
 
-plate-of : (plan : PlanData) (site : ℕ) (group : Group) (ink : Ink) → Contains (groups_of plan) group → has_site group site ≡ true → Contains (inks_of group) ink → Contains (site_plates plan site) (group, ink)
+plate-of : (plan : PlanData) (site : ℕ) (group : Group) (ink : Ink) → Contains (groups_of plan) group
+    → has_site group site ≡ true → Contains (inks_of group) ink
+    → Contains (site_plates plan site) (group, ink)
 unfolding site_plates
 plate-of plan site group ink of printed inked =
     contains-flat group_plates (filter (λ g. has_site g site) (groups_of plan)) group (group, ink)
@@ -109,7 +117,8 @@ record IsPlateOf (plan : PlanData) (site : ℕ) (plate : PlateOf) : Type 0 where
   printed : has_site plate.0 site ≡ true
   inked : Contains (inks_of plate.0) plate.1
 
-plate-is : (plan : PlanData) (site : ℕ) (plate : PlateOf) → Contains (site_plates plan site) plate → IsPlateOf plan site plate
+plate-is : (plan : PlanData) (site : ℕ) (plate : PlateOf) → Contains (site_plates plan site) plate
+    → IsPlateOf plan site plate
 unfolding site_plates
 plate-is plan site plate there =
     let found = from-flat group_plates (filter (λ g. has_site g site) (groups_of plan)) plate there in
@@ -120,7 +129,9 @@ plate-is plan site plate there =
 
 -- ---- rows
 
-row-of : (plan : PlanData) (out : List ℕ) (site n y : ℕ) (plate : PlateOf) (there : Contains (site_plates plan site) plate) → y < plate_height plan → n ≡ row_number plate.0 y plate.1 → IsRowOf (job_of plan out site) n there.0 y
+row-of : (plan : PlanData) (out : List ℕ) (site n y : ℕ) (plate : PlateOf)
+    (there : Contains (site_plates plan site) plate) → y < plate_height plan
+    → n ≡ row_number plate.0 y plate.1 → IsRowOf (job_of plan out site) n there.0 y
 row-of plan out site n y plate (k, within, is) below number = record {
   within = omega (arith, length-map (site_plates plan site) (plate_of plan out site));
   below = below;
@@ -128,7 +139,8 @@ row-of plan out site n y plate (k, within, is) below number = record {
 }
 
 -- a row of a group that the site does not print
-no-row : (plan : PlanData) (out : List ℕ) (site n index y : ℕ) (group : Group) (ink : Ink) → IsPlan plan → IsRowAt plan n index group y ink → has_site group site ≡ false → IsNoRow (job_of plan out site) n
+no-row : (plan : PlanData) (out : List ℕ) (site n index y : ℕ) (group : Group) (ink : Ink) → IsPlan plan
+    → IsRowAt plan n index group y ink → has_site group site ≡ false → IsNoRow (job_of plan out site) n
 no-row plan out site n index y group ink is at other = record {
   none = λ k z d within below same.
       let inside : k < length (site_plates plan site) = omega (arith, length-map (site_plates plan site) (plate_of plan out site)) in
@@ -143,7 +155,8 @@ no-row plan out site n index y group ink is at other = record {
 }
 
 -- a site's job has exactly the rows that the site keeps of the plan
-pub kept_is : (plan : PlanData) (out : List ℕ) (site n : ℕ) → IsPlan plan → n < length (row_places plan) → is_kept (job_of plan out site) n ≡ keeps_row plan site n
+pub kept_is : (plan : PlanData) (out : List ℕ) (site n : ℕ) → IsPlan plan → n < length (row_places plan)
+    → is_kept (job_of plan out site) n ≡ keeps_row plan site n
 kept_is plan out site n is within = by_place (get_or (row_places plan) n any) (slice_get-get_or (row_places plan) n any within) where
   any : RowPlace
   any = record { group = 0; y = 0; ink = K; slot = 0 }
@@ -151,7 +164,8 @@ kept_is plan out site n is within = by_place (get_or (row_places plan) n any) (s
   none : SitePlate
   none = record { path = []; first = 0; step = 0; slot = 0 }
 
-  by_place : (place : RowPlace) → slice_get (row_places plan) n ≡ Some place → is_kept (job_of plan out site) n ≡ keeps_row plan site n
+  by_place : (place : RowPlace) → slice_get (row_places plan) n ≡ Some place
+      → is_kept (job_of plan out site) n ≡ keeps_row plan site n
   by_place place there =
       let found = row_found plan n place is there in
       let group : Group = found.0 in
@@ -167,15 +181,18 @@ kept_is plan out site n is within = by_place (get_or (row_places plan) n any) (s
       is_kept-none (job_of plan out site) n (no-row plan out site n place.group place.y group place.ink is at other) ∙ sym (keeps ∙ other))
       (cases_Bool (has_site group site))
 
-filter-alike : {X : Type 0} (p q : X → Bool) (xs : List X) → ((k : ℕ) (d : X) → k < length xs → p (get_or xs k d) ≡ q (get_or xs k d)) → filter p xs ≡ filter q xs
+filter-alike : {X : Type 0} (p q : X → Bool) (xs : List X)
+    → ((k : ℕ) (d : X) → k < length xs → p (get_or xs k d) ≡ q (get_or xs k d)) → filter p xs ≡ filter q xs
 filter-alike p q [] alike = refl
 filter-alike p q (x ∷ xs) alike =
     ap (λ b. cond b (x ∷ filter p xs) (filter p xs)) (alike 0 x (omega arith))
     ∙ ap (λ list. cond (q x) (x ∷ list) list) (filter-alike p q xs (λ k d less. alike (suc k) d (omega arith)))
 
 -- the rows taken below row m are those that the site keeps of the plan
-pub drawn_below : (plan : PlanData) (out : List ℕ) (site : ℕ) (source : Source) (m : ℕ) → IsPlan plan → m ≤ length (row_places plan)
-    → taken_below (job_of plan out site) source m ≡ map (λ n. (n, source)) (filter (keeps_row plan site) (range_with_len 0 m))
+pub drawn_below : (plan : PlanData) (out : List ℕ) (site : ℕ) (source : Source) (m : ℕ) → IsPlan plan
+    → m ≤ length (row_places plan)
+    → taken_below (job_of plan out site) source m
+    ≡ map (λ n. (n, source)) (filter (keeps_row plan site) (range_with_len 0 m))
 unfolding kept_below
 drawn_below plan out site source m is most =
     ap (map (λ n. (n, source))) (filter-alike (is_kept (job_of plan out site)) (keeps_row plan site) (range_with_len 0 m)
@@ -185,12 +202,14 @@ drawn_below plan out site source m is most =
     ap (is_kept (job_of plan out site)) there ∙ kept_is plan out site k is (omega arith) ∙ ap (keeps_row plan site) (sym there)))
 
 -- after the last row, all rows that the site keeps have been taken
-pub drawn_at_end : (plan : PlanData) (out : List ℕ) (site : ℕ) (source : Source) → IsPlan plan → taken_below (job_of plan out site) source (length (row_places plan)) ≡ drawn_rows plan site source
+pub drawn_at_end : (plan : PlanData) (out : List ℕ) (site : ℕ) (source : Source) → IsPlan plan
+    → taken_below (job_of plan out site) source (length (row_places plan)) ≡ drawn_rows plan site source
 drawn_at_end plan out site source is = drawn_below plan out site source (length (row_places plan)) is (omega arith)
 
 -- ---- a site that dropped out
 
-count_by-map : {X Y : Type 0} (p : Y → Bool) (q : X → Bool) (f : X → Y) (xs : List X) → ((x : X) → p (f x) ≡ q x) → count_by p (map f xs) ≡ count_by q xs
+count_by-map : {X Y : Type 0} (p : Y → Bool) (q : X → Bool) (f : X → Y) (xs : List X)
+    → ((x : X) → p (f x) ≡ q x) → count_by p (map f xs) ≡ count_by q xs
 count_by-map p q f [] same = refl
 count_by-map p q f (x ∷ xs) same =
     sum_by-cons (λ y. cond (p y) 1 0) (f x) (map f xs)
@@ -198,14 +217,16 @@ count_by-map p q f (x ∷ xs) same =
     ∙ ap (λ n. cond (q x) 1 0 + n) (count_by-map p q f xs same)
     ∙ sym (sum_by-cons (λ y. cond (q y) 1 0) x xs)
 
-pub finished_is : (plan : PlanData) (out : List ℕ) (site n : ℕ) → finished_count (job_of plan out site) n ≡ plates_done plan site n
+pub finished_is : (plan : PlanData) (out : List ℕ) (site n : ℕ)
+    → finished_count (job_of plan out site) n ≡ plates_done plan site n
 unfolding finished_count
 finished_is plan out site n =
     count_by-map (λ p. nat_lt (last_in (plate_height plan) p) n) (λ plate. nat_lt (last_row plan plate) n) (plate_of plan out site) (site_plates plan site)
     (λ plate. ap (λ m. nat_lt m n) (number-is plan out site (plate_height plan - 1) plate))
 
 -- its cause, and the plates that its rack gained, fit the plan
-pub fits_left : (plan : PlanData) (rows : List (List ℕ)) (out : List ℕ) (site n : ℕ) (cause : LeftCause) → IsPlan plan → n < length (row_places plan) → IsCauseAt (job_of plan out site) n cause
+pub fits_left : (plan : PlanData) (rows : List (List ℕ)) (out : List ℕ) (site n : ℕ) (cause : LeftCause)
+    → IsPlan plan → n < length (row_places plan) → IsCauseAt (job_of plan out site) n cause
     → FitsLeft plan rows out site cause (files_below (job_of plan out site) rows n)
 fits_left plan rows out site n cause is within at =
     let job : SiteJob = job_of plan out site in

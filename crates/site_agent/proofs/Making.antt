@@ -19,7 +19,8 @@ use Rattle.site_agent.specs.declared.plate.SitePlate.{SitePlate}
 use Rattle.site_agent.specs.Plan.{plate_of}
 
 -- the ink at an index of a group
-pub place-is : (group : Group) (inks : List Ink) (i : ℕ) (d : Ink) → inks ≡ inks_of group → i < length inks → i ≡ ink_place group (get_or inks i d)
+pub place-is : (group : Group) (inks : List Ink) (i : ℕ) (d : Ink) → inks ≡ inks_of group → i < length inks
+    → i ≡ ink_place group (get_or inks i d)
 place-is group inks i d are within =
     let less : i < ink_count group = subst (λ (list : List Ink). i < length list) are within in
     sym (ap (λ list. ink_place group (get_or list i d)) are ∙ ink_place-at group i d less)
@@ -28,8 +29,10 @@ pub few-inks : (group : Group) (inks : List Ink) (i : ℕ) → inks ≡ inks_of 
 few-inks group inks i are within = let most : ink_count group ≤ 5 = (ink_count-within group).most in let same : length inks ≡ ink_count group = ap length are in omega arith
 
 -- one more plate of a group
-pub plates-more : (plan : PlanData) (out : List ℕ) (site : ℕ) (group : Group) (inks : List Ink) (i : ℕ) (d : Ink) (plate : SitePlate) (old now next : List SitePlate) → i < length inks
-    → plate ≡ plate_of plan out site (group, get_or inks i d) → now ≡ old ++ map (λ k. plate_of plan out site (group, k)) (take i inks) → next ≡ now ++ plate ∷ []
+pub plates-more : (plan : PlanData) (out : List ℕ) (site : ℕ) (group : Group) (inks : List Ink) (i : ℕ)
+    (d : Ink) (plate : SitePlate) (old now next : List SitePlate) → i < length inks
+    → plate ≡ plate_of plan out site (group, get_or inks i d)
+    → now ≡ old ++ map (λ k. plate_of plan out site (group, k)) (take i inks) → next ≡ now ++ plate ∷ []
     → next ≡ old ++ map (λ k. plate_of plan out site (group, k)) (take (i + 1) inks)
 plates-more plan out site group inks i d plate old now next within made so_far then' =
     then'
@@ -43,8 +46,11 @@ abbrev pub plates_so_far : PlanData → List ℕ → ℕ → List Group → List
 plates_so_far plan out site groups = map (plate_of plan out site) (flat_map group_plates (filter (λ group. has_site group site) groups))
 
 -- including a group that the site prints
-pub group-more : (plan : PlanData) (out : List ℕ) (site : ℕ) (groups : List Group) (i : ℕ) (d : Group) (now next : List SitePlate) → i < length groups → has_site (get_or groups i d) site ≡ true
-    → now ≡ plates_so_far plan out site (take i groups) → next ≡ now ++ map (plate_of plan out site) (group_plates (get_or groups i d)) → next ≡ plates_so_far plan out site (take (i + 1) groups)
+pub group-more : (plan : PlanData) (out : List ℕ) (site : ℕ) (groups : List Group) (i : ℕ) (d : Group)
+    (now next : List SitePlate) → i < length groups → has_site (get_or groups i d) site ≡ true
+    → now ≡ plates_so_far plan out site (take i groups)
+    → next ≡ now ++ map (plate_of plan out site) (group_plates (get_or groups i d))
+    → next ≡ plates_so_far plan out site (take (i + 1) groups)
 group-more plan out site groups i d now next within printed so_far then' =
     let test : Group → Bool = λ group. has_site group site in
     let front : List Group = filter test (take i groups) in
@@ -57,8 +63,10 @@ group-more plan out site groups i d now next within printed so_far then' =
     ∙ ap (λ list. map (plate_of plan out site) (flat_map group_plates list)) (sym (filter_more test groups i d within ∙ ap (λ b. front ++ cond b (group ∷ []) []) printed))
 
 -- and one that it does not
-pub group-other : (plan : PlanData) (out : List ℕ) (site : ℕ) (groups : List Group) (i : ℕ) (d : Group) (now : List SitePlate) → i < length groups → has_site (get_or groups i d) site ≡ false
-    → now ≡ plates_so_far plan out site (take i groups) → now ≡ plates_so_far plan out site (take (i + 1) groups)
+pub group-other : (plan : PlanData) (out : List ℕ) (site : ℕ) (groups : List Group) (i : ℕ) (d : Group)
+    (now : List SitePlate) → i < length groups → has_site (get_or groups i d) site ≡ false
+    → now ≡ plates_so_far plan out site (take i groups)
+    → now ≡ plates_so_far plan out site (take (i + 1) groups)
 group-other plan out site groups i d now within other so_far =
     let test : Group → Bool = λ group. has_site group site in
     let front : List Group = filter test (take i groups) in
@@ -66,17 +74,20 @@ group-other plan out site groups i d now within other so_far =
     ∙ ap (λ list. map (plate_of plan out site) (flat_map group_plates list)) (sym (filter_more test groups i d within ∙ ap (λ b. front ++ cond b (get_or groups i d ∷ []) []) other ∙ append-nil front))
 
 -- one more group
-pub group-step : (plan : PlanData) (out : List ℕ) (site : ℕ) (groups : List Group) (i : ℕ) (d : Group) (now next : List SitePlate) → i < length groups
-    → now ≡ plates_so_far plan out site (take i groups)
-    → next ≡ (if has_site (get_or groups i d) site then now ++ map (plate_of plan out site) (group_plates (get_or groups i d)) else now)
-    → next ≡ plates_so_far plan out site (take (i + 1) groups)
+pub group-step : (plan : PlanData) (out : List ℕ) (site : ℕ) (groups : List Group) (i : ℕ) (d : Group)
+    (now next : List SitePlate) → i < length groups → now ≡ plates_so_far plan out site (take i groups)
+    → next ≡ (if has_site (get_or groups i d) site then now ++ map (plate_of plan out site)
+    (group_plates (get_or groups i d)) else now) → next ≡ plates_so_far plan out site (take (i + 1) groups)
 group-step plan out site groups i d now next within so_far then' = by_test (has_site (get_or groups i d) site) refl then' where
-  by_test : (b : Bool) → has_site (get_or groups i d) site ≡ b → next ≡ (if b then now ++ map (plate_of plan out site) (group_plates (get_or groups i d)) else now) → next ≡ plates_so_far plan out site (take (i + 1) groups)
+  by_test : (b : Bool) → has_site (get_or groups i d) site ≡ b
+      → next ≡ (if b then now ++ map (plate_of plan out site) (group_plates (get_or groups i d)) else now)
+      → next ≡ plates_so_far plan out site (take (i + 1) groups)
   by_test true is then'' = group-more plan out site groups i d now next within is so_far then''
   by_test false is then'' = then'' ∙ group-other plan out site groups i d now within is so_far
 
 -- the first row of a group is one of all rows
-pub first-few : (plan : PlanData) (i : ℕ) (d : Group) → IsPlan plan → i < length (groups_of plan) → (get_or (groups_of plan) i d).first < 2 ^ 32
+pub first-few : (plan : PlanData) (i : ℕ) (d : Group) → IsPlan plan → i < length (groups_of plan)
+    → (get_or (groups_of plan) i d).first < 2 ^ 32
 first-few plan i d is within =
     let first = first_is (row_total (rows_of plan)) (rows_of plan) i d (plan_is plan is) within in
     let most = total-most (row_total (rows_of plan)) (rows_of plan) (plan_is plan is) in

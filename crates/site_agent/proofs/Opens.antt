@@ -15,7 +15,8 @@ plate_at job k d = get_or job.plates k d
 
 -- ---- open plates
 
-open-yes : (height n : ℕ) (plate : SitePlate) → 0 < given height plate n → given height plate n < height → is_open height n plate ≡ true
+open-yes : (height n : ℕ) (plate : SitePlate) → 0 < given height plate n → given height plate n < height
+    → is_open height n plate ≡ true
 open-yes height n plate some most =
     and_from (nat_lt 0 (given height plate n)) (nat_lt (given height plate n) height) (lt-ltb 0 (given height plate n) some) (lt-ltb (given height plate n) height most)
 
@@ -31,14 +32,17 @@ open-all height n plate all =
 abbrev stands : SiteJob → ℕ → ℕ → SitePlate → Bool
 stands job n slot plate = plate.slot == slot && is_open job.height n plate
 
-stands-not : (job : SiteJob) (n slot : ℕ) (plate : SitePlate) → (plate.slot ≡ slot → is_open job.height n plate ≡ false) → stands job n slot plate ≡ false
+stands-not : (job : SiteJob) (n slot : ℕ) (plate : SitePlate)
+    → (plate.slot ≡ slot → is_open job.height n plate ≡ false) → stands job n slot plate ≡ false
 stands-not job n slot plate closed =
     ⊎_elim
     (λ (here : plate.slot ≡ slot). and_right (plate.slot == slot) (is_open job.height n plate) (closed here))
     (λ (there : plate.slot ≢ slot). and_left (plate.slot == slot) (is_open job.height n plate) (ne_eqb plate.slot slot there))
     (cases_eq plate.slot slot)
 
-stands-alike : (job : SiteJob) (n m slot : ℕ) (plate : SitePlate) → (plate.slot ≡ slot → given job.height plate n ≡ given job.height plate m) → stands job n slot plate ≡ stands job m slot plate
+stands-alike : (job : SiteJob) (n m slot : ℕ) (plate : SitePlate)
+    → (plate.slot ≡ slot → given job.height plate n ≡ given job.height plate m)
+    → stands job n slot plate ≡ stands job m slot plate
 stands-alike job n m slot plate same =
     ⊎_elim
     (λ (here : plate.slot ≡ slot). ap (λ g. plate.slot == slot && (nat_lt 0 g && nat_lt g job.height)) (same here))
@@ -48,7 +52,8 @@ stands-alike job n m slot plate same =
     (cases_eq plate.slot slot)
 
 -- a plate with some rows below row n, and some not, is the open one of its slot
-pub opened : (job : SiteJob) (n k : ℕ) (d : SitePlate) → IsJob job → k < length job.plates → 0 < given job.height (plate_at job k d) n → given job.height (plate_at job k d) n < job.height
+pub opened : (job : SiteJob) (n k : ℕ) (d : SitePlate) → IsJob job → k < length job.plates
+    → 0 < given job.height (plate_at job k d) n → given job.height (plate_at job k d) n < job.height
     → open_in job n (plate_at job k d).slot ≡ Some (plate_at job k d)
 unfolding open_in
 opened job n k d is within some most =
@@ -62,14 +67,16 @@ opened job n k d is within some most =
     open-all job.height n (plate_at job j d) (given-all job.height n (plate_at job j d) (omega arith) (omega arith))))
 
 -- no plate of the slot is open
-pub closed : (job : SiteJob) (n slot : ℕ) → ((j : ℕ) (d : SitePlate) → j < length job.plates → (plate_at job j d).slot ≡ slot → is_open job.height n (plate_at job j d) ≡ false)
-    → open_in job n slot ≡ None
+pub closed : (job : SiteJob) (n slot : ℕ)
+    → ((j : ℕ) (d : SitePlate) → j < length job.plates → (plate_at job j d).slot ≡ slot
+    → is_open job.height n (plate_at job j d) ≡ false) → open_in job n slot ≡ None
 unfolding open_in
 closed job n slot each = find-fails (stands job n slot) job.plates (λ j d less. stands-not job n slot (plate_at job j d) (each j d less))
 
 -- the plates of the slot have as many rows below one row as below the other
 pub open_in-alike : (job : SiteJob) (n m slot : ℕ)
-    → ((j : ℕ) (d : SitePlate) → j < length job.plates → (plate_at job j d).slot ≡ slot → given job.height (plate_at job j d) n ≡ given job.height (plate_at job j d) m)
+    → ((j : ℕ) (d : SitePlate) → j < length job.plates → (plate_at job j d).slot ≡ slot
+    → given job.height (plate_at job j d) n ≡ given job.height (plate_at job j d) m)
     → open_in job n slot ≡ open_in job m slot
 unfolding open_in
 open_in-alike job n m slot each = find-alike (stands job n slot) (stands job m slot) job.plates (λ j d less. stands-alike job n m slot (plate_at job j d) (each j d less))
@@ -81,7 +88,8 @@ pub record StandsAs (job : SiteJob) (slot' : ℕ) (plate : SitePlate) : Type 0 w
   pub is : plate_at job index plate ≡ plate
   pub slot : plate.slot ≡ slot'
 
-pub open_in-plate : (job : SiteJob) (n slot : ℕ) (plate : SitePlate) → open_in job n slot ≡ Some plate → StandsAs job slot plate
+pub open_in-plate : (job : SiteJob) (n slot : ℕ) (plate : SitePlate) → open_in job n slot ≡ Some plate
+    → StandsAs job slot plate
 unfolding open_in
 open_in-plate job n slot plate open' =
     let found = find-passes (stands job n slot) job.plates plate open' in
@@ -95,7 +103,8 @@ open_in-plate job n slot plate open' =
 -- ---- row n is row y of plate k
 
 -- it is not a row of another plate
-pub no_other : (job : SiteJob) (n k y j z : ℕ) (d : SitePlate) → IsJob job → IsRowOf job n k y → j < length job.plates → j ≢ k → z < job.height → number_in (plate_at job j d) z ≢ n
+pub no_other : (job : SiteJob) (n k y j z : ℕ) (d : SitePlate) → IsJob job → IsRowOf job n k y
+    → j < length job.plates → j ≢ k → z < job.height → number_in (plate_at job j d) z ≢ n
 no_other job n k y j z d is row within other below =
     let here : number_in (plate_at job k d) y ≡ n = row.number d in
     ⊎_elim
@@ -108,7 +117,8 @@ no_other job n k y j z d is row within other below =
     (cases_order j k)
 
 -- so no other plate gains a row
-pub other-stays : (job : SiteJob) (n k y j : ℕ) (d : SitePlate) → IsJob job → IsRowOf job n k y → j < length job.plates → j ≢ k
+pub other-stays : (job : SiteJob) (n k y j : ℕ) (d : SitePlate) → IsJob job → IsRowOf job n k y
+    → j < length job.plates → j ≢ k
     → given job.height (plate_at job j d) (n + 1) ≡ given job.height (plate_at job j d) n
 other-stays job n k y j d is row within other =
     given-stays job.height n (plate_at job j d) (λ z below. no_other job n k y j z d is row within other below)
@@ -119,14 +129,16 @@ row-first job n k y d row =
     let here : number_in (plate_at job k d) y ≡ n = row.number d in
     let from : number_in (plate_at job k d) 0 ≤ number_in (plate_at job k d) y = number-within (plate_at job k d) 0 y (omega arith) in omega arith
 
-pub row-last : (job : SiteJob) (n k y : ℕ) (d : SitePlate) → IsRowOf job n k y → n ≤ last_in job.height (plate_at job k d)
+pub row-last : (job : SiteJob) (n k y : ℕ) (d : SitePlate) → IsRowOf job n k y
+    → n ≤ last_in job.height (plate_at job k d)
 row-last job n k y d row =
     let here : number_in (plate_at job k d) y ≡ n = row.number d in
     let below : y < job.height = row.below in
     let to : number_in (plate_at job k d) y ≤ last_in job.height (plate_at job k d) = number-within (plate_at job k d) y (job.height - 1) (omega arith) in omega arith
 
 -- and no other plate of its slot is open
-pub others-closed : (job : SiteJob) (n k y j : ℕ) (d : SitePlate) → IsJob job → IsRowOf job n k y → j < length job.plates → j ≢ k → (plate_at job j d).slot ≡ (plate_at job k d).slot
+pub others-closed : (job : SiteJob) (n k y j : ℕ) (d : SitePlate) → IsJob job → IsRowOf job n k y
+    → j < length job.plates → j ≢ k → (plate_at job j d).slot ≡ (plate_at job k d).slot
     → (given job.height (plate_at job j d) n ≡ 0) ⊎ (given job.height (plate_at job j d) n ≡ job.height)
 others-closed job n k y j d is row within other same =
     let from : (plate_at job k d).first ≤ n = row-first job n k y d row in
@@ -145,7 +157,8 @@ others-closed job n k y j d is row within other same =
     sides)
     (cases_order j k)
 
-pub closed-cases : (height n : ℕ) (plate : SitePlate) → (given height plate n ≡ 0) ⊎ (given height plate n ≡ height) → is_open height n plate ≡ false
+pub closed-cases : (height n : ℕ) (plate : SitePlate)
+    → (given height plate n ≡ 0) ⊎ (given height plate n ≡ height) → is_open height n plate ≡ false
 closed-cases height n plate either = ⊎_elim (open-none height n plate) (open-all height n plate) either
 
 -- ---- finished plates
@@ -176,16 +189,20 @@ pub finished-within : (job : SiteJob) (n : ℕ) → finished_count job n ≤ len
 unfolding finished_count
 finished-within job n = count_by-le-length (ended job n) job.plates
 
-pub finished-below : (job : SiteJob) (n j : ℕ) (d : SitePlate) → IsJob job → j < finished_count job n → last_in job.height (plate_at job j d) < n
+pub finished-below : (job : SiteJob) (n j : ℕ) (d : SitePlate) → IsJob job → j < finished_count job n
+    → last_in job.height (plate_at job j d) < n
 unfolding finished_count
 finished-below job n j d is first = ltb-true (last_in job.height (plate_at job j d)) n (front-pass (ended job n) job.plates j d (ended-front job n is) first)
 
-pub finished-above : (job : SiteJob) (n j : ℕ) (d : SitePlate) → IsJob job → finished_count job n ≤ j → j < length job.plates → n ≤ last_in job.height (plate_at job j d)
+pub finished-above : (job : SiteJob) (n j : ℕ) (d : SitePlate) → IsJob job → finished_count job n ≤ j
+    → j < length job.plates → n ≤ last_in job.height (plate_at job j d)
 unfolding finished_count
 finished-above job n j d is from within = ltb-false (last_in job.height (plate_at job j d)) n (front-fail (ended job n) job.plates j d (ended-front job n is) from within)
 
 -- no plate has row n as its last
-pub finished-stays : (job : SiteJob) (n : ℕ) → ((j : ℕ) (d : SitePlate) → j < length job.plates → last_in job.height (plate_at job j d) ≢ n) → finished_count job (n + 1) ≡ finished_count job n
+pub finished-stays : (job : SiteJob) (n : ℕ)
+    → ((j : ℕ) (d : SitePlate) → j < length job.plates → last_in job.height (plate_at job j d) ≢ n)
+    → finished_count job (n + 1) ≡ finished_count job n
 unfolding finished_count
 finished-stays job n other =
     count_by-alike (ended job (n + 1)) (ended job n) job.plates

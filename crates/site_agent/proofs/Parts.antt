@@ -35,35 +35,43 @@ kept-nil (bit ∷ bits) = refl
 
 -- one more entry at the end
 pub kept-more : {X : Type 0} (bits : List Bool) (xs : List X) (x : X) → length xs < length bits
-    → kept_where bits (xs ++ x ∷ []) ≡ kept_where bits xs ++ (if get_or bits (length xs) false then x ∷ [] else [])
+    → kept_where bits (xs ++ x ∷ [])
+    ≡ kept_where bits xs ++ (if get_or bits (length xs) false then x ∷ [] else [])
 kept-more [] xs x less = absurd (omega (arith, less))
 kept-more {X} (bit ∷ bits) [] x less = by bit where
   by : (b : Bool) → (if b then x ∷ kept_where bits [] else kept_where bits []) ≡ (if b then x ∷ [] else [])
   by true = ap (λ list. x ∷ list) (kept-nil bits)
   by false = kept-nil bits
 kept-more {X} (bit ∷ bits) (z ∷ xs) x less = by bit (kept-more bits xs x (omega (arith, less))) where
-  by : (b : Bool) → kept_where bits (xs ++ x ∷ []) ≡ kept_where bits xs ++ (if get_or bits (length xs) false then x ∷ [] else [])
+  by : (b : Bool)
+      → kept_where bits (xs ++ x ∷ []) ≡ kept_where bits xs ++
+      (if get_or bits (length xs) false then x ∷ [] else [])
       → (if b then z ∷ kept_where bits (xs ++ x ∷ []) else kept_where bits (xs ++ x ∷ []))
-      ≡ (if b then z ∷ kept_where bits xs else kept_where bits xs) ++ (if get_or bits (length xs) false then x ∷ [] else [])
+      ≡ (if b then z ∷ kept_where bits xs else kept_where bits xs) ++
+      (if get_or bits (length xs) false then x ∷ [] else [])
   by true next = ap (λ list. z ∷ list) next
   by false next = next
 
-pub map-kept : {X Y : Type 0} (f : X → Y) (bits : List Bool) (xs : List X) → map f (kept_where bits xs) ≡ kept_where bits (map f xs)
+pub map-kept : {X Y : Type 0} (f : X → Y) (bits : List Bool) (xs : List X)
+    → map f (kept_where bits xs) ≡ kept_where bits (map f xs)
 map-kept f [] xs = refl
 map-kept f (bit ∷ bits) [] = refl
 map-kept {X} {Y} f (bit ∷ bits) (x ∷ xs) = by bit (map-kept f bits xs) where
   by : (b : Bool) → map f (kept_where bits xs) ≡ kept_where bits (map f xs)
-      → map f (if b then x ∷ kept_where bits xs else kept_where bits xs) ≡ (if b then f x ∷ kept_where bits (map f xs) else kept_where bits (map f xs))
+      → map f (if b then x ∷ kept_where bits xs else kept_where bits xs)
+      ≡ (if b then f x ∷ kept_where bits (map f xs) else kept_where bits (map f xs))
   by true next = ap (λ list. f x ∷ list) next
   by false next = next
 
 -- as many entries are kept as there are true bits
-pub length-kept : {X : Type 0} (bits : List Bool) (xs : List X) → length bits ≡ length xs → length (kept_where bits xs) ≡ count_by (λ bit. bit) bits
+pub length-kept : {X : Type 0} (bits : List Bool) (xs : List X) → length bits ≡ length xs
+    → length (kept_where bits xs) ≡ count_by (λ bit. bit) bits
 length-kept [] xs same = refl
 length-kept (bit ∷ bits) [] same = absurd (omega (arith, same))
 length-kept {X} (bit ∷ bits) (x ∷ xs) same = by bit (length-kept bits xs (omega (arith, same))) ∙ sym (sum_by-cons (λ b. cond b 1 0) bit bits) where
   by : (b : Bool) → length (kept_where bits xs) ≡ count_by (λ c. c) bits
-      → length (if b then x ∷ kept_where bits xs else kept_where bits xs) ≡ cond b 1 0 + count_by (λ c. c) bits
+      → length (if b then x ∷ kept_where bits xs else kept_where bits xs)
+      ≡ cond b 1 0 + count_by (λ c. c) bits
   by true next = omega (arith, next)
   by false next = omega (arith, next)
 
@@ -71,27 +79,32 @@ pub kept-most : {X : Type 0} (bits : List Bool) (xs : List X) → length (kept_w
 kept-most [] xs = omega arith
 kept-most (bit ∷ bits) [] = omega arith
 kept-most {X} (bit ∷ bits) (x ∷ xs) = by bit (kept-most bits xs) where
-  by : (b : Bool) → length (kept_where bits xs) ≤ length xs → length (if b then x ∷ kept_where bits xs else kept_where bits xs) ≤ length (x ∷ xs)
+  by : (b : Bool) → length (kept_where bits xs) ≤ length xs
+      → length (if b then x ∷ kept_where bits xs else kept_where bits xs) ≤ length (x ∷ xs)
   by true next = omega (arith, next)
   by false next = omega (arith, next)
 
 -- what holds of every entry holds of every kept one
-All-kept : {X : Type 0} (P : X → Type 0) (bits : List Bool) (xs : List X) → All P xs → All P (kept_where bits xs)
+All-kept : {X : Type 0} (P : X → Type 0) (bits : List Bool) (xs : List X) → All P xs
+    → All P (kept_where bits xs)
 All-kept P [] xs all = All-nil P
 All-kept P (bit ∷ bits) [] all = All-nil P
 All-kept {X} P (bit ∷ bits) (x ∷ xs) all = by bit (All-kept P bits xs (All-tail P x xs all)) where
-  by : (b : Bool) → All P (kept_where bits xs) → All P (if b then x ∷ kept_where bits xs else kept_where bits xs)
+  by : (b : Bool) → All P (kept_where bits xs)
+      → All P (if b then x ∷ kept_where bits xs else kept_where bits xs)
   by true next = All-cons P x (kept_where bits xs) (All-head P x xs all) next
   by false next = next
 
 -- and the kept ones are in the same order
-AllPairs-kept : {X : Type 0} (R : X → X → Type 0) (bits : List Bool) (xs : List X) → AllPairs R xs → AllPairs R (kept_where bits xs)
+AllPairs-kept : {X : Type 0} (R : X → X → Type 0) (bits : List Bool) (xs : List X) → AllPairs R xs
+    → AllPairs R (kept_where bits xs)
 AllPairs-kept R [] xs all = λ i j d less within. absurd (omega (arith, within))
 AllPairs-kept R (bit ∷ bits) [] all = λ i j d less within. absurd (omega (arith, within))
 AllPairs-kept {X} R (bit ∷ bits) (x ∷ xs) all =
     by bit (AllPairs-kept R bits xs (λ i j d less within. all (suc i) (suc j) d (omega (arith, less)) (omega (arith, within))))
     (All-kept (R x) bits xs (λ k d less. all 0 (suc k) d (omega arith) (omega (arith, less)))) where
-      by : (b : Bool) → AllPairs R (kept_where bits xs) → All (R x) (kept_where bits xs) → AllPairs R (if b then x ∷ kept_where bits xs else kept_where bits xs)
+      by : (b : Bool) → AllPairs R (kept_where bits xs) → All (R x) (kept_where bits xs)
+          → AllPairs R (if b then x ∷ kept_where bits xs else kept_where bits xs)
       by true next first = AllPairs-cons R x (kept_where bits xs) first next
       by false next first = next
 
@@ -110,7 +123,8 @@ part_is job bits is = record {
   few = (let few = is.few in let most = kept-most bits job.plates in omega (arith, few, most));
 }
 
-pub picked_is : (plan : PlanData) (out : List ℕ) (site : ℕ) (bits : List Bool) → IsPlan plan → IsJob (picked_job plan out site bits)
+pub picked_is : (plan : PlanData) (out : List ℕ) (site : ℕ) (bits : List Bool) → IsPlan plan
+    → IsJob (picked_job plan out site bits)
 picked_is plan out site bits is = part_is (job_of plan out site) bits (job_is plan out site is)
 
 -- its files are the picked ones of the site's files
@@ -122,8 +136,10 @@ picked_files_are plan rows out site bits =
 -- ---- a run
 
 -- a new site of the picked plates, with a rack without begun slots
-pub picked_at_start : (plan : PlanData) (rows : List (List ℕ)) (out : List ℕ) (site : ℕ) (bits : List Bool) (source : Source) (tells : Tells) → IsPlan plan → IsIdle tells
-    → length rows ≡ length (row_places plan) → All (λ row. length row ≡ row_size (plate_width plan)) rows → IsGoing rows source tells tells (picked_site plan out site bits)
+pub picked_at_start : (plan : PlanData) (rows : List (List ℕ)) (out : List ℕ) (site : ℕ) (bits : List Bool)
+    (source : Source) (tells : Tells) → IsPlan plan → IsIdle tells
+    → length rows ≡ length (row_places plan) → All (λ row. length row ≡ row_size (plate_width plan)) rows
+    → IsGoing rows source tells tells (picked_site plan out site bits)
 picked_at_start plan rows out site bits source tells is idle total sides = record {
   on = refl;
   total = total;
@@ -133,12 +149,15 @@ picked_at_start plan rows out site bits source tells is idle total sides = recor
 
 -- below a row, the rack's finished plates grew by the first of the picked files
 pub picked_below : (plan : PlanData) (rows : List (List ℕ)) (out : List ℕ) (site n : ℕ) (bits : List Bool)
-    → files_below (picked_job plan out site bits) rows n ≡ take (finished_count (picked_job plan out site bits) n) (picked_files plan rows out site bits)
+    → files_below (picked_job plan out site bits) rows n
+    ≡ take (finished_count (picked_job plan out site bits) n) (picked_files plan rows out site bits)
 picked_below plan rows out site n bits = ap (take (finished_count (picked_job plan out site bits) n)) (picked_files_are plan rows out site bits)
 
 -- once all its plates are finished, by exactly the picked files
-pub picked_at_end : (plan : PlanData) (rows : List (List ℕ)) (out : List ℕ) (site n : ℕ) (bits : List Bool) (source : Source) (before now : Tells) (counts : List (List ℕ))
-    → finished_count (picked_job plan out site bits) n ≡ length (picked_job plan out site bits).plates → StandsAfter (picked_job plan out site bits) rows source n before now counts
+pub picked_at_end : (plan : PlanData) (rows : List (List ℕ)) (out : List ℕ) (site n : ℕ) (bits : List Bool)
+    (source : Source) (before now : Tells) (counts : List (List ℕ))
+    → finished_count (picked_job plan out site bits) n ≡ length (picked_job plan out site bits).plates
+    → StandsAfter (picked_job plan out site bits) rows source n before now counts
     → now.finished ≡ grown (picked_files plan rows out site bits) before.finished
 picked_at_end plan rows out site n bits source before now counts all stands =
     let job : SiteJob = picked_job plan out site bits in
@@ -150,7 +169,8 @@ picked_at_end plan rows out site n bits source before now counts all stands =
 -- ---- a site that dropped out
 
 -- at a row, no more plates are finished than precede the row's plate
-pub finished_before : (job : SiteJob) (n k y : ℕ) (d : SitePlate) → IsJob job → IsRowOf job n k y → finished_count job n ≤ k
+pub finished_before : (job : SiteJob) (n k y : ℕ) (d : SitePlate) → IsJob job → IsRowOf job n k y
+    → finished_count job n ≤ k
 finished_before job n k y d is row =
     ⊎_elim
     (λ (more : k < finished_count job n). absurd (omega (arith, finished-below job n k d is more, row-last job n k y d row)))
@@ -164,7 +184,8 @@ pub record IsLeftAt (files : List Plate) (made : ℕ) (path : List ℕ) : Type 0
   pub within : index < length files
   pub is : (d : Plate) → (get_or files index d).0 ≡ path
 
-pub picked_left : (plan : PlanData) (rows : List (List ℕ)) (out : List ℕ) (site n : ℕ) (bits : List Bool) (cause : LeftCause) → IsPlan plan → IsCauseAt (picked_job plan out site bits) n cause
+pub picked_left : (plan : PlanData) (rows : List (List ℕ)) (out : List ℕ) (site n : ℕ) (bits : List Bool)
+    (cause : LeftCause) → IsPlan plan → IsCauseAt (picked_job plan out site bits) n cause
     → IsLeftAt (picked_files plan rows out site bits) cause.plates cause.path
 picked_left plan rows out site n bits cause is at =
     let job : SiteJob = picked_job plan out site bits in

@@ -11,7 +11,8 @@ use Rattle.site_agent.proofs.Steps.{same-plate}
 use Rattle.site_agent.proofs.Finding.{IsNoRowOf, row-found, next-within, no-row_next, no-row_finished, no-row_later, no-row_all}
 
 -- a plate under examination, with its slot
-pub record Looked (job : SiteJob) (n finished : ℕ) (slots : List StripState) (i : ℕ) (plate' : SitePlate) (slot' : StripState) : Type 0 where
+pub record Looked (job : SiteJob) (n finished : ℕ) (slots : List StripState) (i : ℕ) (plate' : SitePlate)
+    (slot' : StripState) : Type 0 where
   pub counting : IsCounting job n finished slots
   pub from : finished ≤ i
   pub within : i < length job.plates
@@ -20,19 +21,23 @@ pub record Looked (job : SiteJob) (n finished : ℕ) (slots : List StripState) (
   pub begun : plate'.first ≤ n
 
 -- the slot's number of rows is the plate's
-rows-are : (job : SiteJob) (n finished : ℕ) (slots : List StripState) (i : ℕ) (plate : SitePlate) (slot : StripState) → Looked job n finished slots i plate slot
+rows-are : (job : SiteJob) (n finished : ℕ) (slots : List StripState) (i : ℕ) (plate : SitePlate)
+    (slot : StripState) → Looked job n finished slots i plate slot
     → slot.next ≡ open_rows job n (plate_at job i plate).slot
 rows-are job n finished slots i plate slot looked =
     let inside : plate.slot < 5 = let P : SitePlate → Type 0 = λ p. p.slot < 5 in subst P (sym looked.plate) (looked.counting.is.each i plate looked.within).slot in
     ap (λ s. s.next) looked.slot ∙ (looked.counting.each plate.slot slot inside).rows ∙ ap (λ p. open_rows job n p.slot) looked.plate
 
-from-count : (job : SiteJob) (n finished : ℕ) (slots : List StripState) (i : ℕ) (plate : SitePlate) (slot : StripState) → Looked job n finished slots i plate slot → finished_count job n ≤ i
+from-count : (job : SiteJob) (n finished : ℕ) (slots : List StripState) (i : ℕ) (plate : SitePlate)
+    (slot : StripState) → Looked job n finished slots i plate slot → finished_count job n ≤ i
 from-count job n finished slots i plate slot looked = let is : finished ≡ finished_count job n = looked.counting.finished in let from : finished ≤ i = looked.from in omega arith
 
-begun-there : (job : SiteJob) (n finished : ℕ) (slots : List StripState) (i : ℕ) (plate : SitePlate) (slot : StripState) → Looked job n finished slots i plate slot → (plate_at job i plate).first ≤ n
+begun-there : (job : SiteJob) (n finished : ℕ) (slots : List StripState) (i : ℕ) (plate : SitePlate)
+    (slot : StripState) → Looked job n finished slots i plate slot → (plate_at job i plate).first ≤ n
 begun-there job n finished slots i plate slot looked = let P : SitePlate → Type 0 = λ p. p.first ≤ n in subst P looked.plate looked.begun
 
-pub place-found : (job : SiteJob) (n finished : ℕ) (slots : List StripState) (i : ℕ) (plate : SitePlate) (slot : StripState) → Looked job n finished slots i plate slot
+pub place-found : (job : SiteJob) (n finished : ℕ) (slots : List StripState) (i : ℕ) (plate : SitePlate)
+    (slot : StripState) → Looked job n finished slots i plate slot
     → number_in plate slot.next ≡ n → IsPlaceOf job n (record { plate = i; slot = plate.slot; y = slot.next })
 place-found job n finished slots i plate slot looked here = record {
   row = row-found job n i slot.next plate looked.counting.is (from-count job n finished slots i plate slot looked) looked.within (begun-there job n finished slots i plate slot looked) (rows-are job n finished slots i plate slot looked)
@@ -40,7 +45,8 @@ place-found job n finished slots i plate slot looked here = record {
   slot = λ d. ap (λ p. p.slot) (same-plate job i d plate looked.within ∙ sym looked.plate);
 }
 
-pub place-fits : (job : SiteJob) (n finished : ℕ) (slots : List StripState) (i : ℕ) (plate : SitePlate) (slot : StripState) → Looked job n finished slots i plate slot → number_in plate slot.next < 2 ^ 64
+pub place-fits : (job : SiteJob) (n finished : ℕ) (slots : List StripState) (i : ℕ) (plate : SitePlate)
+    (slot : StripState) → Looked job n finished slots i plate slot → number_in plate slot.next < 2 ^ 64
 place-fits job n finished slots i plate slot looked =
     let rows : job.total < 2 ^ 64 = looked.counting.is.rows in
     let below : number_in (plate_at job i plate) slot.next < job.total =
@@ -48,13 +54,15 @@ place-fits job n finished slots i plate slot looked =
     let same : number_in plate slot.next ≡ number_in (plate_at job i plate) slot.next = ap (λ p. number_in p slot.next) looked.plate in
     omega arith
 
-pub place-other : (job : SiteJob) (n finished : ℕ) (slots : List StripState) (i : ℕ) (plate : SitePlate) (slot : StripState) → Looked job n finished slots i plate slot
+pub place-other : (job : SiteJob) (n finished : ℕ) (slots : List StripState) (i : ℕ) (plate : SitePlate)
+    (slot : StripState) → Looked job n finished slots i plate slot
     → number_in plate slot.next ≢ n → IsNoRowOf job n i
 place-other job n finished slots i plate slot looked other =
     no-row_next job n i slot.next plate looked.counting.is (from-count job n finished slots i plate slot looked) looked.within (begun-there job n finished slots i plate slot looked) (rows-are job n finished slots i plate slot looked)
     (λ e. other (ap (λ p. number_in p slot.next) looked.plate ∙ e))
 
-pub place-past : (job : SiteJob) (n finished : ℕ) (slots : List StripState) (i : ℕ) (plate : SitePlate) → IsCounting job n finished slots → i < length job.plates → plate ≡ plate_at job i plate
+pub place-past : (job : SiteJob) (n finished : ℕ) (slots : List StripState) (i : ℕ) (plate : SitePlate)
+    → IsCounting job n finished slots → i < length job.plates → plate ≡ plate_at job i plate
     → n < plate.first → ((j : ℕ) → j < i → IsNoRowOf job n j) → IsNoRow job n
 place-past job n finished slots i plate counting within is before none =
     no-row_all job n (λ j less z d.
@@ -63,5 +71,6 @@ place-past job n finished slots i plate counting within is before none =
     (λ (later : i ≤ j). no-row_later job n i j plate counting.is later less (let P : SitePlate → Type 0 = λ p. n < p.first in subst P is before) z d)
     (cases_lt j i))
 
-pub place-start : (job : SiteJob) (n finished : ℕ) (slots : List StripState) → IsCounting job n finished slots → (j : ℕ) → j < finished → IsNoRowOf job n j
+pub place-start : (job : SiteJob) (n finished : ℕ) (slots : List StripState) → IsCounting job n finished slots
+    → (j : ℕ) → j < finished → IsNoRowOf job n j
 place-start job n finished slots counting j first = no-row_finished job n j counting.is (let is : finished ≡ finished_count job n = counting.finished in omega arith)

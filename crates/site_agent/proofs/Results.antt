@@ -2,7 +2,8 @@
 use Rattle.std.proofs.Common.{Result, Ok, Err, IfOk, OnErr}
 
 -- a fact about the value, from another that implies it
-pub if_ok : {T E : Type 0} (result : Result T E) (P Q : T → Type 0) → ((value : T) → P value → Q value) → IfOk result P → IfOk result Q
+pub if_ok : {T E : Type 0} (result : Result T E) (P Q : T → Type 0) → ((value : T) → P value → Q value)
+    → IfOk result P → IfOk result Q
 if_ok (Ok value) P Q f p = f value p
 if_ok (Err fault) P Q f p = tt
 

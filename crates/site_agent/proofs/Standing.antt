@@ -31,24 +31,32 @@ use Rattle.site_agent.proofs.Holding.{put, put-same, put-other, begins, takes, f
 
 -- ---- a slot whose plate gains no row
 
-plate-same : (job : SiteJob) (rows : List (List ℕ)) (n m slot : ℕ) → open_in job m slot ≡ open_in job n slot → ((plate : SitePlate) → open_in job n slot ≡ Some plate → given job.height plate m ≡ given job.height plate n)
+plate-same : (job : SiteJob) (rows : List (List ℕ)) (n m slot : ℕ) → open_in job m slot ≡ open_in job n slot
+    → ((plate : SitePlate) → open_in job n slot ≡ Some plate → given job.height plate m
+    ≡ given job.height plate n)
     → plate_below job rows n slot ≡ plate_below job rows m slot
 plate-same job rows n m slot open' same = by_plate (open_in job n slot) refl where
-  by_plate : (plate : Option SitePlate) → open_in job n slot ≡ plate → plate_below job rows n slot ≡ plate_below job rows m slot
+  by_plate : (plate : Option SitePlate) → open_in job n slot ≡ plate
+      → plate_below job rows n slot ≡ plate_below job rows m slot
   by_plate None there = ap (option_map (begun_plate job rows n)) there ∙ sym (ap (option_map (begun_plate job rows m)) (open' ∙ there))
   by_plate (Some plate) there =
       ap (option_map (begun_plate job rows n)) there
       ∙ ap (λ g. Some (plate.path, front_bytes ++ flat_map packing (rows_of rows plate g))) (sym (same plate there))
       ∙ sym (ap (option_map (begun_plate job rows m)) (open' ∙ there))
 
-counts-same : (job : SiteJob) (rows : List (List ℕ)) (n m slot : ℕ) (counts after : List (List ℕ)) → open_in job m slot ≡ open_in job n slot
-    → ((plate : SitePlate) → open_in job n slot ≡ Some plate → given job.height plate m ≡ given job.height plate n)
-    → slice_index_or after slot [] ≡ slice_index_or counts slot [] → AreCounts job rows n counts slot → AreCounts job rows m after slot
+counts-same : (job : SiteJob) (rows : List (List ℕ)) (n m slot : ℕ) (counts after : List (List ℕ))
+    → open_in job m slot ≡ open_in job n slot
+    → ((plate : SitePlate) → open_in job n slot ≡ Some plate → given job.height plate m
+    ≡ given job.height plate n)
+    → slice_index_or after slot [] ≡ slice_index_or counts slot [] → AreCounts job rows n counts slot
+    → AreCounts job rows m after slot
 counts-same job rows n m slot counts after open' same kept are = by_plate (open_in job n slot) refl are where
   Are : Option SitePlate → ℕ → List (List ℕ) → Type 0
   Are plate i list = IfSome plate (λ p. slice_index_or list slot [] ≡ counts_so_far job.width job.height (rows_below job rows i p))
 
-  by_plate : (plate : Option SitePlate) → open_in job n slot ≡ plate → IfSome plate (λ p. slice_index_or counts slot [] ≡ counts_so_far job.width job.height (rows_below job rows n p)) → AreCounts job rows m after slot
+  by_plate : (plate : Option SitePlate) → open_in job n slot ≡ plate
+      → IfSome plate (λ p. slice_index_or counts slot []
+      ≡ counts_so_far job.width job.height (rows_below job rows n p)) → AreCounts job rows m after slot
   by_plate None there are' =
       let P : Option SitePlate → Type 0 = λ plate. IfSome plate (λ p. slice_index_or after slot [] ≡ counts_so_far job.width job.height (rows_below job rows m p)) in
       subst P (sym (open' ∙ there)) tt
@@ -58,14 +66,16 @@ counts-same job rows n m slot counts after open' same kept are = by_plate (open_
 
 -- ---- a row that belongs to no plate
 
-stays-none : (job : SiteJob) (n slot : ℕ) (plate : SitePlate) → IsNoRow job n → open_in job n slot ≡ Some plate → given job.height plate (n + 1) ≡ given job.height plate n
+stays-none : (job : SiteJob) (n slot : ℕ) (plate : SitePlate) → IsNoRow job n
+    → open_in job n slot ≡ Some plate → given job.height plate (n + 1) ≡ given job.height plate n
 stays-none job n slot plate row open' =
     let there : StandsAs job slot plate = open_in-plate job n slot plate open' in
     let P : SitePlate → Type 0 = λ p. given job.height p (n + 1) ≡ given job.height p n in
     subst P there.is (given-stays job.height n (plate_at job there.index plate) (λ y below. row.none there.index y plate there.within below))
 
 -- a row that is not kept changes nothing
-pub row_passed : (job : SiteJob) (rows : List (List ℕ)) (source : Source) (n : ℕ) (before now : Tells) (counts : List (List ℕ)) → IsJob job → IsNoRow job n
+pub row_passed : (job : SiteJob) (rows : List (List ℕ)) (source : Source) (n : ℕ) (before now : Tells)
+    (counts : List (List ℕ)) → IsJob job → IsNoRow job n
     → StandsAfter job rows source n before now counts → StandsAfter job rows source (n + 1) before now counts
 row_passed job rows source n before now counts is row stands = record {
   rack = alike (files_below job rows n) (files_below job rows (n + 1)) (taken_below job source n) (taken_below job source (n + 1)) (plate_below job rows n) (plate_below job rows (n + 1)) before now stands.rack
@@ -78,10 +88,14 @@ row_passed job rows source n before now counts is row stands = record {
 -- ---- a row of a plate
 
 -- the strips' counts including the row
-pub counts-row : (job : SiteJob) (rows : List (List ℕ)) (source : Source) (n k y : ℕ) (before now : Tells) (counts : List (List ℕ)) (d : SitePlate) (frame : List ℕ) → IsJob job → IsRowOf job n k y
-    → StandsAfter job rows source n before now counts → IsFrame frame → slice_get rows n ≡ Some (framed_row frame)
+pub counts-row : (job : SiteJob) (rows : List (List ℕ)) (source : Source) (n k y : ℕ) (before now : Tells)
+    (counts : List (List ℕ)) (d : SitePlate) (frame : List ℕ) → IsJob job → IsRowOf job n k y
+    → StandsAfter job rows source n before now counts → IsFrame frame
+    → slice_get rows n ≡ Some (framed_row frame)
     → length (slice_index_or counts (plate_at job k d).slot []) ≡ strip_count job.width job.height
-    → counted y (y / rows_each job.width) (length (packed_in frame)) (slice_index_or counts (plate_at job k d).slot []) ≡ counts_so_far job.width job.height (rows_of rows (plate_at job k d) (y + 1))
+    → counted y (y / rows_each job.width) (length (packed_in frame))
+    (slice_index_or counts (plate_at job k d).slot [])
+    ≡ counts_so_far job.width job.height (rows_of rows (plate_at job k d) (y + 1))
 counts-row job rows source n k y before now counts d frame is row stands framed here size =
     ap (λ packed. counted y (y / rows_each job.width) (length packed) held) (packed_in-frame frame framed)
     ∙ counted-row job.width job.height y (rows_of rows plate y) (framed_row frame) held (length-rows_of rows plate y) row.below size known
@@ -99,10 +113,13 @@ counts-row job rows source n k y before now counts d frame is row stands framed 
           ∙ ap (λ g. counts_so_far job.width job.height (rows_of rows plate g)) (row-given job n k y d is row)
 
 -- the content of the row's slot once its plate is begun
-row-begun : (job : SiteJob) (rows : List (List ℕ)) (source : Source) (n k y : ℕ) (before old : Tells) (counts : List (List ℕ)) (d : SitePlate) → IsJob job → IsRowOf job n k y
+row-begun : (job : SiteJob) (rows : List (List ℕ)) (source : Source) (n k y : ℕ) (before old : Tells)
+    (counts : List (List ℕ)) (d : SitePlate) → IsJob job → IsRowOf job n k y
     → StandsAfter job rows source n before old counts
     → Holds (files_below job rows n) (taken_below job source n)
-    (put (plate_at job k d).slot (Some ((plate_at job k d).path, front_bytes ++ flat_map packing (rows_of rows (plate_at job k d) y))) (plate_below job rows n))
+    (put (plate_at job k d).slot
+    (Some ((plate_at job k d).path, front_bytes ++ flat_map packing (rows_of rows (plate_at job k d) y)))
+    (plate_below job rows n))
     before (if y == 0 then with_begin (plate_at job k d) old else old)
 row-begun job rows source n k y before old counts d is row stands =
     ⊎_elim
@@ -147,8 +164,10 @@ row-begun job rows source n k y before old counts d is row stands =
       bytes = front_bytes ++ flat_map packing (rows_of rows plate y)
 
 -- the packed rows including the row
-packed-more : (rows : List (List ℕ)) (plate : SitePlate) (y n : ℕ) (frame : List ℕ) → number_in plate y ≡ n → IsFrame frame → slice_get rows n ≡ Some (framed_row frame)
-    → (front_bytes ++ flat_map packing (rows_of rows plate y)) ++ packed_in frame ≡ front_bytes ++ flat_map packing (rows_of rows plate (y + 1))
+packed-more : (rows : List (List ℕ)) (plate : SitePlate) (y n : ℕ) (frame : List ℕ) → number_in plate y ≡ n
+    → IsFrame frame → slice_get rows n ≡ Some (framed_row frame)
+    → (front_bytes ++ flat_map packing (rows_of rows plate y)) ++ packed_in frame ≡ front_bytes
+    ++ flat_map packing (rows_of rows plate (y + 1))
 packed-more rows plate y n frame is framed here =
     append_assoc front_bytes (flat_map packing (rows_of rows plate y)) (packed_in frame)
     ∙ ap (λ packed. front_bytes ++ (flat_map packing (rows_of rows plate y) ++ packed)) (packed_in-frame frame framed ∙ sym (append-nil (packing (framed_row frame))))
@@ -157,8 +176,10 @@ packed-more rows plate y n frame is framed here =
     ∙ ap (flat_map packing) (sym (rows-more rows plate y n is ∙ ap (λ last. rows_of rows plate y ++ last ∷ []) (get_or_from_slice_get rows n (framed_row frame) [] here))))
 
 -- a plate with its last row, once it is closed, is its file
-closed-is : (job : SiteJob) (rows : List (List ℕ)) (plate : SitePlate) (last : ℕ) (counts : List ℕ) → last ≡ job.height → counts ≡ counts_so_far job.width job.height (rows_of rows plate last)
-    → closed (tail_bytes job.width job.height job.dpi counts) (tail_place counts) (plate.path, front_bytes ++ flat_map packing (rows_of rows plate last)) ≡ file_of job rows plate
+closed-is : (job : SiteJob) (rows : List (List ℕ)) (plate : SitePlate) (last : ℕ) (counts : List ℕ)
+    → last ≡ job.height → counts ≡ counts_so_far job.width job.height (rows_of rows plate last)
+    → closed (tail_bytes job.width job.height job.dpi counts) (tail_place counts)
+    (plate.path, front_bytes ++ flat_map packing (rows_of rows plate last)) ≡ file_of job rows plate
 closed-is job rows plate last counts all are =
     ap (λ list. closed (tail_bytes job.width job.height job.dpi list) (tail_place list) (plate.path, front_bytes ++ flat_map packing (rows_of rows plate last))) (are ∙ ap (λ m. counts_so_far job.width job.height (rows_of rows plate m)) all ∙ whole)
     ∙ ap (λ m. closed (tail_bytes job.width job.height job.dpi (strip_counts job.width every)) (tail_place (strip_counts job.width every)) (plate.path, front_bytes ++ flat_map packing (rows_of rows plate m))) all
@@ -174,7 +195,8 @@ closed-is job rows plate last counts all are =
       whole = counts_so_far-all job.width job.height every len
 
 -- the files including that of the plate
-files-last : (job : SiteJob) (rows : List (List ℕ)) (n k y : ℕ) (d : SitePlate) → IsJob job → IsRowOf job n k y → y + 1 ≡ job.height
+files-last : (job : SiteJob) (rows : List (List ℕ)) (n k y : ℕ) (d : SitePlate) → IsJob job
+    → IsRowOf job n k y → y + 1 ≡ job.height
     → files_below job rows n ++ file_of job rows (plate_at job k d) ∷ [] ≡ files_below job rows (n + 1)
 files-last job rows n k y d is row last =
     let within : k < length (files_of job rows) = omega (arith, row.within, length-map job.plates (file_of job rows)) in
@@ -184,33 +206,42 @@ files-last job rows n k y d is row last =
     ∙ sym ((take_at_read (files_of job rows) k file within).1)
     ∙ ap (λ m. take m (files_of job rows)) (sym ((finished-last job n k y is row last).1))
 
-taken-row : (job : SiteJob) (source : Source) (n k y : ℕ) (d : SitePlate) → IsRowOf job n k y → taken_below job source n ++ (n, source) ∷ [] ≡ taken_below job source (n + 1)
+taken-row : (job : SiteJob) (source : Source) (n k y : ℕ) (d : SitePlate) → IsRowOf job n k y
+    → taken_below job source n ++ (n, source) ∷ [] ≡ taken_below job source (n + 1)
 taken-row job source n k y d row =
     sym (map-append (λ k. (k, source)) (kept_below job n) (n ∷ [])) ∙ ap (map (λ k. (k, source))) (sym (kept-row job n k y d row))
 
 -- ---- whether the finished plates are known
 
-told-plate : (slot : ℕ) (plate : Option Plate) (working : Option Slots) → with_plate slot plate working ≡ None → working ≡ None
+told-plate : (slot : ℕ) (plate : Option Plate) (working : Option Slots) → with_plate slot plate working ≡ None
+    → working ≡ None
 told-plate slot plate None none = refl
 told-plate slot plate (Some slots) none = cc
 
-told-begun : (plate : SitePlate) (y : ℕ) (old : Tells) → FinishedTold old → FinishedTold (if y == 0 then with_begin plate old else old)
+told-begun : (plate : SitePlate) (y : ℕ) (old : Tells) → FinishedTold old
+    → FinishedTold (if y == 0 then with_begin plate old else old)
 told-begun plate y old told =
     ⊎_elim
     (λ (none : y ≡ 0). subst FinishedTold (sym (cond-true (y == 0) (with_begin plate old) old (eq-eqb y 0 none))) (λ e. told (told-plate plate.slot (Some (plate.path, front_bytes)) old.working e)))
     (λ (some : y ≢ 0). subst FinishedTold (sym (cond-false (y == 0) (with_begin plate old) old (ne_eqb y 0 some))) told)
     (cases_eq y 0)
 
-told-taken : (slot n : ℕ) (frame : List ℕ) (source : Source) (old : Tells) → FinishedTold old → FinishedTold (with_taken slot n frame source old)
+told-taken : (slot n : ℕ) (frame : List ℕ) (source : Source) (old : Tells) → FinishedTold old
+    → FinishedTold (with_taken slot n frame source old)
 told-taken slot n frame source old told e = told (told-plate slot (option_map (λ plate. (plate.0, plate.1 ++ packed_in frame)) (plate_in old.working slot)) old.working e)
 
 -- one row of a plate
-pub row_kept : (job : SiteJob) (rows : List (List ℕ)) (source : Source) (n k y : ℕ) (before old now : Tells) (counts after : List (List ℕ)) (d : SitePlate) (frame : List ℕ) → IsJob job → IsRowOf job n k y
-    → StandsAfter job rows source n before old counts → FinishedTold old → IsFrame frame → slice_get rows n ≡ Some (framed_row frame)
+pub row_kept : (job : SiteJob) (rows : List (List ℕ)) (source : Source) (n k y : ℕ) (before old now : Tells)
+    (counts after : List (List ℕ)) (d : SitePlate) (frame : List ℕ) → IsJob job → IsRowOf job n k y
+    → StandsAfter job rows source n before old counts → FinishedTold old → IsFrame frame
+    → slice_get rows n ≡ Some (framed_row frame)
     → length (slice_index_or counts (plate_at job k d).slot []) ≡ strip_count job.width job.height
-    → slice_index_or after (plate_at job k d).slot [] ≡ counted y (y / rows_each job.width) (length (packed_in frame)) (slice_index_or counts (plate_at job k d).slot [])
+    → slice_index_or after (plate_at job k d).slot []
+    ≡ counted y (y / rows_each job.width) (length (packed_in frame))
+    (slice_index_or counts (plate_at job k d).slot [])
     → ((s : ℕ) → s < 5 → s ≢ (plate_at job k d).slot → slice_index_or after s [] ≡ slice_index_or counts s [])
-    → now ≡ after_row (sides_of job) (plate_at job k d) y n frame source (slice_index_or after (plate_at job k d).slot []) old
+    → now ≡ after_row (sides_of job) (plate_at job k d) y n frame source
+    (slice_index_or after (plate_at job k d).slot []) old
     → StandsAfter job rows source (n + 1) before now after
 row_kept job rows source n k y before old now counts after d frame is row stands told framed here size own others told_now =
     record {
@@ -247,7 +278,8 @@ row_kept job rows source n k y before old now counts after d frame is row stands
       listed : List (ℕ × Source)
       listed = taken_below job source n
 
-      counts-are : slice_index_or after slot [] ≡ counts_so_far job.width job.height (rows_of rows plate (y + 1))
+      counts-are : slice_index_or after slot []
+          ≡ counts_so_far job.width job.height (rows_of rows plate (y + 1))
       counts-are = own ∙ counts-row job rows source n k y before old counts d frame is row stands framed here size
 
       held : Holds files (listed ++ (n, source) ∷ []) open-2 before taken
@@ -259,7 +291,9 @@ row_kept job rows source n k y before old now counts after d frame is row stands
           ∙ put-other slot (Some (plate.path, bytes)) (plate_below job rows n) s apart
           ∙ plate-same job rows n (n + 1) s (open-other job n k y s d is row apart) (λ p open'. given-other job n k y s d p is row apart open')
 
-      by_more : y + 1 < job.height → Holds (files_below job rows (n + 1)) (taken_below job source (n + 1)) (plate_below job rows (n + 1)) before now
+      by_more : y + 1 < job.height
+          → Holds (files_below job rows (n + 1)) (taken_below job source (n + 1))
+          (plate_below job rows (n + 1)) before now
       by_more more =
           let P : Tells → Type 0 = Holds (files_below job rows (n + 1)) (taken_below job source (n + 1)) (plate_below job rows (n + 1)) before in
           subst P (sym (told_now ∙ cond-false (y + 1 == job.height) (with_finish (sides_of job) slot (slice_index_or after slot []) taken) taken (ne_eqb (y + 1) job.height (omega arith))))
@@ -275,7 +309,9 @@ row_kept job rows source n k y before old now counts after d frame is row stands
           (λ (apart : s ≢ slot). other-slot s apart)
           (cases_eq s slot)))
 
-      by_last : job.height ≤ y + 1 → Holds (files_below job rows (n + 1)) (taken_below job source (n + 1)) (plate_below job rows (n + 1)) before now
+      by_last : job.height ≤ y + 1
+          → Holds (files_below job rows (n + 1)) (taken_below job source (n + 1))
+          (plate_below job rows (n + 1)) before now
       by_last most =
           let below : y < job.height = row.below in
           let last : y + 1 ≡ job.height = omega arith in

@@ -16,22 +16,26 @@ use Rattle.site_agent.proofs.Givens.{number-less, given-at, given-next, given-st
 use Rattle.site_agent.proofs.Opens.{plate_at, opened, closed, open_in-alike, StandsAs, open_in-plate, no_other, other-stays, others-closed, closed-cases, finished-is, finished-stays}
 
 -- the plate of a row has `y` rows below it, and one more after it
-pub row-given : (job : SiteJob) (n k y : ℕ) (d : SitePlate) → IsJob job → IsRowOf job n k y → given job.height (plate_at job k d) n ≡ y
+pub row-given : (job : SiteJob) (n k y : ℕ) (d : SitePlate) → IsJob job → IsRowOf job n k y
+    → given job.height (plate_at job k d) n ≡ y
 row-given job n k y d is row = given-at job.height n y (plate_at job k d) (is.each k d row.within).step row.below (row.number d)
 
-pub row-next : (job : SiteJob) (n k y : ℕ) (d : SitePlate) → IsJob job → IsRowOf job n k y → given job.height (plate_at job k d) (n + 1) ≡ y + 1
+pub row-next : (job : SiteJob) (n k y : ℕ) (d : SitePlate) → IsJob job → IsRowOf job n k y
+    → given job.height (plate_at job k d) (n + 1) ≡ y + 1
 row-next job n k y d is row = given-next job.height n y (plate_at job k d) (is.each k d row.within).step row.below (row.number d)
 
 -- ---- the slot of the row's plate
 
-pub open-before : (job : SiteJob) (n k y : ℕ) (d : SitePlate) → IsJob job → IsRowOf job n k y → 0 < y → open_in job n (plate_at job k d).slot ≡ Some (plate_at job k d)
+pub open-before : (job : SiteJob) (n k y : ℕ) (d : SitePlate) → IsJob job → IsRowOf job n k y → 0 < y
+    → open_in job n (plate_at job k d).slot ≡ Some (plate_at job k d)
 open-before job n k y d is row some =
     let here : given job.height (plate_at job k d) n ≡ y = row-given job n k y d is row in
     let below : y < job.height = row.below in
     opened job n k d is row.within (omega arith) (omega arith)
 
 -- the other plates of the slot have none of their rows there, or all
-closed-there : (job : SiteJob) (n k y j : ℕ) (d : SitePlate) → IsJob job → IsRowOf job n k y → j < length job.plates → (plate_at job j d).slot ≡ (plate_at job k d).slot
+closed-there : (job : SiteJob) (n k y j : ℕ) (d : SitePlate) → IsJob job → IsRowOf job n k y
+    → j < length job.plates → (plate_at job j d).slot ≡ (plate_at job k d).slot
     → (given job.height (plate_at job k d) n ≡ 0) ⊎ (given job.height (plate_at job k d) n ≡ job.height)
     → (given job.height (plate_at job j d) n ≡ 0) ⊎ (given job.height (plate_at job j d) n ≡ job.height)
 closed-there job n k y j d is row less same own =
@@ -41,21 +45,25 @@ closed-there job n k y j d is row less same own =
     (cases_eq j k)
 
 -- reading an entry that exists does not depend on the default
-pub same-plate : (job : SiteJob) (k : ℕ) (d e : SitePlate) → k < length job.plates → plate_at job k d ≡ plate_at job k e
+pub same-plate : (job : SiteJob) (k : ℕ) (d e : SitePlate) → k < length job.plates
+    → plate_at job k d ≡ plate_at job k e
 same-plate job k d e within = get_or_default job.plates k d e within
 
-pub fresh-before : (job : SiteJob) (n k y : ℕ) (d : SitePlate) → IsJob job → IsRowOf job n k y → y ≡ 0 → open_in job n (plate_at job k d).slot ≡ None
+pub fresh-before : (job : SiteJob) (n k y : ℕ) (d : SitePlate) → IsJob job → IsRowOf job n k y → y ≡ 0
+    → open_in job n (plate_at job k d).slot ≡ None
 fresh-before job n k y d is row none =
     closed job n (plate_at job k d).slot
     (λ j e less same. closed-cases job.height n (plate_at job j e)
     (closed-there job n k y j e is row less (same ∙ ap (λ plate. plate.slot) (same-plate job k d e row.within)) (inl (row-given job n k y e is row ∙ none))))
 
-pub open-after : (job : SiteJob) (n k y : ℕ) (d : SitePlate) → IsJob job → IsRowOf job n k y → y + 1 < job.height → open_in job (n + 1) (plate_at job k d).slot ≡ Some (plate_at job k d)
+pub open-after : (job : SiteJob) (n k y : ℕ) (d : SitePlate) → IsJob job → IsRowOf job n k y
+    → y + 1 < job.height → open_in job (n + 1) (plate_at job k d).slot ≡ Some (plate_at job k d)
 open-after job n k y d is row more =
     let here : given job.height (plate_at job k d) (n + 1) ≡ y + 1 = row-next job n k y d is row in
     opened job (n + 1) k d is row.within (omega arith) (omega arith)
 
-pub last-after : (job : SiteJob) (n k y : ℕ) (d : SitePlate) → IsJob job → IsRowOf job n k y → y + 1 ≡ job.height → open_in job (n + 1) (plate_at job k d).slot ≡ None
+pub last-after : (job : SiteJob) (n k y : ℕ) (d : SitePlate) → IsJob job → IsRowOf job n k y
+    → y + 1 ≡ job.height → open_in job (n + 1) (plate_at job k d).slot ≡ None
 last-after job n k y d is row last =
     closed job (n + 1) (plate_at job k d).slot
     (λ j e less same. closed-cases job.height (n + 1) (plate_at job j e)
@@ -69,14 +77,16 @@ last-after job n k y d is row last =
 
 -- ---- the other slots
 
-pub open-other : (job : SiteJob) (n k y slot : ℕ) (d : SitePlate) → IsJob job → IsRowOf job n k y → slot ≢ (plate_at job k d).slot → open_in job (n + 1) slot ≡ open_in job n slot
+pub open-other : (job : SiteJob) (n k y slot : ℕ) (d : SitePlate) → IsJob job → IsRowOf job n k y
+    → slot ≢ (plate_at job k d).slot → open_in job (n + 1) slot ≡ open_in job n slot
 open-other job n k y slot d is row apart =
     open_in-alike job (n + 1) n slot
     (λ j e less same. other-stays job n k y j e is row less
     (λ here. apart (sym same ∙ ap (λ i. (plate_at job i e).slot) here ∙ ap (λ plate. plate.slot) (same-plate job k e d row.within))))
 
 -- the plate there has as many rows as before
-pub given-other : (job : SiteJob) (n k y slot : ℕ) (d plate : SitePlate) → IsJob job → IsRowOf job n k y → slot ≢ (plate_at job k d).slot → open_in job n slot ≡ Some plate
+pub given-other : (job : SiteJob) (n k y slot : ℕ) (d plate : SitePlate) → IsJob job → IsRowOf job n k y
+    → slot ≢ (plate_at job k d).slot → open_in job n slot ≡ Some plate
     → given job.height plate (n + 1) ≡ given job.height plate n
 given-other job n k y slot d plate is row apart open' =
     let there : StandsAs job slot plate = open_in-plate job n slot plate open' in
@@ -87,7 +97,8 @@ given-other job n k y slot d plate is row apart open' =
 
 -- ---- finished plates
 
-pub finished-last : (job : SiteJob) (n k y : ℕ) → IsJob job → IsRowOf job n k y → y + 1 ≡ job.height → (finished_count job n ≡ k) × (finished_count job (n + 1) ≡ k + 1)
+pub finished-last : (job : SiteJob) (n k y : ℕ) → IsJob job → IsRowOf job n k y → y + 1 ≡ job.height
+    → (finished_count job n ≡ k) × (finished_count job (n + 1) ≡ k + 1)
 finished-last job n k y is row last =
     let within : k < length job.plates = row.within in (
       finished-is job n k (omega arith)
@@ -101,21 +112,24 @@ finished-last job n k y is row last =
           (λ j d from inside. let here : last_in job.height (plate_at job k d) ≡ n = ap (number_in (plate_at job k d)) (omega arith) ∙ row.number d in
           let order : last_in job.height (plate_at job k d) < last_in job.height (plate_at job j d) = (is.order k j d (omega arith) inside).ends in omega arith),
     ) where
-      last-from : (j : ℕ) (d : SitePlate) → k ≤ j → j < length job.plates → last_in job.height (plate_at job k d) ≡ n → n ≤ last_in job.height (plate_at job j d)
+      last-from : (j : ℕ) (d : SitePlate) → k ≤ j → j < length job.plates
+          → last_in job.height (plate_at job k d) ≡ n → n ≤ last_in job.height (plate_at job j d)
       last-from j d from inside here =
           ⊎_elim
           (λ (e : j ≡ k). let same : last_in job.height (plate_at job j d) ≡ last_in job.height (plate_at job k d) = ap (λ i. last_in job.height (plate_at job i d)) e in omega arith)
           (λ (other : j ≢ k). let order : last_in job.height (plate_at job k d) < last_in job.height (plate_at job j d) = (is.order k j d (omega arith) inside).ends in omega arith)
           (cases_eq j k)
 
-      last-to : (j : ℕ) (d : SitePlate) → j ≤ k → last_in job.height (plate_at job j d) ≤ last_in job.height (plate_at job k d)
+      last-to : (j : ℕ) (d : SitePlate) → j ≤ k
+          → last_in job.height (plate_at job j d) ≤ last_in job.height (plate_at job k d)
       last-to j d to =
           ⊎_elim
           (λ (e : j ≡ k). let same : last_in job.height (plate_at job j d) ≡ last_in job.height (plate_at job k d) = ap (λ i. last_in job.height (plate_at job i d)) e in omega arith)
           (λ (other : j ≢ k). let order : last_in job.height (plate_at job j d) < last_in job.height (plate_at job k d) = (is.order j k d (omega arith) row.within).ends in omega arith)
           (cases_eq j k)
 
-pub finished-open : (job : SiteJob) (n k y : ℕ) → IsJob job → IsRowOf job n k y → y + 1 < job.height → finished_count job (n + 1) ≡ finished_count job n
+pub finished-open : (job : SiteJob) (n k y : ℕ) → IsJob job → IsRowOf job n k y → y + 1 < job.height
+    → finished_count job (n + 1) ≡ finished_count job n
 finished-open job n k y is row more =
     finished-stays job n
     (λ j d less. ⊎_elim
@@ -132,7 +146,8 @@ finished-open job n k y is row more =
 pub open-none : (job : SiteJob) (n slot : ℕ) → IsNoRow job n → open_in job (n + 1) slot ≡ open_in job n slot
 open-none job n slot row = open_in-alike job (n + 1) n slot (λ j d less same. given-stays job.height n (plate_at job j d) (λ y below. row.none j y d less below))
 
-pub finished-none : (job : SiteJob) (n : ℕ) → IsJob job → IsNoRow job n → finished_count job (n + 1) ≡ finished_count job n
+pub finished-none : (job : SiteJob) (n : ℕ) → IsJob job → IsNoRow job n
+    → finished_count job (n + 1) ≡ finished_count job n
 finished-none job n is row =
     let high : 1 ≤ job.height = is.height.0 in
     finished-stays job n (λ j d less. row.none j (job.height - 1) d less (omega arith))
@@ -166,27 +181,31 @@ is_kept-not job n other = record {
 }
 
 -- a row is the site's if its place is found
-pub kept-by_place : (job : SiteJob) (n : ℕ) (place : Option Place) → IfSome place (IsPlaceOf job n) → IfNone place (IsNoRow job n) → is_some place ≡ is_kept job n
+pub kept-by_place : (job : SiteJob) (n : ℕ) (place : Option Place) → IfSome place (IsPlaceOf job n)
+    → IfNone place (IsNoRow job n) → is_some place ≡ is_kept job n
 kept-by_place job n None found none = sym (is_kept-none job n none)
 kept-by_place job n (Some place) found none = sym (is_kept-row job n place.plate place.y any found.row) where
   any : SitePlate
   any = record { path = []; first = 0; step = 0; slot = 0 }
 
-kept-more : (job : SiteJob) (n : ℕ) → kept_below job (n + 1) ≡ kept_below job n ++ cond (is_kept job n) (n ∷ []) []
+kept-more : (job : SiteJob) (n : ℕ)
+    → kept_below job (n + 1) ≡ kept_below job n ++ cond (is_kept job n) (n ∷ []) []
 unfolding kept_below
 kept-more job n =
     ap (filter (is_kept job)) (sym (map-id (range_with_len 0 (n + 1))))
     ∙ filter_of_map_range_with_len_more (is_kept job) (λ k. k) 0 n n (omega arith)
     ∙ ap (λ list. filter (is_kept job) list ++ cond (is_kept job n) (n ∷ []) []) (map-id (range_with_len 0 n))
 
-pub kept-row : (job : SiteJob) (n k y : ℕ) (d : SitePlate) → IsRowOf job n k y → kept_below job (n + 1) ≡ kept_below job n ++ n ∷ []
+pub kept-row : (job : SiteJob) (n k y : ℕ) (d : SitePlate) → IsRowOf job n k y
+    → kept_below job (n + 1) ≡ kept_below job n ++ n ∷ []
 kept-row job n k y d row = kept-more job n ∙ ap (λ b. kept_below job n ++ cond b (n ∷ []) []) (is_kept-row job n k y d row)
 
 pub kept-none : (job : SiteJob) (n : ℕ) → IsNoRow job n → kept_below job (n + 1) ≡ kept_below job n
 kept-none job n row = kept-more job n ∙ ap (λ b. kept_below job n ++ cond b (n ∷ []) []) (is_kept-none job n row) ∙ append-nil (kept_below job n)
 
 -- one more row of a plate
-pub rows-more : (rows : List (List ℕ)) (plate : SitePlate) (y n : ℕ) → number_in plate y ≡ n → rows_of rows plate (y + 1) ≡ rows_of rows plate y ++ get_or rows n [] ∷ []
+pub rows-more : (rows : List (List ℕ)) (plate : SitePlate) (y n : ℕ) → number_in plate y ≡ n
+    → rows_of rows plate (y + 1) ≡ rows_of rows plate y ++ get_or rows n [] ∷ []
 unfolding rows_of
 rows-more rows plate y n is =
     map-range_with_len_more (λ z. get_or rows (number_in plate z) []) 0 y y (omega arith)

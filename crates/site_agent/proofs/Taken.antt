@@ -30,11 +30,13 @@ use Rattle.site_agent.proofs.Steps.{is_kept-row}
 abbrev listed : (ℕ → Bool) → Source → ℕ → List (ℕ × Source)
 listed keeps source m = map (λ n. (n, source)) (filter keeps (range_with_len 0 m))
 
-one : (source : Source) (m : ℕ) (b : Bool) → ◌≡◌ {A = List (ℕ × Source)} (map (λ n. (n, source)) (cond b (m ∷ []) [])) (cond b ((m, source) ∷ []) [])
+one : (source : Source) (m : ℕ) (b : Bool)
+    → ◌≡◌ {A = List (ℕ × Source)} (map (λ n. (n, source)) (cond b (m ∷ []) [])) (cond b ((m, source) ∷ []) [])
 one source m true = refl
 one source m false = refl
 
-listed-more : (keeps : ℕ → Bool) (source : Source) (m : ℕ) → listed keeps source (m + 1) ≡ listed keeps source m ++ cond (keeps m) ((m, source) ∷ []) []
+listed-more : (keeps : ℕ → Bool) (source : Source) (m : ℕ)
+    → listed keeps source (m + 1) ≡ listed keeps source m ++ cond (keeps m) ((m, source) ∷ []) []
 listed-more keeps source m =
     ap (λ list. map (λ n. (n, source)) (filter keeps list)) (sym (map-id (range_with_len 0 (m + 1))))
     ∙ ap (map (λ n. (n, source))) (filter_of_map_range_with_len_more keeps (λ k. k) 0 m m (omega arith))
@@ -42,11 +44,13 @@ listed-more keeps source m =
     ∙ map-append (λ n. (n, source)) (filter keeps (range_with_len 0 m)) (cond (keeps m) (m ∷ []) [])
     ∙ ap (λ list. listed keeps source m ++ list) (one source m (keeps m))
 
-passes : (test : ℕ × Source → Bool) (row : ℕ × Source) (b : Bool) → test row ≡ true → filter test (cond b (row ∷ []) []) ≡ cond b (row ∷ []) []
+passes : (test : ℕ × Source → Bool) (row : ℕ × Source) (b : Bool) → test row ≡ true
+    → filter test (cond b (row ∷ []) []) ≡ cond b (row ∷ []) []
 passes test row true pass = ap (λ t. cond t (row ∷ []) []) pass
 passes test row false pass = refl
 
-refuses : (test : ℕ × Source → Bool) (row : ℕ × Source) (b : Bool) → test row ≡ false → filter test (cond b (row ∷ []) []) ≡ []
+refuses : (test : ℕ × Source → Bool) (row : ℕ × Source) (b : Bool) → test row ≡ false
+    → filter test (cond b (row ∷ []) []) ≡ []
 refuses test row true fail = ap (λ t. cond t (row ∷ []) []) fail
 refuses test row false fail = refl
 
@@ -55,7 +59,8 @@ refuses test row false fail = refl
 abbrev is_up_to : ℕ → RackCall → ℕ × Source → Bool
 is_up_to n call taken = nat_lt taken.0 n || taken.0 == n && is_finish call
 
-below : (keeps : ℕ → Bool) (source : Source) (n : ℕ) (call : RackCall) (m : ℕ) → m ≤ n → rows_up_to n call (listed keeps source m) ≡ listed keeps source m
+below : (keeps : ℕ → Bool) (source : Source) (n : ℕ) (call : RackCall) (m : ℕ) → m ≤ n
+    → rows_up_to n call (listed keeps source m) ≡ listed keeps source m
 below keeps source n call zero less = refl
 below keeps source n call (suc m) less =
     let next : suc m ≡ m + 1 = omega arith in
@@ -69,13 +74,15 @@ below keeps source n call (suc m) less =
     ∙ ap (listed keeps source) (sym next)
 
 -- row n itself only if the call was to finish its plate
-with_it : (source : Source) (n : ℕ) (call : RackCall) → filter (is_up_to n call) ((n, source) ∷ []) ≡ cond (is_finish call) ((n, source) ∷ []) []
+with_it : (source : Source) (n : ℕ) (call : RackCall)
+    → filter (is_up_to n call) ((n, source) ∷ []) ≡ cond (is_finish call) ((n, source) ∷ []) []
 with_it source n call =
     ap (λ b. cond (b || n == n && is_finish call) ((n, source) ∷ []) []) (le-ltb n n (omega arith))
     ∙ ap (λ b. cond (b && is_finish call) ((n, source) ∷ []) []) (eq-eqb n n refl)
 
 behind : (keeps : ℕ → Bool) (source : Source) (n : ℕ) (call : RackCall) (j : ℕ) → keeps n ≡ true
-    → rows_up_to n call (listed keeps source (n + 1 + j)) ≡ listed keeps source n ++ cond (is_finish call) ((n, source) ∷ []) []
+    → rows_up_to n call (listed keeps source (n + 1 + j)) ≡ listed keeps source n
+    ++ cond (is_finish call) ((n, source) ∷ []) []
 behind keeps source n call zero kept =
     ap (λ k. rows_up_to n call (listed keeps source k)) (let e : n + 1 + 0 ≡ n + 1 = omega arith in e)
     ∙ ap (rows_up_to n call) (listed-more keeps source n ∙ ap (λ b. listed keeps source n ++ cond b ((n, source) ∷ []) []) kept)
@@ -96,7 +103,8 @@ behind keeps source n call (suc j) kept =
     ∙ behind keeps source n call j kept
 
 -- a list up to a row is a prefix of the list
-begins_with : (keeps : ℕ → Bool) (source : Source) (n j : ℕ) → (rest : List (ℕ × Source)) × (listed keeps source (n + j) ≡ listed keeps source n ++ rest)
+begins_with : (keeps : ℕ → Bool) (source : Source) (n j : ℕ)
+    → (rest : List (ℕ × Source)) × (listed keeps source (n + j) ≡ listed keeps source n ++ rest)
 begins_with keeps source n zero = ([], ap (listed keeps source) (let e : n + 0 ≡ n = omega arith in e) ∙ sym (append-nil (listed keeps source n)))
 begins_with keeps source n (suc j) =
     let rest = begins_with keeps source n j in
@@ -108,16 +116,21 @@ begins_with keeps source n (suc j) =
 
 -- ---- a site that dropped out at row n
 
-taken-then : (call : RackCall) (n : ℕ) (source : Source) (list : List (ℕ × Source)) (before : Option (List (ℕ × Source)))
-    → taken_at call n source (grown list before) ≡ grown (list ++ cond (is_finish call) ((n, source) ∷ []) []) before
+taken-then : (call : RackCall) (n : ℕ) (source : Source) (list : List (ℕ × Source))
+    (before : Option (List (ℕ × Source)))
+    → taken_at call n source (grown list before)
+    ≡ grown (list ++ cond (is_finish call) ((n, source) ∷ []) []) before
 taken-then Begin n source list before = ap (λ l. grown l before) (sym (append-nil list))
 taken-then Row n source list before = ap (λ l. grown l before) (sym (append-nil list))
 taken-then Finish n source list None = refl
 taken-then Finish n source list (Some rows) = ap Some (append_assoc rows list ((n, source) ∷ []))
 
 -- the site took its rows up to that row
-pub taken_up_to : (plan : PlanData) (out : List ℕ) (site : ℕ) (source : Source) (n : ℕ) (cause : LeftCause) (before old new : Option (List (ℕ × Source))) → IsPlan plan → n < length (row_places plan)
-    → IsCauseAt (job_of plan out site) n cause → old ≡ grown (taken_below (job_of plan out site) source n) before → new ≡ taken_at cause.call n source old
+pub taken_up_to : (plan : PlanData) (out : List ℕ) (site : ℕ) (source : Source) (n : ℕ) (cause : LeftCause)
+    (before old new : Option (List (ℕ × Source))) → IsPlan plan → n < length (row_places plan)
+    → IsCauseAt (job_of plan out site) n cause
+    → old ≡ grown (taken_below (job_of plan out site) source n) before
+    → new ≡ taken_at cause.call n source old
     → new ≡ grown (rows_up_to cause.row cause.call (drawn_rows plan site source)) before
 taken_up_to plan out site source n cause before old new is within at stood took =
     let job : SiteJob = job_of plan out site in
@@ -135,8 +148,10 @@ taken_up_to plan out site source n cause before old new is within at stood took 
 -- ---- a site whose rack ran out of memory
 
 -- the rows taken below a row are the first of those that the site keeps
-pub taken_first : (plan : PlanData) (out : List ℕ) (site : ℕ) (source : Source) (n : ℕ) → IsPlan plan → n ≤ length (row_places plan)
-    → taken_below (job_of plan out site) source n ≡ take (length (taken_below (job_of plan out site) source n)) (drawn_rows plan site source)
+pub taken_first : (plan : PlanData) (out : List ℕ) (site : ℕ) (source : Source) (n : ℕ) → IsPlan plan
+    → n ≤ length (row_places plan)
+    → taken_below (job_of plan out site) source n
+    ≡ take (length (taken_below (job_of plan out site) source n)) (drawn_rows plan site source)
 taken_first plan out site source n is within =
     let keeps : ℕ → Bool = keeps_row plan site in
     let all : length (row_places plan) ≡ n + (length (row_places plan) - n) = omega arith in
@@ -147,13 +162,16 @@ taken_first plan out site source n is within =
     ∙ ap (take (length (listed keeps source n))) (sym rest.1 ∙ ap (listed keeps source) (sym all))
     ∙ ap (λ k. take k (drawn_rows plan site source)) (ap length (sym here))
 
-with_row-grown : (n : ℕ) (source : Source) (list : List (ℕ × Source)) (before : Option (List (ℕ × Source))) → with_row n source (grown list before) ≡ grown (list ++ (n, source) ∷ []) before
+with_row-grown : (n : ℕ) (source : Source) (list : List (ℕ × Source)) (before : Option (List (ℕ × Source)))
+    → with_row n source (grown list before) ≡ grown (list ++ (n, source) ∷ []) before
 with_row-grown n source list None = refl
 with_row-grown n source list (Some rows) = ap Some (append_assoc rows list ((n, source) ∷ []))
 
 -- a site whose rack ran out of memory at row n took the first of those rows
-pub taken_in_part : (plan : PlanData) (out : List ℕ) (site : ℕ) (source : Source) (n : ℕ) (before old new : Option (List (ℕ × Source))) → IsPlan plan → n < length (row_places plan)
-    → is_kept (job_of plan out site) n ≡ true → old ≡ grown (taken_below (job_of plan out site) source n) before → TakenOnce n source old new
+pub taken_in_part : (plan : PlanData) (out : List ℕ) (site : ℕ) (source : Source) (n : ℕ)
+    (before old new : Option (List (ℕ × Source))) → IsPlan plan → n < length (row_places plan)
+    → is_kept (job_of plan out site) n ≡ true
+    → old ≡ grown (taken_below (job_of plan out site) source n) before → TakenOnce n source old new
     → (k : ℕ) × (new ≡ grown (take k (drawn_rows plan site source)) before)
 taken_in_part plan out site source n before old new is within kept stood once =
     ⊎_elim

@@ -12,12 +12,15 @@ use Rattle.site_agent.specs.Site.{SiteData}
 use Rattle.site_agent.specs.Stands.{AreAsLong, AreBegun}
 use Rattle.site_agent.specs.Turn.{AreRowsFor, IsGoingBy, LeavesAt, StopsAt}
 
-going-there : (first now : Stage) (waits : ℕ) (before : Tells) → Goes first now waits → IsGoingBy first.reader before first.told.tells first.site → IsGoingBy now.reader before now.told.tells now.site
+going-there : (first now : Stage) (waits : ℕ) (before : Tells) → Goes first now waits
+    → IsGoingBy first.reader before first.told.tells first.site
+    → IsGoingBy now.reader before now.told.tells now.site
 going-there first now waits before goes going =
     subst (λ (r : ReaderState). IsGoingBy r before now.told.tells now.site) (sym goes.over.reader) (goes.stands before going)
 
 -- one more row was kept
-pub goes-on : (first now next : Stage) (waits : ℕ) → now.reader.cursor < now.reader.ring.total → Goes first now waits → DrawsOn now next → Goes first next waits
+pub goes-on : (first now next : Stage) (waits : ℕ) → now.reader.cursor < now.reader.ring.total
+    → Goes first now waits → DrawsOn now next → Goes first next waits
 goes-on first now next waits less goes draws =
     let stay : first.told.faults ≤ now.told.faults = goes.faults in
     let faults : now.told.faults ≤ next.told.faults = draws.faults in
@@ -32,7 +35,8 @@ goes-on first now next waits less goes draws =
     }
 
 -- one more wait for the row
-pub goes-awaiting : (first now next : Stage) (waits : ℕ) (answer : NotYet) → Goes first now waits → Awaits now next answer → Goes first next (waits + 1)
+pub goes-awaiting : (first now next : Stage) (waits : ℕ) (answer : NotYet) → Goes first now waits
+    → Awaits now next answer → Goes first next (waits + 1)
 goes-awaiting first now next waits answer goes awaits =
     let same : next.reader ≡ record now.reader { seen = answer.head; loads = now.reader.loads + 1 } = awaits.not_yet.stays in
     let cursor : next.reader.cursor ≡ now.reader.cursor = ap (λ r. r.cursor) same in
@@ -66,16 +70,21 @@ goes-awaiting first now next waits answer goes awaits =
     }
 
 -- a call of the rack failed
-pub goes-leaves : (first now next : Stage) (waits : ℕ) (cause : LeftCause) (before : Tells) → Goes first now waits → DrawsLast now next cause → IsGoingBy first.reader before first.told.tells first.site
-    → LeavesAt first.site.job (map framed_row first.reader.ring.rows) (source_of first.reader) before next.told.tells cause
+pub goes-leaves : (first now next : Stage) (waits : ℕ) (cause : LeftCause) (before : Tells)
+    → Goes first now waits → DrawsLast now next cause
+    → IsGoingBy first.reader before first.told.tells first.site
+    → LeavesAt first.site.job (map framed_row first.reader.ring.rows)
+    (source_of first.reader) before next.told.tells cause
 goes-leaves first now next waits cause before goes draws going =
     subst (λ (job : SiteJob). LeavesAt job (map framed_row first.reader.ring.rows) (source_of first.reader) before next.told.tells cause) goes.job
     (subst (λ (r : ReaderState). LeavesAt now.site.job (map framed_row r.ring.rows) (source_of r) before next.told.tells cause) goes.over.reader
     (draws.stands before (going-there first now waits before goes going)))
 
 -- a call of the rack ran out of memory
-pub goes-stops : (first now next : Stage) (waits n : ℕ) (before : Tells) → n + 1 ≡ next.reader.cursor → Goes first now waits → DrawsNone now next → IsGoingBy first.reader before first.told.tells first.site
-    → StopsAt first.site.job (map framed_row first.reader.ring.rows) (source_of first.reader) n before next.told.tells
+pub goes-stops : (first now next : Stage) (waits n : ℕ) (before : Tells) → n + 1 ≡ next.reader.cursor
+    → Goes first now waits → DrawsNone now next → IsGoingBy first.reader before first.told.tells first.site
+    → StopsAt first.site.job (map framed_row first.reader.ring.rows)
+    (source_of first.reader) n before next.told.tells
 goes-stops first now next waits n before last goes draws going =
     let cursor : next.reader.cursor ≡ now.reader.cursor + 1 = ap (λ r. r.cursor) draws.closes.reader in
     let same : now.reader.cursor ≡ n = omega arith in

@@ -1,5 +1,6 @@
 -- What a site knows when its rack refused a call.
-use Rattle.std.specs.Prelude.{◌≡◌, ℕ, ◌+◌, List, Option, Some, IfSome, slice_index_or}
+use Rattle.std.specs.Prelude.{◌≡◌, ℕ, ◌+◌, ◌≤◌, List, Option, Some, Result, IfErr, IfSome, OnErr, OnOk}
+use Rattle.std.specs.Prelude.{slice_index_or}
 use Rattle.ring_lanes.specs.Held.{HeldRow}
 use Rattle.ring_lanes.specs.declared.source.Source.{Source}
 use Rattle.pr_rack.specs.declared.rack.RackCall.{RackCall}
@@ -25,6 +26,19 @@ pub record IsRefused (call' : RackCall) (path : List ℕ) (old new : RackTells) 
   -- no call failed
   pub unmissed : refusal.fault ≡ Memory → new.missed ≡ old.missed
 
+-- the slots but this one are as before: which of them are begun, and their contents
+pub record OthersStay (slot : ℕ) (old new : Tells) : Type 0 where
+  pub begun : OthersBegun slot old.begun new.begun
+  pub working : OthersStand slot old.working new.working
+
+-- the rack did this call for the plate at this path, in this slot, or refused it
+pub record AnswersCall {T : Type 0} (call : RackCall) (path : List ℕ) (slot : ℕ) (old new : RackTells)
+    (result : Result T Refusal) : Type 0 where
+  pub err : IfErr result (IsRefused call path old new)
+  pub others_stay : OnErr result (OthersStay slot old.tells new.tells)
+  pub missed_stay : OnOk result (new.missed ≡ old.missed)
+  pub faults_stay : old.faults ≤ new.faults
+
 -- the rows taken after this call for the row with this number was refused: with the row only if the call was
 -- to finish its plate
 abbrev pub taken_at : RackCall → ℕ → Source → Option (List (ℕ × Source)) → Option (List (ℕ × Source))
@@ -47,11 +61,6 @@ pub record IsStopped (height y number : ℕ) (source : Source) (path : List ℕ)
 abbrev pub IsStoppedAt : SiteJob → Place → HeldRow → RackTells → RackTells → Refusal → Type 0
 IsStoppedAt job place held old new refusal = (d : SitePlate) → IsStopped job.height place.y held.number
     held.source (slice_index_or job.plates place.plate d).path old new refusal
-
--- the slots but this one are as before: which of them are begun, and their contents
-pub record OthersStay (slot : ℕ) (old new : Tells) : Type 0 where
-  pub begun : OthersBegun slot old.begun new.begun
-  pub working : OthersStand slot old.working new.working
 
 -- the same for the slot of the plate at this place in a job
 abbrev pub OthersStayAt : SiteJob → Place → Tells → Tells → Type 0

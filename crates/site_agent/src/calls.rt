@@ -6,7 +6,7 @@ ghost use Rattle.tif_packbits.specs.Frame.{IsFrame, packed_in};
 ghost use Rattle.tif_plate.specs.Tail.{strips_end};
 ghost use Rattle.pr_rack.specs.Rack.{IsBehind, path_in, plate_in};
 ghost use Rattle.pr_rack.specs.Told.{told};
-ghost use Rattle.site_agent.specs.Refused.{IsRefused, IsStopped, OthersStay};
+ghost use Rattle.site_agent.specs.Refused.{AnswersCall, IsStopped, OthersStay};
 ghost use Rattle.site_agent.specs.Stands.{IsAsLong};
 ghost use Rattle.site_agent.specs.Tells.{after_row, begun_at, finished_at, with_closed, with_taken};
 
@@ -31,13 +31,8 @@ fn begin<R: Rack>(plate: &SitePlate, y: u32, rack: &mut R) -> Result<(), Refusal
         ≡ begun_at y plate.now
         (told R.Rack rack.old).tells) }
     ensures first { IfErr result (λ _. y ≡ 0) }
-    ensures err { IfErr result (
-        IsRefused RackCall.Begin plate.now.path
-        (told R.Rack rack.old) (told R.Rack rack.new)) }
-    ensures others_stay { OnErr result (OthersStay plate.now.slot
-        (told R.Rack rack.old).tells (told R.Rack rack.new).tells) }
-    ensures missed_stay { OnOk result (R.missed rack.new ≡ R.missed rack.old) }
-    ensures faults_stay { R.faults rack.old ≤ R.faults rack.new }
+    ensures answers { AnswersCall RackCall.Begin plate.now.path plate.now.slot
+        (told R.Rack rack.old) (told R.Rack rack.new) result }
 {
     if y > 0 {
         return Ok(());
@@ -61,13 +56,8 @@ fn take<R: Rack>(plate: &SitePlate, held: &Held, rack: &mut R) -> Result<(), Ref
         (told R.Rack rack.new).tells
         ≡ with_taken plate.now.slot held.now.number held.now.bytes held.now.source
         (told R.Rack rack.old).tells) }
-    ensures err { IfErr result (
-        IsRefused RackCall.Row plate.now.path
-        (told R.Rack rack.old) (told R.Rack rack.new)) }
-    ensures others_stay { OnErr result (OthersStay plate.now.slot
-        (told R.Rack rack.old).tells (told R.Rack rack.new).tells) }
-    ensures missed_stay { OnOk result (R.missed rack.new ≡ R.missed rack.old) }
-    ensures faults_stay { R.faults rack.old ≤ R.faults rack.new }
+    ensures answers { AnswersCall RackCall.Row plate.now.path plate.now.slot
+        (told R.Rack rack.old) (told R.Rack rack.new) result }
 {
     match rack.row(plate.slot, held) {
         Ok(()) => Ok(()),
@@ -89,13 +79,8 @@ fn finish<R: Rack>(plate: &SitePlate, tail: &[u8], at: u32, rack: &mut R) -> Res
         (told R.Rack rack.new).tells
         ≡ with_closed plate.now.slot tail.now at
         (told R.Rack rack.old).tells) }
-    ensures err { IfErr result (
-        IsRefused RackCall.Finish plate.now.path
-        (told R.Rack rack.old) (told R.Rack rack.new)) }
-    ensures others_stay { OnErr result (OthersStay plate.now.slot
-        (told R.Rack rack.old).tells (told R.Rack rack.new).tells) }
-    ensures missed_stay { OnOk result (R.missed rack.new ≡ R.missed rack.old) }
-    ensures faults_stay { R.faults rack.old ≤ R.faults rack.new }
+    ensures answers { AnswersCall RackCall.Finish plate.now.path plate.now.slot
+        (told R.Rack rack.old) (told R.Rack rack.new) result }
 {
     match rack.finish(plate.slot, tail, at) {
         Ok(()) => Ok(()),
@@ -121,13 +106,8 @@ fn end<R: Rack>(
         ≡ finished_at strips.old.sides y plate.now strips.old.counts
         (told R.Rack rack.old).tells) }
     ensures last { IfErr result (λ _. y + 1 ≡ strips.old.sides.height) }
-    ensures err { IfErr result (
-        IsRefused RackCall.Finish plate.now.path
-        (told R.Rack rack.old) (told R.Rack rack.new)) }
-    ensures others_stay { OnErr result (OthersStay plate.now.slot
-        (told R.Rack rack.old).tells (told R.Rack rack.new).tells) }
-    ensures missed_stay { OnOk result (R.missed rack.new ≡ R.missed rack.old) }
-    ensures faults_stay { R.faults rack.old ≤ R.faults rack.new }
+    ensures answers { AnswersCall RackCall.Finish plate.now.path plate.now.slot
+        (told R.Rack rack.old) (told R.Rack rack.new) result }
     ensures strips { strips.new ≡ record strips.old { room = strips.new.room } }
 {
     if y < strips.sides().height - 1 {

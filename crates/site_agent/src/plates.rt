@@ -36,13 +36,13 @@ pub(crate) fn plates_of(
     let mut plates = Vec::new(alloc);
     let groups = rows.groups();
     for group in groups {
-        add_printed(alloc, plan, out, site, group, &mut plates)?;
+        add_plates(alloc, plan, out, site, group, &mut plates)?;
     }
     Ok(plates)
 }
 
 /// Appends the plates of a group if the site prints it.
-fn add_printed(
+fn add_plates(
     alloc: Global,
     plan: &Plan,
     out: &str,
@@ -63,25 +63,6 @@ fn add_printed(
     if !group.has_site(site) {
         return Ok(());
     }
-    add_plates(alloc, plan, out, site, group, plates)
-}
-
-/// Appends the plates of a group.
-fn add_plates(
-    alloc: Global,
-    plan: &Plan,
-    out: &str,
-    site: usize,
-    group: &Group,
-    plates: &mut Vec<SitePlate>,
-) -> Result<(), NoMemory>
-    requires site { site < length plan.now.sites }
-    requires section { group.now.section < length plan.now.sections }
-    requires first { group.now.first < 2 ^ 32 }
-    ensures { OnOk result (
-        plates.new.items
-        ≡ plates.old.items ++ map (plate_of plan.now out.now site) (group_plates group.now)) }
-{
     let inks = group.inks();
     for i in 0..inks.len() {
         let ink = inks[i];

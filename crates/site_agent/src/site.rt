@@ -1,5 +1,6 @@
 // A print site and how it keeps rows.
-ghost use Rattle.std.specs.Prelude.{◌≡◌, ◌≢◌, ◌==◌, ◌+◌, ◌<◌, ◌≤◌, ◌^◌, ℕ, [], Some, false, true, IfErr, IfNone, IfOk};
+ghost use Rattle.std.specs.Prelude.{◌≡◌, ◌≢◌, ◌==◌, ◌+◌, ◌<◌, ◌≤◌, ◌^◌, ℕ, [], Some, false, true, IfErr};
+ghost use Rattle.std.specs.Prelude.{IfNone, IfOk};
 ghost use Rattle.std.specs.Prelude.{IfSome, OnErr, OnOk, length, slice_index_or};
 ghost use Rattle.pr_base.specs.Row.{row_size};
 ghost use Rattle.tif_packbits.specs.Frame.{IsFrame, framed_row};

@@ -4,13 +4,15 @@ use Rattle.std.specs.List.{flat_map, range_with_len}
 use Rattle.std.proofs.lemmas.List.{ext_get_or, get_or-append_right, get_or-drop, get_or-take, get_or_append_left, length-append, length-take-le}
 
 -- the length of concatenated groups of four
-pub length-fours : (four : ℕ → List ℕ) (start n : ℕ) → ((x : ℕ) → length (four x) ≡ 4) → length (flat_map four (range_with_len start n)) ≡ 4 * n
+pub length-fours : (four : ℕ → List ℕ) (start n : ℕ) → ((x : ℕ) → length (four x) ≡ 4)
+    → length (flat_map four (range_with_len start n)) ≡ 4 * n
 length-fours four start zero fours = refl
 length-fours four start (suc n) fours =
     length-append (four start) (flat_map four (range_with_len (start + 1) n)) ∙ omega (arith, fours start, length-fours four (start + 1) n fours)
 
 -- the elements of concatenated groups of four
-pub get_or-fours : (four : ℕ → List ℕ) (start n x k : ℕ) → ((x : ℕ) → length (four x) ≡ 4) → x < n → k < 4 → get_or (flat_map four (range_with_len start n)) (4 * x + k) 0 ≡ get_or (four (start + x)) k 0
+pub get_or-fours : (four : ℕ → List ℕ) (start n x k : ℕ) → ((x : ℕ) → length (four x) ≡ 4) → x < n → k < 4
+    → get_or (flat_map four (range_with_len start n)) (4 * x + k) 0 ≡ get_or (four (start + x)) k 0
 get_or-fours four start zero x k fours below small = absurd (omega arith)
 get_or-fours four start (suc n) zero k fours below small =
     let rest = flat_map four (range_with_len (start + 1) n) in
@@ -27,8 +29,10 @@ get_or-fours four start (suc n) (suc x) k fours below small =
     ∙ ap (λ i. get_or (four i) k 0) there
 
 -- a part of concatenated groups of four
-pub part_of_fours : (four : ℕ → List ℕ) (first count n : ℕ) (row : List ℕ) → ((x : ℕ) → length (four x) ≡ 4) → first + count ≤ n → length row ≡ 4 * count
-    → ((x k : ℕ) → x < count → k < 4 → get_or row (4 * x + k) 0 ≡ get_or (four (first + x)) k 0) → row ≡ take (4 * count) (drop (4 * first) (flat_map four (range_with_len 0 n)))
+pub part_of_fours : (four : ℕ → List ℕ) (first count n : ℕ) (row : List ℕ) → ((x : ℕ) → length (four x) ≡ 4)
+    → first + count ≤ n → length row ≡ 4 * count
+    → ((x k : ℕ) → x < count → k < 4 → get_or row (4 * x + k) 0 ≡ get_or (four (first + x)) k 0)
+    → row ≡ take (4 * count) (drop (4 * first) (flat_map four (range_with_len 0 n)))
 part_of_fours four first count n row fours within long each =
     let all = flat_map four (range_with_len 0 n) in
     let size : length (drop (4 * first) all) ≡ 4 * n - 4 * first = length-drop (4 * first) all ∙ ap (λ l. l - 4 * first) (length-fours four 0 n fours) in

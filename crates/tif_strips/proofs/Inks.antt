@@ -22,9 +22,11 @@ four_ways P a b c d (suc (suc (suc zero))) small = d
 four_ways P a b c d (suc (suc (suc (suc ink)))) small = absurd (omega arith)
 
 -- one more pixel of four samples
-pub HasPixels-more : (cyan magenta yellow black into : List ℕ) (x : ℕ) → 4 * x + 3 < length into → HasPixels (cyan ∷ magenta ∷ yellow ∷ black ∷ []) x into
+pub HasPixels-more : (cyan magenta yellow black into : List ℕ) (x : ℕ) → 4 * x + 3 < length into
+    → HasPixels (cyan ∷ magenta ∷ yellow ∷ black ∷ []) x into
     → HasPixels (cyan ∷ magenta ∷ yellow ∷ black ∷ []) (x + 1)
-    (set (set (set (set into (4 * x) (get_or cyan x 0)) (4 * x + 1) (get_or magenta x 0)) (4 * x + 2) (get_or yellow x 0)) (4 * x + 3) (get_or black x 0))
+    (set (set (set (set into (4 * x) (get_or cyan x 0)) (4 * x + 1) (get_or magenta x 0)) (4 * x + 2)
+    (get_or yellow x 0)) (4 * x + 3) (get_or black x 0))
 HasPixels-more cyan magenta yellow black into x room has = record {
   each = λ k ink below small.
       elim (cases_eq k x) [
@@ -40,8 +42,8 @@ HasPixels-more cyan magenta yellow black into x room has = record {
     kept list i j value ne = get_or-set_other list i j value 0 ne
 
     earlier : (k ink : ℕ) → k < x → ink < 4
-        → get_or (set (set (set (set into (4 * x) (get_or cyan x 0)) (4 * x + 1) (get_or magenta x 0)) (4 * x + 2) (get_or yellow x 0)) (4 * x + 3) (get_or black x 0)) (4 * k + ink) 0
-        ≡ get_or into (4 * k + ink) 0
+        → get_or (set (set (set (set into (4 * x) (get_or cyan x 0)) (4 * x + 1) (get_or magenta x 0))
+        (4 * x + 2) (get_or yellow x 0)) (4 * x + 3) (get_or black x 0)) (4 * k + ink) 0 ≡ get_or into (4 * k + ink) 0
     earlier k ink below small =
         kept _ (4 * x + 3) (4 * k + ink) _ (omega arith)
         ∙ kept _ (4 * x + 2) (4 * k + ink) _ (omega arith)
@@ -49,8 +51,8 @@ HasPixels-more cyan magenta yellow black into x room has = record {
         ∙ kept into (4 * x) (4 * k + ink) _ (omega arith)
 
     last : (ink : ℕ) → ink < 4
-        → get_or (set (set (set (set into (4 * x) (get_or cyan x 0)) (4 * x + 1) (get_or magenta x 0)) (4 * x + 2) (get_or yellow x 0)) (4 * x + 3) (get_or black x 0)) (4 * x + ink) 0
-        ≡ get_or (get_or (cyan ∷ magenta ∷ yellow ∷ black ∷ []) ink []) x 0
+        → get_or (set (set (set (set into (4 * x) (get_or cyan x 0)) (4 * x + 1) (get_or magenta x 0))
+        (4 * x + 2) (get_or yellow x 0)) (4 * x + 3) (get_or black x 0)) (4 * x + ink) 0 ≡ get_or (get_or (cyan ∷ magenta ∷ yellow ∷ black ∷ []) ink []) x 0
     last =
         let one = set into (4 * x) (get_or cyan x 0) in
         let two = set one (4 * x + 1) (get_or magenta x 0) in
@@ -67,9 +69,11 @@ HasPixels-more cyan magenta yellow black into x room has = record {
         (get_or-set_same three (4 * x + 3) _ 0 (omega arith))
 
 -- a piece of n more pixels, interleaved from the samples from index `at` on
-pub HasPixels-piece : (inks pieces : List (List ℕ)) (at n size : ℕ) (into part : List ℕ) → 4 * at + size ≤ length into → size ≡ 4 * n → length part ≡ size
-    → ((ink x : ℕ) → ink < 4 → x < n → get_or (get_or pieces ink []) x 0 ≡ get_or (get_or inks ink []) (at + x) 0)
-    → HasPixels inks at into → HasPixels pieces n part → HasPixels inks (at + n) (put_mid (4 * at) size into part)
+pub HasPixels-piece : (inks pieces : List (List ℕ)) (at n size : ℕ) (into part : List ℕ)
+    → 4 * at + size ≤ length into → size ≡ 4 * n → length part ≡ size
+    → ((ink x : ℕ) → ink < 4 → x < n → get_or (get_or pieces ink []) x 0
+    ≡ get_or (get_or inks ink []) (at + x) 0) → HasPixels inks at into → HasPixels pieces n part
+    → HasPixels inks (at + n) (put_mid (4 * at) size into part)
 HasPixels-piece inks pieces at n size into part room whole long same has more = record {
   each = λ x ink below small.
       elim (cases_lt x at) [
@@ -93,8 +97,10 @@ HasPixels-piece inks pieces at n size into part room whole long same has more = 
     front = length-take-le (4 * at) into (omega arith)
 
 -- the samples read into a block are the next ones of their ink
-pub block-given : (count at : ℕ) (block ahead start given : List ℕ) → count ≤ length block → at + count ≤ length start → ahead ≡ drop at start
-    → given ≡ take (length (take count block)) ahead → take count (given ++ drop count block) ≡ take count (drop at start)
+pub block-given : (count at : ℕ) (block ahead start given : List ℕ) → count ≤ length block
+    → at + count ≤ length start → ahead ≡ drop at start
+    → given ≡ take (length (take count block)) ahead
+    → take count (given ++ drop count block) ≡ take count (drop at start)
 block-given count at block ahead start given room enough ahead_is is =
     let size : length (take count block) ≡ count = length-take-le count block room in
     let own : given ≡ take count (drop at start) = is ∙ ap (λ n. take n ahead) size ∙ ap (take count) ahead_is in
@@ -102,15 +108,18 @@ block-given count at block ahead start given room enough ahead_is is =
     take_at given (drop count block) count long ∙ own
 
 -- the samples after them are left
-pub block-left : (count at : ℕ) (block ahead start left : List ℕ) → count ≤ length block → ahead ≡ drop at start → left ≡ drop (length (take count block)) ahead → left ≡ drop (at + count) start
+pub block-left : (count at : ℕ) (block ahead start left : List ℕ) → count ≤ length block
+    → ahead ≡ drop at start → left ≡ drop (length (take count block)) ahead → left ≡ drop (at + count) start
 block-left count at block ahead start left room ahead_is is =
     let size : length (take count block) ≡ count = length-take-le count block room in
     is ∙ ap (λ n. drop n ahead) size ∙ ap (drop count) ahead_is ∙ drop-drop count at start
 
 -- a block of n more pixels, interleaved from the next samples of each ink
-pub HasPixels-block : (cyan magenta yellow black c m y k : List ℕ) (at n size : ℕ) (into part : List ℕ) → 4 * at + size ≤ length into → size ≡ 4 * n → length part ≡ size → at + n ≤ length cyan
-    → c ≡ take n (drop at cyan) → m ≡ take n (drop at magenta) → y ≡ take n (drop at yellow) → k ≡ take n (drop at black)
-    → HasPixels (cyan ∷ magenta ∷ yellow ∷ black ∷ []) at into → HasPixels (c ∷ m ∷ y ∷ k ∷ []) (length c) part
+pub HasPixels-block : (cyan magenta yellow black c m y k : List ℕ) (at n size : ℕ) (into part : List ℕ)
+    → 4 * at + size ≤ length into → size ≡ 4 * n → length part ≡ size → at + n ≤ length cyan
+    → c ≡ take n (drop at cyan) → m ≡ take n (drop at magenta) → y ≡ take n (drop at yellow)
+    → k ≡ take n (drop at black) → HasPixels (cyan ∷ magenta ∷ yellow ∷ black ∷ []) at into
+    → HasPixels (c ∷ m ∷ y ∷ k ∷ []) (length c) part
     → HasPixels (cyan ∷ magenta ∷ yellow ∷ black ∷ []) (at + n) (put_mid (4 * at) size into part)
 HasPixels-block cyan magenta yellow black c m y k at n size into part room whole long enough c_is m_is y_is k_is has more =
     let count : length c ≡ n = ap length c_is ∙ length-take-le n (drop at cyan) (omega (arith, length-drop at cyan)) in
@@ -120,20 +129,25 @@ HasPixels-block cyan magenta yellow black c m y k at n size into part room whole
     (next c cyan x below c_is) (next m magenta x below m_is) (next y yellow x below y_is) (next k black x below k_is) ink small)
     has (rw count at more)
   where
-    next : (piece start : List ℕ) (x : ℕ) → x < n → piece ≡ take n (drop at start) → get_or piece x 0 ≡ get_or start (at + x) 0
+    next : (piece start : List ℕ) (x : ℕ) → x < n → piece ≡ take n (drop at start)
+        → get_or piece x 0 ≡ get_or start (at + x) 0
     next piece start x below is = ap (λ list. get_or list x 0) is ∙ get_or-take n (drop at start) x 0 below ∙ get_or-drop at start x 0
 
 -- with one plane per ink, a row has four bytes per pixel
-pub image_row-fours : (shape : Shape) (bytes : List ℕ) (y : ℕ) → planes shape ≢ 1 → length (image_row shape bytes y) ≡ row_length shape
+pub image_row-fours : (shape : Shape) (bytes : List ℕ) (y : ℕ) → planes shape ≢ 1
+    → length (image_row shape bytes y) ≡ row_length shape
 unfolding image_row planar_pixel
 image_row-fours shape bytes y more =
     let four = four_planes shape more in
     rw (four.0, four.1) (length-fours (planar_pixel shape bytes y) 0 shape.width (λ x. refl))
 
 -- pixels made of the planes' samples from a column on are a part of the image's row
-pub image_part-inks : (shape : Shape) (bytes : List ℕ) (y row first count : ℕ) (inks : List (List ℕ)) (into : List ℕ) → planes shape ≢ 1 → row ≡ plane_row_length shape → first + count ≤ shape.width
-    → length into ≡ part_length shape first count → ((ink : ℕ) → ink < 4 → take row (get_or inks ink []) ≡ plane_row shape bytes ink y)
-    → ((x ink : ℕ) → x < count → ink < 4 → get_or into (4 * x + ink) 0 ≡ get_or (get_or inks ink []) (first + x) 0) → into ≡ image_part shape bytes y first count
+pub image_part-inks : (shape : Shape) (bytes : List ℕ) (y row first count : ℕ) (inks : List (List ℕ))
+    (into : List ℕ) → planes shape ≢ 1 → row ≡ plane_row_length shape → first + count ≤ shape.width
+    → length into ≡ part_length shape first count
+    → ((ink : ℕ) → ink < 4 → take row (get_or inks ink []) ≡ plane_row shape bytes ink y)
+    → ((x ink : ℕ) → x < count → ink < 4 → get_or into (4 * x + ink) 0
+    ≡ get_or (get_or inks ink []) (first + x) 0) → into ≡ image_part shape bytes y first count
 unfolding image_row planar_pixel plane_row
 image_part-inks shape bytes y row first count inks into more row_is within room rows each =
     let four = four_planes shape more in
@@ -146,7 +160,8 @@ image_part-inks shape bytes y row first count inks into more row_is within room 
     ∙ (rw four.2 (four_ways (λ i. get_or (plane_data shape bytes i) (y * shape.width + (first + x)) 0 ≡ get_or (planar_pixel shape bytes y (first + x)) i 0) refl refl refl refl ink small))))
 
 -- a sample of a plane's row is that of its pixel in the image's row
-pub image_row-ink : (shape : Shape) (bytes : List ℕ) (y x ink : ℕ) → planes shape ≢ 1 → x < shape.width → ink < 4 → get_or (plane_row shape bytes ink y) x 0 ≡ get_or (image_row shape bytes y) (4 * x + ink) 0
+pub image_row-ink : (shape : Shape) (bytes : List ℕ) (y x ink : ℕ) → planes shape ≢ 1 → x < shape.width
+    → ink < 4 → get_or (plane_row shape bytes ink y) x 0 ≡ get_or (image_row shape bytes y) (4 * x + ink) 0
 unfolding image_row planar_pixel plane_row
 image_row-ink shape bytes y x ink more below small =
     let four = four_planes shape more in
@@ -156,6 +171,7 @@ image_row-ink shape bytes y x ink more below small =
     ∙ sym pixel)
 
 -- if there is only one plane, its rows are the image's rows
-pub image_row-one : (shape : Shape) (bytes : List ℕ) (y : ℕ) → planes shape ≡ 1 → plane_row shape bytes 0 y ≡ image_row shape bytes y
+pub image_row-one : (shape : Shape) (bytes : List ℕ) (y : ℕ) → planes shape ≡ 1
+    → plane_row shape bytes 0 y ≡ image_row shape bytes y
 unfolding image_row
 image_row-one shape bytes y one = rw one refl

@@ -1,5 +1,5 @@
 -- Marks of strips: none, those that the walk sets, and where a row begins behind one.
-use Rattle.std.proofs.Common.{◌≡◌, ◌≢◌, ℕ, zero, suc, ◌+◌, ◌-◌, ◌*◌, ◌/◌, ◌%◌, ◌<◌, ◌≤◌, Bool, true, false, min, nat_lt, if◌then◌else◌, List, [], ◌∷◌, ◌++◌, length, map, drop, get_or, slice_index, refl, sym, ap, ◌∙◌, arith, zero-add}
+use Rattle.std.proofs.Common.{◌≡◌, ◌≢◌, ℕ, zero, suc, ◌+◌, ◌-◌, ◌*◌, ◌/◌, ◌%◌, ◌<◌, ◌≤◌, Bool, true, false, min, nat_lt, if◌then◌else◌, List, [], ◌++◌, length, drop, slice_index, refl, sym, ap, ◌∙◌, arith}
 use Rattle.std.specs.Prelude.{IsTrue}
 use Rattle.std.proofs.Math.Nat.{mul-le-mul_right}
 use Rattle.std.proofs.lemmas.Bool.Decides.{nat_tests}
@@ -27,16 +27,21 @@ pub none_marked : (image : Image) (first per : ℕ) (marks : List ℕ) → AreMa
 none_marked image first per marks = record { each = λ i k below under. absurd (omega arith) }
 
 -- marks that say nothing
-pub unmarked : (stored marks : List ℕ) (step : ℕ) → ((k : ℕ) → k < length marks → slice_index marks k ≡ 0) → HasMarks stored step marks
+pub unmarked : (stored marks : List ℕ) (step : ℕ) → ((k : ℕ) → k < length marks → slice_index marks k ≡ 0)
+    → HasMarks stored step marks
 unmarked stored marks step none = record { each = λ k below. zero_mark _ _ _ (none k below) }
 
 -- ---- the strips of an image
 
 -- the marks of one strip
-pub strip_marked : (image : Image) (i per : ℕ) (marks : List ℕ) → length marks ≡ per → HasMarks (stored_bytes image.shape image.bytes i) (64 * plane_row_length image.shape) marks → AreMarks image i 1 per marks
+pub strip_marked : (image : Image) (i per : ℕ) (marks : List ℕ) → length marks ≡ per
+    → HasMarks (stored_bytes image.shape image.bytes i) (64 * plane_row_length image.shape) marks
+    → AreMarks image i 1 per marks
 strip_marked image i per marks room has = record { each = λ j k below under. one j k below under }
   where
-    one : (j k : ℕ) → j < 1 → k < per → IsMark (stored_bytes image.shape image.bytes (i + j)) ((k + 1) * (64 * plane_row_length image.shape)) (slice_index marks (j * per + k))
+    one : (j k : ℕ) → j < 1 → k < per
+        → IsMark (stored_bytes image.shape image.bytes (i + j))
+        ((k + 1) * (64 * plane_row_length image.shape)) (slice_index marks (j * per + k))
     one zero k below under =
         let here : i + 0 ≡ i = omega arith in
         let at : 0 * per + k ≡ k = omega arith in
@@ -50,12 +55,14 @@ not_below : (a b : ℕ) → nat_lt a b ≡ false → b ≤ a
 not_below a b is = grind (arith, nat_tests)
 
 -- the marks of strips in two parts
-pub both_marked : (image : Image) (first count half per : ℕ) (front back : List ℕ) → half ≤ count → length front ≡ half * per → AreMarks image first half per front → AreMarks image (first + half) (count - half) per back
-    → AreMarks image first count per (front ++ back)
+pub both_marked : (image : Image) (first count half per : ℕ) (front back : List ℕ) → half ≤ count
+    → length front ≡ half * per → AreMarks image first half per front
+    → AreMarks image (first + half) (count - half) per back → AreMarks image first count per (front ++ back)
 both_marked image first count half per front back within room one other = record { each = λ i k below under. by i k below under (nat_lt i half) refl }
   where
     by : (i k : ℕ) → i < count → k < per → (t : Bool) → nat_lt i half ≡ t
-        → IsMark (stored_bytes image.shape image.bytes (first + i)) ((k + 1) * (64 * plane_row_length image.shape)) (slice_index (front ++ back) (i * per + k))
+        → IsMark (stored_bytes image.shape image.bytes (first + i))
+        ((k + 1) * (64 * plane_row_length image.shape)) (slice_index (front ++ back) (i * per + k))
     by i k below under true is =
         let early : i < half = below_or i half is in
         let next : i + 1 ≤ half = omega arith in
@@ -77,8 +84,10 @@ both_marked image first count half per front back within room one other = record
 -- ---- from a mark to a row
 
 -- rows behind a mark
-pub behind_mark : (stored : List ℕ) (mark row above : ℕ) → mark ≢ 0 → IsMark stored (above / 64 * (64 * row)) mark → above * row ≤ length (expansion stored)
-    → (above % 64 * row ≤ length (expansion (drop mark stored))) × (drop (above % 64 * row) (expansion (drop mark stored)) ≡ drop (above * row) (expansion stored))
+pub behind_mark : (stored : List ℕ) (mark row above : ℕ) → mark ≢ 0
+    → IsMark stored (above / 64 * (64 * row)) mark → above * row ≤ length (expansion stored)
+    → (above % 64 * row ≤ length (expansion (drop mark stored)))
+    × (drop (above % 64 * row) (expansion (drop mark stored)) ≡ drop (above * row) (expansion stored))
 behind_mark stored mark row above some is enough =
     let q : ℕ = above / 64 in
     let r : ℕ = above % 64 in
@@ -91,11 +100,13 @@ behind_mark stored mark row above some is enough =
     (omega arith, ap (drop (r * row)) own ∙ drop-drop (r * row) from (expansion stored) ∙ ap (λ n. drop n (expansion stored)) both)
 
 -- a marked row of a strip has a mark among those of its strip
-pub mark_within : (shape : Shape) (i above : ℕ) → IsTrue shape.packed → above < strip_rows shape i → above / 64 ≢ 0 → above / 64 - 1 < marks_per_strip shape
+pub mark_within : (shape : Shape) (i above : ℕ) → IsTrue shape.packed → above < strip_rows shape i
+    → above / 64 ≢ 0 → above / 64 - 1 < marks_per_strip shape
 unfolding strip_rows marks_per_strip
 mark_within shape i above packed below some = by shape.packed packed
   where
-    by : (packed : Bool) → IsTrue packed → above / 64 - 1 < (if packed then (min shape.rows_per_strip shape.length - 1) / 64 else 0)
+    by : (packed : Bool) → IsTrue packed
+        → above / 64 - 1 < (if packed then (min shape.rows_per_strip shape.length - 1) / 64 else 0)
     by true is =
         let most : ℕ = min shape.rows_per_strip shape.length - 1 in
         let own = div-add-mod' above 64 in
@@ -106,8 +117,11 @@ mark_within shape i above packed below some = by shape.packed packed
     by false is = cc
 
 -- and that mark is one of the row
-pub mark_of_row : (image : Image) (per number above : ℕ) (marks : List ℕ) → MarksOf image marks → per ≡ marks_per_strip image.shape → number < strip_count image.shape → above / 64 - 1 < per → above / 64 ≢ 0
-    → IsMark (stored_bytes image.shape image.bytes number) (above / 64 * (64 * plane_row_length image.shape)) (slice_index marks (number * per + above / 64 - 1))
+pub mark_of_row : (image : Image) (per number above : ℕ) (marks : List ℕ) → MarksOf image marks
+    → per ≡ marks_per_strip image.shape → number < strip_count image.shape → above / 64 - 1 < per
+    → above / 64 ≢ 0
+    → IsMark (stored_bytes image.shape image.bytes number) (above / 64 * (64 * plane_row_length image.shape))
+    (slice_index marks (number * per + above / 64 - 1))
 mark_of_row image per number above marks are per_is known under some =
     let k : ℕ = above / 64 - 1 in
     let here : 0 + number ≡ number = omega arith in
@@ -119,7 +133,8 @@ mark_of_row image per number above marks are per_is known under some =
 -- ---- the room of marks
 
 -- the room behind that of the first strips
-pub rest_room : (count half per n : ℕ) → half ≤ count → n + half * per ≡ count * per → n ≡ (count - half) * per
+pub rest_room : (count half per n : ℕ) → half ≤ count → n + half * per ≡ count * per
+    → n ≡ (count - half) * per
 rest_room count half per n within both =
     let rest : ℕ = count - half in
     let all : half + rest ≡ count = omega arith in

@@ -1,5 +1,5 @@
 -- The rows of a strip that a cursor has still to produce, from the strip's start to its end.
-use Rattle.std.proofs.Common.{◌≡◌, ◌≢◌, ℕ, zero, suc, ◌+◌, ◌-◌, ◌*◌, ◌/◌, ◌%◌, ◌<◌, ◌≤◌, List, [], ◌∷◌, length, map, take, drop, get_or, slice_index, None, inl, inr, refl, sym, ap, ◌∙◌, zero-add, arith}
+use Rattle.std.proofs.Common.{lit<, ◌≡◌, ◌≢◌, ℕ, zero, suc, ◌+◌, ◌-◌, ◌*◌, ◌/◌, ◌%◌, ◌<◌, ◌≤◌, List, [], ◌∷◌, length, map, take, drop, get_or, slice_index, None, inl, inr, refl, sym, ap, ◌∙◌, zero-add, arith}
 use Rattle.std.proofs.Math.Nat.{mul-le-mul_right}
 use Rattle.std.proofs.lemmas.Bool.{cases_eq}
 use Rattle.std.specs.List.{range_with_len}
@@ -10,8 +10,8 @@ use Rattle.tif_strips.specs.declared.place.Place.{Place}
 use Rattle.tif_strips.specs.declared.planes.Planes.{Planes}
 use Rattle.tif_strips.specs.declared.shape.Shape.{Shape}
 use Rattle.tif_strips.specs.Strips.{Image, IsStriped, image_part, image_row, ink_part, part_length, plane_part_length, plane_place, plane_row, plane_row_length, planes, row_length, samples_in, stored_bytes, strip_fault, strip_rows, strips_per_plane}
-use Rattle.tif_strips.specs.Planes.{HasPixels, aheads_of, strip_samples}
-use Rattle.tif_strips.specs.Place.{HoldsRows, IsPlace}
+use Rattle.tif_strips.specs.Planes.{FitInks, HasPixels, TakeInks, aheads_of, strip_samples}
+use Rattle.tif_strips.specs.Place.{HoldsRows, IsPlace, TakeParts}
 use Rattle.tif_strips.proofs.Faults.{fault_of_strip-passed, strip_enough-passed}
 use Rattle.tif_strips.proofs.Ahead.{get_or-later}
 use Rattle.tif_strips.proofs.Inks.{image_part-inks, image_row-fours, image_row-ink, image_row-one}
@@ -19,8 +19,12 @@ use Rattle.tif_strips.proofs.Rows.{plane_row-in_strip, take-drop-take}
 use Rattle.tif_strips.proofs.Shapes.{four_places, four_planes, ink_wide, needed_length-in_plane, one_plane, part_in_row, row_length-planes, strip_number, strip_of_row}
 
 -- the samples of strip i of a plane are its rows
-pub HoldsRows-begin : (image : Image) (plane i : ℕ) → IsStriped image.shape → strip_fault image.shape image.bytes ≡ None → plane < planes image.shape → i < strips_per_plane image.shape
-    → HoldsRows image plane (i * image.shape.rows_per_strip) (strip_rows image.shape i) (samples_in image.shape.packed (stored_bytes image.shape image.bytes (plane * strips_per_plane image.shape + i)))
+pub HoldsRows-begin : (image : Image) (plane i : ℕ) → IsStriped image.shape
+    → strip_fault image.shape image.bytes ≡ None → plane < planes image.shape
+    → i < strips_per_plane image.shape
+    → HoldsRows image plane (i * image.shape.rows_per_strip) (strip_rows image.shape i)
+    (samples_in image.shape.packed (stored_bytes image.shape image.bytes
+    (plane * strips_per_plane image.shape + i)))
 unfolding strip_rows
 HoldsRows-begin image plane i striped passed known below =
     let shape = image.shape in
@@ -37,7 +41,8 @@ HoldsRows-begin image plane i striped passed known below =
     }
 
 -- the samples after the first count rows
-pub HoldsRows-later : (image : Image) (plane y rows count : ℕ) (samples : List ℕ) → HoldsRows image plane y rows samples → count ≤ rows
+pub HoldsRows-later : (image : Image) (plane y rows count : ℕ) (samples : List ℕ)
+    → HoldsRows image plane y rows samples → count ≤ rows
     → HoldsRows image plane (y + count) (rows - count) (drop (count * plane_row_length image.shape) samples)
 HoldsRows-later image plane y rows count samples holds fits =
     let b = plane_row_length image.shape in
@@ -58,10 +63,12 @@ HoldsRows-later image plane y rows count samples holds fits =
         omega arith
 
 -- where no row of a strip is left, the next strip begins
-at_strip_end : (image : Image) (place : Place) → IsPlace image place → place.rows ≡ 0 → place.next < image.shape.length → place.next ≡ place.begun * image.shape.rows_per_strip
+at_strip_end : (image : Image) (place : Place) → IsPlace image place → place.rows ≡ 0
+    → place.next < image.shape.length → place.next ≡ place.begun * image.shape.rows_per_strip
 at_strip_end image place is none left = omega (arith, is.to_strip_end)
 
-pub begun_within : (image : Image) (place : Place) → IsPlace image place → place.rows ≡ 0 → place.next < image.shape.length → place.begun < strips_per_plane image.shape
+pub begun_within : (image : Image) (place : Place) → IsPlace image place → place.rows ≡ 0
+    → place.next < image.shape.length → place.begun < strips_per_plane image.shape
 begun_within image place is none left =
     let rows = image.shape.rows_per_strip in
     let some : 0 < rows = omega (arith, is.striped.rows_per_strip) in
@@ -70,9 +77,12 @@ begun_within image place is none left =
     rw strip at (strip_of_row image.shape place.next is.striped left)
 
 -- after a strip is started, its rows come first among its samples
-pub IsPlace-begin : (image : Image) (place : Place) (begun : Planes) (rows : ℕ) → IsPlace image place → place.rows ≡ 0 → place.next < image.shape.length
-    → aheads_of begun ≡ strip_samples image.shape image.bytes place.begun → rows ≡ strip_rows image.shape place.begun
-    → IsPlace image (record { next = place.next; begun = place.begun + 1; rows = rows; planes = begun }) × (0 < rows)
+pub IsPlace-begin : (image : Image) (place : Place) (begun : Planes) (rows : ℕ) → IsPlace image place
+    → place.rows ≡ 0 → place.next < image.shape.length
+    → aheads_of begun ≡ strip_samples image.shape image.bytes place.begun
+    → rows ≡ strip_rows image.shape place.begun
+    → IsPlace image (record { next = place.next; begun = place.begun + 1; rows = rows; planes = begun })
+    × (0 < rows)
 unfolding strip_rows
 IsPlace-begin image place begun rows is none left samples rows_are =
     let shape = image.shape in
@@ -93,7 +103,8 @@ IsPlace-begin image place begun rows is none left samples rows_are =
     )
 
 -- the strip at the end of another has rows
-pub begun_rows : (image : Image) (place : Place) → IsPlace image place → place.rows ≡ 0 → place.next < image.shape.length → 0 < strip_rows image.shape place.begun
+pub begun_rows : (image : Image) (place : Place) → IsPlace image place → place.rows ≡ 0
+    → place.next < image.shape.length → 0 < strip_rows image.shape place.begun
 unfolding strip_rows
 begun_rows image place is none left =
     let at = at_strip_end image place is none left in
@@ -101,8 +112,11 @@ begun_rows image place is none left =
     omega arith
 
 -- inside a strip, the rows behind those that were passed come first
-pub IsPlace-inside : (image : Image) (place : Place) (y strip above rows : ℕ) (begun : Planes) → IsPlace image place → y < image.shape.length → strip ≡ y / image.shape.rows_per_strip → above ≡ y % image.shape.rows_per_strip
-    → rows ≡ strip_rows image.shape strip - above → aheads_of begun ≡ map (drop (above * plane_row_length image.shape)) (strip_samples image.shape image.bytes strip)
+pub IsPlace-inside : (image : Image) (place : Place) (y strip above rows : ℕ) (begun : Planes)
+    → IsPlace image place → y < image.shape.length → strip ≡ y / image.shape.rows_per_strip
+    → above ≡ y % image.shape.rows_per_strip → rows ≡ strip_rows image.shape strip - above
+    → aheads_of begun
+    ≡ map (drop (above * plane_row_length image.shape)) (strip_samples image.shape image.bytes strip)
     → IsPlace image (record { next = y; begun = strip + 1; rows = rows; planes = begun })
 unfolding strip_rows
 IsPlace-inside image place y strip above rows begun is below strip_is above_is rows_is samples =
@@ -129,7 +143,8 @@ IsPlace-inside image place y strip above rows begun is below strip_is above_is r
     }
 
 -- behind the last row of the image no row is left of the strips that began
-pub IsPlace-end : (image : Image) (place : Place) (y strip above : ℕ) (any : Planes) → IsPlace image place → y ≡ image.shape.length → strip ≡ y / image.shape.rows_per_strip
+pub IsPlace-end : (image : Image) (place : Place) (y strip above : ℕ) (any : Planes) → IsPlace image place
+    → y ≡ image.shape.length → strip ≡ y / image.shape.rows_per_strip
     → IsPlace image (record { next = y; begun = strip + 1; rows = 0; planes = any })
 IsPlace-end image place y strip above any is end strip_is =
     let rows = image.shape.rows_per_strip in
@@ -151,8 +166,9 @@ map-drop-none size [] = refl
 map-drop-none size (list ∷ rest) = (let none : 0 * size ≡ 0 = omega arith in ap (λ n. drop n list ∷ map (drop (0 * size)) rest) none ∙ ap (λ back. list ∷ back) (map-drop-none size rest))
 
 -- `count` rows later
-pub IsPlace-later : (image : Image) (place : Place) (count len : ℕ) (later : Planes) → IsPlace image place → 0 < place.rows → count ≤ place.rows
-    → len ≡ count * plane_row_length image.shape → aheads_of later ≡ map (drop len) (aheads_of place.planes)
+pub IsPlace-later : (image : Image) (place : Place) (count len : ℕ) (later : Planes) → IsPlace image place
+    → 0 < place.rows → count ≤ place.rows → len ≡ count * plane_row_length image.shape
+    → aheads_of later ≡ map (drop len) (aheads_of place.planes)
     → IsPlace image (record { next = place.next + count; begun = place.begun; rows = place.rows - count; planes = later })
 IsPlace-later image place count len later is some fits len_is left = record {
   striped = is.striped;
@@ -166,7 +182,8 @@ IsPlace-later image place count len later is some fits len_is left = record {
 }
 
 -- each plane has a row ahead
-pub row_ahead : (image : Image) (place : Place) (plane row : ℕ) → IsPlace image place → 0 < place.rows → row ≡ plane_row_length image.shape → plane < planes image.shape
+pub row_ahead : (image : Image) (place : Place) (plane row : ℕ) → IsPlace image place → 0 < place.rows
+    → row ≡ plane_row_length image.shape → plane < planes image.shape
     → take row (get_or (aheads_of place.planes) plane []) ≡ plane_row image.shape image.bytes plane place.next
 row_ahead image place plane row is some row_is known =
     let b = plane_row_length image.shape in
@@ -176,7 +193,8 @@ row_ahead image place plane row is some row_is known =
     rw row_is (rw (front, here) at first)
 
 -- each plane has at least a row of bytes ahead
-row_long : (image : Image) (place : Place) (plane row : ℕ) → IsPlace image place → 0 < place.rows → row ≡ plane_row_length image.shape → plane < planes image.shape
+row_long : (image : Image) (place : Place) (plane row : ℕ) → IsPlace image place → 0 < place.rows
+    → row ≡ plane_row_length image.shape → plane < planes image.shape
     → row ≤ length (get_or (aheads_of place.planes) plane [])
 row_long image place plane row is some row_is known = rw row_is (one_row place.rows (plane_row_length image.shape) _ some (is.each plane known).enough)
   where
@@ -185,7 +203,8 @@ row_long image place plane row is some row_is known = rw row_is (one_row place.r
     one_row (suc rows) b n some enough = omega arith
 
 -- a row of the image has the image's row length
-pub image_row-long : (image : Image) (place : Place) (row : ℕ) → IsPlace image place → 0 < place.rows → row ≡ plane_row_length image.shape
+pub image_row-long : (image : Image) (place : Place) (row : ℕ) → IsPlace image place → 0 < place.rows
+    → row ≡ plane_row_length image.shape
     → length (image_row image.shape image.bytes place.next) ≡ row_length image.shape
 image_row-long image place row is some row_is =
     let shape = image.shape in
@@ -199,9 +218,12 @@ image_row-long image place row is some row_is =
     ]
 
 -- the planes' next samples are a part of the image's row
-pub image_part-place : (image : Image) (place : Place) (row from len first count : ℕ) (into : List ℕ) → IsPlace image place → 0 < place.rows → row ≡ plane_row_length image.shape
-    → from ≡ plane_place image.shape first → len ≡ plane_part_length image.shape first count → first + count ≤ image.shape.width → length into ≡ part_length image.shape first count
-    → (length (aheads_of place.planes) ≡ 1 → into ≡ take len (drop from (get_or (aheads_of place.planes) 0 [])))
+pub image_part-place : (image : Image) (place : Place) (row from len first count : ℕ) (into : List ℕ)
+    → IsPlace image place → 0 < place.rows → row ≡ plane_row_length image.shape
+    → from ≡ plane_place image.shape first → len ≡ plane_part_length image.shape first count
+    → first + count ≤ image.shape.width → length into ≡ part_length image.shape first count
+    → (length (aheads_of place.planes) ≡ 1
+    → into ≡ take len (drop from (get_or (aheads_of place.planes) 0 [])))
     → (length (aheads_of place.planes) ≢ 1 → HasPixels (map (drop from) (aheads_of place.planes)) len into)
     → into ≡ image_part image.shape image.bytes place.next first count
 image_part-place image place row from len first count into is some row_is from_is len_is within room one four =
@@ -229,8 +251,11 @@ image_part-place image place row from len first count into is some row_is from_i
     ]
 
 -- the next samples of a plane are one ink of the image's row
-pub ink_part-place : (image : Image) (place : Place) (row first count ink : ℕ) (into : List ℕ) → IsPlace image place → 0 < place.rows → row ≡ plane_row_length image.shape → planes image.shape ≡ 4
-    → ink < 4 → first + count ≤ image.shape.width → into ≡ take count (drop first (get_or (aheads_of place.planes) ink [])) → into ≡ ink_part image.shape image.bytes place.next ink first count
+pub ink_part-place : (image : Image) (place : Place) (row first count ink : ℕ) (into : List ℕ)
+    → IsPlace image place → 0 < place.rows → row ≡ plane_row_length image.shape → planes image.shape ≡ 4
+    → ink < 4 → first + count ≤ image.shape.width
+    → into ≡ take count (drop first (get_or (aheads_of place.planes) ink []))
+    → into ≡ ink_part image.shape image.bytes place.next ink first count
 unfolding ink_part
 ink_part-place image place row first count ink into is some row_is four small within into_is =
     let shape = image.shape in
@@ -251,21 +276,41 @@ ink_part-place image place row first count ink into is some row_is four small wi
     ∙ image_row-ink shape image.bytes place.next (first + x) ink more (omega arith) small
     ∙ sym (get_or-map-range_with_len sample first count x (first + x) 0 inside refl))
 
+-- all four of them
+pub inks_part-place : (image : Image) (place : Place) (row first : ℕ)
+    (c m y k cyan magenta yellow black : List ℕ) → IsPlace image place → 0 < place.rows
+    → row ≡ plane_row_length image.shape
+    → planes image.shape ≡ 4 → FitInks image.shape.width first c m y k
+    → TakeInks (aheads_of place.planes) first c m y k cyan magenta yellow black
+    → TakeParts image place.next first c m y k cyan magenta yellow black
+inks_part-place image place row first c m y k cyan magenta yellow black is some row_is four fits takes = record {
+  cyan_is = ink_part-place image place row first (length c) 0 cyan is some row_is four (lit< tt) fits.cyan takes.cyan_is;
+  magenta_is = ink_part-place image place row first (length m) 1 magenta is some row_is four (lit< tt) fits.magenta takes.magenta_is;
+  yellow_is = ink_part-place image place row first (length y) 2 yellow is some row_is four (lit< tt) fits.yellow takes.yellow_is;
+  black_is = ink_part-place image place row first (length k) 3 black is some row_is four (lit< tt) fits.black takes.black_is;
+}
+
 -- the samples from a row of strip i on in each of four planes
-pub strip_samples-four : (shape : Shape) (bytes : List ℕ) (i n : ℕ) (cyan magenta yellow black : List ℕ) → planes shape ≡ 4
-    → cyan ≡ drop n (samples_in shape.packed (stored_bytes shape bytes (0 * strips_per_plane shape + i))) → magenta ≡ drop n (samples_in shape.packed (stored_bytes shape bytes (1 * strips_per_plane shape + i)))
-    → yellow ≡ drop n (samples_in shape.packed (stored_bytes shape bytes (2 * strips_per_plane shape + i))) → black ≡ drop n (samples_in shape.packed (stored_bytes shape bytes (3 * strips_per_plane shape + i)))
+pub strip_samples-four : (shape : Shape) (bytes : List ℕ) (i n : ℕ) (cyan magenta yellow black : List ℕ)
+    → planes shape ≡ 4
+    → cyan ≡ drop n (samples_in shape.packed (stored_bytes shape bytes (0 * strips_per_plane shape + i)))
+    → magenta ≡ drop n (samples_in shape.packed (stored_bytes shape bytes (1 * strips_per_plane shape + i)))
+    → yellow ≡ drop n (samples_in shape.packed (stored_bytes shape bytes (2 * strips_per_plane shape + i)))
+    → black ≡ drop n (samples_in shape.packed (stored_bytes shape bytes (3 * strips_per_plane shape + i)))
     → cyan ∷ magenta ∷ yellow ∷ black ∷ [] ≡ map (drop n) (strip_samples shape bytes i)
 strip_samples-four shape bytes i n cyan magenta yellow black four c m y k = rw (four, c, m, y, k) refl
 
 -- and in the only plane
-pub strip_samples-one : (shape : Shape) (bytes : List ℕ) (i n : ℕ) (own : List ℕ) → planes shape ≡ 1 → own ≡ drop n (samples_in shape.packed (stored_bytes shape bytes (0 * strips_per_plane shape + i)))
+pub strip_samples-one : (shape : Shape) (bytes : List ℕ) (i n : ℕ) (own : List ℕ) → planes shape ≡ 1
+    → own ≡ drop n (samples_in shape.packed (stored_bytes shape bytes (0 * strips_per_plane shape + i)))
     → own ∷ [] ≡ map (drop n) (strip_samples shape bytes i)
 strip_samples-one shape bytes i n own one is = rw (one, is) refl
 
 -- the rows above a row of a strip that passes are among its samples
-pub above_enough : (shape : Shape) (bytes : List ℕ) (plane i above : ℕ) → strip_fault shape bytes ≡ None → plane < planes shape → i < strips_per_plane shape → above < strip_rows shape i
-    → above * plane_row_length shape ≤ length (samples_in shape.packed (stored_bytes shape bytes (plane * strips_per_plane shape + i)))
+pub above_enough : (shape : Shape) (bytes : List ℕ) (plane i above : ℕ) → strip_fault shape bytes ≡ None
+    → plane < planes shape → i < strips_per_plane shape → above < strip_rows shape i
+    → above * plane_row_length shape
+    ≤ length (samples_in shape.packed (stored_bytes shape bytes (plane * strips_per_plane shape + i)))
 above_enough shape bytes plane i above passed known below under =
     let strip = plane * strips_per_plane shape + i in
     let needed = needed_length-in_plane shape plane i below in

@@ -10,8 +10,10 @@ use Rattle.tif_strips.proofs.Faults.{fault_of_strip-passed, strip_enough-passed}
 
 -- In concatenated pieces of which those before piece i all have the same size, bytes at an offset in piece
 -- i are at that offset plus i times the size in the whole.
-pub take-joined : (piece : ℕ → List ℕ) (size start n i at b : ℕ) → i < n → ((j : ℕ) → j < i → length (piece (start + j)) ≡ size) → at + b ≤ length (piece (start + i))
-    → take b (drop (i * size + at) (flat_map piece (range_with_len start n))) ≡ take b (drop at (piece (start + i)))
+pub take-joined : (piece : ℕ → List ℕ) (size start n i at b : ℕ) → i < n
+    → ((j : ℕ) → j < i → length (piece (start + j)) ≡ size) → at + b ≤ length (piece (start + i))
+    → take b (drop (i * size + at) (flat_map piece (range_with_len start n)))
+    ≡ take b (drop at (piece (start + i)))
 take-joined piece size start zero i at b below same fits = absurd (omega arith)
 take-joined piece size start (suc n) zero at b below same fits =
     let rest = flat_map piece (range_with_len (start + 1) n) in
@@ -34,21 +36,25 @@ take-joined piece size start (suc n) (suc i) at b below same fits =
     rw (there, place, behind) next
 
 -- a slice of a prefix is a slice of the whole
-pub take-drop-take : (b at n : ℕ) (xs : List ℕ) → at + b ≤ n → take b (drop at (take n xs)) ≡ take b (drop at xs)
+pub take-drop-take : (b at n : ℕ) (xs : List ℕ) → at + b ≤ n
+    → take b (drop at (take n xs)) ≡ take b (drop at xs)
 take-drop-take b at n xs fits =
     let front : take (at + b) (take n xs) ≡ take (at + b) xs = take-take (at + b) n xs fits in
     sym (drop-take at b (take n xs)) ∙ ap (drop at) front ∙ drop-take at b xs
 
 -- a strip that passes has all the data that it needs
-pub length-strip_data : (shape : Shape) (bytes : List ℕ) (strip : ℕ) → needed_length shape strip ≤ length (samples_in shape.packed (stored_bytes shape bytes strip))
+pub length-strip_data : (shape : Shape) (bytes : List ℕ) (strip : ℕ)
+    → needed_length shape strip ≤ length (samples_in shape.packed (stored_bytes shape bytes strip))
     → length (strip_data shape bytes strip) ≡ needed_length shape strip
 unfolding strip_data
 length-strip_data shape bytes strip enough = length-take-le (needed_length shape strip) _ enough
 
 -- row y of a plane is in its strip
-pub plane_row-in_strip : (shape : Shape) (bytes : List ℕ) (plane y : ℕ) → IsStriped shape → strip_fault shape bytes ≡ None → plane < planes shape → y < shape.length
-    → take (plane_row_length shape) (drop (y % shape.rows_per_strip * plane_row_length shape) (samples_in shape.packed (stored_bytes shape bytes (plane * strips_per_plane shape + y / shape.rows_per_strip))))
-    ≡ plane_row shape bytes plane y
+pub plane_row-in_strip : (shape : Shape) (bytes : List ℕ) (plane y : ℕ) → IsStriped shape
+    → strip_fault shape bytes ≡ None → plane < planes shape → y < shape.length
+    → take (plane_row_length shape) (drop (y % shape.rows_per_strip * plane_row_length shape)
+    (samples_in shape.packed (stored_bytes shape bytes
+    (plane * strips_per_plane shape + y / shape.rows_per_strip)))) ≡ plane_row shape bytes plane y
 unfolding plane_row plane_data strip_data
 plane_row-in_strip shape bytes plane y striped passed known below =
     let b = plane_row_length shape in

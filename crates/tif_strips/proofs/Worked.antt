@@ -53,7 +53,8 @@ unfolding strip_fault fault_of_strip stored_bytes strip_offset strip_size needed
 one_byte_short = refl
 
 -- a strip that ends past the end of the file
-pub outside : strip_fault bits (file 1 (35 ∷ 0 ∷ 0 ∷ 0 ∷ []) (2 ∷ 0 ∷ 0 ∷ 0 ∷ 255 ∷ 170 ∷ [])) ≡ Some (fault_at strip_offsets StripPlace)
+pub outside : strip_fault bits (file 1 (35 ∷ 0 ∷ 0 ∷ 0 ∷ []) (2 ∷ 0 ∷ 0 ∷ 0 ∷ 255 ∷ 170 ∷ [])) ≡ Some
+    (fault_at strip_offsets StripPlace)
 unfolding strip_fault fault_of_strip stored_bytes strip_offset strip_size needed_length strip_rows strip_count strips_per_plane planes plane_row_length number_at field_of directory_of expansion
 outside = refl
 

@@ -1,5 +1,6 @@
 -- The planes of a strip, and pixels interleaved from four of them.
-use Rattle.std.specs.Prelude.{◌≡◌, ℕ, ◌+◌, ◌*◌, ◌<◌, List, [], ◌∷◌, drop, map, slice_index, slice_index_or}
+use Rattle.std.specs.Prelude.{◌≡◌, ℕ, ◌+◌, ◌*◌, ◌<◌, ◌≤◌, List, [], ◌∷◌, drop, length, map, take, slice_index}
+use Rattle.std.specs.Prelude.{slice_index_or}
 use Rattle.std.specs.List.{range_with_len}
 use Rattle.tif_strips.specs.declared.planes.Inks.{Inks}
 use Rattle.tif_strips.specs.declared.planes.Planes.{Planes}
@@ -39,3 +40,19 @@ strip_samples shape bytes i =
 pub record HasPixels (inks : List (List ℕ)) (count : ℕ) (into : List ℕ) : Type 0 where
   pub each : (x ink : ℕ) → x < count → ink < 4
       → slice_index into (4 * x + ink) ≡ slice_index (slice_index_or inks ink []) x
+
+-- from byte from on, a row of a plane has the samples that each ink's slice holds
+pub record FitInks (row from : ℕ) (c m y k : List ℕ) : Type 0 where
+  pub cyan : from + length c ≤ row
+  pub magenta : from + length m ≤ row
+  pub yellow : from + length y ≤ row
+  pub black : from + length k ≤ row
+
+-- the slices, of which these are the values before and after, hold the samples of their inks from byte from
+-- on
+pub record TakeInks (inks : List (List ℕ)) (from : ℕ)
+    (c m y k cyan magenta yellow black : List ℕ) : Type 0 where
+  pub cyan_is : cyan ≡ take (length c) (drop from (slice_index_or inks 0 []))
+  pub magenta_is : magenta ≡ take (length m) (drop from (slice_index_or inks 1 []))
+  pub yellow_is : yellow ≡ take (length y) (drop from (slice_index_or inks 2 []))
+  pub black_is : black ≡ take (length k) (drop from (slice_index_or inks 3 []))

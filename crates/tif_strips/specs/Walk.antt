@@ -1,5 +1,5 @@
 -- The tests of some strips of an image.
-use Rattle.std.specs.Prelude.{◌≡◌, ℕ, List, map, None, Option}
+use Rattle.std.specs.Prelude.{◌≡◌, ℕ, map, None, Option}
 use Rattle.std.specs.Option.{ForSome}
 use Rattle.std.specs.List.{range_with_len}
 use Rattle.pr_base.specs.declared.fault.TagFault.{TagFault}

@@ -42,8 +42,8 @@ pub(crate) fn mark_at(marks: &[u32], at: usize) -> u32
     }
 }
 
-// Skips the next `step` bytes, if as many are left to skip, and returns the mark of what follows them. Returns
-// `None` if the packed bytes end before.
+// Skips the next `step` bytes, if as many are left to skip, and returns the mark of what follows them.
+// Returns `None` if the packed bytes end before.
 fn next_mark(cursor: &mut PacketCursor<'_>, step: usize, left: &mut usize) -> Option<u32>
     ensures next { (stored : List ℕ) (n k : ℕ) → Reached stored n step k left.old cursor.old
         → IfSome result (λ mark. Reached stored n step (k + 1) left.new cursor.new

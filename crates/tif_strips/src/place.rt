@@ -1,7 +1,7 @@
 // The position of a cursor in an image.
 ghost use Rattle.std.specs.Prelude.{◌≡◌, ◌+◌, ◌<◌, ◌≤◌, length, None};
 ghost use Rattle.tif_strips.specs.Strips.{IsStriped, image_part, image_row, part_length, row_length};
-ghost use Rattle.tif_strips.specs.Strips.{ink_part, planes, strip_fault};
+ghost use Rattle.tif_strips.specs.Strips.{planes, strip_fault};
 
 use crate::planes::Planes;
 use crate::samples::Samples;
@@ -22,7 +22,8 @@ pub(crate) struct Place<'a> {
 }
 
 impl<'a> Place<'a> {
-    ghost use Rattle.tif_strips.specs.Place.{IsPlace};
+    ghost use Rattle.tif_strips.specs.Place.{IsPlace, TakeParts};
+    ghost use Rattle.tif_strips.specs.Planes.{FitInks};
 
     /// Returns the position before the first row.
     pub(crate) fn top(table: &StripTable<'a>) -> Place<'a>
@@ -74,18 +75,9 @@ impl<'a> Place<'a> {
         requires place { IsPlace table.now self.old }
         requires left { self.old.next < table.now.shape.length }
         requires planes { planes table.now.shape ≡ 4 }
-        requires cyan { first + length cyan.old ≤ table.now.shape.width }
-        requires magenta { first + length magenta.old ≤ table.now.shape.width }
-        requires yellow { first + length yellow.old ≤ table.now.shape.width }
-        requires black { first + length black.old ≤ table.now.shape.width }
-        ensures cyan { cyan.new
-            ≡ ink_part table.now.shape table.now.bytes self.old.next 0 first (length cyan.old) }
-        ensures magenta { magenta.new
-            ≡ ink_part table.now.shape table.now.bytes self.old.next 1 first (length magenta.old) }
-        ensures yellow { yellow.new
-            ≡ ink_part table.now.shape table.now.bytes self.old.next 2 first (length yellow.old) }
-        ensures black { black.new
-            ≡ ink_part table.now.shape table.now.bytes self.old.next 3 first (length black.old) }
+        requires columns { FitInks table.now.shape.width first cyan.old magenta.old yellow.old black.old }
+        ensures inks { TakeParts table.now self.old.next first cyan.old magenta.old yellow.old black.old
+            cyan.new magenta.new yellow.new black.new }
         ensures place { IsPlace table.now self.new }
         ensures next { self.new.next ≡ self.old.next + 1 }
     {

@@ -1,7 +1,7 @@
 // The planes of the strip at a cursor, and pixels interleaved from four of them.
 ghost use Rattle.std.specs.Prelude.{◌≡◌, ◌≢◌, ℕ, ◌+◌, ◌*◌, ◌<◌, ◌≤◌, [], ◌∷◌, length, map, take, drop};
 ghost use Rattle.std.specs.Prelude.{slice_index_or};
-ghost use Rattle.tif_strips.specs.Planes.{HasPixels};
+ghost use Rattle.tif_strips.specs.Planes.{FitInks, HasPixels, TakeInks};
 
 use crate::samples::Samples;
 
@@ -56,20 +56,11 @@ impl<'a> Planes<'a> {
         black: &mut [u8],
     )
         requires four { length (aheads_of self.old) ≡ 4 }
-        requires cyan { from + length cyan.old ≤ row }
-        requires magenta { from + length magenta.old ≤ row }
-        requires yellow { from + length yellow.old ≤ row }
-        requires black { from + length black.old ≤ row }
+        requires fits { FitInks row from cyan.old magenta.old yellow.old black.old }
         requires enough { (plane : ℕ) → plane < length (aheads_of self.old)
             → row ≤ length (slice_index_or (aheads_of self.old) plane []) }
-        ensures cyan { cyan.new
-            ≡ take (length cyan.old) (drop from (slice_index_or (aheads_of self.old) 0 [])) }
-        ensures magenta { magenta.new
-            ≡ take (length magenta.old) (drop from (slice_index_or (aheads_of self.old) 1 [])) }
-        ensures yellow { yellow.new
-            ≡ take (length yellow.old) (drop from (slice_index_or (aheads_of self.old) 2 [])) }
-        ensures black { black.new
-            ≡ take (length black.old) (drop from (slice_index_or (aheads_of self.old) 3 [])) }
+        ensures inks { TakeInks (aheads_of self.old) from cyan.old magenta.old yellow.old black.old
+            cyan.new magenta.new yellow.new black.new }
         ensures left { aheads_of self.new ≡ map (drop row) (aheads_of self.old) }
     {
         match self {
@@ -108,7 +99,7 @@ impl<'a> Planes<'a> {
 }
 
 impl<'a> Inks<'a> {
-    ghost use Rattle.tif_strips.specs.Planes.{HasPixels, ahead_of, inks_of};
+    ghost use Rattle.tif_strips.specs.Planes.{HasPixels, inks_of};
 
     // Reads the next `width` pixels, block by block.
     fn fill(&mut self, width: usize, into: &mut [u8])
@@ -145,15 +136,10 @@ impl<'a> Inks<'a> {
         yellow: &mut [u8],
         black: &mut [u8],
     )
-        requires cyan { from + length cyan.old ≤ row }
-        requires magenta { from + length magenta.old ≤ row }
-        requires yellow { from + length yellow.old ≤ row }
-        requires black { from + length black.old ≤ row }
+        requires fits { FitInks row from cyan.old magenta.old yellow.old black.old }
         requires enough { (ink : ℕ) → ink < 4 → row ≤ length (slice_index_or (inks_of self.old) ink []) }
-        ensures cyan { cyan.new ≡ take (length cyan.old) (drop from (ahead_of self.old.cyan)) }
-        ensures magenta { magenta.new ≡ take (length magenta.old) (drop from (ahead_of self.old.magenta)) }
-        ensures yellow { yellow.new ≡ take (length yellow.old) (drop from (ahead_of self.old.yellow)) }
-        ensures black { black.new ≡ take (length black.old) (drop from (ahead_of self.old.black)) }
+        ensures inks { TakeInks (inks_of self.old) from cyan.old magenta.old yellow.old black.old
+            cyan.new magenta.new yellow.new black.new }
         ensures left { inks_of self.new ≡ map (drop row) (inks_of self.old) }
     {
         self.cyan.part(row, from, cyan);

@@ -47,7 +47,7 @@ impl<'a> StripTable<'a> {
     ghost use Rattle.tif_strips.specs.Table.{field_fault};
     ghost use Rattle.tif_strips.specs.Strip.{bytes_at, fault_of, strip_of};
     ghost use Rattle.tif_strips.specs.Extents.{extents_of};
-    ghost use Rattle.tif_strips.specs.Planes.{ahead_of, aheads_of, strip_samples};
+    ghost use Rattle.tif_strips.specs.Planes.{ahead_of, aheads_of, inks_of, strip_samples};
 
     /// Reads the two fields that locate the strips. There are no marks.
     pub(crate) fn read(
@@ -158,12 +158,24 @@ impl<'a> StripTable<'a> {
         if self.shape.planes() == 1 {
             return Planes::One(self.samples(0, i, above));
         }
-        Planes::Four(Inks {
+        Planes::Four(self.four(i, above))
+    }
+
+    // Starts at the first sample of row `above` of strip `i` of each of four planes.
+    fn four(&self, i: u32, above: u32) -> Inks<'a>
+        requires passed { strip_fault self.now.shape self.now.bytes ≡ None }
+        requires planes { planes self.now.shape ≡ 4 }
+        requires within { i < strips_per_plane self.now.shape }
+        requires above { above < strip_rows self.now.shape i }
+        ensures { inks_of result ≡ map (drop (above * plane_row_length self.now.shape))
+            (strip_samples self.now.shape self.now.bytes i) }
+    {
+        Inks {
             cyan: self.samples(0, i, above),
             magenta: self.samples(1, i, above),
             yellow: self.samples(2, i, above),
             black: self.samples(3, i, above),
-        })
+        }
     }
 
     /// Returns whether row `above` of strip `i` is behind a mark in each plane, so that `begin` goes over
@@ -190,13 +202,25 @@ impl<'a> StripTable<'a> {
             (samples_in self.now.shape.packed (stored_bytes self.now.shape self.now.bytes
             (plane * strips_per_plane self.now.shape + i))) }
     {
+        let stored = self.stored(plane, i);
+        let mark = self.mark(plane, i, above) as usize;
+        let row = self.shape.plane_row_len();
+        Samples::of_row(stored, self.shape.packed, mark, row, above)
+    }
+
+    // Returns strip `i` of a plane, as stored in the file.
+    fn stored(&self, plane: u32, i: u32) -> &'a [u8]
+        requires passed { strip_fault self.now.shape self.now.bytes ≡ None }
+        requires plane { plane < planes self.now.shape }
+        requires within { i < strips_per_plane self.now.shape }
+        ensures { result.now
+            ≡ stored_bytes self.now.shape self.now.bytes (plane * strips_per_plane self.now.shape + i) }
+    {
         let number = self.shape.strip_number(plane, i);
         let Some(stored) = self.strip(number).stored(self.bytes) else {
             unreachable!()
         };
-        let mark = self.mark(plane, i, above) as usize;
-        let row = self.shape.plane_row_len();
-        Samples::of_row(stored, self.shape.packed, mark, row, above)
+        stored
     }
 
     // Returns the mark of the last marked row up to row `above` of strip `i` of a plane: 0 if it has none.

@@ -7,7 +7,8 @@ invariant-pieces g l = record {
   -- the bytes read are within the limit
   short : length l.bytes.items ≤ l.limit;
   -- those behind the bytes at the start are what the reader has delivered
-  came : (given : List ℕ) × Consumes (g.F.Read.remaining l.initial.file.stream) (g.F.Read.remaining l.file.stream) given × (l.bytes.items ≡ l.initial.bytes.items ++ given);
+  came : (given : List ℕ) × Consumes (g.F.Read.remaining l.initial.file.stream)
+      (g.F.Read.remaining l.file.stream) given × (l.bytes.items ≡ l.initial.bytes.items ++ given);
   -- no read has failed
   count : l.file.faults ≡ l.initial.file.faults;
 }

@@ -6,6 +6,7 @@ use Rattle.pr_base.specs.declared.fault.FaultKind.TheVariants.{TooLong}
 use Rattle.pr_ports.specs.Shelf.{IsLongerAt}
 use Rattle.press_job.specs.Verdict.{path_of}
 use Rattle.press_job.proofs.FaultLemmas.{file_never_long}
+use Rattle.press_job.proofs.ToldLemmas.{file_tells}
 use Rattle.press_job.proofs.UntoldLemmas.{fault_found, long_found}
 use Rattle.press_job.proofs.loading.load_file.Goals as goal
 
@@ -26,22 +27,5 @@ returns-clause-shelf g c =
     let told = rw c.in-Err-Failed-test_file.field-0-is at c.in-Err-Failed-test_file.ensures.first in
     let never : c.in-Err-Failed-test_file.fault.kind ≢ TooLong =
     subst {A = Option TagFault} (λ o. IfSome o (λ fault. fault.kind ≢ TooLong)) told (file_never_long c.args.plan.now c.args.file c.as_slice.result.now) in
-    record {
-      named = search rules;
-      too_long = λ long. absurd (never (sym (ap {A = FileFault} (λ f. f.kind) c.in_ok-fault-in-Err-Failed-test_file.ensures) ∙ long));
-      counted = search rules;
-      missed = search rules;
-      done_missed = search rules;
-      file_missed = search rules;
-      memory_missed = search rules;
-      done_faults = search rules;
-      file_faults = search rules;
-      memory_faults = search rules;
-      done_longs = search rules;
-      file_longs = search rules;
-      shelf_longs = search rules;
-      memory_longs = search rules;
-      held = search rules;
-      faults_stay = search rules;
-      longs_stay = search rules;
-    }
+    file_tells g.H.Shelf c.args.plan.now c.args.shelf.now _ c.in_ok-fault-in-Err-Failed-test_file.fault (search rules)
+    (λ long. never (sym (ap {A = FileFault} (λ f. f.kind) c.in_ok-fault-in-Err-Failed-test_file.ensures) ∙ long)) (search rules) (search rules) (search rules) (search rules)

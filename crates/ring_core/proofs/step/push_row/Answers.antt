@@ -11,12 +11,15 @@ abbrev lists : List (Vec ℕ Global) → List (List ℕ)
 lists vs = map (λ v. v.items) vs
 
 -- one list is replaced by another
-put : (vs : List (Vec ℕ Global)) (i : ℕ) (v old : Vec ℕ Global) (xs : List ℕ) → i < length vs → old ≡ get_or vs i old → v.items ≡ old.items ++ xs → lists (set vs i v) ≡ set (lists vs) i (get_or (lists vs) i [] ++ xs)
+put : (vs : List (Vec ℕ Global)) (i : ℕ) (v old : Vec ℕ Global) (xs : List ℕ) → i < length vs
+    → old ≡ get_or vs i old → v.items ≡ old.items ++ xs
+    → lists (set vs i v) ≡ set (lists vs) i (get_or (lists vs) i [] ++ xs)
 put vs i v old xs h at e =
     let there : get_or (lists vs) i [] ≡ old.items = get_or-map (λ (w : Vec ℕ Global). w.items) vs i old [] h ∙ ap (λ (w : Vec ℕ Global). w.items) (sym at) in
     map-set (λ (w : Vec ℕ Global). w.items) vs i v ∙ ap (λ ys. set (lists vs) i ys) (e ∙ ap (λ ys. ys ++ xs) (sym there))
 
-kept : (vs : List (Vec ℕ Global)) (i : ℕ) (v old : Vec ℕ Global) → i < length vs → old ≡ get_or vs i old → v.items ≡ old.items → lists (set vs i v) ≡ lists vs
+kept : (vs : List (Vec ℕ Global)) (i : ℕ) (v old : Vec ℕ Global) → i < length vs → old ≡ get_or vs i old
+    → v.items ≡ old.items → lists (set vs i v) ≡ lists vs
 kept vs i v old h at e =
     let there : get_or (lists vs) i [] ≡ old.items = get_or-map (λ (w : Vec ℕ Global). w.items) vs i old [] h ∙ ap (λ (w : Vec ℕ Global). w.items) (sym at) in
     map-set (λ (w : Vec ℕ Global). w.items) vs i v ∙ (ap (λ ys. set (lists vs) i ys) (e ∙ sym there) ∙ set-get_or (lists vs) i [])

@@ -18,7 +18,9 @@ wide n = act1 (cast unsigned signed w16) (s_int w8) (s_int w16) n
 wide_is : (n : ℕ) → n ≤ 255 → to_z w16 (wide n) ≡ pos n
 wide_is n byte = omega (arith, ints)
 
-made : (at k : ℕ) (columns : List ℕ) → at + 8 ≤ length columns → k < 8 → get_or columns (at + k) 0 ≤ 255 → number_at (map (to_z w16) (map wide (chunk 0 8 (take (at + 8 - at) (drop at columns))))) k ≡ pos (get_or columns (at + k) 0)
+made : (at k : ℕ) (columns : List ℕ) → at + 8 ≤ length columns → k < 8 → get_or columns (at + k) 0 ≤ 255
+    → number_at (map (to_z w16) (map wide (chunk 0 8 (take (at + 8 - at) (drop at columns))))) k
+    ≡ pos (get_or columns (at + k) 0)
 made at k columns room within byte =
     let all : List ℕ = take (at + 8 - at) (drop at columns) in
     let loaded : List ℕ = chunk 0 8 all in

@@ -24,7 +24,8 @@ last_lane a b eight fits =
     ap (to_z w16) (get_or_append_left (map (of_z w16) a) (map (of_z w16) b) 0 7 (omega (arith, bits_length a eight)) ∙ bits_at a 7 eight (omega arith))
     ∙ to_z-of_z w16 (number_at a 7) fits
 
-next_lane : (a b : List ℤ) (k : ℕ) → length a ≡ 8 → length b ≡ 8 → k < 8 → FitsSigned w16 (number_at b k) → lane a b (8 + k) ≡ number_at b k
+next_lane : (a b : List ℤ) (k : ℕ) → length a ≡ 8 → length b ≡ 8 → k < 8 → FitsSigned w16 (number_at b k)
+    → lane a b (8 + k) ≡ number_at b k
 next_lane a b k first eight within fits =
     let place : 8 + k ≡ length (map (of_z w16) a) + k = omega (arith, bits_length a first) in
     ap (lane a b) place

@@ -8,5 +8,6 @@ use Rattle.scr_diffuse.proofs.weave.set_column.Given as goal
 abbrev pub invariant-loop-k : goal.invariant-loop-k
 invariant-loop-k l = record {
   before : HasColumns l.rows l.lag l.x l.columns;
-  here : (j : ℕ) → j < l.k → slice_index l.columns (8 * l.x + j) ≡ value_behind (row_in l.rows j) l.x (l.lag * j);
+  here : (j : ℕ) → j < l.k
+      → slice_index l.columns (8 * l.x + j) ≡ value_behind (row_in l.rows j) l.x (l.lag * j);
 }

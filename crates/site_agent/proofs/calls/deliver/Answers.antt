@@ -29,7 +29,7 @@ returns-in_err-take-clause-others_stay g c =
     let old : Tells = (told g.R.Rack c.args.rack.now).tells in
     let begun : Tells = (told g.R.Rack c.begin.new.rack).tells in
     on_err c.from_residual-in_err-take.result _
-    (stay-then slot old begun (told g.R.Rack c.take.new.rack).tells (begun-stays c.args.y c.args.plate.now old begun c.in_ok-begin.ensures.ok) c.in_err-take.ensures.others_stay)
+    (stay-then slot old begun (told g.R.Rack c.take.new.rack).tells (begun-stays c.args.y c.args.plate.now old begun c.in_ok-begin.ensures.ok) c.in_err-take.ensures.answers.others_stay)
 
 pub returns-clause-others_stay : goal.returns-clause-others_stay
 returns-clause-others_stay g c =
@@ -41,4 +41,4 @@ returns-clause-others_stay g c =
     (stay-then slot old taken (told g.R.Rack c.end.new.rack).tells
     (stay-then slot old begun taken (begun-stays c.args.y c.args.plate.now old begun c.in_ok-begin.ensures.ok)
     (taken-stays slot c.args.held.now.number c.args.held.now.bytes c.args.held.now.source begun taken c.in_ok-take.ensures.ok)))
-    c.end.ensures.others_stay
+    c.end.ensures.answers.others_stay

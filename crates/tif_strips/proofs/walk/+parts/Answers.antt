@@ -1,4 +1,4 @@
-use Rattle.std.proofs.Common.{◌≡◌, ◌+◌, ◌-◌, ◌*◌, ◌/◌, None, Some, length, refl, sym, ◌∙◌, arith}
+use Rattle.std.proofs.Common.{◌≡◌, ◌+◌, ◌-◌, ◌/◌, None, Some, length, refl, sym, ◌∙◌, arith}
 use Rattle.tif_strips.specs.Walk.{fault_among}
 use Rattle.tif_strips.proofs.Marks.{both_marked, rest_room}
 use Rattle.tif_strips.proofs.Walks.{among-nothing, both_tested}

@@ -13,7 +13,8 @@ not_none : (o : Option ℕ) (f : Bool) → is_some o ≡ true → f ≡ false �
 not_none None f s t = cc
 not_none (Some k) f s t = t
 
-not_ready : (ks : List (Option ℕ)) (fs : List Bool) (r : ℕ) (o : Option ℕ) (f : Bool) → r < length ks → r < length fs → o ≡ get_or ks r o → f ≡ get_or fs r f → is_some o ≡ true → f ≡ false
+not_ready : (ks : List (Option ℕ)) (fs : List Bool) (r : ℕ) (o : Option ℕ) (f : Bool) → r < length ks
+    → r < length fs → o ≡ get_or ks r o → f ≡ get_or fs r f → is_some o ≡ true → f ≡ false
     → (is_none (get_or ks r None) || get_or fs r false) ≡ false
 not_ready ks fs r o f h k a b s t =
     let a' = get_or_read ks r o h a None in
@@ -33,7 +34,8 @@ returns-then-not-index c =
     (and_right (nat_lt s.head s.total) (each_below (readers s) p) (each_below_no (readers s) p c.loop-reader.reader below no), refl)
 
 -- the flags of a Vec after all were set to false
-cleared : (v : Vec Bool Global) (ws old : List Bool) → length old ≡ vec_len v → old ≡ v.items → ws ≡ map (λ (b : Bool). false) old → (with_items v ws).items ≡ map (λ (b : Bool). false) v.items
+cleared : (v : Vec Bool Global) (ws old : List Bool) → length old ≡ vec_len v → old ≡ v.items
+    → ws ≡ map (λ (b : Bool). false) old → (with_items v ws).items ≡ map (λ (b : Bool). false) v.items
 cleared v ws old n is e = with_items_is v ws (ap length e ∙ (length-map old (λ (b : Bool). false) ∙ n)) ∙ (e ∙ ap (λ xs. map (λ (b : Bool). false) xs) is)
 
 pub returns : goal.returns

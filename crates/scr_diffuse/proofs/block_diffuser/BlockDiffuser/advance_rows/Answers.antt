@@ -6,7 +6,7 @@ use Rattle.scr_diffuse.specs.Diffuser.{joined}
 use Rattle.scr_diffuse.specs.Diffusers.{row_in, rows_in}
 use Rattle.scr_diffuse.specs.Diffusion.{prints}
 use Rattle.scr_diffuse.specs.Passes.{number_at}
-use Rattle.scr_diffuse.proofs.BlockLemmas.{below_margin, block_held, block_lent}
+use Rattle.scr_diffuse.proofs.BlockLemmas.{below_margin, block_next}
 use Rattle.scr_diffuse.proofs.StandLemmas.{joined_more}
 use Rattle.scr_diffuse.proofs.block_diffuser.BlockDiffuser.advance_rows.Goals as goal
 
@@ -20,25 +20,16 @@ diffuse_block-requires-clause-left c = λ x few. ap (λ errors. number_at errors
 
 pub invariant_of-self : goal.invariant_of-self
 invariant_of-self c =
-    let items : List ℤ = c.self.inside.errors.items in
-    let held : List (List ℕ) = c.self.inside.held.items in
     let rows : List (List ℕ) = rows_in c.args.values.now in
     let before : List ℕ = c.self.inside.dots.items in
-    let filled : List ℕ = c.self.inside.columns.items in
-    let new : List ℤ = c.diffuse_block.new.errors in
-    let dots : List ℕ = c.diffuse_block.new.dots in
-    let columns : List ℕ = c.diffuse_block.new.columns in
-    let page = joined c.self.inside.rows.steps in
-    let long_new : length new ≡ length items = omega (arith, ap length c.deref_mut.ensures.value) in
-    let long_dots : length dots ≡ length before = omega (arith, ap length c.deref_mut-2.ensures.value) in
-    let long_columns : length columns ≡ length filled = omega (arith, ap length c.deref_mut-3.ensures.value) in
     let wide : (k : ℕ) → k < 8 → length (get_or rows k []) ≡ c.self.invariant.width =
     λ k within. (let same : length (row_in c.args.values.now k) ≡ length before - 21 = c.requires.width k within ∙ ap (λ (p : BlockFront). p.front.width) (sym c.self.view_is) in omega (arith, same, c.self.invariant.long)) in
-    let holds : HoldsBlock (page ++ rows) held new dots columns =
-    block_held page held rows items new before dots filled columns c.self.invariant (length-map c.args.values.now (λ row. row.now) ∙ c.told-values) wide long_new long_dots long_columns
+    block_next (joined c.self.inside.rows.steps) c.self.inside.held.items rows _ c.self.inside.errors.items c.diffuse_block.new.errors before c.diffuse_block.new.dots c.self.inside.columns.items c.diffuse_block.new.columns
+    c.self.inside.errors.len c.self.inside.dots.len c.self.inside.columns.len c.self.invariant (length-map c.args.values.now (λ row. row.now) ∙ c.told-values) wide
+    (omega (arith, ap length c.deref_mut.ensures.value)) (omega (arith, ap length c.deref_mut-2.ensures.value)) (omega (arith, ap length c.deref_mut-3.ensures.value))
     (λ x. c.diffuse_block.ensures.errors x ∙ ap (λ errors. block_left (left_in errors) rows 8 (x - 21)) c.deref_mut.ensures.value)
     c.diffuse_block.ensures.small
     (λ k x within inside. c.diffuse_block.ensures.dots k x within (omega (arith, ap length c.deref_mut-2.ensures.value, c.self.invariant.long))
-    ∙ ap (λ errors. prints (block_v (left_in errors) rows k x)) c.deref_mut.ensures.value) in
-    block_lent _ held c.self.inside.errors.len c.self.inside.dots.len c.self.inside.columns.len new items dots before columns filled (omega arith) (omega arith) (omega arith)
-    (subst (λ (all : List (List ℕ)). HoldsBlock all held new dots columns) (sym (joined_more c.self.inside.rows.steps _ rows c.then-self-inside.ensures)) holds)
+    ∙ ap (λ errors. prints (block_v (left_in errors) rows k x)) c.deref_mut.ensures.value)
+    (omega arith) (omega arith) (omega arith)
+    (joined_more c.self.inside.rows.steps _ rows c.then-self-inside.ensures)

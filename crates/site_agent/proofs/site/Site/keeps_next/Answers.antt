@@ -1,4 +1,4 @@
-use Rattle.std.proofs.Common.{◌≡◌, ◌∙◌}
+use Rattle.std.proofs.Common.{◌∙◌}
 use Rattle.site_agent.proofs.Steps.{kept-by_place}
 use Rattle.site_agent.proofs.site.Site.keeps_next.Goals as goal
 

@@ -11,7 +11,11 @@ loop-i-init c =
     let job : SiteJob = job_with c.self.inside.plates.items c.self.inside.sides c.self.inside.total in
     let counting : IsCounting job c.self.inside.next c.self.inside.finished c.self.inside.slots.items = c.self.invariant (ap (λ s. s.ended) c.self.view_is ∙ c.requires) in
     let P : SiteData → Type 0 = λ s. (j : ℕ) → j < c.self.inside.finished → IsNoRowOf s.job s.next j in
-    record { from = omega arith; none = subst P c.self.view_is (place-start job c.self.inside.next c.self.inside.finished c.self.inside.slots.items counting) }
+    record {
+      from = omega arith;
+      none = subst P c.self.view_is
+          (place-start job c.self.inside.next c.self.inside.finished c.self.inside.slots.items counting);
+    }
 
 pub returns-then-plate-self-clause-none : goal.returns-then-plate-self-clause-none
 returns-then-plate-self-clause-none c =

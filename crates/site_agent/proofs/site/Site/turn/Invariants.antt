@@ -5,7 +5,8 @@ use Rattle.site_agent.proofs.site.Site.turn.Given as goal
 
 abbrev pub invariant-loop-self : goal.invariant-loop-self
 invariant-loop-self g l = record {
-  goes : Goes (stage l.fn.self l.fn.reader (told g.R.Rack l.fn.rack)) (stage l.self l.reader (told g.R.Rack l.rack)) l.waits;
+  goes : Goes (stage l.fn.self l.fn.reader (told g.R.Rack l.fn.rack))
+      (stage l.self l.reader (told g.R.Rack l.rack)) l.waits;
   few : l.waits < l.patience;
 }
 

@@ -1,4 +1,4 @@
-use Rattle.std.proofs.Common.{◌≡◌, ◌+◌, ◌<◌, arith}
+use Rattle.std.proofs.Common.{◌+◌, ◌<◌, arith}
 use Rattle.tif_strips.proofs.Shapes.{row_in_strip, strip_of_row}
 use Rattle.tif_strips.proofs.place.Place.leaps.Goals as goal
 

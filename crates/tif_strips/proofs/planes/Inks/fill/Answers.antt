@@ -5,7 +5,8 @@ use Rattle.tif_strips.proofs.Inks.{HasPixels-block, block-given, block-left}
 use Rattle.tif_strips.proofs.planes.Inks.fill.Goals as goal
 
 -- a block is no longer than the samples ahead
-block_fits : (count at width : ℕ) (block ahead start : List ℕ) → ahead ≡ drop at start → width ≤ length start → count ≤ width - at → length (take count block) ≤ length ahead
+block_fits : (count at width : ℕ) (block ahead start : List ℕ) → ahead ≡ drop at start → width ≤ length start
+    → count ≤ width - at → length (take count block) ≤ length ahead
 block_fits count at width block ahead start ahead_is enough small =
     rw ahead_is (omega (arith, length-take count block, length-drop at start))
 

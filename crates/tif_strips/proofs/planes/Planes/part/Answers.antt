@@ -6,7 +6,10 @@ use Rattle.tif_strips.proofs.planes.Planes.part.Goals as goal
 pub skip-requires-2 : goal.skip-requires-2
 skip-requires-2 c =
     let before = enough-later c.args.from (c.args.row - c.args.from) c.args.row _ (aheads_of c.skip.new.self) c.skip.ensures.left (omega arith) c.requires.enough in
-    record { enough = enough-later c.args.count (c.args.row - c.args.from - c.args.count) (c.args.row - c.args.from) _ _ c.fill.ensures.left (omega arith) before }
+    record {
+      enough = enough-later c.args.count (c.args.row - c.args.from - c.args.count)
+          (c.args.row - c.args.from) _ _ c.fill.ensures.left (omega arith) before;
+    }
 
 pub returns-clause-left : goal.returns-clause-left
 returns-clause-left c =

@@ -1,8 +1,7 @@
-use Rattle.std.proofs.Common.{◌≡◌, ℕ, ◌+◌, ◌<◌, List, [], ◌∷◌, ◌++◌, map, sym, ap, ◌∙◌, zero-add, arith}
+use Rattle.std.proofs.Common.{◌≡◌, ℕ, ◌<◌, [], ◌∷◌, ◌++◌, map, sym, ap, ◌∙◌, zero-add, arith}
 use Rattle.std.specs.List.{range_with_len}
 use Rattle.std.proofs.lemmas.List.FromFn.{map-range_with_len_more}
 use Rattle.tif_strips.specs.declared.extents.Extent.{Extent}
-use Rattle.tif_strips.specs.declared.shape.Shape.{Shape}
 use Rattle.tif_strips.specs.Extents.{extent_of, extents_of}
 use Rattle.tif_strips.specs.Strips.{Image, strip_count}
 use Rattle.tif_strips.proofs.strip_table.StripTable.all_extents.Goals as goal

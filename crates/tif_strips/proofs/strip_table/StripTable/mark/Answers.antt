@@ -1,4 +1,4 @@
-use Rattle.std.proofs.Common.{rules, ◌≡◌, ◌-◌, ◌/◌, ◌*◌, ◌+◌, ◌<◌, true, ap, sym, subst, ◌∙◌}
+use Rattle.std.proofs.Common.{rules, ◌≡◌, ◌-◌, ◌/◌, ◌*◌, ◌+◌, ◌<◌, true, ap, subst}
 use Rattle.tif_strips.specs.Strips.{Image, strip_count, strips_per_plane}
 use Rattle.tif_strips.specs.Marks.{MarksOf, marks_per_strip}
 use Rattle.tif_strips.proofs.Marks.{mark_of_row, mark_within}

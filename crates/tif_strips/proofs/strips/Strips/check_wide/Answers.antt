@@ -1,4 +1,4 @@
-use Rattle.std.proofs.Common.{◌≡◌, None, Some, sym, ◌∙◌}
+use Rattle.std.proofs.Common.{None, Some, sym, ◌∙◌}
 use Rattle.std.proofs.lemmas.Result.{err_from_is_err_and}
 use Rattle.tif_strips.proofs.Faults.{strip_fault-fields}
 use Rattle.tif_strips.proofs.Walks.{all_tested}
