@@ -3,7 +3,7 @@ use Rattle.std.proofs.Common.{◌≡◌, ◌⊎◌, ℕ, List, Option, Some, ref
 use Rattle.pr_rack.specs.declared.rack.Rack.{Ghosts}
 use Rattle.plate_verify.specs.declared.checked.Checked.{Checked}
 use Rattle.plate_verify.specs.declared.checked.Checked.TheVariants.{Same, Differs, Long}
-use Rattle.plate_verify.specs.Looking as looking
+use Rattle.plate_verify.specs.Verifying as verifying
 use Rattle.cmd_base.specs.declared.refusal.Whose.TheVariants.{New}
 use Rattle.cmd_base.specs.declared.refusal.Refusal.{Refusal}
 use Rattle.cmd_verify.specs.Check.{CheckMeets, EndsFound, PrintsFound, check_rules, found_status, wrong_of, Asked}
@@ -27,7 +27,7 @@ check_known asked shelf refusal (inr loses) is =
     let five : status_of refusal ≡ 5 = ap status_of loses.is in absurd (omega arith)
 
 -- the status of a result is 0 or 8
-found_done : (checked : Checked) → (found_status (looking.told checked) ≡ 0) ⊎ (found_status (looking.told checked) ≡ 8)
+found_done : (checked : Checked) → (found_status (verifying.told checked) ≡ 0) ⊎ (found_status (verifying.told checked) ≡ 8)
 found_done (Same plates) = inl refl
 found_done (Differs path at row) = inr refl
 found_done (Long path) = inr refl
@@ -45,7 +45,7 @@ check_ends asked files shelf text status held made = record {
   job = made.job;
   prepared = let P : Option Files → Type 0 = λ h. IsPrepared h asked.plan asked.files made.job in subst P held made.prepared;
   is = made.status_is ∙ ap found_status (sym (of_told shelf.held files
-      (λ all. wrong_of made.job asked.out all ≡ looking.told made.checked) held made.found.first));
+      (λ all. wrong_of made.job asked.out all ≡ verifying.told made.checked) held made.found.first));
 }
 
 pub check_owes : {R : Type 0} (g : Ghosts R) (asked : Asked) → Owes g (check_rules asked) (telling (PrintsFound asked))

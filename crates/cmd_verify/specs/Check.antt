@@ -7,7 +7,7 @@ use Rattle.press_job.specs.Job.{JobData}
 use Rattle.press_job.specs.Rows.{plate_rows}
 use Rattle.plate_verify.specs.declared.checked.Checked.{Checked}
 use Rattle.plate_verify.specs.declared.checked.Checked.TheVariants.{Long}
-use Rattle.plate_verify.specs.Looking.{IfLong, NoneWrong, UnlessLong, path_at, told}
+use Rattle.plate_verify.specs.Verifying.{IfLong, NoneWrong, UnlessLong, path_at, told}
 use Rattle.plate_verify.specs.Order.{SitePlate, plates_in_order}
 use Rattle.plate_verify.specs.Wrong.{Found, AllRight, OtherAt, TooMany, NotHeld, first_wrong}
 use Rattle.cmd_base.specs.declared.refusal.Whose.TheVariants.{New}
@@ -148,9 +148,9 @@ check_rules asked = record {
 -- ---- private calls
 
 -- the outcome of verifying the plates of a job
-abbrev pub Looks : JobData → List ℕ → ShelfSeen → Result Checked Stop → Type 0
-Looks job out shelf (Ok checked) = IsFound job out shelf checked
-Looks job out shelf (Err (Refused refusal)) =
+abbrev pub Verifies : JobData → List ℕ → ShelfSeen → Result Checked Stop → Type 0
+Verifies job out shelf (Ok checked) = IsFound job out shelf checked
+Verifies job out shelf (Err (Refused refusal)) =
     (path : List ℕ) × (refusal ≡ Shelf path) × IsLost job out shelf path
-Looks job out shelf (Err Memory) = NoneLong shelf
-Looks job out shelf (Err Printing) = ⊥
+Verifies job out shelf (Err Memory) = NoneLong shelf
+Verifies job out shelf (Err Printing) = ⊥

@@ -1,8 +1,8 @@
 // The command `verify`: checks whether the plates on a shelf are those of an edition.
 ghost use Rattle.std.specs.Prelude.{◌≡◌, IfOk, string_bytes};
 ghost use Rattle.press_job.specs.Rows.{plate_frames};
-ghost use Rattle.plate_verify.specs.Looking.{told as found_of};
-ghost use Rattle.cmd_verify.specs.Check.{CheckLengths, asked_told, Looks, PrintsFound};
+ghost use Rattle.plate_verify.specs.Verifying.{told as found_of};
+ghost use Rattle.cmd_verify.specs.Check.{CheckLengths, asked_told, Verifies, PrintsFound};
 ghost use Rattle.cmd_verify.specs.Check.{byte_line as byte_line_lem};
 ghost use Rattle.cmd_verify.specs.Check.{check_rules, found_line, found_status, row_line as row_line_lem};
 ghost use Rattle.cmd_verify.specs.Check.{same_line as same_line_lem};
@@ -48,14 +48,14 @@ pub fn print_check<T: Threads + Sync, H: Shelf, S: Sink>(
     ensures writes { Writes (sink_seen S.Sink out.old out.new) result }
 {
     let job = load_job(rt, alloc, Whose::New, asked.plan, asked.files, shelf)?;
-    let checked = check_plates(&ByThreads { rt }, alloc, &job, asked.out, shelf)?;
+    let checked = verify_plates(&ByThreads { rt }, alloc, &job, asked.out, shelf)?;
     let plan = job.plan();
     let line = line_of(alloc, plan.site_count(), &checked)?;
     put_text(line.as_bytes(), status_of(&checked), out)
 }
 
 /// Verifies the plates of a job below the folder `out`. `maker` makes the bands of its rows.
-fn check_plates<M: BandMaker, H: Shelf>(
+fn verify_plates<M: BandMaker, H: Shelf>(
     maker: &M,
     alloc: Global,
     job: &Job,
@@ -63,16 +63,16 @@ fn check_plates<M: BandMaker, H: Shelf>(
     shelf: &mut H,
 ) -> Result<Checked, Stop>
     requires may { M.may }
-    ensures looks { Looks job.now out.now (shelf_seen H.Shelf shelf.old shelf.new) result }
+    ensures verifies { Verifies job.now out.now (shelf_seen H.Shelf shelf.old shelf.new) result }
     ensures held { H.held shelf.new ≡ H.held shelf.old }
     ensures loads { Loads (shelf_seen H.Shelf shelf.old shelf.new) result }
 {
     let mut feed = WideFeed::open(maker, alloc, job)?;
-    check_fed(alloc, job, &mut feed, out, shelf)
+    verify_fed(alloc, job, &mut feed, out, shelf)
 }
 
 /// Does the same with a feed from which no row has been taken yet.
-fn check_fed<F: RowFeed, H: Shelf>(
+fn verify_fed<F: RowFeed, H: Shelf>(
     alloc: Global,
     job: &Job,
     feed: &mut F,
@@ -80,7 +80,7 @@ fn check_fed<F: RowFeed, H: Shelf>(
     shelf: &mut H,
 ) -> Result<Checked, Stop>
     requires feed { F.left feed.old ≡ plate_frames job.now.plan job.now.files }
-    ensures looks { Looks job.now out.now (shelf_seen H.Shelf shelf.old shelf.new) result }
+    ensures verifies { Verifies job.now out.now (shelf_seen H.Shelf shelf.old shelf.new) result }
     ensures held { H.held shelf.new ≡ H.held shelf.old }
     ensures loads { Loads (shelf_seen H.Shelf shelf.old shelf.new) result }
 {

@@ -5,7 +5,7 @@ use Rattle.std.proofs.lemmas.List.Sums.{sum_by-append, sum_by-cons}
 use Rattle.pr_base.specs.Row.{row_size}
 use Rattle.tif_packbits.specs.Packbits.{expansion, packing}
 use Rattle.tif_packbits.proofs.Packing.{expansion-packing}
-use Rattle.tif_plate.specs.Plate.{bytes_behind, plate_file, rows_end, strip_counts, strip_places}
+use Rattle.tif_plate.specs.Plate.{bytes_behind, plate_file, rows_end, strip_counts, strip_starts}
 use Rattle.drill_mem.specs.Dots.{HasSides, all_dots, file_dots, plate_dots, row_dots}
 
 -- rows concatenated
@@ -42,7 +42,7 @@ one_plate : (width dpi height : ℕ) (rows : List (List ℕ)) → HasSides width
     → file_dots (row_size width * height) (plate_file width dpi rows) ≡ plate_dots rows
 unfolding plate_file
 one_plate width dpi height rows sides =
-    let behind = bytes_behind width (length rows) dpi (rows_end rows) (strip_places width rows) (strip_counts width rows) in
+    let behind = bytes_behind width (length rows) dpi (rows_end rows) (strip_starts width rows) (strip_counts width rows) in
     let long : length (joined rows) ≡ row_size width * height =
     joined-length (row_size width) rows sides.sizes ∙ ap (λ n. row_size width * n) sides.count in
     ap (λ l. row_dots (take (row_size width * height) l)) (expands rows behind)

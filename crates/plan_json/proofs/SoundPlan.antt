@@ -7,7 +7,7 @@ use Rattle.plan_parts.specs.declared.fault.PlanFault.{PlanFault}
 use Rattle.plan_parts.specs.declared.fault.PlanFault.TheVariants.{Range}
 use Rattle.plan_parts.specs.Gives.{Fails}
 use Rattle.plan_parts.proofs.Lists.{fails_then}
-use Rattle.plan_json.specs.declared.front.Front.{Front}
+use Rattle.plan_json.specs.declared.first_keys.FirstKeys.{FirstKeys}
 use Rattle.plan_parts.specs.declared.printing.Screen.{Screen}
 use Rattle.plan_parts.specs.Forms.{is_name}
 use Rattle.plan_parts.specs.Data.{PageData, TileData, CurveData, MarkData}
@@ -47,7 +47,7 @@ margins_optional : (key path : List ℕ) (o : Data) (m : List ℕ) → optional 
     → length m ≡ 4
 margins_optional key path o m e = optional_gives (λ m. length m ≡ 4) no_margins margins refl margins_sound key path o m e
 
-record IsFront (f : Front) : Type 0 where
+record AreFirstKeys (f : FirstKeys) : Type 0 where
   edition : is_name f.edition ≡ true
   dpi : IsWithin 1 10000 f.dpi
   page_width : IsWithin 1 65535 f.page_width
@@ -57,7 +57,7 @@ record IsFront (f : Front) : Type 0 where
   height : height_over f.margins f.page_height ≤ 65535
   limit : f.limit ≤ 1020
 
-front_sound : (path : List ℕ) (o : Data) (f : Front) → front path o ≡ Ok f → IsFront f
+front_sound : (path : List ℕ) (o : Data) (f : FirstKeys) → front path o ≡ Ok f → AreFirstKeys f
 unfolding front
 front_sound path o f e =
     let s0 = bind_ok (required (codes "edition") name path o) (λ edition. required (codes "dpi") (number 1 10000) path o >>= λ dpi. required (codes "page") page_size path o >>= λ page. optional (codes "margins") no_margins margins path o >>= λ edges. optional (codes "gutter") 0 (number 0 65535) path o >>= λ gutter. must (fits_plate edges page.0 page.1 gutter) (Range (at_key path (codes "page"))) >> (optional (codes "limit") 1020 (number 0 1020) path o >>= λ limit. Ok (record { edition = edition; dpi = dpi; page_width = page.0; page_height = page.1; margins = edges; gutter = gutter; limit = limit }))) f e in
@@ -67,10 +67,10 @@ front_sound path o f e =
     let s4 = bind_ok (optional (codes "gutter") 0 (number 0 65535) path o) (λ gutter. must (fits_plate s3.0 s2.0.0 s2.0.1 gutter) (Range (at_key path (codes "page"))) >> (optional (codes "limit") 1020 (number 0 1020) path o >>= λ limit. Ok (record { edition = s0.0; dpi = s1.0; page_width = s2.0.0; page_height = s2.0.1; margins = s3.0; gutter = gutter; limit = limit }))) f s3.2 in
     let s5 = then_ok (must (fits_plate s3.0 s2.0.0 s2.0.1 s4.0) (Range (at_key path (codes "page")))) (optional (codes "limit") 1020 (number 0 1020) path o >>= λ limit. Ok (record { edition = s0.0; dpi = s1.0; page_width = s2.0.0; page_height = s2.0.1; margins = s3.0; gutter = s4.0; limit = limit })) f s4.2 in
     let s6 = bind_ok (optional (codes "limit") 1020 (number 0 1020) path o) (λ limit. Ok (record { edition = s0.0; dpi = s1.0; page_width = s2.0.0; page_height = s2.0.1; margins = s3.0; gutter = s4.0; limit = limit })) f s5.2 in
-    let same = ok_is {A = Front} (record { edition = s0.0; dpi = s1.0; page_width = s2.0.0; page_height = s2.0.1; margins = s3.0; gutter = s4.0; limit = s6.0 }) f s6.2 in
+    let same = ok_is {A = FirstKeys} (record { edition = s0.0; dpi = s1.0; page_width = s2.0.0; page_height = s2.0.1; margins = s3.0; gutter = s4.0; limit = s6.0 }) f s6.2 in
     let p = page_required (codes "page") path o s2.0 s2.1 in
     let inside = inside_sound (width_over s3.0 s2.0.0 s4.0) (height_over s3.0 s2.0.1) 65535 65535 (must_ok _ (Range (at_key path (codes "page"))) s5.1) in
-    subst IsFront same (record { edition = name_required (codes "edition") path o s0.0 s0.1; dpi = number_required (codes "dpi") 1 10000 path o s1.0 s1.1; page_width = p.0; page_height = p.1; margins = margins_optional (codes "margins") path o s3.0 s3.1; width = inside.0; height = inside.1; limit = (number_optional (codes "limit") 1020 0 1020 path o s6.0 (omega arith) (omega arith) s6.1).most })
+    subst AreFirstKeys same (record { edition = name_required (codes "edition") path o s0.0 s0.1; dpi = number_required (codes "dpi") 1 10000 path o s1.0 s1.1; page_width = p.0; page_height = p.1; margins = margins_optional (codes "margins") path o s3.0 s3.1; width = inside.0; height = inside.1; limit = (number_optional (codes "limit") 1020 0 1020 path o s6.0 (omega arith) (omega arith) s6.1).most })
 
 -- ---- inks
 
@@ -161,7 +161,7 @@ layout_sound spot path o l e =
 names_count : (pages : List PageText) → length (page_names pages) ≡ length (pages_of pages)
 names_count pages = length-map (λ (p : PageText). p.name) pages ∙ sym (length-pages_of pages)
 
-joined_sound : (f : Front) (i : Inks) (l : Layout) → IsFront f
+joined_sound : (f : FirstKeys) (i : Inks) (l : Layout) → AreFirstKeys f
     → AreInks (width_over f.margins f.page_width f.gutter) (height_over f.margins f.page_height) i
     → IsLayout l → IsPlan (joined f i l)
 unfolding joined
@@ -206,8 +206,8 @@ pub plan_by_sound : (spot : Bool) (path : List ℕ) (o : Data) (p : PlanData) �
     → IsPlan p
 unfolding plan_by
 plan_by_sound spot path o p e =
-    let width : Front → ℕ = λ f. width_over f.margins f.page_width f.gutter in
-    let height : Front → ℕ = λ f. height_over f.margins f.page_height in
+    let width : FirstKeys → ℕ = λ f. width_over f.margins f.page_width f.gutter in
+    let height : FirstKeys → ℕ = λ f. height_over f.margins f.page_height in
     let a = bind_ok (front path o) (λ f. inks spot (width f) (height f) path o >>= λ i. layout spot path o >>= λ l. Ok (joined f i l)) p e in
     let b = bind_ok (inks spot (width a.0) (height a.0) path o) (λ i. layout spot path o >>= λ l. Ok (joined a.0 i l)) p a.2 in
     let c = bind_ok (layout spot path o) (λ l. Ok (joined a.0 b.0 l)) p b.2 in
@@ -216,7 +216,7 @@ plan_by_sound spot path o p e =
 
 -- ---- the plan in memory
 
-abbrev pub written : Front → List TileData → List Screen → List CurveData → List MarkData → List PageData
+abbrev pub written : FirstKeys → List TileData → List Screen → List CurveData → List MarkData → List PageData
     → List SectionData → List ZoneData → List SiteData → List (List ℕ) → PlanData
 written f ts ss cs ms ps ses zs sts fs = record {
   edition = f.edition;
@@ -243,7 +243,7 @@ inks_of ts ss cs ms = record { tiles = ts; screens = ss; curves = cs; marks = ms
 abbrev pub layout_of : List PageText → List SectionData → List ZoneData → List SiteData → Layout
 layout_of ps ses zs sts = record { pages = ps; sections = ses; zones = zs; sites = sts }
 
-plan_made : (spot : Bool) (path : List ℕ) (o : Data) (f : Front) (i : Inks) (l : Layout) (width height : ℕ)
+plan_made : (spot : Bool) (path : List ℕ) (o : Data) (f : FirstKeys) (i : Inks) (l : Layout) (width height : ℕ)
     → front path o ≡ Ok f → width ≡ width_over f.margins f.page_width f.gutter
     → height ≡ height_over f.margins f.page_height
     → inks spot width height path o ≡ Ok i → layout spot path o ≡ Ok l
@@ -253,14 +253,14 @@ plan_made spot path o f i l width height front-is width-is height-is inks-is lay
     let inks-there = rw (width-is, height-is) at inks-is in
     rw (front-is, inks-there, layout-is) refl
 
-joined_written : (f : Front) (ts : List TileData) (ss : List Screen) (cs : List CurveData)
+joined_written : (f : FirstKeys) (ts : List TileData) (ss : List Screen) (cs : List CurveData)
     (ms : List MarkData) (from : List PageText) (ses : List SectionData) (zs : List ZoneData)
     (sts : List SiteData) (ps : List PageData) (fs : List (List ℕ)) → ps ≡ pages_of from → fs ≡ files_of from
     → joined f (inks_of ts ss cs ms) (layout_of from ses zs sts) ≡ written f ts ss cs ms ps ses zs sts fs
 unfolding joined
 joined_written f ts ss cs ms from ses zs sts ps fs pages-are files-are = rw (pages-are, files-are) refl
 
-pub plan_whole : (spot : Bool) (path : List ℕ) (o : Data) (f : Front) (i : Inks) (l : Layout)
+pub plan_whole : (spot : Bool) (path : List ℕ) (o : Data) (f : FirstKeys) (i : Inks) (l : Layout)
     (width height : ℕ) (ts : List TileData) (ss : List Screen) (cs : List CurveData) (ms : List MarkData)
     (from : List PageText) (ses : List SectionData) (zs : List ZoneData) (sts : List SiteData)
     (ps : List PageData) (fs : List (List ℕ)) → front path o ≡ Ok f

@@ -5,7 +5,7 @@ use Rattle.std.specs.Str.{is_utf8}
 use Rattle.serde_json.specs.Data.{Data}
 use Rattle.serde_json.specs.Read.{read}
 use Rattle.plan_parts.specs.declared.fault.PlanFault.TheVariants.{NotJson, Range}
-use Rattle.plan_json.specs.declared.front.Front.{Front}
+use Rattle.plan_json.specs.declared.first_keys.FirstKeys.{FirstKeys}
 use Rattle.plan_json.specs.Data.{PlanData, width_over, height_over}
 use Rattle.plan_json.specs.Printed.{Inks, Layout}
 use Rattle.plan_parts.specs.Reading.{Read, Reader, ◌>>=◌, ◌>>◌, must, some_or, at_key, object_with, required}
@@ -44,7 +44,7 @@ abbrev pub fits_plate : List ℕ → ℕ → ℕ → ℕ → Bool
 fits_plate margins page_width page_height gutter =
     nat_le (width_over margins page_width gutter) 65535 && nat_le (height_over margins page_height) 65535
 
-unfoldable pub front : Reader Front
+unfoldable pub front : Reader FirstKeys
 front path o = do
   edition ← required (codes "edition") name path o
   dpi ← required (codes "dpi") (number 1 10000) path o
@@ -64,11 +64,11 @@ front path o = do
   })
 
 -- the sides of a plate by these keys
-abbrev pub front_width : Front → ℕ
-front_width f = width_over f.margins f.page_width f.gutter
+abbrev pub width_by : FirstKeys → ℕ
+width_by f = width_over f.margins f.page_width f.gutter
 
-abbrev pub front_height : Front → ℕ
-front_height f = height_over f.margins f.page_height
+abbrev pub height_by : FirstKeys → ℕ
+height_by f = height_over f.margins f.page_height
 
 -- ---- the next keys: how inks are printed
 
@@ -100,7 +100,7 @@ top_keys =
     ∷ codes "curves" ∷ codes "marks" ∷ codes "pages" ∷ codes "sections" ∷ codes "zones" ∷ codes "sites" ∷ []
 
 -- the plan with these three parts
-unfoldable pub joined : Front → Inks → Layout → PlanData
+unfoldable pub joined : FirstKeys → Inks → Layout → PlanData
 joined front inks layout = record {
   edition = front.edition;
   dpi = front.dpi;
@@ -124,7 +124,7 @@ joined front inks layout = record {
 unfoldable pub plan_by : Bool → Reader PlanData
 plan_by spot path o = do
   front ← front path o
-  inks ← inks spot (front_width front) (front_height front) path o
+  inks ← inks spot (width_by front) (height_by front) path o
   layout ← layout spot path o
   Ok (joined front inks layout)
 

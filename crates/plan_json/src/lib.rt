@@ -5,7 +5,7 @@
 #![tactic(auto)]
 
 mod files;
-mod front;
+mod first_keys;
 mod laws;
 mod named;
 mod plan;

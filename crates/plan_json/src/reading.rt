@@ -8,7 +8,7 @@ ghost use Rattle.plan_parts.specs.declared.fault.PlanFault.TheVariants.{Memory, 
 ghost use Rattle.serde_json.specs.View.{view};
 
 use crate::files::pages_and_files;
-use crate::front::front_in;
+use crate::first_keys::first_keys_in;
 use crate::named::NamedPage;
 use crate::read_pages::pages_in;
 use crate::read_sections::sections_in;
@@ -104,7 +104,7 @@ fn layout_in(o: &Object<'_>, spot: bool) -> Result<Layout, PlanFault>
 fn plan_by(o: &Object<'_>, spot: bool) -> Result<Plan, PlanFault>
     ensures { Gives (λ p. p) result (inside o.now (spec.plan_by spot)) }
 {
-    let front = front_in(o)?;
+    let front = first_keys_in(o)?;
     let inks = inks_in(o, spot, front.plate_width(), front.plate_height())?;
     let layout = layout_in(o, spot)?;
     let (pages, files) = pages_and_files(o.alloc, layout.pages.as_slice())?;

@@ -4,11 +4,11 @@ use Rattle.std.specs.List.{All, flat_map}
 use Rattle.std.proofs.lemmas.List.{append-nil, length-append}
 use Rattle.std.proofs.lemmas.List.Elements.{All-append, All-cons, All-nil}
 use Rattle.std.proofs.lemmas.Grind.{flat_map-append}
-use Rattle.pr_base.specs.Place.{with_place}
+use Rattle.pr_base.specs.Offset.{with_offset}
 use Rattle.pr_base.specs.Row.{row_size}
 use Rattle.tif_packbits.specs.Packbits.{packing}
 use Rattle.tif_plate.specs.Plate.{rows_each, strip_count, strip_counts, plate_file}
-use Rattle.tif_plate.specs.Tail.{IsPlaceable, counts_so_far, front_bytes, tail_bytes, tail_place}
+use Rattle.tif_plate.specs.Tail.{IsPlaceable, counts_so_far, front_bytes, tail_bytes, tail_offset}
 use Rattle.tif_plate.proofs.Finish.{finishes}
 use Rattle.tif_plate.proofs.Growth.{IsPlaceable-so_far, counts_so_far-all, counts_so_far-none, length-counts_so_far, sum-counts_so_far}
 use Rattle.plate_bytes.specs.Made.{PlateState, so_far, whole, HasRows, TakesRow, HasAllRows, IsAlike, IsPlate}
@@ -108,7 +108,7 @@ front-there plate rows has = (let p : HasParts plate rows = parts plate rows has
 
 -- front, packed rows and tail are the plate file
 pub whole-is : (plate new : PlateState) (rows : List (List ℕ)) → HasAllRows plate rows → IsAlike plate new
-    → new.bytes ≡ with_place (tail_place plate.counts) (plate.bytes ++ tail_bytes plate.width plate.height plate.dpi plate.counts)
+    → new.bytes ≡ with_offset (tail_offset plate.counts) (plate.bytes ++ tail_bytes plate.width plate.height plate.dpi plate.counts)
     → new.counts ≡ plate.counts → new.ends ≡ plate.ends → new ≡ whole plate.width plate.height plate.dpi rows
 unfolding whole
 whole-is plate new rows has sides bytes counts ends =
@@ -116,8 +116,8 @@ whole-is plate new rows has sides bytes counts ends =
     let counted : plate.counts ≡ strip_counts plate.width rows = p.counts ∙ counts_so_far-all plate.width plate.height rows has.all in
     made new plate.width plate.height plate.dpi (plate_file plate.width plate.dpi rows) (counts_so_far plate.width plate.height rows) (row_ends rows)
     sides.width sides.height sides.dpi
-    (bytes ∙ ap (λ l. with_place (tail_place l) (plate.bytes ++ tail_bytes plate.width plate.height plate.dpi l)) counted
-    ∙ ap (λ l. with_place (tail_place (strip_counts plate.width rows)) (l ++ tail_bytes plate.width plate.height plate.dpi (strip_counts plate.width rows))) p.bytes
-    ∙ ap (λ n. with_place (tail_place (strip_counts plate.width rows)) ((front_bytes ++ flat_map packing rows) ++ tail_bytes plate.width n plate.dpi (strip_counts plate.width rows))) (sym has.all)
+    (bytes ∙ ap (λ l. with_offset (tail_offset l) (plate.bytes ++ tail_bytes plate.width plate.height plate.dpi l)) counted
+    ∙ ap (λ l. with_offset (tail_offset (strip_counts plate.width rows)) (l ++ tail_bytes plate.width plate.height plate.dpi (strip_counts plate.width rows))) p.bytes
+    ∙ ap (λ n. with_offset (tail_offset (strip_counts plate.width rows)) ((front_bytes ++ flat_map packing rows) ++ tail_bytes plate.width n plate.dpi (strip_counts plate.width rows))) (sym has.all)
     ∙ finishes plate.width plate.dpi rows)
     (counts ∙ p.counts) (ends ∙ p.ends)

@@ -8,7 +8,7 @@ use Rattle.std.proofs.lemmas.List.{append-nil, length-append, take-append-le, ta
 use Rattle.std.proofs.lemmas.List.FromFn.{get_or-map-range_with_len, length-map-range_with_len}
 use Rattle.std.proofs.lemmas.Grind.{flat_map-append, same_number_lists}
 use Rattle.tif_packbits.specs.Packbits.{packing}
-use Rattle.plate_bytes.specs.Places.{IsSeam, row_start, row_ends, holds_place, row_holding}
+use Rattle.plate_bytes.specs.Places.{IsSeam, row_start, row_ends, holds_offset, row_holding}
 
 -- the first number of a range that satisfies p
 pub find-range : (p : ℕ → Bool) (from n k : ℕ) → from ≤ k → k < from + n → p k ≡ true → ((j : ℕ) → from ≤ j → j < k → p j ≡ false) → find p (range_with_len from n) ≡ Some k
@@ -52,19 +52,19 @@ start-at_ends rows (suc n) within =
     row_ends-at rows n within ∙ ap (row_start rows) next
 
 -- a row that begins after an offset, or ends at or before it, does not contain it
-late : (rows : List (List ℕ)) (at y : ℕ) → at < row_start rows y → holds_place rows at y ≡ false
+late : (rows : List (List ℕ)) (at y : ℕ) → at < row_start rows y → holds_offset rows at y ≡ false
 late rows at y behind = grind (arith, nat_tests)
 
-early : (rows : List (List ℕ)) (at y : ℕ) → row_start rows (y + 1) ≤ at → holds_place rows at y ≡ false
+early : (rows : List (List ℕ)) (at y : ℕ) → row_start rows (y + 1) ≤ at → holds_offset rows at y ≡ false
 early rows at y before = grind (arith, nat_tests)
 
-here : (rows : List (List ℕ)) (at y : ℕ) → row_start rows y ≤ at → at < row_start rows (y + 1) → holds_place rows at y ≡ true
+here : (rows : List (List ℕ)) (at y : ℕ) → row_start rows y ≤ at → at < row_start rows (y + 1) → holds_offset rows at y ≡ true
 here rows at y from below = grind (arith, nat_tests)
 
 -- no row contains an offset before the first row
 pub row_holding-front : (rows : List (List ℕ)) (at : ℕ) → at < 8 → row_holding rows at ≡ None
 unfolding row_holding
-row_holding-front rows at front = find-range_none (holds_place rows at) 0 (length rows) (λ j _ _. late rows at j (omega arith))
+row_holding-front rows at front = find-range_none (holds_offset rows at) 0 (length rows) (λ j _ _. late rows at j (omega arith))
 
 -- the row after the seam contains the offset
 pub row_holding-seam : (ends : List ℕ) (rows : List (List ℕ)) (at n : ℕ) → ends ≡ row_ends rows → IsSeam ends at n → n < length ends → row_holding rows at ≡ Some n
@@ -73,7 +73,7 @@ row_holding-seam ends rows at n are seam below =
     let many : length ends ≡ length rows = ap length are ∙ length-row_ends rows in
     let from : row_start rows n ≤ at = subst (λ m. m ≤ at) (ap (λ e. get_or (8 ∷ e) n 0) are ∙ start-at_ends rows n (omega arith)) seam.before in
     let to : at < row_start rows (n + 1) = subst (λ m. at < m) (ap (λ e. get_or e n 0) are ∙ row_ends-at rows n (omega arith)) (seam.behind below) in
-    find-range (holds_place rows at) 0 (length rows) n (omega arith) (omega arith) (here rows at n from to)
+    find-range (holds_offset rows at) 0 (length rows) n (omega arith) (omega arith) (here rows at n from to)
     (λ j _ less. early rows at j (
     let le : row_start rows (j + 1) ≤ row_start rows ((j + 1) + (n - (j + 1))) = row_start-le rows (j + 1) (n - (j + 1)) in
     let same : row_start rows ((j + 1) + (n - (j + 1))) ≡ row_start rows n = ap (row_start rows) (omega arith) in
@@ -85,7 +85,7 @@ unfolding row_holding
 row_holding-behind ends rows at n are seam behind =
     let many : length ends ≡ length rows = ap length are ∙ length-row_ends rows in
     let from : row_start rows n ≤ at = subst (λ m. m ≤ at) (ap (λ e. get_or (8 ∷ e) n 0) are ∙ start-at_ends rows n (omega (arith, seam.within))) seam.before in
-    find-range_none (holds_place rows at) 0 (length rows)
+    find-range_none (holds_offset rows at) 0 (length rows)
     (λ j _ less. early rows at j (
     let le : row_start rows (j + 1) ≤ row_start rows ((j + 1) + (n - (j + 1))) = row_start-le rows (j + 1) (n - (j + 1)) in
     let same : row_start rows ((j + 1) + (n - (j + 1))) ≡ row_start rows n = ap (row_start rows) (omega (arith, seam.within)) in

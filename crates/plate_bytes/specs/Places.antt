@@ -13,12 +13,12 @@ unfoldable pub row_ends : List (List ℕ) → List ℕ
 row_ends rows = map (λ y. row_start rows (y + 1)) (range_with_len 0 (length rows))
 
 -- whether packed row y contains an offset
-abbrev pub holds_place : List (List ℕ) → ℕ → ℕ → Bool
-holds_place rows at y = nat_le (row_start rows y) at && nat_lt at (row_start rows (y + 1))
+abbrev pub holds_offset : List (List ℕ) → ℕ → ℕ → Bool
+holds_offset rows at y = nat_le (row_start rows y) at && nat_lt at (row_start rows (y + 1))
 
 -- the row whose packing contains an offset; none before the first row or after the last one
 unfoldable pub row_holding : List (List ℕ) → ℕ → Option ℕ
-row_holding rows at = find (holds_place rows at) (range_with_len 0 (length rows))
+row_holding rows at = find (holds_offset rows at) (range_with_len 0 (length rows))
 
 -- exactly n rows end at or before an offset
 pub record IsSeam (ends : List ℕ) (at n : ℕ) : Type 0 where

@@ -2,8 +2,8 @@
 ghost use Rattle.std.specs.Prelude.{◌≡◌, ◌+◌, ◌^◌, ◌<◌, ◌≤◌, ◌∷◌, [], ◌++◌, ℕ, List, IfOk, OnOk, OnErr};
 ghost use Rattle.std.specs.Prelude.{length};
 ghost use Rattle.tif_plate.specs.Plate.{IsSide, IsDpi};
-ghost use Rattle.tif_plate.specs.Tail.{tail_bytes, tail_place};
-ghost use Rattle.pr_base.specs.Place.{with_place};
+ghost use Rattle.tif_plate.specs.Tail.{tail_bytes, tail_offset};
+ghost use Rattle.pr_base.specs.Offset.{with_offset};
 ghost use Rattle.plate_bytes.specs.Places.{IsSeam};
 
 use crate::PlateStrips;
@@ -153,21 +153,21 @@ fn append(bytes: &mut Vec<u8>, ends: &mut Vec<u32>, packed: &[u8]) -> Result<(),
 /// Appends the bytes after the rows and writes the offset of the directory.
 fn close(strips: &mut PlateStrips, bytes: &mut Vec<u8>) -> Result<(), NoMemory>
     requires { 8 ≤ length bytes.old.items }
-    ensures bytes { OnOk result (bytes.new.items ≡ with_place (tail_place strips.old.counts)
+    ensures bytes { OnOk result (bytes.new.items ≡ with_offset (tail_offset strips.old.counts)
         (bytes.old.items ++ tail_bytes strips.old.sides.width strips.old.sides.height strips.old.sides.dpi
         strips.old.counts)) }
     ensures strips { strips.new ≡ record strips.old { room = strips.new.room } }
 {
     let tail = strips.write_tail();
     bytes.extend_from_slice(strips.tail(tail.len))?;
-    put_place(bytes, tail.at);
+    put_offset(bytes, tail.at);
     Ok(())
 }
 
 /// Writes the offset of the directory into a plate.
-fn put_place(plate: &mut [u8], place: u32)
+fn put_offset(plate: &mut [u8], place: u32)
     requires { 8 ≤ length plate.old }
-    ensures { plate.new ≡ with_place place plate.old }
+    ensures { plate.new ≡ with_offset place plate.old }
 {
     LittleEndian::write_u32(&mut plate[4..8], place);
 }

@@ -2,7 +2,7 @@
 ghost use Rattle.std.specs.Prelude.{◌≡◌, ◌+◌, ◌<◌, ◌≤◌, ◌^◌, ◌==◌, if◌then◌else◌, IfOk, length, replicate};
 ghost use Rattle.std.specs.Prelude.{slice_index, take};
 ghost use Rattle.tif_plate.specs.Plate.{IsSide, IsDpi, strip_count};
-ghost use Rattle.tif_plate.specs.Tail.{tail_bytes, tail_place};
+ghost use Rattle.tif_plate.specs.Tail.{tail_bytes, tail_offset};
 ghost use Rattle.plate_bytes.specs.Strips.{counted};
 
 use pr_base::NoMemory;
@@ -112,7 +112,7 @@ impl PlateStrips {
         ensures bytes { take result.len self.new.room ≡ tail_bytes
             self.old.sides.width self.old.sides.height self.old.sides.dpi self.old.counts }
         ensures within { result.len ≤ length self.new.room }
-        ensures at { result.at ≡ tail_place self.old.counts }
+        ensures at { result.at ≡ tail_offset self.old.counts }
         ensures rest { self.new ≡ record self.old { room = self.new.room } }
     {
         plate_tail(

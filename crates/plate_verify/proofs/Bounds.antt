@@ -7,7 +7,7 @@ use Rattle.std.proofs.lemmas.List.{length-append, get_or_past}
 use Rattle.std.proofs.lemmas.List.FromFn.{length-map-range_with_len}
 use Rattle.tif_packbits.specs.Packbits.{packing, packed_bound}
 use Rattle.tif_packbits.proofs.Packing.{packing_bounded}
-use Rattle.tif_plate.specs.Plate.{rows_each, strip_count, strip_places, strip_counts, strip_table, header_bytes, directory_place, rows_end, bytes_behind, plate_file}
+use Rattle.tif_plate.specs.Plate.{rows_each, strip_count, strip_starts, strip_counts, strip_table, header_bytes, directory_offset, rows_end, bytes_behind, plate_file}
 use Rattle.tif_plate.proofs.Cuts.{length-strip_counts}
 use Rattle.tif_plate.proofs.Length.{length-behind, length-strip_table, strip_table-none}
 use Rattle.tif_plate.proofs.Rounding.{rounded_up}
@@ -29,19 +29,19 @@ length-packings (row ∷ rows) each =
 strips-within : (width height : ℕ) → strip_count width height ≤ height
 strips-within width height = (let some : 0 < rows_each width = omega arith in grind (arith, rounded_up height (rows_each width) some))
 
-length-places : (width : ℕ) (rows : List (List ℕ)) → length (strip_places width rows) ≡ strip_count width (length rows)
-unfolding strip_places
+length-places : (width : ℕ) (rows : List (List ℕ)) → length (strip_starts width rows) ≡ strip_count width (length rows)
+unfolding strip_starts
 length-places width rows = length-map-range_with_len _ 0 (strip_count width (length rows))
 
-length-table : (width : ℕ) (rows : List (List ℕ)) → length (strip_table (strip_places width rows) (strip_counts width rows)) ≤ 8 * length rows
+length-table : (width : ℕ) (rows : List (List ℕ)) → length (strip_table (strip_starts width rows) (strip_counts width rows)) ≤ 8 * length rows
 length-table width rows =
     let counts : length (strip_counts width rows) ≡ strip_count width (length rows) = length-strip_counts width rows in
     ⊎_elim
     (λ (few : length (strip_counts width rows) < 2).
-    let none : length (strip_table (strip_places width rows) (strip_counts width rows)) ≡ 0 = ap length (strip_table-none (strip_places width rows) (strip_counts width rows) few) in
+    let none : length (strip_table (strip_starts width rows) (strip_counts width rows)) ≡ 0 = ap length (strip_table-none (strip_starts width rows) (strip_counts width rows) few) in
     omega (arith, none))
     (λ (more : 2 ≤ length (strip_counts width rows)).
-    omega (arith, length-strip_table (strip_places width rows) (strip_counts width rows) more, counts, length-places width rows, strips-within width (length rows)))
+    omega (arith, length-strip_table (strip_starts width rows) (strip_counts width rows) more, counts, length-places width rows, strips-within width (length rows)))
     (cases_lt (length (strip_counts width rows)) 2)
 
 -- a plate with at most this many rows
@@ -49,14 +49,14 @@ pub plate-within : (width dpi : ℕ) (rows : List (List ℕ)) → length rows �
 unfolding plate_file
 plate-within width dpi rows few each =
     let end : ℕ = rows_end rows in
-    let front : List ℕ = header_bytes (directory_place end) in
-    let behind : List ℕ = bytes_behind width (length rows) dpi end (strip_places width rows) (strip_counts width rows) in
+    let front : List ℕ = header_bytes (directory_offset end) in
+    let behind : List ℕ = bytes_behind width (length rows) dpi end (strip_starts width rows) (strip_counts width rows) in
     omega (
       arith,
       length-append (front ++ flat_map packing rows) behind,
       length-append front (flat_map packing rows),
       length-packings rows each,
-      length-behind width (length rows) dpi end (strip_places width rows) (strip_counts width rows),
+      length-behind width (length rows) dpi end (strip_starts width rows) (strip_counts width rows),
       length-table width rows,
     )
 

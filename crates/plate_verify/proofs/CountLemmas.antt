@@ -14,10 +14,10 @@ use Rattle.plate_verify.specs.declared.checked.Checked.{Checked}
 use Rattle.plate_verify.specs.declared.checked.VerifyFault.{VerifyFault}
 use Rattle.plate_verify.specs.declared.checked.VerifyFault.TheVariants.{Shelf, Memory}
 use Rattle.plate_verify.specs.Order.{SitePlate, plate_sites, plates_in_order}
-use Rattle.plate_verify.specs.Looking.{ShelfTold, Looked, AfterAll, group_sites, told}
+use Rattle.plate_verify.specs.Verifying.{ShelfTold, Verified, AfterAll, group_sites, told}
 use Rattle.plate_verify.specs.Verify.{answer_of}
 use Rattle.plate_verify.specs.Wrong.{Found, AllRight, wrong_at, first_wrong}
-use Rattle.plate_verify.proofs.LookLemmas.{if_held}
+use Rattle.plate_verify.proofs.VerifyLemmas.{if_held}
 use Rattle.plate_verify.proofs.OrderLemmas.{order_is}
 use Rattle.plate_verify.proofs.Rights.{first_none}
 
@@ -74,7 +74,7 @@ plates-all plan i n is past =
 
 -- ---- the result
 
-pub after_all : (plan : PlanData) (rows : List (List ℕ)) (out : List ℕ) (old new : ShelfTold) (r : Result (Option Checked) VerifyFault) → Looked plan rows out (plates_in_order plan) old new r
+pub after_all : (plan : PlanData) (rows : List (List ℕ)) (out : List ℕ) (old new : ShelfTold) (r : Result (Option Checked) VerifyFault) → Verified plan rows out (plates_in_order plan) old new r
     → AfterAll plan rows out old new (answer_of plan r)
 unfolding first_wrong
 after_all plan rows out old new (Ok None) right = record {

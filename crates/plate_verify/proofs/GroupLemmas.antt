@@ -16,7 +16,7 @@ use Rattle.plan_rows.specs.Rows.{row_number}
 use Rattle.plan_rows.proofs.Places.{ink_place-at}
 use Rattle.plan_rows.proofs.RowLemmas.{ink_count-within}
 use Rattle.plate_bytes.specs.Made.{PlateState, whole}
-use Rattle.plate_verify.specs.Looking.{AreMade}
+use Rattle.plate_verify.specs.Verifying.{AreMade}
 use Rattle.plate_verify.specs.Making.{HaveSides, AreWhole, AreFed, turn_rows}
 use Rattle.tif_plate.specs.declared.sides.Sides.{Sides}
 use Rattle.plate_verify.specs.Verify.{FedFrom, FedGroup}

@@ -4,7 +4,7 @@ pub mod Worked
 pub mod Bounds
 pub mod Each
 pub mod GroupLemmas
-pub mod LookLemmas
+pub mod VerifyLemmas
 pub mod MakeLemmas
 pub mod OrderLemmas
 pub mod Rights

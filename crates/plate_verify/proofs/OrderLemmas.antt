@@ -21,11 +21,11 @@ use Rattle.plate_bytes.specs.Made.{PlateState, so_far}
 use Rattle.plate_verify.specs.declared.checked.Checked.{Checked}
 use Rattle.plate_verify.specs.declared.checked.VerifyFault.{VerifyFault}
 use Rattle.plate_verify.specs.Order.{SitePlate, plate_sites, plates_in_order}
-use Rattle.plate_verify.specs.Looking.{ShelfTold, AreRight, Looked, group_sites}
+use Rattle.plate_verify.specs.Verifying.{ShelfTold, AreRight, Verified, group_sites}
 use Rattle.plate_verify.specs.Making.{HaveSides}
 use Rattle.tif_plate.specs.declared.sides.Sides.{Sides}
 use Rattle.plate_verify.specs.Verify.{FedFrom, FedGroup}
-use Rattle.plate_verify.proofs.LookLemmas.{IsStopped, none_looked, looked_more, looked_stops, looked_all}
+use Rattle.plate_verify.proofs.VerifyLemmas.{IsStopped, none_verified, verified_more, verified_stops, verified_all}
 
 -- ---- the order of all plates
 
@@ -46,17 +46,17 @@ order_is plan = group_by_group plan (groups_of plan)
 
 -- ---- groups
 
-pub record LookedTo (plan : PlanData) (rows : List (List ℕ)) (out : List ℕ) (index : ℕ) (old new : ShelfTold) (plates : List PlateState) (left : List (List ℕ)) (len : ℕ) : Type 0 where
+pub record VerifiedTo (plan : PlanData) (rows : List (List ℕ)) (out : List ℕ) (index : ℕ) (old new : ShelfTold) (plates : List PlateState) (left : List (List ℕ)) (len : ℕ) : Type 0 where
   pub right : AreRight plan rows out (flat_map (group_sites plan) (take index (groups_of plan))) old new
   pub fed : FedFrom plan rows (rows_before (rows_of plan) index) plates left len
 
-pub looked_to-none : (plan : PlanData) (rows : List (List ℕ)) (out : List ℕ) (told : ShelfTold) (plates : List PlateState) (left : List (List ℕ)) (len : ℕ) → FedFrom plan rows 0 plates left len
-    → LookedTo plan rows out 0 told told plates left len
-looked_to-none plan rows out told plates left len fed = record { right = none_looked plan rows out told; fed = fed }
+pub verified_to-none : (plan : PlanData) (rows : List (List ℕ)) (out : List ℕ) (told : ShelfTold) (plates : List PlateState) (left : List (List ℕ)) (len : ℕ) → FedFrom plan rows 0 plates left len
+    → VerifiedTo plan rows out 0 told told plates left len
+verified_to-none plan rows out told plates left len fed = record { right = none_verified plan rows out told; fed = fed }
 
 -- the rows of a group are the next
 pub fed_group : (plan : PlanData) (rows : List (List ℕ)) (out : List ℕ) (index : ℕ) (group : Group) (old new : ShelfTold) (plates : List PlateState) (left : List (List ℕ)) (len : ℕ) → IsPlan plan
-    → length rows ≡ row_total (rows_of plan) → index < length (groups_of plan) → group ≡ get_or (groups_of plan) index group → LookedTo plan rows out index old new plates left len
+    → length rows ≡ row_total (rows_of plan) → index < length (groups_of plan) → group ≡ get_or (groups_of plan) index group → VerifiedTo plan rows out index old new plates left len
     → FedGroup plan rows group plates left len
 fed_group plan rows out index group old new plates left len is all below there to =
     let first : group.first ≡ rows_before (rows_of plan) index =
@@ -68,31 +68,31 @@ fed_group plan rows out index group old new plates left len is all below there t
       enough = omega (arith, first, own, more, rows_before-within (rows_of plan) (index + 1), all);
     }
 
-pub looked_to-more : (plan : PlanData) (rows : List (List ℕ)) (out : List ℕ) (index : ℕ) (group : Group) (a b c : ShelfTold) (plates plates' : List PlateState) (left left' : List (List ℕ)) (len len' : ℕ) → IsPlan plan
-    → index < length (groups_of plan) → group ≡ get_or (groups_of plan) index group → LookedTo plan rows out index a b plates left len → AreRight plan rows out (group_sites plan group) b c
-    → FedFrom plan rows (group.first + plate_height plan * ink_count group) plates' left' len' → LookedTo plan rows out (index + 1) a c plates' left' len'
-looked_to-more plan rows out index group a b c plates plates' left left' len len' is below there to right fed =
+pub verified_to-more : (plan : PlanData) (rows : List (List ℕ)) (out : List ℕ) (index : ℕ) (group : Group) (a b c : ShelfTold) (plates plates' : List PlateState) (left left' : List (List ℕ)) (len len' : ℕ) → IsPlan plan
+    → index < length (groups_of plan) → group ≡ get_or (groups_of plan) index group → VerifiedTo plan rows out index a b plates left len → AreRight plan rows out (group_sites plan group) b c
+    → FedFrom plan rows (group.first + plate_height plan * ink_count group) plates' left' len' → VerifiedTo plan rows out (index + 1) a c plates' left' len'
+verified_to-more plan rows out index group a b c plates plates' left left' len len' is below there to right fed =
     let first : group.first ≡ rows_before (rows_of plan) index =
     ap {A = Group} (λ g. g.first) there ∙ first_is (row_total (rows_of plan)) (rows_of plan) index group (plan_is plan is) below in
     let own : plate_height plan * ink_count group ≡ row_count (plate_height plan) (get_or (groups_of plan) index group) = ap {A = Group} (λ g. plate_height plan * ink_count g) there in
     let more : rows_before (rows_of plan) (index + 1) ≡ rows_before (rows_of plan) index + row_count (plate_height plan) (get_or (groups_of plan) index group) = rows_before-more (rows_of plan) index group below in
     let next : group.first + plate_height plan * ink_count group ≡ rows_before (rows_of plan) (index + 1) = omega (arith, first, own, more) in
     record {
-      right = looked_more plan rows out (group_sites plan) (groups_of plan) index group a b c below there to.right right;
+      right = verified_more plan rows out (group_sites plan) (groups_of plan) index group a b c below there to.right right;
       fed = subst {A = ℕ} (λ n. FedFrom plan rows n plates' left' len') next fed;
     }
 
-pub looked_to-stop : (plan : PlanData) (rows : List (List ℕ)) (out : List ℕ) (index : ℕ) (group : Group) (a b c : ShelfTold) (plates : List PlateState) (left : List (List ℕ)) (len : ℕ) (r : Result (Option Checked) VerifyFault)
-    → index < length (groups_of plan) → group ≡ get_or (groups_of plan) index group → LookedTo plan rows out index a b plates left len → Looked plan rows out (group_sites plan group) b c r → IsStopped r
-    → Looked plan rows out (plates_in_order plan) a c r
-looked_to-stop plan rows out index group a b c plates left len r below there to looked stops =
-    subst {A = List SitePlate} (λ l. Looked plan rows out l a c r) (sym (order_is plan))
-    (looked_stops plan rows out (group_sites plan) (groups_of plan) index group a b c r below there to.right looked stops)
+pub verified_to-stop : (plan : PlanData) (rows : List (List ℕ)) (out : List ℕ) (index : ℕ) (group : Group) (a b c : ShelfTold) (plates : List PlateState) (left : List (List ℕ)) (len : ℕ) (r : Result (Option Checked) VerifyFault)
+    → index < length (groups_of plan) → group ≡ get_or (groups_of plan) index group → VerifiedTo plan rows out index a b plates left len → Verified plan rows out (group_sites plan group) b c r → IsStopped r
+    → Verified plan rows out (plates_in_order plan) a c r
+verified_to-stop plan rows out index group a b c plates left len r below there to verified stops =
+    subst {A = List SitePlate} (λ l. Verified plan rows out l a c r) (sym (order_is plan))
+    (verified_stops plan rows out (group_sites plan) (groups_of plan) index group a b c r below there to.right verified stops)
 
-pub looked_to-all : (plan : PlanData) (rows : List (List ℕ)) (out : List ℕ) (index : ℕ) (a b : ShelfTold) (plates : List PlateState) (left : List (List ℕ)) (len : ℕ) → length (groups_of plan) ≤ index
-    → LookedTo plan rows out index a b plates left len → AreRight plan rows out (plates_in_order plan) a b
-looked_to-all plan rows out index a b plates left len past to =
-    subst {A = List SitePlate} (λ l. AreRight plan rows out l a b) (sym (order_is plan)) (looked_all plan rows out (group_sites plan) (groups_of plan) index a b past to.right)
+pub verified_to-all : (plan : PlanData) (rows : List (List ℕ)) (out : List ℕ) (index : ℕ) (a b : ShelfTold) (plates : List PlateState) (left : List (List ℕ)) (len : ℕ) → length (groups_of plan) ≤ index
+    → VerifiedTo plan rows out index a b plates left len → AreRight plan rows out (plates_in_order plan) a b
+verified_to-all plan rows out index a b plates left len past to =
+    subst {A = List SitePlate} (λ l. AreRight plan rows out l a b) (sym (order_is plan)) (verified_all plan rows out (group_sites plan) (groups_of plan) index a b past to.right)
 
 -- one more plate in memory
 pub sides_more : (sides : Sides) (plates : List PlateState) (plate : PlateState) → HaveSides sides plates → plate ≡ so_far sides.width sides.height sides.dpi [] → HaveSides sides (plates ++ plate ∷ [])

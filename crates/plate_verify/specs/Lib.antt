@@ -1,4 +1,4 @@
-pub mod Looking
+pub mod Verifying
 pub mod Making
 pub mod Order
 pub mod Verify

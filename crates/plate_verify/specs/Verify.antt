@@ -45,7 +45,7 @@ IfShelf (Err (Shelf path)) P = P path
 IfShelf (Err Memory) P = Unit {0}
 
 -- the frames of all rows of a plan are still to come
-pub record CanBeLooked (plan : PlanData) (plates : List PlateState) (left : List (List ℕ))
+pub record CanBeVerified (plan : PlanData) (plates : List PlateState) (left : List (List ℕ))
     (len : ℕ) : Type 0 where
   pub rows : List (List ℕ)
   pub fed : FedFrom plan rows 0 plates left len

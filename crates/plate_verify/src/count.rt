@@ -3,11 +3,11 @@ ghost use Rattle.std.specs.Prelude.{◌≡◌, ◌*◌, ◌≤◌, count_by, len
 ghost use Rattle.std.specs.List.{range_with_len};
 ghost use Rattle.plan_rows.specs.Inks.{has_site};
 ghost use Rattle.plan_rows.specs.Rows.{rows_of};
-ghost use Rattle.plate_verify.specs.Looking.{group_sites};
+ghost use Rattle.plate_verify.specs.Verifying.{group_sites};
 ghost use Rattle.plate_verify.specs.Order.{plates_in_order};
 
 use crate::edition::{group_at, group_count};
-use crate::look::ink_number;
+use crate::inks::ink_number;
 use plan_json::Plan;
 use plan_rows::{Group, RowPlan};
 

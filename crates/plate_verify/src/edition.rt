@@ -9,15 +9,15 @@ ghost use Rattle.plan_json.specs.Data.{plate_height, plate_width};
 ghost use Rattle.plan_json.specs.Plan.{IsPlan};
 ghost use Rattle.plan_rows.specs.Groups.{groups_of};
 ghost use Rattle.plan_rows.specs.Rows.{row_total, rows_of};
-ghost use Rattle.plate_verify.specs.Looking.{AfterAll, FailsAt, IfLong, Looked, UnlessLong};
-ghost use Rattle.plate_verify.specs.Looking.{shelf_told, told};
+ghost use Rattle.plate_verify.specs.Verifying.{AfterAll, FailsAt, IfLong, Verified, UnlessLong};
+ghost use Rattle.plate_verify.specs.Verifying.{shelf_told, told};
 ghost use Rattle.plate_verify.specs.Making.{HaveSides};
 ghost use Rattle.plate_verify.specs.Order.{plates_in_order};
-ghost use Rattle.plate_verify.specs.Verify.{CanBeLooked, FedFrom, IfShelf, answer_of};
+ghost use Rattle.plate_verify.specs.Verify.{CanBeVerified, FedFrom, IfShelf, answer_of};
 ghost use Rattle.plate_verify.specs.Wrong.{first_wrong};
 
 use crate::count::count_plates;
-use crate::group::check_group;
+use crate::group::verify_group;
 use crate::{Checked, VerifyFault};
 use plan_json::Plan;
 use plan_rows::{Group, RowPlan, plate_sides};
@@ -74,7 +74,7 @@ pub(crate) fn group_at<'a>(plan: &Plan, rows: &'a RowPlan, index: usize) -> &'a 
 }
 
 /// Verifies the plates of each group in order.
-fn check_groups<F: RowFeed, H: Shelf>(
+fn verify_groups<F: RowFeed, H: Shelf>(
     alloc: Global,
     plan: &Plan,
     rows: &RowPlan,
@@ -87,15 +87,15 @@ fn check_groups<F: RowFeed, H: Shelf>(
 ) -> Result<Option<Checked>, VerifyFault>
     requires rows { rows.now ≡ rows_of plan.now }
     requires height { height ≡ plate_height plan.now }
-    requires fed { CanBeLooked plan.now plates.old (F.left feed.old) (length frame.old) }
+    requires fed { CanBeVerified plan.now plates.old (F.left feed.old) (length frame.old) }
     ensures { (all : List (List ℕ)) → FedFrom plan.now all 0 plates.old (F.left feed.old) (length frame.old) →
         length all ≡ row_total rows.now →
-        Looked plan.now all out.now (plates_in_order plan.now)
+        Verified plan.now all out.now (plates_in_order plan.now)
         (shelf_told H.Shelf shelf.old) (shelf_told H.Shelf shelf.new) result }
 {
     for index in 0..group_count(plan, rows) {
         let group = group_at(plan, rows, index);
-        match check_group(alloc, plan, out, group, height, plates, frame, feed, shelf) {
+        match verify_group(alloc, plan, out, group, height, plates, frame, feed, shelf) {
             Ok(None) => {}
             Ok(Some(found)) => return Ok(Some(found)),
             Err(fault) => return Err(fault),
@@ -105,7 +105,7 @@ fn check_groups<F: RowFeed, H: Shelf>(
 }
 
 /// Verifies all plates.
-fn check_all<F: RowFeed, H: Shelf>(
+fn verify_all<F: RowFeed, H: Shelf>(
     alloc: Global,
     plan: &Plan,
     rows: &RowPlan,
@@ -123,7 +123,7 @@ fn check_all<F: RowFeed, H: Shelf>(
     let sides = plate_sides(plan);
     let mut plates = plates_for(alloc, sides)?;
     let mut frame = frame_room(alloc, sides.width)?;
-    let looked = check_groups(
+    let verified = verify_groups(
         alloc,
         plan,
         rows,
@@ -134,19 +134,19 @@ fn check_all<F: RowFeed, H: Shelf>(
         feed,
         shelf,
     );
-    answer(plan, rows, looked)
+    answer(plan, rows, verified)
 }
 
 /// Returns the result after all plates were verified, or after the first that does not match was found.
 fn answer(
     plan: &Plan,
     rows: &RowPlan,
-    looked: Result<Option<Checked>, VerifyFault>,
+    verified: Result<Option<Checked>, VerifyFault>,
 ) -> Result<Checked, VerifyFault>
     requires { rows.now ≡ rows_of plan.now }
-    ensures { result ≡ answer_of plan.now looked }
+    ensures { result ≡ answer_of plan.now verified }
 {
-    match looked {
+    match verified {
         Ok(None) => Ok(Checked::Same {
             plates: count_plates(plan, rows),
         }),
@@ -187,5 +187,5 @@ pub fn verify<F: RowFeed, H: Shelf>(
     ensures faults_stay { H.faults shelf.old ≤ H.faults shelf.new }
     ensures longs_stay { H.longs shelf.old ≤ H.longs shelf.new }
 {
-    check_all(alloc, plan, rows, feed, out, shelf)
+    verify_all(alloc, plan, rows, feed, out, shelf)
 }

@@ -2,10 +2,10 @@
 ghost use Rattle.std.specs.Prelude.{◌≡◌, ◌+◌, ◌*◌, ◌<◌, ℕ, List, OnOk, length};
 ghost use Rattle.plan_json.specs.Data.{plate_height};
 ghost use Rattle.plan_rows.specs.Inks.{ink_count};
-ghost use Rattle.plate_verify.specs.Looking.{Looked, group_sites, shelf_told};
+ghost use Rattle.plate_verify.specs.Verifying.{Verified, group_sites, shelf_told};
 ghost use Rattle.plate_verify.specs.Verify.{CanMakeGroup, FedFrom, FedGroup};
 
-use crate::look::{ink_number, look_at_group};
+use crate::inks::{ink_number, verify_plates};
 use crate::making::make_plates;
 use crate::{Checked, VerifyFault};
 use plan_json::Plan;
@@ -16,7 +16,7 @@ use pr_ports::Shelf;
 use std::alloc::Global;
 
 /// Makes the plates of a group from the next rows of a feed, and verifies each at all its sites.
-pub(crate) fn check_group<F: RowFeed, H: Shelf>(
+pub(crate) fn verify_group<F: RowFeed, H: Shelf>(
     alloc: Global,
     plan: &Plan,
     out: &str,
@@ -30,9 +30,9 @@ pub(crate) fn check_group<F: RowFeed, H: Shelf>(
     requires section { group.now.section < length plan.now.sections }
     requires height { height ≡ plate_height plan.now }
     requires fed { CanMakeGroup plan.now group.now plates.old (F.left feed.old) (length frame.old) }
-    ensures looked { (rows : List (List ℕ)) →
+    ensures verified { (rows : List (List ℕ)) →
         FedGroup plan.now rows group.now plates.old (F.left feed.old) (length frame.old) →
-        Looked plan.now rows out.now (group_sites plan.now group.now)
+        Verified plan.now rows out.now (group_sites plan.now group.now)
         (shelf_told H.Shelf shelf.old) (shelf_told H.Shelf shelf.new) result }
     ensures fed { OnOk result ((rows : List (List ℕ)) →
         FedGroup plan.now rows group.now plates.old (F.left feed.old) (length frame.old) →
@@ -41,5 +41,5 @@ pub(crate) fn check_group<F: RowFeed, H: Shelf>(
 {
     let made = &mut plates[..ink_number(group)];
     make_plates(made, height, feed, frame)?;
-    look_at_group(alloc, plan, out, group, made, shelf)
+    verify_plates(alloc, plan, out, group, made, shelf)
 }

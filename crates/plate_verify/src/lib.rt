@@ -5,8 +5,8 @@ mod checked;
 mod count;
 mod edition;
 mod group;
+mod inks;
 mod laws;
-mod look;
 mod making;
 
 pub use checked::{Checked, VerifyFault};

@@ -4,6 +4,6 @@ pub mod Fault
 pub mod First
 pub mod Ink
 pub mod Number
-pub mod Place
+pub mod Offset
 pub mod Row
 pub mod Stream

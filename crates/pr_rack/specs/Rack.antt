@@ -3,7 +3,7 @@ use Rattle.std.specs.Prelude.{◌≡◌, ℕ, ◌+◌, ◌%◌, ◌⊎◌, Bool,
 use Rattle.std.specs.Prelude.{Option, Some, None, Result, Ok, Err, slice_index_or, slice_set, unwrap_or}
 use Rattle.std.specs.Prelude.{option_and_then, option_to_list}
 use Rattle.std.specs.Option.{option_map}
-use Rattle.pr_base.specs.Place.{with_place}
+use Rattle.pr_base.specs.Offset.{with_offset}
 use Rattle.ring_lanes.specs.declared.source.Source.{Source}
 use Rattle.pr_rack.specs.declared.rack.RackCall.{RackCall}
 use Rattle.pr_rack.specs.declared.rack.RackFault.{RackFault}
@@ -43,7 +43,7 @@ with_more slot bytes working = with_plate slot (option_map (with_bytes bytes) (p
 
 -- the plate, closed by this tail and this offset of its directory
 abbrev pub closed : List ℕ → ℕ → Plate → Plate
-closed tail place plate = (plate.0, with_place place (plate.1 ++ tail))
+closed tail place plate = (plate.0, with_offset place (plate.1 ++ tail))
 
 -- the finished plates followed by the slot's plate, closed by this tail and offset, where known
 abbrev pub finished_with : Option Slots → ℕ → List ℕ → ℕ → Option (List Plate) → Option (List Plate)

@@ -4,7 +4,7 @@ ghost use Rattle.std.specs.Prelude.{◌≡◌, length};
 use crate::RackFault;
 use crate::delivery::{PlateFile, deliver};
 use crate::folders::{Folders, folder_of};
-use crate::plate_file::{BLOCK, append_head, close_block, write_place};
+use crate::plate_file::{BLOCK, append_head, close_block, write_offset};
 use crate::plate_name::PlateName;
 use pr_base::Counted;
 use std::fs::File;
@@ -84,7 +84,7 @@ impl<R: Files<File = File>> PlateFile for WrittenPlate<'_, R> {
     ghost calls = { λ _. None };
 
     fn place(&mut self, at: u32) -> bool {
-        write_place(&mut self.file, at)
+        write_offset(&mut self.file, at)
     }
 
     fn sync(&mut self) -> bool {

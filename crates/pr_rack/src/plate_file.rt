@@ -61,7 +61,7 @@ pub(crate) fn close_block<W: Write + Drop>(
 
 /// Writes the offset `at` of a plate's directory over bytes 4 to 7 of the file, least significant byte
 /// first. Returns false if the file failed.
-pub(crate) fn write_place<F: Write + Seek>(file: &mut Counted<F>, at: u32) -> bool
+pub(crate) fn write_offset<F: Write + Seek>(file: &mut Counted<F>, at: u32) -> bool
     ensures place { OnTrue result
         (IsPlaced F.stream_position F.contents file.old.stream file.new.stream at) }
     ensures count { file.new.faults ≡ count_unless result file.old.faults }

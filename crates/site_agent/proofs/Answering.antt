@@ -8,7 +8,7 @@ use Rattle.std.proofs.lemmas.Option.{slice_get_within}
 use Rattle.pr_rack.specs.Rack.{Plate, Slots, with_more, with_plate}
 use Rattle.ring_lanes.specs.declared.source.Source.{Source}
 use Rattle.tif_packbits.specs.Frame.{packed_in}
-use Rattle.tif_plate.specs.Tail.{front_bytes, tail_bytes, tail_place}
+use Rattle.tif_plate.specs.Tail.{front_bytes, tail_bytes, tail_offset}
 use Rattle.pr_rack.specs.Told.{Tells}
 use Rattle.site_agent.specs.declared.plate.SitePlate.{SitePlate}
 use Rattle.tif_plate.specs.declared.sides.Sides.{Sides}
@@ -31,7 +31,7 @@ of_ok (Err f) x P is p = absurd (cc)
 -- a plate with this tail is finished if this was its last row
 pub finishes-at : (sides : Sides) (y place : ℕ) (plate : SitePlate) (counts tail : List ℕ) (old new : Tells)
     → y + 1 ≡ sides.height
-    → tail ≡ tail_bytes sides.width sides.height sides.dpi counts → place ≡ tail_place counts
+    → tail ≡ tail_bytes sides.width sides.height sides.dpi counts → place ≡ tail_offset counts
     → new ≡ with_closed plate.slot tail place old → new ≡ finished_at sides y plate counts old
 finishes-at sides y place plate counts tail old new last is there closed =
     closed

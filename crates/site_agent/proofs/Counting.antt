@@ -15,10 +15,10 @@ use Rattle.plate_bytes.specs.Strips.{StripState, counted, row_after, with_row as
 use Rattle.plate_bytes.proofs.Counts.{packing-few, sum-counted, length-counted}
 use Rattle.pr_rack.specs.Rack.{Slots}
 use Rattle.site_agent.specs.declared.plate.SitePlate.{SitePlate}
-use Rattle.site_agent.specs.declared.place.Place.{Place}
+use Rattle.site_agent.specs.declared.plate_row.PlateRow.{PlateRow}
 use Rattle.site_agent.specs.Job.{SiteJob, sides_of, IsJob, last_in}
 use Rattle.site_agent.specs.Given.{given, open_in, open_rows, finished_count, IsRowOf, IsNoRow}
-use Rattle.site_agent.specs.Site.{SiteData, IsCounting, IsCounted, IsPlaceOf, counts_of}
+use Rattle.site_agent.specs.Site.{SiteData, IsCounting, IsCounted, IsPlateRow, counts_of}
 use Rattle.site_agent.specs.Stands.{AreBegun, AreAsLong, IsAsLong, path_and_length}
 use Rattle.site_agent.specs.Tells.{finished_after}
 use Rattle.site_agent.proofs.Givens.{given-stays}
@@ -35,36 +35,36 @@ packed-few width frame wide framed size =
 
 -- ---- the next row, which is one of a plate
 
-pub record Turn (job : SiteJob) (n finished : ℕ) (slots : List StripState) (place : Place) (frame : List ℕ)
+pub record Turn (job : SiteJob) (n finished : ℕ) (slots : List StripState) (place : PlateRow) (frame : List ℕ)
     (slot' : StripState) : Type 0 where
   pub counting : IsCounting job n finished slots
-  pub place' : IsPlaceOf job n place
+  pub place' : IsPlateRow job n place
   pub framed : IsFrame frame
   pub size : length (framed_row frame) ≡ row_size job.width
   pub slot : slot' ≡ get_or slots place.slot slot'
 
-abbrev pub strip_of : SiteJob → Place → ℕ
+abbrev pub strip_of : SiteJob → PlateRow → ℕ
 strip_of job place = place.y / rows_each job.width
 
-pub in-rack : (job : SiteJob) (n finished : ℕ) (slots : List StripState) (place : Place)
-    → IsCounting job n finished slots → IsPlaceOf job n place → (d : SitePlate) → place.slot < 5
+pub in-rack : (job : SiteJob) (n finished : ℕ) (slots : List StripState) (place : PlateRow)
+    → IsCounting job n finished slots → IsPlateRow job n place → (d : SitePlate) → place.slot < 5
 in-rack job n finished slots place counting there d =
     let P : ℕ → Type 0 = λ s. s < 5 in subst P (there.slot d) (counting.is.each place.plate d there.row.within).slot
 
-pub slot-within : (job : SiteJob) (n finished : ℕ) (slots : List StripState) (place : Place)
-    → IsCounting job n finished slots → IsPlaceOf job n place → (d : SitePlate) → place.slot < length slots
+pub slot-within : (job : SiteJob) (n finished : ℕ) (slots : List StripState) (place : PlateRow)
+    → IsCounting job n finished slots → IsPlateRow job n place → (d : SitePlate) → place.slot < length slots
 slot-within job n finished slots place counting there d =
     let five : length slots ≡ 5 = counting.slots in
     let inside : place.slot < 5 = in-rack job n finished slots place counting there d in omega arith
 
-counted-there : (job : SiteJob) (n finished : ℕ) (slots : List StripState) (place : Place) (frame : List ℕ)
+counted-there : (job : SiteJob) (n finished : ℕ) (slots : List StripState) (place : PlateRow) (frame : List ℕ)
     (slot : StripState) (d : SitePlate) → Turn job n finished slots place frame slot
     → IsCounted job n place.slot slot
 counted-there job n finished slots place frame slot d turn =
     let P : StripState → Type 0 = IsCounted job n place.slot in
     subst P (sym turn.slot) (turn.counting.each place.slot slot (in-rack job n finished slots place turn.counting turn.place' d))
 
-pub strip-within : (job : SiteJob) (n finished : ℕ) (slots : List StripState) (place : Place) (frame : List ℕ)
+pub strip-within : (job : SiteJob) (n finished : ℕ) (slots : List StripState) (place : PlateRow) (frame : List ℕ)
     (slot : StripState) (d : SitePlate) → Turn job n finished slots place frame slot
     → strip_of job place < length slot.counts
 strip-within job n finished slots place frame slot d turn =
@@ -72,7 +72,7 @@ strip-within job n finished slots place frame slot d turn =
     let inside : strip_of job place < strip_count job.width job.height = strip-in_plate job.width job.height place.y turn.place'.row.below in
     omega arith
 
-rows-there : (job : SiteJob) (n finished : ℕ) (slots : List StripState) (place : Place) (frame : List ℕ)
+rows-there : (job : SiteJob) (n finished : ℕ) (slots : List StripState) (place : PlateRow) (frame : List ℕ)
     (slot : StripState) (d : SitePlate) → Turn job n finished slots place frame slot → slot.next ≡ place.y
 rows-there job n finished slots place frame slot d turn =
     (counted-there job n finished slots place frame slot d turn).rows
@@ -87,23 +87,23 @@ rows-there job n finished slots place frame slot d turn =
       row = turn.place'.row
 
 -- the counts including the row
-abbrev pub with_row : SiteJob → Place → List ℕ → StripState → List ℕ
+abbrev pub with_row : SiteJob → PlateRow → List ℕ → StripState → List ℕ
 with_row job place frame slot = counted place.y (strip_of job place) (length (packed_in frame)) slot.counts
 
-pub sum-with : (job : SiteJob) (n finished : ℕ) (slots : List StripState) (place : Place) (frame : List ℕ)
+pub sum-with : (job : SiteJob) (n finished : ℕ) (slots : List StripState) (place : PlateRow) (frame : List ℕ)
     (slot : StripState) (d : SitePlate) → Turn job n finished slots place frame slot
     → sum (with_row job place frame slot)
     ≡ (if place.y == 0 then 0 else sum slot.counts) + length (packed_in frame)
 sum-with job n finished slots place frame slot d turn = sum-counted place.y (strip_of job place) (length (packed_in frame)) slot.counts (strip-within job n finished slots place frame slot d turn)
 
 -- the strips of the row's slot have counted the row, whatever is in their buffer
-pub record HasCounted (job : SiteJob) (place : Place) (frame : List ℕ)
+pub record HasCounted (job : SiteJob) (place : PlateRow) (frame : List ℕ)
     (slot' next' : StripState) : Type 0 where
   pub sides : next'.sides ≡ sides_of job
   pub next : next'.next ≡ row_after job.height place.y
   pub counts : next'.counts ≡ with_row job place frame slot'
 
-pub has-counted : (job : SiteJob) (n finished : ℕ) (slots : List StripState) (place : Place) (frame : List ℕ)
+pub has-counted : (job : SiteJob) (n finished : ℕ) (slots : List StripState) (place : PlateRow) (frame : List ℕ)
     (slot first next : StripState) (d : SitePlate) (bytes : ℕ) (room : List ℕ)
     → Turn job n finished slots place frame slot
     → bytes ≡ length (packed_in frame) → first ≡ with_next_row bytes slot
@@ -120,7 +120,7 @@ has-counted job n finished slots place frame slot first next d bytes room turn s
           ∙ ap (λ b. counted place.y (strip_of job place) b slot.counts) same;
     }
 
-pub first-alone : (job : SiteJob) (n finished : ℕ) (slots : List StripState) (place : Place) (frame : List ℕ)
+pub first-alone : (job : SiteJob) (n finished : ℕ) (slots : List StripState) (place : PlateRow) (frame : List ℕ)
     (slot : StripState) (d : SitePlate) → Turn job n finished slots place frame slot
     → place.y ≡ 0 → sum (with_row job place frame slot) ≡ length (packed_in frame)
 first-alone job n finished slots place frame slot d turn none =
@@ -128,8 +128,8 @@ first-alone job n finished slots place frame slot d turn none =
 
 -- ---- what contracts see of its rack
 
-pub begun-there : (job : SiteJob) (n : ℕ) (place : Place) (begun : List Bool) (d : SitePlate) → IsJob job
-    → IsPlaceOf job n place → AreBegun job n begun → place.slot < 5
+pub begun-there : (job : SiteJob) (n : ℕ) (place : PlateRow) (begun : List Bool) (d : SitePlate) → IsJob job
+    → IsPlateRow job n place → AreBegun job n begun → place.slot < 5
     → slice_get begun place.slot ≡ Some (nat_lt 0 place.y)
 begun-there job n place begun d is there are inside =
     are.each place.slot inside
@@ -141,7 +141,7 @@ begun-there job n place begun d is there are inside =
     ap (λ p. Some (is_some p)) (open-before job n place.plate place.y d is there.row (omega arith)) ∙ ap Some (sym (lt-ltb 0 place.y (omega arith))))
     (cases_eq place.y 0)
 
-pub stands-there : (job : SiteJob) (n finished : ℕ) (slots : List StripState) (place : Place) (frame : List ℕ)
+pub stands-there : (job : SiteJob) (n finished : ℕ) (slots : List StripState) (place : PlateRow) (frame : List ℕ)
     (slot : StripState) (d : SitePlate) (working : Option Slots) → Turn job n finished slots place frame slot
     → IfSome working (AreAsLong job n (counts_of slots)) → 0 < place.y
     → IfSome working (IsAsLong (plate_at job place.plate d)
@@ -200,7 +200,7 @@ finished-own job n k y finished is row same =
     ∙ ap (λ m. m + 1) (same ∙ (finished-last job n k y is row last).0) ∙ sym ((finished-last job n k y is row last).1))
     (cases_lt (y + 1) job.height)
 
-pub counts-on : (job : SiteJob) (n finished : ℕ) (slots : List StripState) (place : Place) (frame : List ℕ)
+pub counts-on : (job : SiteJob) (n finished : ℕ) (slots : List StripState) (place : PlateRow) (frame : List ℕ)
     (slot next : StripState) (d : SitePlate) → Turn job n finished slots place frame slot → n < job.total
     → HasCounted job place frame slot next
     → IsCounting job (n + 1) (finished_after job.height place.y finished) (set slots place.slot next)
@@ -284,13 +284,13 @@ abbrev pub any : SitePlate
 any = record { path = []; first = 0; step = 0; slot = 0 }
 
 pub turning : (job : SiteJob) (next finished : ℕ) (slots : List StripState) (ended : Bool) (old : SiteData)
-    (place : Place) (frame : List ℕ) (slot : StripState)
+    (place : PlateRow) (frame : List ℕ) (slot : StripState)
     → ◌≡◌ {A = SiteData} (record { job = job; next = next; counts = counts_of slots; ended = ended }) old
     → (ended ≡ false → IsCounting job next finished slots) → old.ended ≡ false
-    → IsPlaceOf old.job old.next place → IsFrame frame → length (framed_row frame) ≡ row_size old.job.width
+    → IsPlateRow old.job old.next place → IsFrame frame → length (framed_row frame) ≡ row_size old.job.width
     → slot ≡ get_or slots place.slot slot → Turn job next finished slots place frame slot
 turning job next finished slots ended old place frame slot view counting going there framed size is =
-    let P : SiteData → Type 0 = λ s. IsPlaceOf s.job s.next place in
+    let P : SiteData → Type 0 = λ s. IsPlateRow s.job s.next place in
     record {
       counting = counting (ap (λ s. s.ended) view ∙ going);
       place' = subst P (sym view) there;
@@ -300,14 +300,14 @@ turning job next finished slots ended old place frame slot view counting going t
     }
 
 pub placing : (job : SiteJob) (next : ℕ) (counts : List (List ℕ)) (ended : Bool) (old : SiteData)
-    (place : Place)
+    (place : PlateRow)
     → ◌≡◌ {A = SiteData} (record { job = job; next = next; counts = counts; ended = ended }) old
-    → IsPlaceOf old.job old.next place → IsPlaceOf job next place
-placing job next counts ended old place view there = let P : SiteData → Type 0 = λ s. IsPlaceOf s.job s.next place in subst P (sym view) there
+    → IsPlateRow old.job old.next place → IsPlateRow job next place
+placing job next counts ended old place view there = let P : SiteData → Type 0 = λ s. IsPlateRow s.job s.next place in subst P (sym view) there
 
 -- if one of the plates has row n, not all plates are finished
-pub finished-less : (job : SiteJob) (n finished : ℕ) (slots : List StripState) (place : Place)
-    → IsCounting job n finished slots → IsPlaceOf job n place → finished < length job.plates
+pub finished-less : (job : SiteJob) (n finished : ℕ) (slots : List StripState) (place : PlateRow)
+    → IsCounting job n finished slots → IsPlateRow job n place → finished < length job.plates
 finished-less job n finished slots place counting there =
     let is : finished ≡ finished_count job n = counting.finished in
     let within : place.plate < length job.plates = there.row.within in

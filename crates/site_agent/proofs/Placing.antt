@@ -5,7 +5,7 @@ use Rattle.site_agent.specs.declared.plate.SitePlate.{SitePlate}
 use Rattle.plate_bytes.specs.Strips.{StripState}
 use Rattle.site_agent.specs.Job.{SiteJob, number_in}
 use Rattle.site_agent.specs.Given.{open_rows, finished_count, IsNoRow}
-use Rattle.site_agent.specs.Site.{IsCounting, IsPlaceOf}
+use Rattle.site_agent.specs.Site.{IsCounting, IsPlateRow}
 use Rattle.site_agent.proofs.Opens.{plate_at}
 use Rattle.site_agent.proofs.Steps.{same-plate}
 use Rattle.site_agent.proofs.Finding.{IsNoRowOf, row-found, next-within, no-row_next, no-row_finished, no-row_later, no-row_all}
@@ -38,7 +38,7 @@ begun-there job n finished slots i plate slot looked = let P : SitePlate → Typ
 
 pub place-found : (job : SiteJob) (n finished : ℕ) (slots : List StripState) (i : ℕ) (plate : SitePlate)
     (slot : StripState) → Looked job n finished slots i plate slot
-    → number_in plate slot.next ≡ n → IsPlaceOf job n (record { plate = i; slot = plate.slot; y = slot.next })
+    → number_in plate slot.next ≡ n → IsPlateRow job n (record { plate = i; slot = plate.slot; y = slot.next })
 place-found job n finished slots i plate slot looked here = record {
   row = row-found job n i slot.next plate looked.counting.is (from-count job n finished slots i plate slot looked) looked.within (begun-there job n finished slots i plate slot looked) (rows-are job n finished slots i plate slot looked)
       (ap (λ p. number_in p slot.next) (sym looked.plate) ∙ here);

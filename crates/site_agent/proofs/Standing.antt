@@ -12,7 +12,7 @@ use Rattle.tif_packbits.specs.Packbits.{packing}
 use Rattle.tif_packbits.specs.Frame.{packed_in, framed_row, IsFrame}
 use Rattle.tif_packbits.proofs.Frames.{packed_in-frame}
 use Rattle.tif_plate.specs.Plate.{rows_each, strip_count, strip_counts}
-use Rattle.tif_plate.specs.Tail.{front_bytes, tail_bytes, tail_place, counts_so_far}
+use Rattle.tif_plate.specs.Tail.{front_bytes, tail_bytes, tail_offset, counts_so_far}
 use Rattle.tif_plate.proofs.Finish.{finishes as plate-finishes}
 use Rattle.tif_plate.proofs.Growth.{counts_so_far-all}
 use Rattle.plate_bytes.specs.Strips.{counted}
@@ -178,12 +178,12 @@ packed-more rows plate y n frame is framed here =
 -- a plate with its last row, once it is closed, is its file
 closed-is : (job : SiteJob) (rows : List (List ℕ)) (plate : SitePlate) (last : ℕ) (counts : List ℕ)
     → last ≡ job.height → counts ≡ counts_so_far job.width job.height (rows_of rows plate last)
-    → closed (tail_bytes job.width job.height job.dpi counts) (tail_place counts)
+    → closed (tail_bytes job.width job.height job.dpi counts) (tail_offset counts)
     (plate.path, front_bytes ++ flat_map packing (rows_of rows plate last)) ≡ file_of job rows plate
 closed-is job rows plate last counts all are =
-    ap (λ list. closed (tail_bytes job.width job.height job.dpi list) (tail_place list) (plate.path, front_bytes ++ flat_map packing (rows_of rows plate last))) (are ∙ ap (λ m. counts_so_far job.width job.height (rows_of rows plate m)) all ∙ whole)
-    ∙ ap (λ m. closed (tail_bytes job.width job.height job.dpi (strip_counts job.width every)) (tail_place (strip_counts job.width every)) (plate.path, front_bytes ++ flat_map packing (rows_of rows plate m))) all
-    ∙ ap (λ m. closed (tail_bytes job.width m job.dpi (strip_counts job.width every)) (tail_place (strip_counts job.width every)) (plate.path, front_bytes ++ flat_map packing every)) (sym len)
+    ap (λ list. closed (tail_bytes job.width job.height job.dpi list) (tail_offset list) (plate.path, front_bytes ++ flat_map packing (rows_of rows plate last))) (are ∙ ap (λ m. counts_so_far job.width job.height (rows_of rows plate m)) all ∙ whole)
+    ∙ ap (λ m. closed (tail_bytes job.width job.height job.dpi (strip_counts job.width every)) (tail_offset (strip_counts job.width every)) (plate.path, front_bytes ++ flat_map packing (rows_of rows plate m))) all
+    ∙ ap (λ m. closed (tail_bytes job.width m job.dpi (strip_counts job.width every)) (tail_offset (strip_counts job.width every)) (plate.path, front_bytes ++ flat_map packing every)) (sym len)
     ∙ ap (λ bytes. (plate.path, bytes)) (plate-finishes job.width job.dpi every) where
       every : List (List ℕ)
       every = rows_of rows plate job.height
@@ -317,7 +317,7 @@ row_kept job rows source n k y before old now counts after d frame is row stands
           let last : y + 1 ≡ job.height = omega arith in
           let P : Tells → Type 0 = Holds (files_below job rows (n + 1)) (taken_below job source (n + 1)) (plate_below job rows (n + 1)) before in
           let tail : List ℕ = tail_bytes job.width job.height job.dpi (slice_index_or after slot []) in
-          let place : ℕ = tail_place (slice_index_or after slot []) in
+          let place : ℕ = tail_offset (slice_index_or after slot []) in
           subst P (sym (told_now ∙ cond-true (y + 1 == job.height) (with_finish (sides_of job) slot (slice_index_or after slot []) taken) taken (eq-eqb (y + 1) job.height last)))
           (alike (files ++ closed tail place (plate.path, bytes ++ packed_in frame) ∷ []) (files_below job rows (n + 1)) (listed ++ (n, source) ∷ []) (taken_below job source (n + 1)) (put slot None open-2) (plate_below job rows (n + 1)) before (with_finish (sides_of job) slot (slice_index_or after slot []) taken)
           (finishes files (listed ++ (n, source) ∷ []) open-2 before taken (with_finish (sides_of job) slot (slice_index_or after slot []) taken) slot place tail (plate.path, bytes ++ packed_in frame) held (told-taken slot n frame source begun (told-begun plate y old told)) in_rack (put-same slot (Some (plate.path, bytes ++ packed_in frame)) open-1 slot refl) refl)

@@ -7,10 +7,10 @@ use Rattle.std.proofs.lemmas.Bool.{both_ways, cases_eq, eq-eqb, ne_eqb}
 use Rattle.std.proofs.lemmas.List.Folds.{list_any_at, list_any_none}
 use Rattle.std.proofs.lemmas.List.FromFn.{length-range_with_len, get_or-range_with_len, length-map-range_with_len, map-range_with_len_more, filter_of_map_range_with_len_more}
 use Rattle.std.proofs.lemmas.List.{append-nil, get_or_default, map-id}
-use Rattle.site_agent.specs.declared.place.Place.{Place}
+use Rattle.site_agent.specs.declared.plate_row.PlateRow.{PlateRow}
 use Rattle.site_agent.specs.declared.plate.SitePlate.{SitePlate}
 use Rattle.site_agent.specs.Job.{SiteJob, IsJob, number_in, last_in}
-use Rattle.site_agent.specs.Site.{IsPlaceOf}
+use Rattle.site_agent.specs.Site.{IsPlateRow}
 use Rattle.site_agent.specs.Given.{given, rows_of, open_in, finished_count, is_kept, kept_below, IsRowOf, IsNoRow}
 use Rattle.site_agent.proofs.Givens.{number-less, given-at, given-next, given-stays}
 use Rattle.site_agent.proofs.Opens.{plate_at, opened, closed, open_in-alike, StandsAs, open_in-plate, no_other, other-stays, others-closed, closed-cases, finished-is, finished-stays}
@@ -181,7 +181,7 @@ is_kept-not job n other = record {
 }
 
 -- a row is the site's if its place is found
-pub kept-by_place : (job : SiteJob) (n : ℕ) (place : Option Place) → IfSome place (IsPlaceOf job n)
+pub kept-by_place : (job : SiteJob) (n : ℕ) (place : Option PlateRow) → IfSome place (IsPlateRow job n)
     → IfNone place (IsNoRow job n) → is_some place ≡ is_kept job n
 kept-by_place job n None found none = sym (is_kept-none job n none)
 kept-by_place job n (Some place) found none = sym (is_kept-row job n place.plate place.y any found.row) where

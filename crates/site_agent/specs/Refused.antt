@@ -10,7 +10,7 @@ use Rattle.pr_base.specs.Count.{Rose}
 use Rattle.pr_rack.specs.Rack.{OthersBegun, OthersStand, with_row}
 use Rattle.pr_rack.specs.Told.{RackTells, Tells}
 use Rattle.site_agent.specs.declared.calls.Refusal.{Refusal}
-use Rattle.site_agent.specs.declared.place.Place.{Place}
+use Rattle.site_agent.specs.declared.plate_row.PlateRow.{PlateRow}
 use Rattle.site_agent.specs.declared.plate.SitePlate.{SitePlate}
 use Rattle.site_agent.specs.Given.{IsRowOf}
 use Rattle.site_agent.specs.Job.{SiteJob}
@@ -58,12 +58,12 @@ pub record IsStopped (height y number : ℕ) (source : Source) (path : List ℕ)
   pub unmissed : refusal.fault ≡ Memory → new.missed ≡ old.missed
 
 -- the same for this row, at its place in a job
-abbrev pub IsStoppedAt : SiteJob → Place → HeldRow → RackTells → RackTells → Refusal → Type 0
+abbrev pub IsStoppedAt : SiteJob → PlateRow → HeldRow → RackTells → RackTells → Refusal → Type 0
 IsStoppedAt job place held old new refusal = (d : SitePlate) → IsStopped job.height place.y held.number
     held.source (slice_index_or job.plates place.plate d).path old new refusal
 
 -- the same for the slot of the plate at this place in a job
-abbrev pub OthersStayAt : SiteJob → Place → Tells → Tells → Type 0
+abbrev pub OthersStayAt : SiteJob → PlateRow → Tells → Tells → Type 0
 OthersStayAt job place old new = (d : SitePlate)
     → OthersStay (slice_index_or job.plates place.plate d).slot old new
 

@@ -5,7 +5,7 @@ use Rattle.tif_plate.specs.Plate.{strip_count}
 use Rattle.tif_plate.specs.declared.sides.Sides.{Sides}
 use Rattle.plate_bytes.specs.Strips.{StripState}
 use Rattle.site_agent.specs.declared.plate.SitePlate.{SitePlate}
-use Rattle.site_agent.specs.declared.place.Place.{Place}
+use Rattle.site_agent.specs.declared.plate_row.PlateRow.{PlateRow}
 use Rattle.site_agent.specs.Job.{SiteJob, sides_of, IsJob}
 use Rattle.site_agent.specs.Given.{open_rows, finished_count, IsRowOf}
 
@@ -50,6 +50,6 @@ pub record AreFresh (sides' : Sides) (slots' : List StripState) : Type 0 where
   pub sides : All (λ strips. strips.sides ≡ sides') slots'
 
 -- the place of row n
-pub record IsPlaceOf (job : SiteJob) (n : ℕ) (place : Place) : Type 0 where
+pub record IsPlateRow (job : SiteJob) (n : ℕ) (place : PlateRow) : Type 0 where
   pub row : IsRowOf job n place.plate place.y
   pub slot : (d : SitePlate) → (slice_index_or job.plates place.plate d).slot ≡ place.slot

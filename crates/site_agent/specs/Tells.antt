@@ -5,12 +5,12 @@ use Rattle.ring_lanes.specs.Held.{HeldRow}
 use Rattle.ring_lanes.specs.declared.source.Source.{Source}
 use Rattle.tif_packbits.specs.Frame.{packed_in}
 use Rattle.tif_plate.specs.Plate.{rows_each}
-use Rattle.tif_plate.specs.Tail.{front_bytes, tail_bytes, tail_place}
+use Rattle.tif_plate.specs.Tail.{front_bytes, tail_bytes, tail_offset}
 use Rattle.tif_plate.specs.declared.sides.Sides.{Sides}
 use Rattle.plate_bytes.specs.Strips.{counted}
 use Rattle.pr_rack.specs.Rack.{with_plate, with_more, with_row, finished_with}
 use Rattle.pr_rack.specs.Told.{Tells}
-use Rattle.site_agent.specs.declared.place.Place.{Place}
+use Rattle.site_agent.specs.declared.plate_row.PlateRow.{PlateRow}
 use Rattle.site_agent.specs.declared.plate.SitePlate.{SitePlate}
 use Rattle.site_agent.specs.Job.{SiteJob, sides_of}
 
@@ -43,7 +43,7 @@ with_closed slot tail place old = record old {
 -- the plate in a slot, whose strips have these byte counts, is finished
 abbrev pub with_finish : Sides → ℕ → List ℕ → Tells → Tells
 with_finish sides slot counts old =
-    with_closed slot (tail_bytes sides.width sides.height sides.dpi counts) (tail_place counts) old
+    with_closed slot (tail_bytes sides.width sides.height sides.dpi counts) (tail_offset counts) old
 
 -- the plate of row y is begun
 abbrev pub begun_at : ℕ → SitePlate → Tells → Tells
@@ -62,12 +62,12 @@ after_row sides plate y number frame source counts old =
 -- ---- the row at a place of a job
 
 -- the rack shows what it showed before and this row, where the strips have these byte counts
-abbrev pub TellsRow : SiteJob → Place → HeldRow → List (List ℕ) → Tells → Tells → Type 0
+abbrev pub TellsRow : SiteJob → PlateRow → HeldRow → List (List ℕ) → Tells → Tells → Type 0
 TellsRow job place held counts old new = (d : SitePlate) → new ≡ after_row (sides_of job)
     (slice_index_or job.plates place.plate d) place.y held.number held.bytes held.source
     (slice_index_or counts place.slot []) old
 
 -- the byte counts of its slot are those from before plus this row
-abbrev pub CountsRow : SiteJob → Place → HeldRow → List (List ℕ) → List (List ℕ) → Type 0
+abbrev pub CountsRow : SiteJob → PlateRow → HeldRow → List (List ℕ) → List (List ℕ) → Type 0
 CountsRow job place held old new = slice_index_or new place.slot [] ≡ counted place.y
     (place.y / rows_each job.width) (length (packed_in held.bytes)) (slice_index_or old place.slot [])

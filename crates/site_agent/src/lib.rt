@@ -4,8 +4,8 @@
 mod calls;
 mod kept;
 mod new_site;
-mod place;
 mod plate;
+mod plate_row;
 mod plates;
 mod site;
 mod slots;

@@ -15,13 +15,13 @@ ghost use Rattle.plan_json.specs.Plan.{IsPlan};
 ghost use Rattle.plan_rows.specs.Rows.{rows_of};
 ghost use Rattle.site_agent.specs.Plan.{job_over, site_over};
 ghost use Rattle.site_agent.specs.Refused.{IsStoppedAt, OthersStayAt, OthersStayFor, taken_at};
-ghost use Rattle.site_agent.specs.Site.{IsPlaceOf};
+ghost use Rattle.site_agent.specs.Site.{IsPlateRow};
 ghost use Rattle.site_agent.specs.Stands.{AreAsLong, AreBegun};
 ghost use Rattle.site_agent.specs.Tells.{CountsRow, TellsRow, finished_after};
 
 use crate::calls::{Refusal, deliver};
-use crate::place::Place;
 use crate::plate::SitePlate;
+use crate::plate_row::PlateRow;
 use crate::plates::empty_slots;
 use crate::{Kept, LeftCause};
 use plan_json::Plan;
@@ -117,9 +117,9 @@ impl Site {
     }
 
     /// Returns the place of the next row, if the row is one of the site's.
-    fn place(&self) -> Option<Place>
+    fn place(&self) -> Option<PlateRow>
         requires { self.now.ended ≡ false }
-        ensures found { IfSome result (IsPlaceOf self.now.job self.now.next) }
+        ensures found { IfSome result (IsPlateRow self.now.job self.now.next) }
         ensures none { IfNone result (IsNoRow self.now.job self.now.next) }
     {
         for i in self.finished as usize..self.plates.len() {
@@ -129,7 +129,7 @@ impl Site {
             }
             let y = self.slots[plate.slot].next_row();
             if plate.first + y as u64 * plate.step as u64 == self.next {
-                return Some(Place {
+                return Some(PlateRow {
                     plate: i,
                     slot: plate.slot,
                     y,
@@ -140,11 +140,11 @@ impl Site {
     }
 
     /// Processes the next row, which is the row at `place`.
-    fn give<R: Rack>(&mut self, place: Place, held: &Held, rack: &mut R) -> Result<(), Refusal>
+    fn give<R: Rack>(&mut self, place: PlateRow, held: &Held, rack: &mut R) -> Result<(), Refusal>
         requires going { self.old.ended ≡ false }
         requires next { held.now.number ≡ self.old.next }
         requires within { self.old.next < self.old.job.total }
-        requires place { IsPlaceOf self.old.job self.old.next place }
+        requires place { IsPlateRow self.old.job self.old.next place }
         requires frame { IsFrame held.now.bytes }
         requires row { length (framed_row held.now.bytes) ≡ row_size self.old.job.width }
         requires begun { AreBegun self.old.job self.old.next (R.begun rack.old) }
@@ -178,7 +178,7 @@ impl Site {
     }
 
     /// Returns the result for a row at which the rack refused a call, with `plates` plates finished.
-    fn refused(&mut self, place: Place, plates: u32, row: u64, refusal: Refusal) -> Kept
+    fn refused(&mut self, place: PlateRow, plates: u32, row: u64, refusal: Refusal) -> Kept
         requires ended { self.old.ended ≡ true }
         requires plate { place.plate < length self.old.job.plates }
         ensures answer { (d : SitePlateData) → result ≡ kept_of refusal.fault (record {

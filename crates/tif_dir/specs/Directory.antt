@@ -56,18 +56,18 @@ header_of bytes =
     (order_of bytes)
 
 -- the offset of the first directory ("Image File Header", bytes 4-7)
-abbrev pub directory_place : Order → List ℕ → ℕ
-directory_place order bytes = number_of order 4 (drop 4 bytes)
+abbrev pub directory_offset : Order → List ℕ → ℕ
+directory_offset order bytes = number_of order 4 (drop 4 bytes)
 
 -- the number of entries that the directory declares ("Image File Directory")
 abbrev pub entry_count : Order → List ℕ → ℕ
-entry_count order bytes = number_of order 2 (drop (directory_place order bytes) bytes)
+entry_count order bytes = number_of order 2 (drop (directory_offset order bytes) bytes)
 
 -- the entries of the first directory, 12 bytes each; none if they or their count extend past the end of the
 -- file, or if there are no entries
 abbrev pub entries_of : Order → List ℕ → Option (List (List ℕ))
 entries_of order bytes =
-    let place = directory_place order bytes in
+    let place = directory_offset order bytes in
     let count = entry_count order bytes in
     if nat_lt (length bytes) (place + 2) then None
     else if count == 0 then None

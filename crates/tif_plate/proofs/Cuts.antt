@@ -9,7 +9,7 @@ use Rattle.std.proofs.lemmas.List.FromFn.{get_or-map-range_with_len, length-map-
 use Rattle.std.proofs.lemmas.List.Sums.{sum_by-append}
 use Rattle.std.proofs.lemmas.Grind.{div_ceil_times, flat_map-append, same_number_lists, take_at_read}
 use Rattle.tif_packbits.specs.Packbits.{packing}
-use Rattle.tif_plate.specs.Plate.{rows_each, strip_count, rows_before, rows_in, place_of, size_of, strip_places, strip_counts}
+use Rattle.tif_plate.specs.Plate.{rows_each, strip_count, rows_before, rows_in, start_of, size_of, strip_starts, strip_counts}
 use Rattle.tif_plate.specs.Tail.{begin_of, begins}
 use Rattle.tif_plate.proofs.Rounding.{rounded_up}
 
@@ -58,18 +58,18 @@ unfolding strip_counts
 length-strip_counts width rows = length-map-range_with_len (size_of width rows) 0 (strip_count width (length rows))
 
 -- each strip begins where the strips before it end
-pub begins-strip_counts : (width : ℕ) (rows : List (List ℕ)) → begins (strip_counts width rows) ≡ strip_places width rows
-unfolding strip_counts strip_places
+pub begins-strip_counts : (width : ℕ) (rows : List (List ℕ)) → begins (strip_counts width rows) ≡ strip_starts width rows
+unfolding strip_counts strip_starts
 begins-strip_counts width rows =
     let strips : ℕ = strip_count width (length rows) in
     let counts : List ℕ = map (size_of width rows) (range_with_len 0 strips) in
     let len : length counts ≡ strips = length-map-range_with_len (size_of width rows) 0 strips in
     let begun : length (begins counts) ≡ strips = length-map-range_with_len (begin_of counts) 0 (length counts) ∙ len in
-    same_number_lists (begins counts) (map (place_of width rows) (range_with_len 0 strips))
-    (begun ∙ sym (length-map-range_with_len (place_of width rows) 0 strips))
+    same_number_lists (begins counts) (map (start_of width rows) (range_with_len 0 strips))
+    (begun ∙ sym (length-map-range_with_len (start_of width rows) 0 strips))
     (λ k below.
     let within : k < strips = omega (arith, begun) in
     get_or-map-range_with_len (begin_of counts) 0 (length counts) k k 0 (omega (arith, len)) (omega arith)
     ∙ ap (λ front. 8 + sum front) (take-map-range_with_len (size_of width rows) 0 strips k (omega arith))
     ∙ ap (λ n. 8 + n) (sum-sizes width rows k)
-    ∙ sym (get_or-map-range_with_len (place_of width rows) 0 strips k k 0 within (omega arith)))
+    ∙ sym (get_or-map-range_with_len (start_of width rows) 0 strips k k 0 within (omega arith)))

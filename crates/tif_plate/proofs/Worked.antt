@@ -1,7 +1,7 @@
 -- Whole plates, byte for byte.
 use Rattle.std.proofs.Common.{◌≡◌, [], ◌∷◌, refl}
 use Rattle.tif_packbits.specs.Packbits.{packing}
-use Rattle.tif_plate.specs.Plate.{strip_places, strip_counts, plate_entries, plate_directory, strip_table, bytes_behind, plate_file}
+use Rattle.tif_plate.specs.Plate.{strip_starts, strip_counts, plate_entries, plate_directory, strip_table, bytes_behind, plate_file}
 
 -- four pixels, of which the first and the fourth are printed
 four-by-one : plate_file 4 1200 ((144 ∷ []) ∷ []) ≡
@@ -23,12 +23,12 @@ four-by-one : plate_file 4 1200 ((144 ∷ []) ∷ []) ≡
     ∷ 0 ∷ 0 ∷ 0 ∷ 0
     ∷ 176 ∷ 4 ∷ 0 ∷ 0 ∷ 1 ∷ 0 ∷ 0 ∷ 0
     ∷ 176 ∷ 4 ∷ 0 ∷ 0 ∷ 1 ∷ 0 ∷ 0 ∷ 0 ∷ []
-unfolding packing strip_places strip_counts plate_entries plate_directory strip_table bytes_behind plate_file
+unfolding packing strip_starts strip_counts plate_entries plate_directory strip_table bytes_behind plate_file
 four-by-one = refl
 
 -- rows of 65,528 pixels, 8,191 bytes each: one row per strip
-two-strips : strip_places 65528 ((1 ∷ 1 ∷ 1 ∷ []) ∷ (2 ∷ []) ∷ []) ≡ 8 ∷ 10 ∷ []
-unfolding packing strip_places
+two-strips : strip_starts 65528 ((1 ∷ 1 ∷ 1 ∷ []) ∷ (2 ∷ []) ∷ []) ≡ 8 ∷ 10 ∷ []
+unfolding packing strip_starts
 two-strips = refl
 
 two-counts : strip_counts 65528 ((1 ∷ 1 ∷ 1 ∷ []) ∷ (2 ∷ []) ∷ []) ≡ 2 ∷ 2 ∷ []

@@ -36,23 +36,23 @@ abbrev pub rows_in : ℕ → List (List ℕ) → ℕ → List (List ℕ)
 rows_in width rows i = take (rows_each width) (drop (i * rows_each width) rows)
 
 -- the offset of strip i: the packed rows before it follow the first eight bytes
-abbrev pub place_of : ℕ → List (List ℕ) → ℕ → ℕ
-place_of width rows i = 8 + length (flat_map packing (rows_before width rows i))
+abbrev pub start_of : ℕ → List (List ℕ) → ℕ → ℕ
+start_of width rows i = 8 + length (flat_map packing (rows_before width rows i))
 
 -- the byte count of strip i: the total length of its packed rows
 abbrev pub size_of : ℕ → List (List ℕ) → ℕ → ℕ
 size_of width rows i = length (flat_map packing (rows_in width rows i))
 
 -- StripOffsets and StripByteCounts (Section 3) of a plate with these rows
-unfoldable pub strip_places : ℕ → List (List ℕ) → List ℕ
-strip_places width rows = map (place_of width rows) (range_with_len 0 (strip_count width (length rows)))
+unfoldable pub strip_starts : ℕ → List (List ℕ) → List ℕ
+strip_starts width rows = map (start_of width rows) (range_with_len 0 (strip_count width (length rows)))
 
 unfoldable pub strip_counts : ℕ → List (List ℕ) → List ℕ
 strip_counts width rows = map (size_of width rows) (range_with_len 0 (strip_count width (length rows)))
 
 -- the offset of the directory after rows that end at offset end: the first even one (Section 2)
-abbrev pub directory_place : ℕ → ℕ
-directory_place end = end + end % 2
+abbrev pub directory_offset : ℕ → ℕ
+directory_offset end = end + end % 2
 
 -- an entry of a directory (Section 2): tag, type, count, and value or offset
 abbrev pub entry_bytes : Entry → List ℕ
@@ -71,12 +71,12 @@ abbrev pub rational : ℕ
 rational = 5
 
 -- the value of StripOffsets: the offset of the only strip, or of the table of offsets after the resolutions
-abbrev pub places_value : ℕ → ℕ → ℕ
-places_value strips end = if nat_lt strips 2 then 8 else directory_place end + 166
+abbrev pub offsets_value : ℕ → ℕ → ℕ
+offsets_value strips end = if nat_lt strips 2 then 8 else directory_offset end + 166
 
 -- the value of StripByteCounts: the byte count of the only strip, or the offset of the table of counts
 abbrev pub counts_value : ℕ → ℕ → ℕ
-counts_value strips end = if nat_lt strips 2 then end - 8 else directory_place end + 166 + 4 * strips
+counts_value strips end = if nat_lt strips 2 then end - 8 else directory_offset end + 166 + 4 * strips
 
 -- the twelve entries of a plate whose rows end at offset `end`: bilevel, PackBits, WhiteIsZero, inches
 unfoldable pub plate_entries : ℕ → ℕ → ℕ → List Entry
@@ -90,7 +90,7 @@ plate_entries width height end =
       tag = strip_offsets;
       kind = long;
       count = strip_count width height;
-      value = places_value (strip_count width height) end;
+      value = offsets_value (strip_count width height) end;
     }
     ∷ record { tag = samples_per_pixel; kind = short; count = 1; value = 1 }
     ∷ record { tag = rows_per_strip; kind = long; count = 1; value = rows_each width }
@@ -100,8 +100,8 @@ plate_entries width height end =
       count = strip_count width height;
       value = counts_value (strip_count width height) end;
     }
-    ∷ record { tag = x_resolution; kind = rational; count = 1; value = directory_place end + 150 }
-    ∷ record { tag = y_resolution; kind = rational; count = 1; value = directory_place end + 158 }
+    ∷ record { tag = x_resolution; kind = rational; count = 1; value = directory_offset end + 150 }
+    ∷ record { tag = y_resolution; kind = rational; count = 1; value = directory_offset end + 158 }
     ∷ record { tag = resolution_unit; kind = short; count = 1; value = 2 }
     ∷ []
 
@@ -139,6 +139,6 @@ rows_end rows = 8 + length (flat_map packing rows)
 -- before it is packed
 unfoldable pub plate_file : ℕ → ℕ → List (List ℕ) → List ℕ
 plate_file width dpi rows =
-    (header_bytes (directory_place (rows_end rows)) ++ flat_map packing rows)
+    (header_bytes (directory_offset (rows_end rows)) ++ flat_map packing rows)
     ++ bytes_behind width (length rows) dpi (rows_end rows)
-    (strip_places width rows) (strip_counts width rows)
+    (strip_starts width rows) (strip_counts width rows)

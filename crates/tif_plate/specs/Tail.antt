@@ -1,7 +1,7 @@
 -- The parts of a plate before and after its packed rows, as functions of the byte counts of its strips.
 use Rattle.std.specs.Prelude.{ℕ, ◌+◌, ◌*◌, ◌≤◌, List, length, map, sum, take}
 use Rattle.std.specs.List.{range_with_len}
-use Rattle.tif_plate.specs.Plate.{strip_count, size_of, directory_place, bytes_behind, header_bytes}
+use Rattle.tif_plate.specs.Plate.{strip_count, size_of, directory_offset, bytes_behind, header_bytes}
 
 -- the first eight bytes while the offset of the directory is not yet known
 abbrev pub front_bytes : List ℕ
@@ -24,8 +24,8 @@ abbrev pub begins : List ℕ → List ℕ
 begins counts = map (begin_of counts) (range_with_len 0 (length counts))
 
 -- the offset of the directory
-abbrev pub tail_place : List ℕ → ℕ
-tail_place counts = directory_place (strips_end counts)
+abbrev pub tail_offset : List ℕ → ℕ
+tail_offset counts = directory_offset (strips_end counts)
 
 -- all bytes after the rows
 abbrev pub tail_bytes : ℕ → ℕ → ℕ → List ℕ → List ℕ

@@ -102,7 +102,7 @@ fn entries(width: u32, height: u32, end: u32) -> [Entry; 12]
         Entry { tag: BITS_PER_SAMPLE, kind: SHORT, count: 1, value: 1 },
         Entry { tag: COMPRESSION, kind: SHORT, count: 1, value: 32773 },
         Entry { tag: PHOTOMETRIC_INTERPRETATION, kind: SHORT, count: 1, value: 0 },
-        Entry { tag: STRIP_OFFSETS, kind: LONG, count: strips, value: places_value(strips, place) },
+        Entry { tag: STRIP_OFFSETS, kind: LONG, count: strips, value: offsets_value(strips, place) },
         Entry { tag: SAMPLES_PER_PIXEL, kind: SHORT, count: 1, value: 1 },
         Entry { tag: ROWS_PER_STRIP, kind: LONG, count: 1, value: rows_per_strip(width) },
         Entry { tag: STRIP_BYTE_COUNTS, kind: LONG, count: strips, value: counts_value(strips, place, end) },
@@ -114,7 +114,7 @@ fn entries(width: u32, height: u32, end: u32) -> [Entry; 12]
 
 /// Returns the value of StripOffsets: the offset of the only strip, or that of the table after the
 /// directory at offset `place`.
-fn places_value(strips: u32, place: u32) -> u32
+fn offsets_value(strips: u32, place: u32) -> u32
     requires { place ≤ 4000000009 }
     ensures { result ≡ (if nat_lt strips 2 then 8 else place + 166) }
 {

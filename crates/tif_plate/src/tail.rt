@@ -9,7 +9,7 @@ ghost use Rattle.byteorder.specs.Endian.{little_bytes};
 ghost use Rattle.tif_plate.specs.Plate.{IsSide, IsDpi, strip_count, strip_table, bytes_behind};
 ghost use Rattle.tif_plate.specs.Put.{Puts};
 ghost use Rattle.tif_plate.specs.Tail.{IsPlaceable, begin_of, begins, strips_end as strips_end_of};
-ghost use Rattle.tif_plate.specs.Tail.{tail_bytes, tail_place, tail_room};
+ghost use Rattle.tif_plate.specs.Tail.{tail_bytes, tail_offset, tail_room};
 
 use crate::entry::put_directory;
 use crate::put::{put_all, put_u32, put_whole, put_zeros};
@@ -33,7 +33,7 @@ pub fn plate_tail(width: u32, height: u32, dpi: u32, counts: &[u32], into: &mut 
     requires counts { length counts.now ≡ strip_count width height }
     requires sum { IsPlaceable counts.now }
     requires room { tail_room width height ≤ length into.old }
-    ensures at { result.at ≡ tail_place counts.now }
+    ensures at { result.at ≡ tail_offset counts.now }
     ensures len { result.len ≡ length (tail_bytes width height dpi counts.now) }
     ensures written { into.new ≡ tail_bytes width height dpi counts.now ++ drop result.len into.old }
 {
@@ -65,12 +65,12 @@ fn put_table(into: &mut [u8], at: usize, counts: &[u32]) -> usize
     if counts.len() < 2 {
         return at;
     }
-    let at = put_places(into, at, counts);
+    let at = put_offsets(into, at, counts);
     put_all(into, at, counts)
 }
 
 /// Writes the offset of each strip and returns the offset after them.
-fn put_places(into: &mut [u8], at: usize, counts: &[u32]) -> usize
+fn put_offsets(into: &mut [u8], at: usize, counts: &[u32]) -> usize
     requires sum { IsPlaceable counts.now }
     requires room { at + 4 * length counts.now ≤ length into.old }
     ensures at { result ≡ at + 4 * length counts.now }

@@ -1,9 +1,9 @@
 use Rattle.std.proofs.Common.{◌∙◌, length, ap, refl}
 use Rattle.std.proofs.lemmas.Result.{err_from_is_err_and}
-use Rattle.plate_verify.specs.Looking.{told}
+use Rattle.plate_verify.specs.Verifying.{told}
 use Rattle.cmd_verify.specs.Check.{asked_told, PrintsFound, check_rules, found_line}
 use Rattle.cmd_base.specs.Status.{number_of}
-use Rattle.cmd_verify.proofs.Looking.{found_behind, found_short, looks_lengths, put_lengths, stop_lengths}
+use Rattle.cmd_verify.proofs.Verifying.{found_behind, found_short, looks_lengths, put_lengths, stop_lengths}
 use Rattle.cmd_base.proofs.Loads.{all_behind, lengths_behind, loads_behind}
 use Rattle.cmd_base.proofs.Told.{put_tells}
 use Rattle.cmd_verify.proofs.check.print_check.Goals as goal
@@ -16,9 +16,9 @@ returns-clause-told g c =
       job = c.in_ok-job.job;
       prepared = c.in_ok-job.ensures.prepared;
       checked = c.in_ok-checked.checked;
-      found = found_behind g.H.Shelf c.args.shelf.now c.load_job.new.shelf c.check_plates.new.shelf
+      found = found_behind g.H.Shelf c.args.shelf.now c.load_job.new.shelf c.verify_plates.new.shelf
           c.load_job.ensures.held c.load_job.ensures.faults_stay c.in_ok-job.ensures.lengths
-          c.in_ok-job.job c.args.asked.out.now c.in_ok-checked.checked c.in_ok-checked.ensures.looks;
+          c.in_ok-job.job c.args.asked.out.now c.in_ok-checked.checked c.in_ok-checked.ensures.verifies;
       text_is = c.as_bytes.ensures.value ∙ c.in_ok-line.ensures
           ∙ ap (λ sites. found_line sites (told c.in_ok-checked.checked)) (c.site_count.ensures.count ∙ ap (λ p. length p.sites) c.plan-plan.ensures.plan);
       status_is = c.status_of.ensures;
@@ -34,17 +34,17 @@ pub returns-in_err-checked-clause-loads : goal.returns-in_err-checked-clause-loa
 returns-in_err-checked-clause-loads g c =
     let p = err_from_is_err_and c.from_residual-in_err-checked.result c.from_residual-in_err-checked.ensures.1 in
     rw (p.1, p.2)
-    (loads_behind g.H.Shelf c.args.shelf.now c.load_job.new.shelf c.check_plates.new.shelf _ (c.in_ok-job.ensures.loads refl)
+    (loads_behind g.H.Shelf c.args.shelf.now c.load_job.new.shelf c.verify_plates.new.shelf _ (c.in_ok-job.ensures.loads refl)
     c.in_err-checked.ensures.loads)
 
 pub returns-in_err-line-clause-loads : goal.returns-in_err-line-clause-loads
 returns-in_err-line-clause-loads g c = λ done.
-    all_behind g.H.Shelf c.args.shelf.now c.load_job.new.shelf c.check_plates.new.shelf (c.in_ok-job.ensures.loads refl)
+    all_behind g.H.Shelf c.args.shelf.now c.load_job.new.shelf c.verify_plates.new.shelf (c.in_ok-job.ensures.loads refl)
     (c.in_ok-checked.ensures.loads refl)
 
 pub returns-clause-loads : goal.returns-clause-loads
 returns-clause-loads g c = λ done.
-    all_behind g.H.Shelf c.args.shelf.now c.load_job.new.shelf c.check_plates.new.shelf (c.in_ok-job.ensures.loads refl)
+    all_behind g.H.Shelf c.args.shelf.now c.load_job.new.shelf c.verify_plates.new.shelf (c.in_ok-job.ensures.loads refl)
     (c.in_ok-checked.ensures.loads refl)
 
 pub returns-in_err-job-clause-lengths : goal.returns-in_err-job-clause-lengths
@@ -57,25 +57,25 @@ returns-in_err-checked-clause-lengths g c =
     let p = err_from_is_err_and c.from_residual-in_err-checked.result c.from_residual-in_err-checked.ensures.1 in
     rw (p.1, p.2)
     (stop_lengths (asked_told c.args.asked) _ _
-    (lengths_behind g.H.Shelf c.args.shelf.now c.load_job.new.shelf c.check_plates.new.shelf _ c.in_ok-job.ensures.lengths
-    (looks_lengths c.in_ok-job.job c.args.asked.out.now _ _ c.in_err-checked.ensures.looks)))
+    (lengths_behind g.H.Shelf c.args.shelf.now c.load_job.new.shelf c.verify_plates.new.shelf _ c.in_ok-job.ensures.lengths
+    (looks_lengths c.in_ok-job.job c.args.asked.out.now _ _ c.in_err-checked.ensures.verifies)))
 
 pub returns-in_err-line-clause-lengths : goal.returns-in_err-line-clause-lengths
 returns-in_err-line-clause-lengths g c =
     let p = err_from_is_err_and c.from_residual-in_err-line.result c.from_residual-in_err-line.ensures.1 in
     rw (p.1, p.2)
     (found_short (asked_told c.args.asked) _ c.in_ok-job.job c.in_ok-checked.checked c.in_ok-job.ensures.prepared
-    (found_behind g.H.Shelf c.args.shelf.now c.load_job.new.shelf c.check_plates.new.shelf c.load_job.ensures.held
+    (found_behind g.H.Shelf c.args.shelf.now c.load_job.new.shelf c.verify_plates.new.shelf c.load_job.ensures.held
     c.load_job.ensures.faults_stay c.in_ok-job.ensures.lengths c.in_ok-job.job c.args.asked.out.now c.in_ok-checked.checked
-    c.in_ok-checked.ensures.looks))
+    c.in_ok-checked.ensures.verifies))
 
 pub returns-clause-lengths : goal.returns-clause-lengths
 returns-clause-lengths g c =
     put_lengths (asked_told c.args.asked) _ _ _ _ c.put_text.result c.put_text.ensures.puts
     (found_short (asked_told c.args.asked) _ c.in_ok-job.job c.in_ok-checked.checked c.in_ok-job.ensures.prepared
-    (found_behind g.H.Shelf c.args.shelf.now c.load_job.new.shelf c.check_plates.new.shelf c.load_job.ensures.held
+    (found_behind g.H.Shelf c.args.shelf.now c.load_job.new.shelf c.verify_plates.new.shelf c.load_job.ensures.held
     c.load_job.ensures.faults_stay c.in_ok-job.ensures.lengths c.in_ok-job.job c.args.asked.out.now c.in_ok-checked.checked
-    c.in_ok-checked.ensures.looks))
+    c.in_ok-checked.ensures.verifies))
 
 pub returns-in_err-job-clause-writes : goal.returns-in_err-job-clause-writes
 returns-in_err-job-clause-writes g c = λ done. refl

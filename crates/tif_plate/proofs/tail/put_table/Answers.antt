@@ -19,5 +19,5 @@ returns-clause-at c =
 pub returns-clause-put : goal.returns-clause-put
 returns-clause-put c =
     rw (strip_table-some (begins c.args.counts.now) c.args.counts.now c.if-counts-lt2.false)
-    (Puts-then _ _ _ _ _ _ _ c.put_places-at.ensures.put c.put_all.ensures.put
+    (Puts-then _ _ _ _ _ _ _ c.put_offsets-at.ensures.put c.put_all.ensures.put
     (omega (arith, length-numbers (begins c.args.counts.now), length-map-range_with_len (begin_of c.args.counts.now) 0 (length c.args.counts.now))))

@@ -1,6 +1,6 @@
 use Rattle.std.proofs.Common.{◌≡◌, ◌++◌, length, ap, ◌∙◌, arith}
-use Rattle.tif_plate.specs.Tail.{tail_bytes, tail_place}
-use Rattle.pr_base.specs.Place.{with_place}
+use Rattle.tif_plate.specs.Tail.{tail_bytes, tail_offset}
+use Rattle.pr_base.specs.Offset.{with_offset}
 use Rattle.plate_bytes.specs.Made.{PlateState}
 use Rattle.plate_bytes.specs.Strips.{StripState}
 use Rattle.plate_bytes.proofs.Growing.{front-there, whole-is}
@@ -21,6 +21,6 @@ returns-clause-file c =
       dpi = ap {A = StripState} (λ s. s.sides.dpi) c.close.ensures.strips ∙ ap {A = PlateState} (λ p. p.dpi) c.self.view_is;
     })
     (c.in_ok-close.ensures.bytes
-    ∙ ap {A = PlateState} (λ p. with_place (tail_place p.counts) (p.bytes ++ tail_bytes p.width p.height p.dpi p.counts)) c.self.view_is)
+    ∙ ap {A = PlateState} (λ p. with_offset (tail_offset p.counts) (p.bytes ++ tail_bytes p.width p.height p.dpi p.counts)) c.self.view_is)
     (ap {A = StripState} (λ s. s.counts) c.close.ensures.strips ∙ ap {A = PlateState} (λ p. p.counts) c.self.view_is)
     (ap {A = PlateState} (λ p. p.ends) c.self.view_is)

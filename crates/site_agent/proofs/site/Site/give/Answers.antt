@@ -8,7 +8,7 @@ use Rattle.plate_bytes.specs.Strips.{StripState, counted}
 use Rattle.pr_rack.specs.Told.{Tells, told}
 use Rattle.site_agent.specs.declared.plate.SitePlate.{SitePlate}
 use Rattle.site_agent.specs.Job.{SiteJob, sides_of}
-use Rattle.site_agent.specs.Site.{SiteData, IsCounting, IsPlaceOf, counts_of, job_with}
+use Rattle.site_agent.specs.Site.{SiteData, IsCounting, IsPlateRow, counts_of, job_with}
 use Rattle.site_agent.specs.Stands.{AreAsLong, AreBegun, IsAsLong}
 use Rattle.site_agent.specs.Tells.{after_row}
 use Rattle.site_agent.proofs.Steps.{same-plate}
@@ -26,7 +26,7 @@ counting : (g : Over) (c : After-count g)
     → IsCounting (job_in g c) c.self.inside.next c.self.inside.finished c.self.inside.slots.items
 counting g c = c.self.invariant (ap (λ s. s.ended) c.self.view_is ∙ c.requires.going)
 
-there : (g : Over) (c : After-count g) → IsPlaceOf (job_in g c) c.self.inside.next c.args.place
+there : (g : Over) (c : After-count g) → IsPlateRow (job_in g c) c.self.inside.next c.args.place
 there g c = placing (job_in g c) c.self.inside.next (counts_of c.self.inside.slots.items) c.self.inside.ended c.args.self.now c.args.place c.self.view_is c.requires.place
 
 turn : (g : Over) (c : After-count g)
@@ -53,7 +53,7 @@ pub index_mut-slot-requires : goal.index_mut-slot-requires
 index_mut-slot-requires g c =
     let job : SiteJob = job_with c.self.inside.plates.items c.self.inside.sides c.self.inside.total in
     let is : IsCounting job c.self.inside.next c.self.inside.finished c.self.inside.slots.items = c.self.invariant (ap (λ s. s.ended) c.self.view_is ∙ c.requires.going) in
-    let at : IsPlaceOf job c.self.inside.next c.args.place = placing job c.self.inside.next (counts_of c.self.inside.slots.items) c.self.inside.ended c.args.self.now c.args.place c.self.view_is c.requires.place in
+    let at : IsPlateRow job c.self.inside.next c.args.place = placing job c.self.inside.next (counts_of c.self.inside.slots.items) c.self.inside.ended c.args.self.now c.args.place c.self.view_is c.requires.place in
     let inside = slot-within job c.self.inside.next c.self.inside.finished c.self.inside.slots.items c.args.place is at any in
     omega (arith, inside)
 

@@ -4,12 +4,12 @@ use Rattle.std.proofs.lemmas.Bool.{both_ways}
 use Rattle.tif_plate.specs.Plate.{strip_count}
 use Rattle.pr_rack.specs.Told.{told}
 use Rattle.site_agent.specs.declared.kept.LeftCause.{LeftCause}
-use Rattle.site_agent.specs.declared.place.Place.{Place}
+use Rattle.site_agent.specs.declared.plate_row.PlateRow.{PlateRow}
 use Rattle.site_agent.specs.Given.{IsNoRow, finished_count, is_kept}
 use Rattle.site_agent.specs.Job.{IsJob, SiteJob, sides_of}
 use Rattle.site_agent.specs.Kept.{IsCauseAt, OnDone, kept_of}
 use Rattle.site_agent.specs.Refused.{taken_at}
-use Rattle.site_agent.specs.Site.{SiteData, IsCounting, IsPlaceOf, job_with}
+use Rattle.site_agent.specs.Site.{SiteData, IsCounting, IsPlateRow, job_with}
 use Rattle.site_agent.specs.Stands.{AreAsLong, AreBegun, StandsAfter}
 use Rattle.site_agent.specs.Tells.{after_row}
 use Rattle.site_agent.proofs.Asking.{Asks, asks-kept, asks-passed}
@@ -34,14 +34,14 @@ is_job : (g : Over) (c : After-place g) → IsJob c.args.self.now.job
 is_job g c = subst (λ (s : SiteData). IsJob s.job) c.self.view_is (counting g c).is
 
 -- a row that has a place is one of the site's
-kept : (g : Over) (c : After-place g) (place : Place)
-    → IsPlaceOf c.args.self.now.job c.args.self.now.next place
+kept : (g : Over) (c : After-place g) (place : PlateRow)
+    → IsPlateRow c.args.self.now.job c.args.self.now.next place
     → is_kept c.args.self.now.job c.args.self.now.next ≡ true
 kept g c place there = is_kept-row c.args.self.now.job c.args.self.now.next place.plate place.y any there.row
 
 -- its slot has a count for each strip
-size : (g : Over) (c : After-place g) (place : Place)
-    → IsPlaceOf c.args.self.now.job c.args.self.now.next place
+size : (g : Over) (c : After-place g) (place : PlateRow)
+    → IsPlateRow c.args.self.now.job c.args.self.now.next place
     → length (slice_index_or c.args.self.now.counts place.slot [])
     ≡ strip_count c.args.self.now.job.width c.args.self.now.job.height
 size g c place there =
@@ -83,8 +83,8 @@ asks : (g : Over) (c : In-Ok g) → IsJob c.args.self.now.job
     → Asks c.args.self.now.job (c.args.self.now.next + 1) c.give.new.self.counts
     (told g.R.Rack c.give.new.rack).tells
 asks g c is long =
-    let place : Place = c.in-Some.place in
-    let there : IsPlaceOf c.args.self.now.job c.args.self.now.next place = c.in-Some.ensures.found in
+    let place : PlateRow = c.in-Some.place in
+    let there : IsPlateRow c.args.self.now.job c.args.self.now.next place = c.in-Some.ensures.found in
     asks-kept c.args.self.now.job c.args.held.now.source c.args.self.now.next place.plate place.y place.slot (told g.R.Rack c.args.rack.now).tells (told g.R.Rack c.give.new.rack).tells
     c.args.self.now.counts c.give.new.self.counts any c.args.held.now.bytes is there.row (there.slot any) (record { begun = c.requires.begun; working = c.requires.working })
     (g.met.R.Rack.begun_told c.args.rack.now) long c.in-Ok.ensures.own c.in-Ok.ensures.others (taken g c)
@@ -92,8 +92,8 @@ asks g c is long =
 pub returns-in-Ok-clause-keeps : goal.returns-in-Ok-clause-keeps
 returns-in-Ok-clause-keeps g c =
     let at = (goal.at.returns-in-Ok-clause-keeps g c).After-place in
-    let place : Place = c.in-Some.place in
-    let there : IsPlaceOf c.args.self.now.job c.args.self.now.next place = c.in-Some.ensures.found in
+    let place : PlateRow = c.in-Some.place in
+    let there : IsPlateRow c.args.self.now.job c.args.self.now.next place = c.in-Some.ensures.found in
     λ rows before here stands.
     row_kept-slot c.args.self.now.job rows c.args.held.now.source c.args.self.now.next place.plate place.y place.slot before (told g.R.Rack c.args.rack.now).tells (told g.R.Rack c.give.new.rack).tells
     c.args.self.now.counts c.give.new.self.counts any c.args.held.now.bytes (is_job g at) there.row (there.slot any) stands (g.met.R.Rack.finished_told c.args.rack.now) c.requires.frame here
@@ -144,8 +144,8 @@ pub returns-in-Err-clause-left : goal.returns-in-Err-clause-left
 returns-in-Err-clause-left g c =
     let at = (goal.at.returns-in-Err-clause-left g c).After-refused in
     let job : SiteJob = c.args.self.now.job in
-    let place : Place = c.in-Some.place in
-    let there : IsPlaceOf job c.args.self.now.next place = c.in-Some.ensures.found in
+    let place : PlateRow = c.in-Some.place in
+    let there : IsPlateRow job c.args.self.now.next place = c.in-Some.ensures.found in
     let stopped = c.in-Err.ensures.stopped any in
     let finished : c.self.inside.finished ≡ finished_count job c.args.self.now.next =
     (counting g (goal.at.returns-in-Err-clause-left g c).After-place).finished ∙ ap (λ s. finished_count s.job s.next) c.self.view_is in
@@ -202,8 +202,8 @@ pub returns-in-Err-clause-others_stay : goal.returns-in-Err-clause-others_stay
 returns-in-Err-clause-others_stay g c =
     let at = (goal.at.returns-in-Err-clause-others_stay g c).After-refused in
     let is = is_job g (goal.at.returns-in-Err-clause-others_stay g c).After-place in
-    let place : Place = c.in-Some.place in
-    let there : IsPlaceOf c.args.self.now.job c.args.self.now.next place = c.in-Some.ensures.found in
+    let place : PlateRow = c.in-Some.place in
+    let there : IsPlateRow c.args.self.now.job c.args.self.now.next place = c.in-Some.ensures.found in
     end-refused c.refused.result c.in-Err.refusal.fault (cause g at) _ (answered g at)
     (row-stays c.args.self.now.job c.args.self.now.next place.plate place.y any (told g.R.Rack c.args.rack.now).tells (told g.R.Rack c.give.new.rack).tells is there.row (λ e. c.in-Err.ensures.others_stay e))
 

@@ -1,7 +1,7 @@
 use Rattle.std.proofs.Common.{◌≡◌, ℕ, ◌<◌, sym, ap, subst, ◌∙◌, below_more, arith}
 use Rattle.site_agent.specs.Given.{IsNoRow}
 use Rattle.site_agent.specs.Job.{SiteJob, number_in}
-use Rattle.site_agent.specs.Site.{SiteData, IsCounting, IsPlaceOf, job_with}
+use Rattle.site_agent.specs.Site.{SiteData, IsCounting, IsPlateRow, job_with}
 use Rattle.site_agent.proofs.Finding.{IsNoRowOf}
 use Rattle.site_agent.proofs.Placing.{place-found, place-fits, place-other, place-past, place-start}
 use Rattle.site_agent.proofs.site.Site.place.Goals as goal
@@ -40,8 +40,8 @@ pub returns-then-plate-y-clause-found : goal.returns-then-plate-y-clause-found
 returns-then-plate-y-clause-found c =
     let job : SiteJob = job_with c.self.inside.plates.items c.self.inside.sides c.self.inside.total in
     let counting : IsCounting job c.self.inside.next c.self.inside.finished c.self.inside.slots.items = c.self.invariant (ap (λ s. s.ended) c.self.view_is ∙ c.requires) in
-    let P : SiteData → Type 0 = λ s. IsPlaceOf s.job s.next (record { plate = c.loop-i.i; slot = c.index-plate.result.now.slot; y = c.next_row-y.result }) in
-    let Q : ℕ → Type 0 = λ y. IsPlaceOf job c.self.inside.next (record { plate = c.loop-i.i; slot = c.index-plate.result.now.slot; y = y }) in
+    let P : SiteData → Type 0 = λ s. IsPlateRow s.job s.next (record { plate = c.loop-i.i; slot = c.index-plate.result.now.slot; y = c.next_row-y.result }) in
+    let Q : ℕ → Type 0 = λ y. IsPlateRow job c.self.inside.next (record { plate = c.loop-i.i; slot = c.index-plate.result.now.slot; y = y }) in
     subst P c.self.view_is (subst Q (sym c.next_row-y.ensures)
     (place-found job c.self.inside.next c.self.inside.finished c.self.inside.slots.items c.loop-i.i c.index-plate.result.now c.index.result.now
     (record { counting = counting; from = c.loop-i.invariant.from; within = omega arith; plate = c.index-plate.ensures; slot = c.index.ensures; begun = omega arith })

@@ -99,12 +99,12 @@ pub record FailsAt (plan : PlanData) (rows : List (List ℕ)) (out : List ℕ) (
   pub right : NoneWrong plan rows out old.held before
 
 -- the outcome of verifying these plates in order
-abbrev pub Looked : PlanData → List (List ℕ) → List ℕ → List SitePlate → ShelfTold → ShelfTold
+abbrev pub Verified : PlanData → List (List ℕ) → List ℕ → List SitePlate → ShelfTold → ShelfTold
     → Result (Option Checked) VerifyFault → Type 0
-Looked plan rows out plates old new (Ok None) = AreRight plan rows out plates old new
-Looked plan rows out plates old new (Ok (Some found)) = FindsWrong plan rows out plates old new found
-Looked plan rows out plates old new (Err (Shelf path)) = FailsAt plan rows out plates old new path
-Looked plan rows out plates old new (Err Memory) = IsQuiet old new × (new.longs ≡ old.longs)
+Verified plan rows out plates old new (Ok None) = AreRight plan rows out plates old new
+Verified plan rows out plates old new (Ok (Some found)) = FindsWrong plan rows out plates old new found
+Verified plan rows out plates old new (Err (Shelf path)) = FailsAt plan rows out plates old new path
+Verified plan rows out plates old new (Err Memory) = IsQuiet old new × (new.longs ≡ old.longs)
 
 -- a plate was made from its rows
 abbrev pub IsMade : PlanData → List (List ℕ) → PlateOf → PlateState → Type 0

@@ -9,14 +9,14 @@ use Rattle.press_job.specs.Job.{JobData}
 use Rattle.press_job.specs.Rows.{plate_frames, plate_rows}
 use Rattle.plate_verify.specs.declared.checked.Checked.{Checked}
 use Rattle.plate_verify.specs.declared.checked.Checked.TheVariants.{Same, Differs, Long}
-use Rattle.plate_verify.specs.Looking.{FailsAt, IfLong, NoneWrong, UnlessLong, shelf_told, told}
+use Rattle.plate_verify.specs.Verifying.{FailsAt, IfLong, NoneWrong, UnlessLong, shelf_told, told}
 use Rattle.plate_verify.specs.Order.{plates_in_order}
 use Rattle.plate_verify.specs.Wrong.{first_wrong}
 use Rattle.cmd_base.specs.declared.refusal.Refusal.{Refusal}
 use Rattle.cmd_base.specs.declared.refusal.Refusal.TheVariants.{Shelf}
 use Rattle.cmd_base.specs.declared.refusal.Stop.{Stop}
 use Rattle.cmd_base.specs.declared.refusal.Stop.TheVariants as stop
-use Rattle.cmd_verify.specs.Check.{Asked, CheckLengths, IsFound, IsLost, Looks, MayFindLong, wrong_of}
+use Rattle.cmd_verify.specs.Check.{Asked, CheckLengths, IsFound, IsLost, Verifies, MayFindLong, wrong_of}
 use Rattle.cmd_base.specs.Job.{IsPrepared}
 use Rattle.cmd_base.specs.Loads.{NoneLong, StopLengths, UnlessLong as UnlessRefused}
 use Rattle.cmd_base.specs.Seen.{Files, ShelfSeen, SinkSeen, shelf_seen}
@@ -26,21 +26,21 @@ use Rattle.cmd_base.proofs.Rows.{over_job}
 -- ---- verifying a job
 
 module _ {H : Type 0} (g : Ghosts H) (a b : H) (own : PlanData) (job : JobData) (left : List (List ℕ)) (out : List ℕ) where
-  pub looks_found : (checked : Checked) → own ≡ job.plan → IsPlan job.plan → left ≡ plate_frames job.plan job.files
+  pub verifies_found : (checked : Checked) → own ≡ job.plan → IsPlan job.plan → left ≡ plate_frames job.plan job.files
       → IfSome (g.held a) (λ held. first_wrong own (map framed_row left) out held ≡ told checked)
       → IfLong checked (Rose (g.longs a) (g.longs b)) → UnlessLong checked (g.longs b ≡ g.longs a)
       → IsFound job out (shelf_seen g a b) checked
-  looks_found checked same is feeds found long short = record {
+  verifies_found checked same is feeds found long short = record {
     first = over_job own job left same is feeds
         (λ plan rows. IfSome (g.held a) (λ held. first_wrong plan rows out held ≡ told checked)) found;
     long = long;
     short = short;
   }
 
-  pub looks_lost : (path : List ℕ) → own ≡ job.plan → IsPlan job.plan → left ≡ plate_frames job.plan job.files
+  pub verifies_lost : (path : List ℕ) → own ≡ job.plan → IsPlan job.plan → left ≡ plate_frames job.plan job.files
       → FailsAt own (map framed_row left) out (plates_in_order own) (shelf_told g a) (shelf_told g b) path
       → (named : List ℕ) × (Shelf path ≡ Shelf named) × IsLost job out (shelf_seen g a b) named
-  looks_lost path same is feeds fails =
+  verifies_lost path same is feeds fails =
       let f : FailsAt job.plan (plate_rows job.plan job.files) out (plates_in_order job.plan) (shelf_told g a) (shelf_told g b) path =
       over_job own job left same is feeds
       (λ plan rows. FailsAt plan rows out (plates_in_order plan) (shelf_told g a) (shelf_told g b) path) fails in (
@@ -99,12 +99,12 @@ module _ {H : Type 0} (g : Ghosts H) (a b c : H) (held : g.held b ≡ g.held a) 
   }
 
   -- the outcome of verifying, over the whole time since before the job was loaded
-  pub looks_behind : (result : Result Checked Stop) → Looks job out (shelf_seen g b c) result
-      → Looks job out (shelf_seen g a c) result
-  looks_behind (Ok checked) found = found_behind checked found
-  looks_behind (Err (stop.Refused refusal)) (path, is, lost) = (path, is, lost_behind path lost)
-  looks_behind (Err stop.Memory) h = h ∙ none
-  looks_behind (Err stop.Printing) h = h
+  pub verifies_behind : (result : Result Checked Stop) → Verifies job out (shelf_seen g b c) result
+      → Verifies job out (shelf_seen g a c) result
+  verifies_behind (Ok checked) found = found_behind checked found
+  verifies_behind (Err (stop.Refused refusal)) (path, is, lost) = (path, is, lost_behind path lost)
+  verifies_behind (Err stop.Memory) h = h ∙ none
+  verifies_behind (Err stop.Printing) h = h
 
 -- ---- files that are too long
 
@@ -133,7 +133,7 @@ stop_lengths asked shelf stop.Memory none = inl none
 stop_lengths asked shelf stop.Printing none = inl none
 
 -- why no result was found
-pub looks_lengths : (job : JobData) (out : List ℕ) (shelf : ShelfSeen) (why : Stop) → Looks job out shelf (Err why)
+pub looks_lengths : (job : JobData) (out : List ℕ) (shelf : ShelfSeen) (why : Stop) → Verifies job out shelf (Err why)
     → StopLengths shelf why
 looks_lengths job out shelf (stop.Refused refusal) (path, is, lost) =
     subst (λ (r : Refusal). UnlessRefused r (NoneLong shelf)) (sym is) lost.longs

@@ -2,7 +2,7 @@
 
 /// A row of one of a site's plates: the index of the plate, its slot, and the row's y from the top.
 #[derive(Clone, Copy, Debug)]
-pub(crate) struct Place {
+pub(crate) struct PlateRow {
     pub(crate) plate: usize,
     pub(crate) slot: usize,
     pub(crate) y: u32,

@@ -3,7 +3,7 @@ use Rattle.std.proofs.lemmas.List.{length-take-le}
 use Rattle.plan_rows.proofs.RowLemmas.{ink_count-within}
 use Rattle.plan_rows.specs.Sides.{plate_sides}
 use Rattle.plate_verify.proofs.GroupLemmas.{on_ok_always, group_fed, group_made, fed_after}
-use Rattle.plate_verify.proofs.group.check_group.Goals as goal
+use Rattle.plate_verify.proofs.group.verify_group.Goals as goal
 
 pub make_plates-requires : goal.make_plates-requires
 make_plates-requires g c =
@@ -15,16 +15,16 @@ make_plates-requires g c =
       high = c.requires.height;
     }
 
-pub returns-clause-looked : goal.returns-clause-looked
-returns-clause-looked g c = λ rows fed.
+pub returns-clause-verified : goal.returns-clause-verified
+returns-clause-verified g c = λ rows fed.
     let few : c.ink_number.result ≤ length c.args.plates.now = omega (arith, c.ink_number.ensures.count, fed.fed.five, ink_count-within c.args.group.now) in
     let whole_ones = c.in_ok-make_plates.ensures.plates (plate_sides c.args.plan.now) (drop c.args.group.now.first rows)
     (group_fed c.args.plan.now rows c.args.group.now c.args.plates.now _ _ c.ink_number.result fed c.ink_number.ensures.count few) c.requires.height in
-    c.look_at_group.ensures rows
+    c.verify_plates.ensures rows
     (group_made c.args.plan.now rows c.args.group.now (length (take c.ink_number.result c.args.plates.now)) c.args.height c.make_plates.new.plates (length-take-le c.ink_number.result c.args.plates.now few ∙ c.ink_number.ensures.count) c.requires.height whole_ones)
 
 pub returns-clause-fed : goal.returns-clause-fed
-returns-clause-fed g c = on_ok_always c.look_at_group.result _ (λ rows fed.
+returns-clause-fed g c = on_ok_always c.verify_plates.result _ (λ rows fed.
     let few : c.ink_number.result ≤ length c.args.plates.now = omega (arith, c.ink_number.ensures.count, fed.fed.five, ink_count-within c.args.group.now) in
     let own = group_fed c.args.plan.now rows c.args.group.now c.args.plates.now _ _ c.ink_number.result fed c.ink_number.ensures.count few in
     fed_after c.args.plan.now rows c.args.group.now c.args.plates.now c.make_plates.new.plates _ _ _ _ c.ink_number.result c.args.height _ fed c.ink_number.ensures.count c.requires.height c.make_plates.auto.plates

@@ -1,9 +1,9 @@
 use Rattle.std.proofs.Common.{List, ℕ, take}
 use Rattle.std.specs.List.{flat_map}
 use Rattle.plan_rows.specs.Inks.{inks_of}
-use Rattle.plate_verify.specs.Looking.{AreRight, AreMade, shelf_told}
+use Rattle.plate_verify.specs.Verifying.{AreRight, AreMade, shelf_told}
 use Rattle.plate_verify.specs.Order.{plate_sites}
-use Rattle.plate_verify.proofs.look.look_at_group.Given as goal
+use Rattle.plate_verify.proofs.inks.verify_plates.Given as goal
 
 abbrev pub invariant-loop-i : goal.invariant-loop-i
 invariant-loop-i g l =

@@ -3,14 +3,14 @@ use Rattle.plate_verify.specs.declared.checked.Checked.TheVariants.{Differs}
 use Rattle.plate_verify.specs.Wrong.{Found, OtherAt}
 use Rattle.pr_ports.specs.Shelf.{IsComparedAt, IsLongerAt, missed_after}
 use Rattle.plan_rows.specs.Plates.{plate_rows}
-use Rattle.plate_verify.specs.Looking.{shelf_told}
-use Rattle.plate_verify.proofs.LookLemmas.{quiet, made_ends, looked_compared, looked_long, looked_failed}
-use Rattle.plate_verify.proofs.look.look_at.Goals as goal
+use Rattle.plate_verify.specs.Verifying.{shelf_told}
+use Rattle.plate_verify.proofs.VerifyLemmas.{quiet, made_ends, verified_compared, verified_long, verified_failed}
+use Rattle.plate_verify.proofs.inks.verify_plate.Goals as goal
 
 pub returns-in-Ok-None : goal.returns-in-Ok-None
 returns-in-Ok-None g c = λ rows made.
     let ends = rw (c.in-Ok-None.field-0-is, c.bytes.ensures) at c.in-Ok-None.ensures in
-    looked_compared c.args.plan.now rows c.args.out.now (c.args.site, (c.args.group.now, c.args.ink)) (shelf_told g.H.Shelf c.args.shelf.now) (shelf_told g.H.Shelf c.compare.new.self)
+    verified_compared c.args.plan.now rows c.args.out.now (c.args.site, (c.args.group.now, c.args.ink)) (shelf_told g.H.Shelf c.args.shelf.now) (shelf_told g.H.Shelf c.compare.new.self)
     c.in_ok-path.path c.args.made.now None None
     c.in_ok-path.ensures
     (subst {A = List ℕ} (λ p. IsComparedAt (g.H.Shelf.held c.args.shelf.now) p 600000000 c.args.made.now.bytes None) c.as_str.ensures ends.compared)
@@ -23,7 +23,7 @@ pub returns-in-Ok-Some : goal.returns-in-Ok-Some
 returns-in-Ok-Some g c = λ rows made.
     let ends = rw (c.in-Ok-Some.field-0-is, c.bytes.ensures) at c.in-Ok-Some.ensures in
     let row = c.row_of.ensures (plate_rows c.args.plan.now rows (c.args.group.now, c.args.ink)) (made_ends c.args.plan.now rows (c.args.group.now, c.args.ink) c.args.made.now made) in
-    looked_compared c.args.plan.now rows c.args.out.now (c.args.site, (c.args.group.now, c.args.ink)) (shelf_told g.H.Shelf c.args.shelf.now) (shelf_told g.H.Shelf c.compare.new.self)
+    verified_compared c.args.plan.now rows c.args.out.now (c.args.site, (c.args.group.now, c.args.ink)) (shelf_told g.H.Shelf c.args.shelf.now) (shelf_told g.H.Shelf c.compare.new.self)
     c.in_ok-path.path c.args.made.now (Some c.in-Ok-Some.at) (Some (Differs c.in_ok-path.path c.in-Ok-Some.at c.row_of.result))
     c.in_ok-path.ensures
     (subst {A = List ℕ} (λ p. IsComparedAt (g.H.Shelf.held c.args.shelf.now) p 600000000 c.args.made.now.bytes (Some c.in-Ok-Some.at)) c.as_str.ensures ends.compared)
@@ -35,7 +35,7 @@ returns-in-Ok-Some g c = λ rows made.
 pub returns-in-Err-Failed : goal.returns-in-Err-Failed
 returns-in-Err-Failed g c = λ rows made.
     let ends = rw c.in-Err-Failed.field-0-is at c.in-Err-Failed.ensures in
-    looked_failed c.args.plan.now rows c.args.out.now (c.args.site, (c.args.group.now, c.args.ink)) (shelf_told g.H.Shelf c.args.shelf.now) (shelf_told g.H.Shelf c.compare.new.self)
+    verified_failed c.args.plan.now rows c.args.out.now (c.args.site, (c.args.group.now, c.args.ink)) (shelf_told g.H.Shelf c.args.shelf.now) (shelf_told g.H.Shelf c.compare.new.self)
     c.in_ok-path.path
     c.in_ok-path.ensures
     (ends.counted refl)
@@ -46,7 +46,7 @@ returns-in-Err-Failed g c = λ rows made.
 pub returns-in-Err-TooLong : goal.returns-in-Err-TooLong
 returns-in-Err-TooLong g c = λ rows made.
     let ends = rw c.in-Err-TooLong.field-0-is at c.in-Err-TooLong.ensures in
-    looked_long c.args.plan.now rows c.args.out.now (c.args.site, (c.args.group.now, c.args.ink)) (shelf_told g.H.Shelf c.args.shelf.now) (shelf_told g.H.Shelf c.compare.new.self)
+    verified_long c.args.plan.now rows c.args.out.now (c.args.site, (c.args.group.now, c.args.ink)) (shelf_told g.H.Shelf c.args.shelf.now) (shelf_told g.H.Shelf c.compare.new.self)
     c.in_ok-path.path
     c.in_ok-path.ensures
     (subst {A = List ℕ} (λ p. IsLongerAt (g.H.Shelf.held c.args.shelf.now) p 600000000) c.as_str.ensures ends.longer)

@@ -2,8 +2,8 @@
 ghost use Rattle.std.specs.Prelude.{◌≡◌, ◌<◌, ◌≤◌, ◌∷◌, [], ℕ, List, Some, length, option_map, slice_get};
 ghost use Rattle.plate_bytes.specs.Places.{row_ends, row_holding};
 ghost use Rattle.pr_ports.specs.Difference.{difference_of};
-ghost use Rattle.plate_verify.specs.Looking.{AreMade, IsMade, Looked, group_sites, plates_at, shelf_told};
-ghost use Rattle.plate_verify.specs.Looking.{told};
+ghost use Rattle.plate_verify.specs.Verifying.{AreMade, IsMade, Verified, group_sites, plates_at, shelf_told};
+ghost use Rattle.plate_verify.specs.Verifying.{told};
 ghost use Rattle.plan_rows.specs.Inks.{ink_count, inks_of};
 ghost use Rattle.plate_verify.specs.Order.{plate_sites};
 ghost use Rattle.plate_verify.specs.Wrong.{OtherAt};
@@ -20,7 +20,7 @@ use std::alloc::Global;
 const MOST_BYTES: u64 = 600_000_000;
 
 /// Compares the plate of a site with the one that was made.
-fn look_at<H: Shelf>(
+fn verify_plate<H: Shelf>(
     alloc: Global,
     plan: &Plan,
     out: &str,
@@ -33,7 +33,7 @@ fn look_at<H: Shelf>(
     requires site { site < length plan.now.sites }
     requires section { group.now.section < length plan.now.sections }
     ensures { (rows : List (List ℕ)) → IsMade plan.now rows (group.now, ink) made.now →
-        Looked plan.now rows out.now ((site, (group.now, ink)) ∷ [])
+        Verified plan.now rows out.now ((site, (group.now, ink)) ∷ [])
         (shelf_told H.Shelf shelf.old) (shelf_told H.Shelf shelf.new) result }
 {
     let path = plate_path(alloc, plan, out, site, group, ink)?;
@@ -51,7 +51,7 @@ fn look_at<H: Shelf>(
 }
 
 /// Verifies a plate at a site, if the site has it.
-fn look_at_site<H: Shelf>(
+fn verify_at_site<H: Shelf>(
     alloc: Global,
     plan: &Plan,
     out: &str,
@@ -65,17 +65,17 @@ fn look_at_site<H: Shelf>(
     requires few { site < 16 }
     requires section { group.now.section < length plan.now.sections }
     ensures { (rows : List (List ℕ)) → IsMade plan.now rows (group.now, ink) made.now →
-        Looked plan.now rows out.now (plates_at (group.now, ink) site)
+        Verified plan.now rows out.now (plates_at (group.now, ink) site)
         (shelf_told H.Shelf shelf.old) (shelf_told H.Shelf shelf.new) result }
 {
     if !group.has_site(site) {
         return Ok(None);
     }
-    look_at(alloc, plan, out, group, ink, site, made, shelf)
+    verify_plate(alloc, plan, out, group, ink, site, made, shelf)
 }
 
 /// Verifies a plate at each site that has it.
-fn look_at_sites<H: Shelf>(
+fn verify_at_sites<H: Shelf>(
     alloc: Global,
     plan: &Plan,
     out: &str,
@@ -86,11 +86,11 @@ fn look_at_sites<H: Shelf>(
 ) -> Result<Option<Checked>, VerifyFault>
     requires { group.now.section < length plan.now.sections }
     ensures { (rows : List (List ℕ)) → IsMade plan.now rows (group.now, ink) made.now →
-        Looked plan.now rows out.now (plate_sites plan.now (group.now, ink))
+        Verified plan.now rows out.now (plate_sites plan.now (group.now, ink))
         (shelf_told H.Shelf shelf.old) (shelf_told H.Shelf shelf.new) result }
 {
     for site in 0..plan.site_count() {
-        match look_at_site(alloc, plan, out, group, ink, site, made, shelf) {
+        match verify_at_site(alloc, plan, out, group, ink, site, made, shelf) {
             Ok(None) => {}
             Ok(Some(found)) => return Ok(Some(found)),
             Err(fault) => return Err(fault),
@@ -100,7 +100,7 @@ fn look_at_sites<H: Shelf>(
 }
 
 /// Looks at the plates of a group, ink by ink, each at all its sites before the next.
-pub(crate) fn look_at_group<H: Shelf>(
+pub(crate) fn verify_plates<H: Shelf>(
     alloc: Global,
     plan: &Plan,
     out: &str,
@@ -111,12 +111,12 @@ pub(crate) fn look_at_group<H: Shelf>(
     requires section { group.now.section < length plan.now.sections }
     requires made { ink_count group.now ≤ length made.now }
     ensures { (rows : List (List ℕ)) → AreMade plan.now rows group.now made.now →
-        Looked plan.now rows out.now (group_sites plan.now group.now)
+        Verified plan.now rows out.now (group_sites plan.now group.now)
         (shelf_told H.Shelf shelf.old) (shelf_told H.Shelf shelf.new) result }
 {
     for i in 0..ink_number(group) {
         let ink = ink_at(group, i);
-        match look_at_sites(alloc, plan, out, group, ink, plate_at(made, i), shelf) {
+        match verify_at_sites(alloc, plan, out, group, ink, plate_at(made, i), shelf) {
             Ok(None) => {}
             Ok(Some(found)) => return Ok(Some(found)),
             Err(fault) => return Err(fault),

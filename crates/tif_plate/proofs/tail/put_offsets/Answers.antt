@@ -2,7 +2,7 @@ use Rattle.std.proofs.Common.{arith}
 use Rattle.tif_plate.specs.Tail.{begin_of}
 use Rattle.tif_plate.proofs.Puts.{Puts-number}
 use Rattle.tif_plate.proofs.Cuts.{sum-take_more}
-use Rattle.tif_plate.proofs.tail.put_places.Goals as goal
+use Rattle.tif_plate.proofs.tail.put_offsets.Goals as goal
 
 pub loop-count-preserved : goal.loop-count-preserved
 loop-count-preserved c = record {

@@ -3,7 +3,7 @@ use Rattle.std.specs.List.{flat_map, range_with_len}
 use Rattle.byteorder.specs.Endian.{little_bytes}
 use Rattle.tif_plate.specs.Put.{Puts}
 use Rattle.tif_plate.specs.Tail.{begin_of}
-use Rattle.tif_plate.proofs.tail.put_places.Given as goal
+use Rattle.tif_plate.proofs.tail.put_offsets.Given as goal
 
 abbrev pub invariant-loop-count : goal.invariant-loop-count
 invariant-loop-count l = record {

@@ -1,7 +1,7 @@
 use Rattle.std.proofs.Common.{List, ℕ, length, take}
 use Rattle.std.specs.List.{flat_map, range_with_len}
-use Rattle.plate_verify.specs.Looking.{AreRight, IsMade, plates_at, shelf_told}
-use Rattle.plate_verify.proofs.look.look_at_sites.Given as goal
+use Rattle.plate_verify.specs.Verifying.{AreRight, IsMade, plates_at, shelf_told}
+use Rattle.plate_verify.proofs.inks.verify_at_sites.Given as goal
 
 abbrev pub invariant-loop-site : goal.invariant-loop-site
 invariant-loop-site g l =

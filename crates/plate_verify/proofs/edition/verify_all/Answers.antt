@@ -6,12 +6,12 @@ use Rattle.tif_plate.specs.declared.sides.Sides.{Sides}
 use Rattle.plate_bytes.specs.Made.{PlateState}
 use Rattle.plate_verify.specs.declared.checked.Checked.{Checked}
 use Rattle.plate_verify.specs.declared.checked.VerifyFault.{VerifyFault}
-use Rattle.plate_verify.specs.Looking.{AfterAll, shelf_told}
+use Rattle.plate_verify.specs.Verifying.{AfterAll, shelf_told}
 use Rattle.plate_verify.specs.Making.{HaveSides}
 use Rattle.plate_verify.specs.Verify.{FedFrom}
 use Rattle.plan_rows.specs.Sides.{plate_sides}
 use Rattle.plate_verify.proofs.CountLemmas.{after_all}
-use Rattle.plate_verify.proofs.edition.check_all.Goals as goal
+use Rattle.plate_verify.proofs.edition.verify_all.Goals as goal
 
 pub returns : goal.returns
 returns g c =
@@ -25,6 +25,6 @@ returns g c =
       small = c.requires.frames.small;
       frame = ap length c.deref_mut-2.ensures.value ∙ c.in_ok-frame.ensures ∙ ap {A = Sides} (λ s. frame_size (row_size s.width)) sides;
     } in
-    subst {A = Result Checked VerifyFault} (λ r. AfterAll c.args.plan.now rows c.args.out.now (shelf_told g.H.Shelf c.args.shelf.now) (shelf_told g.H.Shelf c.check_groups-looked.new.shelf) r) (sym c.answer.ensures)
-    (after_all c.args.plan.now rows c.args.out.now (shelf_told g.H.Shelf c.args.shelf.now) (shelf_told g.H.Shelf c.check_groups-looked.new.shelf) c.check_groups-looked.result
-    (c.check_groups-looked.ensures rows fed (length-map (g.F.RowFeed.left c.args.feed.now) framed_row ∙ c.requires.total)))
+    subst {A = Result Checked VerifyFault} (λ r. AfterAll c.args.plan.now rows c.args.out.now (shelf_told g.H.Shelf c.args.shelf.now) (shelf_told g.H.Shelf c.verify_groups-verified.new.shelf) r) (sym c.answer.ensures)
+    (after_all c.args.plan.now rows c.args.out.now (shelf_told g.H.Shelf c.args.shelf.now) (shelf_told g.H.Shelf c.verify_groups-verified.new.shelf) c.verify_groups-verified.result
+    (c.verify_groups-verified.ensures rows fed (length-map (g.F.RowFeed.left c.args.feed.now) framed_row ∙ c.requires.total)))

@@ -18,7 +18,7 @@ use Rattle.plate_verify.specs.declared.checked.VerifyFault.TheVariants.{Shelf, M
 use Rattle.pr_ports.specs.Difference.{difference_of}
 use Rattle.plate_verify.specs.Order.{SitePlate}
 use Rattle.plate_verify.specs.Wrong.{Found, OtherAt, TooMany, wrong_with, wrong_at}
-use Rattle.plate_verify.specs.Looking.{told, IfLong, UnlessLong, ShelfTold, Stays, IsQuiet, NoneWrong, path_at, AreRight, FindsWrong, FailsAt, Looked, IsMade}
+use Rattle.plate_verify.specs.Verifying.{told, IfLong, UnlessLong, ShelfTold, Stays, IsQuiet, NoneWrong, path_at, AreRight, FindsWrong, FailsAt, Verified, IsMade}
 
 -- ---- one load
 
@@ -71,11 +71,11 @@ unless_long (Differs p at row) P h = h
 unless_long (Long p) P h = tt
 
 -- the plate was compared
-pub looked_compared : (plan : PlanData) (rows : List (List ℕ)) (out : List ℕ) (at : SitePlate) (old new : ShelfTold) (path : List ℕ) (made : PlateState) (apart : Option ℕ) (found : Option Checked)
+pub verified_compared : (plan : PlanData) (rows : List (List ℕ)) (out : List ℕ) (at : SitePlate) (old new : ShelfTold) (path : List ℕ) (made : PlateState) (apart : Option ℕ) (found : Option Checked)
     → path ≡ path_at plan out at → IsComparedAt old.held path 600000000 made.bytes apart → IsQuiet old new → new.longs ≡ old.longs → IsMade plan rows at.1 made
     → option_map told found ≡ option_map (λ k. OtherAt path k (row_holding (plate_rows plan rows at.1) k)) apart
-    → Looked plan rows out (at ∷ []) old new (Ok found)
-looked_compared plan rows out at old new path made apart found named compared still longs is found_is = by_found found found_is
+    → Verified plan rows out (at ∷ []) old new (Ok found)
+verified_compared plan rows out at old new path made apart found named compared still longs is found_is = by_found found found_is
   where
     tell : ℕ → Found
     tell k = OtherAt path k (row_holding (plate_rows plan rows at.1) k)
@@ -90,7 +90,7 @@ looked_compared plan rows out at old new path made apart found named compared st
         ∙ ap {A = List ℕ} (λ p. option_map (λ k. OtherAt p k (row_holding (plate_rows plan rows at.1) k)) (difference_of made.bytes file)) (sym named)
         ∙ ap (option_map tell) (sym held.1)
 
-    by_found : (found : Option Checked) → option_map told found ≡ option_map tell apart → Looked plan rows out (at ∷ []) old new (Ok found)
+    by_found : (found : Option Checked) → option_map told found ≡ option_map tell apart → Verified plan rows out (at ∷ []) old new (Ok found)
     by_found None e = record {
       quiet = still;
       longs = longs;
@@ -106,10 +106,10 @@ looked_compared plan rows out at old new path made apart found named compared st
     }
 
 -- there were too many bytes
-pub looked_long : (plan : PlanData) (rows : List (List ℕ)) (out : List ℕ) (at : SitePlate) (old new : ShelfTold) (path : List ℕ)
+pub verified_long : (plan : PlanData) (rows : List (List ℕ)) (out : List ℕ) (at : SitePlate) (old new : ShelfTold) (path : List ℕ)
     → path ≡ path_at plan out at → IsLongerAt old.held path 600000000 → Rose old.longs new.longs → IsQuiet old new → FindsWrong plan rows out (at ∷ []) old new (Long path)
 unfolding wrong_at
-looked_long plan rows out at old new path named longer rose still = record {
+verified_long plan rows out at old new path named longer rose still = record {
   quiet = still;
   first = if_held old.held (λ files. IsSomeAnd (held_at files path) (λ bytes. 600000000 < length bytes)) (λ files. slice_get (filter_map (wrong_at plan rows out files) (at ∷ [])) 0 ≡ Some (TooMany path)) longer
       (λ files there. ap (λ (o : Option Found). slice_get (cons_option o []) 0) (wrong files (held_at files path) refl there));
@@ -127,9 +127,9 @@ looked_long plan rows out at old new path named longer rose still = record {
         ∙ ap {A = List ℕ} {B = Option Found} (λ p. Some (TooMany p)) (sym named)
 
 -- the load failed
-pub looked_failed : (plan : PlanData) (rows : List (List ℕ)) (out : List ℕ) (at : SitePlate) (old new : ShelfTold) (path : List ℕ)
+pub verified_failed : (plan : PlanData) (rows : List (List ℕ)) (out : List ℕ) (at : SitePlate) (old new : ShelfTold) (path : List ℕ)
     → path ≡ path_at plan out at → Rose old.faults new.faults → new.missed ≡ missed_after true path old.missed → Stays old new → new.longs ≡ old.longs → FailsAt plan rows out (at ∷ []) old new path
-looked_failed plan rows out at old new path named rose missed stays longs = record {
+verified_failed plan rows out at old new path named rose missed stays longs = record {
   stays = stays;
   longs = longs;
   counted = rose;
@@ -173,14 +173,14 @@ none-then plan rows out held xs ys p q =
     (λ files a b. filter_map-append (wrong_at plan rows out files) xs ys ∙ ap (λ l. l ++ filter_map (wrong_at plan rows out files) ys) a ∙ b)
 
 -- after plates that match
-pub then_looked : (plan : PlanData) (rows : List (List ℕ)) (out : List ℕ) (xs ys : List SitePlate) (a b c : ShelfTold) (r : Result (Option Checked) VerifyFault)
-    → AreRight plan rows out xs a b → Looked plan rows out ys b c r → Looked plan rows out (xs ++ ys) a c r
-then_looked plan rows out xs ys a b c (Ok None) p q = record {
+pub then_verified : (plan : PlanData) (rows : List (List ℕ)) (out : List ℕ) (xs ys : List SitePlate) (a b c : ShelfTold) (r : Result (Option Checked) VerifyFault)
+    → AreRight plan rows out xs a b → Verified plan rows out ys b c r → Verified plan rows out (xs ++ ys) a c r
+then_verified plan rows out xs ys a b c (Ok None) p q = record {
   quiet = quiet-then a b c p.quiet q.quiet;
   longs = q.longs ∙ p.longs;
   right = none-then plan rows out a.held xs ys p.right (subst {A = Option (List (List ℕ × List ℕ))} (λ h. NoneWrong plan rows out h ys) p.quiet.stays.held q.right);
 }
-then_looked plan rows out xs ys a b c (Ok (Some found)) p q = record {
+then_verified plan rows out xs ys a b c (Ok (Some found)) p q = record {
   quiet = quiet-then a b c p.quiet q.quiet;
   first = both_held a.held (λ files. filter_map (wrong_at plan rows out files) xs ≡ []) (λ files. slice_get (filter_map (wrong_at plan rows out files) ys) 0 ≡ Some (told found))
       (λ files. slice_get (filter_map (wrong_at plan rows out files) (xs ++ ys)) 0 ≡ Some (told found)) p.right
@@ -199,7 +199,7 @@ then_looked plan rows out xs ys a b c (Ok (Some found)) p q = record {
     long_later (Same n) h = tt
     long_later (Differs path at row) h = tt
     long_later (Long path) h = rose-later a.longs b.longs c.longs p.quiet.stays.longs h
-then_looked plan rows out xs ys a b c (Err (Shelf path)) p q = record {
+then_verified plan rows out xs ys a b c (Err (Shelf path)) p q = record {
   stays = stays-then a b c p.quiet.stays q.stays;
   longs = q.longs ∙ p.longs;
   counted = rose-later a.faults b.faults c.faults p.quiet.stays.faults q.counted;
@@ -211,7 +211,7 @@ then_looked plan rows out xs ys a b c (Err (Shelf path)) p q = record {
   named = q.named;
   right = none-then plan rows out a.held xs q.before p.right (subst {A = Option (List (List ℕ × List ℕ))} (λ h. NoneWrong plan rows out h q.before) p.quiet.stays.held q.right);
 }
-then_looked plan rows out xs ys a b c (Err Memory) p (q, longs) = (quiet-then a b c p.quiet q, longs ∙ p.longs)
+then_verified plan rows out xs ys a b c (Err Memory) p (q, longs) = (quiet-then a b c p.quiet q, longs ∙ p.longs)
 
 -- a result at which verifying stops
 abbrev pub IsStopped : Result (Option Checked) VerifyFault → Type 0
@@ -220,10 +220,10 @@ IsStopped (Ok (Some found)) = Unit {0}
 IsStopped (Err fault) = Unit {0}
 
 -- the later plates were not checked
-pub looked_before : (plan : PlanData) (rows : List (List ℕ)) (out : List ℕ) (xs ys : List SitePlate) (a b : ShelfTold) (r : Result (Option Checked) VerifyFault)
-    → Looked plan rows out xs a b r → IsStopped r → Looked plan rows out (xs ++ ys) a b r
-looked_before plan rows out xs ys a b (Ok None) p s = absurd s
-looked_before plan rows out xs ys a b (Ok (Some found)) p s = record {
+pub verified_before : (plan : PlanData) (rows : List (List ℕ)) (out : List ℕ) (xs ys : List SitePlate) (a b : ShelfTold) (r : Result (Option Checked) VerifyFault)
+    → Verified plan rows out xs a b r → IsStopped r → Verified plan rows out (xs ++ ys) a b r
+verified_before plan rows out xs ys a b (Ok None) p s = absurd s
+verified_before plan rows out xs ys a b (Ok (Some found)) p s = record {
   quiet = p.quiet;
   first = if_held a.held (λ files. slice_get (filter_map (wrong_at plan rows out files) xs) 0 ≡ Some (told found)) (λ files. slice_get (filter_map (wrong_at plan rows out files) (xs ++ ys)) 0 ≡ Some (told found)) p.first
       (λ files first. ap (λ l. slice_get l 0) (filter_map-append (wrong_at plan rows out files) xs ys) ∙ front (filter_map (wrong_at plan rows out files) xs) (filter_map (wrong_at plan rows out files) ys) (told found) first);
@@ -234,7 +234,7 @@ looked_before plan rows out xs ys a b (Ok (Some found)) p s = record {
     front : (xs ys : List Found) (x : Found) → slice_get xs 0 ≡ Some x → slice_get (xs ++ ys) 0 ≡ Some x
     front [] ys x e = cc
     front (y ∷ xs) ys x e = e
-looked_before plan rows out xs ys a b (Err (Shelf path)) p s = record {
+verified_before plan rows out xs ys a b (Err (Shelf path)) p s = record {
   stays = p.stays;
   longs = p.longs;
   counted = p.counted;
@@ -246,12 +246,12 @@ looked_before plan rows out xs ys a b (Err (Shelf path)) p s = record {
   named = p.named;
   right = p.right;
 }
-looked_before plan rows out xs ys a b (Err Memory) p s = p
+verified_before plan rows out xs ys a b (Err Memory) p s = p
 
 -- ---- a loop over parts that have plates
 
-pub none_looked : (plan : PlanData) (rows : List (List ℕ)) (out : List ℕ) (told' : ShelfTold) → AreRight plan rows out [] told' told'
-none_looked plan rows out s = record { quiet = record { stays = record { held = refl; faults = omega arith; longs = omega arith }; missed = refl; faults = refl }; longs = refl; right = nothing s.held }
+pub none_verified : (plan : PlanData) (rows : List (List ℕ)) (out : List ℕ) (told' : ShelfTold) → AreRight plan rows out [] told' told'
+none_verified plan rows out s = record { quiet = record { stays = record { held = refl; faults = omega arith; longs = omega arith }; missed = refl; faults = refl }; longs = refl; right = nothing s.held }
   where
     nothing : (held : Option (List (List ℕ × List ℕ))) → NoneWrong plan rows out held []
     nothing None = tt
@@ -262,19 +262,19 @@ pieces-more f xs i x below is =
     ap (flat_map f) (take_more xs i x below) ∙ flat_map-append f (take i xs) (get_or xs i x ∷ []) ∙ ap (λ l. flat_map f (take i xs) ++ l) (append-nil (f (get_or xs i x)))
     ∙ ap (λ y. flat_map f (take i xs) ++ f y) (sym is)
 
-pub looked_more : {X : Type 0} (plan : PlanData) (rows : List (List ℕ)) (out : List ℕ) (f : X → List SitePlate) (xs : List X) (i : ℕ) (x : X) (a b c : ShelfTold) → i < length xs → x ≡ get_or xs i x
+pub verified_more : {X : Type 0} (plan : PlanData) (rows : List (List ℕ)) (out : List ℕ) (f : X → List SitePlate) (xs : List X) (i : ℕ) (x : X) (a b c : ShelfTold) → i < length xs → x ≡ get_or xs i x
     → AreRight plan rows out (flat_map f (take i xs)) a b → AreRight plan rows out (f x) b c → AreRight plan rows out (flat_map f (take (i + 1) xs)) a c
-looked_more plan rows out f xs i x a b c below is p q =
-    subst {A = List SitePlate} (λ l. AreRight plan rows out l a c) (sym (pieces-more f xs i x below is)) (then_looked plan rows out (flat_map f (take i xs)) (f x) a b c (Ok None) p q)
+verified_more plan rows out f xs i x a b c below is p q =
+    subst {A = List SitePlate} (λ l. AreRight plan rows out l a c) (sym (pieces-more f xs i x below is)) (then_verified plan rows out (flat_map f (take i xs)) (f x) a b c (Ok None) p q)
 
-pub looked_stops : {X : Type 0} (plan : PlanData) (rows : List (List ℕ)) (out : List ℕ) (f : X → List SitePlate) (xs : List X) (i : ℕ) (x : X) (a b c : ShelfTold) (r : Result (Option Checked) VerifyFault)
-    → i < length xs → x ≡ get_or xs i x → AreRight plan rows out (flat_map f (take i xs)) a b → Looked plan rows out (f x) b c r → IsStopped r → Looked plan rows out (flat_map f xs) a c r
-looked_stops plan rows out f xs i x a b c r below is p q s =
+pub verified_stops : {X : Type 0} (plan : PlanData) (rows : List (List ℕ)) (out : List ℕ) (f : X → List SitePlate) (xs : List X) (i : ℕ) (x : X) (a b c : ShelfTold) (r : Result (Option Checked) VerifyFault)
+    → i < length xs → x ≡ get_or xs i x → AreRight plan rows out (flat_map f (take i xs)) a b → Verified plan rows out (f x) b c r → IsStopped r → Verified plan rows out (flat_map f xs) a c r
+verified_stops plan rows out f xs i x a b c r below is p q s =
     let whole_list : flat_map f xs ≡ (flat_map f (take i xs) ++ f x) ++ flat_map f (drop (i + 1) xs) =
     ap (flat_map f) (sym (take-append-drop (i + 1) xs)) ∙ flat_map-append f (take (i + 1) xs) (drop (i + 1) xs) ∙ ap (λ l. l ++ flat_map f (drop (i + 1) xs)) (pieces-more f xs i x below is) in
-    subst {A = List SitePlate} (λ l. Looked plan rows out l a c r) (sym whole_list)
-    (looked_before plan rows out (flat_map f (take i xs) ++ f x) (flat_map f (drop (i + 1) xs)) a c r (then_looked plan rows out (flat_map f (take i xs)) (f x) a b c r p q) s)
+    subst {A = List SitePlate} (λ l. Verified plan rows out l a c r) (sym whole_list)
+    (verified_before plan rows out (flat_map f (take i xs) ++ f x) (flat_map f (drop (i + 1) xs)) a c r (then_verified plan rows out (flat_map f (take i xs)) (f x) a b c r p q) s)
 
-pub looked_all : {X : Type 0} (plan : PlanData) (rows : List (List ℕ)) (out : List ℕ) (f : X → List SitePlate) (xs : List X) (i : ℕ) (a b : ShelfTold) → length xs ≤ i
+pub verified_all : {X : Type 0} (plan : PlanData) (rows : List (List ℕ)) (out : List ℕ) (f : X → List SitePlate) (xs : List X) (i : ℕ) (a b : ShelfTold) → length xs ≤ i
     → AreRight plan rows out (flat_map f (take i xs)) a b → AreRight plan rows out (flat_map f xs) a b
-looked_all plan rows out f xs i a b past p = subst {A = List SitePlate} (λ l. AreRight plan rows out l a b) (ap (flat_map f) (take_all i xs past)) p
+verified_all plan rows out f xs i a b past p = subst {A = List SitePlate} (λ l. AreRight plan rows out l a b) (ap (flat_map f) (take_all i xs past)) p

@@ -10,7 +10,7 @@ use pr_base::PathText;
 
 /// The values of a plan's first keys; lengths are in pixels.
 #[derive(Drop)]
-pub(crate) struct Front {
+pub(crate) struct FirstKeys {
     pub(crate) edition: PathText,
     pub(crate) dpi: u32,
     pub(crate) page_width: u32,
@@ -80,7 +80,7 @@ fn fits_plate(margins: &[u32; 4], page_width: u32, page_height: u32, gutter: u32
 
 /// Reads the first keys. The plate's sides are checked once the gutter is known.
 #[tactic(auto, unfolding(crate::specs::PlanOf::front))]
-pub(crate) fn front_in(o: &Object<'_>) -> Result<Front, PlanFault>
+pub(crate) fn first_keys_in(o: &Object<'_>) -> Result<FirstKeys, PlanFault>
     ensures value { Gives (λ f. f) result (inside o.now spec.front) }
     ensures width { IfOk result (λ f. width_over f.margins f.page_width f.gutter ≤ 65535) }
     ensures height { IfOk result (λ f. height_over f.margins f.page_height ≤ 65535) }
@@ -94,7 +94,7 @@ pub(crate) fn front_in(o: &Object<'_>) -> Result<Front, PlanFault>
         return Err(PlanFault::Range(o.path_to("page")?));
     }
     let limit = o.optional("limit", 1020, &Number(0, 1020))? as u16;
-    Ok(Front {
+    Ok(FirstKeys {
         edition,
         dpi,
         page_width: page.0,
@@ -105,7 +105,7 @@ pub(crate) fn front_in(o: &Object<'_>) -> Result<Front, PlanFault>
     })
 }
 
-impl Front {
+impl FirstKeys {
     /// Returns the width of a plate in pixels.
     pub(crate) fn plate_width(&self) -> u32
         requires { width_over self.now.margins self.now.page_width self.now.gutter ≤ 65535 }
