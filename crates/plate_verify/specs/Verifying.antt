@@ -126,7 +126,7 @@ pub record AreMade (plan : PlanData) (rows : List (List ℕ)) (group : Group)
       → slice_get made i ≡ Some plate → IsMade plan rows (group, ink) plate
 
 -- the outcome of verifying all plates
-pub record Verified (plan : PlanData) (rows : List (List ℕ)) (out : List ℕ) (old new : ShelfTold)
+pub record AllVerified (plan : PlanData) (rows : List (List ℕ)) (out : List ℕ) (old new : ShelfTold)
     (checked : Checked) : Type 0 where
   pub quiet : IsQuiet old new
   pub first : IfSome old.held (λ files. first_wrong plan rows out files ≡ told checked)
@@ -135,6 +135,6 @@ pub record Verified (plan : PlanData) (rows : List (List ℕ)) (out : List ℕ) 
 
 abbrev pub AfterAll : PlanData → List (List ℕ) → List ℕ → ShelfTold → ShelfTold
     → Result Checked VerifyFault → Type 0
-AfterAll plan rows out old new (Ok checked) = Verified plan rows out old new checked
+AfterAll plan rows out old new (Ok checked) = AllVerified plan rows out old new checked
 AfterAll plan rows out old new (Err (Shelf path)) = FailsAt plan rows out (plates_in_order plan) old new path
 AfterAll plan rows out old new (Err Memory) = IsQuiet old new × (new.longs ≡ old.longs)
