@@ -1,6 +1,7 @@
 // Error diffusion: worked rows, and a page whose bits come from another program.
-ghost use Rattle.std.specs.Prelude.{◌≡◌, ◌≤◌, length};
+ghost use Rattle.std.specs.Prelude.{◌≡◌, ◌≤◌};
 
+use crate::blocks::advance;
 use scr_diffuse::{BlockDiffuser, Diffuser};
 use std::process::Abort;
 
@@ -87,17 +88,12 @@ fn seeded_page_in_blocks(rt: HostRuntime) {
 /// Asserts that the next eight rows of the generator, from this seed on, give the bits of the page from row
 /// `first` on. Returns the next seed.
 fn assert_block(rt: &impl Abort, diffuser: &mut BlockDiffuser, seed: u32, first: usize) -> u32
-    requires width { diffuser.old.front.width ≡ 61 }
-    requires eight { length diffuser.old.held ≡ 8 }
+    requires width { diffuser.old.width ≡ 61 }
     requires first { first ≤ 16 }
-    ensures width { diffuser.new.front.width ≡ 61 }
-    ensures eight { length diffuser.new.held ≡ 8 }
+    ensures { diffuser.new.width ≡ 61 }
 {
     let (rows, seed) = seeded_block(seed);
-    for k in 0..8 {
-        diffuser.put(k, &rows[k]);
-    }
-    diffuser.advance();
+    advance(diffuser, &rows, 61);
     for k in 0..8 {
         if first + k < SEEDED.len() {
             let mut bits = [0; 8];
@@ -170,16 +166,11 @@ fn one_column_in_a_block(rt: HostRuntime) {
 }
 
 fn assert_column(rt: &impl Abort, diffuser: &mut BlockDiffuser)
-    requires width { diffuser.old.front.width ≡ 1 }
-    requires eight { length diffuser.old.held ≡ 8 }
-    ensures width { diffuser.new.front.width ≡ 1 }
-    ensures eight { length diffuser.new.held ≡ 8 }
+    requires { diffuser.old.width ≡ 1 }
+    ensures { diffuser.new.width ≡ 1 }
 {
-    let values = [200, 100, 50, 25, 180, 90, 128, 127];
-    for k in 0..8 {
-        diffuser.put(k, &[values[k]]);
-    }
-    diffuser.advance();
+    let rows = [[200], [100], [50], [25], [180], [90], [128], [127]];
+    advance(diffuser, &rows, 1);
     let mut bits = [0];
     for k in 0..8 {
         diffuser.draw(k as usize, &mut bits, k);

@@ -2,9 +2,9 @@
 #![tactic(auto)]
 
 #[cfg(test)]
-mod diffusion;
+mod blocks;
 #[cfg(test)]
-mod lanes;
+mod diffusion;
 #[cfg(test)]
 mod layers;
 #[cfg(test)]

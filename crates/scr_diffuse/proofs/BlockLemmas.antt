@@ -1,11 +1,9 @@
 -- The errors and pixels of a block of eight rows are the defined ones.
-use Rattle.std.proofs.Common.{All, ◌≡◌, ℕ, zero, suc, ◌+◌, ◌-◌, ◌*◌, ◌<◌, ℤ, pos, List, [], ◌∷◌, ◌++◌, length, take, drop, get_or, refl, ap, sym, subst, ◌∙◌, arith, add-one, add-zero, add-suc}
+use Rattle.std.proofs.Common.{◌≡◌, ℕ, zero, suc, ◌+◌, ◌-◌, ◌*◌, ◌<◌, ℤ, pos, List, [], ◌++◌, length, take, drop, get_or, refl, ap, sym, subst, ◌∙◌, arith, add-one, add-zero, add-suc}
 use Rattle.std.proofs.Math.Path.{fun_ext}
 use Rattle.std.proofs.lemmas.List.{get_or_append_left, get_or-append-add, length-append}
-use Rattle.std.proofs.lemmas.List.Elements.{All-get_or}
-use Rattle.scr_diffuse.specs.Block.{HoldsBelow, HoldsBlock, block_left, block_v, left_in}
+use Rattle.scr_diffuse.specs.Block.{HoldsBelow, HoldsBlock, bit_of, block_left, block_v, left_in}
 use Rattle.scr_diffuse.specs.Diffuser.{joined}
-use Rattle.scr_diffuse.specs.Diffusers.{bit_of}
 use Rattle.scr_diffuse.specs.Diffusion.{IsError, diffused_bit, error_above, error_left, left_of, prints, v_at, v_below}
 use Rattle.scr_diffuse.specs.Passes.{number_at}
 use Rattle.scr_diffuse.proofs.DiffusionLemmas.{error-margin, error-outside, error_above-more, error_above-same, none-small, v_at-is}
@@ -115,14 +113,11 @@ below_next page rows width errors new holds eight long same made small =
       right = λ x behind. made x ∙ block-behind (left_in errors) rows 7 (x - 21) (omega arith);
     }
 
-pub block_at_start : (rows held : List (List ℕ)) (width : ℕ) (errors : List ℤ) (dots columns : List ℕ)
-    → rows ≡ [] → length held ≡ 8 → All (λ row. length row ≡ width) held → length errors ≡ width + 44
-    → length dots ≡ width + 21 → length columns ≡ 8 * length dots
-    → ((x : ℕ) → number_at errors x ≡ pos 0) → HoldsBlock rows held errors dots columns
-block_at_start rows held width errors dots columns none eight wide room long full zeros = record {
+pub block_at_start : (rows : List (List ℕ)) (width : ℕ) (errors : List ℤ) (dots columns : List ℕ) → rows ≡ []
+    → length errors ≡ width + 44 → length dots ≡ width + 21 → length columns ≡ 8 * length dots
+    → ((x : ℕ) → number_at errors x ≡ pos 0) → HoldsBlock rows errors dots columns
+block_at_start rows width errors dots columns none room long full zeros = record {
   width = width;
-  eight = eight;
-  wide = wide;
   long = long;
   room = full;
   errors_are = below_at_start rows width errors none room zeros;
@@ -130,35 +125,26 @@ block_at_start rows held width errors dots columns none eight wide room long ful
 }
 
 -- after a restart: the errors were lent whole, and come back as 0
-pub block_restarted : (steps : List (List (List ℕ))) (page held : List (List ℕ)) (n : ℕ) (new old : List ℤ)
-    (dots columns : List ℕ) → HoldsBlock page held old dots columns → steps ≡ [] → n ≡ length new
-    → length new ≡ length old
-    → ((x : ℕ) → number_at new x ≡ pos 0)
-    → HoldsBlock (joined steps) held (take n (new ++ drop (length new) old)) dots columns
-block_restarted steps page held n new old dots columns holds none whole same zeros =
-    subst (λ (errors : List ℤ). HoldsBlock (joined steps) held errors dots columns) (sym (lent_whole n new old whole))
-    (block_at_start (joined steps) held holds.width new dots columns (ap joined none) holds.eight holds.wide (same ∙ holds.errors_are.room) holds.long holds.room zeros)
-
--- each of the eight rows to take next has the page's width
-pub held_long : (page held : List (List ℕ)) (errors : List ℤ) (dots columns : List ℕ)
-    → (holds : HoldsBlock page held errors dots columns) → (k : ℕ) → k < 8
-    → length (get_or held k []) ≡ holds.width
-held_long page held errors dots columns holds k within = All-get_or (λ row. length row ≡ holds.width) held k [] (omega (arith, holds.eight)) holds.wide
+pub block_restarted : (steps : List (List (List ℕ))) (page : List (List ℕ)) (n : ℕ) (new old : List ℤ)
+    (dots columns : List ℕ) → HoldsBlock page old dots columns → steps ≡ [] → n ≡ length new
+    → length new ≡ length old → ((x : ℕ) → number_at new x ≡ pos 0)
+    → HoldsBlock (joined steps) (take n (new ++ drop (length new) old)) dots columns
+block_restarted steps page n new old dots columns holds none whole same zeros =
+    subst (λ (errors : List ℤ). HoldsBlock (joined steps) errors dots columns) (sym (lent_whole n new old whole))
+    (block_at_start (joined steps) holds.width new dots columns (ap joined none) (same ∙ holds.errors_are.room) holds.long holds.room zeros)
 
 -- after eight rows were taken
-pub block_held : (page held rows : List (List ℕ)) (errors new : List ℤ) (before dots filled columns : List ℕ)
-    → (holds : HoldsBlock page held errors before filled) → length rows ≡ 8
+block_after : (page rows : List (List ℕ)) (errors new : List ℤ) (before dots filled columns : List ℕ)
+    → (holds : HoldsBlock page errors before filled) → length rows ≡ 8
     → ((k : ℕ) → k < 8 → length (get_or rows k []) ≡ holds.width) → length new ≡ length errors
     → length dots ≡ length before → length columns ≡ length filled
     → ((x : ℕ) → number_at new x ≡ block_left (left_in errors) rows 8 (x - 21))
     → ((x : ℕ) → IsError (number_at new x))
     → ((k x : ℕ) → k < 8 → x < holds.width
     → bit_of (get_or dots (x + 3 * k) 0) k ≡ prints (block_v (left_in errors) rows k x))
-    → HoldsBlock (page ++ rows) held new dots columns
-block_held page held rows errors new before dots filled columns holds eight wide same whole full made small set = record {
+    → HoldsBlock (page ++ rows) new dots columns
+block_after page rows errors new before dots filled columns holds eight wide same whole full made small set = record {
   width = holds.width;
-  eight = holds.eight;
-  wide = holds.wide;
   long = whole ∙ holds.long;
   room = full ∙ holds.room ∙ ap (λ n. 8 * n) (sym whole);
   errors_are = below_next page rows holds.width errors new holds.errors_are eight (wide 7 (omega arith)) same made small;
@@ -168,17 +154,17 @@ block_held page held rows errors new before dots filled columns holds eight wide
 }
 
 -- lists that were lent whole, and come back
-pub block_lent : (rows held : List (List ℕ)) (n m l : ℕ) (new old : List ℤ)
+block_lent : (rows : List (List ℕ)) (n m l : ℕ) (new old : List ℤ)
     (dots before columns filled : List ℕ) → n ≡ length new → m ≡ length dots → l ≡ length columns
-    → HoldsBlock rows held new dots columns
-    → HoldsBlock rows held (take n (new ++ drop (length new) old))
+    → HoldsBlock rows new dots columns
+    → HoldsBlock rows (take n (new ++ drop (length new) old))
     (take m (dots ++ drop (length dots) before)) (take l (columns ++ drop (length columns) filled))
-block_lent rows held n m l new old dots before columns filled whole_new whole_dots whole_columns holds =
+block_lent rows n m l new old dots before columns filled whole_new whole_dots whole_columns holds =
     rw (lent_whole n new old whole_new) (rw (lent_whole m dots before whole_dots) (rw (lent_whole l columns filled whole_columns) holds))
 
 -- both: the lists after eight rows, lent and back
-pub block_next : (page held rows all : List (List ℕ)) (errors new : List ℤ)
-    (before dots filled columns : List ℕ) (n m l : ℕ) → (holds : HoldsBlock page held errors before filled)
+pub block_next : (page rows all : List (List ℕ)) (errors new : List ℤ)
+    (before dots filled columns : List ℕ) (n m l : ℕ) → (holds : HoldsBlock page errors before filled)
     → length rows ≡ 8 → ((k : ℕ) → k < 8 → length (get_or rows k []) ≡ holds.width)
     → length new ≡ length errors → length dots ≡ length before → length columns ≡ length filled
     → ((x : ℕ) → number_at new x ≡ block_left (left_in errors) rows 8 (x - 21))
@@ -186,30 +172,9 @@ pub block_next : (page held rows all : List (List ℕ)) (errors new : List ℤ)
     → ((k x : ℕ) → k < 8 → x < holds.width
     → bit_of (get_or dots (x + 3 * k) 0) k ≡ prints (block_v (left_in errors) rows k x)) → n ≡ length errors
     → m ≡ length before → l ≡ length filled → all ≡ page ++ rows
-    → HoldsBlock all held (take n (new ++ drop (length new) errors))
+    → HoldsBlock all (take n (new ++ drop (length new) errors))
     (take m (dots ++ drop (length dots) before)) (take l (columns ++ drop (length columns) filled))
-block_next page held rows all errors new before dots filled columns n m l holds eight wide same whole full made small set n_is m_is l_is all_is =
-    block_lent all held n m l new errors dots before columns filled (n_is ∙ sym same) (m_is ∙ sym whole) (l_is ∙ sym full)
-    (subst (λ (lists : List (List ℕ)). HoldsBlock lists held new dots columns) (sym all_is)
-    (block_held page held rows errors new before dots filled columns holds eight wide same whole full made small set))
-
--- eight rows, one by one
-pub eight_rows : (rows : List (List ℕ)) → length rows ≡ 8
-    → get_or rows 0 [] ∷ get_or rows 1 [] ∷ get_or rows 2 [] ∷ get_or rows 3 [] ∷ get_or rows 4 []
-    ∷ get_or rows 5 [] ∷ get_or rows 6 [] ∷ get_or rows 7 [] ∷ [] ≡ rows
-eight_rows [] long = absurd (omega arith)
-eight_rows (a ∷ []) long = absurd (omega arith)
-eight_rows (a ∷ b ∷ []) long = absurd (omega arith)
-eight_rows (a ∷ b ∷ c ∷ []) long = absurd (omega arith)
-eight_rows (a ∷ b ∷ c ∷ d ∷ []) long = absurd (omega arith)
-eight_rows (a ∷ b ∷ c ∷ d ∷ e ∷ []) long = absurd (omega arith)
-eight_rows (a ∷ b ∷ c ∷ d ∷ e ∷ f ∷ []) long = absurd (omega arith)
-eight_rows (a ∷ b ∷ c ∷ d ∷ e ∷ f ∷ g ∷ []) long = absurd (omega arith)
-eight_rows (a ∷ b ∷ c ∷ d ∷ e ∷ f ∷ g ∷ h ∷ []) long = refl
-eight_rows (a ∷ b ∷ c ∷ d ∷ e ∷ f ∷ g ∷ h ∷ i ∷ rest) long = absurd (omega arith)
-
-pub eight_are : (rows : List (List ℕ)) (a b c d e f g h : List ℕ) → length rows ≡ 8 → a ≡ get_or rows 0 []
-    → b ≡ get_or rows 1 [] → c ≡ get_or rows 2 [] → d ≡ get_or rows 3 [] → e ≡ get_or rows 4 []
-    → f ≡ get_or rows 5 [] → g ≡ get_or rows 6 [] → h ≡ get_or rows 7 []
-    → a ∷ b ∷ c ∷ d ∷ e ∷ f ∷ g ∷ h ∷ [] ≡ rows
-eight_are rows a b c d e f g h long ea eb ec ed ee ef eg eh = rw (ea, eb, ec, ed, ee, ef, eg, eh) (eight_rows rows long)
+block_next page rows all errors new before dots filled columns n m l holds eight wide same whole full made small set n_is m_is l_is all_is =
+    block_lent all n m l new errors dots before columns filled (n_is ∙ sym same) (m_is ∙ sym whole) (l_is ∙ sym full)
+    (subst (λ (lists : List (List ℕ)). HoldsBlock lists new dots columns) (sym all_is)
+    (block_after page rows errors new before dots filled columns holds eight wide same whole full made small set))

@@ -1,24 +1,12 @@
--- One column of eight pages, lane by lane, is the defined one.
-use Rattle.std.proofs.Common.{◌≡◌, ℕ, zero, suc, ◌+◌, ◌<◌, ◌≤◌, Bool, ℤ, pos, ◌≤ℤ◌, ◌+ℤ◌, ◌*ℤ◌, FitsSigned, to_z, of_z, List, [], length, map, get_or, refl, ap, sym, subst, ◌∙◌, inl, inr, arith, add-one, w16}
-use Rattle.std.proofs.lemmas.Bool.{cases_eq, cases_lt}
+-- The error and the pixel of one lane are the defined ones.
+use Rattle.std.proofs.Common.{◌≡◌, ℕ, ◌+◌, ◌<◌, ◌≤◌, Bool, ℤ, pos, ◌≤ℤ◌, ◌+ℤ◌, ◌*ℤ◌, FitsSigned, to_z, of_z, List, length, map, get_or, ap, sym, ◌∙◌, arith, add-one, w16}
 use Rattle.std.proofs.lemmas.Int.{ints}
-use Rattle.std.proofs.lemmas.List.{get_or-map, get_or_past, length-map}
-use Rattle.scr_diffuse.specs.Diffusers.{AreErrors, AreValues, lane_at, lane_of}
+use Rattle.std.proofs.lemmas.List.{length-map}
 use Rattle.scr_diffuse.specs.Diffusion.{IsError, corrected, error_left, error_of, left_of, prints, v_below}
-use Rattle.scr_diffuse.specs.Passes.{errors_in, floor_16, number_at}
-use Rattle.scr_diffuse.proofs.DiffusionLemmas.{corrected-small, error-inside, error-outside}
+use Rattle.scr_diffuse.specs.Passes.{floor_16, number_at}
+use Rattle.scr_diffuse.specs.Steps.{AreValues}
+use Rattle.scr_diffuse.proofs.DiffusionLemmas.{corrected-small, error-inside}
 use Rattle.scr_diffuse.proofs.LaneLemmas.{kept, kept_is}
-use Rattle.scr_diffuse.proofs.RowLemmas.{margined}
-
--- the number in a lane, as an item of the lane's list
-pub lane_is : (places : List (List ℤ)) (k p : ℕ) → number_at (lane_of places k) p ≡ lane_at places p k
-lane_is places k p =
-    elim (cases_lt p (length places)) [
-      | inl inside ↦ get_or-map (λ place. number_at place k) places p [] (pos 0) inside
-      | inr outside ↦
-          get_or_past (lane_of places k) p (pos 0) (omega (arith, length-map places (λ place. number_at place k)))
-          ∙ ap (λ place. number_at place k) (sym (get_or_past places p [] outside))
-    ]
 
 pub fits_error : (e : ℤ) → IsError e → FitsSigned w16 e
 fits_error e small = omega (arith, ints)
@@ -29,18 +17,6 @@ kept_length a eight = length-map (map (of_z w16) a) (to_z w16) ∙ length-map a 
 
 pub bits_length : (bits : List ℕ) → length bits ≡ 8 → length (map (to_z w16) bits) ≡ 8
 bits_length bits eight = length-map bits (to_z w16) ∙ eight
-
--- errors that were loaded
-pub loaded : (numbers : List ℤ) (f : ℕ → ℤ) → length numbers ≡ 8
-    → ((k : ℕ) → k < 8 → FitsSigned w16 (f k) → number_at numbers k ≡ f k) → ((k : ℕ) → k < 8 → IsError (f k))
-    → (k : ℕ) → k < 8 → number_at (kept numbers) k ≡ f k
-loaded numbers f eight same small k within =
-    let fits : FitsSigned w16 (f k) = fits_error (f k) (small k within) in
-    kept_is numbers k (f k) eight within (same k within fits) fits
-
-pub errors_are : (numbers : List ℤ) (f : ℕ → ℤ) → length numbers ≡ 8
-    → ((k : ℕ) → k < 8 → number_at numbers k ≡ f k) → ((k : ℕ) → k < 8 → IsError (f k)) → AreErrors numbers
-errors_are numbers f eight same small = record { eight = eight; each = λ k within. rw (same k within) (small k within) }
 
 pub fits_value : (n : ℕ) → n ≤ 255 → FitsSigned w16 (pos n)
 fits_value n byte = omega (arith, ints)
@@ -114,60 +90,3 @@ v_is above row x n l r a b value left right here corner =
 pub next_left : (above : ℕ → ℤ) (row : List ℕ) (x : ℕ) → x < length row
     → error_of (v_below above row x) ≡ error_left above row (x + 1)
 next_left above row x within = sym (error-inside above row x within) ∙ ap (error_left above row) (sym (add-one x))
-
--- the error and the dot of a pixel, in one lane of a vector that was passed on
-pub record IsPixel (above : ℕ → ℤ) (row : List ℕ) (x k : ℕ) (left : List ℤ) (dots : ℕ → Bool) : Type 0 where
-  pub error_is : number_at (kept left) k ≡ error_left above row (x + 1)
-  pub small : IsError (error_left above row (x + 1))
-  pub dot_is : dots k ≡ prints (v_below above row x)
-
-pub pixel_is : (over : ℕ → ℤ) (row : List ℕ) (k x : ℕ) (values before right above corner sums left : List ℤ)
-    (dots : ℕ → Bool) → k < 8 → x < length row → get_or row x 0 ≤ 255
-    → number_at values k ≡ pos (get_or row x 0) → number_at before k ≡ error_left over row x
-    → number_at right k ≡ over (x + 1) → number_at above k ≡ over x → number_at corner k ≡ left_of over x
-    → IsError (number_at before k) → IsError (number_at right k) → IsError (number_at above k)
-    → IsError (number_at corner k) → length sums ≡ 8
-    → number_at sums k ≡ whole (number_at values k) (number_at before k) (number_at right k)
-    (number_at above k) (number_at corner k) → length left ≡ 8
-    → (FitsSigned w16 (number_at (kept sums) k)
-    → number_at left k ≡ error_of (floor_16 (number_at (kept sums) k)))
-    → (FitsSigned w16 (number_at (kept sums) k) → dots k ≡ prints (floor_16 (number_at (kept sums) k)))
-    → IsPixel over row x k left dots
-pixel_is over row k x values before right above corner sums left dots lanes within byte value_is before_is right_is above_is corner_is small_l small_r small_a small_b
-    sums_long sums_are left_long left_are dots_are =
-    let l : ℤ = number_at before k in
-    let r : ℤ = number_at right k in
-    let a : ℤ = number_at above k in
-    let b : ℤ = number_at corner k in
-    let lane = lane_made (get_or row x 0) k l r a b (number_at values k) sums left dots lanes byte value_is small_l small_r small_a small_b sums_long sums_are left_long left_are dots_are in
-    let v : corrected (get_or row x 0) l r a b ≡ v_below over row x = v_is over row x (get_or row x 0) l r a b refl before_is right_is above_is corner_is in
-    let next : error_of (corrected (get_or row x 0) l r a b) ≡ error_left over row (x + 1) = ap error_of v ∙ next_left over row x within in
-    record {
-      error_is = lane.error_is ∙ next;
-      small = subst IsError next lane.small;
-      dot_is = lane.dot_is ∙ ap prints v;
-    }
-
--- the number in a lane, from the errors above a pixel
-pub above_right_is : (places : List (List ℤ)) (k x : ℕ) (e : ℤ) → e ≡ lane_at places (x + 1 + 1) k
-    → e ≡ errors_in (lane_of places k) (x + 1)
-above_right_is places k x e is = is ∙ sym (lane_is places k (x + 1 + 1))
-
-pub above_is : (places : List (List ℤ)) (k x : ℕ) (e : ℤ) → e ≡ lane_at places (x + 1) k
-    → e ≡ errors_in (lane_of places k) x
-above_is places k x e is = is ∙ sym (lane_is places k (x + 1))
-
-pub above_left_is : (places : List (List ℤ)) (k x : ℕ) (e : ℤ) → lane_at places 0 k ≡ pos 0
-    → e ≡ lane_at places x k → e ≡ left_of (errors_in (lane_of places k)) x
-above_left_is places k x e margin is = is ∙ sym (lane_is places k x) ∙ margined (lane_of places k) x (lane_is places k 0 ∙ margin)
-
--- past the last column the errors are 0
-pub behind : (places : List (List ℤ)) (above : ℕ → ℤ) (row : List ℕ) (k p : ℕ)
-    → length places ≡ length row + 2 → lane_at places (length row + 1) k ≡ pos 0 → length row < p
-    → lane_at places p k ≡ error_left above row p
-behind places above row k zero long right after = absurd (omega arith)
-behind places above row k (suc y) long right after =
-    elim (cases_eq y (length row)) [
-      | inl last ↦ (let place : suc y ≡ length row + 1 = omega arith in ap (λ p. lane_at places p k) place ∙ right ∙ sym (error-outside above row y (omega arith)))
-      | inr past ↦ ap (λ place. number_at place k) (get_or_past places (suc y) [] (omega arith)) ∙ sym (error-outside above row y (omega arith))
-    ]

@@ -12,7 +12,7 @@ use lib.Lanes.{mask_l, top}
 use Rattle.pr_base.specs.Bits.{bit_at, byte_bit, SetsBits}
 use Rattle.pr_base.proofs.Parts.{loaded, part_above, part_below, part_here}
 use Rattle.pr_base.proofs.Words.{byte_bit-number}
-use Rattle.scr_diffuse.specs.Diffusers.{bit_of}
+use Rattle.scr_diffuse.specs.Block.{bit_of}
 use Rattle.scr_diffuse.proofs.MaskLemmas.{one_if, top_of_byte}
 
 -- the mask of the bit of a page

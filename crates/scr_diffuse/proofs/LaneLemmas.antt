@@ -7,7 +7,7 @@ use Rattle.std.proofs.lemmas.Int.{ints, to_z-of_z, int_wrap_fits, wrapping_add_o
 use Rattle.std.proofs.lemmas.List.{get_or-map, get_or-replicate, length-map}
 use Rattle.std.proofs.lemmas.Simd.{bit_mask_l, get_or-sel_l, get_or-zip2, length-sel_l, length-zip2, mask_l-lt, mask_l-mod}
 use lib.Lanes.{zip2, top, sel_l, mask_l}
-use Rattle.scr_diffuse.specs.Diffusers.{bit_of}
+use Rattle.scr_diffuse.specs.Block.{bit_of}
 use Rattle.scr_diffuse.specs.Diffusion.{error_of, prints}
 use Rattle.scr_diffuse.specs.Passes.{IsNumber, floor_16, number_at}
 use Rattle.scr_diffuse.proofs.MaskLemmas.{one_if, top_of_word}

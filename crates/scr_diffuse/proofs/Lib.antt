@@ -3,7 +3,6 @@ pub mod ByteLemmas
 pub mod ColumnLemmas
 pub mod DiffusionLemmas
 pub mod DotLemmas
-pub mod EightLemmas
 pub mod LaneLemmas
 pub mod MaskLemmas
 pub mod NumberLemmas

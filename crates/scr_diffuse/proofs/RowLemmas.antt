@@ -9,7 +9,7 @@ use Rattle.scr_diffuse.specs.Passes.{number_at, errors_in, weighted, sum_above, 
 use Rattle.scr_diffuse.proofs.DiffusionLemmas.{error-inside, error-outside, error-margin}
 
 -- a list with a margin holds at each place the error one column to the left
-pub margined : (errors : List ℤ) (x : ℕ) → number_at errors 0 ≡ pos 0
+margined : (errors : List ℤ) (x : ℕ) → number_at errors 0 ≡ pos 0
     → number_at errors x ≡ left_of (errors_in errors) x
 margined errors zero margin = margin
 margined errors (suc x) margin = rw add-one refl

@@ -5,7 +5,7 @@ use Rattle.std.proofs.lemmas.List.Concat.{flat_map-append}
 use Rattle.std.proofs.Math.Path.{fun_ext}
 use Rattle.std.proofs.Math.Seq.{take-append_seam}
 use Rattle.scr_diffuse.specs.Diffuser.{StandBelow, joined}
-use Rattle.scr_diffuse.specs.Diffusion.{IsError, error_above, error_left, left_of, v_at, v_below}
+use Rattle.scr_diffuse.specs.Diffusion.{error_above, error_left, left_of, v_at, v_below}
 use Rattle.scr_diffuse.specs.Passes.{errors_in, number_at}
 use Rattle.scr_diffuse.proofs.DiffusionLemmas.{error-margin, error-outside, error_above-put, error_left-small, none-small, v_at-put}
 use Rattle.scr_diffuse.proofs.StepLemmas.{left-next}
@@ -45,26 +45,21 @@ next_margined rows values errors new stand made (suc x) =
     ∙ ap (error_left (λ k. error_above rows k (length rows)) values) (sym (add-one x))
     ∙ sym (error_above-put rows values x) ∙ ap (error_above (rows ++ values ∷ []) x) (sym count)
 
--- after a row whose errors are known to be small
-pub stand_after : (rows all : List (List ℕ)) (values : List ℕ) (errors new : List ℤ) → StandBelow rows errors
-    → all ≡ rows ++ values ∷ [] → length errors ≡ length values + 2 → length new ≡ length errors
-    → ((k : ℕ) → IsError (number_at new k))
-    → ((k : ℕ) → number_at new k ≡ error_left (errors_in errors) values k) → StandBelow all new
-stand_after rows all values errors new stand more size same small made =
-    let end : length new - 1 ≡ suc (length values) = omega arith in
-    rw more (record {
-      room = (stand.room.0, same ∙ stand.room.1);
-      below = record { margined = next_margined rows values errors new stand made; small = small };
-      right = ap (number_at new) end ∙ made (suc (length values)) ∙ error-outside (errors_in errors) values (length values) (omega arith);
-    })
-
+-- after a row
 pub stand_next : (rows all : List (List ℕ)) (values : List ℕ) (errors new : List ℤ) → StandBelow rows errors
     → all ≡ rows ++ values ∷ [] → length errors ≡ length values + 2 → length new ≡ length errors
     → ((k : ℕ) → get_or values k 0 ≤ 255)
     → ((k : ℕ) → number_at new k ≡ error_left (errors_in errors) values k) → StandBelow all new
 stand_next rows all values errors new stand more size same bytes made =
-    stand_after rows all values errors new stand more size same
-    (λ k. rw (made k) (error_left-small (errors_in errors) values (λ j. stand.below.small (j + 1)) bytes k)) made
+    let end : length new - 1 ≡ suc (length values) = omega arith in
+    rw more (record {
+      room = (stand.room.0, same ∙ stand.room.1);
+      below = record {
+        margined = next_margined rows values errors new stand made;
+        small = λ k. rw (made k) (error_left-small (errors_in errors) values (λ j. stand.below.small (j + 1)) bytes k);
+      };
+      right = ap (number_at new) end ∙ made (suc (length values)) ∙ error-outside (errors_in errors) values (length values) (omega arith);
+    })
 
 -- the numbers v of the next row
 pub v_next : (rows : List (List ℕ)) (values : List ℕ) (errors : List ℤ) (x : ℕ) → StandBelow rows errors

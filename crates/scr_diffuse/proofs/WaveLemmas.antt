@@ -2,11 +2,10 @@
 use Rattle.std.proofs.Common.{◌≡◌, FitsSigned, to_z, of_z, w16, ℕ, zero, suc, ◌+◌, ◌-◌, ◌*◌, ◌<◌, ◌≤◌, ℤ, pos, List, [], ◌∷◌, length, refl, get_or, slice_set, ap, sym, subst, ◌∙◌, inl, inr, arith, add-one, get_or-set_same, get_or-set_other}
 use Rattle.std.proofs.lemmas.Bool.{cases_eq, cases_lt}
 use Rattle.std.proofs.lemmas.Int.{to_z-of_z}
-use Rattle.scr_diffuse.specs.Block.{block_left, block_v, left_in}
-use Rattle.scr_diffuse.specs.Diffusers.{AreErrors, bit_of}
+use Rattle.scr_diffuse.specs.Block.{bit_of, block_left, block_v, left_in}
 use Rattle.scr_diffuse.specs.Diffusion.{IsError, corrected, error_left, error_of, left_of, prints, v_below}
 use Rattle.scr_diffuse.specs.Passes.{floor_16, number_at}
-use Rattle.scr_diffuse.specs.Steps.{HasErrors, HasValues, IsPast, IsReached}
+use Rattle.scr_diffuse.specs.Steps.{AreErrors, HasErrors, HasValues, IsPast, IsReached}
 use Rattle.scr_diffuse.specs.declared.block.Wavefront.{Wavefront}
 use Rattle.scr_diffuse.proofs.BlockLemmas.{block-behind, block-corner, block-first, block-margin, block-next}
 use Rattle.scr_diffuse.proofs.ColumnLemmas.{IsLane, fits_error, kept_length, lane_made, next_left, v_is, whole}

@@ -1,11 +1,11 @@
 -- Eight vectors of sixteen places: interleaving two halves three times gives the columns one after the other.
-use Rattle.std.proofs.Common.{◌≡◌, ℕ, ◌+◌, ◌-◌, ◌*◌, ◌/◌, ◌%◌, ◌<◌, ◌≤◌, cond, List, [], ◌∷◌, ◌++◌, length, get_or, refl, ap, sym, subst, ◌∙◌, inl, inr, arith, mul-le-mul_left}
+use Rattle.std.proofs.Common.{◌≡◌, ℕ, ◌+◌, ◌-◌, ◌*◌, ◌/◌, ◌%◌, ◌<◌, ◌≤◌, cond, List, [], ◌∷◌, ◌++◌, length, get_or, refl, ap, sym, subst, ◌∙◌, inl, inr, arith}
 use Rattle.std.specs.Borrow.{Bor}
 use Rattle.std.proofs.lemmas.Bool.{cases_eq, cases_lt, le-ltb}
 use Rattle.std.proofs.lemmas.List.{get_or_append_left, get_or-append-add}
 use borrow.Rule.Slice.PartMut.{put_mid}
 use Rattle.pr_base.proofs.Parts.{part_below, part_here}
-use Rattle.scr_diffuse.specs.Diffusers.{row_in}
+use Rattle.scr_diffuse.specs.Block.{row_in}
 use Rattle.scr_diffuse.specs.Weave.{AreVectors, HasColumns, value_behind, woven_at}
 use Rattle.scr_diffuse.proofs.LaneLemmas.{each_of_eight}
 
@@ -126,30 +126,29 @@ block_more rows first k at cut columns part woven at_is cut_is room long part_is
     ]
 
 -- the columns before a part that was written
-pub columns_before : (rows : List (Bor (List ℕ))) (lag first at cut : ℕ) (columns part : List ℕ)
-    → HasColumns rows lag first columns → 8 * first ≤ at → at + cut ≤ length columns
-    → HasColumns rows lag first (put_mid at cut columns part)
-columns_before rows lag first at cut columns part has behind room = record {
+pub columns_before : (rows : List (Bor (List ℕ))) (first at cut : ℕ) (columns part : List ℕ)
+    → HasColumns rows first columns → 8 * first ≤ at → at + cut ≤ length columns
+    → HasColumns rows first (put_mid at cut columns part)
+columns_before rows first at cut columns part has behind room = record {
   each = λ k x few within. part_below at cut columns part (8 * x + k) room (omega arith) ∙ has.each k x few within;
 }
 
 -- a block after the columns before it
-pub block_done : (rows : List (Bor (List ℕ))) (lag first : ℕ) (columns : List ℕ) (v woven : List (List ℕ))
-    → 7 * lag ≤ first → HasColumns rows lag first columns
+pub block_done : (rows : List (Bor (List ℕ))) (first : ℕ) (columns : List ℕ) (v woven : List (List ℕ))
+    → 21 ≤ first → HasColumns rows first columns
     → ((m : ℕ) → m < 128 → get_or columns (8 * first + m) 0 ≡ woven_at woven m)
     → ((k x : ℕ) → k < 8 → x < 16 → woven_at woven (8 * x + k) ≡ woven_at v (16 * k + x))
-    → ((k x : ℕ) → k < 8 → x < 16 → woven_at v (16 * k + x) ≡ get_or (row_in rows k) (first - lag * k + x) 0)
-    → HasColumns rows lag (first + 16) columns
-block_done rows lag first columns v woven late has here thrice values = record {
+    → ((k x : ℕ) → k < 8 → x < 16 → woven_at v (16 * k + x) ≡ get_or (row_in rows k) (first - 3 * k + x) 0)
+    → HasColumns rows (first + 16) columns
+block_done rows first columns v woven late has here thrice values = record {
   each = λ k x few within.
       elim (cases_lt x first) [
         | inl before ↦ has.each k x few before
         | inr behind ↦
             (let y : ℕ = x - first in
             let place : 8 * x + k ≡ 8 * first + (8 * y + k) = omega arith in
-            let most : lag * k ≤ lag * 7 = mul-le-mul_left lag (omega arith) in
-            let column : first - lag * k + y ≡ x - lag * k = omega arith in
+            let column : first - 3 * k + y ≡ x - 3 * k = omega arith in
             ap (λ n. get_or columns n 0) place ∙ here (8 * y + k) (omega arith) ∙ thrice k y few (omega arith) ∙ values k y few (omega arith) ∙ ap (λ n. get_or (row_in rows k) n 0) column
-            ∙ sym (value-within (row_in rows k) x (lag * k) (omega arith)))
+            ∙ sym (value-within (row_in rows k) x (3 * k) (omega arith)))
       ];
 }

@@ -1,20 +1,21 @@
 -- Eight rows of one page at once, each three columns behind the one above it.
-use Rattle.std.specs.Prelude.{◌≡◌, ℕ, zero, suc, ◌+◌, ◌-◌, ◌*◌, ◌<◌, ◌≤◌, ℤ, pos, List, [], ◌++◌, length}
-use Rattle.std.specs.Prelude.{slice_index, slice_index_or}
-use Rattle.std.specs.List.{All}
-use Rattle.scr_diffuse.specs.Diffuser.{PageFront}
-use Rattle.scr_diffuse.specs.Diffusers.{bit_of}
+use Rattle.std.specs.Prelude.{◌≡◌, ℕ, zero, suc, ◌+◌, ◌-◌, ◌*◌, ◌<◌, ◌≤◌, ◌/◌, ◌%◌, ◌^◌, ◌==◌, Bool, ℤ, pos}
+use Rattle.std.specs.Prelude.{List, [], length, map, slice_index, slice_index_or}
+use Rattle.std.specs.Borrow.{Bor}
 use Rattle.scr_diffuse.specs.Diffusion.{IsError, diffused_bit, error_above, error_left, left_of, v_below}
 use Rattle.scr_diffuse.specs.Passes.{number_at}
 
--- the rows to take next, and the front of the page that the rows taken before them make
-pub record BlockFront : Type 0 where
-  pub held : List (List ℕ)
-  pub front : PageFront
+-- the rows of a list of slices
+abbrev pub rows_in : List (Bor (List ℕ)) → List (List ℕ)
+rows_in rows = map (λ row. row.now) rows
 
--- after the buffered rows have been taken
-abbrev pub behind_held : BlockFront → BlockFront
-behind_held block = record block { front = record block.front { rows = block.front.rows ++ block.held } }
+-- row k of a list of slices
+abbrev pub row_in : List (Bor (List ℕ)) → ℕ → List ℕ
+row_in rows k = slice_index_or (rows_in rows) k []
+
+-- bit k of a number
+abbrev pub bit_of : ℕ → ℕ → Bool
+bit_of n k = n / 2 ^ k % 2 == 1
 
 -- the error to the left of column x in the row above row k of a block. `above` gives those of the row above
 -- the block
@@ -39,12 +40,10 @@ pub record HoldsBelow (rows : List (List ℕ)) (width : ℕ) (errors : List ℤ)
   pub small : (x : ℕ) → IsError (number_at errors x)
   pub right : (x : ℕ) → width + 21 < x → number_at errors x ≡ pos 0
 
--- what a `BlockDiffuser` keeps: the eight rows to take next, the errors of the last row taken, and the pixels
--- of the last eight rows taken; row k is in bit k, 3k columns behind
-pub record HoldsBlock (rows held : List (List ℕ)) (errors : List ℤ) (dots columns : List ℕ) : Type 0 where
+-- what a `BlockDiffuser` keeps: the errors of the last row taken, and the pixels of the last eight rows taken;
+-- row k is in bit k, 3k columns behind
+pub record HoldsBlock (rows : List (List ℕ)) (errors : List ℤ) (dots columns : List ℕ) : Type 0 where
   pub width : ℕ
-  pub eight : length held ≡ 8
-  pub wide : All (λ row. length row ≡ width) held
   pub long : length dots ≡ width + 21
   pub room : length columns ≡ 8 * length dots
   pub errors_are : HoldsBelow rows width errors

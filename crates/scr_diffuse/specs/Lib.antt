@@ -1,6 +1,5 @@
 pub mod Block
 pub mod Diffuser
-pub mod Diffusers
 pub mod Diffusion
 pub mod Passes
 pub mod Steps

@@ -1,12 +1,22 @@
 -- The steps that diffuse eight rows at once. In each step row k is three columns behind the row above it.
-use Rattle.std.specs.Prelude.{◌≡◌, ℕ, ◌+◌, ◌-◌, ◌*◌, ◌<◌, ◌≤◌, ℤ, pos, List, [], length, slice_index}
-use Rattle.std.specs.Prelude.{slice_index_or}
+use Rattle.std.specs.Prelude.{◌≡◌, ℕ, ◌+◌, ◌-◌, ◌*◌, ◌<◌, ◌≤◌, ℤ, pos, ◌≤ℤ◌, List, [], length}
+use Rattle.std.specs.Prelude.{slice_index, slice_index_or}
 use Rattle.scr_diffuse.specs.declared.block.Wavefront.{Wavefront}
-use Rattle.scr_diffuse.specs.Block.{block_left, block_v}
-use Rattle.scr_diffuse.specs.Diffusers.{AreErrors, bit_of}
+use Rattle.scr_diffuse.specs.Block.{bit_of, block_left, block_v}
 use Rattle.scr_diffuse.specs.Diffusion.{IsError, prints}
 use Rattle.scr_diffuse.specs.Passes.{number_at}
 use Rattle.scr_diffuse.specs.Weave.{value_behind}
+
+-- eight lanes, each of them an error
+pub record AreErrors (numbers : List ℤ) : Type 0 where
+  pub eight : length numbers ≡ 8
+  pub each : (k : ℕ) → k < 8 → IsError (number_at numbers k)
+
+-- eight lanes, each of them an ink value
+pub record AreValues (numbers : List ℤ) : Type 0 where
+  pub eight : length numbers ≡ 8
+  pub least : (k : ℕ) → k < 8 → pos 0 ≤ℤ number_at numbers k
+  pub most : (k : ℕ) → k < 8 → number_at numbers k ≤ℤ pos 255
 
 -- each lane holds an error
 pub record HasErrors (wave : Wavefront) : Type 0 where

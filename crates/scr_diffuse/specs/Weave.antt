@@ -2,7 +2,7 @@
 use Rattle.std.specs.Prelude.{◌≡◌, ℕ, ◌+◌, ◌-◌, ◌*◌, ◌/◌, ◌%◌, ◌<◌, if◌then◌else◌, nat_lt}
 use Rattle.std.specs.Prelude.{List, [], length, slice_index, slice_index_or}
 use Rattle.std.specs.Borrow.{Bor}
-use Rattle.scr_diffuse.specs.Diffusers.{row_in}
+use Rattle.scr_diffuse.specs.Block.{row_in}
 
 -- the value in column x of a row that is so many columns behind: 0 before the row's first column, and 0 past
 -- its last one, since reading past the end gives 0
@@ -10,10 +10,10 @@ abbrev pub value_behind : List ℕ → ℕ → ℕ → ℕ
 value_behind row x behind = (if nat_lt x behind then 0 else slice_index row (x - behind))
 
 -- the first columns of eight rows, interleaved: the eight values of a column are contiguous, and each row is
--- `lag` columns behind the one before it
-pub record HasColumns (rows : List (Bor (List ℕ))) (lag count : ℕ) (columns : List ℕ) : Type 0 where
+-- three columns behind the one before it
+pub record HasColumns (rows : List (Bor (List ℕ))) (count : ℕ) (columns : List ℕ) : Type 0 where
   pub each : (k x : ℕ) → k < 8 → x < count
-      → slice_index columns (8 * x + k) ≡ value_behind (row_in rows k) x (lag * k)
+      → slice_index columns (8 * x + k) ≡ value_behind (row_in rows k) x (3 * k)
 
 -- eight vectors of sixteen places each
 abbrev pub AreVectors : List (List ℕ) → Type 0

@@ -3,14 +3,12 @@
 ghost use Rattle.std.specs.Prelude.{◌≡◌, ℕ, ◌+◌, ◌-◌, ◌*◌, ◌^◌, ◌<◌, ◌≤◌, ℤ, List, [], length, pos};
 ghost use Rattle.std.specs.Prelude.{FitsSigned, slice_index, slice_index_or};
 ghost use Rattle.std.specs.Int.{w16};
-ghost use Rattle.scr_diffuse.specs.Block.{block_left, block_v, left_in};
-ghost use Rattle.scr_diffuse.specs.Diffusers.{bit_of, row_in, rows_in};
+ghost use Rattle.scr_diffuse.specs.Block.{bit_of, block_left, block_v, left_in, row_in, rows_in};
 ghost use Rattle.scr_diffuse.specs.Diffusion.{IsError, prints};
 ghost use Rattle.scr_diffuse.specs.Passes.{number_at};
 ghost use Rattle.scr_diffuse.specs.Steps.{HasErrors, HasValues, IsPast, IsReached, MayStep};
 
-use crate::columns::whole_sums;
-use crate::lanes::{column_at, dots_of, errors_of, errors_to, last_of, moved_on};
+use crate::lanes::{column_at, dots_of, errors_of, errors_to, last_of, moved_on, whole_sums};
 use crate::weave::set_columns;
 use std::simd::prelude::*;
 
@@ -60,7 +58,7 @@ pub(crate) fn diffuse_block(
     ensures small { (x : ℕ) → IsError (number_at errors.new x) }
 {
     let width = dots.len() - LAST_LAG;
-    set_columns(values, width, LAG, columns);
+    set_columns(values, width, columns);
     let columns = &*columns;
     let done = width.max(LAST_LAG);
     let mut wave = first_wave(errors);

@@ -1,8 +1,8 @@
-// Packed pixels from the bits of columns. A column holds one pixel of each of eight pages, or of each of
-// eight rows of one page; bit k belongs to lane k.
+// Packed pixels from the bits of columns. A column holds one pixel of each of eight rows; bit k belongs to
+// lane k.
 ghost use Rattle.std.specs.Prelude.{◌≡◌, ℕ, ◌+◌, ◌*◌, ◌^◌, ◌<◌, ◌≤◌, ◌%◌, length, slice_index};
 ghost use Rattle.pr_base.specs.Bits.{bit_at, SetsBits};
-ghost use Rattle.scr_diffuse.specs.Diffusers.{bit_of};
+ghost use Rattle.scr_diffuse.specs.Block.{bit_of};
 
 use pr_base::set_bit;
 use std::simd::prelude::*;

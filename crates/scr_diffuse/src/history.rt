@@ -3,7 +3,7 @@
 ghost use Rattle.std.specs.Prelude.{◌≡◌, List, ℕ, [], ◌∷◌, ◌++◌};
 ghost use Rattle.std.specs.Borrow.{ftrue};
 ghost use Rattle.std.specs.Coded.{coded_list, coded_ℕ};
-ghost use Rattle.scr_diffuse.specs.Diffusers.{rows_in};
+ghost use Rattle.scr_diffuse.specs.Block.{rows_in};
 
 use std::marker::Model;
 

@@ -1,17 +1,18 @@
-// Eight numbers in a vector: a lane for each of eight pages, or for each of eight rows of one page.
-ghost use Rattle.std.specs.Prelude.{◌≡◌, ◌≢◌, ℕ, ◌+◌, ◌*◌, ◌<◌, ◌≤◌, ◌+ℤ◌, ◌*ℤ◌, ◌≤ℤ◌, neg_ℤ, length, pos};
+// Eight numbers in a vector, a lane for each of eight rows of one page.
+ghost use Rattle.std.specs.Prelude.{◌≡◌, ℕ, ◌+◌, ◌*◌, ◌<◌, ◌≤◌, ◌+ℤ◌, ◌*ℤ◌, ◌≤ℤ◌, neg_ℤ, length, pos};
 ghost use Rattle.std.specs.Prelude.{FitsSigned, slice_index};
 ghost use Rattle.std.specs.Int.{w16};
-ghost use Rattle.scr_diffuse.specs.Diffusers.{bit_of, lane_at};
+ghost use Rattle.scr_diffuse.specs.Block.{bit_of};
 ghost use Rattle.scr_diffuse.specs.Diffusion.{error_of, prints};
 ghost use Rattle.scr_diffuse.specs.Passes.{floor_16, number_at};
+ghost use Rattle.scr_diffuse.specs.Steps.{AreErrors, AreValues};
 
 use crate::passes::{DOT, MIDDLE};
 use std::simd::prelude::*;
 
 /// Adds two numbers in each lane.
 #[inline(always)]
-pub(crate) fn plus(a: i16x8, b: i16x8) -> i16x8
+fn plus(a: i16x8, b: i16x8) -> i16x8
     requires a { length a ≡ 8 }
     requires b { length b ≡ 8 }
     ensures eight { length result ≡ 8 }
@@ -24,7 +25,7 @@ pub(crate) fn plus(a: i16x8, b: i16x8) -> i16x8
 
 /// Multiplies each lane by a factor.
 #[inline(always)]
-pub(crate) fn times(factor: i16, a: i16x8) -> i16x8
+fn times(factor: i16, a: i16x8) -> i16x8
     requires { length a ≡ 8 }
     ensures eight { length result ≡ 8 }
     ensures products { (k : ℕ) → k < 8 → FitsSigned w16 (number_at a k) →
@@ -37,13 +38,38 @@ pub(crate) fn times(factor: i16, a: i16x8) -> i16x8
 /// Returns the same numbers. The comparison changes none of them; it keeps the compiler from reordering the
 /// additions, so that the addend that is ready last is added last.
 #[inline(always)]
-pub(crate) fn settled(a: i16x8) -> i16x8
+fn settled(a: i16x8) -> i16x8
     requires { length a ≡ 8 }
     ensures eight { length result ≡ 8 }
     ensures same { (k : ℕ) → k < 8 → FitsSigned w16 (number_at a k) → neg_ℤ (pos 2000) ≤ℤ number_at a k →
         number_at result k ≡ number_at a k }
 {
     a.simd_max(i16x8::splat(-2000))
+}
+
+/// Returns the whole sums of a column. The error from the left depends on the column before, so it is added
+/// last.
+#[inline(always)]
+pub(crate) fn whole_sums(
+    values: i16x8,
+    left: i16x8,
+    above_right: i16x8,
+    above: i16x8,
+    above_left: i16x8,
+) -> i16x8
+    requires values { AreValues values }
+    requires left { AreErrors left }
+    requires above_right { AreErrors above_right }
+    requires above { AreErrors above }
+    requires above_left { AreErrors above_left }
+    ensures eight { length result ≡ 8 }
+    ensures sums { (k : ℕ) → k < 8 → number_at result k
+        ≡ ((pos 16 *ℤ number_at values k) +ℤ (pos 7 *ℤ number_at left k)
+        +ℤ (pos 3 *ℤ number_at above_right k) +ℤ (pos 5 *ℤ number_at above k) +ℤ number_at above_left k) }
+{
+    let right = plus(times(16, values), times(3, above_right));
+    let corner = plus(times(5, above), above_left);
+    plus(settled(plus(right, corner)), times(7, left))
 }
 
 /// Returns the errors of pixels from their whole sums: a sixteenth, rounded down, less 255 where the pixel
@@ -105,29 +131,6 @@ pub(crate) fn last_of(a: i16x8) -> i16
 {
     let numbers = a.to_array();
     numbers[7]
-}
-
-/// Loads the eight numbers at a place.
-#[inline(always)]
-pub(crate) fn load(places: &[[i16; 8]], place: usize) -> i16x8
-    requires { place < length places.now }
-    ensures eight { length result ≡ 8 }
-    ensures same { (k : ℕ) → k < 8 → FitsSigned w16 (lane_at places.now place k) →
-        number_at result k ≡ lane_at places.now place k }
-{
-    i16x8::from_array(places[place])
-}
-
-/// Stores eight numbers at a place.
-#[inline(always)]
-pub(crate) fn store(places: &mut [[i16; 8]], place: usize, numbers: i16x8)
-    requires place { place < length places.old }
-    requires eight { length numbers ≡ 8 }
-    ensures here { (k : ℕ) → k < 8 → FitsSigned w16 (number_at numbers k) →
-        lane_at places.new place k ≡ number_at numbers k }
-    ensures elsewhere { (p k : ℕ) → p ≢ place → lane_at places.new p k ≡ lane_at places.old p k }
-{
-    places[place] = numbers.to_array();
 }
 
 /// Returns the values in column `x` of eight interleaved rows.

@@ -1,7 +1,6 @@
 // Laws of error diffusion, proved from its definition.
-ghost use Rattle.std.specs.Prelude.{◌≡◌, ℕ, ◌+◌, ◌<◌, ◌≤◌, List, [], ◌∷◌, ◌++◌, length, pos, take};
+ghost use Rattle.std.specs.Prelude.{◌≡◌, ℕ, ◌+◌, ◌<◌, ◌≤◌, List, [], length, pos, take};
 ghost use Rattle.std.specs.Prelude.{slice_index_or};
-ghost use Rattle.scr_diffuse.specs.Diffusers.{page_in};
 ghost use Rattle.scr_diffuse.specs.Diffusion.{ArePixels, IsError, diffused_bit, error_at, error_of, v_at};
 
 /// The errors of a page: inside the page each is the error of its number v, outside it is 0, and for values
@@ -18,15 +17,4 @@ pub fn error_law()
 pub fn row_law()
     ensures { (rows other : List (List ℕ)) (x y : ℕ) → take (y + 1) rows ≡ take (y + 1) other →
         diffused_bit rows x y ≡ diffused_bit other x y }
-{}
-
-/// Diffusing in lanes or in blocks agrees with diffusing row by row. A step of `Diffusers` appends to each
-/// page its row of the eight. Row `k` of a block of `BlockDiffuser` has the same pixels with and without the
-/// rows after it.
-pub fn lanes_law()
-    ensures lanes { (rows : List (List (List ℕ))) (step : List (List ℕ)) (k : ℕ) →
-        page_in (rows ++ step ∷ []) k ≡ (page_in rows k ++ slice_index_or step k [] ∷ []) }
-    ensures block { (rows held : List (List ℕ)) (x k : ℕ) → k < length held →
-        diffused_bit (rows ++ held) x (length rows + k)
-        ≡ diffused_bit (rows ++ take (k + 1) held) x (length rows + k) }
 {}

@@ -5,11 +5,8 @@
 mod bits;
 mod block;
 mod block_diffuser;
-mod columns;
 mod diffuser;
-mod diffusers;
 mod dots;
-mod held_row;
 mod history;
 mod lanes;
 mod laws;
@@ -19,5 +16,4 @@ mod weave;
 
 pub use block_diffuser::BlockDiffuser;
 pub use diffuser::Diffuser;
-pub use diffusers::Diffusers;
 pub use laws::{error_law, row_law};

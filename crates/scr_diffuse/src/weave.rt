@@ -1,46 +1,46 @@
-// Interleaves eight rows: the eight values of a column become contiguous. Each row may lag behind the one
-// before it.
+// Interleaves eight rows: the eight values of a column become contiguous. Each row lags behind the one before
+// it.
 ghost use Rattle.std.specs.Prelude.{◌≡◌, ℕ, ◌+◌, ◌-◌, ◌*◌, ◌/◌, ◌%◌, ◌^◌, ◌<◌, ◌≤◌, length, slice_index};
-ghost use Rattle.scr_diffuse.specs.Diffusers.{row_in};
+ghost use Rattle.scr_diffuse.specs.Block.{row_in};
 ghost use Rattle.scr_diffuse.specs.Weave.{AreVectors, HasColumns, value_behind, woven_at};
 
+use crate::block::{LAG, LAST_LAG};
 use std::simd::prelude::*;
 
 /// How many columns are interleaved at once.
 const BLOCK: usize = 16;
 
-/// Interleaves eight rows, each `lag` columns behind the one before it: in whole blocks of columns where
+/// Interleaves eight rows, each `LAG` columns behind the one before it: in whole blocks of columns where
 /// every row has values, and column by column at both ends.
 #[inline(always)]
-pub(crate) fn set_columns(rows: &[&[u8]; 8], width: usize, lag: usize, columns: &mut [u8])
+pub(crate) fn set_columns(rows: &[&[u8]; 8], width: usize, columns: &mut [u8])
     requires rows { (k : ℕ) → k < 8 → length (row_in rows.now k) ≡ width }
-    requires lag { lag ≤ 3 }
-    requires room { length columns.old ≡ 8 * (width + 7 * lag) }
-    ensures { HasColumns rows.now lag (width + 7 * lag) columns.new }
+    requires room { length columns.old ≡ 8 * (width + 21) }
+    ensures { HasColumns rows.now (width + 21) columns.new }
 {
-    let ragged = width.min(7 * lag);
+    let ragged = width.min(LAST_LAG);
     let done = ragged + (width - ragged) / BLOCK * BLOCK;
     for x in 0..ragged {
-        set_column(rows, x, lag, columns);
+        set_column(rows, x, columns);
     }
     for block in 0..(width - ragged) / BLOCK {
-        set_block(rows, ragged + BLOCK * block, lag, columns);
+        set_block(rows, ragged + BLOCK * block, columns);
     }
-    for x in done..width + 7 * lag {
-        set_column(rows, x, lag, columns);
+    for x in done..width + LAST_LAG {
+        set_column(rows, x, columns);
     }
 }
 
 /// Writes the columns of a block from column `first` on, after the columns before it.
 #[inline(always)]
-fn set_block(rows: &[&[u8]; 8], first: usize, lag: usize, columns: &mut [u8])
-    requires lag { 7 * lag ≤ first }
+fn set_block(rows: &[&[u8]; 8], first: usize, columns: &mut [u8])
+    requires late { 21 ≤ first }
     requires rows { (k : ℕ) → k < 8 → first + 16 ≤ length (row_in rows.now k) }
     requires room { 8 * first + 128 ≤ length columns.old }
-    requires before { HasColumns rows.now lag first columns.old }
-    ensures { HasColumns rows.now lag (first + 16) columns.new }
+    requires before { HasColumns rows.now first columns.old }
+    ensures { HasColumns rows.now (first + 16) columns.new }
 {
-    let woven = weave(weave(weave(block_of(rows, first, lag))));
+    let woven = weave(weave(weave(block_of(rows, first))));
     for k in 0..8 {
         let from = 8 * first + 16 * k;
         woven[k].copy_to_slice(&mut columns[from..from + 16]);
@@ -49,23 +49,23 @@ fn set_block(rows: &[&[u8]; 8], first: usize, lag: usize, columns: &mut [u8])
 
 /// Returns the values of a block of columns, a vector for each row.
 #[inline(always)]
-fn block_of(rows: &[&[u8]; 8], first: usize, lag: usize) -> [u8x16; 8]
+fn block_of(rows: &[&[u8]; 8], first: usize) -> [u8x16; 8]
     requires fits { first + 16 < 2 ^ 64 }
-    requires lag { 7 * lag ≤ first }
+    requires late { 21 ≤ first }
     requires rows { (k : ℕ) → k < 8 → first + 16 ≤ length (row_in rows.now k) }
     ensures vectors { AreVectors result }
     ensures values { (k x : ℕ) → k < 8 → x < 16 →
-        woven_at result (16 * k + x) ≡ slice_index (row_in rows.now k) (first - lag * k + x) }
+        woven_at result (16 * k + x) ≡ slice_index (row_in rows.now k) (first - 3 * k + x) }
 {
     [
         values_from(rows, 0, first),
-        values_from(rows, 1, first - lag),
-        values_from(rows, 2, first - 2 * lag),
-        values_from(rows, 3, first - 3 * lag),
-        values_from(rows, 4, first - 4 * lag),
-        values_from(rows, 5, first - 5 * lag),
-        values_from(rows, 6, first - 6 * lag),
-        values_from(rows, 7, first - 7 * lag),
+        values_from(rows, 1, first - LAG),
+        values_from(rows, 2, first - 2 * LAG),
+        values_from(rows, 3, first - 3 * LAG),
+        values_from(rows, 4, first - 4 * LAG),
+        values_from(rows, 5, first - 5 * LAG),
+        values_from(rows, 6, first - 6 * LAG),
+        values_from(rows, 7, first - 7 * LAG),
     ]
 }
 
@@ -96,14 +96,13 @@ fn weave(v: [u8x16; 8]) -> [u8x16; 8]
 }
 
 /// Writes the values of column `x`, after the columns before it.
-fn set_column(rows: &[&[u8]; 8], x: usize, lag: usize, columns: &mut [u8])
-    requires lag { lag ≤ 3 }
+fn set_column(rows: &[&[u8]; 8], x: usize, columns: &mut [u8])
     requires room { 8 * x + 8 ≤ length columns.old }
-    requires before { HasColumns rows.now lag x columns.old }
-    ensures { HasColumns rows.now lag (x + 1) columns.new }
+    requires before { HasColumns rows.now x columns.old }
+    ensures { HasColumns rows.now (x + 1) columns.new }
 {
     for k in 0..8 {
-        columns[8 * x + k] = value_at(rows, k, x, lag * k);
+        columns[8 * x + k] = value_at(rows, k, x, LAG * k);
     }
 }
 

@@ -1,7 +1,6 @@
 -- Each step makes one more column of each row that has one.
 use Rattle.std.proofs.Common.{◌≡◌, ℕ, ◌+◌, ◌-◌, ◌<◌, ◌≤◌, subst, [], length, get_or, arith}
-use Rattle.scr_diffuse.specs.Block.{left_in}
-use Rattle.scr_diffuse.specs.Diffusers.{rows_in}
+use Rattle.scr_diffuse.specs.Block.{left_in, rows_in}
 use Rattle.scr_diffuse.specs.Steps.{IsReached}
 use Rattle.scr_diffuse.proofs.WaveLemmas.{all_made, left_at, reached_whole}
 use Rattle.scr_diffuse.proofs.block.diffuse_block.Goals as goal

@@ -1,6 +1,5 @@
 use Rattle.std.proofs.Common.{ℕ, ◌≤◌}
-use Rattle.scr_diffuse.specs.Block.{left_in}
-use Rattle.scr_diffuse.specs.Diffusers.{rows_in}
+use Rattle.scr_diffuse.specs.Block.{left_in, rows_in}
 use Rattle.scr_diffuse.specs.Diffusion.{IsError}
 use Rattle.scr_diffuse.specs.Passes.{number_at}
 use Rattle.scr_diffuse.specs.Steps.{HasErrors, IsReached}

@@ -1,6 +1,6 @@
 -- The errors of rows without a column become 0.
 use Rattle.std.proofs.Common.{◌≡◌, ◌∙◌, ◌+◌, to_z, of_z, w16, arith}
-use Rattle.scr_diffuse.specs.Diffusers.{AreErrors}
+use Rattle.scr_diffuse.specs.Steps.{AreErrors}
 use Rattle.scr_diffuse.specs.Passes.{number_at}
 use Rattle.scr_diffuse.proofs.ColumnLemmas.{kept_length}
 use Rattle.scr_diffuse.proofs.LaneLemmas.{kept}

@@ -1,6 +1,6 @@
 -- A row that has a column gets its error and its pixel.
 use Rattle.std.proofs.Common.{◌≡◌, ◌∙◌, ℕ, ◌+◌, ◌*◌, get_or, to_z, of_z, w16, refl, arith}
-use Rattle.scr_diffuse.specs.Diffusers.{AreErrors}
+use Rattle.scr_diffuse.specs.Steps.{AreErrors}
 use Rattle.scr_diffuse.specs.Passes.{number_at}
 use Rattle.scr_diffuse.proofs.ColumnLemmas.{kept_length, loaded_values, values_are}
 use Rattle.scr_diffuse.proofs.LaneLemmas.{kept}

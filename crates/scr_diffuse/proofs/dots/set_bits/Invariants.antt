@@ -1,6 +1,6 @@
 use Rattle.std.specs.Prelude.{slice_index}
 use Rattle.pr_base.specs.Bits.{SetsBits}
-use Rattle.scr_diffuse.specs.Diffusers.{bit_of}
+use Rattle.scr_diffuse.specs.Block.{bit_of}
 use Rattle.scr_diffuse.proofs.dots.set_bits.Given as goal
 
 -- the pixels of the columns read so far are set

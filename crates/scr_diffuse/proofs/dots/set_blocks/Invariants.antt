@@ -1,7 +1,7 @@
 use Rattle.std.proofs.Common.{◌*◌}
 use Rattle.std.specs.Prelude.{slice_index}
 use Rattle.pr_base.specs.Bits.{SetsBits}
-use Rattle.scr_diffuse.specs.Diffusers.{bit_of}
+use Rattle.scr_diffuse.specs.Block.{bit_of}
 use Rattle.scr_diffuse.proofs.dots.set_blocks.Given as goal
 
 -- the pixels of the blocks so far are set

@@ -1,6 +1,6 @@
 -- The three spans together cover the row.
 use Rattle.std.proofs.Common.{◌+◌, ◌-◌, ◌*◌, ◌/◌, length, arith}
-use Rattle.scr_diffuse.specs.Diffusers.{bit_of}
+use Rattle.scr_diffuse.specs.Block.{bit_of}
 use Rattle.scr_diffuse.proofs.SpanLemmas.{spans_of}
 use Rattle.scr_diffuse.proofs.dots.set_dots.Goals as goal
 

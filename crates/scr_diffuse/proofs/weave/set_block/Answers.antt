@@ -18,12 +18,12 @@ loop-k-preserved c =
     let part_is : put_chunk 0 slot vector ≡ vector = put_chunk_whole slot vector (slot_long ∙ sym (c.weave-woven.ensures.vectors c.loop-k.k (omega arith))) in
     let long : length (put_chunk 0 slot vector) ≡ cut = ap length part_is ∙ c.weave-woven.ensures.vectors c.loop-k.k (omega arith) ∙ omega arith in
     record {
-      before = columns_before c.args.rows.now c.args.lag c.args.first at cut columns (put_chunk 0 slot vector) c.loop-k.invariant.before (omega arith) room;
+      before = columns_before c.args.rows.now c.args.first at cut columns (put_chunk 0 slot vector) c.loop-k.invariant.before (omega arith) room;
       here = λ m less. block_more c.args.rows.now c.args.first c.loop-k.k at cut columns (put_chunk 0 slot vector) c.weave-woven.result (omega arith) (omega arith) room long part_is m less c.loop-k.invariant.here;
     }
 
 pub returns : goal.returns
 returns c =
-    block_done c.args.rows.now c.args.lag c.args.first c.loop-k.columns c.block_of.result c.weave-woven.result c.requires.lag c.loop-k.invariant.before (λ m less. c.loop-k.invariant.here m (omega arith))
+    block_done c.args.rows.now c.args.first c.loop-k.columns c.block_of.result c.weave-woven.result c.requires.late c.loop-k.invariant.before (λ m less. c.loop-k.invariant.here m (omega arith))
     (λ k x few within. thrice_at c.block_of.result c.weave.result c.weave-2.result c.weave-woven.result k x few within c.weave.ensures.places c.weave-2.ensures.places c.weave-woven.ensures.places)
     c.block_of.ensures.values

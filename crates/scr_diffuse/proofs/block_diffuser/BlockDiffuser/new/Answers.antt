@@ -13,8 +13,8 @@ invariant_of-result c =
     let items : List ℤ = c.in_ok-vec.field-0.items in
     let size : length items ≡ n = omega (arith, c.in_ok-vec.ensures.len) in
     let zeros : items ≡ replicate n (pos 0) = c.in_ok-vec.ensures.items_if_clones_equal (λ y e. e) in
-    block_at_start (joined c.new.result.steps) c.in_ok-held_rows.field-0.items c.args.width items c.in_ok-vec-2.field-0.items c.in_ok-vec-3.field-0.items (ap joined c.new.ensures)
-    c.in_ok-held_rows.ensures.eight c.in_ok-held_rows.ensures.wide (omega (arith, size))
+    block_at_start (joined c.new.result.steps) c.args.width items c.in_ok-vec-2.field-0.items c.in_ok-vec-3.field-0.items (ap joined c.new.ensures)
+    (omega (arith, size))
     (omega (arith, c.in_ok-vec-2.ensures.len)) (omega (arith, c.in_ok-vec-2.ensures.len, c.in_ok-vec-3.ensures.len)) (λ k.
     elim (cases_lt k n) [
       | inl inside ↦ ap (λ list. number_at list k) zeros ∙ get_or-replicate n k (pos 0) (pos 0) inside

@@ -25,7 +25,7 @@ use denote.Triple.Entry.{alive}
 use denote.Triple.Spec.{Meets, triple_of}
 use denote.Triple.Table.{entered}
 use denote.Triple.Walked.{says, Stays, stay_dropped, walk_of, ends_at, walk_Meets, Goes-dropped}
-use Rattle.scr_diffuse.specs.Diffusers.{rows_in}
+use Rattle.scr_diffuse.specs.Block.{rows_in}
 use Rattle.scr_diffuse.proofs.Walks.{none, none_made}
 use Rattle.scr_diffuse.specs.contracts.history.History as History
 use Rattle.scr_diffuse.specs.contracts.history.Rows as Rows

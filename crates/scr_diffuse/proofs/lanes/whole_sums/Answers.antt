@@ -4,7 +4,7 @@ use Rattle.std.proofs.lemmas.Int.{ints}
 use Rattle.scr_diffuse.specs.Diffusion.{IsError}
 use Rattle.scr_diffuse.specs.Passes.{number_at}
 use Rattle.scr_diffuse.proofs.LaneLemmas.{kept_is, product_is, settled_is, sum_is}
-use Rattle.scr_diffuse.proofs.columns.whole_sums.Goals as goal
+use Rattle.scr_diffuse.proofs.lanes.whole_sums.Goals as goal
 
 pub returns-clause-sums : goal.returns-clause-sums
 returns-clause-sums c = λ k within.
