@@ -1,7 +1,7 @@
 /* Error diffusion in three ways, which have to give the same bits: a plain loop; eight chains at once, a lane
- * each, which is what `Diffusers` of scr_diffuse does; and one chain by a front of eight rows, each three
- * pixels behind the one above, which is what `BlockDiffuser` does. Prints million pixels a second of processor
- * time, the best of three runs.
+ * each; and one chain by a front of eight rows, each three pixels behind the one above, which is what
+ * `BlockDiffuser` of scr_diffuse does. Prints million pixels a second of processor time, the best of three
+ * runs.
  *
  *     cc -O3 -march=x86-64-v2 -o front bench/front.c && ./front
  */

@@ -3,6 +3,7 @@
 ghost use Rattle.std.specs.Prelude.{◌≡◌, ◌≤◌, ◌<◌, length};
 
 use scr_diffuse::{BlockDiffuser, Diffuser};
+use std::process::Abort;
 
 const WIDEST: usize = 64;
 
@@ -141,16 +142,24 @@ fn are_blocks_drawn(block: &mut BlockDiffuser, single: &mut Diffuser, width: usi
     one && two && three
 }
 
+/// Asserts that the page of this width has the pixels that the plain code draws.
+fn assert_blocks<R: Abort + AllocGlobal>(rt: &R, width: usize)
+    requires { width ≤ 64 }
+{
+    let mut block = BlockDiffuser::new(rt.alloc(), width as u32).expect(rt, "memory");
+    let mut single = Diffuser::new(rt.alloc(), width as u32).expect(rt, "memory");
+    assert!(rt;
+        are_blocks_drawn(&mut block, &mut single, width),
+        "width {width}"
+    );
+}
+
 #[test]
 fn blocks_of_each_width(rt: HostRuntime) {
-    for width in 1..WIDEST + 1 {
-        let mut block = BlockDiffuser::new(rt.alloc(), width as u32).expect(&rt, "memory");
-        let mut single = Diffuser::new(rt.alloc(), width as u32).expect(&rt, "memory");
-        assert!(rt;
-            are_blocks_drawn(&mut block, &mut single, width),
-            "width {width}"
-        );
+    for width in 1..41 {
+        assert_blocks(&rt, width);
     }
+    assert_blocks(&rt, WIDEST);
 }
 
 /// Diffuses a block of rows of four values of 128, and returns whether its first two rows have these bits.
