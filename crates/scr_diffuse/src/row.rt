@@ -1,5 +1,5 @@
 // One row: from the errors of the row above to its pixels and its own errors.
-ghost use Rattle.std.specs.Prelude.{◌≡◌, ℕ, ◌+◌, ◌*◌, ◌<◌, ◌≤◌, length, pos};
+ghost use Rattle.std.specs.Prelude.{◌≡◌, ℕ, ◌+◌, ◌*◌, ◌≤◌, length, pos};
 ghost use Rattle.pr_base.specs.Bits.{SetsBits};
 ghost use Rattle.scr_diffuse.specs.Diffusion.{IsError, error_left, prints, v_below};
 ghost use Rattle.scr_diffuse.specs.Passes.{errors_in, number_at};
