@@ -40,7 +40,7 @@ pub record HoldsBelow (rows : List (List ℕ)) (width : ℕ) (errors : List ℤ)
   pub small : (x : ℕ) → IsError (number_at errors x)
   pub right : (x : ℕ) → width + 21 < x → number_at errors x ≡ pos 0
 
--- what a `BlockDiffuser` keeps: the errors of the last row taken, and the pixels of the last eight rows taken,
+-- what a `BlockDiffuser` keeps: the errors of the last row taken, and the pixels of the last eight rows,
 -- those of row k in bit k, 3k columns behind
 pub record HoldsBlock (rows : List (List ℕ)) (errors : List ℤ) (dots columns : List ℕ) : Type 0 where
   pub width : ℕ
