@@ -135,6 +135,40 @@ put_each readers y P r e here else q = elim (cases_eq q r) [
   | inr other ↦ subst (λ x. P q x) (sym (put_else y readers q (λ f. other (sym f ∙ e)))) (else q other)
 ]
 
+-- a reader's view and its word are new, and the head's word is as before
+reader_holds : (g : RingNumbers) (words ws : List ℕ) (w : WriterView) (readers : ℕ → ReaderView) (r : ℕ) (y : ReaderView) → Holds g words w readers → length ws ≡ length words → get_or ws 0 0 ≡ get_or words 0 0
+    → ((q : ℕ) → q ≢ r → get_or ws (q + 1) 0 ≡ get_or words (q + 1) 0) → y.number ≡ r → y.ring ≡ g → y.taken ≤ g.total → get_or ws (r + 1) 0 ≡ word_of y
+    → IsSoundProgress g.places (head_shown words) (shown_by ws w y r) → Holds g ws w (put_reader y readers)
+reader_holds g words ws w readers r y h long head other number ring taken word sound =
+    record {
+      total_in = h.total_in;
+      words_in = long ∙ h.words_in;
+      writer_ring = h.writer_ring;
+      reader_ring = put_each readers y (λ q z. q < g.readers → z.ring ≡ g) r number (λ k. ring) (λ q o. h.reader_ring q);
+      number_is = put_each readers y (λ q z. q < g.readers → z.number ≡ q) r number (λ k. number) (λ q o. h.number_is q);
+      made_in = h.made_in;
+      taken_in = put_each readers y (λ q z. q < g.readers → z.taken ≤ g.total) r number (λ k. taken) (λ q o. h.taken_in q);
+      known_in = h.known_in;
+      loads_in = h.loads_in;
+      head_is = head ∙ h.head_is;
+      cursor_is = put_each readers y (λ q z. q < g.readers → get_or ws (q + 1) 0 ≡ word_of z) r number (λ k. word) (λ q o k. other q o ∙ h.cursor_is q k);
+      sound = record {
+        some_place = h.sound.some_place;
+        head_in = subst (λ n. n ≤ g.total) (sym head) h.sound.head_in;
+        each = put_each readers y (λ q z. q < g.readers → IsSoundProgress g.places (head_shown ws) (shown_by ws w z q)) r number
+            (λ k. subst (λ n. IsSoundProgress g.places n (shown_by ws w y r)) (sym head) sound)
+            (λ q o k. subst (λ t. t) (λ i. IsSoundProgress g.places (sym head i) record { known = cursor_in (get_or w.known q 0); cursor = cursor_in (sym (other q o) i); seen = (readers q).seen; taken = up_to (readers q).taken })
+            (h.sound.each q k));
+      };
+    }
+
+-- the words that a reader's step leaves
+head_kept : (words : List ℕ) (r n : ℕ) → get_or (set words (r + 1) n) 0 0 ≡ get_or words 0 0
+head_kept words r n = get_or-set_other words (r + 1) 0 n 0 (λ f. omega arith)
+
+others_kept : (words : List ℕ) (r n q : ℕ) → q ≢ r → get_or (set words (r + 1) n) (q + 1) 0 ≡ get_or words (q + 1) 0
+others_kept words r n q o = get_or-set_other words (r + 1) (q + 1) n 0 (λ f. o (let k : q ≡ r = omega arith in k))
+
 pub see_own : (words : List ℕ) (w : WriterView) (readers : ℕ → ReaderView) (x : ReaderView) → readers x.number ≡ x
     → shown words w (put_reader (saw_head (get_or words 0 0) x) readers) x.number ≡ saw (head_shown words) (shown words w readers x.number)
 see_own words w readers x is = by_view words w readers (saw_head (get_or words 0 0) x) x.number refl ∙ ap (λ (y : ReaderView). saw (head_shown words) (shown_by words w y x.number)) (sym is)
@@ -146,27 +180,11 @@ pub see_holds : (g : RingNumbers) (words : List ℕ) (w : WriterView) (readers :
     → Holds g words w (put_reader (saw_head (get_or words 0 0) x) readers)
 see_holds g words w readers x h is l =
     let r = x.number in
-    let y = saw_head (get_or words 0 0) x in
-    record {
-      total_in = h.total_in;
-      words_in = h.words_in;
-      writer_ring = h.writer_ring;
-      reader_ring = put_each readers y (λ q z. q < g.readers → z.ring ≡ g) r refl (λ k. ap (λ (z : ReaderView). z.ring) (sym is) ∙ h.reader_ring r k) (λ q o. h.reader_ring q);
-      number_is = put_each readers y (λ q z. q < g.readers → z.number ≡ q) r refl (λ k. refl) (λ q o. h.number_is q);
-      made_in = h.made_in;
-      taken_in = put_each readers y (λ q z. q < g.readers → z.taken ≤ g.total) r refl (λ k. subst (λ (z : ReaderView). z.taken ≤ g.total) is (h.taken_in r k)) (λ q o. h.taken_in q);
-      known_in = h.known_in;
-      loads_in = h.loads_in;
-      head_is = h.head_is;
-      cursor_is = put_each readers y (λ q z. q < g.readers → get_or words (q + 1) 0 ≡ word_of z) r refl (λ k. h.cursor_is r k ∙ ap word_of is) (λ q o. h.cursor_is q);
-      sound = record {
-        some_place = h.sound.some_place;
-        head_in = h.sound.head_in;
-        each = each_by g.readers r (λ q. IsSoundProgress g.places (head_shown words) (shown words w (put_reader y readers) q))
-            (subst (λ p. IsSoundProgress g.places (head_shown words) p) (sym (see_own words w readers x is)) (see_progress g.places (head_shown words) (shown words w readers r) (h.sound.each r l)))
-            (λ q k o. subst (λ p. IsSoundProgress g.places (head_shown words) p) (sym (see_other words w readers x (get_or words 0 0) q o)) (h.sound.each q k));
-      };
-    }
+    reader_holds g words words w readers r (saw_head (get_or words 0 0) x) h refl refl (λ q o. refl) refl
+    (ap (λ (z : ReaderView). z.ring) (sym is) ∙ h.reader_ring r l)
+    (subst (λ (z : ReaderView). z.taken ≤ g.total) is (h.taken_in r l))
+    (h.cursor_is r l ∙ ap word_of is)
+    (subst (λ (z : ReaderView). IsSoundProgress g.places (head_shown words) (saw (head_shown words) (shown_by words w z r))) is (see_progress g.places (head_shown words) (shown words w readers r) (h.sound.each r l)))
 
 -- the cursor shown for a joined reader, with its word given
 pub joined_cursor : (g : RingNumbers) (words : List ℕ) (w : WriterView) (readers : ℕ → ReaderView) (x : ReaderView) → Holds g words w readers → readers x.number ≡ x → x.number < g.readers → x.left ≡ false
@@ -189,8 +207,9 @@ joined_shown g words w readers x h is l j =
     let t = h.total_in in
     ap cursor_in (joined_cursor g words w readers x h is l j) ∙ cursor_some x.taken (λ e. omega arith)
 
+-- the progress shown for the reader by its new view and word
 pub advance_own : (g : RingNumbers) (words : List ℕ) (w : WriterView) (readers : ℕ → ReaderView) (x : ReaderView) → Holds g words w readers → readers x.number ≡ x → x.number < g.readers → x.taken < x.seen
-    → shown (set words (x.number + 1) (x.taken + 1)) w (put_reader (went_on x) readers) x.number ≡ advanced x.taken (shown words w readers x.number)
+    → shown_by (set words (x.number + 1) (x.taken + 1)) w (went_on x) x.number ≡ advanced x.taken (shown words w readers x.number)
 advance_own g words w readers x h is l ahead =
     let r = x.number in
     let c = x.taken in
@@ -201,13 +220,13 @@ advance_own g words w readers x h is l ahead =
     let e = get_or-set_same words (r + 1) (c + 1) 0 (let k = h.words_in in omega arith) in
     let word : cursor_in (get_or (set words (r + 1) (c + 1)) (r + 1) 0) ≡ Some (c + 1) = ap cursor_in e ∙ cursor_some (c + 1) (λ f. omega arith) in
     let rows : up_to (c + 1) ≡ up_to (readers r).taken ++ c ∷ [] = up_to_more c ∙ ap (λ (z : ReaderView). up_to z.taken ++ c ∷ []) (sym is) in
-    by_view (set words (r + 1) (c + 1)) w readers (went_on x) r refl ∙ (λ i. record { known = cursor_in (get_or w.known r 0); cursor = word i; seen = sym s i; taken = rows i })
+    λ i. record { known = cursor_in (get_or w.known r 0); cursor = word i; seen = sym s i; taken = rows i }
 
 -- another reader's word and view change
 pub word_other : (words : List ℕ) (w : WriterView) (readers : ℕ → ReaderView) (x y : ReaderView) (n q : ℕ) → y.number ≡ x.number → q ≢ x.number
     → shown (set words (x.number + 1) n) w (put_reader y readers) q ≡ shown words w readers q
 word_other words w readers x y n q same o =
-    let e = get_or-set_other words (x.number + 1) (q + 1) n 0 (λ f. o (let k : q ≡ x.number = omega arith in k)) in
+    let e = others_kept words x.number n q o in
     by_others (set words (x.number + 1) n) w readers y x.number q same o ∙ (λ i. record { known = cursor_in (get_or w.known q 0); cursor = cursor_in (e i); seen = (readers q).seen; taken = up_to (readers q).taken })
 
 pub advance_holds : (g : RingNumbers) (words : List ℕ) (w : WriterView) (readers : ℕ → ReaderView) (x : ReaderView) → Holds g words w readers → readers x.number ≡ x → x.number < g.readers → x.left ≡ false → x.taken < x.seen
@@ -215,77 +234,34 @@ pub advance_holds : (g : RingNumbers) (words : List ℕ) (w : WriterView) (reade
 advance_holds g words w readers x h is l j ahead =
     let r = x.number in
     let c = x.taken in
-    let y = went_on x in
-    let ws = set words (r + 1) (c + 1) in
-    let head : get_or ws 0 0 ≡ get_or words 0 0 = get_or-set_other words (r + 1) 0 (c + 1) 0 (λ f. omega arith) in
-    let here : get_or ws (r + 1) 0 ≡ c + 1 = get_or-set_same words (r + 1) (c + 1) 0 (let k = h.words_in in omega arith) in
     let s : (readers r).seen ≡ x.seen = ap (λ (z : ReaderView). z.seen) is in
-    record {
-      total_in = h.total_in;
-      words_in = length-set words (r + 1) (c + 1) ∙ h.words_in;
-      writer_ring = h.writer_ring;
-      reader_ring = put_each readers y (λ q z. q < g.readers → z.ring ≡ g) r refl (λ k. ap (λ (z : ReaderView). z.ring) (sym is) ∙ h.reader_ring r k) (λ q o. h.reader_ring q);
-      number_is = put_each readers y (λ q z. q < g.readers → z.number ≡ q) r refl (λ k. refl) (λ q o. h.number_is q);
-      made_in = h.made_in;
-      taken_in = put_each readers y (λ q z. q < g.readers → z.taken ≤ g.total) r refl (λ k. let b = (h.sound.each r l).seen_in in let d = h.sound.head_in in omega arith) (λ q o. h.taken_in q);
-      known_in = h.known_in;
-      loads_in = h.loads_in;
-      head_is = head ∙ h.head_is;
-      cursor_is = put_each readers y (λ q z. q < g.readers → get_or ws (q + 1) 0 ≡ word_of z) r refl (λ k. here ∙ sym (word_joined y j))
-          (λ q o k. get_or-set_other words (r + 1) (q + 1) (c + 1) 0 (λ f. o (let m : q ≡ r = omega arith in m)) ∙ h.cursor_is q k);
-      sound = record {
-        some_place = h.sound.some_place;
-        head_in = subst (λ n. n ≤ g.total) (sym head) h.sound.head_in;
-        each = λ q k. subst (λ n. IsSoundProgress g.places n (shown ws w (put_reader y readers) q)) (sym head)
-            (each_by g.readers r (λ q. IsSoundProgress g.places (head_shown words) (shown ws w (put_reader y readers) q))
-            (subst (λ p. IsSoundProgress g.places (head_shown words) p) (sym (advance_own g words w readers x h is l ahead))
-            (advance_progress g.places (head_shown words) (shown words w readers r) c (joined_shown g words w readers x h is l j) (omega arith) (h.sound.each r l)))
-            (λ q k o. subst (λ p. IsSoundProgress g.places (head_shown words) p) (sym (word_other words w readers x (went_on x) (c + 1) q refl o)) (h.sound.each q k)) q k);
-      };
-    }
+    let most : c + 1 ≤ g.total = let b = (h.sound.each r l).seen_in in let d = h.sound.head_in in omega arith in
+    reader_holds g words (set words (r + 1) (c + 1)) w readers r (went_on x) h (length-set words (r + 1) (c + 1)) (head_kept words r (c + 1)) (others_kept words r (c + 1)) refl
+    (ap (λ (z : ReaderView). z.ring) (sym is) ∙ h.reader_ring r l) most
+    (get_or-set_same words (r + 1) (c + 1) 0 (let k = h.words_in in omega arith) ∙ sym (word_joined (went_on x) j))
+    (subst (λ p. IsSoundProgress g.places (head_shown words) p) (sym (advance_own g words w readers x h is l ahead))
+    (advance_progress g.places (head_shown words) (shown words w readers r) c (joined_shown g words w readers x h is l j) (omega arith) (h.sound.each r l)))
 
 -- A reader leaves
 
 pub leave_own : (g : RingNumbers) (words : List ℕ) (w : WriterView) (readers : ℕ → ReaderView) (x : ReaderView) → Holds g words w readers → readers x.number ≡ x → x.number < g.readers
-    → shown (set words (x.number + 1) left_word) w (put_reader (gone x) readers) x.number ≡ departed (shown words w readers x.number)
+    → shown_by (set words (x.number + 1) left_word) w (gone x) x.number ≡ departed (shown words w readers x.number)
 leave_own g words w readers x h is l =
     let r = x.number in
     let e = get_or-set_same words (r + 1) left_word 0 (let k = h.words_in in omega arith) in
     let word : cursor_in (get_or (set words (r + 1) left_word) (r + 1) 0) ≡ None = ap cursor_in e ∙ cursor_none left_word refl in
-    by_view (set words (r + 1) left_word) w readers (gone x) r refl
-    ∙ (λ i. record { known = cursor_in (get_or w.known r 0); cursor = word i; seen = (sym is i).seen; taken = up_to (sym is i).taken })
+    λ i. record { known = cursor_in (get_or w.known r 0); cursor = word i; seen = (sym is i).seen; taken = up_to (sym is i).taken }
 
 pub leave_holds : (g : RingNumbers) (words : List ℕ) (w : WriterView) (readers : ℕ → ReaderView) (x : ReaderView) → Holds g words w readers → readers x.number ≡ x → x.number < g.readers → x.left ≡ false
     → Holds g (set words (x.number + 1) left_word) w (put_reader (gone x) readers)
 leave_holds g words w readers x h is l j =
     let r = x.number in
-    let y = gone x in
-    let ws = set words (r + 1) left_word in
-    let head : get_or ws 0 0 ≡ get_or words 0 0 = get_or-set_other words (r + 1) 0 left_word 0 (λ f. omega arith) in
-    let here : get_or ws (r + 1) 0 ≡ left_word = get_or-set_same words (r + 1) left_word 0 (let k = h.words_in in omega arith) in
-    record {
-      total_in = h.total_in;
-      words_in = length-set words (r + 1) left_word ∙ h.words_in;
-      writer_ring = h.writer_ring;
-      reader_ring = put_each readers y (λ q z. q < g.readers → z.ring ≡ g) r refl (λ k. ap (λ (z : ReaderView). z.ring) (sym is) ∙ h.reader_ring r k) (λ q o. h.reader_ring q);
-      number_is = put_each readers y (λ q z. q < g.readers → z.number ≡ q) r refl (λ k. refl) (λ q o. h.number_is q);
-      made_in = h.made_in;
-      taken_in = put_each readers y (λ q z. q < g.readers → z.taken ≤ g.total) r refl (λ k. subst (λ (z : ReaderView). z.taken ≤ g.total) is (h.taken_in r k)) (λ q o. h.taken_in q);
-      known_in = h.known_in;
-      loads_in = h.loads_in;
-      head_is = head ∙ h.head_is;
-      cursor_is = put_each readers y (λ q z. q < g.readers → get_or ws (q + 1) 0 ≡ word_of z) r refl (λ k. here)
-          (λ q o k. get_or-set_other words (r + 1) (q + 1) left_word 0 (λ f. o (let m : q ≡ r = omega arith in m)) ∙ h.cursor_is q k);
-      sound = record {
-        some_place = h.sound.some_place;
-        head_in = subst (λ n. n ≤ g.total) (sym head) h.sound.head_in;
-        each = λ q k. subst (λ n. IsSoundProgress g.places n (shown ws w (put_reader y readers) q)) (sym head)
-            (each_by g.readers r (λ q. IsSoundProgress g.places (head_shown words) (shown ws w (put_reader y readers) q))
-            (subst (λ p. IsSoundProgress g.places (head_shown words) p) (sym (leave_own g words w readers x h is l))
-            (leave_progress g.places (head_shown words) (shown words w readers r) x.taken (joined_shown g words w readers x h is l j) (h.sound.each r l)))
-            (λ q k o. subst (λ p. IsSoundProgress g.places (head_shown words) p) (sym (word_other words w readers x y left_word q refl o)) (h.sound.each q k)) q k);
-      };
-    }
+    reader_holds g words (set words (r + 1) left_word) w readers r (gone x) h (length-set words (r + 1) left_word) (head_kept words r left_word) (others_kept words r left_word) refl
+    (ap (λ (z : ReaderView). z.ring) (sym is) ∙ h.reader_ring r l)
+    (subst (λ (z : ReaderView). z.taken ≤ g.total) is (h.taken_in r l))
+    (get_or-set_same words (r + 1) left_word 0 (let k = h.words_in in omega arith))
+    (subst (λ p. IsSoundProgress g.places (head_shown words) p) (sym (leave_own g words w readers x h is l))
+    (leave_progress g.places (head_shown words) (shown words w readers r) x.taken (joined_shown g words w readers x h is l j) (h.sound.each r l)))
 
 -- Views change in fields that no word shows
 

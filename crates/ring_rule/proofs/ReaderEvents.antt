@@ -10,10 +10,12 @@ use Rattle.ring_core.specs.Schedule.{Progress, Lanes, lane_place}
 use Rattle.ring_core.specs.Events.{after, can_open, can_close, can_advance, can_leave, advanced, departed, opened, closed, settled}
 use Rattle.ring_core.specs.Plain.{from_low, plain_lanes, read_closed}
 use Rattle.ring_core.proofs.Lower.{unsettled, from_low_is}
+use Rattle.ring_core.proofs.Made.{IsMade}
 use Rattle.ring_core.proofs.Whole.{each_by}
 use Rattle.ring_core.proofs.After
 use Rattle.ring_rule.specs.declared.lane.Lane.{Lane}
 use Rattle.ring_rule.specs.declared.view.RingNumbers.{RingNumbers}
+use Rattle.ring_rule.specs.declared.view.WriterView.{WriterView}
 use Rattle.ring_rule.specs.declared.view.ReaderView.{ReaderView}
 use Rattle.ring_rule.specs.declared.view.HeadNoteView.{HeadNoteView}
 use Rattle.ring_rule.specs.declared.view.View.TheVariants.{Reader}
@@ -32,6 +34,25 @@ use Rattle.ring_rule.proofs.Tables.{changed, reader_is, reader_in_range, reader_
 use Rattle.ring_rule.proofs.Schedules.{before_made, event_shows}
 
 module _ (g : RingNumbers) (s : RingState) (id : ℕ) (x : ReaderView) (k : Kept g s) (at : Has s id (Reader x)) where
+  abbrev w : WriterView
+  w = writer_of g s.views
+
+  abbrev readers : ℕ → ReaderView
+  readers = reader_of g s.views
+
+  abbrev head : ℕ
+  head = head_shown s.words
+
+  -- what is shown of the readers and their lanes before the step
+  abbrev p : ℕ → Progress
+  p = shown s.words w readers
+
+  abbrev lanes : ℕ → Lanes
+  lanes = lanes_known g.places s.words s.homes w readers
+
+  made : IsMade (schedule_shown g s) g.places g.total head g.readers p lanes
+  made = before_made g s w k refl
+
   pub is_here : reader_of g s.views x.number ≡ x
   is_here = reader_is g s id x k at
 
@@ -39,38 +60,32 @@ module _ (g : RingNumbers) (s : RingState) (id : ℕ) (x : ReaderView) (k : Kept
   in_range = reader_in_range g s id x k at
 
   -- the note last joined to the seat is true
-  pub told_here : (n : HeadNoteView) → x.told ≡ Some n → IsTrueHead g (writer_of g s.views) (reader_of g s.views) n
+  pub told_here : (n : HeadNoteView) → x.told ≡ Some n → IsTrueHead g w readers n
   told_here n e = k.told.reader_told x.number n in_range (ap (λ (y : ReaderView). y.told) is_here ∙ e)
 
   -- the lanes known for the reader by its new view, and for the others by theirs
-  lanes_own : (words : List ℕ) (homes : Homes) (y : ReaderView) → y.number ≡ x.number → let w = writer_of g s.views in
-      lanes_known g.places words homes w (put_reader y (reader_of g s.views)) x.number ≡ lanes_by g.places words homes w y x.number
-  lanes_own words homes y n = ap (λ (z : ReaderView). lanes_by g.places words homes (writer_of g s.views) z x.number) (put_here y (reader_of g s.views) x.number n)
+  lanes_own : (words : List ℕ) (homes : Homes) (y : ReaderView) → y.number ≡ x.number →
+      lanes_known g.places words homes w (put_reader y readers) x.number ≡ lanes_by g.places words homes w y x.number
+  lanes_own words homes y n = ap (λ (z : ReaderView). lanes_by g.places words homes w z x.number) (put_here y readers x.number n)
 
-  lanes_others : (words : List ℕ) (homes : Homes) (y : ReaderView) (q : ℕ) → y.number ≡ x.number → q ≢ x.number → let w = writer_of g s.views in
-      lanes_known g.places words homes w (put_reader y (reader_of g s.views)) q ≡ lanes_known g.places words homes w (reader_of g s.views) q
-  lanes_others words homes y q n other = ap (λ (z : ReaderView). lanes_by g.places words homes (writer_of g s.views) z q) (put_else y (reader_of g s.views) q (λ f. other (sym f ∙ n)))
+  lanes_others : (words : List ℕ) (homes : Homes) (y : ReaderView) (q : ℕ) → y.number ≡ x.number → q ≢ x.number →
+      lanes_known g.places words homes w (put_reader y readers) q ≡ lanes_known g.places words homes w readers q
+  lanes_others words homes y q n other = ap (λ (z : ReaderView). lanes_by g.places words homes w z q) (put_else y readers q (λ f. other (sym f ∙ n)))
 
-  lanes_was : let w = writer_of g s.views in lanes_known g.places s.words s.homes w (reader_of g s.views) x.number ≡ lanes_by g.places s.words s.homes w x x.number
-  lanes_was = ap (λ (z : ReaderView). lanes_by g.places s.words s.homes (writer_of g s.views) z x.number) is_here
+  lanes_was : lanes_known g.places s.words s.homes w readers x.number ≡ lanes_by g.places s.words s.homes w x x.number
+  lanes_was = ap (λ (z : ReaderView). lanes_by g.places s.words s.homes w z x.number) is_here
 
-  shown_was : let w = writer_of g s.views in shown s.words w (reader_of g s.views) x.number ≡ shown_by s.words w x x.number
-  shown_was = ap (λ (z : ReaderView). shown_by s.words (writer_of g s.views) z x.number) is_here
+  shown_was : shown s.words w readers x.number ≡ shown_by s.words w x x.number
+  shown_was = ap (λ (z : ReaderView). shown_by s.words w z x.number) is_here
 
   -- See
 
   see_plain : x.left ≡ false → IsEvent g s (changed s s.words s.homes id (Reader (saw_head (get_or s.words 0 0) x))) (See x.number)
   see_plain joined =
       let r = x.number in
-      let w = writer_of g s.views in
-      let readers = reader_of g s.views in
       let y = saw_head (get_or s.words 0 0) x in
-      let head = head_shown s.words in
       let t = changed s s.words s.homes id (Reader y) in
-      let p = shown s.words w readers in
       let q = shown s.words w (put_reader y readers) in
-      let lanes = lanes_known g.places s.words s.homes w readers in
-      let made = before_made g s w k refl in
       let kept = by_reader g s id x y s.words s.homes k at refl (omega arith) (λ e. e) told_here
       (Moves.see_holds g s.words w readers x k.holds is_here in_range) (ReaderLanes.see_keeps g s.words s.homes w readers k.holds k.lanes x is_here in_range) in
       let cursor = Moves.joined_shown g s.words w readers x k.holds is_here in_range joined in
@@ -83,9 +98,9 @@ module _ (g : RingNumbers) (s : RingState) (id : ℕ) (x : ReaderView) (k : Kept
             (λ j _. same_lanes j ∙ lanes_plain g.places s.words s.homes w (readers j) j (q j) refl);
       }
     where
-      same_lanes : (j : ℕ) → let w = writer_of g s.views in
-          lanes_known g.places s.words s.homes w (put_reader (saw_head (get_or s.words 0 0) x) (reader_of g s.views)) j ≡ lanes_known g.places s.words s.homes w (reader_of g s.views) j
-      same_lanes = put_each (reader_of g s.views) (saw_head (get_or s.words 0 0) x) (λ j z. lanes_by g.places s.words s.homes (writer_of g s.views) z j ≡ lanes_known g.places s.words s.homes (writer_of g s.views) (reader_of g s.views) j) x.number refl
+      same_lanes : (j : ℕ) →
+          lanes_known g.places s.words s.homes w (put_reader (saw_head (get_or s.words 0 0) x) readers) j ≡ lanes_known g.places s.words s.homes w readers j
+      same_lanes = put_each readers (saw_head (get_or s.words 0 0) x) (λ j z. lanes_by g.places s.words s.homes w z j ≡ lanes_known g.places s.words s.homes w readers j) x.number refl
           (sym lanes_was) (λ j o. refl)
 
   pub see_event : x.left ≡ false → let n = get_or s.words 0 0 in IsEvent g s (stepped s 0 n id [] (Reader (saw_head n x)) keeps) (See x.number)
@@ -97,28 +112,22 @@ module _ (g : RingNumbers) (s : RingState) (id : ℕ) (x : ReaderView) (k : Kept
   slot_is = ap (λ (z : RingNumbers). lane_place z.places x.number x.taken) (reader_ring_is g s id x k at)
 
   -- the view changes in fields that no word shows
-  same_words : (y : ReaderView) → Moves.SameWords y x → let w = writer_of g s.views in Holds g s.words w (put_reader y (reader_of g s.views))
-  same_words y e = Moves.same_holds g s.words (writer_of g s.views) (reader_of g s.views) (put_reader y (reader_of g s.views)) (Moves.same_put (reader_of g s.views) x y is_here e.number e) k.holds
+  same_words : (y : ReaderView) → Moves.SameWords y x → Holds g s.words w (put_reader y readers)
+  same_words y e = Moves.same_holds g s.words w readers (put_reader y readers) (Moves.same_put readers x y is_here e.number e) k.holds
 
-  same_progress : (y : ReaderView) (q : ℕ) → Moves.SameWords y x → let w = writer_of g s.views in shown s.words w (put_reader y (reader_of g s.views)) q ≡ shown s.words w (reader_of g s.views) q
-  same_progress y q e = Moves.same_shown s.words (writer_of g s.views) (reader_of g s.views) (put_reader y (reader_of g s.views)) q (Moves.same_put (reader_of g s.views) x y is_here e.number e q)
+  same_progress : (y : ReaderView) (q : ℕ) → Moves.SameWords y x → shown s.words w (put_reader y readers) q ≡ shown s.words w readers q
+  same_progress y q e = Moves.same_shown s.words w readers (put_reader y readers) q (Moves.same_put readers x y is_here e.number e q)
 
   -- Take
 
   take_plain : MayTake x → IsEvent g s (changed s s.words (set s.homes (lane_place g.places x.number x.taken) none) id (Reader (took x))) (Open x.number)
   take_plain may =
       let r = x.number in
-      let w = writer_of g s.views in
-      let readers = reader_of g s.views in
       let y = took x in
-      let head = head_shown s.words in
       let hs = set s.homes (lane_place g.places r x.taken) none in
       let t = changed s s.words hs id (Reader y) in
       let e : Moves.SameWords y x = record { ring = refl; number = refl; taken = refl; left = refl; seen = refl } in
-      let p = shown s.words w readers in
-      let lanes = lanes_known g.places s.words s.homes w readers in
       let later = lanes_known g.places s.words hs w (put_reader y readers) in
-      let made = before_made g s w k refl in
       let kept = by_reader g s id x y s.words hs k at refl (omega arith) (λ f. f) told_here (same_words y e) (ReaderLanes.take_keeps g s.words s.homes w readers k.holds k.lanes x is_here in_range may) in
       let cursor = Moves.joined_shown g s.words w readers x k.holds is_here in_range may.joined in
       let can = (λ i. can_open (shown_was i) (lanes_was i)) ∙ ReaderLanes.take_possible g s.words s.homes w readers k.holds k.lanes x is_here in_range may in
@@ -135,9 +144,6 @@ module _ (g : RingNumbers) (s : RingState) (id : ℕ) (x : ReaderView) (k : Kept
   -- the lane that it takes is in its slot
   pub take_found : MayTake x → (lane : Lane) × (get_elem? s.homes (slot_of x) ≡ some (some (Some lane))) × Fits g (head_shown s.words) lane × (lane.number ≡ Some x.taken)
   take_found may =
-      let w = writer_of g s.views in
-      let readers = reader_of g s.views in
-      let head = head_shown s.words in
       let home = ReaderLanes.take_home g s.words s.homes w readers k.holds k.lanes x is_here in_range may in
       let here = slot_in g s.words s.homes w readers x.number x.taken k.holds k.lanes in_range in
       let lies = ReaderLanes.take_shows g s.words s.homes w readers k.holds k.lanes x is_here in_range may in
@@ -164,17 +170,11 @@ module _ (g : RingNumbers) (s : RingState) (id : ℕ) (x : ReaderView) (k : Kept
   give_plain lane out number fits =
       let r = x.number in
       let c = x.taken in
-      let w = writer_of g s.views in
-      let readers = reader_of g s.views in
       let y = gave x in
-      let head = head_shown s.words in
       let hs = set s.homes (lane_place g.places r c) (some (Some lane)) in
       let t = changed s s.words hs id (Reader y) in
       let e : Moves.SameWords y x = record { ring = refl; number = refl; taken = refl; left = refl; seen = refl } in
-      let p = shown s.words w readers in
-      let lanes = lanes_known g.places s.words s.homes w readers in
       let later = lanes_known g.places s.words hs w (put_reader y readers) in
-      let made = before_made g s w k refl in
       let f = ReaderLanes.out_here g s.words s.homes w readers k.holds k.lanes x is_here in_range out in
       let below : c ≤ head = let a = f.ahead in let b = (k.holds.sound.each r in_range).seen_in in let d : (readers r).seen ≡ x.seen = ap (λ (z : ReaderView). z.seen) is_here in omega arith in
       let kept = by_reader g s id x y s.words hs k at refl (omega arith) (λ i. i) told_here (same_words y e)
@@ -204,17 +204,15 @@ module _ (g : RingNumbers) (s : RingState) (id : ℕ) (x : ReaderView) (k : Kept
   -- The reader's word changes
 
   -- another reader's progress is unchanged
-  word_others : (y : ReaderView) (n q : ℕ) → y.number ≡ x.number → q ≢ x.number → let w = writer_of g s.views in
-      shown (set s.words (x.number + 1) n) w (put_reader y (reader_of g s.views)) q ≡ shown s.words w (reader_of g s.views) q
-  word_others y n q same other = Moves.word_other s.words (writer_of g s.views) (reader_of g s.views) x y n q same other
+  word_others : (y : ReaderView) (n q : ℕ) → y.number ≡ x.number → q ≢ x.number →
+      shown (set s.words (x.number + 1) n) w (put_reader y readers) q ≡ shown s.words w readers q
+  word_others y n q same other = Moves.word_other s.words w readers x y n q same other
 
   -- and so are its lanes, read plainly
-  word_lanes_others : (y : ReaderView) (n q : ℕ) → y.number ≡ x.number → q ≢ x.number → let w = writer_of g s.views in let ws = set s.words (x.number + 1) n in
-      lanes_known g.places ws s.homes w (put_reader y (reader_of g s.views)) q
-      ≡ plain_lanes (head_shown s.words) (shown ws w (put_reader y (reader_of g s.views)) q) (lanes_known g.places s.words s.homes w (reader_of g s.views) q)
+  word_lanes_others : (y : ReaderView) (n q : ℕ) → y.number ≡ x.number → q ≢ x.number → let ws = set s.words (x.number + 1) n in
+      lanes_known g.places ws s.homes w (put_reader y readers) q
+      ≡ plain_lanes (head_shown s.words) (shown ws w (put_reader y readers) q) (lanes_known g.places s.words s.homes w readers q)
   word_lanes_others y n q same other =
-      let w = writer_of g s.views in
-      let readers = reader_of g s.views in
       let ws = set s.words (x.number + 1) n in
       let p = shown ws w (put_reader y readers) q in
       lanes_others ws s.homes y q same other
@@ -230,16 +228,10 @@ module _ (g : RingNumbers) (s : RingState) (id : ℕ) (x : ReaderView) (k : Kept
   advance_event may =
       let r = x.number in
       let c = x.taken in
-      let w = writer_of g s.views in
-      let readers = reader_of g s.views in
       let y = went_on x in
-      let head = head_shown s.words in
       let ws = set s.words (r + 1) (c + 1) in
       let t = changed s ws s.homes id (Reader y) in
-      let p = shown s.words w readers in
       let q = shown ws w (put_reader y readers) in
-      let lanes = lanes_known g.places s.words s.homes w readers in
-      let made = before_made g s w k refl in
       let kept = by_reader g s id x y ws s.homes k at refl (omega arith) (λ f. f) told_here (Moves.advance_holds g s.words w readers x k.holds is_here in_range may.joined may.ahead)
       (ReaderLanes.advance_keeps g s.words s.homes w readers k.holds k.lanes x is_here in_range may) in
       let cursor = Moves.joined_shown g s.words w readers x k.holds is_here in_range may.joined in
@@ -252,7 +244,7 @@ module _ (g : RingNumbers) (s : RingState) (id : ℕ) (x : ReaderView) (k : Kept
       let start = read_closed r (schedule_shown g s) in
       let start_made = After.closed_made (schedule_shown g s) g.places g.total head g.readers p lanes made r shut in_range shut_here shut_there in
       let can = (λ i. can_advance (shown_was i) ((shut_here ∙ ap unsettled lanes_was) i)) ∙ ReaderLanes.advance_possible g s.words s.homes w readers k.holds k.lanes x is_here in_range may in
-      let own : q r ≡ advanced c (p r) = Moves.advance_own g s.words w readers x k.holds is_here in_range may.ahead in
+      let own : q r ≡ advanced c (p r) = Moves.by_view ws w readers y r refl ∙ Moves.advance_own g s.words w readers x k.holds is_here in_range may.ahead in
       let own_lanes : lanes_known g.places ws s.homes w (put_reader y readers) r ≡ plain_lanes head (q r) (done r) =
       lanes_own ws s.homes y refl ∙ (ReaderLanes.advance_lanes_are g s.words s.homes w readers k.holds k.lanes x is_here in_range may
       ∙ (λ i. plain_lanes head ((ap (advanced c) (sym shown_was) ∙ sym own) i) ((ap (λ z. settled (unsettled z)) (sym lanes_was) ∙ (ap settled (sym shut_here) ∙ sym done_here)) i))) in
@@ -271,20 +263,14 @@ module _ (g : RingNumbers) (s : RingState) (id : ℕ) (x : ReaderView) (k : Kept
   pub leave_event : x.left ≡ false → x.out ≡ false → IsEvent g s (stepped s (x.number + 1) left_word id [] (Reader (gone x)) keeps) (Leave x.number)
   leave_event joined home =
       let r = x.number in
-      let w = writer_of g s.views in
-      let readers = reader_of g s.views in
       let y = gone x in
-      let head = head_shown s.words in
       let ws = set s.words (r + 1) left_word in
       let t = changed s ws s.homes id (Reader y) in
-      let p = shown s.words w readers in
       let q = shown ws w (put_reader y readers) in
-      let lanes = lanes_known g.places s.words s.homes w readers in
-      let made = before_made g s w k refl in
       let kept = by_reader g s id x y ws s.homes k at refl (omega arith) (λ f. refl) told_here (Moves.leave_holds g s.words w readers x k.holds is_here in_range joined)
       (ReaderLanes.leave_keeps g s.words s.homes w readers k.holds k.lanes x is_here in_range joined home) in
       let can = (λ i. can_leave (shown_was i) (lanes_was i)) ∙ ReaderLanes.leave_possible g s.words s.homes w readers k.holds k.lanes x is_here in_range joined home in
-      let own : q r ≡ departed (p r) = Moves.leave_own g s.words w readers x k.holds is_here in_range in
+      let own : q r ≡ departed (p r) = Moves.by_view ws w readers y r refl ∙ Moves.leave_own g s.words w readers x k.holds is_here in_range in
       let own_lanes : lanes_known g.places ws s.homes w (put_reader y readers) r ≡ plain_lanes head (q r) (lanes r) =
       lanes_own ws s.homes y refl ∙ (ReaderLanes.leave_lanes_are g s.words s.homes w readers k.holds k.lanes x is_here in_range joined home
       ∙ (λ i. plain_lanes head ((ap departed (sym shown_was) ∙ sym own) i) (sym lanes_was i))) in

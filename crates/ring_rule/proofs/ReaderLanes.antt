@@ -43,28 +43,38 @@ module _ (g : RingNumbers) (words : List ℕ) (homes : Homes) (w : WriterView) (
   joined_at : x.left ≡ false → cursor_shown words x.number ≡ Some x.taken
   joined_at = Moves.joined_shown g words w readers x h is l
 
+  -- One view is new: its reader's lanes are as that view says, and those of the others are as before
+  lanes_hold : (ws : List ℕ) (hs : Homes) (y : ReaderView) → y.number ≡ x.number → length hs ≡ length homes → (y.out ≡ true → OutFits y)
+      → ((n : ℕ) → LaneIs g (head_shown ws) (home_at hs (lane_place g.places x.number n)) (is_handed g.places w x.number n || is_held g.places y n))
+      → ((q n : ℕ) → q ≢ x.number → LaneIs g (head_shown words) (home_at homes (lane_place g.places q n)) (is_away g.places w readers q n) → LaneIs g (head_shown ws) (home_at hs (lane_place g.places q n)) (is_away g.places w readers q n))
+      → IsSoundLanes g.places g.total (head_shown ws) (shown_by ws w y x.number) (lanes_by g.places ws hs w y x.number)
+      → ((q : ℕ) → q ≢ x.number → IsSoundLanes g.places g.total (head_shown words) (shown words w readers q) (lanes_by g.places words homes w (readers q) q)
+      → IsSoundLanes g.places g.total (head_shown ws) (shown_by ws w (readers q) q) (lanes_by g.places ws hs w (readers q) q))
+      → HoldsLanes g ws hs w (put_reader y readers)
+  lanes_hold ws hs y number long fits lane other_lanes sound others =
+      let r = x.number in
+      record {
+        rows_in = m.rows_in;
+        even = m.even;
+        deep = long ∙ m.deep;
+        filled_in = m.filled_in;
+        hand_fits = m.hand_fits;
+        out_fits = put_each readers y (λ q z. q < g.readers → z.out ≡ true → OutFits z) r number (λ k. fits) (λ q o. m.out_fits q);
+        lane_is = λ q n. put_each readers y (λ q z. q < g.readers → LaneIs g (head_shown ws) (home_at hs (lane_place g.places q n)) (is_handed g.places w q n || is_held g.places z n)) r number
+            (λ k. lane n) (λ q o k. other_lanes q n o (m.lane_is q n k)) q;
+        sound = put_each readers y (λ q z. q < g.readers → IsSoundLanes g.places g.total (head_shown ws) (shown_by ws w z q) (lanes_by g.places ws hs w z q)) r number
+            (λ k. sound) (λ q o k. others q o (m.sound q k));
+      }
+
   -- See
 
   pub see_keeps : HoldsLanes g words homes w (put_reader (saw_head (get_or words 0 0) x) readers)
   see_keeps =
-      let r = x.number in
-      let y = saw_head (get_or words 0 0) x in
-      let head = head_shown words in
-      record {
-        rows_in = m.rows_in;
-        even = m.even;
-        deep = m.deep;
-        filled_in = m.filled_in;
-        hand_fits = m.hand_fits;
-        out_fits = put_each readers y (λ q z. q < g.readers → z.out ≡ true → OutFits z) r refl
-            (λ k o. let f = out_here o in record { joined = f.joined; ahead = let a = f.ahead in let s = progress_here.seen_in in omega arith })
-            (λ q o. m.out_fits q);
-        lane_is = λ q n. put_each readers y (λ q z. q < g.readers → LaneIs g head (home_at homes (lane_place g.places q n)) (is_handed g.places w q n || is_held g.places z n)) r refl
-            (λ k. lane_here n) (λ q o. m.lane_is q n) q;
-        sound = put_each readers y (λ q z. q < g.readers → IsSoundLanes g.places g.total head (shown_by words w z q) (lanes_by g.places words homes w z q)) r refl
-            (λ k. see_lanes g.places g.total head (shown_by words w x r) (lanes_by g.places words homes w x r) progress_here sound_here)
-            (λ q o. m.sound q);
-      }
+      lanes_hold words homes (saw_head (get_or words 0 0) x) refl refl
+      (λ o. let f = out_here o in record { joined = f.joined; ahead = let a = f.ahead in let s = progress_here.seen_in in omega arith })
+      lane_here (λ q n o a. a)
+      (see_lanes g.places g.total (head_shown words) (shown_by words w x x.number) (lanes_by g.places words homes w x x.number) progress_here sound_here)
+      (λ q o a. a)
 
   -- A view changes in fields that neither words nor slots show
 
@@ -72,23 +82,13 @@ module _ (g : RingNumbers) (words : List ℕ) (homes : Homes) (w : WriterView) (
   view_keeps y number out taken left seen =
       let r = x.number in
       let head = head_shown words in
-      record {
-        rows_in = m.rows_in;
-        even = m.even;
-        deep = m.deep;
-        filled_in = m.filled_in;
-        hand_fits = m.hand_fits;
-        out_fits = put_each readers y (λ q z. q < g.readers → z.out ≡ true → OutFits z) r number
-            (λ k o. let f = out_here (sym out ∙ o) in record { joined = left ∙ f.joined; ahead = let a = f.ahead in omega arith })
-            (λ q o. m.out_fits q);
-        lane_is = λ q n. put_each readers y (λ q z. q < g.readers → LaneIs g head (home_at homes (lane_place g.places q n)) (is_handed g.places w q n || is_held g.places z n)) r number
-            (λ k. subst (λ t. t) (λ i. LaneIs g head (home_at homes (lane_place g.places r n)) (is_handed g.places w r n || (sym out i && nat_eq (n % g.places) (sym taken i % g.places)))) (lane_here n))
-            (λ q o. m.lane_is q n) q;
-        sound = put_each readers y (λ q z. q < g.readers → IsSoundLanes g.places g.total head (shown_by words w z q) (lanes_by g.places words homes w z q)) r number
-            (λ k. subst (λ t. t) (λ i. IsSoundLanes g.places g.total head record { known = cursor_in (get_or w.known r 0); cursor = cursor_shown words r; seen = sym seen i; taken = up_to (sym taken i) }
-            record { filled = get_or w.filled r false; stage = cond (sym out i) Holding Idle; row = row_shown g.places words homes r }) sound_here)
-            (λ q o. m.sound q);
-      }
+      lanes_hold words homes y number refl
+      (λ o. let f = out_here (sym out ∙ o) in record { joined = left ∙ f.joined; ahead = let a = f.ahead in omega arith })
+      (λ n. subst (λ t. t) (λ i. LaneIs g head (home_at homes (lane_place g.places r n)) (is_handed g.places w r n || (sym out i && nat_eq (n % g.places) (sym taken i % g.places)))) (lane_here n))
+      (λ q n o a. a)
+      (subst (λ t. t) (λ i. IsSoundLanes g.places g.total head record { known = cursor_in (get_or w.known r 0); cursor = cursor_shown words r; seen = sym seen i; taken = up_to (sym taken i) }
+      record { filled = get_or w.filled r false; stage = cond (sym out i) Holding Idle; row = row_shown g.places words homes r }) sound_here)
+      (λ q o a. a)
 
   -- Take
 
@@ -126,6 +126,10 @@ module _ (g : RingNumbers) (words : List ℕ) (homes : Homes) (w : WriterView) (
       let row = λ (k : ℕ). ap (λ a. counted (head_shown words) (cursor_shown words q) (number_in a)) (home_else g.places x.number n homes v q k h.sound.some_place other) in
       λ i. record { filled = get_or w.filled q false; stage = stage_by z; row = λ k. row k i }
 
+  slot_else : (v : AtHome Slot) (n q k : ℕ) → q ≢ x.number → LaneIs g (head_shown words) (home_at homes (lane_place g.places q k)) (is_away g.places w readers q k)
+      → LaneIs g (head_shown words) (home_at (set homes (lane_place g.places x.number n) v) (lane_place g.places q k)) (is_away g.places w readers q k)
+  slot_else v n q k other = subst (λ a. LaneIs g (head_shown words) a (is_away g.places w readers q k)) (sym (home_else g.places x.number n homes v q k h.sound.some_place other))
+
   pub take_possible : MayTake x → can_open (shown_by words w x x.number) (lanes_by g.places words homes w x x.number) ≡ true
   take_possible may = (λ i. is_below x.seen (joined_at may.joined i) && is_idle (cond (may.home i) Holding Idle)) ∙ (λ i. lt-ltb x.taken x.seen may.ahead i && true)
 
@@ -135,33 +139,23 @@ module _ (g : RingNumbers) (words : List ℕ) (homes : Homes) (w : WriterView) (
       let c = x.taken in
       let y = took x in
       let head = head_shown words in
-      let place = lane_place g.places r c in
-      let hs = set homes place none in
-      let here : place < length homes = slot_in g words homes w readers r c h m l in
+      let hs = set homes (lane_place g.places r c) none in
+      let here = slot_in g words homes w readers r c h m l in
       let p = shown_by words w x r in
       let old = lanes_by g.places words homes w x r in
-      record {
-        rows_in = m.rows_in;
-        even = m.even;
-        deep = length-set homes place none ∙ m.deep;
-        filled_in = m.filled_in;
-        hand_fits = m.hand_fits;
-        out_fits = put_each readers y (λ q z. q < g.readers → z.out ≡ true → OutFits z) r refl (λ k o. record { joined = may.joined; ahead = may.ahead }) (λ q o. m.out_fits q);
-        lane_is = λ q n. put_each readers y (λ q z. q < g.readers → LaneIs g head (home_at hs (lane_place g.places q n)) (is_handed g.places w q n || is_held g.places z n)) r refl
-            (λ k. elim (cases_eq (n % g.places) (c % g.places)) [
-              | inl same ↦
-                  let away : (is_handed g.places w r n || is_held g.places y n) ≡ true = (λ i. is_handed g.places w r n || eq-eqb (n % g.places) (c % g.places) same i) ∙ or_true (is_handed g.places w r n) in
-                  subst (LaneIs g head (home_at hs (lane_place g.places r n))) (sym away) (home_same g.places r c homes none r n here record { reader = refl; place = same })
-              | inr apart ↦
-                  let was : (is_handed g.places w r n || is_held g.places x n) ≡ (is_handed g.places w r n || is_held g.places y n) =
-                  (λ i. is_handed g.places w r n || (may.home i && nat_eq (n % g.places) (c % g.places))) ∙ (λ i. is_handed g.places w r n || sym (ne_eqb (n % g.places) (c % g.places) apart) i) in
-                  subst (λ t. t) (λ i. LaneIs g head (sym (home_apart g.places r c homes none r n refl apart) i) (was i)) (lane_here n)
-            ])
-            (λ q other k. subst (λ a. LaneIs g head a (is_away g.places w readers q n)) (sym (home_else g.places r c homes none q n h.sound.some_place other)) (m.lane_is q n k)) q;
-        sound = put_each readers y (λ q z. q < g.readers → IsSoundLanes g.places g.total head (shown_by words w z q) (lanes_by g.places words hs w z q)) r refl
-            (λ k. subst (λ t. IsSoundLanes g.places g.total head p t) (sym (take_lanes_are may)) (open_lanes g.places g.total head p old c (joined_at may.joined) (take_possible may) progress_here sound_here))
-            (λ q other k. subst (λ t. IsSoundLanes g.places g.total head (shown words w readers q) t) (sym (lanes_else none c q (readers q) other)) (m.sound q k));
-      }
+      lanes_hold words hs y refl (length-set homes (lane_place g.places r c) none) (λ o. record { joined = may.joined; ahead = may.ahead })
+      (λ n. elim (cases_eq (n % g.places) (c % g.places)) [
+        | inl same ↦
+            let away : (is_handed g.places w r n || is_held g.places y n) ≡ true = (λ i. is_handed g.places w r n || eq-eqb (n % g.places) (c % g.places) same i) ∙ or_true (is_handed g.places w r n) in
+            subst (LaneIs g head (home_at hs (lane_place g.places r n))) (sym away) (home_same g.places r c homes none r n here record { reader = refl; place = same })
+        | inr apart ↦
+            let was : (is_handed g.places w r n || is_held g.places x n) ≡ (is_handed g.places w r n || is_held g.places y n) =
+            (λ i. is_handed g.places w r n || (may.home i && nat_eq (n % g.places) (c % g.places))) ∙ (λ i. is_handed g.places w r n || sym (ne_eqb (n % g.places) (c % g.places) apart) i) in
+            subst (λ t. t) (λ i. LaneIs g head (sym (home_apart g.places r c homes none r n refl apart) i) (was i)) (lane_here n)
+      ])
+      (slot_else none c)
+      (subst (λ t. IsSoundLanes g.places g.total head p t) (sym (take_lanes_are may)) (open_lanes g.places g.total head p old c (joined_at may.joined) (take_possible may) progress_here sound_here))
+      (λ q other. subst (λ t. IsSoundLanes g.places g.total head (shown words w readers q) t) (sym (lanes_else none c q (readers q) other)))
 
   -- Give
 
@@ -185,38 +179,28 @@ module _ (g : RingNumbers) (words : List ℕ) (homes : Homes) (w : WriterView) (
       let y = gave x in
       let f = out_here out in
       let head = head_shown words in
-      let place = lane_place g.places r c in
       let v = some (Some lane) in
-      let hs = set homes place v in
-      let here : place < length homes = slot_in g words homes w readers r c h m l in
+      let hs = set homes (lane_place g.places r c) v in
+      let here = slot_in g words homes w readers r c h m l in
       let p = shown_by words w x r in
       let old = lanes_by g.places words homes w x r in
       let at = joined_at f.joined in
       let below : c < head = let s = progress_here.seen_in in let a = f.ahead in omega arith in
-      record {
-        rows_in = m.rows_in;
-        even = m.even;
-        deep = length-set homes place v ∙ m.deep;
-        filled_in = m.filled_in;
-        hand_fits = m.hand_fits;
-        out_fits = put_each readers y (λ q z. q < g.readers → z.out ≡ true → OutFits z) r refl (λ k o. cc) (λ q o. m.out_fits q);
-        lane_is = λ q n. put_each readers y (λ q z. q < g.readers → LaneIs g head (home_at hs (lane_place g.places q n)) (is_handed g.places w q n || is_held g.places z n)) r refl
-            (λ k. elim (cases_eq (n % g.places) (c % g.places)) [
-              | inl same ↦
-                  let off : is_handed g.places w r n ≡ false = ap (λ j. is_number r w.hand && nat_eq j (w.head % g.places)) same ∙ not_handed g words homes w readers h m r c l at below in
-                  let home : (is_handed g.places w r n || false) ≡ false = λ i. off i || false in
-                  subst (LaneIs g head (home_at hs (lane_place g.places r n))) (sym home) (lane, home_same g.places r c homes v r n here record { reader = refl; place = same }, fits)
-              | inr apart ↦
-                  let was : (is_handed g.places w r n || is_held g.places x n) ≡ (is_handed g.places w r n || false) =
-                  (λ i. is_handed g.places w r n || (x.out && ne_eqb (n % g.places) (c % g.places) apart i)) ∙ (λ i. is_handed g.places w r n || and_false x.out i) in
-                  subst (λ t. t) (λ i. LaneIs g head (sym (home_apart g.places r c homes v r n refl apart) i) (was i)) (lane_here n)
-            ])
-            (λ q other k. subst (λ a. LaneIs g head a (is_away g.places w readers q n)) (sym (home_else g.places r c homes v q n h.sound.some_place other)) (m.lane_is q n k)) q;
-        sound = put_each readers y (λ q z. q < g.readers → IsSoundLanes g.places g.total head (shown_by words w z q) (lanes_by g.places words hs w z q)) r refl
-            (λ k. sound_by g.places g.total head p (closed g.places c old) (lanes_by g.places words hs w y r) progress_here (close_lanes g.places g.total head p old c at (give_possible out) progress_here sound_here)
-            (lanes_plain g.places words hs w y r p refl ∙ ap (plain_lanes head p) (give_lanes_are lane out number)))
-            (λ q other k. subst (λ t. IsSoundLanes g.places g.total head (shown words w readers q) t) (sym (lanes_else v c q (readers q) other)) (m.sound q k));
-      }
+      lanes_hold words hs y refl (length-set homes (lane_place g.places r c) v) (λ o. cc)
+      (λ n. elim (cases_eq (n % g.places) (c % g.places)) [
+        | inl same ↦
+            let off : is_handed g.places w r n ≡ false = ap (λ j. is_number r w.hand && nat_eq j (w.head % g.places)) same ∙ not_handed g words homes w readers h m r c l at below in
+            let home : (is_handed g.places w r n || false) ≡ false = λ i. off i || false in
+            subst (LaneIs g head (home_at hs (lane_place g.places r n))) (sym home) (lane, home_same g.places r c homes v r n here record { reader = refl; place = same }, fits)
+        | inr apart ↦
+            let was : (is_handed g.places w r n || is_held g.places x n) ≡ (is_handed g.places w r n || false) =
+            (λ i. is_handed g.places w r n || (x.out && ne_eqb (n % g.places) (c % g.places) apart i)) ∙ (λ i. is_handed g.places w r n || and_false x.out i) in
+            subst (λ t. t) (λ i. LaneIs g head (sym (home_apart g.places r c homes v r n refl apart) i) (was i)) (lane_here n)
+      ])
+      (slot_else v c)
+      (sound_by g.places g.total head p (closed g.places c old) (lanes_by g.places words hs w y r) progress_here (close_lanes g.places g.total head p old c at (give_possible out) progress_here sound_here)
+      (lanes_plain g.places words hs w y r p refl ∙ ap (plain_lanes head p) (give_lanes_are lane out number)))
+      (λ q other. subst (λ t. IsSoundLanes g.places g.total head (shown words w readers q) t) (sym (lanes_else v c q (readers q) other)))
 
   -- The reader's word changes
 
@@ -239,34 +223,22 @@ module _ (g : RingNumbers) (words : List ℕ) (homes : Homes) (w : WriterView) (
   word_keeps n y number home still sound =
       let r = x.number in
       let ws = set words (r + 1) n in
-      let head = head_shown words in
       let at = head_then n in
-      record {
-        rows_in = m.rows_in;
-        even = m.even;
-        deep = m.deep;
-        filled_in = m.filled_in;
-        hand_fits = m.hand_fits;
-        out_fits = put_each readers y (λ q z. q < g.readers → z.out ≡ true → OutFits z) r number (λ k o. cc) (λ q o. m.out_fits q);
-        lane_is = λ q k. put_each readers y (λ q z. q < g.readers → LaneIs g (head_shown ws) (home_at homes (lane_place g.places q k)) (is_handed g.places w q k || is_held g.places z k)) r number
-            (λ j.
-            let was : (is_handed g.places w r k || is_held g.places x k) ≡ (is_handed g.places w r k || is_held g.places y k) =
-            (λ i. is_handed g.places w r k || (home i && nat_eq (k % g.places) (x.taken % g.places))) ∙ (λ i. is_handed g.places w r k || (sym still i && nat_eq (k % g.places) (y.taken % g.places))) in
-            subst (λ t. t) (λ i. LaneIs g (sym at i) (home_at homes (lane_place g.places r k)) (was i)) (lane_here k))
-            (λ q other j. subst (λ a. LaneIs g a (home_at homes (lane_place g.places q k)) (is_away g.places w readers q k)) (sym at) (m.lane_is q k j)) q;
-        sound = put_each readers y (λ q z. q < g.readers → IsSoundLanes g.places g.total (head_shown ws) (shown_by ws w z q) (lanes_by g.places ws homes w z q)) r number
-            (λ k. subst (λ a. IsSoundLanes g.places g.total a (shown_by ws w y r) (lanes_by g.places ws homes w y r)) (sym at) sound)
-            (λ q other k.
-            let shows : shown_by ws w (readers q) q ≡ shown words w readers q = λ i. record { known = cursor_in (get_or w.known q 0); cursor = cursor_else n q other i; seen = (readers q).seen; taken = up_to (readers q).taken } in
-            subst (λ t. t) (λ i. IsSoundLanes g.places g.total (sym at i) (sym shows i) (sym (word_lanes_else n q (readers q) other) i)) (m.sound q k));
-      }
+      lanes_hold ws homes y number refl (λ o. cc)
+      (λ k.
+      let was : (is_handed g.places w r k || is_held g.places x k) ≡ (is_handed g.places w r k || is_held g.places y k) =
+      (λ i. is_handed g.places w r k || (home i && nat_eq (k % g.places) (x.taken % g.places))) ∙ (λ i. is_handed g.places w r k || (sym still i && nat_eq (k % g.places) (y.taken % g.places))) in
+      subst (λ t. t) (λ i. LaneIs g (sym at i) (home_at homes (lane_place g.places r k)) (was i)) (lane_here k))
+      (λ q k other. subst (λ a. LaneIs g a (home_at homes (lane_place g.places q k)) (is_away g.places w readers q k)) (sym at))
+      (subst (λ a. IsSoundLanes g.places g.total a (shown_by ws w y r) (lanes_by g.places ws homes w y r)) (sym at) sound)
+      (λ q other.
+      let shows : shown_by ws w (readers q) q ≡ shown words w readers q = λ i. record { known = cursor_in (get_or w.known q 0); cursor = cursor_else n q other i; seen = (readers q).seen; taken = up_to (readers q).taken } in
+      subst (λ t. t) (λ i. IsSoundLanes g.places g.total (sym at i) (sym shows i) (sym (word_lanes_else n q (readers q) other) i)))
 
   -- Advance
 
   pub advance_shows : MayTake x → shown_by (set words (x.number + 1) (x.taken + 1)) w (went_on x) x.number ≡ advanced x.taken (shown_by words w x x.number)
-  advance_shows may =
-      let ws = set words (x.number + 1) (x.taken + 1) in
-      sym (Moves.by_view ws w readers (went_on x) x.number refl) ∙ (Moves.advance_own g words w readers x h is l may.ahead ∙ ap (λ (z : ReaderView). advanced x.taken (shown_by words w z x.number)) is)
+  advance_shows may = Moves.advance_own g words w readers x h is l may.ahead ∙ ap (λ (z : ReaderView). advanced x.taken (shown_by words w z x.number)) is
 
   pub advance_lanes_are : MayTake x → lanes_by g.places (set words (x.number + 1) (x.taken + 1)) homes w (went_on x) x.number
       ≡ plain_lanes (head_shown words) (advanced x.taken (shown_by words w x x.number)) (settled (unsettled (lanes_by g.places words homes w x x.number)))
@@ -306,9 +278,7 @@ module _ (g : RingNumbers) (words : List ℕ) (homes : Homes) (w : WriterView) (
   -- Leave
 
   pub leave_shows : x.left ≡ false → shown_by (set words (x.number + 1) left_word) w (gone x) x.number ≡ departed (shown_by words w x x.number)
-  leave_shows joined =
-      let ws = set words (x.number + 1) left_word in
-      sym (Moves.by_view ws w readers (gone x) x.number refl) ∙ (Moves.leave_own g words w readers x h is l ∙ ap (λ (z : ReaderView). departed (shown_by words w z x.number)) is)
+  leave_shows joined = Moves.leave_own g words w readers x h is l ∙ ap (λ (z : ReaderView). departed (shown_by words w z x.number)) is
 
   pub leave_lanes_are : x.left ≡ false → x.out ≡ false → lanes_by g.places (set words (x.number + 1) left_word) homes w (gone x) x.number
       ≡ plain_lanes (head_shown words) (departed (shown_by words w x x.number)) (lanes_by g.places words homes w x x.number)

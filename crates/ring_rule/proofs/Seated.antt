@@ -1,6 +1,6 @@
 -- The table's conditions on each call, for a seat whose invariant gives its view, and the seat after the
 -- call.
-use Rattle.std.proofs.Common.{◌≡◌, ℕ, ◌+◌, ◌<◌, Bool, true, false, cond, [], ◌∷◌, sym, ◌∙◌, refl, ap, subst}
+use Rattle.std.proofs.Common.{◌≡◌, ℕ, ◌+◌, ◌<◌, Bool, true, false, cond, [], ◌∷◌, sym, ◌∙◌, refl, ap, subst, arith}
 use Rattle.std.specs.Prelude.{Some, None}
 use Rattle.std.proofs.lemmas.Bool.{false≢true}
 use mathlib.Core.Option.{none}
@@ -21,6 +21,23 @@ use Rattle.ring_rule.specs.Plays.{Sat, writer_in, reader_in, slot_for, slot_of, 
 use Rattle.ring_rule.specs.Seats.{seated_writer, seated_reader, held_by, IsWriterSeat, IsReaderSeat}
 use Rattle.ring_rule.proofs.WriterCalls
 use Rattle.ring_rule.proofs.ReaderCalls
+
+-- a seat's table has a word for the head and one for each reader
+pub writer_words : {g : RingNumbers} {shared own : TableId} {m : Sat} {places head total : ℕ} → IsWriterSeat g shared own m places head total → shared.words ≡ g.readers + 1
+writer_words i = sym (ap (λ (t : TableId). t.words) i.table) ∙ i.words
+
+pub reader_words : {g : RingNumbers} {shared own : TableId} {m : Sat} {number places cursor seen : ℕ} {closed : Bool} → IsReaderSeat g shared own m number places cursor seen closed → shared.words ≡ g.readers + 1
+reader_words i = sym (ap (λ (t : TableId). t.words) i.table) ∙ i.words
+
+-- the word of the reader's cursor
+pub reader_word : {g : RingNumbers} {shared own : TableId} {m : Sat} {number places cursor seen : ℕ} {closed : Bool} → IsReaderSeat g shared own m number places cursor seen closed → number + 1 < shared.words
+reader_word i =
+    let words = reader_words i in
+    let range = i.number_in in
+    omega arith
+
+pub reader_index : {g : RingNumbers} {shared own : TableId} {m : Sat} {number places cursor seen : ℕ} {closed : Bool} → IsReaderSeat g shared own m number places cursor seen closed → number + 1 ≡ (reader_in m.0).number + 1
+reader_index i = ap (λ n. n + 1) (sym i.number_is)
 
 module _ (g : RingNumbers) (slots id : ℕ) (m : Sat) (w : WriterView) (e : m ≡ seated_writer w) where
   pub may_look : (r : ℕ) → r < g.readers → w.hand ≡ None → Allows (Kept g) slots id m (r + 1) (λ n. n) (LooksAt (step slots (r + 1) 0 0 none) m)
@@ -60,27 +77,29 @@ may_place g slots id r slot m w lane e place hand number row =
     let P : Sat → Type 0 = λ m. Allows (Kept g) slots id m 0 (λ n. n) (PlacesAt (step slots 0 0 0 none) m) in
     subst P (sym e) (WriterCalls.places g slots id w r slot lane place hand number row)
 
--- the writer's seat after loading a cursor
-pub looked_seat : (g : RingNumbers) (shared own after : TableId) (slots r n places head total : ℕ) (m later : Sat) → IsWriterSeat g shared own m places head total → after ≡ own → LooksAt (step slots (r + 1) 0 0 none) m n later
-    → IsWriterSeat g shared after later places head total
-looked_seat g shared own after slots r n places head total m later i t h =
-    let l = h r refl in
-    let w = writer_in m.0 in
-    let v = looked_at r n w in
-    let seat : later ≡ (Writer v, []) = l.seat ∙ (λ j. (Writer v, (i.me_is j).1)) in
+-- the writer's seat with another view of the same ring, hand and head
+seat_with : (g : RingNumbers) (shared own last : TableId) (places head total : ℕ) (m later : Sat) (v : WriterView) → IsWriterSeat g shared own m places head total → last ≡ own → later ≡ seated_writer v
+    → v.ring ≡ (writer_in m.0).ring → v.hand ≡ (writer_in m.0).hand → v.head ≡ (writer_in m.0).head → IsWriterSeat g shared last later places head total
+seat_with g shared own last places head total m later v i t seat ring hand at =
     let is : writer_in later.0 ≡ v = ap (λ (x : Sat). writer_in x.0) seat in
-    let count : after.words ≡ own.words = ap (λ (x : TableId). x.words) t in
     record {
       table = t ∙ i.table;
-      words = count ∙ i.words;
+      words = ap (λ (x : TableId). x.words) t ∙ i.words;
       me_is = seat ∙ ap seated_writer (sym is);
-      ring = ap (λ (u : WriterView). u.ring) is ∙ i.ring;
-      hand = ap (λ (u : WriterView). u.hand) is ∙ i.hand;
+      ring = ap (λ (u : WriterView). u.ring) is ∙ (ring ∙ i.ring);
+      hand = ap (λ (u : WriterView). u.hand) is ∙ (hand ∙ i.hand);
       some_place = i.some_place;
       places_is = i.places_is;
-      head_is = i.head_is ∙ sym (ap (λ (u : WriterView). u.head) is);
+      head_is = i.head_is ∙ (sym at ∙ sym (ap (λ (u : WriterView). u.head) is));
       total_is = i.total_is;
     }
+
+-- the writer's seat after loading a cursor
+pub looked_seat : {g : RingNumbers} {shared own : TableId} {places head total : ℕ} {m : Sat} (after : TableId) (slots r n : ℕ) (later : Sat) → IsWriterSeat g shared own m places head total → after ≡ own
+    → LooksAt (step slots (r + 1) 0 0 none) m n later → IsWriterSeat g shared after later places head total
+looked_seat {g} {shared} {own} {places} {head} {total} {m} after slots r n later i t h =
+    let v = looked_at r n (writer_in m.0) in
+    seat_with g shared own after places head total m later v i t ((h r refl).seat ∙ (λ j. (Writer v, (i.me_is j).1))) refl refl refl
 
 -- with no lane out, a reader's seat holds no slot
 pub empty_hands : (m : Sat) → m ≡ seated_reader (reader_in m.0) → (reader_in m.0).out ≡ false → m ≡ (Reader (reader_in m.0), [])
@@ -124,10 +143,9 @@ module _ (g : RingNumbers) (slots id : ℕ) (m : Sat) (x : ReaderView) where
       subst (λ z. z) (λ i. P (sym e i) (sym f i)) (ReaderCalls.meets g slots id x other n)
 
 -- the index of the reader's lane for its next row
-pub reader_slot : (g : RingNumbers) (shared own : TableId) (m : Sat) (number places cursor seen : ℕ) (closed : Bool) → IsReaderSeat g shared own m number places cursor seen closed
+pub reader_slot : {g : RingNumbers} {shared own : TableId} {m : Sat} {number places cursor seen : ℕ} {closed : Bool} → IsReaderSeat g shared own m number places cursor seen closed
     → slot_of (reader_in m.0) ≡ lane_place places number cursor
-reader_slot g shared own m number places cursor seen closed i =
-    let x = reader_in m.0 in
+reader_slot {g} {shared} {own} {m} {number} {places} {cursor} i =
     (λ j. lane_place (i.ring j).places (i.number_is j) (sym i.cursor_is j)) ∙ (λ j. lane_place (i.places_is j) number cursor)
 
 -- the slot that a reader holds once it has taken its row
@@ -172,8 +190,8 @@ given_seat g shared own last number places cursor seen slot closed lane m mid af
     }
 
 -- the index of the writer's lane of a reader for row head
-pub writer_slot : (g : RingNumbers) (shared own : TableId) (m : Sat) (places head total r : ℕ) → IsWriterSeat g shared own m places head total → slot_for (writer_in m.0) r ≡ lane_place places r head
-writer_slot g shared own m places head total r i = (λ j. lane_place (i.ring j).places r (sym i.head_is j)) ∙ (λ j. lane_place (i.places_is j) r head)
+pub writer_slot : {g : RingNumbers} {shared own : TableId} {m : Sat} {places head total : ℕ} (r : ℕ) → IsWriterSeat g shared own m places head total → slot_for (writer_in m.0) r ≡ lane_place places r head
+writer_slot {g} {shared} {own} {m} {places} {head} r i = (λ j. lane_place (i.ring j).places r (sym i.head_is j)) ∙ (λ j. lane_place (i.places_is j) r head)
 
 -- the slot that the writer holds once it has taken it
 pub picked_slot : (m after : Sat) (r slot : ℕ) → m ≡ seated_writer (writer_in m.0) → slot_for (writer_in m.0) r ≡ slot → IsPick r m after → (old : Slot) × (after.1 ≡ (slot, old) ∷ rest after.1)
@@ -199,23 +217,9 @@ reader_after m o mid n e f h = h ∙ (λ i. (met (e i).0 (f i).0, (e i).1))
 pub writer_after : (m o mid : Sat) (n : CursorNoteView) → m ≡ seated_writer (writer_in m.0) → o ≡ (CursorNote n, []) → mid ≡ (met m.0 o.0, m.1) → mid ≡ seated_writer (writer_met n (writer_in m.0))
 writer_after m o mid n e f h = h ∙ (λ i. (met (e i).0 (f i).0, (e i).1))
 
-pub met_writer_seat : (g : RingNumbers) (shared own last : TableId) (places head total : ℕ) (m mid : Sat) (n : CursorNoteView) → IsWriterSeat g shared own m places head total → last ≡ own → mid ≡ seated_writer (writer_met n (writer_in m.0))
-    → IsWriterSeat g shared last mid places head total
-met_writer_seat g shared own last places head total m mid n i t e =
-    let v = writer_met n (writer_in m.0) in
-    let is : writer_in mid.0 ≡ v = ap (λ (x : Sat). writer_in x.0) e in
-    let count : last.words ≡ own.words = ap (λ (x : TableId). x.words) t in
-    record {
-      table = t ∙ i.table;
-      words = count ∙ i.words;
-      me_is = e ∙ ap seated_writer (sym is);
-      ring = ap (λ (u : WriterView). u.ring) is ∙ i.ring;
-      hand = ap (λ (u : WriterView). u.hand) is ∙ i.hand;
-      some_place = i.some_place;
-      places_is = i.places_is;
-      head_is = i.head_is ∙ sym (ap (λ (u : WriterView). u.head) is);
-      total_is = i.total_is;
-    }
+pub met_writer_seat : {g : RingNumbers} {shared own : TableId} {places head total : ℕ} {m : Sat} (last : TableId) (mid : Sat) (n : CursorNoteView) → IsWriterSeat g shared own m places head total → last ≡ own
+    → mid ≡ seated_writer (writer_met n (writer_in m.0)) → IsWriterSeat g shared last mid places head total
+met_writer_seat {g} {shared} {own} {places} {head} {total} {m} last mid n i t e = seat_with g shared own last places head total m mid (writer_met n (writer_in m.0)) i t e refl refl refl
 
 -- after a note was taken in, a load of the reader's cursor word is past the note
 pub told_past : (slots r n : ℕ) (m mid after : Sat) (note : CursorNoteView) → mid ≡ seated_writer (writer_met note (writer_in m.0)) → note.number ≡ r → LooksAt (step slots (r + 1) 0 0 none) mid n after → IsPastNote note n

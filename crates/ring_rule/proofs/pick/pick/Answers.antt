@@ -1,11 +1,10 @@
-use Rattle.std.proofs.Common.{◌≡◌, ap, subst, arith}
+use Rattle.std.proofs.Common.{subst, arith}
 use mathlib.Core.Option.{none}
 use Rattle.atomic_table.specs.Table.{step, Allows}
-use Rattle.atomic_table.specs.Seated.{TableId}
 use Rattle.ring_rule.specs.Kept.{Kept}
 use Rattle.ring_rule.specs.Plays.{writer_in, PicksAt}
 use Rattle.ring_rule.specs.Key.{key_ring}
-use Rattle.ring_rule.proofs.Seated.{may_pick}
+use Rattle.ring_rule.proofs.Seated.{writer_words, may_pick}
 use Rattle.ring_rule.proofs.pick.pick.Goals as goal
 
 pub load-requires : goal.load-requires
@@ -15,8 +14,7 @@ load-requires g c =
     let i = c.requires.seat in
     let w = writer_in seat.me.0 in
     let ring = key_ring g.D.Deal.rows g.D.Deal.size c.args.shared.now.key in
-    let words : seat.table_id.words ≡ table.words = ap (λ (t : TableId). t.words) i.table in
-    let count = i.words in (
+    let words = writer_words i in (
       i.table,
       omega arith,
       subst (λ r. Allows (Kept ring) table.slots seat.id seat.me 0 (λ n. n) (PicksAt r (step table.slots 0 0 0 none) seat.me)) c.requires.chosen

@@ -1,9 +1,8 @@
 use Rattle.std.proofs.Common.{◌≡◌, false, ap, sym, ◌∙◌, subst, arith}
-use Rattle.atomic_table.specs.Seated.{TableId}
 use Rattle.ring_rule.specs.Marks.{ReaderMark}
 use Rattle.ring_rule.specs.Plays.{Sat, reader_in, reader_met, IsPastHead}
 use Rattle.ring_rule.specs.Key.{key_ring}
-use Rattle.ring_rule.proofs.Seated.{may_meet_head, may_see, reader_after, told_head}
+use Rattle.ring_rule.proofs.Seated.{reader_words, may_meet_head, may_see, reader_after, told_head}
 use Rattle.ring_rule.proofs.reader.ReaderSeat.meet.Goals as goal
 
 pub join_seat-requires : goal.join_seat-requires
@@ -11,8 +10,7 @@ join_seat-requires g c =
     let s = c.self.inside in
     let i = c.self.invariant in
     let o = c.into_seat.result in
-    let words : s.seat.table_id.words ≡ s.shared.now.table_id.words = ap (λ (t : TableId). t.words) i.table in
-    let count = i.words in
+    let words = reader_words i in
     let own : c.args.note.table ≡ s.seat.table_id = subst (λ (m : ReaderMark). c.args.note.table ≡ m.table) (sym c.self.view_is) c.requires.table in
     let held = ap (λ (m : Sat). m.1) c.into_seat.ensures.me in (
       i.table,
@@ -28,8 +26,7 @@ load-found-requires g c =
     let i = c.self.invariant in
     let x = reader_in s.seat.me.0 in
     let table = c.join_seat.ensures.0 ∙ i.table in
-    let own : s.seat.table_id.words ≡ s.shared.now.table_id.words = ap (λ (t : TableId). t.words) i.table in
-    let count = i.words in
+    let words = reader_words i in
     let me = reader_after s.seat.me c.into_seat.result.me c.join_seat.new.seat.me c.args.note.note i.me_is c.into_seat.ensures.me c.join_seat.ensures.2 in
     let joined : x.left ≡ false = subst (λ (m : ReaderMark). m.view.left ≡ false) (sym c.self.view_is) c.requires.joined in (
       table,

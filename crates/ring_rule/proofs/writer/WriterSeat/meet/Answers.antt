@@ -3,7 +3,7 @@ use Rattle.atomic_table.specs.Seated.{TableId}
 use Rattle.ring_rule.specs.Marks.{WriterMark}
 use Rattle.ring_rule.specs.Plays.{Sat, writer_in, writer_met}
 use Rattle.ring_rule.specs.Key.{key_ring}
-use Rattle.ring_rule.proofs.Seated.{may_meet, may_look, writer_after, met_writer_seat, looked_seat, told_past}
+use Rattle.ring_rule.proofs.Seated.{writer_words, may_meet, may_look, writer_after, met_writer_seat, looked_seat, told_past}
 use Rattle.ring_rule.proofs.writer.WriterSeat.meet.Goals as goal
 
 pub join_seat-requires : goal.join_seat-requires
@@ -11,8 +11,7 @@ join_seat-requires g c =
     let s = c.self.inside in
     let i = c.self.invariant in
     let o = c.into_seat.result in
-    let words : s.seat.table_id.words ≡ s.shared.now.table_id.words = ap (λ (t : TableId). t.words) i.table in
-    let count = i.words in
+    let words = writer_words i in
     let own : c.args.note.table ≡ s.seat.table_id = subst (λ (m : WriterMark). c.args.note.table ≡ m.table) (sym c.self.view_is) c.requires in
     let held = ap (λ (m : Sat). m.1) c.into_seat.ensures.me in (
       i.table,
@@ -28,15 +27,14 @@ load-requires g c =
     let i = c.self.invariant in
     let w = writer_in s.seat.me.0 in
     let ring = key_ring g.D.Deal.rows g.D.Deal.size s.shared.now.key in
-    let table = c.join_seat.ensures.0 ∙ i.table in
-    let words : s.seat.table_id.words ≡ s.shared.now.table_id.words = ap (λ (t : TableId). t.words) i.table in
+    let words = writer_words i in
     let count = i.words in
     let own : c.args.note.table ≡ s.seat.table_id = subst (λ (m : WriterMark). c.args.note.table ≡ m.table) (sym c.self.view_is) c.requires in
     let same : c.args.note.table.words ≡ s.seat.table_id.words = ap (λ (t : TableId). t.words) own in
     let word = c.number-number.ensures.word in
     let in_range : c.number-number.result < ring.readers = omega arith in
     let me = writer_after s.seat.me c.into_seat.result.me c.join_seat.new.seat.me c.args.note.note i.me_is c.into_seat.ensures.me c.join_seat.ensures.2 in (
-      table,
+      c.join_seat.ensures.0 ∙ i.table,
       omega arith,
       may_look ring s.shared.now.table_id.slots c.join_seat.new.seat.id c.join_seat.new.seat.me (writer_met c.args.note.note w) me c.number-number.result in_range i.hand,
     )
@@ -45,12 +43,10 @@ pub invariant_of-self : goal.invariant_of-self
 invariant_of-self g c =
     let s = c.self.inside in
     let i = c.self.invariant in
-    let ring = key_ring g.D.Deal.rows g.D.Deal.size s.shared.now.key in
-    let shared = s.shared.now.table_id in
     let mid = c.join_seat.new.seat in
     let me = writer_after s.seat.me c.into_seat.result.me mid.me c.args.note.note i.me_is c.into_seat.ensures.me c.join_seat.ensures.2 in
-    let seat = met_writer_seat ring shared s.seat.table_id mid.table_id s.places s.head s.total s.seat.me mid.me c.args.note.note i c.join_seat.ensures.0 me in
-    looked_seat ring shared mid.table_id c.load.new.seat.table_id shared.slots c.number-number.result c.load.result s.places s.head s.total mid.me c.load.new.seat.me seat c.load.ensures.0 c.load.ensures.2
+    let seat = met_writer_seat mid.table_id mid.me c.args.note.note i c.join_seat.ensures.0 me in
+    looked_seat c.load.new.seat.table_id s.shared.now.table_id.slots c.number-number.result c.load.result c.load.new.seat.me seat c.load.ensures.0 c.load.ensures.2
 
 pub returns-clause-told : goal.returns-clause-told
 returns-clause-told g c =
