@@ -14,21 +14,10 @@ corner n = map (λ row. take n row) (take n THRESHOLDS)
 abbrev pub computed : ℕ → List (List ℕ)
 computed n = map (λ y. map (λ x. threshold_at n x y) (range_with_len 0 n)) (range_with_len 0 n)
 
-pub corner_16 : corner 16 ≡ computed 16
+-- the table is the recursion at each side
+corners : (corner 2 ≡ computed 2) × (corner 4 ≡ computed 4) × (corner 8 ≡ computed 8) × (corner 16 ≡ computed 16)
 unfolding index_in
-corner_16 = refl
-
-pub corner_8 : corner 8 ≡ computed 8
-unfolding index_in
-corner_8 = refl
-
-pub corner_4 : corner 4 ≡ computed 4
-unfolding index_in
-corner_4 = refl
-
-pub corner_2 : corner 2 ≡ computed 2
-unfolding index_in
-corner_2 = refl
+corners = (refl, refl, refl, refl)
 
 -- a number of a corner that equals the computed one
 corner_at : (n x y : ℕ) → corner n ≡ computed n → n ≤ 16 → x < n → y < n → get_or (take n (get_or THRESHOLDS y [])) x 0 ≡ threshold_at n x y
@@ -40,7 +29,7 @@ corner_at n x y same small column row =
     ∙ get_or-map-range_with_len (λ i. threshold_at n i y) 0 n x x 0 column (omega arith)
 
 pub table_at : (n x y : ℕ) → IsBayerSide n → x < n → y < n → get_or (take n (get_or THRESHOLDS y [])) x 0 ≡ threshold_at n x y
-table_at n x y (inl e) column row = corner_at n x y (let P : ℕ → Type 0 = λ m. corner m ≡ computed m in subst P (sym e) corner_2) (omega arith) column row
-table_at n x y (inr (inl e)) column row = corner_at n x y (let P : ℕ → Type 0 = λ m. corner m ≡ computed m in subst P (sym e) corner_4) (omega arith) column row
-table_at n x y (inr (inr (inl e))) column row = corner_at n x y (let P : ℕ → Type 0 = λ m. corner m ≡ computed m in subst P (sym e) corner_8) (omega arith) column row
-table_at n x y (inr (inr (inr e))) column row = corner_at n x y (let P : ℕ → Type 0 = λ m. corner m ≡ computed m in subst P (sym e) corner_16) (omega arith) column row
+table_at n x y (inl e) column row = corner_at n x y (let P : ℕ → Type 0 = λ m. corner m ≡ computed m in subst P (sym e) corners.0) (omega arith) column row
+table_at n x y (inr (inl e)) column row = corner_at n x y (let P : ℕ → Type 0 = λ m. corner m ≡ computed m in subst P (sym e) corners.1) (omega arith) column row
+table_at n x y (inr (inr (inl e))) column row = corner_at n x y (let P : ℕ → Type 0 = λ m. corner m ≡ computed m in subst P (sym e) corners.2) (omega arith) column row
+table_at n x y (inr (inr (inr e))) column row = corner_at n x y (let P : ℕ → Type 0 = λ m. corner m ≡ computed m in subst P (sym e) corners.3) (omega arith) column row
