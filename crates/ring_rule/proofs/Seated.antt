@@ -29,6 +29,10 @@ writer_words i = sym (ap (λ (t : TableId). t.words) i.table) ∙ i.words
 pub reader_words : {g : RingNumbers} {shared own : TableId} {m : Sat} {number places cursor seen : ℕ} {closed : Bool} → IsReaderSeat g shared own m number places cursor seen closed → shared.words ≡ g.readers + 1
 reader_words i = sym (ap (λ (t : TableId). t.words) i.table) ∙ i.words
 
+-- a reader of the view's ring is one of the ring
+pub one_of_readers : {g : RingNumbers} {shared own : TableId} {m : Sat} {places head total : ℕ} (r : ℕ) → IsWriterSeat g shared own m places head total → r < (writer_in m.0).ring.readers → r < g.readers
+one_of_readers r i within = subst (λ (z : RingNumbers). r < z.readers) i.ring within
+
 -- the word of the reader's cursor
 pub reader_word : {g : RingNumbers} {shared own : TableId} {m : Sat} {number places cursor seen : ℕ} {closed : Bool} → IsReaderSeat g shared own m number places cursor seen closed → number + 1 < shared.words
 reader_word i =

@@ -9,7 +9,6 @@ pub join_seat-requires : goal.join_seat-requires
 join_seat-requires g c =
     let s = c.self.inside in
     let i = c.self.invariant in
-    let o = c.into_seat.result in
     let words = reader_words i in
     let own : c.args.note.table ≡ s.seat.table_id = subst (λ (m : ReaderMark). c.args.note.table ≡ m.table) (sym c.self.view_is) c.requires.table in
     let held = ap (λ (m : Sat). m.1) c.into_seat.ensures.me in (
@@ -17,7 +16,7 @@ join_seat-requires g c =
       c.into_seat.ensures.table ∙ (own ∙ i.table),
       held,
       omega arith,
-      may_meet_head (key_ring g.D.Deal.rows g.D.Deal.size s.shared.now.key) s.shared.now.table_id.slots s.seat.id s.seat.me (reader_in s.seat.me.0) o.id o.me c.args.note.note i.me_is c.into_seat.ensures.me,
+      may_meet_head (key_ring g.D.Deal.rows g.D.Deal.size s.shared.now.key) s.shared.now.table_id.slots s.seat.id s.seat.me (reader_in s.seat.me.0) c.into_seat.result.id c.into_seat.result.me c.args.note.note i.me_is c.into_seat.ensures.me,
     )
 
 pub load-found-requires : goal.load-found-requires

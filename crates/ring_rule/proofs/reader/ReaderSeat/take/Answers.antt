@@ -9,9 +9,8 @@ pub load-requires : goal.load-requires
 load-requires g c =
     let s = c.self.inside in
     let i = c.self.invariant in
-    let x = reader_in s.seat.me.0 in
-    let may : MayTake x = subst (λ (m : ReaderMark). MayTake m.view) (sym c.self.view_is) c.requires in
-    (i.table, reader_word i, may_take (key_ring g.D.Deal.rows g.D.Deal.size s.shared.now.key) s.shared.now.table_id.slots s.seat.id s.seat.me x (s.number + 1) (empty_hands s.seat.me i.me_is may.home) (reader_index i) may)
+    let may : MayTake (reader_in s.seat.me.0) = subst (λ (m : ReaderMark). MayTake m.view) (sym c.self.view_is) c.requires in
+    (i.table, reader_word i, may_take (key_ring g.D.Deal.rows g.D.Deal.size s.shared.now.key) s.shared.now.table_id.slots s.seat.id s.seat.me (reader_in s.seat.me.0) (s.number + 1) (empty_hands s.seat.me i.me_is may.home) (reader_index i) may)
 
 pub exchange-requires : goal.exchange-requires
 exchange-requires g c =

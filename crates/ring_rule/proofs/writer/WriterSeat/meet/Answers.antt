@@ -10,7 +10,6 @@ pub join_seat-requires : goal.join_seat-requires
 join_seat-requires g c =
     let s = c.self.inside in
     let i = c.self.invariant in
-    let o = c.into_seat.result in
     let words = writer_words i in
     let own : c.args.note.table ≡ s.seat.table_id = subst (λ (m : WriterMark). c.args.note.table ≡ m.table) (sym c.self.view_is) c.requires in
     let held = ap (λ (m : Sat). m.1) c.into_seat.ensures.me in (
@@ -18,25 +17,23 @@ join_seat-requires g c =
       c.into_seat.ensures.table ∙ (own ∙ i.table),
       held,
       omega arith,
-      may_meet (key_ring g.D.Deal.rows g.D.Deal.size s.shared.now.key) s.shared.now.table_id.slots s.seat.id s.seat.me (writer_in s.seat.me.0) i.me_is o.id o.me c.args.note.note c.into_seat.ensures.me,
+      may_meet (key_ring g.D.Deal.rows g.D.Deal.size s.shared.now.key) s.shared.now.table_id.slots s.seat.id s.seat.me (writer_in s.seat.me.0) i.me_is c.into_seat.result.id c.into_seat.result.me c.args.note.note c.into_seat.ensures.me,
     )
 
 pub load-requires : goal.load-requires
 load-requires g c =
     let s = c.self.inside in
     let i = c.self.invariant in
-    let w = writer_in s.seat.me.0 in
-    let ring = key_ring g.D.Deal.rows g.D.Deal.size s.shared.now.key in
     let words = writer_words i in
     let count = i.words in
     let own : c.args.note.table ≡ s.seat.table_id = subst (λ (m : WriterMark). c.args.note.table ≡ m.table) (sym c.self.view_is) c.requires in
     let same : c.args.note.table.words ≡ s.seat.table_id.words = ap (λ (t : TableId). t.words) own in
     let word = c.number-number.ensures.word in
-    let in_range : c.number-number.result < ring.readers = omega arith in
+    let in_range : c.number-number.result < (key_ring g.D.Deal.rows g.D.Deal.size s.shared.now.key).readers = omega arith in
     let me = writer_after s.seat.me c.into_seat.result.me c.join_seat.new.seat.me c.args.note.note i.me_is c.into_seat.ensures.me c.join_seat.ensures.2 in (
       c.join_seat.ensures.0 ∙ i.table,
       omega arith,
-      may_look ring s.shared.now.table_id.slots c.join_seat.new.seat.id c.join_seat.new.seat.me (writer_met c.args.note.note w) me c.number-number.result in_range i.hand,
+      may_look (key_ring g.D.Deal.rows g.D.Deal.size s.shared.now.key) s.shared.now.table_id.slots c.join_seat.new.seat.id c.join_seat.new.seat.me (writer_met c.args.note.note (writer_in s.seat.me.0)) me c.number-number.result in_range i.hand,
     )
 
 pub invariant_of-self : goal.invariant_of-self
