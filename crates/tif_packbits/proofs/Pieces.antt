@@ -90,6 +90,28 @@ HasGiven-all ahead start into at given not_full =
     let whole : take (length ahead) ahead ≡ ahead = take_all (length ahead) ahead (omega arith) in
     (short, given.written ∙ (rw (at_end, whole) refl), sym (drop_all (length start) ahead (omega arith)))
 
+-- a piece that fills the buffer
+pub HasGiven-filled : (ahead start into piece behind part : List ℕ) (at n : ℕ) → HasGiven ahead start into (piece ++ behind) at
+    → n ≡ min (length piece) (length (take (length into - at) (drop at into)))
+    → part ≡ take n piece ++ drop n (take (length into - at) (drop at into))
+    → at + n ≡ length (put_mid at (length into - at) into part)
+    → (length start ≤ length ahead) × (put_mid at (length into - at) into part ≡ take (length start) ahead) × (drop n piece ++ behind ≡ drop (length start) ahead)
+HasGiven-filled ahead start into piece behind part at n given count is full =
+    HasGiven-full ahead start (put_mid at (length into - at) into part) (drop n piece ++ behind) (at + n) (HasGiven-piece ahead start into piece behind part at n given count is) full
+
+-- a last piece, which doesn't fill it
+pub HasGiven-ended : (ahead start into piece behind part : List ℕ) (at n : ℕ) → HasGiven ahead start into (piece ++ behind) at
+    → n ≡ min (length piece) (length (take (length into - at) (drop at into)))
+    → part ≡ take n piece ++ drop n (take (length into - at) (drop at into))
+    → (at + n ≡ length (put_mid at (length into - at) into part) → ⊥) → behind ≡ []
+    → (drop n piece ≡ []) × (length ahead < length start) × (put_mid at (length into - at) into part ≡ ahead ++ drop (length ahead) start) × ([] ≡ drop (length start) ahead)
+HasGiven-ended ahead start into piece behind part at n given count is not_full none =
+    let written = put_mid at (length into - at) into part in
+    let next = HasGiven-piece ahead start into piece behind part at n given count is in
+    let whole = HasGiven-whole ahead start into piece behind written at n given next count not_full in
+    let all = HasGiven-all ahead start written (at + n) (HasGiven-next ahead start written (drop n piece) behind [] [] (at + n) next whole none) not_full in
+    (whole, all.0, all.1, all.2)
+
 -- of `n` bytes to skip, `most` are still to be skipped, and `left` remains
 pub record HasPassed (ahead left : List ℕ) (n most : ℕ) : Type 0 where
   pub of_n : most ≤ n
@@ -137,3 +159,17 @@ HasPassed-all ahead n most passed more =
     let left_len : _ = length-drop (n - most) ahead in
     let short : length ahead < n = omega (arith, passed.of_n) in
     (short, sym (drop_all n ahead (omega arith)))
+
+-- a piece with the last bytes to be skipped
+pub HasPassed-filled : (ahead piece behind : List ℕ) (n most k : ℕ) → HasPassed ahead (piece ++ behind) n most → k ≡ min (length piece) most → most - k ≡ 0
+    → (n ≤ length ahead) × (drop k piece ++ behind ≡ drop n ahead)
+HasPassed-filled ahead piece behind n most k passed count none =
+    HasPassed-full ahead (drop k piece ++ behind) n (most - k) (HasPassed-piece ahead piece behind n most k passed count) none
+
+-- a last piece, behind which bytes are still to be skipped
+pub HasPassed-ended : (ahead piece behind : List ℕ) (n most k : ℕ) → HasPassed ahead (piece ++ behind) n most → k ≡ min (length piece) most → (most - k ≡ 0 → ⊥) → behind ≡ []
+    → (drop k piece ≡ []) × (length ahead < n) × ([] ≡ drop n ahead)
+HasPassed-ended ahead piece behind n most k passed count more none =
+    let whole = HasPassed-whole piece most k count more in
+    let all = HasPassed-all ahead n (most - k) (HasPassed-next ahead (drop k piece) behind [] [] n (most - k) (HasPassed-piece ahead piece behind n most k passed count) whole none) more in
+    (whole, all.0, all.1)

@@ -5,7 +5,7 @@ use Rattle.tif_packbits.specs.Packbits.{expansion}
 use Rattle.tif_packbits.specs.Packet.{left_of}
 use Rattle.tif_packbits.specs.PacketCursor.{Packets, packets_ahead}
 use Rattle.tif_packbits.proofs.Expansion.{expansion-none}
-use Rattle.tif_packbits.proofs.Pieces.{HasPassed-piece, HasPassed-whole, HasPassed-next, HasPassed-full, HasPassed-all}
+use Rattle.tif_packbits.proofs.Pieces.{HasPassed-piece, HasPassed-whole, HasPassed-next, HasPassed-filled, HasPassed-ended}
 use Rattle.tif_packbits.proofs.PacketOffsets.{behind-drop, packets-same}
 use Rattle.tif_packbits.proofs.packet_cursor.PacketCursor.skip.Goals as goal
 
@@ -29,16 +29,14 @@ pub returns-then-most-eq0-clause-short : goal.returns-then-most-eq0-clause-short
 returns-then-most-eq0-clause-short c =
     let own = c.loop-most.self-inside in
     let ahead : packets_ahead c.self.inside ≡ c.args.self.now.ahead = ap (λ (p : Packets). p.ahead) c.self.view_is in
-    let passed : _ = HasPassed-piece _ (left_of own.packet) (expansion (drop own.next own.packed.now)) _ c.loop-most.most c.pass-most.result c.loop-most.invariant.passed c.pass-most.ensures.count in
-    let full : _ = HasPassed-full _ _ _ _ passed c.if-most-eq0.true in
+    let full : _ = HasPassed-filled _ (left_of own.packet) (expansion (drop own.next own.packed.now)) _ c.loop-most.most c.pass-most.result c.loop-most.invariant.passed c.pass-most.ensures.count c.if-most-eq0.true in
     rw (← ahead) (λ is. cc, λ less. absurd (omega (arith, full.0)))
 
 pub returns-then-most-eq0-clause-enough : goal.returns-then-most-eq0-clause-enough
 returns-then-most-eq0-clause-enough c =
     let own = c.loop-most.self-inside in
     let ahead : packets_ahead c.self.inside ≡ c.args.self.now.ahead = ap (λ (p : Packets). p.ahead) c.self.view_is in
-    let passed : _ = HasPassed-piece _ (left_of own.packet) (expansion (drop own.next own.packed.now)) _ c.loop-most.most c.pass-most.result c.loop-most.invariant.passed c.pass-most.ensures.count in
-    let full : _ = HasPassed-full _ _ _ _ passed c.if-most-eq0.true in
+    let full : _ = HasPassed-filled _ (left_of own.packet) (expansion (drop own.next own.packed.now)) _ c.loop-most.most c.pass-most.result c.loop-most.invariant.passed c.pass-most.ensures.count c.if-most-eq0.true in
     rw (← ahead) full.0
 
 pub returns-then-most-eq0-clause-left : goal.returns-then-most-eq0-clause-left
@@ -46,8 +44,7 @@ returns-then-most-eq0-clause-left c =
     let own = c.loop-most.self-inside in
     let ahead : packets_ahead c.self.inside ≡ c.args.self.now.ahead = ap (λ (p : Packets). p.ahead) c.self.view_is in
     let packed : c.self.inside.packed.now ≡ c.args.self.now.packed = ap (λ (p : Packets). p.packed) c.self.view_is in
-    let passed : _ = HasPassed-piece _ (left_of own.packet) (expansion (drop own.next own.packed.now)) _ c.loop-most.most c.pass-most.result c.loop-most.invariant.passed c.pass-most.ensures.count in
-    let full : _ = HasPassed-full _ _ _ _ passed c.if-most-eq0.true in
+    let full : _ = HasPassed-filled _ (left_of own.packet) (expansion (drop own.next own.packed.now)) _ c.loop-most.most c.pass-most.result c.loop-most.invariant.passed c.pass-most.ensures.count c.if-most-eq0.true in
     packets-same _ _ _ _ (c.loop-most.invariant.same ∙ packed)
     (ap (λ front. front ++ expansion (drop own.next own.packed.now)) c.pass-most.ensures.left ∙ full.1 ∙ ap (drop c.args.n) ahead)
 
@@ -55,20 +52,16 @@ pub returns-then-is_empty-clause-short : goal.returns-then-is_empty-clause-short
 returns-then-is_empty-clause-short c =
     let own = c.loop-most.self-inside in
     let ahead : packets_ahead c.self.inside ≡ c.args.self.now.ahead = ap (λ (p : Packets). p.ahead) c.self.view_is in
-    let passed : _ = HasPassed-piece _ (left_of own.packet) (expansion (drop own.next own.packed.now)) _ c.loop-most.most c.pass-most.result c.loop-most.invariant.passed c.pass-most.ensures.count in
-    let whole : _ = HasPassed-whole (left_of own.packet) c.loop-most.most c.pass-most.result c.pass-most.ensures.count c.if-most-eq0.false in
     let none : expansion (drop own.next own.packed.now) ≡ [] = ap expansion (sym (take_rest own.packed.now own.next)) ∙ expansion-none _ (eqb-true _ _ (sym c.is_empty.ensures ∙ c.if-is_empty.true)) in
-    let all : _ = HasPassed-all _ _ _ (HasPassed-next _ _ _ [] [] _ _ passed whole none) c.if-most-eq0.false in
-    rw (← ahead) (λ is. all.0, λ less. refl)
+    let all : _ = HasPassed-ended _ (left_of own.packet) (expansion (drop own.next own.packed.now)) _ c.loop-most.most c.pass-most.result c.loop-most.invariant.passed c.pass-most.ensures.count c.if-most-eq0.false none in
+    rw (← ahead) (λ is. all.1, λ less. refl)
 
 pub returns-then-is_empty-clause-left : goal.returns-then-is_empty-clause-left
 returns-then-is_empty-clause-left c =
     let own = c.loop-most.self-inside in
     let ahead : packets_ahead c.self.inside ≡ c.args.self.now.ahead = ap (λ (p : Packets). p.ahead) c.self.view_is in
     let packed : c.self.inside.packed.now ≡ c.args.self.now.packed = ap (λ (p : Packets). p.packed) c.self.view_is in
-    let passed : _ = HasPassed-piece _ (left_of own.packet) (expansion (drop own.next own.packed.now)) _ c.loop-most.most c.pass-most.result c.loop-most.invariant.passed c.pass-most.ensures.count in
-    let whole : _ = HasPassed-whole (left_of own.packet) c.loop-most.most c.pass-most.result c.pass-most.ensures.count c.if-most-eq0.false in
     let none : expansion (drop own.next own.packed.now) ≡ [] = ap expansion (sym (take_rest own.packed.now own.next)) ∙ expansion-none _ (eqb-true _ _ (sym c.is_empty.ensures ∙ c.if-is_empty.true)) in
-    let all : _ = HasPassed-all _ _ _ (HasPassed-next _ _ _ [] [] _ _ passed whole none) c.if-most-eq0.false in
+    let all : _ = HasPassed-ended _ (left_of own.packet) (expansion (drop own.next own.packed.now)) _ c.loop-most.most c.pass-most.result c.loop-most.invariant.passed c.pass-most.ensures.count c.if-most-eq0.false none in
     packets-same _ _ _ _ (c.loop-most.invariant.same ∙ packed)
-    ((rw (c.pass-most.ensures.left, whole, none) refl) ∙ all.1 ∙ ap (drop c.args.n) ahead)
+    ((rw (c.pass-most.ensures.left, all.0, none) refl) ∙ all.2 ∙ ap (drop c.args.n) ahead)

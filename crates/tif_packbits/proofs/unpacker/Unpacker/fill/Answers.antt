@@ -3,7 +3,7 @@ use Rattle.std.proofs.lemmas.Bool.{eqb-true}
 use Rattle.tif_packbits.specs.Packbits.{expansion}
 use Rattle.tif_packbits.specs.Packet.{left_of}
 use Rattle.tif_packbits.proofs.Expansion.{expansion-none}
-use Rattle.tif_packbits.proofs.Pieces.{HasGiven-none, HasGiven-piece, HasGiven-whole, HasGiven-next, HasGiven-full, HasGiven-all}
+use Rattle.tif_packbits.proofs.Pieces.{HasGiven-none, HasGiven-piece, HasGiven-whole, HasGiven-next, HasGiven-filled, HasGiven-ended}
 use Rattle.tif_packbits.proofs.unpacker.Unpacker.fill.Goals as goal
 
 pub loop-at-init : goal.loop-at-init
@@ -17,48 +17,38 @@ loop-at-preserved c =
 
 pub returns-then-at-into-clause-short : goal.returns-then-at-into-clause-short
 returns-then-at-into-clause-short c =
-    let given : _ = HasGiven-piece _ _ _ (left_of c.loop-at.packet) (expansion c.loop-at.rest.now) _ c.loop-at.at c.give-at.result c.loop-at.invariant c.give-at.ensures.count c.give-at.ensures.given in
-    let full : _ = HasGiven-full _ _ _ _ _ given c.if-at-into.true in
+    let full : _ = HasGiven-filled _ _ _ (left_of c.loop-at.packet) (expansion c.loop-at.rest.now) _ c.loop-at.at c.give-at.result c.loop-at.invariant c.give-at.ensures.count c.give-at.ensures.given c.if-at-into.true in
     rw (← c.self.view_is) (λ is. cc, λ less. absurd (omega (arith, full.0)))
 
 pub returns-then-at-into-clause-enough : goal.returns-then-at-into-clause-enough
 returns-then-at-into-clause-enough c =
-    let given : _ = HasGiven-piece _ _ _ (left_of c.loop-at.packet) (expansion c.loop-at.rest.now) _ c.loop-at.at c.give-at.result c.loop-at.invariant c.give-at.ensures.count c.give-at.ensures.given in
-    let full : _ = HasGiven-full _ _ _ _ _ given c.if-at-into.true in
+    let full : _ = HasGiven-filled _ _ _ (left_of c.loop-at.packet) (expansion c.loop-at.rest.now) _ c.loop-at.at c.give-at.result c.loop-at.invariant c.give-at.ensures.count c.give-at.ensures.given c.if-at-into.true in
     rw (← c.self.view_is) full.0
 
 pub returns-then-at-into-clause-filled : goal.returns-then-at-into-clause-filled
 returns-then-at-into-clause-filled c =
-    let given : _ = HasGiven-piece _ _ _ (left_of c.loop-at.packet) (expansion c.loop-at.rest.now) _ c.loop-at.at c.give-at.result c.loop-at.invariant c.give-at.ensures.count c.give-at.ensures.given in
-    let full : _ = HasGiven-full _ _ _ _ _ given c.if-at-into.true in
+    let full : _ = HasGiven-filled _ _ _ (left_of c.loop-at.packet) (expansion c.loop-at.rest.now) _ c.loop-at.at c.give-at.result c.loop-at.invariant c.give-at.ensures.count c.give-at.ensures.given c.if-at-into.true in
     rw (← c.self.view_is) full.1
 
 pub returns-then-at-into-clause-left : goal.returns-then-at-into-clause-left
 returns-then-at-into-clause-left c =
-    let given : _ = HasGiven-piece _ _ _ (left_of c.loop-at.packet) (expansion c.loop-at.rest.now) _ c.loop-at.at c.give-at.result c.loop-at.invariant c.give-at.ensures.count c.give-at.ensures.given in
-    let full : _ = HasGiven-full _ _ _ _ _ given c.if-at-into.true in
+    let full : _ = HasGiven-filled _ _ _ (left_of c.loop-at.packet) (expansion c.loop-at.rest.now) _ c.loop-at.at c.give-at.result c.loop-at.invariant c.give-at.ensures.count c.give-at.ensures.given c.if-at-into.true in
     rw (← c.self.view_is, c.give-at.ensures.left) full.2
 
 pub returns-then-is_empty-clause-short : goal.returns-then-is_empty-clause-short
 returns-then-is_empty-clause-short c =
-    let given : _ = HasGiven-piece _ _ _ (left_of c.loop-at.packet) (expansion c.loop-at.rest.now) _ c.loop-at.at c.give-at.result c.loop-at.invariant c.give-at.ensures.count c.give-at.ensures.given in
-    let whole : _ = HasGiven-whole _ _ _ (left_of c.loop-at.packet) (expansion c.loop-at.rest.now) _ c.loop-at.at c.give-at.result c.loop-at.invariant given c.give-at.ensures.count c.if-at-into.false in
     let none : expansion c.loop-at.rest.now ≡ [] = expansion-none c.loop-at.rest.now (eqb-true _ _ (sym c.is_empty.ensures ∙ c.if-is_empty.true)) in
-    let all : _ = HasGiven-all _ _ _ _ (HasGiven-next _ _ _ _ _ [] [] _ given whole none) c.if-at-into.false in
-    rw (← c.self.view_is) (λ is. all.0, λ less. refl)
+    let all : _ = HasGiven-ended _ _ _ (left_of c.loop-at.packet) (expansion c.loop-at.rest.now) _ c.loop-at.at c.give-at.result c.loop-at.invariant c.give-at.ensures.count c.give-at.ensures.given c.if-at-into.false none in
+    rw (← c.self.view_is) (λ is. all.1, λ less. refl)
 
 pub returns-then-is_empty-clause-front : goal.returns-then-is_empty-clause-front
 returns-then-is_empty-clause-front c =
-    let given : _ = HasGiven-piece _ _ _ (left_of c.loop-at.packet) (expansion c.loop-at.rest.now) _ c.loop-at.at c.give-at.result c.loop-at.invariant c.give-at.ensures.count c.give-at.ensures.given in
-    let whole : _ = HasGiven-whole _ _ _ (left_of c.loop-at.packet) (expansion c.loop-at.rest.now) _ c.loop-at.at c.give-at.result c.loop-at.invariant given c.give-at.ensures.count c.if-at-into.false in
     let none : expansion c.loop-at.rest.now ≡ [] = expansion-none c.loop-at.rest.now (eqb-true _ _ (sym c.is_empty.ensures ∙ c.if-is_empty.true)) in
-    let all : _ = HasGiven-all _ _ _ _ (HasGiven-next _ _ _ _ _ [] [] _ given whole none) c.if-at-into.false in
-    rw (← c.self.view_is) all.1
+    let all : _ = HasGiven-ended _ _ _ (left_of c.loop-at.packet) (expansion c.loop-at.rest.now) _ c.loop-at.at c.give-at.result c.loop-at.invariant c.give-at.ensures.count c.give-at.ensures.given c.if-at-into.false none in
+    rw (← c.self.view_is) all.2
 
 pub returns-then-is_empty-clause-left : goal.returns-then-is_empty-clause-left
 returns-then-is_empty-clause-left c =
-    let given : _ = HasGiven-piece _ _ _ (left_of c.loop-at.packet) (expansion c.loop-at.rest.now) _ c.loop-at.at c.give-at.result c.loop-at.invariant c.give-at.ensures.count c.give-at.ensures.given in
-    let whole : _ = HasGiven-whole _ _ _ (left_of c.loop-at.packet) (expansion c.loop-at.rest.now) _ c.loop-at.at c.give-at.result c.loop-at.invariant given c.give-at.ensures.count c.if-at-into.false in
     let none : expansion c.loop-at.rest.now ≡ [] = expansion-none c.loop-at.rest.now (eqb-true _ _ (sym c.is_empty.ensures ∙ c.if-is_empty.true)) in
-    let all : _ = HasGiven-all _ _ _ _ (HasGiven-next _ _ _ _ _ [] [] _ given whole none) c.if-at-into.false in
-    rw (← c.self.view_is, c.give-at.ensures.left, whole, none) all.2
+    let all : _ = HasGiven-ended _ _ _ (left_of c.loop-at.packet) (expansion c.loop-at.rest.now) _ c.loop-at.at c.give-at.result c.loop-at.invariant c.give-at.ensures.count c.give-at.ensures.given c.if-at-into.false none in
+    rw (← c.self.view_is, c.give-at.ensures.left, all.0, none) all.3
