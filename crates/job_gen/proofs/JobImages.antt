@@ -10,21 +10,26 @@ use Rattle.pr_base.specs.Bits.{bit_at, bit_number, byte_bit, packed_byte, packed
 use Rattle.pr_base.specs.Row.{row_size}
 use Rattle.pr_base.proofs.Bits.{length-packed_row}
 use Rattle.tif_strips.specs.Strips.{image_row}
+use Rattle.tif_image.specs.declared.usage.BilevelUse.{BilevelUse}
 use Rattle.tif_image.specs.declared.usage.BilevelUse.TheVariants.{Line as LineUse, Mask as MaskUse}
 use Rattle.tif_image.specs.Image.{is_marked}
 use Rattle.tif_make.specs.declared.form.ImageForm.{ImageForm}
+use Rattle.tif_make.specs.declared.form.Kind.{Kind}
+use Rattle.tif_make.specs.declared.form.Kind.TheVariants.{Line, Mask}
+use Rattle.tif_make.specs.declared.form.Compression.{Compression}
+use Rattle.tif_make.specs.declared.form.Compression.TheVariants.{Uncompressed, PackBits}
 use Rattle.tif_make.specs.declared.form.Planar.TheVariants.{Chunky, Separate}
-use Rattle.tif_make.specs.Form.{row_length}
+use Rattle.tif_make.specs.Form.{photometric_of, row_length}
 use Rattle.tif_make.specs.Image.{image_file}
 use Rattle.tif_make.specs.Made.{HasRows}
 use Rattle.tif_make.specs.Strips.{row_at}
-use Rattle.job_gen.specs.Images.{contone_bytes, contone_form, contone_pixel, contone_row, contone_rows, line_bytes, line_form, line_marked, line_row, line_rows, mask_bytes, mask_form, mask_marked, mask_row, mask_rows, rows_of, sample}
+use Rattle.job_gen.specs.Images.{bilevel_form, contone_bytes, contone_form, contone_pixel, contone_row, contone_rows, line_bytes, line_form, line_marked, line_row, line_rows, mask_bytes, mask_form, mask_marked, mask_row, mask_rows, rows_of, sample}
 use Rattle.job_gen.specs.Made.{planar_number, shape_for}
 use Rattle.job_gen.specs.Numbers.{image_length, image_width, size_of}
-use Rattle.job_gen.specs.Passes.{ArePassing, IsContoneFile, IsLineFile, IsMaskFile, contone_shape_of, line_shape_of, mask_shape_of}
+use Rattle.job_gen.specs.Passes.{ArePassing, IsBilevelFile, IsContoneFile, IsLineFile, IsMaskFile, contone_shape_of}
 use Rattle.job_gen.proofs.MadeImage.{IsMakeable, bilevel-back, bilevel-row-back, contone-back, contone-row-back, file-within, order-of, photometric-of}
 use Rattle.job_gen.proofs.MadeStrips.{item-at, row-cut}
-use Rattle.job_gen.proofs.MadeTests.{line_is_bilevel, mask_is_bilevel}
+use Rattle.job_gen.proofs.MadeTests.{IsBilevelKind, line_is_bilevel, mask_is_bilevel}
 use Rattle.job_gen.proofs.ImageRows.{contone_row-length, rows-length}
 
 -- ---- the bits of a packed row
@@ -111,31 +116,37 @@ contone-can n f =
       small = omega arith;
     }
 
-pub line-can : (n : ℕ) → IsMakeable (line_form n) (line_rows n)
-unfolding line_row
-line-can n =
+few-bits : (n : ℕ) → image_length n * row_size (image_width n) ≤ 192 * 1024
+few-bits n = let s = sides n in few-bytes (image_length n) (row_size (image_width n)) 1024 (omega arith) (omega arith)
+
+-- packed rows of the image's width, in a file of one bit a pixel
+bilevel-can : (n rows_per_strip : ℕ) (kind : Kind) (compression : Compression) (row : ℕ → List ℕ) → ((y : ℕ) → length (row y) ≡ row_size (image_width n)) → 1 ≤ rows_per_strip → rows_per_strip ≤ 192
+    → row_length (bilevel_form kind compression rows_per_strip n) ≡ row_size (image_width n) → IsMakeable (bilevel_form kind compression rows_per_strip n) (rows_of row (image_length n))
+bilevel-can n rows_per_strip kind compression row long some few size =
     let s = sides n in
-    let total = rows-length (line_row (image_width n)) (row_size (image_width n)) (image_length n)
-    (λ y. length-packed_row (image_width n) (λ x. line_marked x y)) in
-    let few : image_length n * row_size (image_width n) ≤ 192 * 1024 = few-bytes (image_length n) (row_size (image_width n)) 1024 (omega arith) (omega arith) in
+    let total = rows-length row (row_size (image_width n)) (image_length n) long in
+    let small = few-bits n in
     record {
-      form_is = record { width = (omega arith, omega arith); length = (omega arith, omega arith); rows_per_strip = omega arith };
-      has = record { are = total; few = omega arith };
+      form_is = record { width = (omega arith, omega arith); length = (omega arith, omega arith); rows_per_strip = some };
+      has = record { are = total ∙ ap (λ k. image_length n * k) (sym size); few = omega arith };
       small = omega arith;
     }
 
-pub mask-can : (n : ℕ) → IsMakeable (mask_form n) (mask_rows n)
+line-row-length : (width y : ℕ) → length (line_row width y) ≡ row_size width
+unfolding line_row
+line-row-length width y = length-packed_row width (λ x. line_marked x y)
+
+mask-row-length : (width y : ℕ) → length (mask_row width y) ≡ row_size width
 unfolding mask_row
+mask-row-length width y = length-packed_row width (mask_marked width)
+
+pub line-can : (n : ℕ) → IsMakeable (line_form n) (line_rows n)
+line-can n = bilevel-can n 4 Line PackBits (line_row (image_width n)) (line-row-length (image_width n)) (omega arith) (omega arith) refl
+
+pub mask-can : (n : ℕ) → IsMakeable (mask_form n) (mask_rows n)
 mask-can n =
     let s = sides n in
-    let total = rows-length (mask_row (image_width n)) (row_size (image_width n)) (image_length n)
-    (λ y. length-packed_row (image_width n) (mask_marked (image_width n))) in
-    let few : image_length n * row_size (image_width n) ≤ 192 * 1024 = few-bytes (image_length n) (row_size (image_width n)) 1024 (omega arith) (omega arith) in
-    record {
-      form_is = record { width = (omega arith, omega arith); length = (omega arith, omega arith); rows_per_strip = omega arith };
-      has = record { are = total; few = omega arith };
-      small = omega arith;
-    }
+    bilevel-can n (image_length n) Mask Uncompressed (mask_row (image_width n)) (mask-row-length (image_width n)) (omega arith) (omega arith) refl
 
 -- the file of rows of at most 192 times 1,024 bytes
 few-all : (form : ImageForm) (rows : List ℕ) → IsMakeable form rows → form.length * row_length form ≤ 192 * 1024 → length (image_file form rows) ≤ 4000000
@@ -149,6 +160,10 @@ rows-same form other rows others e r has = subst (λ f. HasRows f rows) (sym e) 
 files-same : (form other : ImageForm) (rows others : List ℕ) → form ≡ other → rows ≡ others → image_file form rows ≡ image_file other others
 files-same form other rows others e r = ap (λ f. image_file f rows) e ∙ ap (image_file other) r
 
+-- a file with equal bytes
+ok-same : (result : Result (Vec ℕ) NoMemory) (a b : List ℕ) → a ≡ b → IfOk result (λ file. file.items ≡ a) → IfOk result (λ file. file.items ≡ b)
+ok-same result a b e h = subst (λ bytes. IfOk result (λ file. file.items ≡ bytes)) e h
+
 contone-is : (n f : ℕ) (form : ImageForm) (rows : List ℕ) → form ≡ contone_form n f → rows ≡ rows_of (contone_row n f form.width) form.length → rows ≡ contone_rows n f
 contone-is n f form rows e is = is ∙ ap (λ g. rows_of (contone_row n f g.width) g.length) e
 
@@ -156,9 +171,10 @@ pub contone-has : (n f : ℕ) (form : ImageForm) (rows : List ℕ) → form ≡ 
 contone-has n f form rows e is = rows-same form (contone_form n f) rows (contone_rows n f) e (contone-is n f form rows e is) (contone-can n f).has
 
 pub contone-made : (n f : ℕ) (form : ImageForm) (rows : List ℕ) → form ≡ contone_form n f → rows ≡ rows_of (contone_row n f form.width) form.length
-    → image_file form rows ≡ contone_bytes n f
+    → (result : Result (Vec ℕ) NoMemory) → IfOk result (λ file. file.items ≡ image_file form rows) → IfOk result (λ file. file.items ≡ contone_bytes n f)
 unfolding contone_bytes
-contone-made n f form rows e is = files-same form (contone_form n f) rows (contone_rows n f) e (contone-is n f form rows e is)
+contone-made n f form rows e is result =
+    ok-same result (image_file form rows) (contone_bytes n f) (files-same form (contone_form n f) rows (contone_rows n f) e (contone-is n f form rows e is))
 
 line-is : (n size : ℕ) (form : ImageForm) (rows : List ℕ) → form ≡ line_form n → size ≡ size_of n → rows ≡ rows_of (line_row (8 * (2 * size))) form.length → rows ≡ line_rows n
 line-is n size form rows e z is =
@@ -168,9 +184,10 @@ pub line-has : (n size : ℕ) (form : ImageForm) (rows : List ℕ) → form ≡ 
 line-has n size form rows e z is = rows-same form (line_form n) rows (line_rows n) e (line-is n size form rows e z is) (line-can n).has
 
 pub line-made : (n size : ℕ) (form : ImageForm) (rows : List ℕ) → form ≡ line_form n → size ≡ size_of n → rows ≡ rows_of (line_row (8 * (2 * size))) form.length
-    → image_file form rows ≡ line_bytes n
+    → (result : Result (Vec ℕ) NoMemory) → IfOk result (λ file. file.items ≡ image_file form rows) → IfOk result (λ file. file.items ≡ line_bytes n)
 unfolding line_bytes
-line-made n size form rows e z is = files-same form (line_form n) rows (line_rows n) e (line-is n size form rows e z is)
+line-made n size form rows e z is result =
+    ok-same result (image_file form rows) (line_bytes n) (files-same form (line_form n) rows (line_rows n) e (line-is n size form rows e z is))
 
 mask-is : (n size : ℕ) (form : ImageForm) (rows : List ℕ) → form ≡ mask_form n → size ≡ size_of n → rows ≡ rows_of (mask_row (16 * size)) form.length → rows ≡ mask_rows n
 mask-is n size form rows e z is =
@@ -180,13 +197,10 @@ pub mask-has : (n size : ℕ) (form : ImageForm) (rows : List ℕ) → form ≡ 
 mask-has n size form rows e z is = rows-same form (mask_form n) rows (mask_rows n) e (mask-is n size form rows e z is) (mask-can n).has
 
 pub mask-made : (n size : ℕ) (form : ImageForm) (rows : List ℕ) → form ≡ mask_form n → size ≡ size_of n → rows ≡ rows_of (mask_row (16 * size)) form.length
-    → image_file form rows ≡ mask_bytes n
+    → (result : Result (Vec ℕ) NoMemory) → IfOk result (λ file. file.items ≡ image_file form rows) → IfOk result (λ file. file.items ≡ mask_bytes n)
 unfolding mask_bytes
-mask-made n size form rows e z is = files-same form (mask_form n) rows (mask_rows n) e (mask-is n size form rows e z is)
-
--- a file with equal bytes
-pub ok-same : (result : Result (Vec ℕ) NoMemory) (a b : List ℕ) → a ≡ b → IfOk result (λ file. file.items ≡ a) → IfOk result (λ file. file.items ≡ b)
-ok-same result a b e h = subst (λ bytes. IfOk result (λ file. file.items ≡ bytes)) e h
+mask-made n size form rows e z is result =
+    ok-same result (image_file form rows) (mask_bytes n) (files-same form (mask_form n) rows (mask_rows n) e (mask-is n size form rows e z is))
 
 -- ---- and they pass
 
@@ -216,57 +230,42 @@ contone-file n f =
           (few-bytes (image_length n) (4 * image_width n) 1024 (omega arith) (omega arith));
     }
 
-line-row-length : (width y : ℕ) → length (line_row width y) ≡ row_size width
-unfolding line_row
-line-row-length width y = length-packed_row width (λ x. line_marked x y)
-
 line-bit : (width x y : ℕ) → x < width → bit_at (line_row width y) x ≡ line_marked x y
 unfolding line_row
 line-bit width x y below = bit_at-packed_row width (λ k. line_marked k y) x below
-
-mask-row-length : (width y : ℕ) → length (mask_row width y) ≡ row_size width
-unfolding mask_row
-mask-row-length width y = length-packed_row width (mask_marked width)
 
 mask-bit : (width x y : ℕ) → x < width → bit_at (mask_row width y) x ≡ mask_marked width x
 unfolding mask_row
 mask-bit width x y below = bit_at-packed_row width (mask_marked width) x below
 
+-- an image of one bit a pixel, made of rows with these marked pixels
+bilevel-file : (usage : BilevelUse) (form : ImageForm) (row : ℕ → List ℕ) (marked : ℕ → ℕ → Bool) → IsBilevelKind usage form.kind → IsMakeable form (rows_of row form.length)
+    → ((r : List ℕ) (x : ℕ) → is_marked (photometric_of form.kind) r x ≡ bit_at r x) → ((y : ℕ) → length (row y) ≡ row_length form) → ((x y : ℕ) → x < form.width → bit_at (row y) x ≡ marked x y)
+    → form.length * row_length form ≤ 192 * 1024 → IsBilevelFile usage (shape_for 1 1 form) marked (image_file form (rows_of row form.length))
+bilevel-file usage form row marked is can shows long bit few =
+    let rows = rows_of row form.length in
+    let file = image_file form rows in
+    record {
+      passes = bilevel-back usage form rows is can;
+      pixels = λ x y wide high.
+          ap (λ p. is_marked p (image_row (shape_for 1 1 form) file y) x) (photometric-of form rows can)
+          ∙ shows (image_row (shape_for 1 1 form) file y) x
+          ∙ ap (λ r. bit_at r x) (bilevel-row-back usage form rows y is can high ∙ cut-row row (row_length form) form.length y long high)
+          ∙ bit x y wide;
+      small = few-all form rows can few;
+    }
+
 line-file : (n : ℕ) → IsLineFile n (line_bytes n)
 unfolding line_bytes
 line-file n =
-    let can = line-can n in
-    let file = image_file (line_form n) (line_rows n) in
-    let s = sides n in
-    record {
-      passes = bilevel-back LineUse (line_form n) (line_rows n) line_is_bilevel can;
-      pixels = λ x y wide high.
-          ap (λ p. is_marked p (image_row (line_shape_of n) file y) x) (photometric-of (line_form n) (line_rows n) can)
-          ∙ ap (λ row. bit_at row x)
-          (bilevel-row-back LineUse (line_form n) (line_rows n) y line_is_bilevel can high
-          ∙ cut-row (line_row (image_width n)) (row_size (image_width n)) (image_length n) y (λ k. line-row-length (image_width n) k) high)
-          ∙ line-bit (image_width n) x y wide;
-      small = few-all (line_form n) (line_rows n) can
-          (few-bytes (image_length n) (row_size (image_width n)) 1024 (omega arith) (omega arith));
-    }
+    bilevel-file LineUse (line_form n) (line_row (image_width n)) line_marked line_is_bilevel (line-can n) (λ r x. refl) (line-row-length (image_width n))
+    (λ x y. line-bit (image_width n) x y) (few-bits n)
 
 mask-file : (n : ℕ) → IsMaskFile n (mask_bytes n)
 unfolding mask_bytes
 mask-file n =
-    let can = mask-can n in
-    let file = image_file (mask_form n) (mask_rows n) in
-    let s = sides n in
-    record {
-      passes = bilevel-back MaskUse (mask_form n) (mask_rows n) mask_is_bilevel can;
-      pixels = λ x y wide high.
-          ap (λ p. is_marked p (image_row (mask_shape_of n) file y) x) (photometric-of (mask_form n) (mask_rows n) can)
-          ∙ ap (λ row. bit_at row x)
-          (bilevel-row-back MaskUse (mask_form n) (mask_rows n) y mask_is_bilevel can high
-          ∙ cut-row (mask_row (image_width n)) (row_size (image_width n)) (image_length n) y (λ k. mask-row-length (image_width n) k) high)
-          ∙ mask-bit (image_width n) x y wide;
-      small = few-all (mask_form n) (mask_rows n) can
-          (few-bytes (image_length n) (row_size (image_width n)) 1024 (omega arith) (omega arith));
-    }
+    bilevel-file MaskUse (mask_form n) (mask_row (image_width n)) (λ x y. mask_marked (image_width n) x) mask_is_bilevel (mask-can n) (λ r x. refl) (mask-row-length (image_width n))
+    (λ x y. mask-bit (image_width n) x y) (few-bits n)
 
 -- all images of a job
 pub images_pass : (n : ℕ) → ArePassing n (contone_bytes n) (line_bytes n) (mask_bytes n)

@@ -233,48 +233,41 @@ pub record Looks (form : ImageForm) (places counts : List ℕ) (planar : Planar)
   pub ink_set : field_of file 332 ≡ Ok None
   pub dot_range : field_of file 336 ≡ Ok None
 
+-- a field that chunky and separate samples have alike
+known-either : (form : ImageForm) (places counts : List ℕ) (planar : Planar) (file : List ℕ) (tag : ℕ) (values : Option (List ℕ))
+    → ((tag : ℕ) → field_of file tag ≡ Ok (lookup tag (take (field_count planar) (all_fields form places counts))))
+    → lookup tag (take (field_count Chunky) (all_fields form places counts)) ≡ values → lookup tag (take (field_count Separate) (all_fields form places counts)) ≡ values → field_of file tag ≡ Ok values
+known-either form places counts Chunky file tag values known chunky separate = known tag ∙ ap Ok chunky
+known-either form places counts Separate file tag values known chunky separate = known tag ∙ ap Ok separate
+
+known-planar : (form : ImageForm) (places counts : List ℕ) (planar : Planar) (file : List ℕ)
+    → ((tag : ℕ) → field_of file tag ≡ Ok (lookup tag (take (field_count planar) (all_fields form places counts)))) → field_of file 284 ≡ Ok (planar_values planar)
+unfolding all_fields
+known-planar form places counts Chunky file known = known 284
+known-planar form places counts Separate file known = known 284
+
 looks-by : (form : ImageForm) (places counts : List ℕ) (planar : Planar) (file : List ℕ)
     → ((tag : ℕ) → field_of file tag ≡ Ok (lookup tag (take (field_count planar) (all_fields form places counts)))) → Looks form places counts planar file
 unfolding all_fields
-looks-by form places counts Chunky file known = record {
-  width = known 256;
-  length_is = known 257;
-  bits = known 258;
-  compression = known 259;
-  photometric = known 262;
-  fill_order = known 266;
-  offsets = known 273;
-  orientation = known 274;
-  samples = known 277;
-  rows = known 278;
-  byte_counts = known 279;
-  planar_is = known 284;
-  tile_width = known 322;
-  tile_length = known 323;
-  tile_offsets = known 324;
-  tile_byte_counts = known 325;
-  ink_set = known 332;
-  dot_range = known 336;
-}
-looks-by form places counts Separate file known = record {
-  width = known 256;
-  length_is = known 257;
-  bits = known 258;
-  compression = known 259;
-  photometric = known 262;
-  fill_order = known 266;
-  offsets = known 273;
-  orientation = known 274;
-  samples = known 277;
-  rows = known 278;
-  byte_counts = known 279;
-  planar_is = known 284;
-  tile_width = known 322;
-  tile_length = known 323;
-  tile_offsets = known 324;
-  tile_byte_counts = known 325;
-  ink_set = known 332;
-  dot_range = known 336;
+looks-by form places counts planar file known = record {
+  width = known-either form places counts planar file 256 _ known refl refl;
+  length_is = known-either form places counts planar file 257 _ known refl refl;
+  bits = known-either form places counts planar file 258 _ known refl refl;
+  compression = known-either form places counts planar file 259 _ known refl refl;
+  photometric = known-either form places counts planar file 262 _ known refl refl;
+  fill_order = known-either form places counts planar file 266 _ known refl refl;
+  offsets = known-either form places counts planar file 273 _ known refl refl;
+  orientation = known-either form places counts planar file 274 _ known refl refl;
+  samples = known-either form places counts planar file 277 _ known refl refl;
+  rows = known-either form places counts planar file 278 _ known refl refl;
+  byte_counts = known-either form places counts planar file 279 _ known refl refl;
+  planar_is = known-planar form places counts planar file known;
+  tile_width = known-either form places counts planar file 322 _ known refl refl;
+  tile_length = known-either form places counts planar file 323 _ known refl refl;
+  tile_offsets = known-either form places counts planar file 324 _ known refl refl;
+  tile_byte_counts = known-either form places counts planar file 325 _ known refl refl;
+  ink_set = known-either form places counts planar file 332 _ known refl refl;
+  dot_range = known-either form places counts planar file 336 _ known refl refl;
 }
 
 image-known : (form : ImageForm) (places counts more : List ℕ) (tag : ℕ) → Fits form places counts

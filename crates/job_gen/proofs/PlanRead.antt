@@ -125,29 +125,19 @@ inks_are sites pages size least most =
     let high : nat_le (0 + 4) (8 + 48 * size + 8) ≡ true = grind (arith, nat_tests) in
     rw (wide, high) refl
 
-layout_four : (k size : ℕ) → k < 4
-    → layout false [] (value_with (k + 1) 4 size)
-    ≡ Ok (record { pages = text_pages 4; sections = job_sections 4; zones = job_zones 4; sites = job_sites (k + 1) })
+-- the lists of a plan with this many pages, each as its text is read
+layout_with : (k count size : ℕ) → k < 4 → ((path : List ℕ) → pages false path (list_of (pages_value count)) ≡ Ok (text_pages count))
+    → ((path : List ℕ) → sections (page_names (text_pages count)) path (list_of (sections_value count)) ≡ Ok (job_sections count))
+    → ((path : List ℕ) → zones (page_names (text_pages count)) (job_sections count) path (list_of zones_value) ≡ Ok (job_zones count))
+    → layout false [] (value_with (k + 1) count size)
+    ≡ Ok (record { pages = text_pages count; sections = job_sections count; zones = job_zones count; sites = job_sites (k + 1) })
 unfolding layout value_with printing_members layout_members required optional
-layout_four k size below =
+layout_with k count size below pages_are sections_are zones_are =
     rw (
-      pages_four (at_key [] (codes "pages")),
-      sections_four (at_key [] (codes "sections")),
-      zones_four (at_key [] (codes "zones")),
-      sites_are 4 k (at_key [] (codes "sites")) below,
-    )
-    refl
-
-layout_eight : (k size : ℕ) → k < 4
-    → layout false [] (value_with (k + 1) 8 size)
-    ≡ Ok (record { pages = text_pages 8; sections = job_sections 8; zones = job_zones 8; sites = job_sites (k + 1) })
-unfolding layout value_with printing_members layout_members required optional
-layout_eight k size below =
-    rw (
-      pages_eight (at_key [] (codes "pages")),
-      sections_eight (at_key [] (codes "sections")),
-      zones_eight (at_key [] (codes "zones")),
-      sites_are 8 k (at_key [] (codes "sites")) below,
+      pages_are (at_key [] (codes "pages")),
+      sections_are (at_key [] (codes "sections")),
+      zones_are (at_key [] (codes "zones")),
+      sites_are count k (at_key [] (codes "sites")) below,
     )
     refl
 
@@ -156,12 +146,12 @@ layout_eight k size below =
 plan_four : (k size : ℕ) → k < 4 → 1 ≤ size → size ≤ 16 → plan_in (value_with (k + 1) 4 size) ≡ Ok (plan_with (k + 1) 4 size)
 unfolding plan_in plan_by joined object_with required number value_with printing_members layout_members plan_with
 plan_four k size below least most =
-    rw (front_is (k + 1) 4 size least most, inks_are (k + 1) 4 size least most, layout_four k size below, joined_four.0, joined_four.1) refl
+    rw (front_is (k + 1) 4 size least most, inks_are (k + 1) 4 size least most, layout_with k 4 size below pages_four sections_four zones_four, joined_four.0, joined_four.1) refl
 
 plan_eight : (k size : ℕ) → k < 4 → 1 ≤ size → size ≤ 16 → plan_in (value_with (k + 1) 8 size) ≡ Ok (plan_with (k + 1) 8 size)
 unfolding plan_in plan_by joined object_with required number value_with printing_members layout_members plan_with
 plan_eight k size below least most =
-    rw (front_is (k + 1) 8 size least most, inks_are (k + 1) 8 size least most, layout_eight k size below, joined_eight.0, joined_eight.1) refl
+    rw (front_is (k + 1) 8 size least most, inks_are (k + 1) 8 size least most, layout_with k 8 size below pages_eight sections_eight zones_eight, joined_eight.0, joined_eight.1) refl
 
 plan_by_half : (k half size : ℕ) → k < 4 → half < 2 → 1 ≤ size → size ≤ 16
     → plan_in (value_with (k + 1) (4 + 4 * half) size) ≡ Ok (plan_with (k + 1) (4 + 4 * half) size)

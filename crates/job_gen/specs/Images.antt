@@ -4,8 +4,10 @@ use Rattle.std.specs.Prelude.{codes}
 use Rattle.std.specs.List.{flat_map, range_with_len}
 use Rattle.pr_base.specs.Bits.{packed_row}
 use Rattle.tif_make.specs.declared.form.ImageForm.{ImageForm}
+use Rattle.tif_make.specs.declared.form.Kind.{Kind}
 use Rattle.tif_make.specs.declared.form.Kind.TheVariants.{Contone, Line, Mask}
 use Rattle.tif_make.specs.declared.form.Planar.TheVariants.{Chunky, Separate}
+use Rattle.tif_make.specs.declared.form.Compression.{Compression}
 use Rattle.tif_make.specs.declared.form.Compression.TheVariants.{Uncompressed, PackBits}
 use Rattle.tif_dir.specs.declared.order.Order.TheVariants.{Little, Big}
 use Rattle.tif_make.specs.Image.{image_file}
@@ -61,30 +63,25 @@ contone_form n f =
       rows_per_strip = 4;
     }
 
-abbrev pub line_form : ℕ → ImageForm
-line_form n =
+-- one bit a pixel, least significant byte first
+abbrev pub bilevel_form : Kind → Compression → ℕ → ℕ → ImageForm
+bilevel_form kind compression rows_per_strip n =
     record {
-      kind = Line;
+      kind = kind;
       width = image_width n;
       length = image_length n;
       order = Little;
       planar = Chunky;
-      compression = PackBits;
-      rows_per_strip = 4;
+      compression = compression;
+      rows_per_strip = rows_per_strip;
     }
+
+abbrev pub line_form : ℕ → ImageForm
+line_form n = bilevel_form Line PackBits 4 n
 
 -- a single strip
 abbrev pub mask_form : ℕ → ImageForm
-mask_form n =
-    record {
-      kind = Mask;
-      width = image_width n;
-      length = image_length n;
-      order = Little;
-      planar = Chunky;
-      compression = Uncompressed;
-      rows_per_strip = image_length n;
-    }
+mask_form n = bilevel_form Mask Uncompressed (image_length n) n
 
 abbrev pub contone_rows : ℕ → ℕ → List ℕ
 contone_rows n f = rows_of (contone_row n f (image_width n)) (image_length n)

@@ -73,17 +73,7 @@ image_layer file = record {
 
 -- linework visible where the mask is marked, printed in black over the layers below
 abbrev pub line_layer : LayerData
-line_layer = record {
-  line = true;
-  file = line_index;
-  x = 0;
-  y = 0;
-  scale = 4;
-  crop = None;
-  mask = Some mask_index;
-  overprint = true;
-  ink = black;
-}
+line_layer = record (image_layer line_index) { line = true; mask = Some mask_index; overprint = true }
 
 -- page j of `pages`: the two in the middle print only K, and each odd page has the linework on top
 abbrev pub is_colour : ℕ → ℕ → Bool

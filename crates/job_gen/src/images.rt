@@ -1,7 +1,8 @@
 // The images of a job: their rows, and their files.
 ghost use Rattle.std.specs.Prelude.{◌≡◌, ◌≤◌, ◌*◌, ◌++◌, IfOk, OnOk, nat_lt, if◌then◌else◌};
 ghost use Rattle.tif_make.specs.Form.{IsForm};
-ghost use Rattle.job_gen.specs.Images.{contone_bytes, contone_form as contone_form_of, contone_pixel};
+ghost use Rattle.job_gen.specs.Images.{bilevel_form as bilevel_form_of, contone_bytes};
+ghost use Rattle.job_gen.specs.Images.{contone_form as contone_form_of, contone_pixel};
 ghost use Rattle.job_gen.specs.Images.{contone_row, line_bytes, line_form as line_form_of, line_row};
 ghost use Rattle.job_gen.specs.Images.{mask_bytes, mask_form as mask_form_of, mask_row, rows_of};
 ghost use Rattle.job_gen.specs.Images.{sample as sample_of};
@@ -75,20 +76,29 @@ fn contone_form(n: u32, f: u32) -> ImageForm
     }
 }
 
+/// The layout of an image of one bit a pixel in its file.
+fn bilevel_form(n: u32, kind: Kind, compression: Compression, rows_per_strip: u32) -> ImageForm
+    requires { 1 ≤ rows_per_strip }
+    ensures form { result ≡ bilevel_form_of kind compression rows_per_strip n }
+    ensures is { IsForm result }
+{
+    ImageForm {
+        kind,
+        width: WIDTH * size(n),
+        length: LENGTH * size(n),
+        order: Order::Little,
+        planar: Planar::Chunky,
+        compression,
+        rows_per_strip,
+    }
+}
+
 /// The layout of the linework in its file.
 fn line_form(n: u32) -> ImageForm
     ensures form { result ≡ line_form_of n }
     ensures is { IsForm result }
 {
-    ImageForm {
-        kind: Kind::Line,
-        width: WIDTH * size(n),
-        length: LENGTH * size(n),
-        order: Order::Little,
-        planar: Planar::Chunky,
-        compression: Compression::PackBits,
-        rows_per_strip: STRIP_ROWS,
-    }
+    bilevel_form(n, Kind::Line, Compression::PackBits, STRIP_ROWS)
 }
 
 /// The layout of the mask in its file: a single strip.
@@ -96,15 +106,7 @@ fn mask_form(n: u32) -> ImageForm
     ensures form { result ≡ mask_form_of n }
     ensures is { IsForm result }
 {
-    ImageForm {
-        kind: Kind::Mask,
-        width: WIDTH * size(n),
-        length: LENGTH * size(n),
-        order: Order::Little,
-        planar: Planar::Chunky,
-        compression: Compression::Uncompressed,
-        rows_per_strip: LENGTH * size(n),
-    }
+    bilevel_form(n, Kind::Mask, Compression::Uncompressed, LENGTH * size(n))
 }
 
 /// Returns the rows of a contone image.
