@@ -6,6 +6,7 @@ use Rattle.tif_packbits.specs.Packbits.{packing}
 use Rattle.tif_plate.specs.Plate.{IsSide, IsDpi, strip_count, plate_file}
 use Rattle.tif_plate.specs.Tail.{counts_so_far, front_bytes}
 use Rattle.plate_bytes.specs.Places.{row_ends}
+use Rattle.plate_bytes.specs.Strips.{StripState}
 
 -- the model of a plate in memory
 pub record PlateState : Type 0 where
@@ -19,6 +20,17 @@ pub record PlateState : Type 0 where
   pub counts : List ℕ
   -- the offset of the end of each packed row
   pub ends : List ℕ
+
+-- the plate of these strips, with these bytes and ends of rows
+abbrev pub plate_of : StripState → List ℕ → List ℕ → PlateState
+plate_of strips bytes ends = record {
+  width = strips.sides.width;
+  height = strips.sides.height;
+  dpi = strips.sides.dpi;
+  bytes = bytes;
+  counts = strips.counts;
+  ends = ends;
+}
 
 -- a plate of this width, height and resolution that has only these first rows
 unfoldable pub so_far : ℕ → ℕ → ℕ → List (List ℕ) → PlateState

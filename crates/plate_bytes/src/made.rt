@@ -30,27 +30,14 @@ pub struct PlateBytes {
 
 impl Model for PlateBytes {
     ghost use Rattle.std.specs.Prelude.{◌≡◌, ◌<◌, length};
-    ghost use Rattle.plate_bytes.specs.Made.{IsPlate, PlateState};
+    ghost use Rattle.plate_bytes.specs.Made.{IsPlate, PlateState, plate_of};
 
     ghost Value = { PlateState };
 
-    ghost view = { λ p. record {
-      width = p.strips.sides.width;
-      height = p.strips.sides.height;
-      dpi = p.strips.sides.dpi;
-      bytes = p.bytes.items;
-      counts = p.strips.counts;
-      ends = p.ends.items;
-    } };
+    ghost view = { λ p. plate_of p.strips p.bytes.items p.ends.items };
 
-    ghost invariant = { λ p. IsPlate (record {
-      width = p.strips.sides.width;
-      height = p.strips.sides.height;
-      dpi = p.strips.sides.dpi;
-      bytes = p.bytes.items;
-      counts = p.strips.counts;
-      ends = p.ends.items;
-    }) × (length p.ends.items < p.strips.sides.height → p.strips.next ≡ length p.ends.items) };
+    ghost invariant = { λ p. IsPlate (plate_of p.strips p.bytes.items p.ends.items)
+        × (length p.ends.items < p.strips.sides.height → p.strips.next ≡ length p.ends.items) };
 }
 
 impl PlateBytes {

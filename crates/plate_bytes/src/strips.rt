@@ -54,7 +54,8 @@ impl PlateStrips {
         requires dpi { IsDpi sides.dpi }
         ensures sides { IfOk result (λ made. made.sides ≡ sides) }
         ensures next { IfOk result (λ made. made.next ≡ 0) }
-        ensures counts { IfOk result (λ made. made.counts ≡ replicate (strip_count sides.width sides.height) 0) }
+        ensures counts { IfOk result (λ made.
+            made.counts ≡ replicate (strip_count sides.width sides.height) 0) }
     {
         let count = strips(sides.width, sides.height) as usize;
         let counts = vec![in alloc; 0; count]?;
