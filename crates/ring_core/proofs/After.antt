@@ -103,30 +103,39 @@ module _ (s : Schedule) (places total head n : ℕ) (p : ℕ → Progress) (l : 
   cursor_made : (r c : ℕ) → r < n → (p r).cursor ≡ Some c → cursor_at s r ≡ c
   cursor_made r c h at = ap (λ (x : Progress). unwrap_or x.cursor 0) (m.progress r h) ∙ ap (λ o. unwrap_or o 0) at
 
+  -- an event of reader r whose condition is on its progress and lanes
+  lanes_can : (can : Progress → Lanes → Bool) (r : ℕ) → r < n → can (p r) (l r) ≡ true → (nat_lt r (readers s) && can (progress_of s r) (lanes_of s r)) ≡ true
+  lanes_can can r h may = can_reader r n (readers s) (can (progress_of s r) (lanes_of s r)) m.count h ((λ i. can (m.progress r h i) (m.lanes r h i)) ∙ may)
+
   pub open_can : (r : ℕ) → r < n → can_open (p r) (l r) ≡ true → can_be s (Open r) ≡ true
-  open_can r h can = can_reader r n (readers s) (can_open (progress_of s r) (lanes_of s r)) m.count h ((λ i. can_open (m.progress r h i) (m.lanes r h i)) ∙ can)
+  open_can = lanes_can can_open
+
+  pub close_can : (r : ℕ) → r < n → can_close (p r) (l r) ≡ true → can_be s (Close r) ≡ true
+  close_can = lanes_can can_close
+
+  pub advance_can : (r : ℕ) → r < n → can_advance (p r) (l r) ≡ true → can_be s (Advance r) ≡ true
+  advance_can = lanes_can can_advance
+
+  pub leave_can : (r : ℕ) → r < n → can_leave (p r) (l r) ≡ true → can_be s (Leave r) ≡ true
+  leave_can = lanes_can can_leave
+
+  -- an event of reader r at its cursor c that changes its lanes alone
+  at_cursor : (t : Schedule) (effect : ℕ → ℕ → Lanes → Lanes) (r c : ℕ) (k : ℕ → Lanes) → t.places ≡ s.places → t.total ≡ s.total → t.head ≡ s.head → readers t ≡ readers s → IsSized t
+      → ((j : ℕ) → progress_of t j ≡ progress_of s j) → lanes_of t r ≡ effect s.places (cursor_at s r) (lanes_of s r) → ((j : ℕ) → j ≢ r → lanes_of t j ≡ lanes_of s j)
+      → r < n → (p r).cursor ≡ Some c → k r ≡ effect places c (l r) → ((q : ℕ) → q < n → q ≢ r → k q ≡ l q) → Now t p k
+  at_cursor t effect r c k size all high same z still here others h at own else = made_of t head p k size all (high ∙ m.head_is) same z
+      (λ j b. still j ∙ m.progress j b)
+      (lanes_by t r k (effect places c (l r)) (here ∙ (λ i. effect (m.places_is i) (cursor_made r c h at i) (m.lanes r h i))) others own else)
 
   pub open_made : (r c : ℕ) (k : ℕ → Lanes) → r < n → (p r).cursor ≡ Some c → k r ≡ opened places c (l r)
       → ((q : ℕ) → q < n → q ≢ r → k q ≡ l q) → Now (after s (Open r)) p k
-  open_made r c k h at own else = made_of (after s (Open r)) head p k refl refl m.head_is refl (after_sized s (Open r) m.sized)
-      m.progress
-      (lanes_by (after s (Open r)) r k (opened places c (l r))
-      (Readers.open_shows s r m.sized m.some_place (among r h) ∙ (λ i. opened (m.places_is i) (cursor_made r c h at i) (m.lanes r h i)))
-      (λ j. Readers.open_else s r j m.some_place) own else)
-
-  pub close_can : (r : ℕ) → r < n → can_close (p r) (l r) ≡ true → can_be s (Close r) ≡ true
-  close_can r h can = can_reader r n (readers s) (can_close (progress_of s r) (lanes_of s r)) m.count h ((λ i. can_close (m.progress r h i) (m.lanes r h i)) ∙ can)
+  open_made r c k h at own else =
+      at_cursor (after s (Open r)) opened r c k refl refl refl refl (after_sized s (Open r) m.sized) (λ j. refl) (Readers.open_shows s r m.sized m.some_place (among r h)) (λ j. Readers.open_else s r j m.some_place) h at own else
 
   pub close_made : (r c : ℕ) (k : ℕ → Lanes) → r < n → (p r).cursor ≡ Some c → k r ≡ closed places c (l r)
       → ((q : ℕ) → q < n → q ≢ r → k q ≡ l q) → Now (after s (Close r)) p k
-  close_made r c k h at own else = made_of (after s (Close r)) head p k refl refl m.head_is refl (after_sized s (Close r) m.sized)
-      m.progress
-      (lanes_by (after s (Close r)) r k (closed places c (l r))
-      (Readers.close_shows s r m.sized m.some_place (among r h) ∙ (λ i. closed (m.places_is i) (cursor_made r c h at i) (m.lanes r h i)))
-      (λ j. Readers.close_else s r j m.some_place) own else)
-
-  pub advance_can : (r : ℕ) → r < n → can_advance (p r) (l r) ≡ true → can_be s (Advance r) ≡ true
-  advance_can r h can = can_reader r n (readers s) (can_advance (progress_of s r) (lanes_of s r)) m.count h ((λ i. can_advance (m.progress r h i) (m.lanes r h i)) ∙ can)
+  close_made r c k h at own else =
+      at_cursor (after s (Close r)) closed r c k refl refl refl refl (after_sized s (Close r) m.sized) (λ j. refl) (Readers.close_shows s r m.sized m.some_place (among r h)) (λ j. Readers.close_else s r j m.some_place) h at own else
 
   pub advance_made : (r c : ℕ) (q : ℕ → Progress) (k : ℕ → Lanes) → r < n → (p r).cursor ≡ Some c
       → q r ≡ advanced c (p r) → ((j : ℕ) → j < n → j ≢ r → q j ≡ p j)
@@ -138,9 +147,6 @@ module _ (s : Schedule) (places total head n : ℕ) (p : ℕ → Progress) (l : 
       (lanes_by (after s (Advance r)) r k (settled (l r))
       (Readers.advance_settles s r m.sized (among r h) ∙ ap settled (m.lanes r h))
       (Readers.advance_leaves s r) still stays)
-
-  pub leave_can : (r : ℕ) → r < n → can_leave (p r) (l r) ≡ true → can_be s (Leave r) ≡ true
-  leave_can r h can = can_reader r n (readers s) (can_leave (progress_of s r) (lanes_of s r)) m.count h ((λ i. can_leave (m.progress r h i) (m.lanes r h i)) ∙ can)
 
   pub leave_made : (r : ℕ) (q : ℕ → Progress) → r < n → q r ≡ departed (p r)
       → ((k : ℕ) → k < n → k ≢ r → q k ≡ p k) → Now (after s (Leave r)) q l

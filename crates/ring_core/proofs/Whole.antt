@@ -155,10 +155,9 @@ leave_sound s r h can =
     let p = progress_of s r in
     let l = lanes_of s r in
     let x = event_parts (readers s) r (can_leave p l) can in
-    let at = cursor_is s r (and_parts (is_some p.cursor) _ x.1).0 in
     sound_by s (after s (Leave r)) r (departed p) l h (after_sized s (Leave r) h.sized) refl refl refl (after_count s (Leave r))
     (Readers.leave_shows s r x.0) (Readers.leave_else s r) refl (λ q n. refl)
-    (leave_progress s.places s.head p (cursor_at s r) at (h.words.each r x.0)) (leave_lanes s.places s.total s.head p l x.1 (h.lanes r x.0))
+    (leave_progress s.places s.head p (cursor_at s r) (cursor_is s r (and_parts (is_some p.cursor) _ x.1).0) (h.words.each r x.0)) (leave_lanes s.places s.total s.head p l x.1 (h.lanes r x.0))
 
 pub event_sound : (s : Schedule) (e : Event) → IsSound s → can_be s e ≡ true → IsSound (after s e)
 event_sound s (Look r) h can = look_sound s r h can
