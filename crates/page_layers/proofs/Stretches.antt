@@ -79,3 +79,11 @@ IsStretched-block source scale size k at to count cut into has above at_is size_
                 ∙ ap (λ n. get_or source n 0) place
           ];
     }
+
+-- block k of a row whose blocks each are this long, by numbers as the code has them
+pub IsStretched-next : (source into : List ℕ) (scale size k : ℕ) → IsStretched source 4 scale (size * k) into → 0 < scale → size ≡ scale * 16 → size * k + size ≤ length into → 64 * k + 64 ≤ length source
+    → IsStretched source 4 scale (size * (k + 1))
+    (put_mid (size * k) (size * k + size - size * k) into (put_chunk 0 (slice_range into (size * k) (size * k + size)) (map (sample_in (slice_range source (64 * k) (64 * k + 64)) scale) (range_with_len 0 size))))
+IsStretched-next source into scale size k has above size_is room enough =
+    let at_is : size * k ≡ scale * (16 * k) = ap (λ n. n * k) size_is ∙ omega arith in
+    IsStretched-block source scale size k (size * k) (size * k + size) (size * (k + 1)) (size * k + size - size * k) into has above at_is size_is (omega arith) (omega arith) (omega arith) (omega arith) enough

@@ -25,19 +25,26 @@ const FOUR_TIMES: [usize; 64] = [
     48, 52, 52, 52, 52, 56, 56, 56, 56, 60, 60, 60, 60,
 ];
 
+// Fills the blocks of a row, each of `$wide` values, then the rest.
+macro_rules! stretch_blocks {
+    ($source:ident, $into:ident, $places:ident, $scale:literal, $wide:literal) => {
+        let count = ($into.len() / $wide).min($source.len() / BLOCK);
+        for k in 0..count {
+            u8x64::from_slice(&$source[BLOCK * k..BLOCK * k + BLOCK])
+                .swizzle($places)
+                .copy_to_slice(&mut $into[$wide * k..$wide * k + $wide]);
+        }
+        runs($source, 4, $scale, 16 * count, $into);
+    };
+}
+
 /// Fills a row with the samples of one ink, each once.
 pub(crate) fn samples_once(source: &[u8], into: &mut [u8])
     requires small { length into.old ≤ 65535 }
     requires enough { (n : ℕ) → 1 * n < length into.old → 4 * n < length source.now }
     ensures { IsStretched source.now 4 1 (length into.old) into.new }
 {
-    let count = (into.len() / 16).min(source.len() / BLOCK);
-    for k in 0..count {
-        u8x64::from_slice(&source[BLOCK * k..BLOCK * k + BLOCK])
-            .swizzle(ONCE)
-            .copy_to_slice(&mut into[16 * k..16 * k + 16]);
-    }
-    runs(source, 4, 1, 16 * count, into);
+    stretch_blocks!(source, into, ONCE, 1, 16);
 }
 
 /// Fills a row with the samples of one ink, each twice.
@@ -46,13 +53,7 @@ pub(crate) fn samples_twice(source: &[u8], into: &mut [u8])
     requires enough { (n : ℕ) → 2 * n < length into.old → 4 * n < length source.now }
     ensures { IsStretched source.now 4 2 (length into.old) into.new }
 {
-    let count = (into.len() / 32).min(source.len() / BLOCK);
-    for k in 0..count {
-        u8x64::from_slice(&source[BLOCK * k..BLOCK * k + BLOCK])
-            .swizzle(TWICE)
-            .copy_to_slice(&mut into[32 * k..32 * k + 32]);
-    }
-    runs(source, 4, 2, 16 * count, into);
+    stretch_blocks!(source, into, TWICE, 2, 32);
 }
 
 /// Fills a row with the samples of one ink, each four times.
@@ -61,11 +62,5 @@ pub(crate) fn samples_four_times(source: &[u8], into: &mut [u8])
     requires enough { (n : ℕ) → 4 * n < length into.old → 4 * n < length source.now }
     ensures { IsStretched source.now 4 4 (length into.old) into.new }
 {
-    let count = (into.len() / 64).min(source.len() / BLOCK);
-    for k in 0..count {
-        u8x64::from_slice(&source[BLOCK * k..BLOCK * k + BLOCK])
-            .swizzle(FOUR_TIMES)
-            .copy_to_slice(&mut into[64 * k..64 * k + 64]);
-    }
-    runs(source, 4, 4, 16 * count, into);
+    stretch_blocks!(source, into, FOUR_TIMES, 4, 64);
 }

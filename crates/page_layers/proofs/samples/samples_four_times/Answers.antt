@@ -1,12 +1,9 @@
-use Rattle.std.proofs.Common.{◌+◌, ◌-◌, ◌*◌, arith}
-use Rattle.page_layers.proofs.Stretches.{IsStretched-block}
+use Rattle.std.proofs.Common.{arith}
+use Rattle.page_layers.proofs.Stretches.{IsStretched-next}
 use Rattle.page_layers.proofs.samples.samples_four_times.Goals as goal
 
 pub loop-k-preserved : goal.loop-k-preserved
-loop-k-preserved c =
-    let at = 64 * c.loop-k.k in
-    IsStretched-block c.args.source.now 4 64 c.loop-k.k at (at + 64) (64 * (c.loop-k.k + 1)) (at + 64 - at) c.loop-k.into c.loop-k.invariant (omega arith) (omega arith) (omega arith) (omega arith) (omega arith) (omega arith)
-    (omega (arith, c.loop-k.auto.into)) (omega arith)
+loop-k-preserved c = IsStretched-next c.args.source.now c.loop-k.into 4 64 c.loop-k.k c.loop-k.invariant (omega arith) (omega arith) (omega (arith, c.loop-k.auto.into)) (omega arith)
 
 pub runs-requires-clause-enough : goal.runs-requires-clause-enough
 runs-requires-clause-enough c = λ n below. c.requires.enough n (omega (arith, c.loop-k.auto.into))
