@@ -13,6 +13,10 @@ pub record StripState : Type 0 where
   pub counts : List ℕ
   pub room : List ℕ
 
+-- the strips of a plate with these sides, y of the next row, byte counts and buffer
+abbrev pub strips_of : Sides → ℕ → List ℕ → List ℕ → StripState
+strips_of sides next counts room = record { sides = sides; next = next; counts = counts; room = room }
+
 -- the byte counts of a plate's strips after its row y was added to a strip; a plate begins with zeros
 abbrev pub counted : ℕ → ℕ → ℕ → List ℕ → List ℕ
 counted y strip bytes counts =

@@ -25,23 +25,13 @@ pub struct PlateStrips {
 }
 
 impl Model for PlateStrips {
-    ghost use Rattle.plate_bytes.specs.Strips.{AreStrips, StripState};
+    ghost use Rattle.plate_bytes.specs.Strips.{AreStrips, StripState, strips_of};
 
     ghost Value = { StripState };
 
-    ghost view = { λ s. record {
-      sides = s.sides;
-      next = s.next;
-      counts = s.counts.items;
-      room = s.room.items;
-    } };
+    ghost view = { λ s. strips_of s.sides s.next s.counts.items s.room.items };
 
-    ghost invariant = { λ s. AreStrips (record {
-      sides = s.sides;
-      next = s.next;
-      counts = s.counts.items;
-      room = s.room.items;
-    }) };
+    ghost invariant = { λ s. AreStrips (strips_of s.sides s.next s.counts.items s.room.items) };
 }
 
 impl PlateStrips {
