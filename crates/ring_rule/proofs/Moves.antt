@@ -42,30 +42,33 @@ look_other words w readers r n q o =
     let e = get_or-set_other w.known r q n 0 o in
     λ i. record { known = cursor_in (e i); cursor = cursor_in (get_or words (q + 1) 0); seen = (readers q).seen; taken = up_to (readers q).taken }
 
+-- the writer's view replaced by one that knows as many cursors, of which what is shown is sound
+seen_holds : (g : RingNumbers) (words : List ℕ) (w v : WriterView) (readers : ℕ → ReaderView) → v.ring ≡ w.ring → v.head ≡ w.head → v.made ≤ g.readers → length v.known ≡ length w.known
+    → length v.loads ≡ length w.loads → Holds g words w readers → ((r : ℕ) → r < g.readers → IsSoundProgress g.places (head_shown words) (shown words v readers r)) → Holds g words v readers
+seen_holds g words w v readers ring head made known loads h each = record {
+  total_in = h.total_in;
+  words_in = h.words_in;
+  writer_ring = ring ∙ h.writer_ring;
+  reader_ring = h.reader_ring;
+  number_is = h.number_is;
+  made_in = made;
+  taken_in = h.taken_in;
+  known_in = known ∙ h.known_in;
+  loads_in = loads ∙ h.loads_in;
+  head_is = h.head_is ∙ sym head;
+  cursor_is = h.cursor_is;
+  sound = record { some_place = h.sound.some_place; head_in = h.sound.head_in; each = each };
+}
+
 pub look_holds : (g : RingNumbers) (words : List ℕ) (w : WriterView) (readers : ℕ → ReaderView) (r : ℕ) → Holds g words w readers → r < g.readers
     → Holds g words (looked_at r (get_or words (r + 1) 0) w) readers
 look_holds g words w readers r h l =
     let n = get_or words (r + 1) 0 in
-    record {
-      total_in = h.total_in;
-      words_in = h.words_in;
-      writer_ring = h.writer_ring;
-      reader_ring = h.reader_ring;
-      number_is = h.number_is;
-      made_in = h.made_in;
-      taken_in = h.taken_in;
-      known_in = length-set w.known r n ∙ h.known_in;
-      loads_in = length-set w.loads r (get_or w.loads r 0 + 1) ∙ h.loads_in;
-      head_is = h.head_is;
-      cursor_is = h.cursor_is;
-      sound = record {
-        some_place = h.sound.some_place;
-        head_in = h.sound.head_in;
-        each = each_by g.readers r (λ q. IsSoundProgress g.places (head_shown words) (shown words (looked_at r n w) readers q))
-            (subst (λ p. IsSoundProgress g.places (head_shown words) p) (sym (look_own g words w readers r h l)) (look_progress g.places (head_shown words) (shown words w readers r) (h.sound.each r l)))
-            (λ q k o. subst (λ p. IsSoundProgress g.places (head_shown words) p) (sym (look_other words w readers r n q o)) (h.sound.each q k));
-      };
-    }
+    let v = looked_at r n w in
+    seen_holds g words w v readers refl refl h.made_in (length-set w.known r n) (length-set w.loads r (get_or w.loads r 0 + 1)) h
+    (each_by g.readers r (λ q. IsSoundProgress g.places (head_shown words) (shown words v readers q))
+    (subst (λ p. IsSoundProgress g.places (head_shown words) p) (sym (look_own g words w readers r h l)) (look_progress g.places (head_shown words) (shown words w readers r) (h.sound.each r l)))
+    (λ q k o. subst (λ p. IsSoundProgress g.places (head_shown words) p) (sym (look_other words w readers r n q o)) (h.sound.each q k)))
 
 -- what the writer finds in a cursor word
 pub look_finds : (g : RingNumbers) (words : List ℕ) (w : WriterView) (readers : ℕ → ReaderView) (r : ℕ) → Holds g words w readers → r < g.readers → IsCursorOf w r (get_or words (r + 1) 0)
@@ -304,22 +307,6 @@ same_put readers x y is n e = put_each readers y (λ q z. SameWords z (readers q
 -- the writer's view replaced by one with the same words
 pub writer_holds : (g : RingNumbers) (words : List ℕ) (w v : WriterView) (readers : ℕ → ReaderView) → v.ring ≡ w.ring → v.head ≡ w.head → v.made ≤ g.readers → v.known ≡ w.known → v.loads ≡ w.loads
     → Holds g words w readers → Holds g words v readers
-writer_holds g words w v readers ring head made known loads h = record {
-  total_in = h.total_in;
-  words_in = h.words_in;
-  writer_ring = ring ∙ h.writer_ring;
-  reader_ring = h.reader_ring;
-  number_is = h.number_is;
-  made_in = made;
-  taken_in = h.taken_in;
-  known_in = ap length known ∙ h.known_in;
-  loads_in = ap length loads ∙ h.loads_in;
-  head_is = h.head_is ∙ sym head;
-  cursor_is = h.cursor_is;
-  sound = record {
-    some_place = h.sound.some_place;
-    head_in = h.sound.head_in;
-    each = λ r l. subst (λ (ks : List ℕ). IsSoundProgress g.places (head_shown words) record { known = cursor_in (get_or ks r 0); cursor = cursor_in (get_or words (r + 1) 0); seen = (readers r).seen; taken = up_to (readers r).taken })
-        (sym known) (h.sound.each r l);
-  };
-}
+writer_holds g words w v readers ring head made known loads h =
+    seen_holds g words w v readers ring head made (ap length known) (ap length loads) h
+    (λ r l. subst (λ (ks : List ℕ). IsSoundProgress g.places (head_shown words) record { known = cursor_in (get_or ks r 0); cursor = cursor_in (get_or words (r + 1) 0); seen = (readers r).seen; taken = up_to (readers r).taken }) (sym known) (h.sound.each r l))

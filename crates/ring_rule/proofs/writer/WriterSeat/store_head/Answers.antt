@@ -1,4 +1,4 @@
-use Rattle.std.proofs.Common.{◌≡◌, ◌+◌, ap, sym, subst, arith}
+use Rattle.std.proofs.Common.{◌+◌, ap, sym, subst, arith}
 use Rattle.ring_rule.specs.Marks.{WriterMark}
 use Rattle.ring_rule.specs.Plays.{writer_in, MayPublish}
 use Rattle.ring_rule.specs.Key.{key_ring}
