@@ -1,4 +1,5 @@
 // The numbers of a ring, which each of its ends keeps, and whether its ends pause.
+use crate::waiting::pause;
 use pr_base::Deal;
 use ring_rule::RingTable;
 
@@ -26,6 +27,14 @@ impl Numbers {
             total: table.total(),
             row_len: table.row_len(),
             pauses,
+        }
+    }
+
+    /// Pauses between two loads, if the ring's ends pause. `look` is any number not known at compile time.
+    #[inline]
+    pub(crate) fn pause(&self, look: u32) {
+        if self.pauses {
+            pause(look);
         }
     }
 }

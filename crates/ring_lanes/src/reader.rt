@@ -7,7 +7,6 @@ ghost use Rattle.ring_lanes.specs.Reader.{reader_state, source_of};
 ghost use Rattle.ring_lanes.specs.Writer.{cursor_known};
 
 use crate::numbers::Numbers;
-use crate::waiting::pause;
 use crate::{CursorNote, HeadNote, Held, NotYet, Source};
 use pr_base::Deal;
 use ring_rule::{LaneRow, ReaderSeat};
@@ -68,13 +67,6 @@ impl<'r, D: Deal> Reader<'r, D> {
         self.cursor
     }
 
-    /// Pauses between two loads, if the ring's ends pause. `look` is any number not known at compile time.
-    pub fn pause(&self, look: u32) {
-        if self.numbers.pauses {
-            pause(look);
-        }
-    }
-
     /// Returns the number of rows of the deal.
     pub fn total(&self) -> u64
         ensures { result ≡ self.now.ring.total }
@@ -87,6 +79,11 @@ impl<'r, D: Deal> Reader<'r, D> {
         ensures { result ≡ not self.now.left }
     {
         self.joined
+    }
+
+    /// Pauses between two loads, if the ring's ends pause. `look` is any number not known at compile time.
+    pub fn pause(&self, look: u32) {
+        self.numbers.pause(look);
     }
 
     /// Returns where the reader takes its rows.

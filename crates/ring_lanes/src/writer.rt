@@ -10,7 +10,6 @@ ghost use Rattle.ring_lanes.specs.Writer.{cursor_known, joined_count, writer_sta
 
 use crate::lanes::fill_lanes;
 use crate::numbers::Numbers;
-use crate::waiting::pause;
 use crate::{CursorNote, Full, HeadNote, Pass};
 use pr_base::Deal;
 use ring_rule::WriterSeat;
@@ -69,9 +68,7 @@ impl<'r, D: Deal> Writer<'r, D> {
 
     /// Pauses between two loads, if the ring's ends pause. `look` is any number not known at compile time.
     pub fn pause(&self, look: u32) {
-        if self.numbers.pauses {
-            pause(look);
-        }
+        self.numbers.pause(look);
     }
 
     /// Returns the number of rows of the deal.
