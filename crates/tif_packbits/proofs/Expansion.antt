@@ -1,22 +1,30 @@
 -- Expansion, packet by packet.
-use Rattle.std.proofs.Common.{◌≡◌, ℕ, zero, suc, ◌+◌, ◌-◌, ◌<◌, ◌≤◌, List, [], ◌∷◌, ◌++◌, length, take, drop, replicate, refl, ap, arith, length-drop}
+use Rattle.std.proofs.Common.{◌≡◌, ℕ, zero, suc, ◌+◌, ◌-◌, ◌<◌, ◌≤◌, List, [], ◌∷◌, ◌++◌, length, take, drop, replicate, refl, sym, ap, ◌∙◌, arith, length-drop}
 use Rattle.std.proofs.lemmas.Bool.{lt-ltb, le-ltb, le-leb, lt-leb, ne_eqb}
 use Rattle.std.proofs.lemmas.List.{take_at, drop_at, drop_all, length-append}
 use Rattle.tif_packbits.specs.Packbits.{data_len, packet_expansion, packets_expansion, expansion}
 
--- a larger packet limit changes nothing once it is at least the number of bytes
-packets_expansion-enough : (m n : ℕ) (bytes : List ℕ) → length bytes ≤ m → length bytes ≤ n → packets_expansion m bytes ≡ packets_expansion n bytes
-packets_expansion-enough zero zero [] a b = refl
-packets_expansion-enough zero (suc n) [] a b = refl
-packets_expansion-enough (suc m) zero [] a b = refl
-packets_expansion-enough (suc m) (suc n) [] a b = refl
-packets_expansion-enough zero n (header ∷ bytes) a b = absurd (omega arith)
-packets_expansion-enough (suc m) zero (header ∷ bytes) a b = absurd (omega arith)
-packets_expansion-enough (suc m) (suc n) (header ∷ bytes) a b =
-    ap (λ more. packet_expansion header bytes ++ more)
-    (packets_expansion-enough m n (drop (data_len header) bytes)
-    (omega (arith, length-drop (data_len header) bytes))
-    (omega (arith, length-drop (data_len header) bytes)))
+-- what is given packet by packet, each of at least one byte
+module _ (packets : ℕ → List ℕ → List ℕ) (first rest : ℕ → List ℕ → List ℕ) (none : packets 0 [] ≡ []) (nil : (m : ℕ) → packets (suc m) [] ≡ [])
+    (next : (m byte : ℕ) (bytes : List ℕ) → packets (suc m) (byte ∷ bytes) ≡ first byte bytes ++ packets m (rest byte bytes)) (less : (byte : ℕ) (bytes : List ℕ) → length (rest byte bytes) ≤ length bytes) where
+  packets_nil : (m : ℕ) → packets m [] ≡ []
+  packets_nil zero = none
+  packets_nil (suc m) = nil m
+
+  -- a larger packet limit changes nothing once it is at least the number of bytes
+  packets_enough : (m n : ℕ) (bytes : List ℕ) → length bytes ≤ m → length bytes ≤ n → packets m bytes ≡ packets n bytes
+  packets_enough m n [] a b = packets_nil m ∙ sym (packets_nil n)
+  packets_enough zero n (byte ∷ bytes) a b = absurd (omega arith)
+  packets_enough (suc m) zero (byte ∷ bytes) a b = absurd (omega arith)
+  packets_enough (suc m) (suc n) (byte ∷ bytes) a b =
+      let shorter = less byte bytes in
+      next m byte bytes ∙ (ap (λ more. first byte bytes ++ more) (packets_enough m n (rest byte bytes) (omega arith) (omega arith)) ∙ sym (next n byte bytes))
+
+  -- the first packet, then the remaining packets
+  pub packets_cons : (byte : ℕ) (bytes : List ℕ) → packets (length (byte ∷ bytes)) (byte ∷ bytes) ≡ first byte bytes ++ packets (length (rest byte bytes)) (rest byte bytes)
+  packets_cons byte bytes =
+      let shorter = less byte bytes in
+      next (length bytes) byte bytes ∙ ap (λ more. first byte bytes ++ more) (packets_enough (length bytes) (length (rest byte bytes)) (rest byte bytes) (omega arith) (omega arith))
 
 pub expansion-nil : expansion [] ≡ []
 unfolding expansion
@@ -30,10 +38,7 @@ expansion-none (header ∷ bytes) none = cc
 -- the first packet, then the remaining packets
 pub expansion-cons : (header : ℕ) (bytes : List ℕ) → expansion (header ∷ bytes) ≡ packet_expansion header bytes ++ expansion (drop (data_len header) bytes)
 unfolding expansion
-expansion-cons header bytes =
-    ap (λ more. packet_expansion header bytes ++ more)
-    (packets_expansion-enough (length bytes) (length (drop (data_len header) bytes)) (drop (data_len header) bytes)
-    (omega (arith, length-drop (data_len header) bytes)) (omega arith))
+expansion-cons = packets_cons packets_expansion packet_expansion (λ header bytes. drop (data_len header) bytes) refl (λ m. refl) (λ m header bytes. refl) (λ header bytes. omega (arith, length-drop (data_len header) bytes))
 
 -- a complete literal
 pub expansion-literal : (header : ℕ) (bytes : List ℕ) → header < 128 → header + 1 ≤ length bytes → expansion (header ∷ bytes) ≡ take (header + 1) bytes ++ expansion (drop (header + 1) bytes)

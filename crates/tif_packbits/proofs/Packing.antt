@@ -5,7 +5,7 @@ use Rattle.std.proofs.lemmas.Bool.{le-leb, lt-leb, eq-eqb, eqb-true, and_parts, 
 use Rattle.std.proofs.lemmas.Bool.Decides.{nat_tests}
 use Rattle.std.proofs.lemmas.List.{append-nil, append_assoc, length-append, length-take-le, take-append-drop}
 use Rattle.std.proofs.lemmas.List.Sums.{prefix_len-le-length}
-use Rattle.tif_packbits.proofs.Expansion.{expansion-nil, expansion-repeat, expansion-literal_of}
+use Rattle.tif_packbits.proofs.Expansion.{packets_cons, expansion-nil, expansion-repeat, expansion-literal_of}
 use Rattle.tif_packbits.specs.Packbits.{run_len, begins_run, mixed_len, literal_len, first_len, first_packet, packets_packing, packing, packed_bound, expansion, ExpandsToItsRow, StaysWithinBound}
 
 -- a prefix of bytes equal to byte is that byte repeated
@@ -118,38 +118,20 @@ pub first_len-some : (row : List ℕ) → 0 < length row → 0 < first_len row
 first_len-some [] some = absurd (omega arith)
 first_len-some (byte ∷ row) some = first_len-pos byte row
 
--- a larger packet limit changes nothing once it is at least the number of bytes
-packets_packing-enough : (m n : ℕ) (row : List ℕ) → length row ≤ m → length row ≤ n → packets_packing m row ≡ packets_packing n row
-packets_packing-enough zero zero [] a b = refl
-packets_packing-enough zero (suc n) [] a b = refl
-packets_packing-enough (suc m) zero [] a b = refl
-packets_packing-enough (suc m) (suc n) [] a b = refl
-packets_packing-enough zero n (byte ∷ row) a b = absurd (omega arith)
-packets_packing-enough (suc m) zero (byte ∷ row) a b = absurd (omega arith)
-packets_packing-enough (suc m) (suc n) (byte ∷ row) a b =
-    let rest : length (drop (first_len (byte ∷ row)) (byte ∷ row)) ≤ length row =
-    omega (arith, length-drop (first_len (byte ∷ row)) (byte ∷ row), first_len-pos byte row) in
-    ap (λ more. first_packet (byte ∷ row) ++ more)
-    (packets_packing-enough m n (drop (first_len (byte ∷ row)) (byte ∷ row)) (omega (arith, rest)) (omega (arith, rest)))
-
 pub packing-nil : packing [] ≡ []
 unfolding packing
 packing-nil = refl
+
+-- the first packet, then the remaining packets
+pub packing-cons : (byte : ℕ) (row : List ℕ) → packing (byte ∷ row) ≡ first_packet (byte ∷ row) ++ packing (drop (first_len (byte ∷ row)) (byte ∷ row))
+unfolding packing
+packing-cons = packets_cons packets_packing (λ byte row. first_packet (byte ∷ row)) (λ byte row. drop (first_len (byte ∷ row)) (byte ∷ row)) refl (λ m. refl) (λ m byte row. refl)
+    (λ byte row. omega (arith, length-drop (first_len (byte ∷ row)) (byte ∷ row), first_len-pos byte row))
 
 -- the packing of an empty row, given by its length
 pub packing-none : (row : List ℕ) → length row ≡ 0 → packing row ≡ []
 packing-none [] none = packing-nil
 packing-none (byte ∷ row) none = cc
-
--- the first packet, then the remaining packets
-pub packing-cons : (byte : ℕ) (row : List ℕ) → packing (byte ∷ row) ≡ first_packet (byte ∷ row) ++ packing (drop (first_len (byte ∷ row)) (byte ∷ row))
-unfolding packing
-packing-cons byte row =
-    let rest : length (drop (first_len (byte ∷ row)) (byte ∷ row)) ≤ length row =
-    omega (arith, length-drop (first_len (byte ∷ row)) (byte ∷ row), first_len-pos byte row) in
-    ap (λ more. first_packet (byte ∷ row) ++ more)
-    (packets_packing-enough (length row) (length (drop (first_len (byte ∷ row)) (byte ∷ row))) (drop (first_len (byte ∷ row)) (byte ∷ row))
-    rest (omega arith))
 
 -- the same for a row that is not empty by its length
 pub packing_more : (row : List ℕ) → 0 < length row → packing row ≡ first_packet row ++ packing (drop (first_len row) row)
