@@ -48,7 +48,7 @@ fn add_site(
     Ok(())
 }
 
-/// Adds the dropped plates of a group at a site.
+/// Adds the dropped plates of a group's inks, if it has the site.
 fn add_group(
     plates: &mut Vec<OldPlate>,
     before: &Inputs<'_>,
@@ -63,27 +63,9 @@ fn add_group(
         (plates_in site (index, group_at before.now.plan index))) }
 {
     let group = group_with(before, index);
-    if group.has_site(site) {
-        add_inks(plates, before, after, site, index)?;
+    if !group.has_site(site) {
+        return Ok(());
     }
-    Ok(())
-}
-
-/// Adds the dropped plates of a group's inks at a site.
-fn add_inks(
-    plates: &mut Vec<OldPlate>,
-    before: &Inputs<'_>,
-    after: &Inputs<'_>,
-    site: usize,
-    index: usize,
-) -> Result<(), NoMemory>
-    requires site { site < length before.now.plan.sites }
-    requires index { index < length (groups_of before.now.plan) }
-    ensures { OnOk result (plates.new.items ≡ plates.old.items
-        ++ filter (is_left_out before.now.plan after.now.plan)
-        (ink_plates site index (inks_of (group_at before.now.plan index)))) }
-{
-    let group = group_with(before, index);
     let place = counterpart(before.plan(), site, group, after.plan(), after.rows());
     for ink in group.inks() {
         let plate = OldPlate {

@@ -80,24 +80,9 @@ fn is_kept(
     ensures each { (its index : ℕ) → IsTrue (is_of_site group.now site)
         → Stays before.now after.now site group.now its index → IsTrue result }
 {
-    group.has_site(site) && stays(before, after, classes, site, group)
-}
-
-/// Returns whether the old job has the same two pages at the place of a new group at a site.
-fn stays(
-    before: &Inputs<'_>,
-    after: &Inputs<'_>,
-    classes: &Classes,
-    site: usize,
-    group: &Group,
-) -> bool
-    requires classes { AreClasses before.now.files after.now.files classes.now }
-    requires site { site < length after.now.plan.sites }
-    requires group { IsOfPlan after.now.plan group.now }
-    ensures found { IsTrue result
-        → (its : ℕ) × ((index : ℕ) × Stays before.now after.now site group.now its index) }
-    ensures each { (its index : ℕ) → Stays before.now after.now site group.now its index → IsTrue result }
-{
+    if !group.has_site(site) {
+        return false;
+    }
     match counterpart(after.plan(), site, group, before.plan(), before.rows()) {
         Some((_its, index)) => same_pages(before, after, classes, index, group),
         None => false,

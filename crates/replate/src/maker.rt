@@ -91,26 +91,6 @@ pub(crate) fn hand<D: Deal, R: Rack>(
     if maker.has_left() {
         return Ok(());
     }
-    hand_on(deck, maker, rack)
-}
-
-/// Does the same for a site that hasn't left.
-fn hand_on<D: Deal, R: Rack>(
-    deck: &mut Deck<'_, D>,
-    maker: &mut Maker,
-    rack: &mut R,
-) -> Result<(), NoMemory>
-    requires going { has_left_lem maker.old.end ≡ false }
-    requires put { deck.old.there ≡ true }
-    requires home { deck.old.out ≡ false }
-    requires some { SomeServed deck.old.rows (deck.old.put - 1) (told R.Rack rack.old) maker.old }
-    ensures made { OnOk result (Made deck.old.rows (deck.old.put - 1)
-        (told R.Rack rack.old) (told R.Rack rack.new) maker.old maker.new) }
-    ensures stopped { OnErr result (Stopped deck.old.rows (deck.old.put - 1)
-        (told R.Rack rack.old) (told R.Rack rack.new) maker.old) }
-    ensures memory_missed { OnErr result (R.missed rack.new ≡ R.missed rack.old) }
-    ensures deck { deck.new ≡ deck.old }
-{
     let held = deck.take();
     let kept = maker.site.keep(&held, rack);
     deck.give(held);

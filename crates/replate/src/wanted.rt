@@ -37,7 +37,7 @@ pub(crate) fn wanted_of(
     Ok(bits)
 }
 
-/// Adds the flags of a group.
+/// Adds the flags of a group's inks, if it has the site.
 fn add_group(
     bits: &mut Vec<bool>,
     after: &Inputs<'_>,
@@ -52,28 +52,9 @@ fn add_group(
         ++ map (is_picked picks.now) (plates_in site (index, group_at after.now.plan index))) }
 {
     let group = group_with(after, index);
-    if group.has_site(site) {
-        add_inks(bits, after, picks, site, index)?;
+    if !group.has_site(site) {
+        return Ok(());
     }
-    Ok(())
-}
-
-/// Adds the flags of a group's inks.
-fn add_inks(
-    bits: &mut Vec<bool>,
-    after: &Inputs<'_>,
-    picks: &Picks,
-    site: usize,
-    index: usize,
-) -> Result<(), NoMemory>
-    requires picks { length picks.now.kept ≡ length (groups_of after.now.plan) }
-    requires site { site < 16 }
-    requires index { index < length (groups_of after.now.plan) }
-    ensures { OnOk result (bits.new.items ≡ bits.old.items
-        ++ map (is_picked picks.now)
-        (ink_plates site index (inks_of (group_at after.now.plan index)))) }
-{
-    let group = group_with(after, index);
     for ink in group.inks() {
         add_plate(bits, picks, site, index, *ink)?;
     }

@@ -157,21 +157,28 @@ same_on : (old mid new : WriterState) → mid ≡ record old { head = mid.head; 
     → new ≡ record old { head = new.head; known = new.known; loads = new.loads }
 same_on old mid new first after = after ∙ ap {A = WriterState} (λ w. record w { head = new.head; known = new.known; loads = new.loads }) first
 
+-- rows published and places found taken are together one more
+fed_more : (old mid new : WriterState) (waits waits' : ℕ) → HasFed old mid waits → new ≡ record mid { head = new.head; known = new.known; loads = new.loads } → LooksOnce mid new → mid.head ≤ new.head
+    → waits' + new.head ≡ waits + mid.head + 1 → loads_of mid.loads old.ring.readers + waits' ≤ loads_of new.loads old.ring.readers + waits → HasFed old new waits'
+fed_more old mid new waits waits' fed after looks head one more =
+    let readers : mid.ring.readers ≡ old.ring.readers = ap (λ (r : _). r.readers) (ring_same old mid waits fed) in
+    let counted = fed.counted in
+    record {
+      same = same_on old mid new fed.same after;
+      grows = grows_on old mid new fed.grows readers looks head;
+      counted = omega (arith, more, counted);
+      looks = λ r less.
+          (let so_far = fed.looks r less in
+          let once = looked_once mid new r (looks r (omega (arith, readers, less))) in
+          omega (arith, so_far, once, one));
+    }
+
 -- a row was published
 pub fed_on : (old mid new : WriterState) (waits : ℕ) → HasFed old mid waits → new ≡ record mid { head = new.head; known = new.known; loads = new.loads } → LooksOnce mid new → new.head ≡ mid.head + 1 → HasFed old new waits
 fed_on old mid new waits fed after looks head =
     let readers : mid.ring.readers ≡ old.ring.readers = ap (λ (r : _). r.readers) (ring_same old mid waits fed) in
     let more = loads_grow mid.loads new.loads old.ring.readers (λ r less. loads_stay mid new r (looks r (omega (arith, readers, less)))) in
-    let counted = fed.counted in
-    record {
-      same = same_on old mid new fed.same after;
-      grows = grows_on old mid new fed.grows readers looks (omega (arith, head));
-      counted = omega (arith, more, counted);
-      looks = λ r less.
-          (let so_far = fed.looks r less in
-          let once = looked_once mid new r (looks r (omega (arith, readers, less))) in
-          omega (arith, so_far, once, head));
-    }
+    fed_more old mid new waits waits fed after looks (omega (arith, head)) (omega (arith, head)) (omega (arith, more))
 
 -- a place was found taken once more
 pub fed_full : (old mid new : WriterState) (waits : ℕ) (full : Full) → HasFed old mid waits → new ≡ record mid { head = new.head; known = new.known; loads = new.loads } → LooksOnce mid new → new.head ≡ mid.head
@@ -181,16 +188,7 @@ fed_full old mid new waits full fed after looks head is =
     let own = is.found.look.loaded.counted in
     let in_range = is.in_range in
     let more = loads_rise mid.loads new.loads old.ring.readers full.site (λ r less. loads_stay mid new r (looks r (omega (arith, readers, less)))) (omega (arith, readers, in_range)) (omega (arith, own)) in
-    let counted = fed.counted in
-    record {
-      same = same_on old mid new fed.same after;
-      grows = grows_on old mid new fed.grows readers looks (omega (arith, head));
-      counted = omega (arith, more, counted);
-      looks = λ r less.
-          (let so_far = fed.looks r less in
-          let once = looked_once mid new r (looks r (omega (arith, readers, less))) in
-          omega (arith, so_far, once, head));
-    }
+    fed_more old mid new waits (waits + 1) fed after looks (omega (arith, head)) (omega (arith, head)) (omega (arith, more))
 
 -- so often that the writer goes on later
 pub waits_for : (old mid new : WriterState) (waits patience : ℕ) (full : Full) → HasFed old mid waits → new ≡ record mid { head = new.head; known = new.known; loads = new.loads } → LooksOnce mid new → new.head ≡ mid.head

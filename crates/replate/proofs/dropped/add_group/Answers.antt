@@ -6,7 +6,7 @@ use Rattle.plan_rows.specs.Inks.{inks_of}
 use Rattle.replate.specs.Picks.{is_dropped}
 use Rattle.replate.specs.Plates.{PlateAt, group_at, ink_plates}
 use Rattle.replate.proofs.ListLemmas.{filter_map_more}
-use Rattle.replate.proofs.dropped.add_inks.Goals as goal
+use Rattle.replate.proofs.dropped.add_group.Goals as goal
 
 pub loop-ink-preserved : goal.loop-ink-preserved
 loop-ink-preserved c =

@@ -5,7 +5,7 @@ use Rattle.plan_rows.specs.Inks.{inks_of}
 use Rattle.replate.specs.Plates.{PlateAt, group_at, ink_plates}
 use Rattle.replate.specs.Remade.{is_picked}
 use Rattle.replate.proofs.WantedLemmas.{map_map_more}
-use Rattle.replate.proofs.wanted.add_inks.Goals as goal
+use Rattle.replate.proofs.wanted.add_group.Goals as goal
 
 pub loop-ink-preserved : goal.loop-ink-preserved
 loop-ink-preserved c =

@@ -4,10 +4,10 @@ use Rattle.plan_json.specs.Plan.{IsPlan}
 use Rattle.replate.specs.Recipe.{page_recipe}
 use Rattle.replate.specs.Standing.{StandsFor}
 use Rattle.replate.proofs.GroupLemmas.{stand_alike}
-use Rattle.replate.proofs.kept.stays.Goals as goal
+use Rattle.replate.proofs.kept.is_kept.Goals as goal
 
 pub returns-in-Some-clause-each : goal.returns-in-Some-clause-each
-returns-in-Some-clause-each c = λ its index one.
+returns-in-Some-clause-each c = λ its index of_site one.
     let before = c.args.before.now.plan in
     let files = c.args.before.now.files in
     let other = c.plan-2.ensures.plan in

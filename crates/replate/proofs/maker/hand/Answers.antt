@@ -1,17 +1,17 @@
-use Rattle.std.proofs.Common.{◌≡◌, ◌-◌, ℕ, subst, sym, arith}
+use Rattle.std.proofs.Common.{◌≡◌, ◌-◌, ℕ, ◌∙◌, subst, sym, arith}
 use Rattle.pr_rack.specs.Told.{RackTells, told}
 use Rattle.site_agent.specs.declared.kept.Kept.TheVariants as kept
 use Rattle.site_agent.proofs.Drawing.{Keeps}
 use Rattle.replate.specs.declared.maker.Maker.{Maker}
 use Rattle.replate.specs.Making.{Made}
 use Rattle.replate.proofs.MakerLemmas.{IsPutRow, asks, is_done, made_left, made_on, made_stopped}
-use Rattle.replate.proofs.maker.hand_on.Goals as goal
+use Rattle.replate.proofs.maker.hand.Goals as goal
 
 pub keep-kept-requires : goal.keep-kept-requires
 keep-kept-requires g c =
     let held = c.take-held.result in
     let n : ℕ = c.args.deck.now.put - 1 in
-    let done = is_done c.args.maker.now.end c.requires.going in
+    let done = is_done c.args.maker.now.end (sym c.has_left.ensures ∙ c.if-has_left.false) in
     let number : held.number ≡ n = (let put = c.take-held.ensures.number in omega (arith, put)) in
     let now : RackTells = told g.R.Rack c.args.rack.now in
     let asked = asks c.args.deck.now.rows n now c.args.maker.now held done.0 done.1.0 c.requires.some done.1.1
@@ -30,7 +30,7 @@ pub returns-in-Done-clause-made : goal.returns-in-Done-clause-made
 returns-in-Done-clause-made g c =
     let held = c.take-held.result in
     let n : ℕ = c.args.deck.now.put - 1 in
-    let done = is_done c.args.maker.now.end c.requires.going in
+    let done = is_done c.args.maker.now.end (sym c.has_left.ensures ∙ c.if-has_left.false) in
     let number : held.number ≡ n = (let put = c.take-held.ensures.number in omega (arith, put)) in
     let old : RackTells = told g.R.Rack c.args.rack.now in
     let new : RackTells = told g.R.Rack c.keep-kept.new.rack in
@@ -66,7 +66,7 @@ pub returns-in-Left-clause-made : goal.returns-in-Left-clause-made
 returns-in-Left-clause-made g c =
     let held = c.take-held.result in
     let n : ℕ = c.args.deck.now.put - 1 in
-    let done = is_done c.args.maker.now.end c.requires.going in
+    let done = is_done c.args.maker.now.end (sym c.has_left.ensures ∙ c.if-has_left.false) in
     let old : RackTells = told g.R.Rack c.args.rack.now in
     let new : RackTells = told g.R.Rack c.keep-kept.new.rack in
     let number : held.number ≡ n = (let put = c.take-held.ensures.number in omega (arith, put)) in
@@ -103,7 +103,7 @@ pub returns-in-Memory-clause-stopped : goal.returns-in-Memory-clause-stopped
 returns-in-Memory-clause-stopped g c =
     let held = c.take-held.result in
     let n : ℕ = c.args.deck.now.put - 1 in
-    let done = is_done c.args.maker.now.end c.requires.going in
+    let done = is_done c.args.maker.now.end (sym c.has_left.ensures ∙ c.if-has_left.false) in
     let old : RackTells = told g.R.Rack c.args.rack.now in
     let new : RackTells = told g.R.Rack c.keep-kept.new.rack in
     let number : held.number ≡ n = (let put = c.take-held.ensures.number in omega (arith, put)) in
