@@ -1,11 +1,12 @@
 -- The loads of a call that follows another.
-use Rattle.std.proofs.Common.{◌≡◌, Bool, false, Result, Ok, Err, ◌∙◌}
+use Rattle.std.proofs.Common.{◌≡◌, Bool, false, Result, Ok, Err, sym, subst, ◌∙◌}
+use Rattle.std.specs.Prelude.{IsErrAnd}
 use Rattle.pr_ports.specs.declared.shelf.Shelf.{Ghosts}
 use Rattle.cmd_base.specs.declared.refusal.Refusal.{Refusal}
 use Rattle.cmd_base.specs.declared.refusal.Refusal.TheVariants.{Words, LongPlan, Plan, File, Shelf}
 use Rattle.cmd_base.specs.declared.refusal.Stop.{Stop}
 use Rattle.cmd_base.specs.declared.refusal.Stop.TheVariants as stop
-use Rattle.cmd_base.specs.Loads.{AllLoaded, Lengths, NoneLong, StopLengths, UnlessLong}
+use Rattle.cmd_base.specs.Loads.{AllLoaded, Lengths, Loads, NoneLong, StopLengths, UnlessLong, refused_load}
 use Rattle.cmd_base.specs.Seen.{ShelfSeen, shelf_seen}
 
 module _ {H : Type 0} (g : Ghosts H) (a b c : H) where
@@ -17,6 +18,22 @@ module _ {H : Type 0} (g : Ghosts H) (a b c : H) where
   pub loads_behind : (failed : Bool) → AllLoaded (shelf_seen g a b) → (failed ≡ false → AllLoaded (shelf_seen g b c))
       → failed ≡ false → AllLoaded (shelf_seen g a c)
   loads_behind failed before here done = all_behind before (here done)
+
+-- ---- a stop that is handed on as it came
+
+pub handed : {T : Type 0} (F : Result T Stop → Type 0) (result : Result T Stop) (why : Stop) → IsErrAnd result (λ it. it ≡ why) → F (Err why) → F result
+handed F (Ok value) why is holds = absurd is
+handed F (Err it) why is holds = subst (λ stop. F (Err stop)) (sym is) holds
+
+pub loads_on : {T : Type 0} (shelf : ShelfSeen) (result : Result T Stop) (why : Stop) → IsErrAnd result (λ it. it ≡ why)
+    → (refused_load why ≡ false → AllLoaded shelf) → Loads shelf result
+loads_on shelf = handed (Loads shelf)
+
+pub lengths_on : {T : Type 0} (shelf : ShelfSeen) (result : Result T Stop) (why : Stop) → IsErrAnd result (λ it. it ≡ why)
+    → StopLengths shelf why → Lengths shelf result
+lengths_on shelf = handed (Lengths shelf)
+
+-- ---- counts
 
 -- no file was counted as too long before this result
 pub none_lengths : {T : Type 0} (shelf : ShelfSeen) (result : Result T Stop) → NoneLong shelf → Lengths shelf result
