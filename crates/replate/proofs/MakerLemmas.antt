@@ -101,6 +101,11 @@ served_part making site n before now going (Left made path) left = record {
 
 -- ---- the requirements of Site::keep
 
+-- a site that hasn't left is done with some number of plates unless it leaves
+is_done : (end : RemadeEnd) → has_left end ≡ false → (made : ℕ) × ((kept' : ℕ) × (end ≡ Done made kept'))
+is_done (Done made kept') on = (made, (kept', refl))
+is_done (Left made path) on = absurd (let e : true ≡ false = on in cc)
+
 -- the site of a maker that continues
 pub going_of : (making : Making) (site n : ℕ) (before now : RackTells) (going : SiteData) (end : RemadeEnd) (made kept' : ℕ) → end ≡ Done made kept' → ServedBy making site n before now going end
     → GoesOnAt making site n before now going made kept'
@@ -115,11 +120,12 @@ pub record Asks (going : SiteData) (held : HeldRow) (now : Tells) : Type 0 where
   pub begun : AreBegun going.job going.next now.begun
   pub working : IfSome now.working (AreAsLong going.job going.next going.counts)
 
-pub asks : (frames : List (List ℕ)) (n : ℕ) (now : RackTells) (maker : Maker) (held : HeldRow) (made kept' : ℕ) → SomeServed frames n now maker → maker.end ≡ Done made kept' → held.number ≡ n
+pub asks : (frames : List (List ℕ)) (n : ℕ) (now : RackTells) (maker : Maker) (held : HeldRow) → SomeServed frames n now maker → has_left maker.end ≡ false → held.number ≡ n
     → slice_get frames held.number ≡ Some held.bytes → Asks maker.site held now.tells
-asks frames n now maker held made kept' some is number there =
+asks frames n now maker held some going number there =
     let making : Making = some.making in
-    let at : GoesOnAt making some.site' n some.before now maker.site made kept' = going_of making some.site' n some.before now maker.site maker.end made kept' is some.is in
+    let done = is_done maker.end going in
+    let at : GoesOnAt making some.site' n some.before now maker.site done.0 done.1.0 = going_of making some.site' n some.before now maker.site maker.end done.0 done.1.0 done.1.1 some.is in
     let here : slice_get making.rows maker.site.next ≡ Some (framed_row held.bytes) =
     ap (slice_get making.rows) (at.next_is ∙ sym number) ∙ row_at making frames held.number held.bytes some.carries there in
     record {
@@ -160,13 +166,15 @@ goes_further making frames site n before old new held going next made kept' carr
       faults = (let since = at.faults in let stay = keeps.faults_stay in omega (arith, since, stay));
     }
 
-pub made_on : (frames : List (List ℕ)) (n : ℕ) (old new : RackTells) (held : HeldRow) (maker : Maker) (next : SiteData) (made kept' : ℕ) → maker.end ≡ Done made kept' → IsPutRow frames n held
+pub made_on : (frames : List (List ℕ)) (n : ℕ) (old new : RackTells) (held : HeldRow) (maker : Maker) (next : SiteData) → has_left maker.end ≡ false → IsPutRow frames n held
     → Keeps maker.site next held old new kept.Done → Made frames n old new maker (record maker { site = next })
-made_on frames n old new held maker next made kept' is row keeps = record {
-  each = λ making site before carries served.
-      subst (λ (e : RemadeEnd). ServedBy making site (n + 1) before new next e) (sym is)
-      (goes_further making frames site n before old new held maker.site next made kept' carries row keeps (going_of making site n before old maker.site maker.end made kept' is served));
-}
+made_on frames n old new held maker next going row keeps =
+    let done = is_done maker.end going in
+    record {
+      each = λ making site before carries served.
+          subst (λ (e : RemadeEnd). ServedBy making site (n + 1) before new next e) (sym done.1.1)
+          (goes_further making frames site n before old new held maker.site next done.0 done.1.0 carries row keeps (going_of making site n before old maker.site maker.end done.0 done.1.0 done.1.1 served));
+    }
 
 -- the site left
 leaves_at : (making : Making) (frames : List (List ℕ)) (site n : ℕ) (before old new : RackTells) (held : HeldRow) (going next : SiteData) (made kept' : ℕ) (cause : LeftCause) → Carries making frames → IsPutRow frames n held
@@ -201,12 +209,14 @@ leaves_at making frames site n before old new held going next made kept' cause c
       faults = (let since = at.faults in let stay = keeps.faults_stay in omega (arith, since, stay));
     }
 
-pub made_left : (frames : List (List ℕ)) (n : ℕ) (old new : RackTells) (held : HeldRow) (maker : Maker) (next : SiteData) (made kept' : ℕ) (cause : LeftCause) → maker.end ≡ Done made kept' → IsPutRow frames n held
+pub made_left : (frames : List (List ℕ)) (n : ℕ) (old new : RackTells) (held : HeldRow) (maker : Maker) (next : SiteData) (cause : LeftCause) → has_left maker.end ≡ false → IsPutRow frames n held
     → Keeps maker.site next held old new (kept.Left cause) → Made frames n old new maker (record { site = next; end = Left cause.plates cause.path })
-made_left frames n old new held maker next made kept' cause is put keeps = record {
-  each = λ making site before carries served.
-      leaves_at making frames site n before old new held maker.site next made kept' cause carries put keeps (going_of making site n before old maker.site maker.end made kept' is served);
-}
+made_left frames n old new held maker next cause going put keeps =
+    let done = is_done maker.end going in
+    record {
+      each = λ making site before carries served.
+          leaves_at making frames site n before old new held maker.site next done.0 done.1.0 cause carries put keeps (going_of making site n before old maker.site maker.end done.0 done.1.0 done.1.1 served);
+    }
 
 -- only a row of the site can run out of memory
 own_row : (test : Bool) → (test ≡ false → kept.Memory ≡ kept.Done) → test ≡ true
@@ -227,22 +237,24 @@ memory_taken making frames site n before old new held going next made kept' put 
     ]
 
 -- the rack ran out of memory
-pub made_stopped : (frames : List (List ℕ)) (n : ℕ) (old new : RackTells) (held : HeldRow) (maker : Maker) (next : SiteData) (made kept' : ℕ) → maker.end ≡ Done made kept' → IsPutRow frames n held
+pub made_stopped : (frames : List (List ℕ)) (n : ℕ) (old new : RackTells) (held : HeldRow) (maker : Maker) (next : SiteData) → has_left maker.end ≡ false → IsPutRow frames n held
     → Keeps maker.site next held old new kept.Memory → Stopped frames n old new maker
-made_stopped frames n old new held maker next made kept' is put keeps = record {
-  each = λ making site before carries served.
-      let at : GoesOnAt making site n before old maker.site made kept' = going_of making site n before old maker.site maker.end made kept' is served in
-      record {
-        part = record {
-          files = finished_count (picked_job making.plan making.out site (making.bits site)) n;
-          finished = keeps.finished_stay ∙ files_at making site n before old maker.site made kept' at;
-          row = n;
-          taken = memory_taken making frames site n before old new held maker.site next made kept' put keeps at;
-          calls = inl (keeps.memory_missed ∙ at.missed);
-        };
-        faults = (let since = at.faults in let stay = keeps.faults_stay in omega (arith, since, stay));
-      };
-}
+made_stopped frames n old new held maker next going put keeps =
+    let done = is_done maker.end going in
+    record {
+      each = λ making site before carries served.
+          let at : GoesOnAt making site n before old maker.site done.0 done.1.0 = going_of making site n before old maker.site maker.end done.0 done.1.0 done.1.1 served in
+          record {
+            part = record {
+              files = finished_count (picked_job making.plan making.out site (making.bits site)) n;
+              finished = keeps.finished_stay ∙ files_at making site n before old maker.site done.0 done.1.0 at;
+              row = n;
+              taken = memory_taken making frames site n before old new held maker.site next done.0 done.1.0 put keeps at;
+              calls = inl (keeps.memory_missed ∙ at.missed);
+            };
+            faults = (let since = at.faults in let stay = keeps.faults_stay in omega (arith, since, stay));
+          };
+    }
 
 -- a site that has left remains so
 pub left_stays : (frames : List (List ℕ)) (n : ℕ) (told : RackTells) (maker : Maker) → has_left maker.end ≡ true → Made frames n told told maker maker
@@ -250,8 +262,3 @@ left_stays frames n told maker out = record { each = λ making site before carri
   by : (making : Making) (site : ℕ) (before : RackTells) (end : RemadeEnd) → has_left end ≡ true → ServedBy making site n before told maker.site end → ServedBy making site (n + 1) before told maker.site end
   by making site before (Done made kept') out' at = absurd (let e : false ≡ true = out' in cc)
   by making site before (Left made path) out' left = left
-
--- a site that hasn't left is done with some number of plates unless it leaves
-pub is_done : (end : RemadeEnd) → has_left end ≡ false → (made : ℕ) × ((kept' : ℕ) × (end ≡ Done made kept'))
-is_done (Done made kept') on = (made, (kept', refl))
-is_done (Left made path) on = absurd (let e : true ≡ false = on in cc)

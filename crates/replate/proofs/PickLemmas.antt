@@ -13,10 +13,10 @@ use Rattle.replate.specs.Inputs.{JobData}
 use Rattle.replate.specs.Picks.{MustMake, PicksData, is_made, recipe_at}
 use Rattle.replate.specs.Plates.{IsPlateOf, PlateAt, group_at, path_below}
 use Rattle.replate.specs.Recipe.{Recipe, page_recipe, recipe_of, screen_of, screen_recipe}
-use Rattle.replate.specs.Standing.{AreAllKept, IsAlike, SamePages, StandsFor}
+use Rattle.replate.specs.Standing.{AreAllKept, IsAlike, SamePages}
 use Rattle.replate.proofs.GroupLemmas.{group_in_plan}
-use Rattle.plan_rows.proofs.Names.{paths_same, paths_tell}
-use Rattle.replate.proofs.PlateLemmas.{can_tell}
+use Rattle.plan_rows.proofs.Names.{paths_same}
+use Rattle.replate.proofs.PlateLemmas.{stands}
 
 -- groups of two jobs that print the same pages have the same inks
 page_inks : (before after : JobData) (i j : ℕ) → IsPlan before.plan → IsPlan after.plan → i < length (groups_of before.plan) → j < length (groups_of after.plan)
@@ -65,18 +65,9 @@ pub record Compared (before after : JobData) (picks : PicksData) : Type 0 where
 module _ (before after : JobData) (picks : PicksData) (are : Compared before after picks) (new : PlateAt) (is : IsPlateOf after.plan new) where
   must : IsTrue (is_made picks new.site new.group new.ink) → MustMake before after new
   must made old old_is path same =
-      let names = paths_tell before.plan after.plan old.site new.site (group_at before.plan old.group) (group_at after.plan new.group) old.ink new.ink
-      (can_tell before.plan old.site old.group are.before_is old_is.site old_is.group) (can_tell after.plan new.site new.group are.after_is is.site is.group) path in
-      let first = (are.alike (slot_of new.ink) (slot_below new.ink)).1 (recipes_tell before after old new same names.edition names.ink_is) in
-      let stands : StandsFor after.plan new.site (group_at after.plan new.group) before.plan old.site old.group = record {
-        site_within = old_is.site;
-        site_named = names.site_named;
-        within = old_is.group;
-        section_named = names.section_named;
-        pair_is = names.pair_is;
-        of_site = old_is.of_site;
-      } in
-      let second = (are.kept.rows new.group is.group).each new.site old.site old.group is.site is.of_site (record { stands = stands; pages = pages_tell before after old new same }) in
+      let by = stands after.plan before.plan new are.after_is are.before_is is.site is.group old old_is path in
+      let first = (are.alike (slot_of new.ink) (slot_below new.ink)).1 (recipes_tell before after old new same (sym by.0) (sym by.1)) in
+      let second = (are.kept.rows new.group is.group).each new.site old.site old.group is.site is.of_site (record { stands = by.2; pages = pages_tell before after old new same }) in
       both_ways (slice_index_or picks.alike (slot_of new.ink) false && slice_index_or (slice_index_or picks.kept new.group []) new.site false)
       (not-true (slice_index_or picks.alike (slot_of new.ink) false && slice_index_or (slice_index_or picks.kept new.group []) new.site false) made)
       (and_from (slice_index_or picks.alike (slot_of new.ink) false) (slice_index_or (slice_index_or picks.kept new.group []) new.site false) first second)

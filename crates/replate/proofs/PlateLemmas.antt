@@ -125,7 +125,7 @@ can_tell plan site index is low within =
 
 module _ (before after : PlanData) (old : PlateAt) (before_is : IsPlan before) (after_is : IsPlan after) (site : old.site < length before.sites) (group : old.group < length (groups_of before)) where
   -- a new plate with the old plate's path corresponds to it
-  stands : (new : PlateAt) → IsPlateOf after new → path_below after new ≡ path_below before old
+  pub stands : (new : PlateAt) → IsPlateOf after new → path_below after new ≡ path_below before old
       → (before.edition ≡ after.edition) × (old.ink ≡ new.ink) × StandsFor before old.site (group_at before old.group) after new.site new.group
   stands new is same =
       let names = paths_tell before after old.site new.site (group_at before old.group) (group_at after new.group) old.ink new.ink
