@@ -1,7 +1,7 @@
 -- What is promised of the files of a generated job: they pass the tests of their uses, with these shapes and
 -- these pixels.
-use Rattle.std.specs.Prelude.{◌≡◌, ℕ, ◌%◌, ◌<◌, ◌≤◌, ◌==◌, if◌then◌else◌, Bool, true, false, List, length, Some}
-use Rattle.std.specs.Prelude.{Ok}
+use Rattle.std.specs.Prelude.{◌≡◌, ℕ, ◌%◌, ◌<◌, ◌≤◌, ◌==◌, if◌then◌else◌, Bool, true, false, List, length}
+use Rattle.std.specs.Prelude.{Some, Ok}
 use Rattle.tif_dir.specs.declared.order.Order.TheVariants.{Little, Big}
 use Rattle.tif_dir.specs.Directory.{header_of}
 use Rattle.tif_strips.specs.declared.shape.Shape.{Shape}
