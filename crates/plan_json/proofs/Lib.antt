@@ -1,3 +1,4 @@
+mod SoundNames
 pub mod SoundPages
 pub mod SoundZoning
 pub mod Mentions

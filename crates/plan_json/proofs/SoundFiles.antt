@@ -20,6 +20,7 @@ use Rattle.plan_json.specs.Files.{named_by, named_on, files_of, index_of, layer_
 use Rattle.plan_json.proofs.Mentions.{Known, all_known, noted, stays, split, known_below, any_known, none_last, length_last}
 use Rattle.plan_json.proofs.SoundPages.{IsNamedLayer, IsPageText}
 use Rattle.plan_json.proofs.SoundZoning.{length-map}
+use Rattle.plan_json.proofs.SoundNames.{none_apart}
 
 abbrev Texts : Type 0
 Texts = List (List ℕ)
@@ -145,9 +146,6 @@ distinct_case false files s e h = all_pairs_push (λ a b. a ≢ b) files s h (an
 distinct_all : (files xs : Texts) → AreDistinct files → AreDistinct (insert_all bytes_eq files xs)
 distinct_all files [] h = h
 distinct_all files (x ∷ xs) h = distinct_all (insert_key bytes_eq files x) xs (distinct_case _ files x refl h)
-
-none_apart : AreDistinct []
-none_apart i j d less within = absurd (omega arith)
 
 pub files_distinct : (pages : List PageText) → AreDistinct (files_of pages)
 unfolding files_of

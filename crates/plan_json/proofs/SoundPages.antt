@@ -1,5 +1,5 @@
 -- The pages that are read satisfy the clauses of a plan.
-use Rattle.std.proofs.Common.{◌≡◌, ℕ, ◌≤◌, Bool, true, false, List, [], ◌∷◌, ◌++◌, length, Option, Some, None, Ok, refl, subst, arith}
+use Rattle.std.proofs.Common.{◌≡◌, ℕ, ◌≤◌, Bool, true, false, List, [], ◌∷◌, length, Option, Some, None, Ok, refl, subst, arith}
 use Rattle.std.specs.Prelude.{All, IfSome, codes, if◌then◌else◌}
 use Rattle.std.proofs.lemmas.Grind.{common_steps}
 use Rattle.std.proofs.lemmas.List.Elements.{All-nil, All-push}
@@ -14,11 +14,9 @@ use Rattle.plan_parts.specs.Words.{AreDistinct}
 use Rattle.plan_parts.specs.Parts.{IsCrop}
 use Rattle.plan_parts.specs.Reading.{◌>>=◌, at_item, optional_in, object_with, new_name, file_name, number, index_in, items_within, required, optional, nth}
 use Rattle.plan_json.specs.Pages.{PageText, layer_keys, page_keys, kind, paint, crop, mask, ink, black, placing, painting, layer, layers, page_inks, page, pages, page_names, fifth}
-use Rattle.plan_parts.proofs.Sound.{ok_is, required_gives, optional_gives, number_optional, new_name_required, file_required, nth_sound, bind_ok, number_sound, file_name_sound, distinct-push, map-push, list_keeps}
+use Rattle.plan_parts.proofs.Sound.{ok_is, required_gives, optional_gives, number_optional, new_name_required, file_required, nth_sound, bind_ok, number_sound, file_name_sound, list_keeps}
 use Rattle.plan_parts.proofs.SoundPrinting.{five}
-
-none_apart : AreDistinct []
-none_apart i j d less within = absurd (omega arith)
+use Rattle.plan_json.proofs.SoundNames.{named_sound}
 
 -- ---- layers
 
@@ -167,13 +165,7 @@ page_sound spot earlier path d p e =
 abbrev pub ArePages : List PageText → Type 0
 ArePages pages = All IsPageText pages × AreDistinct (page_names pages)
 
-pages_step : (spot : Bool) (xs : List PageText) (path : List ℕ) (d : Data) (x : PageText) → ArePages xs
-    → page spot xs path d ≡ Ok x → ArePages (xs ++ x ∷ [])
-pages_step spot xs path d x h e =
-    let t = page_sound spot xs path d x e in
-    (All-push IsPageText xs x h.0 t.0, rw (map-push (λ (t : PageText). t.name) xs x) (distinct-push (page_names xs) x.name t.1 h.1))
-
 pub pages_sound : (spot : Bool) (path : List ℕ) (d : Data) (v : List PageText) → pages spot path d ≡ Ok v
     → ArePages v × IsWithin 1 2048 (length v)
 unfolding pages
-pages_sound spot path d v e = list_keeps (page spot) ArePages (pages_step spot) 1 2048 path d v (All-nil IsPageText, none_apart) e
+pages_sound spot = named_sound IsPageText (λ (p : PageText). p.name) (page spot) (page_sound spot) 1 2048

@@ -16,12 +16,13 @@ use Rattle.plan_json.specs.Plan.{IsSection, IsReplace, ReplaceApart, IsZone, IsS
 use Rattle.plan_parts.specs.Reading.{Read, ◌>>=◌, ◌>>◌, must, object_with, new_name, index_in, defined, count_of, items_within, each_after, required, optional}
 use Rattle.plan_json.specs.Pages.{page}
 use Rattle.plan_json.specs.Zoning.{section_keys, replace_keys, zone_keys, site_keys, section_pages, section, sections, section_names, page_count, replaces, new_page, replace, replaced, zone, zones, zone_names, site_zone, site, sites, site_names}
-use Rattle.plan_parts.proofs.Sound.{ok_is, required_gives, optional_gives, new_name_required, defined_required, bind_ok, number_sound, defined_sound, items_within_sound, distinct-push, map-push, each_keeps, list_keeps}
-
-none_apart : AreDistinct []
-none_apart i j d less within = absurd (omega arith)
+use Rattle.plan_parts.proofs.Sound.{ok_is, required_gives, optional_gives, new_name_required, defined_required, bind_ok, number_sound, defined_sound, items_within_sound, each_keeps, list_keeps}
+use Rattle.plan_json.proofs.SoundNames.{named_sound, none_named}
 
 -- ---- sections
+
+abbrev pub AreSections : ℕ → List SectionData → Type 0
+AreSections n sections = All (IsSection n) sections × AreDistinct (section_names sections)
 
 pub length-map : {A B : Type 0} (f : A → B) (xs : List A) → length (map f xs) ≡ length xs
 length-map f [] = refl
@@ -68,26 +69,10 @@ section_sound names earlier path d s e =
     let p = section_pages_required (codes "pages") names path s0.0 s2.0 s2.1 in
     subst (λ (s : SectionData). IsSection (length names) s × (index_in (section_names earlier) s.name ≡ None)) same (record { name = n.0; count = p.count; even = p.even; pages = p.places }, n.1)
 
--- one more item, of a new name
-named_push : {X : Type 0} (P : X → Type 0) (name_of : X → List ℕ) (xs : List X) (x : X)
-    → All P xs × AreDistinct (map name_of xs) → P x × (index_in (map name_of xs) (name_of x) ≡ None)
-    → All P (xs ++ x ∷ []) × AreDistinct (map name_of (xs ++ x ∷ []))
-named_push P name_of xs x h t =
-    (All-push P xs x h.0 t.0, rw (map-push name_of xs x) (distinct-push (map name_of xs) (name_of x) t.1 h.1))
-
-abbrev pub AreSections : ℕ → List SectionData → Type 0
-AreSections n sections = All (IsSection n) sections × AreDistinct (section_names sections)
-
-sections_step : (names : List (List ℕ)) (xs : List SectionData) (path : List ℕ) (d : Data) (x : SectionData)
-    → AreSections (length names) xs → section names xs path d ≡ Ok x
-    → AreSections (length names) (xs ++ x ∷ [])
-sections_step names xs path d x h e =
-    named_push (IsSection (length names)) (λ (t : SectionData). t.name) xs x h (section_sound names xs path d x e)
-
 pub sections_sound : (names : List (List ℕ)) (path : List ℕ) (d : Data) (v : List SectionData)
     → sections names path d ≡ Ok v → AreSections (length names) v × IsWithin 1 8 (length v)
 unfolding sections
-sections_sound names path d v e = list_keeps (section names) (AreSections (length names)) (sections_step names) 1 8 path d v (All-nil (IsSection (length names)), none_apart) e
+sections_sound names = named_sound (IsSection (length names)) (λ (t : SectionData). t.name) (section names) (section_sound names) 1 8
 
 -- ---- zones
 
@@ -190,22 +175,15 @@ zone_sound names sections earlier path d z e =
 abbrev pub AreZones : ℕ → List SectionData → List ZoneData → Type 0
 AreZones n sections zones = All (IsZone n sections) zones × AreDistinct (zone_names zones)
 
-zones_step : (names : List (List ℕ)) (sections : List SectionData) (xs : List ZoneData) (path : List ℕ)
-    (d : Data) (x : ZoneData)
-    → AreZones (length names) sections xs → zone names sections xs path d ≡ Ok x
-    → AreZones (length names) sections (xs ++ x ∷ [])
-zones_step names sections xs path d x h e =
-    named_push (IsZone (length names) sections) (λ (t : ZoneData). t.name) xs x h (zone_sound names sections xs path d x e)
-
 pub no_zones : (n : ℕ) (sections : List SectionData) → AreZones n sections []
-no_zones n sections = (All-nil (IsZone n sections), none_apart)
+no_zones n sections = none_named (IsZone n sections) (λ (t : ZoneData). t.name)
 
 pub zones_sound : (names : List (List ℕ)) (sections : List SectionData) (path : List ℕ) (d : Data)
     (v : List ZoneData) → zones names sections path d ≡ Ok v
     → AreZones (length names) sections v × (length v ≤ 16)
 unfolding zones
 zones_sound names sections path d v e =
-    let kept = list_keeps (zone names sections) (AreZones (length names) sections) (zones_step names sections) 0 16 path d v (no_zones (length names) sections) e in
+    let kept = named_sound (IsZone (length names) sections) (λ (t : ZoneData). t.name) (zone names sections) (zone_sound names sections) 0 16 path d v e in
     (kept.0, kept.1.most)
 
 -- ---- sites
@@ -234,12 +212,7 @@ site_sound names earlier path d s e =
 abbrev pub AreSites : ℕ → List SiteData → Type 0
 AreSites n sites = All (IsSite n) sites × AreDistinct (site_names sites)
 
-sites_step : (names : List (List ℕ)) (xs : List SiteData) (path : List ℕ) (d : Data) (x : SiteData)
-    → AreSites (length names) xs → site names xs path d ≡ Ok x → AreSites (length names) (xs ++ x ∷ [])
-sites_step names xs path d x h e =
-    named_push (IsSite (length names)) (λ (t : SiteData). t.name) xs x h (site_sound names xs path d x e)
-
 pub sites_sound : (names : List (List ℕ)) (path : List ℕ) (d : Data) (v : List SiteData)
     → sites names path d ≡ Ok v → AreSites (length names) v × IsWithin 1 16 (length v)
 unfolding sites
-sites_sound names path d v e = list_keeps (site names) (AreSites (length names)) (sites_step names) 1 16 path d v (All-nil (IsSite (length names)), none_apart) e
+sites_sound names = named_sound (IsSite (length names)) (λ (t : SiteData). t.name) (site names) (site_sound names) 1 16
