@@ -31,47 +31,34 @@ use Rattle.press_job.specs.Tests.{fault_for, layer_fault, mention_fault, page_fa
 -- ---- one use
 
 -- a use that passes is noted with its record, and no other use is forgotten
+still_passed : (test : FileTest) (found : FoundData) (usage other : Usage) → has_passed test other ≡ true → has_passed (with_use test usage found) other ≡ true
+still_passed test found Contone Contone h = refl
+still_passed test found Contone (Bilevel Line) h = h
+still_passed test found Contone (Bilevel Mask) h = h
+still_passed test found (Bilevel Line) Contone h = h
+still_passed test found (Bilevel Line) (Bilevel Line) h = refl
+still_passed test found (Bilevel Line) (Bilevel Mask) h = h
+still_passed test found (Bilevel Mask) Contone h = h
+still_passed test found (Bilevel Mask) (Bilevel Line) h = h
+still_passed test found (Bilevel Mask) (Bilevel Mask) h = refl
+
+found_noted : (test : FileTest) (found : FoundData) (usage other : Usage) → IsTested test → IsFound usage test.bytes.now found → has_passed (with_use test usage found) other ≡ true
+    → IsFound other test.bytes.now (found_of (with_found test.found usage found) other)
+found_noted test found Contone Contone are is h = is
+found_noted test found Contone (Bilevel Line) are is h = are.each (Bilevel Line) h
+found_noted test found Contone (Bilevel Mask) are is h = are.each (Bilevel Mask) h
+found_noted test found (Bilevel Line) Contone are is h = are.each Contone h
+found_noted test found (Bilevel Line) (Bilevel Line) are is h = is
+found_noted test found (Bilevel Line) (Bilevel Mask) are is h = are.each (Bilevel Mask) h
+found_noted test found (Bilevel Mask) Contone are is h = are.each Contone h
+found_noted test found (Bilevel Mask) (Bilevel Line) are is h = are.each (Bilevel Line) h
+found_noted test found (Bilevel Mask) (Bilevel Mask) are is h = is
+
 pub use_noted : (test : FileTest) (usage : Usage) (found : FoundData) → IsTested test
     → IsFound usage test.bytes.now found → GoesOn test (with_use test usage found)
-use_noted test Contone found are is = record { file = refl; bytes = refl; kept = kept; tested = record { each = each } }
-  where
-    kept : (other : Usage) → has_passed test other ≡ true
-        → has_passed (with_use test Contone found) other ≡ true
-    kept Contone h = refl
-    kept (Bilevel Line) h = h
-    kept (Bilevel Mask) h = h
-
-    each : (other : Usage) → has_passed (with_use test Contone found) other ≡ true
-        → IsFound other test.bytes.now (found_of (with_found test.found Contone found) other)
-    each Contone h = is
-    each (Bilevel Line) h = are.each (Bilevel Line) h
-    each (Bilevel Mask) h = are.each (Bilevel Mask) h
-use_noted test (Bilevel Line) found are is = record { file = refl; bytes = refl; kept = kept; tested = record { each = each } }
-  where
-    kept : (other : Usage) → has_passed test other ≡ true
-        → has_passed (with_use test (Bilevel Line) found) other ≡ true
-    kept Contone h = h
-    kept (Bilevel Line) h = refl
-    kept (Bilevel Mask) h = h
-
-    each : (other : Usage) → has_passed (with_use test (Bilevel Line) found) other ≡ true
-        → IsFound other test.bytes.now (found_of (with_found test.found (Bilevel Line) found) other)
-    each Contone h = are.each Contone h
-    each (Bilevel Line) h = is
-    each (Bilevel Mask) h = are.each (Bilevel Mask) h
-use_noted test (Bilevel Mask) found are is = record { file = refl; bytes = refl; kept = kept; tested = record { each = each } }
-  where
-    kept : (other : Usage) → has_passed test other ≡ true
-        → has_passed (with_use test (Bilevel Mask) found) other ≡ true
-    kept Contone h = h
-    kept (Bilevel Line) h = h
-    kept (Bilevel Mask) h = refl
-
-    each : (other : Usage) → has_passed (with_use test (Bilevel Mask) found) other ≡ true
-        → IsFound other test.bytes.now (found_of (with_found test.found (Bilevel Mask) found) other)
-    each Contone h = are.each Contone h
-    each (Bilevel Line) h = are.each (Bilevel Line) h
-    each (Bilevel Mask) h = is
+use_noted test Contone found are is = record { file = refl; bytes = refl; kept = still_passed test found Contone; tested = record { each = λ other. found_noted test found Contone other are is } }
+use_noted test (Bilevel Line) found are is = record { file = refl; bytes = refl; kept = still_passed test found (Bilevel Line); tested = record { each = λ other. found_noted test found (Bilevel Line) other are is } }
+use_noted test (Bilevel Mask) found are is = record { file = refl; bytes = refl; kept = still_passed test found (Bilevel Mask); tested = record { each = λ other. found_noted test found (Bilevel Mask) other are is } }
 
 pub has_noted : (test : FileTest) (usage : Usage) (found : FoundData)
     → has_passed (with_use test usage found) usage ≡ true
