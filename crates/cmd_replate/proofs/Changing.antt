@@ -22,8 +22,10 @@ use Rattle.replate.specs.Plates.{IsPlateOf, PlateAt, all_plates}
 use Rattle.replate.specs.Remade.{AreRowsOf, RemadeFits, RemadePart, by_picks}
 use Rattle.replate.proofs.PlateLemmas.{some_plate}
 use Rattle.site_agent.proofs.Results.{if_err, if_ok}
-use Rattle.cmd_replate.specs.Change.{ArePicks, DeliversPicked, DeliversPickedPart, IsPlaced, compared, Change}
-use Rattle.cmd_replate.specs.Remade.{dropped_lines, remade_text, text_with}
+use Rattle.cmd_replate.specs.declared.change.Late.{Late}
+use Rattle.cmd_replate.specs.Change.{ArePicks, DeliversPicked, DeliversPickedPart, IsLoadedLate, IsPlaced, PrintsRemade, compared, Change}
+use Rattle.cmd_replate.specs.Remade.{dropped_lines, remade_text, status_of_remade, text_with}
+use Rattle.cmd_base.specs.Seen.{ShelfSeen}
 use Rattle.cmd_base.proofs.Rows.{frames_in, over_job}
 
 -- ---- dropped plates
@@ -102,3 +104,20 @@ module _ {R E : Type 0} (g : rack.Ghosts R) (change : Change) (job : JobData) (p
             (λ plan rows. RemadePart (by_picks plan rows change.out picks) (all_told g racks) (all_told g racks')) h;
         others = others_in;
       }) part
+
+-- ---- the whole command
+
+-- what it prints, where both jobs were loaded and the racks took the plates
+pub prints_late : {R : Type 0} (g : rack.Ghosts R) (change : Change) (shelf : ShelfSeen) (late : Late) (loaded : IsLoadedLate change shelf.held late) (racks racks' : List R) (ends : List RemadeEnd) (text : List ℕ) (status : ℕ)
+    → DeliversPicked g change late.job late.picks racks racks' ends → text ≡ remade_text loaded.before.plan late.job.plan change.out ends → status ≡ status_of_remade ends
+    → PrintsRemade g change shelf racks racks' text status
+prints_late g change shelf late loaded racks racks' ends text status delivers text_is status_is = record {
+  before = loaded.before;
+  job = late.job;
+  picks = late.picks;
+  compared_are = record { old_prepared = loaded.old_prepared; prepared = loaded.prepared; are_picks = loaded.is.are_picks };
+  ends = ends;
+  delivers = delivers;
+  text_is = text_is;
+  status_is = status_is;
+}

@@ -1,11 +1,10 @@
 -- Obligations of the command `replate`.
-use Rattle.std.proofs.Common.{◌≡◌, ◌⊎◌, ℕ, ◌<◌, ◌≤◌, List, length, [], ◌∷◌, Bool, Option, Some, None, suc, option_map, true, false, if◌then◌else◌, refl, ap, ◌∙◌, inl, inr, arith}
+use Rattle.std.proofs.Common.{◌≡◌, ◌⊎◌, ℕ, ◌<◌, ◌≤◌, List, length, [], ◌∷◌, Option, Some, None, suc, false, refl, ap, ◌∙◌, inl, inr, arith}
 use Rattle.std.specs.Prelude.{slice_get}
 use Rattle.std.specs.List.{list_all}
 use Rattle.std.specs.Option.{option_or}
-use Rattle.std.proofs.lemmas.Option.{slice_get-map, slice_get_within}
+use Rattle.std.proofs.lemmas.Option.{slice_get_within}
 use Rattle.pr_rack.specs.declared.rack.Rack.{Ghosts}
-use Rattle.pr_rack.specs.Told.{told}
 use Rattle.press_job.specs.Job.{JobData}
 use Rattle.replate.specs.declared.remade.RemadeEnd.{RemadeEnd}
 use Rattle.replate.specs.declared.remade.RemadeEnd.TheVariants as remade
@@ -19,7 +18,7 @@ use Rattle.cmd_base.specs.Refusal.{status_of}
 use Rattle.cmd_replate.specs.Remade.{is_done, status_of_remade}
 use Rattle.cmd_base.specs.Seen.{Files, ShelfSeen, LoadFailed, RackFailed}
 use Rattle.cmd_base.proofs.Jobs.{job_known, job_met, prepared_is}
-use Rattle.cmd_base.proofs.Owed.{zero_or_one, there, Owes}
+use Rattle.cmd_base.proofs.Owed.{not_all, rack_failed, zero_one, Owes}
 
 -- a refusal of the old job is the verdict; where there is none, a refusal of the new job is
 change_met : (change : Change) (files : Files) (shelf : ShelfSeen) (refusal : Refusal) → shelf.held ≡ Some files
@@ -60,17 +59,11 @@ some_left_picked (remade.Left made path ∷ ends) h = (0, made, path, refl)
 
 pub remade_status : (ends : List RemadeEnd) (status : ℕ) → status ≡ status_of_remade ends → (status ≡ 0) ⊎ (status ≡ 1)
 unfolding status_of_remade
-remade_status ends status is = by (list_all is_done ends) is where
-  by : (all : Bool) → status ≡ (if all then 0 else 1) → (status ≡ 0) ⊎ (status ≡ 1)
-  by true h = inl h
-  by false h = inr h
+remade_status ends = zero_one (list_all is_done ends)
 
 not_all_done : (ends : List RemadeEnd) (status : ℕ) → status ≡ status_of_remade ends → status ≡ 1 → list_all is_done ends ≡ false
 unfolding status_of_remade
-not_all_done ends status is one = by (list_all is_done ends) is where
-  by : (all : Bool) → status ≡ (if all then 0 else 1) → all ≡ false
-  by true h = absurd (zero_or_one status h one)
-  by false h = refl
+not_all_done ends = not_all (list_all is_done ends)
 
 module _ {R : Type 0} (g : Ghosts R) where
   -- the rack of a site that dropped out counted a failure
@@ -80,14 +73,9 @@ module _ {R : Type 0} (g : Ghosts R) where
       let within : site < length ends = slice_get_within ends site (remade.Left made path) at in
       let count : length ends ≡ length job.plan.sites = delivers.fits.count in
       let enough : length job.plan.sites ≤ length racks = delivers.enough in
-      let kept : length racks' ≡ length racks = delivers.kept in
-      let old = there racks site (omega arith) in
-      let new = there racks' site (omega arith) in
-      let fits : FitsLeft (making_of change job picks) site (told g old.0) (told g new.0) made path =
-      delivers.fits.each site (told g old.0) (told g new.0) (remade.Left made path)
-      (slice_get-map (told g) racks site ∙ ap (option_map (told g)) old.1)
-      (slice_get-map (told g) racks' site ∙ ap (option_map (told g)) new.1) at in
-      record { site = site; old = old.0; new = new.0; before = old.1; after = new.1; rose = fits.counted }
+      rack_failed g racks racks' site (omega arith) delivers.kept (λ old new before after.
+      let fits : FitsLeft (making_of change job picks) site old new made path = delivers.fits.each site old new (remade.Left made path) before after at in
+      fits.counted)
 
   pub change_owes : (change : Change) → Owes g (change_rules change) (change_makes g change)
   change_owes change = record {

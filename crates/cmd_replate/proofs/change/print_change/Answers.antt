@@ -4,9 +4,9 @@ use Rattle.cmd_replate.specs.Change.{change_told, change_makes, change_rules}
 use Rattle.cmd_replate.specs.Remade.{remade_text, status_of_remade}
 use Rattle.cmd_base.specs.Seen.{shelf_seen}
 use Rattle.cmd_base.specs.Status.{number_of}
-use Rattle.cmd_replate.proofs.Changing.{text_is}
+use Rattle.cmd_replate.proofs.Changing.{prints_late, text_is}
 use Rattle.cmd_base.proofs.Grow.{grew_nothing}
-use Rattle.cmd_base.proofs.Loads.{none_lengths}
+use Rattle.cmd_base.proofs.Loads.{lengths_on, loads_on, none_lengths}
 use Rattle.cmd_base.proofs.Told.{put_makes}
 use Rattle.cmd_replate.proofs.change.print_change.Goals as goal
 
@@ -18,20 +18,8 @@ returns-in_err-text-clause-answered g c =
       text = remade_text late.before.plan c.in_ok-late.late.job.plan c.args.change.out.now
           c.in_ok-remade.remade.items;
       status = status_of_remade c.in_ok-remade.remade.items;
-      prints = record {
-        before = late.before;
-        job = c.in_ok-late.late.job;
-        picks = c.in_ok-late.late.picks;
-        compared_are = record {
-          old_prepared = late.old_prepared;
-          prepared = late.prepared;
-          are_picks = late.is.are_picks;
-        };
-        ends = c.in_ok-remade.remade.items;
-        delivers = c.in_ok-remade.ensures.delivers;
-        text_is = refl;
-        status_is = refl;
-      };
+      prints = prints_late g.R.Rack (change_told c.args.change) _ c.in_ok-late.late late _ _
+          c.in_ok-remade.remade.items _ _ c.in_ok-remade.ensures.delivers refl refl;
       grew = (0, grew_nothing _ _ refl);
     })))
 
@@ -41,30 +29,19 @@ returns-clause-answered g c =
     let change = change_told c.args.change in
     put_makes (change_rules change) (change_makes g.R.Rack change) _ c.args.racks.now c.make_late.new.racks _
     c.as_bytes.result.now (number_of c.status_of.result) c.put_text.result
-    (record {
-      before = late.before;
-      job = c.in_ok-late.late.job;
-      picks = c.in_ok-late.late.picks;
-      compared_are = record {
-        old_prepared = late.old_prepared;
-        prepared = late.prepared;
-        are_picks = late.is.are_picks;
-      };
-      ends = c.in_ok-remade.remade.items;
-      delivers = c.in_ok-remade.ensures.delivers;
-      text_is = c.as_bytes.ensures.value ∙ c.in_ok-text.ensures
-          ∙ text_is late.before.plan c.in_ok-late.late.job.plan c.plan-plan.result.now c.args.change.out.now
-          c.as_slice-ends.result.now c.in_ok-remade.remade.items c.as_str-dropped.result.now
-          c.plan-plan.ensures.plan c.as_slice-ends.ensures.value
-          (c.as_str-dropped.ensures.value ∙ late.is.dropped);
-      status_is = c.status_of.ensures ∙ ap status_of_remade c.as_slice-ends.ensures.value;
-    })
+    (prints_late g.R.Rack change _ c.in_ok-late.late late _ _ c.in_ok-remade.remade.items _ _
+    c.in_ok-remade.ensures.delivers
+    (c.as_bytes.ensures.value ∙ c.in_ok-text.ensures
+    ∙ text_is late.before.plan c.in_ok-late.late.job.plan c.plan-plan.result.now c.args.change.out.now
+    c.as_slice-ends.result.now c.in_ok-remade.remade.items c.as_str-dropped.result.now
+    c.plan-plan.ensures.plan c.as_slice-ends.ensures.value
+    (c.as_str-dropped.ensures.value ∙ late.is.dropped))
+    (c.status_of.ensures ∙ ap status_of_remade c.as_slice-ends.ensures.value))
     c.put_text.ensures.puts
 
 pub returns-in_err-late-clause-loads : goal.returns-in_err-late-clause-loads
 returns-in_err-late-clause-loads g c =
-    let p = err_from_is_err_and c.from_residual.result c.from_residual.ensures.1 in
-    rw (p.1, p.2) c.in_err-late.ensures.loads
+    loads_on _ _ _ c.from_residual.ensures.1 c.in_err-late.ensures.loads
 
 pub returns-in_err-remade-clause-loads : goal.returns-in_err-remade-clause-loads
 returns-in_err-remade-clause-loads g c = λ done. c.in_ok-late.ensures.loads refl
@@ -77,8 +54,7 @@ returns-clause-loads g c = λ done. c.in_ok-late.ensures.loads refl
 
 pub returns-in_err-late-clause-lengths : goal.returns-in_err-late-clause-lengths
 returns-in_err-late-clause-lengths g c =
-    let p = err_from_is_err_and c.from_residual.result c.from_residual.ensures.1 in
-    rw (p.1, p.2) c.in_err-late.ensures.lengths
+    lengths_on (shelf_seen g.H.Shelf c.args.shelf.now c.load_late.new.shelf) _ _ c.from_residual.ensures.1 c.in_err-late.ensures.lengths
 
 pub returns-in_err-remade-clause-lengths : goal.returns-in_err-remade-clause-lengths
 returns-in_err-remade-clause-lengths g c =
