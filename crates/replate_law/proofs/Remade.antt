@@ -189,6 +189,18 @@ module _ (before after : JobData) (out path : List ℕ) (old_site site : ℕ) (m
       let must = (told p p_is).0 is in
       (told q q_is).1 (λ old old_is old_path recipe. must old old_is (old_path ∙ sym below) (recipe ∙ sym one.0))
 
+  -- no made file has the path where no made plate of the site has it
+  none_picked : ((p : PlateAt) → IsPlateOf after.plan p → p.site ≡ site → made p ≡ true → is_new p ≡ true → ⊥) → held_in (picked_files after out site made) path ≡ None
+  unfolding is_new
+  none_picked none =
+      ap (λ files. held_in files path) (picked_are after out site made)
+      ∙ held_none (entry_of after out) path (filter made (plates_of after.plan site))
+      (any-filter made is_new (plates_of after.plan site)
+      ∙ false_from_ne_true (list_any (λ p. made p && is_new p) (plates_of after.plan site)) (λ some.
+      let other = some_of_site after.plan site (λ p. made p && is_new p) low some in
+      let both = and_parts (made other.0) (is_new other.0) other.3 in
+      none other.0 other.1 other.2 both.0 both.1))
+
   -- the case that a new plate of the site has the path
   module _ (new : PlateAt) (new_is : IsPlateOf after.plan new) (at_site : new.site ≡ site) (at_path : (entry_of after out new).0 ≡ path) where
     pub new_held : held_in (files_of_site after out site) path ≡ Some (bytes_of_plate after new)
@@ -221,14 +233,8 @@ module _ (before after : JobData) (out path : List ℕ) (old_site site : ℕ) (m
 
     unmade_held : made new ≡ false → held_in (picked_files after out site made) path ≡ None
     unfolding is_new
-    unmade_held is =
-        ap (λ files. held_in files path) (picked_are after out site made)
-        ∙ held_none (entry_of after out) path (filter made (plates_of after.plan site))
-        (any-filter made is_new (plates_of after.plan site)
-        ∙ false_from_ne_true (list_any (λ p. made p && is_new p) (plates_of after.plan site)) (λ some.
-        let other = some_of_site after.plan site (λ p. made p && is_new p) low some in
-        let both = and_parts (made other.0) (is_new other.0) other.3 in
-        both_ways (made new) is (one_made other.0 new other.1 new_is ((bytes_decides (entry_of after out other.0).0 path).0 both.1 ∙ sym at_path) both.0)))
+    unmade_held is = none_picked (λ p p_is at picked here.
+        both_ways (made new) is (one_made p new p_is new_is ((bytes_decides (entry_of after out p).0 path).0 here ∙ sym at_path) picked))
 
     not_dropped : is_dropped_path before after out path ≡ false
     unfolding dropped_of has_path
@@ -277,15 +283,9 @@ module _ (before after : JobData) (out path : List ℕ) (old_site site : ℕ) (m
 
     none_made : held_in (picked_files after out site made) path ≡ None
     unfolding is_new
-    none_made =
-        ap (λ files. held_in files path) (picked_are after out site made)
-        ∙ held_none (entry_of after out) path (filter made (plates_of after.plan site))
-        (any-filter made is_new (plates_of after.plan site)
-        ∙ false_from_ne_true (list_any (λ p. made p && is_new p) (plates_of after.plan site)) (λ some.
-        let other = some_of_site after.plan site (λ p. made p && is_new p) low some in
-        let both = and_parts (made other.0) (is_new other.0) other.3 in
+    none_made = none_picked (λ p p_is at picked here.
         both_ways (list_any is_new (plates_of after.plan site)) none
-        (subst (λ s. list_any is_new (plates_of after.plan s) ≡ true) other.2 (any_of_site after.plan is_new other.0 other.1 both.1))))
+        (subst (λ s. list_any is_new (plates_of after.plan s) ≡ true) at (any_of_site after.plan is_new p p_is here)))
 
     -- an old plate with the path would be kept, so the new plan would have it
     none_old : is_dropped_path before after out path ≡ false → held_in (files_of_site before out old_site) path ≡ None

@@ -9,10 +9,8 @@ use Rattle.replate.specs.Inputs.{JobData}
 use Rattle.replate.specs.Picks.{MustMake, recipe_at}
 use Rattle.replate.specs.Plates.{IsPlateOf, PlateAt, group_at, has_path, path_below}
 use Rattle.replate.specs.Recipe.{recipe_of}
-use Rattle.replate.specs.Standing.{StandsFor}
 use Rattle.replate.proofs.GroupLemmas.{stand_alike}
-use Rattle.plan_rows.proofs.Names.{paths_tell}
-use Rattle.replate.proofs.PlateLemmas.{any_plate, can_tell}
+use Rattle.replate.proofs.PlateLemmas.{any_plate, stands}
 use Rattle.replate_law.specs.Law.{bytes_of_plate}
 use Rattle.replate_law.proofs.Printed.{file_by, file_is}
 
@@ -28,18 +26,10 @@ pub one_recipe : (job : JobData) (a b : PlateAt) → IsPlan job.plan → IsPlate
     → (recipe_at job a ≡ recipe_at job b) × (a.ink ≡ b.ink)
 one_recipe job a b is a_is b_is path =
     let plan = job.plan in
-    let names = paths_tell plan plan a.site b.site (group_at plan a.group) (group_at plan b.group) a.ink b.ink (can_tell plan a.site a.group is a_is.site a_is.group) (can_tell plan b.site b.group is b_is.site b_is.group) path in
-    let one : StandsFor plan a.site (group_at plan a.group) plan a.site a.group = record { site_within = a_is.site; site_named = refl; within = a_is.group; section_named = refl; pair_is = refl; of_site = a_is.of_site } in
-    let two : StandsFor plan a.site (group_at plan a.group) plan b.site b.group = record {
-      site_within = b_is.site;
-      site_named = sym names.site_named;
-      within = b_is.group;
-      section_named = sym names.section_named;
-      pair_is = sym names.pair_is;
-      of_site = b_is.of_site;
-    } in
-    let alike = stand_alike plan a.site (group_at plan a.group) plan a.site b.site a.group b.group is one two in
-    let ink = names.ink_is in (
+    let one = stands plan plan a is is a_is.site a_is.group a a_is refl in
+    let two = stands plan plan a is is a_is.site a_is.group b b_is (sym path) in
+    let alike = stand_alike plan a.site (group_at plan a.group) plan a.site b.site a.group b.group is one.2 two.2 in
+    let ink = two.1 in (
       ap (λ l. recipe_of plan job.files l (group_at plan a.group).right a.ink) alike.left
           ∙ ap (λ r. recipe_of plan job.files (group_at plan b.group).left r a.ink) alike.right
           ∙ ap (λ i. recipe_of plan job.files (group_at plan b.group).left (group_at plan b.group).right i) ink,
@@ -51,14 +41,13 @@ pub same : (before after : JobData) (old new : PlateAt) → IsPlan before.plan �
 same before after old new before_is after_is old_is new_is path unmade =
     let a = bytes_of_plate before old in
     let b = bytes_of_plate after new in
-    let names = paths_tell before.plan after.plan old.site new.site (group_at before.plan old.group) (group_at after.plan new.group) old.ink new.ink
-    (can_tell before.plan old.site old.group before_is old_is.site old_is.group) (can_tell after.plan new.site new.group after_is new_is.site new_is.group) path in
+    let ink = (stands before.plan after.plan old before_is after_is old_is.site old_is.group new new_is (sym path)).1 in
     elim (cases_Bool (bytes_eq a b)) [
       | inl equal ↦ (bytes_decides a b).0 equal
       | inr differ ↦ absurd (unmade (λ other other_is other_path recipe.
           let one = one_recipe before old other before_is old_is other_is (path ∙ sym other_path) in
           let bytes : a ≡ b =
-          file_is before old before_is old_is ∙ ap (λ r. file_by r old.ink) (one.0 ∙ recipe) ∙ ap (λ i. file_by (recipe_at after new) i) names.ink_is
+          file_is before old before_is old_is ∙ ap (λ r. file_by r old.ink) (one.0 ∙ recipe) ∙ ap (λ i. file_by (recipe_at after new) i) ink
           ∙ sym (file_is after new after_is new_is) in
           both_ways (bytes_eq a b) differ ((bytes_decides a b).1 bytes)))
     ]
