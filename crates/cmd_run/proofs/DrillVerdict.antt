@@ -1,9 +1,10 @@
 -- The files of a generated job pass the verdict on its plan.
-use Rattle.std.proofs.Common.{◌≡◌, ◌≢◌, ℕ, zero, suc, ◌+◌, ◌*◌, ◌/◌, ◌%◌, ◌<◌, ◌≤◌, Bool, true, false, not, if◌then◌else◌, nat_eq, nat_lt, List, [], ◌∷◌, ◌++◌, length, map, get_or, All, sum_by, codes, Option, Some, None, option_map, unwrap_or, refl, sym, ap, ◌∙◌, zero-add, arith}
+use Rattle.std.proofs.Common.{◌≡◌, ◌≢◌, ℕ, zero, suc, ◌+◌, ◌*◌, ◌/◌, ◌%◌, ◌<◌, ◌≤◌, Bool, true, false, not, if◌then◌else◌, nat_eq, nat_lt, List, [], ◌∷◌, ◌++◌, length, map, get_or, All, sum_by, codes, Option, Some, None, option_map, unwrap_or, refl, sym, ap, subst, ◌∙◌, ⊎_elim, zero-add, arith}
 use Rattle.std.specs.Fmt.{digits}
 use Rattle.std.specs.List.{range_with_len}
 use Rattle.std.specs.Option.{option_or}
 use Rattle.std.specs.Result.{result_err}
+use Rattle.std.proofs.lemmas.Bool.{cases_lt}
 use Rattle.std.proofs.lemmas.Bool.Decides.{nat_tests}
 use Rattle.std.proofs.lemmas.List.{length-map}
 use Rattle.std.proofs.lemmas.List.Elements.{All-cons}
@@ -241,42 +242,49 @@ plan_passes sites pages size held least are =
 
 module _ (n : ℕ) (passing : ArePassing n (contone_bytes n) (line_bytes n) (mask_bytes n)) (plan : PlanData)
     (held : List (List ℕ × List ℕ)) where
+  held_by : (file : ℕ) (bytes : List ℕ) → held_at held (path_of plan (codes "in") file) ≡ Some bytes → length bytes ≤ most_bytes
+      → PassesAt file bytes → IsHeld plan held file
+  held_by file bytes is small passes = record { bytes = bytes; there = is; small = small; passes = passes }
+
   contone_held : (file f : ℕ) → file ≢ 1 → file ≢ 2
       → held_at held (path_of plan (codes "in") file) ≡ Some (contone_bytes n f) → IsHeld plan held file
-  contone_held file f one two is = record {
-    bytes = contone_bytes n f;
-    there = is;
-    small = (passing.contones f).small;
-    passes = record {
-      contone = λ a b. ap result_err (passing.contones f).passes;
-      line = λ e. absurd (one e);
-      mask = λ e. absurd (two e);
-    };
-  }
+  contone_held file f one two is =
+      held_by file (contone_bytes n f) is (passing.contones f).small
+      (record { contone = λ a b. ap result_err (passing.contones f).passes; line = λ e. absurd (one e); mask = λ e. absurd (two e) })
 
   line_held : held_at held (path_of plan (codes "in") 1) ≡ Some (line_bytes n) → IsHeld plan held 1
-  line_held is = record {
-    bytes = line_bytes n;
-    there = is;
-    small = passing.line_is.small;
-    passes = record {
-      contone = λ a b. absurd (a refl);
-      line = λ e. ap result_err passing.line_is.passes;
-      mask = λ e. absurd (omega arith);
-    };
-  }
+  line_held is =
+      held_by 1 (line_bytes n) is passing.line_is.small
+      (record { contone = λ a b. absurd (a refl); line = λ e. ap result_err passing.line_is.passes; mask = λ e. absurd (omega arith) })
 
   mask_held : held_at held (path_of plan (codes "in") 2) ≡ Some (mask_bytes n) → IsHeld plan held 2
-  mask_held is = record {
-    bytes = mask_bytes n;
-    there = is;
-    small = passing.mask_is.small;
-    passes = record {
-      contone = λ a b. absurd (b refl);
-      line = λ e. absurd (omega arith);
-      mask = λ e. ap result_err passing.mask_is.passes;
-    };
-  }
+  mask_held is =
+      held_by 2 (mask_bytes n) is passing.mask_is.small
+      (record { contone = λ a b. absurd (b refl); line = λ e. absurd (omega arith); mask = λ e. ap result_err passing.mask_is.passes })
+
+  -- the first six files are the same ones whether a job has four pages or eight
+  first_held : held_at held (path_of plan (codes "in") 0) ≡ Some (contone_bytes n 1)
+      → held_at held (path_of plan (codes "in") 1) ≡ Some (line_bytes n)
+      → held_at held (path_of plan (codes "in") 2) ≡ Some (mask_bytes n)
+      → held_at held (path_of plan (codes "in") 3) ≡ Some (contone_bytes n 2)
+      → held_at held (path_of plan (codes "in") 4) ≡ Some (contone_bytes n 3)
+      → held_at held (path_of plan (codes "in") 5) ≡ Some (contone_bytes n 4)
+      → (file : ℕ) → file < 6 → IsHeld plan held file
+  first_held a b c d e f zero less = contone_held 0 1 (omega arith) (omega arith) a
+  first_held a b c d e f (suc zero) less = line_held b
+  first_held a b c d e f (suc (suc zero)) less = mask_held c
+  first_held a b c d e f (suc (suc (suc zero))) less = contone_held 3 2 (omega arith) (omega arith) d
+  first_held a b c d e f (suc (suc (suc (suc zero)))) less = contone_held 4 3 (omega arith) (omega arith) e
+  first_held a b c d e f (suc (suc (suc (suc (suc zero))))) less = contone_held 5 4 (omega arith) (omega arith) f
+  first_held a b c d e f (suc (suc (suc (suc (suc (suc file)))))) less = absurd (omega arith)
+
+  -- a contone file more
+  held_more : (file f : ℕ) → 2 < file → held_at held (path_of plan (codes "in") file) ≡ Some (contone_bytes n f)
+      → ((k : ℕ) → k < file → IsHeld plan held k) → (k : ℕ) → k < suc file → IsHeld plan held k
+  held_more file f past is each k less =
+      ⊎_elim (λ below. each k below)
+      (λ at. subst (IsHeld plan held) (let e : file ≡ k = omega (arith, at, less) in e) (contone_held file f (omega (arith, past)) (omega (arith, past)) is))
+      (cases_lt k file)
 
 mask_fits : (n : ℕ) (files : List (List ℕ)) → ArePassing n (contone_bytes n) (line_bytes n) (mask_bytes n)
     → bytes_at files 1 ≡ line_bytes n → bytes_at files 2 ≡ mask_bytes n → FitsMask files
@@ -291,44 +299,30 @@ mask_fits n files passing line mask =
 four_held : (n sites size : ℕ) → ArePassing n (contone_bytes n) (line_bytes n) (mask_bytes n)
     → AreHeld (plan_with sites 4 size) (files_with n 4)
 unfolding digits files_with plan_with job_files first_files
-four_held n sites size passing = record {
-  few = omega arith;
-  each = each;
-  fits = mask_fits n _ passing refl refl;
-}
-  where
-    each : (file : ℕ) → file < 7 → IsHeld (plan_with sites 4 size) (files_with n 4) file
-    each zero less = contone_held n passing _ _ 0 1 (omega arith) (omega arith) refl
-    each (suc zero) less = line_held n passing _ _ refl
-    each (suc (suc zero)) less = mask_held n passing _ _ refl
-    each (suc (suc (suc zero))) less = contone_held n passing _ _ 3 2 (omega arith) (omega arith) refl
-    each (suc (suc (suc (suc zero)))) less = contone_held n passing _ _ 4 3 (omega arith) (omega arith) refl
-    each (suc (suc (suc (suc (suc zero))))) less = contone_held n passing _ _ 5 4 (omega arith) (omega arith) refl
-    each (suc (suc (suc (suc (suc (suc zero)))))) less = contone_held n passing _ _ 6 0 (omega arith) (omega arith) refl
-    each (suc (suc (suc (suc (suc (suc (suc file))))))) less = absurd (omega arith)
+four_held n sites size passing =
+    let plan = plan_with sites 4 size in
+    let held = files_with n 4 in
+    let first = first_held n passing plan held refl refl refl refl refl refl in
+    record {
+      few = omega arith;
+      each = held_more n passing plan held 6 0 (omega arith) refl first;
+      fits = mask_fits n _ passing refl refl;
+    }
 
 eight_held : (n sites size : ℕ) → ArePassing n (contone_bytes n) (line_bytes n) (mask_bytes n)
     → AreHeld (plan_with sites 8 size) (files_with n 8)
 unfolding digits files_with plan_with job_files first_files
-eight_held n sites size passing = record {
-  few = omega arith;
-  each = each;
-  fits = mask_fits n _ passing refl refl;
-}
-  where
-    each : (file : ℕ) → file < 11 → IsHeld (plan_with sites 8 size) (files_with n 8) file
-    each zero less = contone_held n passing _ _ 0 1 (omega arith) (omega arith) refl
-    each (suc zero) less = line_held n passing _ _ refl
-    each (suc (suc zero)) less = mask_held n passing _ _ refl
-    each (suc (suc (suc zero))) less = contone_held n passing _ _ 3 2 (omega arith) (omega arith) refl
-    each (suc (suc (suc (suc zero)))) less = contone_held n passing _ _ 4 3 (omega arith) (omega arith) refl
-    each (suc (suc (suc (suc (suc zero))))) less = contone_held n passing _ _ 5 4 (omega arith) (omega arith) refl
-    each (suc (suc (suc (suc (suc (suc zero)))))) less = contone_held n passing _ _ 6 5 (omega arith) (omega arith) refl
-    each (suc (suc (suc (suc (suc (suc (suc zero))))))) less = contone_held n passing _ _ 7 6 (omega arith) (omega arith) refl
-    each (suc (suc (suc (suc (suc (suc (suc (suc zero)))))))) less = contone_held n passing _ _ 8 7 (omega arith) (omega arith) refl
-    each (suc (suc (suc (suc (suc (suc (suc (suc (suc zero))))))))) less = contone_held n passing _ _ 9 8 (omega arith) (omega arith) refl
-    each (suc (suc (suc (suc (suc (suc (suc (suc (suc (suc zero)))))))))) less = contone_held n passing _ _ 10 0 (omega arith) (omega arith) refl
-    each (suc (suc (suc (suc (suc (suc (suc (suc (suc (suc (suc file))))))))))) less = absurd (omega arith)
+eight_held n sites size passing =
+    let plan = plan_with sites 8 size in
+    let held = files_with n 8 in
+    let first = first_held n passing plan held refl refl refl refl refl refl in
+    let eight = held_more n passing plan held 7 6 (omega arith) refl (held_more n passing plan held 6 5 (omega arith) refl first) in
+    let ten = held_more n passing plan held 9 8 (omega arith) refl (held_more n passing plan held 8 7 (omega arith) refl eight) in
+    record {
+      few = omega arith;
+      each = held_more n passing plan held 10 0 (omega arith) refl ten;
+      fits = mask_fits n _ passing refl refl;
+    }
 
 -- every generated job passes the verdict on its files
 pub job_passes : (n : ℕ) → ArePassing n (contone_bytes n) (line_bytes n) (mask_bytes n)

@@ -1,10 +1,9 @@
 -- The obligations of the commands that run an edition.
-use Rattle.std.proofs.Common.{◌≡◌, ◌⊎◌, ℕ, ◌<◌, ◌≤◌, List, length, [], ◌∷◌, Bool, Some, suc, option_map, true, false, if◌then◌else◌, refl, ap, ◌∙◌, inl, inr, arith}
+use Rattle.std.proofs.Common.{◌≡◌, ◌⊎◌, ℕ, ◌<◌, ◌≤◌, List, length, [], ◌∷◌, Some, suc, false, refl, inl, inr, arith}
 use Rattle.std.specs.Prelude.{slice_get}
 use Rattle.std.specs.List.{list_all}
-use Rattle.std.proofs.lemmas.Option.{slice_get-map, slice_get_within}
+use Rattle.std.proofs.lemmas.Option.{slice_get_within}
 use Rattle.pr_rack.specs.declared.rack.Rack.{Ghosts}
-use Rattle.pr_rack.specs.Told.{told}
 use Rattle.press_job.specs.Job.{JobData}
 use Rattle.site_agent.specs.declared.kept.LeftCause.{LeftCause}
 use Rattle.ring_run.specs.Fits.{FitsCause}
@@ -17,7 +16,7 @@ use Rattle.cmd_run.specs.Report.{is_finished, status_of_ends}
 use Rattle.cmd_base.specs.Seen.{RackFailed}
 use Rattle.cmd_base.specs.Task.{telling}
 use Rattle.cmd_base.proofs.Jobs.{job_known, job_met, prepared_is}
-use Rattle.cmd_base.proofs.Owed.{zero_or_one, there, Owes}
+use Rattle.cmd_base.proofs.Owed.{not_all, rack_failed, zero_or_one, zero_one, Owes}
 
 -- ---- `drill`
 
@@ -45,18 +44,12 @@ some_left (Left cause ∷ ends) h = (0, cause, refl)
 -- the status of a run is 0 or 1
 pub run_status : (ends : List SiteEnd) (status : ℕ) → status ≡ status_of_ends ends → (status ≡ 0) ⊎ (status ≡ 1)
 unfolding status_of_ends
-run_status ends status is = by (list_all is_finished ends) is where
-  by : (all : Bool) → status ≡ (if all then 0 else 1) → (status ≡ 0) ⊎ (status ≡ 1)
-  by true h = inl h
-  by false h = inr h
+run_status ends = zero_one (list_all is_finished ends)
 
 -- the status is 1 only if not all sites finished
-not_all : (ends : List SiteEnd) (status : ℕ) → status ≡ status_of_ends ends → status ≡ 1 → list_all is_finished ends ≡ false
+not_all_finished : (ends : List SiteEnd) (status : ℕ) → status ≡ status_of_ends ends → status ≡ 1 → list_all is_finished ends ≡ false
 unfolding status_of_ends
-not_all ends status is one = by (list_all is_finished ends) is where
-  by : (all : Bool) → status ≡ (if all then 0 else 1) → all ≡ false
-  by true h = absurd (zero_or_one status h one)
-  by false h = refl
+not_all_finished ends = not_all (list_all is_finished ends)
 
 module _ {R : Type 0} (g : Ghosts R) where
   -- the rack of a site that dropped out counted a failure
@@ -66,14 +59,9 @@ module _ {R : Type 0} (g : Ghosts R) where
       let within : site < length ends = slice_get_within ends site (Left cause) at in
       let count : length ends ≡ length job.plan.sites = delivers.fits.count in
       let enough : length job.plan.sites ≤ length racks = delivers.enough in
-      let kept : length racks' ≡ length racks = delivers.kept in
-      let old = there racks site (omega arith) in
-      let new = there racks' site (omega arith) in
-      let fits : FitsCause (delivery_of edition further job) site (told g old.0) (told g new.0) cause =
-      delivers.fits.each site (told g old.0) (told g new.0) (Left cause)
-      (slice_get-map (told g) racks site ∙ ap (option_map (told g)) old.1)
-      (slice_get-map (told g) racks' site ∙ ap (option_map (told g)) new.1) at in
-      record { site = site; old = old.0; new = new.0; before = old.1; after = new.1; rose = fits.counted }
+      rack_failed g racks racks' site (omega arith) delivers.kept (λ old new before after.
+      let fits : FitsCause (delivery_of edition further job) site old new cause = delivers.fits.each site old new (Left cause) before after at in
+      fits.counted)
 
   pub run_owes : (edition : Edition) (further : Further) → Owes g (run_rules edition) (makes_with g edition further)
   run_owes edition further = record {
@@ -87,7 +75,7 @@ module _ {R : Type 0} (g : Ghosts R) where
         elim (run_status made.reports.ends status made.reports.status_is) [ inl zero ↦ inl zero | inr one ↦ inr (inl one) ];
     one = λ shelf racks racks' text status made is.
         let r = made.reports in
-        let left = some_left r.ends (not_all r.ends status r.status_is is) in
+        let left = some_left r.ends (not_all_finished r.ends status r.status_is is) in
         site_failed edition further made.job racks racks' r.ends left.0 left.1 r.delivers left.2;
     ends = λ files shelf racks racks' text status held made. run_status made.reports.ends status made.reports.status_is;
   }

@@ -57,8 +57,10 @@ pub fn run_edition<T: Threads + Clock + Sync, H: Shelf, R: Rack + Send, S: Sink>
     ensures lengths { Lengths (shelf_seen H.Shelf shelf.old shelf.new) result }
     ensures writes { Writes (sink_seen S.Sink out.old out.new) result }
 {
-    let job = load_job(rt, alloc, Whose::New, edition.plan, edition.files, shelf)?;
-    deliver(rt, alloc, edition, &job, racks, out)
+    match load_job(rt, alloc, Whose::New, edition.plan, edition.files, shelf) {
+        Ok(job) => deliver(rt, alloc, edition, &job, racks, out),
+        Err(stop) => Err(stop),
+    }
 }
 
 /// Runs a job over the racks, and prints the report.
