@@ -8,7 +8,7 @@ use Rattle.ink_keys.specs.Turn.{KeyReaderData}
 use Rattle.ring_turns.proofs.Halves.{slice_get-take}
 use Rattle.std.proofs.Math.Seq.{drop-append_seam, take-append_seam}
 use Rattle.std.proofs.lemmas.Bool.{cases_lt, ltb-false}
-use Rattle.std.proofs.lemmas.List.{take-append-drop, length-take-le, get_or-append_right, get_or_append_left, get_or-map, length-map, map-append}
+use Rattle.std.proofs.lemmas.List.{take-append-drop, length-append, length-take-le, get_or-append_right, get_or_append_left, get_or-map, length-map, map-append}
 use Rattle.std.proofs.lemmas.List.FromFn.{get_or-enumerate_from, length-enumerate_from}
 use Rattle.std.proofs.lemmas.Option.{get_or_from_slice_get, same_Some, slice_get-get_or, slice_get-map, slice_get_past, slice_get_within}
 use Rattle.atomic_table.specs.Seated.{TableId}
@@ -461,6 +461,15 @@ last_counts seats front last n is long =
     ap (counts_at n) is
     ∙ ap (option_and_then (λ (s : SeatData). counts_in s.role))
     (slice_get-behind front (last ∷ []) n (omega (arith, long)) ∙ ap (slice_get (last ∷ [])) (let e : n - length front ≡ 0 = omega (arith, long) in e))
+
+-- ---- a loop over a list
+
+-- an element that is still to come stands behind those that came, below the list's end
+pub next_below : {X : Type 0} (done rest later all : List X) (x : X) → done ++ rest ≡ all → rest ≡ x ∷ later → length done < length all
+next_below done rest later all x split next =
+    let all-long : length done + length rest ≡ length all = sym (length-append done rest) ∙ ap length split in
+    let rest-long : length rest ≡ length (x ∷ later) = ap length next in
+    omega (arith, all-long, rest-long)
 
 -- ---- a run over a newly opened ring
 

@@ -1,18 +1,17 @@
-use Rattle.std.proofs.Common.{◌≡◌, ◌+◌, ◌∙◌, ◌++◌, ◌∷◌, [], Some, length, map, ap, sym, arith}
-use Rattle.std.proofs.lemmas.List.{append_assoc, length-append, length-map, map-append}
+use Rattle.std.proofs.Common.{◌≡◌, ◌∙◌, ◌++◌, ◌∷◌, [], Some, length, map, ap, sym, arith}
+use Rattle.std.proofs.lemmas.List.{append_assoc, length-map, map-append}
 use Rattle.ring_run.specs.Served.{end_of, ends_in}
-use Rattle.ring_run.proofs.Running.{ends_more, length-ends_in}
+use Rattle.ring_run.proofs.Running.{ends_more, length-ends_in, next_below}
 use Rattle.ring_run.proofs.ends.site_ends.Goals as goal
 
 pub end_at-requires-clause-index : goal.end_at-requires-clause-index
 end_at-requires-clause-index g c =
     let ends : length c.loop-seat.ends.items ≡ length c.loop-seat.yielded = sym (length-map c.loop-seat.ends.items Some) ∙ ap length c.loop-seat.invariant.0 ∙ length-ends_in c.args.plan.now c.loop-seat.yielded in
-    let all : length c.loop-seat.yielded + length c.loop-seat.seat-iterator.rest.items ≡ length c.args.seats.items = sym (length-append c.loop-seat.yielded c.loop-seat.seat-iterator.rest.items) ∙ ap length c.loop-seat.invariant.1 in
-    let some : length c.loop-seat.seat-iterator.rest.items ≡ length (c.in-Some.seat ∷ c.next.new.self.rest.items) = ap length c.in-Some.ensures.steps.0 in
+    let below = next_below c.loop-seat.yielded c.loop-seat.seat-iterator.rest.items c.next.new.self.rest.items c.args.seats.items c.in-Some.seat c.loop-seat.invariant.1 c.in-Some.ensures.steps.0 in
     let is = c.len.ensures in
     let ok = c.loop-seat.ends.ok.0 in
     let count = c.requires.seats in
-    omega (arith, ends, all, some, is, ok, count)
+    omega (arith, ends, below, is, ok, count)
 
 pub loop-seat-preserved : goal.loop-seat-preserved
 loop-seat-preserved g c =

@@ -1,21 +1,20 @@
-use Rattle.std.proofs.Common.{◌≡◌, ◌+◌, ◌∙◌, ◌++◌, ◌∷◌, [], length, ap, sym, arith}
-use Rattle.std.proofs.lemmas.List.{append_assoc, length-append}
+use Rattle.std.proofs.Common.{◌≡◌, ◌∙◌, ◌++◌, ◌∷◌, [], length, ap, sym, arith}
+use Rattle.std.proofs.lemmas.List.{append_assoc}
 use Rattle.site_agent.specs.Plan.{fresh_site}
 use Rattle.site_agent.specs.Site.{SiteData}
 use Rattle.ring_run.specs.declared.role.Role.TheVariants.{Going}
 use Rattle.ring_run.specs.Served.{site_seat, site_seats}
-use Rattle.ring_run.proofs.Running.{length-site_seats, seats_more}
+use Rattle.ring_run.proofs.Running.{length-site_seats, next_below, seats_more}
 use Rattle.ring_run.proofs.ends.site_seats.Goals as goal
 
 pub new-requires-clause-site : goal.new-requires-clause-site
 new-requires-clause-site g c =
     let seats : length c.loop-reader.seats.items ≡ length c.loop-reader.yielded = ap length c.loop-reader.invariant.0 ∙ length-site_seats c.args.plan.now c.args.out.now c.loop-reader.yielded in
-    let all : length c.loop-reader.yielded + length c.loop-reader.reader-iterator.rest.items ≡ length c.args.readers.items = sym (length-append c.loop-reader.yielded c.loop-reader.reader-iterator.rest.items) ∙ ap length c.loop-reader.invariant.1 in
-    let some : length c.loop-reader.reader-iterator.rest.items ≡ length (c.in-Some.reader ∷ c.next.new.self.rest.items) = ap length c.in-Some.ensures.steps.0 in
+    let below = next_below c.loop-reader.yielded c.loop-reader.reader-iterator.rest.items c.next.new.self.rest.items c.args.readers.items c.in-Some.reader c.loop-reader.invariant.1 c.in-Some.ensures.steps.0 in
     let is = c.len.ensures in
     let ok = c.loop-reader.seats.ok.0 in
     let count = c.requires.readers in
-    omega (arith, seats, all, some, is, ok, count)
+    omega (arith, seats, below, is, ok, count)
 
 pub loop-reader-preserved : goal.loop-reader-preserved
 loop-reader-preserved g c =

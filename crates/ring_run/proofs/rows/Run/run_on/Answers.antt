@@ -10,7 +10,9 @@ use Rattle.ring_run.specs.Fits.{on_ring}
 use Rattle.ring_run.specs.Round.{AreEndsOf, StaySeated}
 use Rattle.ring_run.specs.Seat.{SeatData, counts_at}
 use Rattle.ring_run.specs.Served.{AreSomeSeated, ends_in}
-use Rattle.ring_run.proofs.Running.{none_leaves, run_leaves, run_opens}
+use Rattle.ring_run.proofs.Running.{Opens, none_leaves, run_leaves, run_opens}
+use Rattle.ring_run.proofs.rows.Run.run_on.Given.{Over}
+use Rattle.ring_run.proofs.rows.Run.run_on.Goals.{After-as_mut_slice}
 use Rattle.ring_run.proofs.rows.Run.run_on.Goals as goal
 
 pub returns-in_err-writer : goal.returns-in_err-writer
@@ -24,23 +26,24 @@ seats_of-requires-clause-readers g c =
 pub returns-in_err-seats : goal.returns-in_err-seats
 returns-in_err-seats g c = record { leaves = none_leaves _ _ _ c.from_residual-in_err-seats.result c.from_residual-in_err-seats.ensures.0 }
 
-pub run_rounds-requires-clause-ends : goal.run_rounds-requires-clause-ends
-run_rounds-requires-clause-ends g c κs within =
+-- the ends and the seats before the first round
+opened : (g : Over) (c : After-as_mut_slice g)
+    → Opens (on_ring c.args.self.now.plan.now c.args.self.now.out.now c.args.table.now.ring) c.in_ok-writer.field-0.writer c.args.keys (map (told g.R.Rack) c.args.racks.now) c.in_ok-seats.seats.items
+opened g c =
     let tell : g.row.R.Denot → RackTells = told g.R.Rack in
     let ring = c.args.table.now.ring in
-    let writer = c.in_ok-writer.field-0.writer in
-    let opens = run_opens (on_ring c.args.self.now.plan.now c.args.self.now.out.now ring) c.args.table.now.table ring writer c.in_ok-writer.field-0.readers.items c.args.keys c.in_ok-seats.seats.items (map tell c.args.racks.now) c.in_ok-writer.ensures.writer
-    c.in_ok-writer.ensures.readers c.in_ok-seats.ensures c.requires.readers c.requires.carries c.requires.fresh_keys (length-map c.args.racks.now tell ∙ sym c.requires.racks) c.requires.idle c.tell_slots.ensures in
-    subst (λ (s : _). AreEndsOf writer s) (sym c.as_mut_slice.ensures.value) opens.ends
+    run_opens (on_ring c.args.self.now.plan.now c.args.self.now.out.now ring) c.args.table.now.table ring c.in_ok-writer.field-0.writer c.in_ok-writer.field-0.readers.items c.args.keys c.in_ok-seats.seats.items (map tell c.args.racks.now) c.in_ok-writer.ensures.writer
+    c.in_ok-writer.ensures.readers c.in_ok-seats.ensures c.requires.readers c.requires.carries c.requires.fresh_keys (length-map c.args.racks.now tell ∙ sym c.requires.racks) c.requires.idle c.tell_slots.ensures
+
+pub run_rounds-requires-clause-ends : goal.run_rounds-requires-clause-ends
+run_rounds-requires-clause-ends g c κs within =
+    subst (λ (s : _). AreEndsOf c.in_ok-writer.field-0.writer s) (sym c.as_mut_slice.ensures.value)
+    (opened g (goal.at.run_rounds-requires-clause-ends g c).After-as_mut_slice).ends
 
 pub run_rounds-requires-clause-some : goal.run_rounds-requires-clause-some
 run_rounds-requires-clause-some g c κs within =
-    let tell : g.row.R.Denot → RackTells = told g.R.Rack in
-    let ring = c.args.table.now.ring in
-    let writer = c.in_ok-writer.field-0.writer in
-    let opens = run_opens (on_ring c.args.self.now.plan.now c.args.self.now.out.now ring) c.args.table.now.table ring writer c.in_ok-writer.field-0.readers.items c.args.keys c.in_ok-seats.seats.items (map tell c.args.racks.now) c.in_ok-writer.ensures.writer
-    c.in_ok-writer.ensures.readers c.in_ok-seats.ensures c.requires.readers c.requires.carries c.requires.fresh_keys (length-map c.args.racks.now tell ∙ sym c.requires.racks) c.requires.idle c.tell_slots.ensures in
-    subst (λ (s : _). AreSomeSeated (map tell c.args.racks.now) s) (sym c.as_mut_slice.ensures.value) opens.some
+    subst (λ (s : _). AreSomeSeated (map (told g.R.Rack) c.args.racks.now) s) (sym c.as_mut_slice.ensures.value)
+    (opened g (goal.at.run_rounds-requires-clause-some g c).After-as_mut_slice).some
 
 pub returns : goal.returns
 returns g c =
@@ -48,8 +51,7 @@ returns g c =
     let ring = c.args.table.now.ring in
     let plan = c.args.self.now.plan.now in
     let writer = c.in_ok-writer.field-0.writer in
-    let opens = run_opens (on_ring plan c.args.self.now.out.now ring) c.args.table.now.table ring writer c.in_ok-writer.field-0.readers.items c.args.keys c.in_ok-seats.seats.items (map tell c.args.racks.now) c.in_ok-writer.ensures.writer
-    c.in_ok-writer.ensures.readers c.in_ok-seats.ensures c.requires.readers c.requires.carries c.requires.fresh_keys (length-map c.args.racks.now tell ∙ sym c.requires.racks) c.requires.idle c.tell_slots.ensures in
+    let opens = opened g (goal.at.returns g c).After-as_mut_slice in
     let value = c.as_mut_slice.ensures.value in
     let rounds = c.run_rounds.ensures in
     let back = take_at c.run_rounds.new.seats _ _ (c.run_rounds.auto.seats ∙ c.as_mut_slice.ensures.len) in
