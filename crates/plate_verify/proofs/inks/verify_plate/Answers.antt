@@ -36,8 +36,7 @@ pub returns-in-Err-Failed : goal.returns-in-Err-Failed
 returns-in-Err-Failed g c = λ rows made.
     let ends = rw c.in-Err-Failed.field-0-is at c.in-Err-Failed.ensures in
     verified_failed c.args.plan.now rows c.args.out.now (c.args.site, (c.args.group.now, c.args.ink)) (shelf_told g.H.Shelf c.args.shelf.now) (shelf_told g.H.Shelf c.compare.new.self)
-    c.in_ok-path.path
-    c.in_ok-path.ensures
+    c.in_ok-path.path c.in_ok-path.ensures
     (ends.counted refl)
     (ends.missed ∙ ap {A = List ℕ} (λ p. missed_after true p (g.H.Shelf.missed c.args.shelf.now)) c.as_str.ensures)
     (record { held = ends.held; faults = ends.faults_stay; longs = ends.longs_stay })
@@ -47,8 +46,7 @@ pub returns-in-Err-TooLong : goal.returns-in-Err-TooLong
 returns-in-Err-TooLong g c = λ rows made.
     let ends = rw c.in-Err-TooLong.field-0-is at c.in-Err-TooLong.ensures in
     verified_long c.args.plan.now rows c.args.out.now (c.args.site, (c.args.group.now, c.args.ink)) (shelf_told g.H.Shelf c.args.shelf.now) (shelf_told g.H.Shelf c.compare.new.self)
-    c.in_ok-path.path
-    c.in_ok-path.ensures
+    c.in_ok-path.path c.in_ok-path.ensures
     (subst {A = List ℕ} (λ p. IsLongerAt (g.H.Shelf.held c.args.shelf.now) p 600000000) c.as_str.ensures ends.longer)
     ends.long_counted
     (quiet (shelf_told g.H.Shelf c.args.shelf.now) (shelf_told g.H.Shelf c.compare.new.self) c.as_str.result.now ends.missed ends.held (ends.uncounted refl) ends.faults_stay ends.longs_stay)
