@@ -7,7 +7,7 @@ use Rattle.tif_strips.specs.Marks.{MarksOf}
 use Rattle.tif_image.specs.Image.{IsShapeFor, photometric, shape_of}
 use Rattle.tif_image.specs.declared.usage.Usage.{Usage}
 
--- the shape of an image, whether pixels with bit 0 are the marked ones, the extents of its strips, their
+-- the shape of an image, whether pixels with bit 0 are the marked ones, the extents of its strips, and their
 -- marks
 pub record FoundData : Type 0 where
   pub shape : Shape
