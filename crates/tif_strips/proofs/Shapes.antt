@@ -90,17 +90,18 @@ planes-within shape = grind (arith, nat_tests)
 -- upper bounds of a strip's number
 pub ruleset numbers = (strip_number, strip_of_row, planes-within)
 
+-- a length by planes: four samples side by side, one of four planes, or bits
+by_planes : (four apart : Bool) (count size : ℕ)
+    → (if four then 4 * count else size)
+    ≡ (if four && apart then 4 else 1) * (if four then if apart then count else 4 * count else size)
+by_planes true true count size = refl
+by_planes true false count size = omega arith
+by_planes false apart count size = omega arith
+
 -- the row lengths of all planes add up to that of the image
 pub row_length-planes : (shape : Shape) → row_length shape ≡ planes shape * plane_row_length shape
 unfolding planes plane_row_length
-row_length-planes shape = rows (shape.samples == 4) (shape.planar == 2) shape.width _
-  where
-    rows : (four apart : Bool) (width size : ℕ)
-        → (if four then 4 * width else size)
-        ≡ (if four && apart then 4 else 1) * (if four then if apart then width else 4 * width else size)
-    rows true true width size = refl
-    rows true false width size = omega arith
-    rows false apart width size = omega arith
+row_length-planes shape = by_planes (shape.samples == 4) (shape.planar == 2) shape.width _
 
 -- if there is more than one plane, there are four, and a row of a plane has one byte per pixel
 pub four_planes : (shape : Shape) → planes shape ≢ 1
@@ -125,14 +126,7 @@ ink_wide shape four = (four_planes shape (λ one. absurd (omega arith))).2
 pub part_length-planes : (shape : Shape) (first count : ℕ)
     → part_length shape first count ≡ planes shape * plane_part_length shape first count
 unfolding planes plane_part_length
-part_length-planes shape first count = parts (shape.samples == 4) (shape.planar == 2) count _
-  where
-    parts : (four apart : Bool) (count size : ℕ)
-        → (if four then 4 * count else size)
-        ≡ (if four && apart then 4 else 1) * (if four then if apart then count else 4 * count else size)
-    parts true true count size = refl
-    parts true false count size = omega arith
-    parts false apart count size = omega arith
+part_length-planes shape first count = by_planes (shape.samples == 4) (shape.planar == 2) count _
 
 -- the part is within the row
 pub part_in_row : (shape : Shape) (first count : ℕ) → first + count ≤ shape.width
