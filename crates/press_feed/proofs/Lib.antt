@@ -1,5 +1,5 @@
-pub mod AheadLemmas
 pub mod BandLemmas
+pub mod ChainLemmas
 pub mod DrawnLemmas
 pub mod FeedLemmas
 pub mod HeldLemmas
@@ -9,7 +9,6 @@ pub mod MapLemmas
 pub mod PairLemmas
 pub mod PlateLemmas
 pub mod ScreenerLemmas
-pub mod ScreensLemmas
 pub mod SideBandLemmas
 pub mod SideLemmas
 pub mod SideRowsLemmas

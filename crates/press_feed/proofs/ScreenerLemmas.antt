@@ -1,18 +1,15 @@
--- The screeners of a plan's inks: one for each, what each makes of a row, and its errors.
-use Rattle.std.proofs.Common.{◌≡◌, ◌≢◌, ℕ, ◌+◌, ◌-◌, ◌<◌, true, List, [], ◌∷◌, ◌++◌, length, take, get_or, refl, ap, sym, ◌∙◌, subst, arith, below_more}
-use Rattle.std.proofs.lemmas.List.{get_or_push, get_or_append_left, get_or-take, get_or_default}
-use Rattle.std.proofs.lemmas.List.FromFn.{get_or-map-range_with_len, length-map-range_with_len}
+-- The screeners of a plan's inks: one for each, and what a tile makes of a row.
+use Rattle.std.proofs.Common.{◌≡◌, ℕ, ◌+◌, ◌<◌, Bool, true, false, List, [], ◌∷◌, ◌++◌, length, get_or, ap, sym, ◌∙◌, subst, arith, below_more}
+use Rattle.std.specs.Prelude.{slice_index}
+use Rattle.std.proofs.lemmas.List.{get_or_push, get_or_append_left, get_or_default}
+use Rattle.std.proofs.lemmas.List.FromFn.{get_or-map-range_with_len}
 use Rattle.pr_base.specs.declared.ink.Ink.{Ink}
 use Rattle.pr_base.specs.Bits.{SetsBits}
 use Rattle.pr_base.specs.Ink.{all_inks, slot_of}
-use Rattle.pr_base.proofs.Inks.{ink_at_slot, slot_below, slot_tells}
+use Rattle.pr_base.proofs.Inks.{ink_at_slot, slot_below}
 use Rattle.scr_tile.specs.Tile.{tile_bit}
 use Rattle.scr_tile.specs.AnyTile.{threshold_of}
-use Rattle.std.specs.Prelude.{Option, Some, None}
-use Rattle.std.specs.Option.{ForSome}
-use Rattle.scr_diffuse.specs.Diffusers.{EightFronts, page_in}
-use Rattle.scr_diffuse.specs.Diffusion.{diffused_bit, prints}
-use Rattle.scr_diffuse.proofs.DiffusionLemmas.{v_at-same}
+use Rattle.scr_tile.specs.declared.any_tile.AnyTile.{AnyTile}
 use Rattle.plan_parts.specs.declared.printing.Screen.{Screen}
 use Rattle.plan_parts.specs.declared.printing.Screen.TheVariants.{Bayer, Diffuse, Own}
 use Rattle.plan_json.specs.Data.{PlanData}
@@ -20,8 +17,7 @@ use Rattle.press_feed.specs.declared.screener.Screener.{Screener}
 use Rattle.press_feed.specs.declared.screener.Screener.TheVariants.{Tile, Diffusion}
 use Rattle.press_job.specs.Printing.{bit_under, page_bit, page_values, printed_at, printed_row, screen_of}
 use Rattle.press_job.proofs.PlaneLemmas.{get_or-printed_row}
-use Rattle.press_feed.specs.Screener.{AreScreeners, IsScreener, diffuses, is_diffused, is_diffusion, threshold_in, threshold_under}
-use Rattle.press_feed.specs.Screens.{IsFrontOf, bit_by}
+use Rattle.press_feed.specs.Screener.{AreScreeners, IsScreener, is_diffused, is_diffusion, threshold_under}
 
 -- ---- one for each ink
 
@@ -37,9 +33,6 @@ screeners_more plan inks screeners screener i ink long within there before is k 
     (subst {A = Ink} (λ j. IsScreener plan j screener) (there ∙ get_or_default inks i ink e within) is))
     k less
 
-pub slots_apart : (ink other : Ink) → ink ≢ other → slot_of ink ≢ slot_of other
-slots_apart ink other apart same = apart (slot_tells ink other same)
-
 -- those of all inks
 pub screeners_all : (plan : PlanData) (screeners : List Screener) → length screeners ≡ 5
     → ((k : ℕ) (e : Ink) (d : Screener) → k < 5 → IsScreener plan (get_or all_inks k e) (get_or screeners k d)) → AreScreeners plan screeners
@@ -48,6 +41,26 @@ screeners_all plan screeners long each = record {
   each = λ ink d. subst {A = Ink} (λ j. IsScreener plan j (get_or screeners (slot_of ink) d)) (ink_at_slot ink ink) (each (slot_of ink) ink d (slot_below ink));
 }
 
+-- what was read at the slot of an ink screens it
+own_screener : (plan : PlanData) (ink : Ink) (screeners : List Screener) (i : ℕ) (own screener : Screener) → AreScreeners plan screeners → i ≡ slot_of ink → own ≡ get_or screeners i own → own ≡ screener → IsScreener plan ink screener
+own_screener plan ink screeners i own screener are i_is own_is is =
+    subst {A = Screener} (IsScreener plan ink) (ap (λ n. get_or screeners n own) (sym i_is) ∙ sym own_is ∙ is) (are.each ink own)
+
+pub own_tile : (plan side_plan : PlanData) (ink : Ink) (screeners : List Screener) (i : ℕ) (own : Screener) (tile : AnyTile) → AreScreeners plan screeners → side_plan ≡ plan → i ≡ slot_of ink → own ≡ get_or screeners i own → own ≡ Tile tile
+    → IsScreener side_plan ink (Tile tile)
+own_tile plan side_plan ink screeners i own tile are same i_is own_is is =
+    subst {A = PlanData} (λ p. IsScreener p ink (Tile tile)) (sym same) (own_screener plan ink screeners i own (Tile tile) are i_is own_is is)
+
+-- an ink under a tile has no other screener
+pub no_diffusion : (plan : PlanData) (ink : Ink) (screeners : List Screener) (i : ℕ) (own : Screener) → AreScreeners plan screeners → i ≡ slot_of ink → own ≡ get_or screeners i own → own ≡ Diffusion → is_diffused plan ink ≡ false → ⊥
+no_diffusion plan ink screeners i own are i_is own_is is off =
+    let kind : true ≡ is_diffused plan ink = (own_screener plan ink screeners i own Diffusion are i_is own_is is).kind in
+    not_both (is_diffused plan ink) kind off
+  where
+    not_both : (flag : Bool) → true ≡ flag → flag ≡ false → ⊥
+    not_both true on off = cc
+    not_both false on off = cc
+
 -- ---- a row
 
 -- row y of the values of a page
@@ -55,51 +68,33 @@ pub get_or-page_values : (plan : PlanData) (files : List (List ℕ)) (page : ℕ
 unfolding page_values
 get_or-page_values plan files page ink y within = get_or-map-range_with_len (printed_row plan files page ink) 0 plan.page_height y y [] within (omega arith)
 
-pub length-page_values : (plan : PlanData) (files : List (List ℕ)) (page : ℕ) (ink : Ink) → length (page_values plan files page ink) ≡ plan.page_height
-unfolding page_values
-length-page_values plan files page ink = length-map-range_with_len (printed_row plan files page ink) 0 plan.page_height
+-- ---- a tile
 
--- a pixel of row y depends only on the rows up to it
-diffused-front : (values : List (List ℕ)) (x y : ℕ) → diffused_bit (take (y + 1) values) x y ≡ diffused_bit values x y
-diffused-front values x y = ap prints (v_at-same (take (y + 1) values) values x y (λ j less. get_or-take (y + 1) values j [] less))
-
--- the bit that a screener makes is that of the page
-bit-by_kind : (plan : PlanData) (files : List (List ℕ)) (page : ℕ) (ink : Ink) (x y lane : ℕ) (screen : Screen) (screener : Screener) (bank : Option EightFronts)
-    → diffuses screener ≡ is_diffusion screen → ((x y : ℕ) → threshold_in screener x y ≡ threshold_under plan screen x y)
-    → (is_diffusion screen ≡ true → bank ≢ None) → ForSome bank (IsFrontOf plan files page ink lane (y + 1))
-    → x < plan.page_width → y < plan.page_height → bit_by screener bank lane y (printed_row plan files page ink y) x ≡ bit_under plan files page ink x y screen
-bit-by_kind plan files page ink x y lane (Bayer side) (Tile tile) bank kind thresholds some front column row =
+-- the bit under the tile of a screen is that of the page
+bit-by_tile : (plan : PlanData) (files : List (List ℕ)) (page : ℕ) (ink : Ink) (x y : ℕ) (tile : AnyTile) (screen : Screen) → false ≡ is_diffusion screen
+    → ((x y : ℕ) → threshold_of tile x y ≡ threshold_under plan screen x y) → x < plan.page_width
+    → tile_bit (slice_index (printed_row plan files page ink y) x) (threshold_of tile x y) ≡ bit_under plan files page ink x y screen
+bit-by_tile plan files page ink x y tile (Bayer side) kind thresholds column =
     ap (λ v. tile_bit v (threshold_of tile x y)) (get_or-printed_row plan files page ink x y column) ∙ ap (λ t. tile_bit (printed_at plan files page ink x y) t) (thresholds x y)
-bit-by_kind plan files page ink x y lane (Own index) (Tile tile) bank kind thresholds some front column row =
+bit-by_tile plan files page ink x y tile (Own index) kind thresholds column =
     ap (λ v. tile_bit v (threshold_of tile x y)) (get_or-printed_row plan files page ink x y column) ∙ ap (λ t. tile_bit (printed_at plan files page ink x y) t) (thresholds x y)
-bit-by_kind plan files page ink x y lane Diffuse (Tile tile) bank kind thresholds some front column row = cc
-bit-by_kind plan files page ink x y lane (Bayer side) Diffusion bank kind thresholds some front column row = cc
-bit-by_kind plan files page ink x y lane (Own index) Diffusion bank kind thresholds some front column row = cc
-bit-by_kind plan files page ink x y lane Diffuse Diffusion None kind thresholds some front column row = absurd (some refl refl)
-bit-by_kind plan files page ink x y lane Diffuse Diffusion (Some eight) kind thresholds some front column row =
-    let is : IsFrontOf plan files page ink lane (y + 1) eight = front eight refl in
-    let last : length eight.rows - 1 ≡ y = (let count = is.count in omega arith) in
-    ap (λ n. diffused_bit (page_in eight.rows lane) x n) last
-    ∙ ap (λ (all : List (List ℕ)). diffused_bit all x y) is.rows
-    ∙ diffused-front (page_values plan files page ink) x y
+bit-by_tile plan files page ink x y tile Diffuse kind thresholds column = cc
 
-pub bit_is : (plan : PlanData) (files : List (List ℕ)) (page : ℕ) (ink : Ink) (x y lane : ℕ) (screener : Screener) (bank : Option EightFronts) → IsScreener plan ink screener
-    → (is_diffused plan ink ≡ true → bank ≢ None) → ForSome bank (IsFrontOf plan files page ink lane (y + 1)) → x < plan.page_width → y < plan.page_height
-    → bit_by screener bank lane y (printed_row plan files page ink y) x ≡ page_bit plan files page ink x y
+bit_is : (plan : PlanData) (files : List (List ℕ)) (page : ℕ) (ink : Ink) (x y : ℕ) (tile : AnyTile) → IsScreener plan ink (Tile tile) → x < plan.page_width
+    → tile_bit (slice_index (printed_row plan files page ink y) x) (threshold_of tile x y) ≡ page_bit plan files page ink x y
 unfolding page_bit
-bit_is plan files page ink x y lane screener bank is some front column row =
-    bit-by_kind plan files page ink x y lane (screen_of plan ink) screener bank is.kind is.thresholds some front column row
+bit_is plan files page ink x y tile is column = bit-by_tile plan files page ink x y tile (screen_of plan ink) is.kind is.thresholds column
 
--- the pixels that it sets are those of the page
-pub sets_page : (plan : PlanData) (files : List (List ℕ)) (page : ℕ) (ink : Ink) (y lane from count : ℕ) (screener : Screener) (bank : Option EightFronts) (values old new : List ℕ) → IsScreener plan ink screener
-    → (is_diffused plan ink ≡ true → bank ≢ None) → ForSome bank (IsFrontOf plan files page ink lane (y + 1)) → y < plan.page_height → values ≡ printed_row plan files page ink y
-    → count ≡ plan.page_width → SetsBits (bit_by screener bank lane y values) from count old new → SetsBits (λ x. page_bit plan files page ink x y) from plan.page_width old new
-sets_page plan files page ink y lane from count screener bank values old new is some front row values_are width sets =
-    let at : SetsBits (bit_by screener bank lane y (printed_row plan files page ink y)) from plan.page_width old new =
-    subst {A = List ℕ} (λ vs. SetsBits (bit_by screener bank lane y vs) from plan.page_width old new) values_are
-    (subst {A = ℕ} (λ n. SetsBits (bit_by screener bank lane y values) from n old new) width sets) in
+-- the pixels under the tile of an ink are those of the page
+pub tile_sets : (plan : PlanData) (files : List (List ℕ)) (page : ℕ) (ink : Ink) (y from : ℕ) (tile : AnyTile) (values old new : List ℕ) → IsScreener plan ink (Tile tile) → length values ≡ plan.page_width
+    → values ≡ printed_row plan files page ink y → SetsBits (λ x. tile_bit (slice_index values x) (threshold_of tile x y)) from (length values) old new
+    → SetsBits (λ x. page_bit plan files page ink x y) from plan.page_width old new
+tile_sets plan files page ink y from tile values old new is width values_are sets =
+    let at : SetsBits (λ x. tile_bit (slice_index (printed_row plan files page ink y) x) (threshold_of tile x y)) from plan.page_width old new =
+    subst {A = List ℕ} (λ vs. SetsBits (λ x. tile_bit (slice_index vs x) (threshold_of tile x y)) from plan.page_width old new) values_are
+    (subst {A = ℕ} (λ n. SetsBits (λ x. tile_bit (slice_index values x) (threshold_of tile x y)) from n old new) width sets) in
     record {
-      inside = λ x less. at.inside x less ∙ bit_is plan files page ink x y lane screener bank is some front less row;
+      inside = λ x less. at.inside x less ∙ bit_is plan files page ink x y tile is less;
       before = at.before;
       behind = at.behind;
     }

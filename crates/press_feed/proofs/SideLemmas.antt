@@ -1,23 +1,16 @@
 -- The invariant of a side's pages, step by step.
-use Rattle.std.proofs.Common.{◌≡◌, ℕ, ◌+◌, ◌-◌, ◌<◌, Bool, List, length, get_or, ap, sym, ◌∙◌, subst, arith}
-use Rattle.std.specs.Prelude.{◌≤◌, Some, slice_get}
-use Rattle.std.proofs.lemmas.Option.{same_Some, slice_get-get_or}
+use Rattle.std.proofs.Common.{◌≡◌, ℕ, ◌+◌, ◌-◌, ◌<◌, ◌≤◌, Bool, List, length, ap, sym, ◌∙◌, subst, arith}
 use Rattle.pr_base.specs.declared.ink.Ink.{Ink}
 use Rattle.page_layers.specs.Inks.{HasWidth, Planes, plane_of}
 use Rattle.page_layers.specs.Page.{Page}
 use Rattle.plan_json.specs.Data.{PlanData}
 use Rattle.plan_json.specs.Plan.{IsPlan}
-use Rattle.pr_base.specs.Ink.{slot_of}
-use Rattle.pr_base.proofs.Inks.{slot_below}
 use Rattle.plan_rows.specs.Groups.{page_colour, page_spot}
-use Rattle.press_feed.specs.declared.screener.Screener.{Screener}
-use Rattle.press_feed.specs.declared.screener.Screener.TheVariants.{Diffusion}
 use Rattle.press_job.specs.Job.{JobData}
 use Rattle.press_job.specs.Layers.{layers_of, planned_layers}
 use Rattle.press_job.specs.Planes.{ShowsInks}
 use Rattle.press_job.specs.Printing.{printed_row}
 use Rattle.press_job.proofs.PlaneLemmas.{at_inks, plane_is, plane_width, shows_printed}
-use Rattle.press_feed.specs.Screener.{AreScreeners, IsScreener}
 use Rattle.press_feed.specs.SidePages.{IsSide}
 use Rattle.press_feed.specs.Sides.{page_before}
 
@@ -90,22 +83,6 @@ values_are job rows page shown y tones planes ink values is shown_is own =
       own ∙ is.shows (omega arith) ink ∙ ap (printed_row job.plan job.files page ink) back,
       ap {A = List ℕ} length own ∙ plane_width planes job.plan.page_width ink is.wide,
     )
-
--- an arbitrary screener
-abbrev no_screener : Screener
-no_screener = Diffusion
-
--- the screener of an ink
-pub own_screener : (plan : PlanData) (ink : Ink) (screeners : List Screener) → AreScreeners plan screeners
-    → (screener : Screener) × (slice_get screeners (slot_of ink) ≡ Some screener) × IsScreener plan ink screener
-own_screener plan ink screeners are =
-    (get_or screeners (slot_of ink) no_screener, (let five = are.five in let below = slot_below ink in slice_get-get_or screeners (slot_of ink) no_screener (omega arith)), are.each ink no_screener)
-
--- a screener at its slot is the ink's
-pub found_screener : (plan : PlanData) (ink : Ink) (screeners : List Screener) (screener : Screener) → AreScreeners plan screeners → slice_get screeners (slot_of ink) ≡ Some screener → IsScreener plan ink screener
-found_screener plan ink screeners screener are there =
-    let own = own_screener plan ink screeners are in
-    subst {A = Screener} (IsScreener plan ink) (same_Some own.0 screener (sym own.1 ∙ there)) own.2
 
 -- ---- a new side
 

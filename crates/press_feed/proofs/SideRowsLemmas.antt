@@ -1,20 +1,23 @@
 -- The rows of a side in some inks, step by step.
 use Rattle.std.proofs.Common.{All, ◌≡◌, ◌≢◌, ℕ, ◌+◌, ◌-◌, ◌*◌, ◌<◌, ◌≤◌, Bool, true, false, cond, List, [], ◌∷◌, ◌++◌, length, map, get_or, set, take, drop, refl, ap, sym, ◌∙◌, subst, arith}
-use Rattle.std.specs.Prelude.{Option, Some, None}
+use Rattle.std.specs.Prelude.{Option, Some, None, slice_get}
 use Rattle.std.specs.Option.{ForSome, option_map}
 use Rattle.std.proofs.lemmas.List.{get_or-map, length-map, map-set, take_at}
 use Rattle.std.proofs.lemmas.List.Elements.{All-map, All-same, All-set, All-weaker}
-use Rattle.std.proofs.lemmas.Option.{same_Some}
+use Rattle.std.proofs.lemmas.Option.{get_or_from_slice_get, same_Some, slice_get-get_or, slice_get-map}
+use Rattle.pr_base.specs.Ink.{all_inks, slot_of}
 use Rattle.pr_base.specs.declared.ink.Ink.{Ink}
+use Rattle.pr_base.proofs.Inks.{ink_at_slot, slot_below}
 use Rattle.plan_rows.specs.Inks.{has_ink}
 use Rattle.plan_rows.specs.declared.group.Group.{Group}
 use Rattle.press_job.specs.Job.{JobData}
 use Rattle.press_feed.specs.declared.side.Side.{Side}
 use Rattle.press_feed.specs.ChainRows.{ChainData, IsNextFor, at_top, behind_block}
-use Rattle.press_feed.specs.Drawn.{DrawnData, before_row, behind_rows, blank_rows}
+use Rattle.press_feed.specs.Drawn.{DrawnData, HasRow, before_row, behind_rows, blank_rows}
 use Rattle.press_feed.specs.HeldRows.{HeldData, next_rows, top_of}
 use Rattle.press_feed.specs.InkRows.{InkData, IsAtRow, IsNextChain, IsNextIn, IsReady, begun, drawn_on, passed, restarted}
-use Rattle.press_feed.specs.SideRows.{HaveRoom, IsAtGroup, IsDrawnOf, IsOpenFor, IsSideRows, SideRowsData, drawn_behind, drawn_for, drawns, next_of}
+use Rattle.press_feed.specs.PlateRow.{IsRowsOf}
+use Rattle.press_feed.specs.SideRows.{AreInAll, HaveRoom, IsAtGroup, IsDrawnOf, IsOpenFor, IsSideRows, SideRowsData, drawn_behind, drawn_for, drawns, next_of}
 use Rattle.press_feed.specs.Sides.{page_on}
 
 no_ink : (b : Bool) → b ≡ true → b ≡ false → ⊥
@@ -308,3 +311,77 @@ item_of job side inks i item all less item_is = subst {A = InkData} (λ ink. IsD
 pub sides_set : (job : JobData) (side : Side) (inks : List InkData) (i : ℕ) (ink : InkData) → All (IsDrawnOf job side) (drawns inks) → IsDrawnOf job side ink.drawn → All (IsDrawnOf job side) (drawns (set inks i ink))
 sides_set job side inks i ink all of =
     All-same (IsDrawnOf job side) (drawns (set inks i ink)) (set (drawns inks) i ink.drawn) (map-set (λ (one : InkData). one.drawn) inks i ink) (All-set (IsDrawnOf job side) (drawns inks) i ink.drawn of all)
+
+-- ---- the five inks
+
+pub in_all_open : (job : JobData) (side : Side) (inks : List InkData) → drawns inks ≡ map (blank_rows job side 8) all_inks → HaveRoom 8 inks → AreInAll inks
+in_all_open job side inks is room = record { inks_are = ap {A = List DrawnData} (map (λ d. d.ink)) is; room = room }
+
+-- the ink of a place stays
+ink_kept : (flag : Bool) (x d : DrawnData) → x.ink ≡ d.ink → (cond flag x d).ink ≡ d.ink
+ink_kept true x d same = same
+ink_kept false x d same = refl
+
+inks_kept : (group : Group) (side : Side) (first count : ℕ) (rows : List DrawnData) → map (λ d. d.ink) (map (drawn_for group side first count) rows) ≡ map (λ d. d.ink) rows
+inks_kept group side first count [] = refl
+inks_kept group side first count (d ∷ rows) =
+    let one : (drawn_for group side first count d).ink ≡ d.ink = ink_kept (has_ink group d.ink) (record d { page = page_on side group; first = first; count = count }) d refl in
+    let rest = inks_kept group side first count rows in
+    cc
+
+pub in_all_drawn : (group : Group) (side : Side) (first count : ℕ) (old new : List InkData) → AreInAll old → drawns new ≡ map (drawn_for group side first count) (drawns old) → HaveRoom 8 new → AreInAll new
+in_all_drawn group side first count old new are is room = record {
+  inks_are = ap {A = List DrawnData} (map (λ d. d.ink)) is ∙ inks_kept group side first count (drawns old) ∙ are.inks_are;
+  room = room;
+}
+
+pub in_all_five : (inks : List InkData) → AreInAll inks → length inks ≡ 5
+in_all_five inks are = sym (length-map inks (λ (i : InkData). i.drawn)) ∙ sym (length-map (drawns inks) (λ (d : DrawnData). d.ink)) ∙ ap {A = List Ink} length are.inks_are
+
+-- the rows at the slot of an ink are in this ink
+at_slot : (inks : List InkData) (ink : Ink) (d : DrawnData) → AreInAll inks → (get_or (drawns inks) (slot_of ink) d).ink ≡ ink
+at_slot inks ink d are =
+    let five = in_all_five inks are in
+    let long : length (drawns inks) ≡ length inks = length-map inks (λ (i : InkData). i.drawn) in
+    let below = slot_below ink in
+    sym (get_or-map (λ (r : DrawnData). r.ink) (drawns inks) (slot_of ink) d ink (omega arith)) ∙ ap (λ is. get_or is (slot_of ink) ink) are.inks_are ∙ ink_at_slot ink ink
+
+-- those that are lent
+pub lent_rows : (inks : List InkData) (ink : Ink) (i : ℕ) (item : InkData) → AreInAll inks → i ≡ slot_of ink → item ≡ get_or inks i item → slice_get (drawns inks) (slot_of ink) ≡ Some item.drawn
+lent_rows inks ink i item are i_is item_is =
+    let five = in_all_five inks are in
+    let below = slot_below ink in
+    slice_get-map (λ (one : InkData). one.drawn) inks (slot_of ink)
+    ∙ ap (option_map (λ (one : InkData). one.drawn)) (slice_get-get_or inks (slot_of ink) item (omega arith))
+    ∙ ap {A = InkData} (λ one. Some one.drawn) (ap (λ n. get_or inks n item) (sym i_is) ∙ sym item_is)
+
+pub lent_own : (job : JobData) (side : Side) (inks : List InkData) (ink : Ink) (rows : DrawnData) → AreInAll inks → All (IsDrawnOf job side) (drawns inks) → slice_get (drawns inks) (slot_of ink) ≡ Some rows → IsRowsOf job side ink rows
+lent_own job side inks ink rows are all there =
+    let five = in_all_five inks are in
+    let long : length (drawns inks) ≡ length inks = length-map inks (λ (i : InkData). i.drawn) in
+    let below = slot_below ink in
+    let own : get_or (drawns inks) (slot_of ink) rows ≡ rows = get_or_from_slice_get (drawns inks) (slot_of ink) rows rows there in
+    let of : IsDrawnOf job side rows = subst {A = DrawnData} (IsDrawnOf job side) own (all (slot_of ink) rows (omega arith)) in
+    record {
+      job_is = of.job_is;
+      side_is = of.side_is;
+      ink_is = ap {A = DrawnData} (λ d. d.ink) (sym own) ∙ at_slot inks ink rows are;
+    }
+
+-- the block with a row was drawn
+has_row : (group : Group) (side : Side) (first count y : ℕ) (d : DrawnData) (flag : Bool) → flag ≡ true → first ≤ y → y < first + count
+    → HasRow (cond flag (record d { page = page_on side group; first = first; count = count }) d) (page_on side group) y
+has_row group side first count y d true on from within = record { page_is = refl; from = from; within = within }
+has_row group side first count y d false on from within = cc
+
+pub row_reached : (group : Group) (side : Side) (ink : Ink) (first count y : ℕ) (old new : List InkData) → AreInAll old → drawns new ≡ map (drawn_for group side first count) (drawns old) → has_ink group ink ≡ true → first ≤ y → y < first + count
+    → ForSome (slice_get (drawns new) (slot_of ink)) (λ drawn. HasRow drawn (page_on side group) y)
+row_reached group side ink first count y old new are is on from within = λ d there.
+    let five = in_all_five old are in
+    let long : length (drawns old) ≡ length old = length-map old (λ (i : InkData). i.drawn) in
+    let below = slot_below ink in
+    let own = get_or (drawns old) (slot_of ink) d in
+    let drawn : drawn_for group side first count own ≡ d =
+    sym (get_or-map (drawn_for group side first count) (drawns old) (slot_of ink) d d (omega arith)) ∙ ap {A = List DrawnData} (λ rows. get_or rows (slot_of ink) d) (sym is) ∙ get_or_from_slice_get (drawns new) (slot_of ink) d d there in
+    subst {A = DrawnData} (λ one. HasRow one (page_on side group) y) drawn
+    (has_row group side first count y own (has_ink group own.ink) (ap {A = Ink} (has_ink group) (at_slot old ink d are) ∙ on) from within)

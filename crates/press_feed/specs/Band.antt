@@ -47,7 +47,8 @@ pub record IsShareOf (job : JobData) (count : ℕ) (share : ShareData) : Type 0 
 
 -- those of these that were made are the frames of a job from this one on
 pub record HoldsFrom (job : JobData) (first : ℕ) (frames : List FrameData) : Type 0 where
-  pub each : (i : ℕ) (d : FrameData) → i < length frames → IsFrameAt job (first + i) (slice_index_or frames i d)
+  pub each : (i : ℕ) (d : FrameData) → i < length frames
+      → IsFrameAt job (first + i) (slice_index_or frames i d)
 
 -- ---- a band
 

@@ -1,13 +1,9 @@
 pub mod Screener
-pub mod Screens
 pub mod Sides
 pub mod SidePages
 pub mod Plates
 pub mod Pair
-pub mod Ahead
 pub mod Rows
-pub mod Chain
-pub mod Blocks
 pub mod Maker
 pub mod Band
 pub mod Feed

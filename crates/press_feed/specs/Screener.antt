@@ -28,11 +28,6 @@ threshold_under plan (Bayer side) x y = threshold_at side x y
 threshold_under plan Diffuse x y = 0
 threshold_under plan (Own tile) x y = own_threshold plan tile x y
 
--- this ink is diffused, and no other
-pub record IsOnly (plan : PlanData) (ink : Ink) : Type 0 where
-  pub is : is_diffused plan ink ≡ true
-  pub only : (other : Ink) → is_diffused plan other ≡ true → other ≡ ink
-
 -- ---- a screener
 
 abbrev pub diffuses : Screener → Bool

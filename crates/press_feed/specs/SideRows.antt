@@ -1,6 +1,7 @@
 -- The rows of one side's pages in some inks.
 use Rattle.std.specs.Prelude.{◌≡◌, ℕ, ◌+◌, ◌≤◌, true, if◌then◌else◌, List, map}
 use Rattle.std.specs.List.{All}
+use Rattle.pr_base.specs.Ink.{all_inks}
 use Rattle.plan_rows.specs.Inks.{has_ink}
 use Rattle.plan_rows.specs.declared.group.Group.{Group}
 use Rattle.press_job.specs.Job.{JobData}
@@ -25,7 +26,12 @@ drawns inks = map (λ ink. ink.drawn) inks
 abbrev pub HaveRoom : ℕ → List InkData → Type 0
 HaveRoom count inks = All (λ ink. count ≤ ink.drawn.room) inks
 
--- the drawn rows of an ink after these rows of a group's page, which are drawn in each ink that the group prints
+-- the five inks, each at its slot, with room for a block of rows
+pub record AreInAll (inks : List InkData) : Type 0 where
+  pub inks_are : map (λ drawn. drawn.ink) (drawns inks) ≡ all_inks
+  pub room : HaveRoom 8 inks
+
+-- the drawn rows of an ink after these rows of the page of a group, which are drawn in each of its inks
 abbrev pub drawn_for : Group → Side → ℕ → ℕ → DrawnData → DrawnData
 drawn_for group side first count drawn = (if has_ink group drawn.ink
     then record drawn { page = page_on side group; first = first; count = count }

@@ -66,8 +66,8 @@ impl<'j> Band<'j> {
         })
     }
 
-    /// Makes the wanted ones of the frames from this number on, as many as the band has room for, as far as the
-    /// job has them. If a thread cannot be started, the calling thread makes its share.
+    /// Makes the wanted ones of the frames from this number on, as many as the band has room for and the job
+    /// has. If a thread cannot be started, the calling thread makes its share.
     pub(crate) fn make<T: Threads + Sync>(&mut self, rt: &T, first: u64)
         requires { first ≤ 2684313600 }
         ensures { self.new ≡ record self.old { first = first; end = first + self.old.size } }

@@ -30,7 +30,7 @@ impl<'j> Model for Chain<'j> {
 
     ghost view = { λ c. record { job = c.job.now; ink = c.ink; page = c.page; count = c.count } };
 
-    ghost invariant = { λ c. IsChain c.job.now c.page c.ink c.count c.diffuser.front };
+    ghost invariant = { λ c. IsChain c.job.now c.page c.ink c.count c.diffuser };
 }
 
 impl<'j> Chain<'j> {
@@ -64,7 +64,7 @@ impl<'j> Chain<'j> {
         ensures { self.new ≡ behind_block self.old }
     {
         let ink = self.ink;
-        self.diffuser.advance_rows(&[
+        self.diffuser.advance(&[
             rows.values(0, ink),
             rows.values(1, ink),
             rows.values(2, ink),

@@ -106,7 +106,6 @@ impl<'j> DrawnRows<'j> {
     fn tile_row(&mut self, tile: &AnyTile, y: u32, values: &[u8])
         requires tile { IsScreener self.old.job.plan self.old.ink (Tile tile.now) }
         requires next { y ≡ self.old.first + self.old.count }
-        requires within { y < self.old.job.plan.page_height }
         requires width { length values.now ≡ self.old.job.plan.page_width }
         requires values { values.now
             ≡ printed_row self.old.job.plan self.old.job.files self.old.page self.old.ink y }

@@ -6,10 +6,8 @@ ghost use Rattle.press_job.specs.Rows.{plate_frames};
 
 use crate::band::Band;
 use crate::row_maker::RowMaker;
-use crate::screener::lone_diffused;
 use crate::side_band::SideBand;
 use crate::wanted::Wanted;
-use plan_json::{Plan, Screen};
 use pr_base::{Deal, NoMemory, RowFeed};
 use pr_feed::PassingFeed;
 use press_job::{BandFeed, Job};
@@ -55,8 +53,7 @@ impl<'j> Model for Feed<'j> {
 }
 
 impl<'j> Feed<'j> {
-    /// Returns the feed of a job, with all its buffers. The images of the first page are tested again; they
-    /// pass, as they did when the job was prepared. Rows are made in the thread that requests them.
+    /// Returns the feed of a job, with all its buffers. Rows are made in the thread that requests them.
     pub fn open(alloc: Global, job: &'j Job) -> Result<Feed<'j>, NoMemory>
         ensures { IfOk result (λ feed. feed ≡ record { job = job.now; next = 0 }) }
     {
@@ -218,20 +215,10 @@ fn open_sides<'j>(
     Ok(Some(wide))
 }
 
-/// Whether rows of a job are diffused if only some plates' rows are requested. If several inks are diffused,
-/// they are in each group.
+/// Whether rows of a job are diffused if only some plates' rows are requested.
 fn diffuses(job: &Job, wanted: Wanted<'_>) -> bool {
-    match lone_diffused(job.plan()) {
-        Some(ink) => wanted.has_ink(job.rows().groups().len(), ink),
-        None => is_diffused(job.plan()),
-    }
-}
-
-/// Whether an ink of the plan is diffused.
-fn is_diffused(plan: &Plan) -> bool {
-    plan.screens
-        .iter()
-        .any(|screen| matches!(screen, Screen::Diffuse))
+    let groups = job.rows().groups();
+    (0..groups.len()).any(|index| wanted.diffuses(job.plan(), index, &groups[index]))
 }
 
 /// The number of frames that one thread makes of a band: a multiple of 20, so that it covers whole rows of

@@ -123,6 +123,13 @@ impl<'j> InkRows<'j> {
         }
     }
 
+    /// Lends the rows that are drawn.
+    pub(crate) fn drawn(&self) -> &DrawnRows<'j>
+        ensures { result.now ≡ self.now.drawn }
+    {
+        &self.drawn
+    }
+
     /// Exchanges the rows that are drawn for other ones of the job, if these are of the same side and ink and
     /// have as much room.
     pub(crate) fn exchange(&mut self, rows: &mut DrawnRows<'j>)

@@ -1,11 +1,9 @@
 // How an ink is screened: by a tile or by error diffusion.
-ghost use Rattle.std.specs.Prelude.{◌≡◌, ℕ, ◌<◌, IfOk, IsTrue, Some, length};
-ghost use Rattle.std.specs.Option.{ForSome};
-ghost use Rattle.pr_base.specs.declared.ink.Ink.{Ink as InkData};
+ghost use Rattle.std.specs.Prelude.{◌≡◌, ℕ, ◌<◌, IfOk, IsTrue, length};
 ghost use Rattle.plan_parts.specs.Parts.{is_bayer};
 ghost use Rattle.scr_tile.specs.AnyTile.{threshold_of};
 ghost use Rattle.scr_tile.specs.Tile.{threshold_at};
-ghost use Rattle.press_feed.specs.Screener.{IsOnly, is_diffused};
+ghost use Rattle.press_feed.specs.Screener.{AreScreeners, is_diffused};
 ghost use Rattle.press_job.specs.Printing.{own_threshold};
 
 use plan_json::{Plan, Screen};
@@ -17,7 +15,7 @@ use std::alloc::Global;
 #[derive(Drop)]
 pub(crate) enum Screener {
     Tile(AnyTile),
-    /// The errors are kept by diffusers that serve several inks at once.
+    /// Error diffusion: each page has a chain of its own.
     Diffusion,
 }
 
@@ -46,21 +44,15 @@ pub(crate) fn has_diffused(plan: &Plan, ink: Ink) -> bool
     }
 }
 
-/// Returns the diffused ink, if exactly one ink is diffused.
-pub(crate) fn lone_diffused(plan: &Plan) -> Option<Ink>
-    ensures is { ForSome result (IsOnly plan.now) }
-    ensures only { (ink : InkData) → IsOnly plan.now ink → result ≡ Some ink }
+/// Returns the screeners of all inks, by slot.
+pub(crate) fn open_screeners(alloc: Global, plan: &Plan) -> Result<Vec<Screener>, NoMemory>
+    ensures { IfOk result (λ screeners. AreScreeners plan.now screeners.items) }
 {
-    let mut found = None;
+    let mut screeners = Vec::with_capacity(alloc, Ink::ALL.len())?;
     for ink in Ink::ALL {
-        if has_diffused(plan, ink) {
-            if found.is_some() {
-                return None;
-            }
-            found = Some(ink);
-        }
+        screeners.push(Screener::of(alloc, plan, ink)?)?;
     }
-    found
+    Ok(screeners)
 }
 
 /// Returns the Bayer tile with a side that a plan can name.

@@ -13,8 +13,8 @@ ghost use Rattle.press_job.specs.Rows.{plate_frames};
 
 use crate::band_part::BandPart;
 use crate::band_rows::{BandRows, rows_after, rows_from};
-use crate::block_rows::BLOCK;
 use crate::drawn_rows::DrawnRows;
+use crate::held_rows::BLOCK;
 use crate::ink_shares::{inks_of_share, work_of};
 use crate::row_maker::{group_at, page_row};
 use crate::side::Side;

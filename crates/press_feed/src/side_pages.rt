@@ -1,22 +1,19 @@
 // The pages on one side of the plates, each read row by row.
-ghost use Rattle.std.specs.Prelude.{◌≡◌, ◌≢◌, ℕ, ◌+◌, ◌-◌, ◌*◌, ◌<◌, ◌≤◌, IfOk, None, length, true};
-ghost use Rattle.std.specs.Option.{ForSome};
+ghost use Rattle.std.specs.Prelude.{◌≡◌, ℕ, ◌+◌, ◌*◌, ◌<◌, ◌≤◌, IfOk, length};
 ghost use Rattle.pr_base.specs.Bits.{SetsBits};
-ghost use Rattle.page_layers.specs.Inks.{HasWidth, plane_of};
 ghost use Rattle.plan_rows.specs.Groups.{page_colour, page_spot};
-ghost use Rattle.pr_base.specs.declared.ink.Ink.{Ink as InkData};
 ghost use Rattle.press_job.specs.Layers.{layers_of, planned_layers};
-ghost use Rattle.press_job.specs.Printing.{page_bit, printed_row};
-ghost use Rattle.press_feed.specs.Screener.{AreScreeners, is_diffused};
-ghost use Rattle.press_feed.specs.Screens.{IsFrontOf, bank_of, lane_of};
+ghost use Rattle.press_job.specs.Printing.{page_bit};
+ghost use Rattle.press_feed.specs.Screener.{IsScreener};
 ghost use Rattle.press_feed.specs.Sides.{left_edge, page_before};
+ghost use Rattle.press_feed.specs.declared.screener.Screener.TheVariants.{Tile};
 
-use crate::screens::Screens;
 use crate::side::Side;
 use page_layers::PageRows;
 use plan_json::Plan;
 use pr_base::{Ink, NoMemory};
 use press_job::{Job, PrintedRow, Tones, most_layers, put_layers};
+use scr_tile::{AnyTile, screen_row};
 use std::alloc::Global;
 use std::marker::Model;
 
@@ -101,36 +98,22 @@ impl<'j> SidePages<'j> {
         self.shown
     }
 
-    /// Lends the row made last.
-    pub(crate) fn row(&self) -> &PrintedRow
-        ensures wide { HasWidth result.now self.now.plan.page_width }
-        ensures shows { 0 < self.now.shown → (ink : InkData) → plane_of result.now ink
-            ≡ printed_row self.now.plan self.now.files self.now.page ink (self.now.shown - 1) }
-    {
-        &self.row
-    }
-
-    /// Sets the pixels of an ink of row `y` of the page, the row made last, at the page's position on the
-    /// plate.
-    pub(crate) fn draw(&self, screens: &Screens, ink: Ink, y: u32, bits: &mut [u8])
+    /// Sets the pixels under a tile, that of an ink, of row `y` of the page, the row made last, at the page's
+    /// position on the plate.
+    pub(crate) fn draw(&self, tile: &AnyTile, ink: Ink, y: u32, bits: &mut [u8])
         requires shown { self.now.shown ≡ y + 1 }
-        requires within { y < self.now.plan.page_height }
-        requires screens { AreScreeners self.now.plan screens.now.screeners.items }
-        requires some { is_diffused self.now.plan ink ≡ true → bank_of screens.now ink ≢ None }
-        requires bank { ForSome (bank_of screens.now ink) (λ front. IsFrontOf self.now.plan self.now.files
-            self.now.page ink (lane_of self.now.side ink) (y + 1) front) }
+        requires tile { IsScreener self.now.plan ink (Tile tile.now) }
         requires room { left_edge self.now.plan self.now.side + self.now.plan.page_width
             ≤ 8 * length bits.old }
         ensures { SetsBits (λ x. page_bit self.now.plan self.now.files self.now.page ink x y)
             (left_edge self.now.plan self.now.side) self.now.plan.page_width bits.old bits.new }
     {
         let from = self.side.left_edge(self.job);
-        let values = self.row.values(ink);
-        screens.draw(self.side, ink, y, values, bits, from);
+        screen_row(tile, y, self.row.values(ink), bits, from);
     }
 
     /// Makes the next row of the page.
-    pub(crate) fn show(&mut self)
+    fn show(&mut self)
         requires { self.old.shown < self.old.plan.page_height }
         ensures { self.new ≡ record self.old { shown = self.old.shown + 1 } }
     {

@@ -1,11 +1,17 @@
 // The rows of one side's pages, drawn in some inks.
-ghost use Rattle.std.specs.Prelude.{All, ◌≡◌, ◌≢◌, ℕ, ◌+◌, ◌*◌, ◌%◌, ◌<◌, ◌≤◌, IfOk, IsTrue, length, map};
-ghost use Rattle.press_feed.specs.Drawn.{blank_rows};
+ghost use Rattle.std.specs.Prelude.{All, ◌≡◌, ◌≢◌, ℕ, ◌+◌, ◌*◌, ◌%◌, ◌<◌, ◌≤◌, IfOk, IsTrue, Some, length};
+ghost use Rattle.std.specs.Prelude.{map, slice_get, true};
+ghost use Rattle.std.specs.Option.{ForSome};
+ghost use Rattle.pr_base.specs.Ink.{slot_of};
+ghost use Rattle.plan_rows.specs.Inks.{has_ink};
+ghost use Rattle.press_feed.specs.Drawn.{HasRow, blank_rows};
 ghost use Rattle.press_feed.specs.Frames.{AreOf};
 ghost use Rattle.press_feed.specs.InkRows.{IsNextChain, IsNextIn, IsReady, begun, drawn_on, passed};
 ghost use Rattle.press_feed.specs.InkRows.{restarted};
-ghost use Rattle.press_feed.specs.SideRows.{HaveRoom, IsAtGroup, IsOpenFor, IsSameSide};
+ghost use Rattle.press_feed.specs.PlateRow.{IsRowsOf};
+ghost use Rattle.press_feed.specs.SideRows.{AreInAll, HaveRoom, IsAtGroup, IsOpenFor, IsSameSide};
 ghost use Rattle.press_feed.specs.SideRows.{drawn_behind, drawn_for, drawns, next_of};
+ghost use Rattle.press_feed.specs.Sides.{page_on};
 
 use crate::drawn_rows::DrawnRows;
 use crate::held_rows::{BLOCK, HeldRows};
@@ -88,6 +94,42 @@ impl<'j> SideRows<'j> {
             return;
         }
         self.draw_block(group, count % BLOCK);
+    }
+
+    /// Draws the block of eight rows with row `y` of the side's page of a group, unless the rows of an ink of
+    /// the group have this row.
+    pub(crate) fn reach_row(&mut self, group: &Group, ink: Ink, y: u32)
+        requires all { AreInAll self.old.inks }
+        requires ink { has_ink group.now ink ≡ true }
+        requires within { y < self.old.job.plan.page_height }
+        ensures row { ForSome (slice_get (drawns self.new.inks) (slot_of ink))
+            (λ drawn. HasRow drawn (page_on self.old.side group.now) y) }
+        ensures all { AreInAll self.new.inks }
+        ensures same { IsSameSide self.old self.new }
+    {
+        let page = self.side.page_of(group);
+        if self.rows(ink).has(page, y) {
+            return;
+        }
+        let first = y / BLOCK * BLOCK;
+        let count = BLOCK.min(self.height() - first);
+        self.draw(group, first, count);
+    }
+
+    /// The number of rows of a page.
+    fn height(&self) -> u32
+        ensures { result ≡ self.now.job.plan.page_height }
+    {
+        self.job.plan().page_height
+    }
+
+    /// Lends the drawn rows of an ink.
+    pub(crate) fn rows(&self, ink: Ink) -> &DrawnRows<'j>
+        requires { AreInAll self.now.inks }
+        ensures rows { slice_get (drawns self.now.inks) (slot_of ink) ≡ Some result.now }
+        ensures own { IsRowsOf self.now.job self.now.side ink result.now }
+    {
+        self.inks[ink.slot()].drawn()
     }
 
     /// Moves before row `first` of the page of a group, unless it is the next one.

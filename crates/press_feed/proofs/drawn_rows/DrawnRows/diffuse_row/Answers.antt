@@ -2,7 +2,8 @@
 use Rattle.std.proofs.Common.{◌+◌, ◌-◌, ◌<◌, length, sym, subst, arith}
 use Rattle.press_job.specs.Job.{JobData}
 use Rattle.press_feed.specs.Drawn.{DrawnData, HasTaken}
-use Rattle.press_feed.proofs.DrawnLemmas.{chain_drawn, chain_row, drawn_more}
+use Rattle.press_feed.proofs.ChainLemmas.{chain_drawn, chain_row}
+use Rattle.press_feed.proofs.DrawnLemmas.{drawn_more}
 use Rattle.press_feed.proofs.drawn_rows.DrawnRows.diffuse_row.Goals as goal
 
 pub diffuse_page-requires-clause-within : goal.diffuse_page-requires-clause-within

@@ -5,7 +5,8 @@ use Rattle.press_job.specs.Printing.{page_bit, printed_row}
 use Rattle.press_feed.specs.declared.screener.Screener.TheVariants.{Tile}
 use Rattle.press_feed.specs.Drawn.{DrawnData}
 use Rattle.press_feed.specs.Screener.{IsScreener}
-use Rattle.press_feed.proofs.DrawnLemmas.{drawn_more, tile_sets}
+use Rattle.press_feed.proofs.DrawnLemmas.{drawn_more}
+use Rattle.press_feed.proofs.ScreenerLemmas.{tile_sets}
 use Rattle.press_feed.proofs.drawn_rows.DrawnRows.tile_row.Goals as goal
 
 pub invariant_of-self : goal.invariant_of-self
@@ -20,7 +21,6 @@ invariant_of-self c =
     let row : y ≡ d.first + d.count = c.requires.next ∙ ap {A = DrawnData} (λ r. r.first + r.count) (sym e) in
     let sets = tile_sets job.plan job.files d.page d.ink y from c.args.tile.now c.args.values.now old new
     (subst {A = DrawnData} (λ r. IsScreener r.job.plan r.ink (Tile c.args.tile.now)) (sym e) c.requires.tile)
-    (subst {A = DrawnData} (λ r. y < r.job.plan.page_height) (sym e) c.requires.within)
     (subst {A = DrawnData} (λ r. length c.args.values.now ≡ r.job.plan.page_width) (sym e) c.requires.width)
     (subst {A = DrawnData} (λ r. c.args.values.now ≡ printed_row r.job.plan r.job.files r.page r.ink y) (sym e) c.requires.values)
     c.tile_page.ensures.bits in

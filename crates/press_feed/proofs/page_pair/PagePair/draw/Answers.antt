@@ -1,45 +1,28 @@
--- Each side draws the current row, which was diffused.
-use Rattle.std.proofs.Common.{◌≡◌, ◌+◌, ◌<◌, ℕ, ap, sym, subst, ◌∙◌, arith}
+-- Each side draws its current row, under the tile of the ink.
+use Rattle.std.proofs.Common.{ap, subst, ◌∙◌}
 use Rattle.press_feed.specs.Pair.{PairData}
 use Rattle.press_feed.specs.Plates.{ShowsPages, page_row}
-use Rattle.press_feed.specs.declared.side.Side.TheVariants.{Left, Right}
-use Rattle.press_feed.specs.Screens.{HaveDiffused}
-use Rattle.press_feed.proofs.PairLemmas.{side_front}
 use Rattle.press_feed.proofs.PlateLemmas.{sides_drawn}
-use Rattle.press_feed.proofs.ScreensLemmas.{front_on_left, front_on_right}
+use Rattle.press_feed.proofs.ScreenerLemmas.{own_tile}
 use Rattle.press_feed.proofs.page_pair.PagePair.draw.Goals as goal
 
-pub draw-requires-clause-bank : goal.draw-requires-clause-bank
-draw-requires-clause-bank c =
-    let job = c.self.inside.job.now in
-    let left = c.self.inside.left in
-    let right = c.self.inside.right in
-    let y = c.args.y in
+pub draw-requires-clause-tile : goal.draw-requires-clause-tile
+draw-requires-clause-tile c =
+    let pair = c.self.inside in
     let is = c.self.invariant in
-    let shown : left.shown ≡ y + 1 = ap {A = PairData} (λ p. p.shown) c.self.view_is ∙ c.requires.shown in
-    let below : y < job.plan.page_height = subst {A = PairData} (λ p. y < p.job.plan.page_height) (sym c.self.view_is) c.requires.within in
-    side_front job Left left c.args.ink y c.self.inside.screens is.left_is
-    (front_on_left job.plan job.files left.page right.page (y + 1) c.self.inside.screens c.args.ink
-    (subst {A = ℕ} (λ n. HaveDiffused job.plan job.files left.page right.page n c.self.inside.screens) shown is.diffused) (omega arith))
+    own_tile pair.job.now.plan pair.left.plan c.args.ink pair.screeners.items c.slot.result c.index.result.now _ is.screeners_are is.left_is.plan_is c.slot.ensures.slot c.index.ensures c.in-Tile.is
 
-pub draw-requires-2-clause-bank : goal.draw-requires-2-clause-bank
-draw-requires-2-clause-bank c =
-    let job = c.self.inside.job.now in
-    let left = c.self.inside.left in
-    let right = c.self.inside.right in
-    let y = c.args.y in
+pub draw-requires-in-Tile-clause-tile : goal.draw-requires-in-Tile-clause-tile
+draw-requires-in-Tile-clause-tile c =
+    let pair = c.self.inside in
     let is = c.self.invariant in
-    let shown : left.shown ≡ y + 1 = ap {A = PairData} (λ p. p.shown) c.self.view_is ∙ c.requires.shown in
-    let below : y < job.plan.page_height = subst {A = PairData} (λ p. y < p.job.plan.page_height) (sym c.self.view_is) c.requires.within in
-    side_front job Right right c.args.ink y c.self.inside.screens is.right_is
-    (front_on_right job.plan job.files left.page right.page (y + 1) c.self.inside.screens c.args.ink
-    (subst {A = ℕ} (λ n. HaveDiffused job.plan job.files left.page right.page n c.self.inside.screens) shown is.diffused) (omega arith))
+    own_tile pair.job.now.plan pair.right.plan c.args.ink pair.screeners.items c.slot.result c.index.result.now _ is.screeners_are is.right_is.plan_is c.slot.ensures.slot c.index.ensures c.in-Tile.is
 
 pub returns : goal.returns
 returns c = λ row there.
-    let job = c.self.inside.job.now in
+    let pair = c.self.inside in
     let is = c.self.invariant in
     let e = c.self.view_is in
-    subst {A = PairData} (λ p. ShowsPages p.job.plan p.job.files p.left p.right c.args.ink row c.draw-2.new.bits) e
-    (sides_drawn job c.args.ink row c.args.y _ c.self.inside.left c.self.inside.right c.args.bits.now c.draw.new.bits c.draw-2.new.bits is.left_is is.right_is c.requires.blank
-    (ap {A = PairData} (λ p. page_row p.job.plan row) e ∙ there) c.draw.ensures c.draw-2.ensures)
+    subst {A = PairData} (λ p. ShowsPages p.job.plan p.job.files p.left p.right c.args.ink row c.draw-in-Tile.new.bits) e
+    (sides_drawn pair.job.now c.args.ink row c.args.y _ pair.left pair.right c.args.bits.now c.draw.new.bits c.draw-in-Tile.new.bits is.left_is is.right_is c.requires.blank
+    (ap {A = PairData} (λ p. page_row p.job.plan row) e ∙ there) c.draw.ensures c.draw-in-Tile.ensures)
