@@ -60,8 +60,8 @@ impl<'j> Feed<'j> {
         Feed::with_threads(alloc, job, Wanted::all(), 0, 8)
     }
 
-    /// The same with bands, made by one thread per processor, at most eight. No bands are used on one
-    /// processor, or if all rows together have few bytes.
+    /// The same with bands, made by one thread per processor, at most eight. No bands are used if all rows
+    /// together have few bytes, or on one processor if no ink is diffused.
     pub fn open_wide<T: Threads>(rt: &T, alloc: Global, job: &'j Job) -> Result<Feed<'j>, NoMemory>
         ensures { IfOk result (λ feed. feed ≡ record { job = job.now; next = 0 }) }
     {
@@ -77,7 +77,8 @@ impl<'j> Feed<'j> {
     ) -> Result<Feed<'j>, NoMemory>
         ensures { IfOk result (λ feed. feed ≡ record { job = job.now; next = 0 }) }
     {
-        Feed::with_threads(alloc, job, wanted, threads_for(rt, job), height_of(job))
+        let threads = threads_for(rt, job, diffuses(job, wanted));
+        Feed::with_threads(alloc, job, wanted, threads, height_of(job))
     }
 
     /// The same with bands made by this many threads. If an ink is diffused, a band has the frames of at most
@@ -182,8 +183,8 @@ fn make_row(
 }
 
 /// Returns the number of threads that make the bands of a job: none if making each row on request is as fast,
-/// as on one processor.
-fn threads_for<T: Threads>(rt: &T, job: &Job) -> usize
+/// as on one processor if no ink is diffused.
+fn threads_for<T: Threads>(rt: &T, job: &Job, is_diffused: bool) -> usize
     ensures { result ≤ 8 }
 {
     let bytes = job.total().saturating_mul(job.row_len() as u64);
@@ -192,6 +193,7 @@ fn threads_for<T: Threads>(rt: &T, job: &Job) -> usize
     }
     match available_parallelism(rt) {
         Ok(processors) if processors.get() > 1 => processors.get().min(MOST_THREADS),
+        _ if is_diffused => 1,
         _ => 0,
     }
 }
