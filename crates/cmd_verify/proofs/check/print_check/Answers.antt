@@ -1,10 +1,10 @@
 use Rattle.std.proofs.Common.{◌∙◌, length, ap, refl}
-use Rattle.std.proofs.lemmas.Result.{err_from_is_err_and}
 use Rattle.plate_verify.specs.Verifying.{told}
-use Rattle.cmd_verify.specs.Check.{asked_told, PrintsFound, check_rules, found_line}
+use Rattle.cmd_verify.specs.Check.{CheckLengths, asked_told, PrintsFound, check_rules, found_line}
+use Rattle.cmd_base.specs.Seen.{shelf_seen}
 use Rattle.cmd_base.specs.Status.{number_of}
 use Rattle.cmd_verify.proofs.Verifying.{found_behind, found_short, looks_lengths, put_lengths, stop_lengths}
-use Rattle.cmd_base.proofs.Loads.{all_behind, lengths_behind, loads_behind}
+use Rattle.cmd_base.proofs.Loads.{all_behind, handed, lengths_behind, loads_behind, loads_on}
 use Rattle.cmd_base.proofs.Told.{put_tells}
 use Rattle.cmd_verify.proofs.check.print_check.Goals as goal
 
@@ -27,13 +27,11 @@ returns-clause-told g c =
 
 pub returns-in_err-job-clause-loads : goal.returns-in_err-job-clause-loads
 returns-in_err-job-clause-loads g c =
-    let p = err_from_is_err_and c.from_residual.result c.from_residual.ensures.1 in
-    rw (p.1, p.2) c.in_err-job.ensures.loads
+    loads_on _ _ _ c.from_residual.ensures.1 c.in_err-job.ensures.loads
 
 pub returns-in_err-checked-clause-loads : goal.returns-in_err-checked-clause-loads
 returns-in_err-checked-clause-loads g c =
-    let p = err_from_is_err_and c.from_residual-in_err-checked.result c.from_residual-in_err-checked.ensures.1 in
-    rw (p.1, p.2)
+    loads_on _ _ _ c.from_residual-in_err-checked.ensures.1
     (loads_behind g.H.Shelf c.args.shelf.now c.load_job.new.shelf c.verify_plates.new.shelf _ (c.in_ok-job.ensures.loads refl)
     c.in_err-checked.ensures.loads)
 
@@ -49,21 +47,19 @@ returns-clause-loads g c = λ done.
 
 pub returns-in_err-job-clause-lengths : goal.returns-in_err-job-clause-lengths
 returns-in_err-job-clause-lengths g c =
-    let p = err_from_is_err_and c.from_residual.result c.from_residual.ensures.1 in
-    rw (p.1, p.2) (stop_lengths (asked_told c.args.asked) _ _ c.in_err-job.ensures.lengths)
+    handed (CheckLengths (asked_told c.args.asked) (shelf_seen g.H.Shelf c.args.shelf.now c.load_job.new.shelf)) _ _ c.from_residual.ensures.1
+    (stop_lengths (asked_told c.args.asked) _ _ c.in_err-job.ensures.lengths)
 
 pub returns-in_err-checked-clause-lengths : goal.returns-in_err-checked-clause-lengths
 returns-in_err-checked-clause-lengths g c =
-    let p = err_from_is_err_and c.from_residual-in_err-checked.result c.from_residual-in_err-checked.ensures.1 in
-    rw (p.1, p.2)
+    handed (CheckLengths (asked_told c.args.asked) (shelf_seen g.H.Shelf c.args.shelf.now c.verify_plates.new.shelf)) _ _ c.from_residual-in_err-checked.ensures.1
     (stop_lengths (asked_told c.args.asked) _ _
     (lengths_behind g.H.Shelf c.args.shelf.now c.load_job.new.shelf c.verify_plates.new.shelf _ c.in_ok-job.ensures.lengths
     (looks_lengths c.in_ok-job.job c.args.asked.out.now _ _ c.in_err-checked.ensures.verifies)))
 
 pub returns-in_err-line-clause-lengths : goal.returns-in_err-line-clause-lengths
 returns-in_err-line-clause-lengths g c =
-    let p = err_from_is_err_and c.from_residual-in_err-line.result c.from_residual-in_err-line.ensures.1 in
-    rw (p.1, p.2)
+    handed (CheckLengths (asked_told c.args.asked) (shelf_seen g.H.Shelf c.args.shelf.now c.verify_plates.new.shelf)) _ _ c.from_residual-in_err-line.ensures.1
     (found_short (asked_told c.args.asked) _ c.in_ok-job.job c.in_ok-checked.checked c.in_ok-job.ensures.prepared
     (found_behind g.H.Shelf c.args.shelf.now c.load_job.new.shelf c.verify_plates.new.shelf c.load_job.ensures.held
     c.load_job.ensures.faults_stay c.in_ok-job.ensures.lengths c.in_ok-job.job c.args.asked.out.now c.in_ok-checked.checked
