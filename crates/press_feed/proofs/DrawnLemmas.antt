@@ -1,16 +1,16 @@
 -- Rows that are drawn in an ink.
-use Rattle.std.proofs.Common.{All, ◌≡◌, ◌≢◌, ℕ, ◌+◌, ◌-◌, ◌<◌, ◌≤◌, Bool, true, false, List, [], ◌++◌, length, replicate, get_or, set, refl, ap, sym, ◌∙◌, subst, inl, inr, arith}
+use Rattle.std.proofs.Common.{All, ◌≡◌, ℕ, ◌+◌, ◌<◌, ◌≤◌, List, [], length, replicate, get_or, set, ap, sym, ◌∙◌, subst, inl, inr, arith}
 use Rattle.std.proofs.lemmas.Bool.{cases_eq}
 use Rattle.std.proofs.lemmas.Grind.{get_or-set_at}
-use Rattle.std.proofs.lemmas.List.{get_or_default, get_or-set_other, length-replicate, length-set}
+use Rattle.std.proofs.lemmas.List.{get_or-set_other, length-replicate, length-set}
 use Rattle.std.proofs.lemmas.List.Elements.{All-set}
 use Rattle.pr_base.specs.Bits.{SetsBits, bit_at}
 use Rattle.pr_base.specs.declared.ink.Ink.{Ink}
 use Rattle.plan_json.specs.Data.{PlanData}
 use Rattle.press_job.specs.Job.{JobData}
-use Rattle.press_job.specs.Printing.{page_bit, printed_row}
+use Rattle.press_job.specs.Printing.{page_bit}
 use Rattle.press_feed.specs.declared.side.Side.{Side}
-use Rattle.press_feed.specs.Drawn.{AreDrawn, DrawnData, HasTaken, IsClearBeside, ShowsRowOf, side_bit, side_size}
+use Rattle.press_feed.specs.Drawn.{AreDrawn, IsClearBeside, ShowsRowOf, side_bit, side_size}
 use Rattle.press_feed.proofs.PlateLemmas.{bit_at-zeros}
 
 -- ---- drawn rows

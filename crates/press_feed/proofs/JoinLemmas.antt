@@ -1,6 +1,6 @@
 -- Rows of both sides, joined to a row of a plate.
 use Rattle.std.proofs.Common.{inl, inr, ◌≡◌, ℕ, ◌+◌, ◌-◌, ◌*◌, ◌/◌, ◌%◌, ◌<◌, ◌≤◌, Bool, true, false, ◌||◌, eqb, max, List, length, replicate, get_or, set, take, drop, refl, ap, sym, ◌∙◌, subst, arith}
-use Rattle.std.specs.Prelude.{Some, bit_or}
+use Rattle.std.specs.Prelude.{bit_or}
 use Rattle.std.proofs.lemmas.Bool.{cases_lt}
 use Rattle.std.proofs.lemmas.Bool.Decides.{nat_tests}
 use Rattle.std.proofs.lemmas.Grind.{get_or-set_at}
@@ -11,7 +11,6 @@ use Rattle.pr_base.specs.Bits.{SetsBits, bit_at, byte_bit}
 use Rattle.pr_base.specs.Row.{row_size}
 use Rattle.pr_base.specs.declared.ink.Ink.{Ink}
 use Rattle.pr_base.proofs.Parts.{part_above, part_below, part_here}
-use Rattle.plan_json.specs.Data.{PlanData}
 use Rattle.plan_pages.specs.Plate.{shape_of_plate}
 use Rattle.plan_rows.specs.declared.group.Group.{Group}
 use Rattle.press_job.specs.Job.{JobData}
@@ -20,7 +19,7 @@ use Rattle.press_feed.specs.declared.side.Side.{Side}
 use Rattle.press_feed.specs.declared.side.Side.TheVariants.{Left, Right}
 use Rattle.press_feed.specs.Drawn.{DrawnData, HasRow, IsClearBeside, ShowsRowOf, side_byte}
 use Rattle.press_feed.specs.PlateRow.{IsJoined, IsRowsOf, IsUnion}
-use Rattle.press_feed.specs.Plates.{DrawsPages, page_row}
+use Rattle.press_feed.specs.Plates.{DrawsPages}
 use Rattle.press_feed.proofs.PlateLemmas.{bit_at-zeros, pages_set}
 
 -- ---- bytes joined with others

@@ -5,7 +5,6 @@ use Rattle.std.specs.Option.{ForSome}
 use Rattle.std.specs.List.{All}
 use Rattle.std.proofs.lemmas.Option.{get_or_from_slice_get, slice_get_within}
 use Rattle.plan_json.specs.Plan.{IsPlan}
-use Rattle.plan_rows.specs.Rows.{row_places}
 use Rattle.press_job.specs.Job.{JobData}
 use Rattle.press_job.specs.Rows.{plate_frames}
 use Rattle.press_job.proofs.FrameLemmas.{length-plate_frames}

@@ -1,5 +1,5 @@
 -- The rows of a side in some inks, step by step.
-use Rattle.std.proofs.Common.{All, ◌≡◌, ◌≢◌, ℕ, ◌+◌, ◌-◌, ◌*◌, ◌<◌, ◌≤◌, Bool, true, false, cond, List, [], ◌∷◌, ◌++◌, length, map, get_or, set, take, drop, refl, ap, sym, ◌∙◌, subst, arith}
+use Rattle.std.proofs.Common.{All, ◌≡◌, ℕ, ◌+◌, ◌<◌, ◌≤◌, Bool, true, false, cond, List, [], ◌∷◌, ◌++◌, length, map, get_or, set, take, drop, refl, ap, sym, ◌∙◌, subst, arith}
 use Rattle.std.specs.Prelude.{Option, Some, None, slice_get}
 use Rattle.std.specs.Option.{ForSome, option_map}
 use Rattle.std.proofs.lemmas.List.{get_or-map, length-map, map-set, take_at}
@@ -12,12 +12,12 @@ use Rattle.plan_rows.specs.Inks.{has_ink}
 use Rattle.plan_rows.specs.declared.group.Group.{Group}
 use Rattle.press_job.specs.Job.{JobData}
 use Rattle.press_feed.specs.declared.side.Side.{Side}
-use Rattle.press_feed.specs.ChainRows.{ChainData, IsNextFor, at_top, behind_block}
+use Rattle.press_feed.specs.ChainRows.{ChainData, at_top, behind_block}
 use Rattle.press_feed.specs.Drawn.{DrawnData, HasRow, before_row, behind_rows, blank_rows}
 use Rattle.press_feed.specs.HeldRows.{HeldData, next_rows, top_of}
 use Rattle.press_feed.specs.InkRows.{InkData, IsAtRow, IsNextChain, IsNextIn, IsReady, begun, drawn_on, passed, restarted}
 use Rattle.press_feed.specs.PlateRow.{IsRowsOf}
-use Rattle.press_feed.specs.SideRows.{AreInAll, HaveRoom, IsAtGroup, IsDrawnOf, IsOpenFor, IsSideRows, SideRowsData, drawn_behind, drawn_for, drawns, next_of}
+use Rattle.press_feed.specs.SideRows.{AreInAll, HaveRoom, IsAtGroup, IsDrawnOf, IsOpenFor, SideRowsData, drawn_behind, drawn_for, drawns, next_of}
 use Rattle.press_feed.specs.Sides.{page_on}
 
 no_ink : (b : Bool) → b ≡ true → b ≡ false → ⊥
@@ -314,7 +314,7 @@ sides_set job side inks i ink all of =
 
 -- ---- the five inks
 
-pub in_all_open : (job : JobData) (side : Side) (inks : List InkData) → drawns inks ≡ map (blank_rows job side 8) all_inks → HaveRoom 8 inks → AreInAll inks
+pub in_all_open : (job : JobData) (side : Side) (inks : List InkData) → drawns inks ≡ map (blank_rows job side 64) all_inks → HaveRoom 64 inks → AreInAll inks
 in_all_open job side inks is room = record { inks_are = ap {A = List DrawnData} (map (λ d. d.ink)) is; room = room }
 
 -- the ink of a place stays
@@ -329,7 +329,7 @@ inks_kept group side first count (d ∷ rows) =
     let rest = inks_kept group side first count rows in
     cc
 
-pub in_all_drawn : (group : Group) (side : Side) (first count : ℕ) (old new : List InkData) → AreInAll old → drawns new ≡ map (drawn_for group side first count) (drawns old) → HaveRoom 8 new → AreInAll new
+pub in_all_drawn : (group : Group) (side : Side) (first count : ℕ) (old new : List InkData) → AreInAll old → drawns new ≡ map (drawn_for group side first count) (drawns old) → HaveRoom 64 new → AreInAll new
 in_all_drawn group side first count old new are is room = record {
   inks_are = ap {A = List DrawnData} (map (λ d. d.ink)) is ∙ inks_kept group side first count (drawns old) ∙ are.inks_are;
   room = room;

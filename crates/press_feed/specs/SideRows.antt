@@ -26,10 +26,10 @@ drawns inks = map (λ ink. ink.drawn) inks
 abbrev pub HaveRoom : ℕ → List InkData → Type 0
 HaveRoom count inks = All (λ ink. count ≤ ink.drawn.room) inks
 
--- the five inks, each at its slot, with room for a block of rows
+-- the five inks, each at its slot, with room for the rows that are drawn at once
 pub record AreInAll (inks : List InkData) : Type 0 where
   pub inks_are : map (λ drawn. drawn.ink) (drawns inks) ≡ all_inks
-  pub room : HaveRoom 8 inks
+  pub room : HaveRoom 64 inks
 
 -- the drawn rows of an ink after these rows of the page of a group, which are drawn in each of its inks
 abbrev pub drawn_for : Group → Side → ℕ → ℕ → DrawnData → DrawnData

@@ -1,15 +1,14 @@
-// The two pages of a plate in blocks of eight rows, for groups with a diffused ink: error diffusion takes
-// eight rows at once.
+// The two pages of a plate in blocks of rows, for groups with a diffused ink: error diffusion takes eight
+// rows at once.
 ghost use Rattle.std.specs.Prelude.{◌≡◌, ◌<◌, IfOk, length, true};
 ghost use Rattle.pr_base.specs.Row.{row_size};
 ghost use Rattle.plan_json.specs.Data.{plate_width};
 ghost use Rattle.plan_rows.specs.Inks.{has_ink};
 ghost use Rattle.press_feed.specs.Plates.{DrawsPages};
 
-use crate::held_rows::BLOCK;
 use crate::plate_row::join_sides;
 use crate::side::Side;
-use crate::side_rows::SideRows;
+use crate::side_rows::{AHEAD, SideRows};
 use plan_rows::Group;
 use pr_base::{Ink, NoMemory};
 use press_job::Job;
@@ -40,8 +39,8 @@ impl<'j> PageBlocks<'j> {
     pub(crate) fn open(alloc: Global, job: &'j Job) -> Result<PageBlocks<'j>, NoMemory>
         ensures { IfOk result (λ blocks. blocks ≡ job.now) }
     {
-        let left = SideRows::open(alloc, job, Side::Left, &Ink::ALL, BLOCK as usize)?;
-        let right = SideRows::open(alloc, job, Side::Right, &Ink::ALL, BLOCK as usize)?;
+        let left = SideRows::open(alloc, job, Side::Left, &Ink::ALL, AHEAD as usize)?;
+        let right = SideRows::open(alloc, job, Side::Right, &Ink::ALL, AHEAD as usize)?;
         Ok(PageBlocks { job, left, right })
     }
 

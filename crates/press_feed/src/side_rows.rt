@@ -23,6 +23,10 @@ use press_job::Job;
 use std::alloc::Global;
 use std::marker::Model;
 
+/// How many rows are drawn at once on request: several blocks, since the sides take turns, and the buffers of
+/// both are larger than a processor's cache.
+pub(crate) const AHEAD: u32 = 64;
+
 /// The pages of one side, and their rows drawn in some inks. Contracts see the job, the side, which rows of
 /// which page are held, and the rows in each ink.
 #[derive(Drop)]
@@ -96,8 +100,8 @@ impl<'j> SideRows<'j> {
         self.draw_block(group, count % BLOCK);
     }
 
-    /// Draws the block of eight rows with row `y` of the side's page of a group, unless the rows of an ink of
-    /// the group have this row.
+    /// Draws row `y` of the side's page of a group, and the rows about it, unless the rows of an ink of the
+    /// group have it.
     pub(crate) fn reach_row(&mut self, group: &Group, ink: Ink, y: u32)
         requires all { AreInAll self.old.inks }
         requires ink { has_ink group.now ink ≡ true }
@@ -111,8 +115,8 @@ impl<'j> SideRows<'j> {
         if self.rows(ink).has(page, y) {
             return;
         }
-        let first = y / BLOCK * BLOCK;
-        let count = BLOCK.min(self.height() - first);
+        let first = y / AHEAD * AHEAD;
+        let count = AHEAD.min(self.height() - first);
         self.draw(group, first, count);
     }
 

@@ -1,4 +1,4 @@
-use Rattle.std.proofs.Common.{◌≡◌, ◌<◌, refl, arith}
+use Rattle.std.proofs.Common.{refl, arith}
 use Rattle.press_feed.proofs.JoinLemmas.{union_more}
 use Rattle.press_feed.proofs.plate_row.join.Goals as goal
 

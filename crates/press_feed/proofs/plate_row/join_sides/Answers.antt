@@ -1,4 +1,4 @@
-use Rattle.std.proofs.Common.{◌≡◌, ◌≤◌, ◌+◌, ℕ, length, subst, arith}
+use Rattle.std.proofs.Common.{ℕ, subst, arith}
 use Rattle.press_feed.specs.declared.side.Side.TheVariants.{Left, Right}
 use Rattle.press_feed.specs.PlateRow.{IsJoined}
 use Rattle.press_feed.proofs.JoinLemmas.{clear_row, shown_row, sides_joined}

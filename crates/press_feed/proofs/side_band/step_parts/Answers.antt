@@ -1,4 +1,4 @@
-use Rattle.std.proofs.Common.{◌≡◌, ◌<◌, ◌≤◌, sym, subst, arith}
+use Rattle.std.proofs.Common.{◌<◌, sym, subst, arith}
 use Rattle.std.specs.Option.{ForSome}
 use Rattle.press_feed.specs.Frames.{AreOf}
 use Rattle.press_feed.specs.SideBand.{AreRowsFor}

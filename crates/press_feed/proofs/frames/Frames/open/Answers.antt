@@ -1,4 +1,4 @@
-use Rattle.std.proofs.Common.{rules, ◌≡◌, Bool, true, false, sym, ◌∙◌, arith}
+use Rattle.std.proofs.Common.{rules, ◌≡◌, Bool, true, false, ◌∙◌, arith}
 use Rattle.press_feed.proofs.frames.Frames.open.Goals as goal
 
 not_both : (b : Bool) → b ≡ false → b ≡ true → ⊥

@@ -1,5 +1,5 @@
 -- Both sides have the row in the ink.
-use Rattle.std.proofs.Common.{◌∙◌, subst}
+use Rattle.std.proofs.Common.{subst}
 use Rattle.press_feed.specs.Drawn.{HasRow}
 use Rattle.press_feed.specs.Sides.{page_on}
 use Rattle.press_feed.specs.declared.side.Side.{Side}

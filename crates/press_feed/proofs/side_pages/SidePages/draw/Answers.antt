@@ -1,5 +1,5 @@
 -- The tile of the ink draws the row made last.
-use Rattle.std.proofs.Common.{◌≡◌, ◌∙◌, ◌+◌, ◌*◌, ◌≤◌, length, ap, sym, subst, arith}
+use Rattle.std.proofs.Common.{◌∙◌, ◌+◌, ◌*◌, ◌≤◌, length, ap, sym, subst, arith}
 use Rattle.pr_base.specs.Bits.{SetsBits}
 use Rattle.press_job.specs.Printing.{page_bit}
 use Rattle.press_feed.specs.Screener.{IsScreener}

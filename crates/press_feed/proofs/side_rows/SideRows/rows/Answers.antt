@@ -1,9 +1,8 @@
 -- The rows at the slot of the ink are in this ink.
-use Rattle.std.proofs.Common.{◌≡◌, ◌∙◌, ◌<◌, ap, length, subst, sym, arith}
+use Rattle.std.proofs.Common.{◌≡◌, ◌∙◌, ap, subst, sym, arith}
 use Rattle.std.specs.Prelude.{Some, slice_get}
 use Rattle.pr_base.specs.Ink.{slot_of}
 use Rattle.pr_base.proofs.Inks.{slot_below}
-use Rattle.press_feed.specs.InkRows.{InkData}
 use Rattle.press_feed.specs.PlateRow.{IsRowsOf}
 use Rattle.press_feed.specs.SideRows.{AreInAll, SideRowsData, drawns}
 use Rattle.press_feed.proofs.SideRowsLemmas.{in_all_five, lent_own, lent_rows}
