@@ -60,8 +60,8 @@ impl<'j> Feed<'j> {
         Feed::with_threads(alloc, job, Wanted::all(), 0, 8)
     }
 
-    /// The same with bands, made by one thread per processor, at most eight. No bands are used if all rows
-    /// together have few bytes, or on one processor if no ink is diffused.
+    /// The same with bands, made by one thread per processor, at most eight. No bands are used on one
+    /// processor, or if all rows together have few bytes.
     pub fn open_wide<T: Threads>(rt: &T, alloc: Global, job: &'j Job) -> Result<Feed<'j>, NoMemory>
         ensures { IfOk result (λ feed. feed ≡ record { job = job.now; next = 0 }) }
     {
@@ -77,8 +77,7 @@ impl<'j> Feed<'j> {
     ) -> Result<Feed<'j>, NoMemory>
         ensures { IfOk result (λ feed. feed ≡ record { job = job.now; next = 0 }) }
     {
-        let threads = threads_for(rt, job, diffuses(job, wanted));
-        Feed::with_threads(alloc, job, wanted, threads, height_of(job))
+        Feed::with_threads(alloc, job, wanted, threads_for(rt, job), height_of(job))
     }
 
     /// The same with bands made by this many threads. If an ink is diffused, a band has the frames of at most
@@ -183,8 +182,8 @@ fn make_row(
 }
 
 /// Returns the number of threads that make the bands of a job: none if making each row on request is as fast,
-/// as on one processor if no ink is diffused.
-fn threads_for<T: Threads>(rt: &T, job: &Job, is_diffused: bool) -> usize
+/// as on one processor.
+fn threads_for<T: Threads>(rt: &T, job: &Job) -> usize
     ensures { result ≤ 8 }
 {
     let bytes = job.total().saturating_mul(job.row_len() as u64);
@@ -193,7 +192,6 @@ fn threads_for<T: Threads>(rt: &T, job: &Job, is_diffused: bool) -> usize
     }
     match available_parallelism(rt) {
         Ok(processors) if processors.get() > 1 => processors.get().min(MOST_THREADS),
-        _ if is_diffused => 1,
         _ => 0,
     }
 }
